@@ -1,0 +1,24 @@
+//! The ground of the terminal layer: characters with their flags, small lists with reserved room,
+//! counters and errors, what a serial line does, and the traits through which bytes come in and go out.
+#![tactic(auto)]
+
+mod buffers;
+mod characters;
+mod counters;
+mod lines;
+mod memory;
+mod sinks;
+mod sources;
+mod standard;
+
+pub use buffers::{Buffer, Bytes, Chars, NoMemory};
+pub use characters::{Flag, Flagged};
+pub use counters::{Counts, Errno, Signal};
+pub use lines::{Full, LineReport, LineStep, Overrun, Overruns, Put};
+pub use memory::{MemSink, MemSource};
+pub use sinks::{PutFault, Sink, write_all};
+pub use sources::{Failed, Source, TakeFault, read_all};
+pub use standard::{StdSink, StdSource};
+
+#[cfg(test)]
+mod tests;

@@ -1,0 +1,90 @@
+ghost use Rattle.std.specs.Prelude.{◌≡◌, ℕ, List, [], ◌∷◌, ◌++◌, ◌+◌, ◌<◌, ◌^◌, length, OnOk, IfErr};
+ghost use Rattle.std.specs.List.Sorted.{IsNonDecreasing};
+ghost use Rattle.tty_base.specs.declared.characters.Flagged.{Flagged};
+ghost use mathlib.Core.List.{IsPrefix};
+
+use super::buffers::Buffer;
+use super::characters::Flagged;
+
+/// What a serial line does next, as its receiver sees it (16550 data sheet).
+#[derive(Clone, Copy, Debug, PartialEq, Eq)]
+pub enum LineStep {
+    /// A character arrives. Its flag is `Normal`, `Parity` or `Frame`.
+    Rx(Flagged),
+    /// A break arrives: one character 00 flagged `Break`.
+    Break,
+    /// So many character times pass without an arrival.
+    Idle(u32),
+    /// The interrupt is held back.
+    Mask,
+    /// The interrupt is let through.
+    Unmask,
+    /// The receive FIFO's trigger is set to 1, 4, 8 or 14.
+    Trigger(u8),
+}
+
+/// A character found no room: `sent` were accepted before it, of which the other end had taken
+/// `seen`, as this very call loaded it.
+#[derive(Clone, Copy, Debug, PartialEq, Eq)]
+pub struct Full {
+    pub sent: u64,
+    pub seen: u64,
+}
+
+/// A character that the receiver handed over and that found no room. `at` is its place, from 0, in
+/// the list of all characters handed over; `sent` and `seen` are those of `Full`.
+#[derive(Clone, Copy, Debug, PartialEq, Eq)]
+pub struct Overrun {
+    pub at: u32,
+    pub sent: u64,
+    pub seen: u64,
+}
+
+/// The refused characters of a line, in order.
+pub type Overruns = Buffer<Overrun>;
+
+/// What a line did.
+#[derive(Debug, Drop)]
+pub struct LineReport {
+    /// How many characters arrived at the receiver.
+    pub arrived: u32,
+    /// How many of these its full FIFO lost.
+    pub fifo_lost: u32,
+    /// How many characters were handed over and accepted.
+    pub sent: u64,
+    /// Those that were handed over and found no room.
+    pub overruns: Overruns,
+}
+
+/// The end of a buffer of characters at which they are put in. The other end sees what was put once
+/// it is pushed.
+pub trait Put {
+    /// The characters accepted so far.
+    ghost sent: { Self → List Flagged };
+
+    /// The heads loaded so far: how many characters the other end had taken at each.
+    ghost heads: { Self → List ℕ };
+
+    /// How many characters can stand that were accepted and not taken.
+    ghost capacity: { Self → ℕ };
+
+    /// Accepts a character, or answers `Full`, which says by its two numbers that no room was left
+    /// when this call looked.
+    fn put(&mut self, c: Flagged) -> Result<(), Full>
+        requires { length (sent self.old) < 2 ^ 63 }
+        ensures ok { OnOk result (sent self.new ≡ sent self.old ++ c ∷ []) }
+        ensures full { IfErr result (λ f. (sent self.new ≡ sent self.old)
+            × (heads self.new ≡ heads self.old ++ f.seen ∷ [])
+            × (f.sent ≡ length (sent self.old))
+            × (f.sent ≡ f.seen + capacity self.old)) }
+        ensures grows { IsPrefix (heads self.old) (heads self.new) }
+        ensures rise { IsNonDecreasing (heads self.new) }
+        ensures same { capacity self.new ≡ capacity self.old };
+
+    /// Makes all that was put visible to the other end.
+    fn push(&mut self)
+        ensures sent { sent self.new ≡ sent self.old }
+        ensures grows { IsPrefix (heads self.old) (heads self.new) }
+        ensures rise { IsNonDecreasing (heads self.new) }
+        ensures same { capacity self.new ≡ capacity self.old };
+}
