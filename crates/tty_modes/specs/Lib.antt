@@ -1,0 +1,4 @@
+pub mod Bits
+pub mod Names
+pub mod Settings
+pub mod Word
