@@ -1,0 +1,77 @@
+ghost use Rattle.std.specs.Prelude.{◌≡◌, IfOk};
+ghost use Rattle.tty_calls.specs.Plain.{call_of};
+
+use std::alloc::Global;
+use tty_base::{Buffer, NoMemory};
+use tty_modes::Word;
+
+/// What a handle may be used for (open(2), access mode).
+#[derive(Clone, Copy, Debug, PartialEq, Eq)]
+pub enum Access {
+    R,
+    W,
+    Rw,
+}
+
+/// When new modes are set (ioctl_tty(2): TCSETS, TCSETSW, TCSETSF).
+#[derive(Clone, Copy, Debug, PartialEq, Eq)]
+pub enum When {
+    Now,
+    Drain,
+    Flush,
+}
+
+/// A list of mode words.
+pub type Words = Buffer<Word>;
+
+/// A call of a terminal. A handle `h` is a number below 32 that the caller chooses at `Open`.
+#[derive(Debug, Drop)]
+pub enum Call {
+    /// Opens the port under the number `h` (open(2)).
+    Open {
+        h: u8,
+        access: Access,
+        nonblock: bool,
+    },
+    /// Closes a handle (close(2)).
+    Close {
+        h: u8,
+    },
+    /// Reads at most `n` bytes, 1 to 65,536 (read(2)).
+    Read {
+        h: u8,
+        n: u32,
+    },
+    /// Applies 1 to 64 mode words in their order (ioctl_tty(2), TCSETS and its kin).
+    SetModes {
+        h: u8,
+        when: When,
+        words: Words,
+    },
+}
+
+impl Call {
+    /// An equal call, with memory of its own.
+    pub fn copy(&self, alloc: Global) -> Result<Call, NoMemory>
+        ensures { IfOk result (λ copy. call_of copy ≡ call_of self.now) }
+    {
+        match self {
+            Call::Open {
+                h,
+                access,
+                nonblock,
+            } => Ok(Call::Open {
+                h: *h,
+                access: *access,
+                nonblock: *nonblock,
+            }),
+            Call::Close { h } => Ok(Call::Close { h: *h }),
+            Call::Read { h, n } => Ok(Call::Read { h: *h, n: *n }),
+            Call::SetModes { h, when, words } => Ok(Call::SetModes {
+                h: *h,
+                when: *when,
+                words: words.copy(alloc)?,
+            }),
+        }
+    }
+}
