@@ -2,7 +2,7 @@
 use Rattle.std.specs.Prelude.{ℕ, List, [], Bool, map}
 use Rattle.tty_base.specs.declared.characters.Flagged.{Flagged}
 use Rattle.tty_base.specs.declared.counters.Errno.{Errno}
-use Rattle.tty_modes.specs.declared.words.Word.{Word}
+use Rattle.tty_calls.specs.declared.calls.Word.{Word}
 use Rattle.tty_calls.specs.declared.calls.Access.{Access}
 use Rattle.tty_calls.specs.declared.calls.When.{When}
 use Rattle.tty_calls.specs.declared.calls.Call.{Call}

@@ -3,7 +3,6 @@ ghost use Rattle.tty_calls.specs.Plain.{call_of};
 
 use std::alloc::Global;
 use tty_base::{Buffer, NoMemory};
-use tty_modes::Word;
 
 /// What a handle may be used for (open(2), access mode).
 #[derive(Clone, Copy, Debug, PartialEq, Eq)]
@@ -13,12 +12,18 @@ pub enum Access {
     Rw,
 }
 
-/// When new modes are set (ioctl_tty(2): TCSETS, TCSETSW, TCSETSF).
+/// When new modes are set (ioctl_tty(2), TCSETS).
 #[derive(Clone, Copy, Debug, PartialEq, Eq)]
 pub enum When {
+    /// At once.
     Now,
-    Drain,
-    Flush,
+}
+
+/// One change of modes.
+#[derive(Clone, Copy, Debug, PartialEq, Eq)]
+pub enum Word {
+    /// Clears the flags of cfmakeraw(3).
+    Raw,
 }
 
 /// A list of mode words.
@@ -42,7 +47,7 @@ pub enum Call {
         h: u8,
         n: u32,
     },
-    /// Applies 1 to 64 mode words in their order (ioctl_tty(2), TCSETS and its kin).
+    /// Applies 1 to 64 mode words in their order (ioctl_tty(2), TCSETS).
     SetModes {
         h: u8,
         when: When,

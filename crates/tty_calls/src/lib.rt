@@ -8,7 +8,7 @@ mod journals;
 mod sessions;
 
 pub use answers::{Answer, Denied, PortEnd};
-pub use calls::{Access, Call, When, Words};
+pub use calls::{Access, Call, When, Word, Words};
 pub use journals::{Entry, Event, Journal, PortRun, Who};
 pub use sessions::{Phase, Script, Session};
 

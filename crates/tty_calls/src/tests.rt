@@ -1,7 +1,6 @@
 use super::*;
 use std::test::Fail;
 use tty_base::{Buffer, Bytes};
-use tty_modes::Word;
 
 #[test]
 fn a_copy_has_the_same_words_and_bytes(rt: HostRuntime) -> Result<(), Fail> {
