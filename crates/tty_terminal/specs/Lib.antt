@@ -1,0 +1,7 @@
+pub mod Receiving
+pub mod Runs
+pub mod Meeting
+pub mod Outcomes
+pub mod Inside
+pub mod Steps
+pub mod Terminals
