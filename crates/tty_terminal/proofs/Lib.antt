@@ -1,1 +1,6 @@
 pub mod InPlace
+pub mod CallerLists
+pub mod Effects
+pub mod StepLaws
+pub mod Runs
+pub mod Grown
