@@ -4,3 +4,4 @@ pub mod Effects
 pub mod StepLaws
 pub mod Runs
 pub mod Grown
+pub mod OneRun
