@@ -68,6 +68,9 @@ pub trait Put {
     /// How many characters can stand that were accepted and not taken.
     ghost capacity: { Self → ℕ };
 
+    /// That the other end can see all that was put.
+    ghost visible: { Self → Type 0 } = { λ _. Unit {0} };
+
     /// Accepts a character, or answers `Full`, which says by its two numbers that no room was left
     /// when this call looked.
     fn put(&mut self, c: Flagged) -> Result<(), Full>
@@ -84,6 +87,7 @@ pub trait Put {
     /// Makes all that was put visible to the other end.
     fn push(&mut self)
         ensures sent { sent self.new ≡ sent self.old }
+        ensures visible { visible self.new }
         ensures grows { IsPrefix (heads self.old) (heads self.new) }
         ensures rise { IsNonDecreasing (heads self.new) }
         ensures same { capacity self.new ≡ capacity self.old };
