@@ -51,6 +51,13 @@ call_of (Close h) = closes h
 call_of (Read h n) = reads h n
 call_of (SetModes h when words) = sets_modes h when words.items
 
+-- the number of the handle that a call names
+abbrev pub handle_of : PlainCall → ℕ
+handle_of (opens h access nonblock) = h
+handle_of (closes h) = h
+handle_of (reads h n) = h
+handle_of (sets_modes h when words) = h
+
 abbrev pub answer_of : Answer → PlainAnswer
 answer_of answers.Done = done
 answer_of (answers.Got bytes) = got bytes.items

@@ -1,5 +1,5 @@
 ghost use Rattle.std.specs.Prelude.{◌≡◌, IfOk};
-ghost use Rattle.tty_calls.specs.Plain.{call_of};
+ghost use Rattle.tty_calls.specs.Plain.{call_of, handle_of};
 
 use std::alloc::Global;
 use tty_base::{Buffer, NoMemory};
@@ -56,6 +56,16 @@ pub enum Call {
 }
 
 impl Call {
+    /// The number of the handle that the call names.
+    pub fn handle(&self) -> u8
+        ensures { result ≡ handle_of (call_of self.now) }
+    {
+        match self {
+            Call::Open { h, .. } | Call::Close { h } | Call::Read { h, .. } => *h,
+            Call::SetModes { h, .. } => *h,
+        }
+    }
+
     /// An equal call, with memory of its own.
     pub fn copy(&self, alloc: Global) -> Result<Call, NoMemory>
         ensures { IfOk result (λ copy. call_of copy ≡ call_of self.now) }

@@ -5,13 +5,13 @@ use Rattle.std.proofs.lemmas.Bool.{and_parts, or_cases, eqb-true, false≢true}
 use Rattle.tty_base.specs.declared.characters.Flagged.{Flagged}
 use Rattle.tty_calls.specs.declared.journals.Who.{Who}
 use Rattle.tty_calls.specs.declared.journals.Who.TheVariants.{Caller, Flusher, Line, Clock, Session}
-use Rattle.tty_calls.specs.Plain.{PlainCall, PlainAnswer, PlainEvent, answered, parted, waited, flushed, ticked, line_ended, clock_ended, caller_ended, phase_ended, hung_up, PlainEntry}
+use Rattle.tty_calls.specs.Plain.{handle_of, PlainCall, PlainAnswer, PlainEvent, answered, parted, waited, flushed, ticked, line_ended, clock_ended, caller_ended, phase_ended, hung_up, PlainEntry}
 use Rattle.tty_terminal.specs.declared.callers.Bound.{Bound}
 use Rattle.tty_terminal.specs.declared.callers.CallerState.{CallerState}
 use Rattle.tty_terminal.specs.declared.callers.Piece.{Piece}
 use Rattle.tty_terminal.specs.Terminals.{Terminal, idle_caller, caller_at, is_bound, begun_of}
 use Rattle.tty_terminal.specs.Receiving.{received, received_all}
-use Rattle.tty_terminal.specs.Outcomes.{Outcome, unknown, waits, takes, gives, outcome_of, handle_of, hung_by, with_dead_handle}
+use Rattle.tty_terminal.specs.Outcomes.{Outcome, unknown, waits, takes, gives, outcome_of, hung_by, with_dead_handle}
 use Rattle.tty_terminal.specs.Steps.{Drops, DropsAt, left_by, IsNext, IsAnswer, IsPart, IsWait, IsFlush, IsLineEnd, IsCallerEnd, IsHangup, ByCaller, by_caller, IsAllowed, after_event, Allowed, after, advanced, with_dropped, answered_caller, with_caller, noted, waiting_caller, calling_again, next_phase, follows}
 use Rattle.tty_terminal.specs.Runs.{chars_in}
 use Rattle.tty_terminal.proofs.CallerLists.{set_relates, map_relates, Stays, stays, dead_stays, begun_most, begun_least}

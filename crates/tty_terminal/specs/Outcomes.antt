@@ -82,13 +82,6 @@ abbrev pub outcome_of : Terminal → CallerState → Option PlainCall → Outcom
 outcome_of t s None = unknown
 outcome_of t s (Some call) = outcome t s call
 
--- the number that a call names
-abbrev pub handle_of : PlainCall → ℕ
-handle_of (opens h access nonblock) = h
-handle_of (closes h) = h
-handle_of (reads h n) = h
-handle_of (sets_modes h when words) = h
-
 -- every handle dies, also under the calls that began with it
 abbrev pub dead_handle : Option Handle → Option Handle
 dead_handle None = None

@@ -4,13 +4,13 @@ use Rattle.std.specs.Prelude.{◌≡◌, ℕ, List, Bool, IsTrue, true, false, �
 use Rattle.tty_base.specs.declared.characters.Flagged.{Flagged}
 use Rattle.tty_calls.specs.declared.journals.Who.{Who}
 use Rattle.tty_calls.specs.declared.journals.Who.TheVariants.{Caller, Flusher, Line, Clock, Session}
-use Rattle.tty_calls.specs.Plain.{PlainCall, PlainAnswer, idle, PlainEvent, answered, parted, waited, flushed, ticked, line_ended, clock_ended, caller_ended, phase_ended, hung_up, PlainEntry}
+use Rattle.tty_calls.specs.Plain.{PlainCall, handle_of, PlainAnswer, idle, PlainEvent, answered, parted, waited, flushed, ticked, line_ended, clock_ended, caller_ended, phase_ended, hung_up, PlainEntry}
 use Rattle.tty_terminal.specs.declared.callers.Bound.{Bound}
 use Rattle.tty_terminal.specs.declared.callers.CallerState.{CallerState}
 use Rattle.tty_terminal.specs.declared.callers.Piece.{Piece}
 use Rattle.tty_terminal.specs.Terminals.{Terminal, handle_at, caller_at, has_begun, live_count}
 use Rattle.tty_terminal.specs.Receiving.{accepts, received_all, AcceptsAll}
-use Rattle.tty_terminal.specs.Outcomes.{Outcome, unknown, waits, takes, gives, outcome_of, handle_of, hung_by}
+use Rattle.tty_terminal.specs.Outcomes.{Outcome, unknown, waits, takes, gives, outcome_of, hung_by}
 
 abbrev pub callers_in : List ℕ → ℕ → ℕ
 callers_in counts phase = slice_index_or counts phase 0

@@ -1,6 +1,6 @@
 ghost use Rattle.std.specs.Prelude.{◌≡◌, ◌++◌, ℕ, List, [], ◌∷◌, ◌↔◌, Option, None, Some, Bool, true, false, ◌+◌, ◌-◌, ◌≤◌, ◌<◌, ◌^◌, IsTrue, IfOk, length, take, drop, min, slice_set};
 ghost use Rattle.std.specs.VecDeque.{deque_capacity};
-ghost use Rattle.tty_calls.specs.Plain.{call_of, answer_of};
+ghost use Rattle.tty_calls.specs.Plain.{handle_of, call_of, answer_of};
 ghost use Rattle.tty_base.specs.declared.counters.Counts.{Counts};
 
 use super::callers::{
@@ -78,8 +78,8 @@ fn take_front(unread: &mut VecDeque<u8>, count: usize, out: &mut Bytes)
 impl Terminal {
     ghost use Rattle.tty_terminal.specs.Terminals.{opening, handle_at, handle_for, caller_at, live_count as live};
     ghost use Rattle.tty_terminal.specs.Receiving.{accepts, received};
-    ghost use Rattle.tty_terminal.specs.Outcomes.{outcome, opening_outcome, closing_outcome, reading_outcome, modes_outcome, handle_of, hung_by};
-    ghost use Rattle.tty_terminal.specs.Steps.{left_by, nothing_to_flush, quiet_with, may_end_with, advanced, with_caller, waiting_since, next_phase};
+    ghost use Rattle.tty_terminal.specs.Outcomes.{outcome, opening_outcome, closing_outcome, reading_outcome, modes_outcome, hung_by};
+    ghost use Rattle.tty_terminal.specs.Steps.{MustWait, left_by, nothing_to_flush, quiet_with, may_end_with, advanced, with_caller, waiting_since, next_phase};
     ghost use Rattle.tty_terminal.specs.Meeting.{Meets, room_for};
 
     /// A closed terminal for so many callers. It takes all the memory that it ever needs.
@@ -209,6 +209,32 @@ impl Terminal {
         match call {
             Call::Read { h: _, n } => (*n as usize).min(MOST_READ).min(self.unread.len()),
             _ => 0,
+        }
+    }
+
+    fn read_must_wait(&self, handle: Option<Handle>, n: u32) -> bool
+        ensures { IsTrue result ↔ MustWait (reading_outcome self.now n handle) }
+    {
+        match handle {
+            None => false,
+            Some(handle) => {
+                handle.access != Access::W
+                    && handle.live
+                    && self.unread.len() == 0
+                    && !handle.nonblock
+            }
+        }
+    }
+
+    /// Whether a call of a caller must wait.
+    pub fn must_wait(&self, caller: u16, call: &Call) -> bool
+        requires known { caller < length self.now.callers }
+        requires number { handle_of (call_of call.now) < 32 }
+        ensures { IsTrue result ↔ MustWait (outcome self.now (caller_at self.now caller) (call_of call.now)) }
+    {
+        match call {
+            Call::Read { h, n } => self.read_must_wait(self.handle_for(caller, *h), *n),
+            _ => false,
         }
     }
 

@@ -1,0 +1,4 @@
+pub mod Inside
+pub mod Kept
+pub mod Ports
+pub mod Tries
