@@ -2,7 +2,7 @@
 use Rattle.std.proofs.Common.{◌≡◌, ℕ, zero, suc, ◌+◌, ◌≤◌, List, [], ◌∷◌, Bool, true, false, Option, None, Some, if◌then◌else◌, map, set, get_or, replicate, refl, arith}
 use Rattle.tty_terminal.specs.declared.callers.Bound.{Bound}
 use Rattle.tty_terminal.specs.declared.callers.CallerState.{CallerState}
-use Rattle.tty_terminal.specs.Terminals.{Terminal, idle_caller, is_bound, begun_of}
+use Rattle.tty_terminal.specs.Terminals.{idle_caller, is_bound, begun_of}
 use Rattle.tty_terminal.specs.Outcomes.{closed_under, without_handle, killed_under, with_dead_handle}
 
 -- one caller changes, and each other one stays

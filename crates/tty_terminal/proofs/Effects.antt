@@ -1,12 +1,12 @@
 -- What no call changes, whatever its outcome.
-use Rattle.std.proofs.Common.{◌≡◌, ℕ, ◌+◌, ◌≤◌, List, Bool, true, false, not, ◌&&◌, ◌==◌, Option, None, Some, is_some, if◌then◌else◌, length, map, take, drop, min, slice_set, refl, arith}
+use Rattle.std.proofs.Common.{◌≡◌, ℕ, ◌+◌, ◌≤◌, Bool, true, false, not, ◌&&◌, ◌==◌, Option, None, Some, is_some, if◌then◌else◌, length, refl, arith}
 use Rattle.std.proofs.lemmas.List.{length-map}
 use Rattle.tty_calls.specs.declared.calls.Access.{Access}
 use Rattle.tty_calls.specs.Plain.{PlainCall, opens, closes, reads, sets_modes}
 use Rattle.tty_terminal.specs.declared.callers.Handle.{Handle}
 use Rattle.tty_terminal.specs.declared.callers.CallerState.{CallerState}
 use Rattle.tty_terminal.specs.Terminals.{Terminal, handle_at, handle_for, caller_at, live_count}
-use Rattle.tty_terminal.specs.Outcomes.{Outcome, unknown, outcome, outcome_of, opening_outcome, closing_outcome, reading_outcome, modes_outcome, freed, last_closed, may_read, without_handle}
+use Rattle.tty_terminal.specs.Outcomes.{Outcome, outcome, outcome_of, opening_outcome, closing_outcome, reading_outcome, modes_outcome, freed, last_closed, may_read, without_handle}
 use Rattle.tty_terminal.specs.Steps.{left_by, TakesPart}
 use Rattle.tty_terminal.proofs.CallerLists.{Stays, stays, without_stays, map_relates}
 

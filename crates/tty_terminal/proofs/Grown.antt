@@ -1,11 +1,11 @@
 -- A run is a run also where more calls are known.
-use Rattle.std.proofs.Common.{◌≡◌, ℕ, List, [], ◌∷◌, Bool, Option, None, Some, ◌&&◌, is_some, length, refl, sym, ◌∙◌, ap, subst}
+use Rattle.std.proofs.Common.{◌≡◌, ℕ, List, [], ◌∷◌, Option, None, Some, ◌&&◌, is_some, length, refl, sym, ◌∙◌, ap, subst}
 use Rattle.tty_base.specs.declared.characters.Flagged.{Flagged}
 use Rattle.tty_calls.specs.declared.journals.Who.{Who}
 use Rattle.tty_calls.specs.declared.journals.Who.TheVariants.{Caller, Flusher, Line, Clock, Session}
 use Rattle.tty_calls.specs.Plain.{PlainCall, PlainAnswer, PlainEvent, answered, parted, waited, flushed, ticked, line_ended, clock_ended, caller_ended, phase_ended, hung_up, PlainEntry}
 use Rattle.tty_terminal.specs.Terminals.{Terminal, caller_at}
-use Rattle.tty_terminal.specs.Outcomes.{Outcome, unknown, outcome_of}
+use Rattle.tty_terminal.specs.Outcomes.{outcome_of}
 use Rattle.tty_terminal.specs.Steps.{Answers, Drops, MustWait, TakesPart, quiet, left_by, IsAnswer, IsPart, IsWait, ByCaller, by_caller, IsAllowed, after_event, Allowed, after, advanced, with_dropped, with_caller, parted_caller, waiting_caller}
 use Rattle.tty_terminal.specs.Runs.{Leads, Grows}
 

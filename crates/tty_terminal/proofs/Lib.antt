@@ -5,3 +5,4 @@ pub mod StepLaws
 pub mod Runs
 pub mod Grown
 pub mod OneRun
+pub mod ThreeBytes

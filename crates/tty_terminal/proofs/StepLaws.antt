@@ -1,5 +1,5 @@
 -- What each step changes, and what it keeps.
-use Rattle.std.proofs.Common.{◌≡◌, ℕ, zero, suc, ◌+◌, ◌-◌, ◌<◌, ◌≤◌, List, [], ◌∷◌, Bool, true, false, IsTrue, ◌&&◌, ◌||◌, ◌==◌, Option, None, Some, ◌⊎◌, inl, inr, length, map, set, refl, sym, ◌∙◌, ap, subst, arith}
+use Rattle.std.proofs.Common.{◌≡◌, ℕ, ◌+◌, ◌-◌, ◌≤◌, List, [], ◌∷◌, Bool, true, false, IsTrue, ◌&&◌, ◌==◌, Option, None, Some, inl, inr, length, refl, sym, ◌∙◌, ap, arith}
 use Rattle.std.proofs.lemmas.List.{length-map, length-set}
 use Rattle.std.proofs.lemmas.Bool.{and_parts, or_cases, eqb-true, false≢true}
 use Rattle.tty_base.specs.declared.characters.Flagged.{Flagged}
@@ -12,10 +12,10 @@ use Rattle.tty_terminal.specs.declared.callers.Piece.{Piece}
 use Rattle.tty_terminal.specs.Terminals.{Terminal, idle_caller, caller_at, is_bound, begun_of}
 use Rattle.tty_terminal.specs.Receiving.{received, received_all}
 use Rattle.tty_terminal.specs.Outcomes.{Outcome, unknown, waits, takes, gives, outcome_of, hung_by, with_dead_handle}
-use Rattle.tty_terminal.specs.Steps.{Drops, DropsAt, left_by, IsNext, IsAnswer, IsPart, IsWait, IsFlush, IsLineEnd, IsCallerEnd, IsHangup, ByCaller, by_caller, IsAllowed, after_event, Allowed, after, advanced, with_dropped, answered_caller, with_caller, noted, waiting_caller, calling_again, next_phase, follows}
+use Rattle.tty_terminal.specs.Steps.{Drops, left_by, IsAnswer, IsPart, IsWait, IsFlush, IsCallerEnd, ByCaller, by_caller, IsAllowed, after_event, Allowed, after, advanced, with_dropped, answered_caller, with_caller, noted, waiting_caller, calling_again, next_phase, follows}
 use Rattle.tty_terminal.specs.Runs.{chars_in}
-use Rattle.tty_terminal.proofs.CallerLists.{set_relates, map_relates, Stays, stays, dead_stays, begun_most, begun_least}
-use Rattle.tty_terminal.proofs.Effects.{Leaves, Keeps, outcome_keeps}
+use Rattle.tty_terminal.proofs.CallerLists.{set_relates, map_relates, Stays, dead_stays, begun_most}
+use Rattle.tty_terminal.proofs.Effects.{Keeps, outcome_keeps}
 
 -- how many characters the latest line end says were sent
 abbrev pub sent_of : PlainEvent → ℕ → ℕ

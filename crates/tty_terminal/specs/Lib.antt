@@ -5,3 +5,4 @@ pub mod Outcomes
 pub mod Inside
 pub mod Steps
 pub mod Terminals
+pub mod Rows

@@ -3,7 +3,9 @@
 #![tactic(auto)]
 
 mod callers;
+mod rows;
 mod terminals;
 
 pub use callers::{Bound, CallerState, Handle, Piece};
+pub use rows::{changed_three_bytes_is_no_run, three_bytes_is_a_run};
 pub use terminals::{Met, Terminal};
