@@ -1,1 +1,2 @@
 pub mod FlagBits
+pub mod WordTexts

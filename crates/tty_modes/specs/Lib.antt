@@ -1,4 +1,5 @@
 pub mod Bits
 pub mod Names
+pub mod Reading
 pub mod Settings
 pub mod Word

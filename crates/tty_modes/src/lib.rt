@@ -4,9 +4,16 @@
 #![tactic(auto)]
 
 mod bits;
+mod names;
 pub mod places;
+mod reading;
 mod settings;
 mod words;
 
+pub use names::{character_name, flag_name};
+pub use reading::{BadWord, set_word, words_are_their_texts};
 pub use settings::Modes;
 pub use words::Word;
+
+#[cfg(test)]
+mod tests;
