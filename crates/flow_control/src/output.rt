@@ -1,0 +1,232 @@
+//! The wire, held output, and what halts it.
+
+ghost use Rattle.std.specs.Prelude.{◌≡◌, ◌≤◌, ◌<◌, ◌+◌, ◌-◌, [], ◌∷◌, ◌++◌, length, false, true, IfOk, OnOk, OnErr, vec_len, vec_capacity};
+ghost use Rattle.flow_control.specs.Output.{after_reset, after_start, after_tco_on, flushed, has_room, idle_output, is_halted, on_wire, released, room_of, tried};
+
+use std::alloc::Global;
+use std::marker::Model;
+use tty_base::{Bytes, NoMemory};
+
+/// How many bytes can be held while output is halted.
+const HELD_BYTES: usize = 4096;
+
+/// The output side of a port. Without a halt bytes go to the wire at once, and with one they are held, at most 4,096.
+///
+/// Output is halted by STOP or by TCOOFF (tcflow(3)). When the last halt goes, the held bytes go to the wire in order.
+/// Room on the wire is reserved before bytes are sent, so that only `new` and `reserve` take memory.
+#[derive(Debug, Drop)]
+pub struct Wire {
+    wire: Bytes,
+    held: Vec<u8>,
+    stopped: bool,
+    off: bool,
+    noted: bool,
+}
+
+impl Model for Wire {
+    ghost use Rattle.std.specs.Prelude.{◌≡◌, ◌≤◌, false, [], vec_len, vec_capacity};
+    ghost use Rattle.flow_control.specs.Output.{Output};
+
+    ghost Value = { Output };
+
+    ghost view = { λ w. record { wire = w.wire.items; spare = w.wire.spare; held = w.held.items; stopped = w.stopped; off = w.off; noted = w.noted } };
+
+    ghost invariant = { λ w. record {
+      bounded : vec_len w.held ≤ 4096;
+      reserved : 4096 ≤ vec_capacity w.held;
+      only_halted : w.stopped ≡ false → w.off ≡ false → w.held.items ≡ [];
+    } };
+}
+
+impl Wire {
+    /// An empty wire, without a halt, with room for 4,096 held bytes.
+    pub fn new(alloc: Global) -> Result<Wire, NoMemory>
+        ensures { IfOk result (λ w. w ≡ idle_output) }
+    {
+        Ok(Wire {
+            wire: Bytes::new(alloc),
+            held: Vec::with_capacity(alloc, HELD_BYTES)?,
+            stopped: false,
+            off: false,
+            noted: false,
+        })
+    }
+
+    /// Makes room on the wire for `more` further bytes. Room grows by doubling, and where it is there nothing is done.
+    /// `NoMemory` leaves all as it was.
+    pub fn reserve(&mut self, more: usize) -> Result<(), NoMemory>
+        ensures same { self.new ≡ record self.old { spare = self.new.spare } }
+        ensures ok { OnOk result (more ≤ self.new.spare) }
+        ensures grows { self.old.spare ≤ self.new.spare }
+        ensures err { OnErr result (self.new ≡ self.old) }
+    {
+        self.wire.reserve(more)
+    }
+
+    /// Sends bytes: to the wire, or, while output is halted, to what is held. False comes exactly where output is halted and
+    /// the bytes exceed the room; nothing changes then.
+    pub fn send(&mut self, bytes: &[u8]) -> bool
+        requires { length bytes.now ≤ self.old.spare }
+        ensures room { result ≡ has_room self.old bytes.now }
+        ensures sent { self.new ≡ tried self.old bytes.now }
+    {
+        if !self.halted() {
+            self.wire.append(bytes);
+            return true;
+        }
+        if bytes.len() > self.room() {
+            return false;
+        }
+        hold(&mut self.held, bytes);
+        true
+    }
+
+    /// STOP halts output.
+    pub fn stop(&mut self)
+        ensures { self.new ≡ record self.old { stopped = true } }
+    {
+        self.stopped = true;
+    }
+
+    /// START resumes output that STOP halted.
+    pub fn start(&mut self)
+        requires { length self.old.held ≤ self.old.spare }
+        ensures { self.new ≡ after_start self.old }
+    {
+        if !self.off {
+            self.flush();
+        }
+        self.stopped = false;
+    }
+
+    /// TCOOFF halts output.
+    pub fn tco_off(&mut self)
+        ensures { self.new ≡ record self.old { off = true } }
+    {
+        self.off = true;
+    }
+
+    /// TCOON resumes output that TCOOFF halted, also where STOP halted it too. Without TCOOFF it does nothing.
+    pub fn tco_on(&mut self)
+        requires { length self.old.held ≤ self.old.spare }
+        ensures { self.new ≡ after_tco_on self.old }
+    {
+        if self.off {
+            self.release();
+        }
+    }
+
+    /// Clears both halts and the note, and drops the held bytes.
+    pub fn reset(&mut self)
+        ensures { self.new ≡ after_reset self.old }
+    {
+        self.held.clear();
+        self.stopped = false;
+        self.off = false;
+        self.noted = false;
+    }
+
+    /// Clears both halts and sends the held bytes.
+    pub fn release(&mut self)
+        requires { length self.old.held ≤ self.old.spare }
+        ensures { self.new ≡ released self.old }
+    {
+        self.flush();
+        self.stopped = false;
+        self.off = false;
+    }
+
+    /// Drops the held bytes.
+    pub fn drop_held(&mut self)
+        ensures { self.new ≡ record self.old { held = [] } }
+    {
+        self.held.clear();
+    }
+
+    /// Puts one byte on the wire, past a halt.
+    pub fn urgent(&mut self, b: u8)
+        requires { 0 < self.old.spare }
+        ensures { self.new ≡ on_wire self.old (b ∷ []) }
+    {
+        self.wire.add(b);
+    }
+
+    /// How many more bytes can be held.
+    pub fn room(&self) -> usize
+        ensures { result ≡ room_of self.now }
+    {
+        HELD_BYTES - self.held.len()
+    }
+
+    /// How many bytes are held.
+    pub fn held(&self) -> usize
+        ensures count { result ≡ length self.now.held }
+        ensures bounded { result ≤ 4096 }
+    {
+        self.held.len()
+    }
+
+    /// Whether output is halted. Without a halt nothing is held.
+    pub fn halted(&self) -> bool
+        ensures value { result ≡ is_halted self.now }
+        ensures nothing_held { is_halted self.now ≡ false → self.now.held ≡ [] }
+    {
+        self.stopped || self.off
+    }
+
+    /// All bytes that went to the wire, in order.
+    pub fn wire(&self) -> &[u8]
+        ensures { result.now ≡ self.now.wire }
+    {
+        self.wire.as_slice()
+    }
+
+    /// All bytes that went to the wire, as a list of their own. It takes no memory.
+    pub fn into_wire(self) -> Bytes
+        ensures { result.items ≡ self.wire }
+    {
+        let Wire {
+            wire,
+            held: _,
+            stopped: _,
+            off: _,
+            noted: _,
+        } = self;
+        wire
+    }
+
+    /// Whether it is noted that STOP was sent for ixoff.
+    pub fn noted(&self) -> bool
+        ensures { result ≡ self.now.noted }
+    {
+        self.noted
+    }
+
+    /// Sets or clears that note.
+    pub fn set_noted(&mut self, on: bool)
+        ensures { self.new ≡ record self.old { noted = on } }
+    {
+        self.noted = on;
+    }
+
+    // Sends the held bytes.
+    fn flush(&mut self)
+        requires { length self.old.held ≤ self.old.spare }
+        ensures { self.new ≡ flushed self.old }
+    {
+        self.wire.append(self.held.as_slice());
+        self.held.clear();
+    }
+}
+
+// Adds to the held bytes, in room that was reserved.
+fn hold(held: &mut Vec<u8>, bytes: &[u8])
+    requires { vec_len held.old + length bytes.now ≤ vec_capacity held.old }
+    ensures items { held.new.items ≡ held.old.items ++ bytes.now }
+    ensures capacity { vec_capacity held.old ≤ vec_capacity held.new }
+{
+    match held.extend_from_slice(bytes) {
+        Ok(()) => {}
+        Err(_) => unreachable!(),
+    }
+}
