@@ -10,6 +10,7 @@ ghost use Rattle.tty_modes.specs.Word.{IsModeWord, word_text};
 use crate::bits::ModeBits;
 use crate::names::CHARACTER_NAMES;
 use crate::words::Word;
+
 /// A text that is no mode word.
 #[derive(Clone, Copy, PartialEq, Eq, Debug)]
 pub struct BadWord;
