@@ -1,0 +1,5 @@
+pub mod OfferedLemmas
+pub mod Windows
+pub mod Serving
+pub mod Steps
+pub mod Rows

@@ -1,0 +1,209 @@
+-- How offers follow each other.
+use Rattle.std.proofs.Common.{◌≡◌, ℕ, ◌+◌, ◌-◌, ◌<◌, ◌≤◌, List, [], ◌∷◌, ◌++◌, length, refl, sym, ◌∙◌, ap, arith, append_assoc, append-nil, length-append, Bool, true, false, ◌==◌}
+use Rattle.std.specs.List.{list_any}
+use Rattle.std.proofs.lemmas.Bool.Decides.{nat_tests}
+use Rattle.tty_base.specs.declared.characters.Flagged.{Flagged}
+use Rattle.tty_base.specs.declared.lines.Overrun.{Overrun}
+use Rattle.uart_line.specs.Offered.{Outcome, accepts, refuses, accepted, refused, IsFullAt, AreAmong, Offers, HandsOver, kept, kept_from, AreShown}
+
+accepted-append : (xs ys : List Flagged) (ps qs : List Outcome) → length ps ≡ length xs
+    → accepted (xs ++ ys) (ps ++ qs) ≡ accepted xs ps ++ accepted ys qs
+unfolding accepted
+accepted-append [] ys [] qs e = refl
+accepted-append [] ys (a ∷ ps) qs e = cc
+accepted-append (x ∷ xs) ys [] qs e = cc
+accepted-append (x ∷ xs) ys (accepts ∷ ps) qs e = ap (λ r. x ∷ r) (accepted-append xs ys ps qs (omega (arith, e)))
+accepted-append (x ∷ xs) ys (refuses _ ∷ ps) qs e = accepted-append xs ys ps qs (omega (arith, e))
+
+-- how many characters were accepted
+unfoldable pub accepted_count : List Outcome → ℕ
+accepted_count [] = 0
+accepted_count (accepts ∷ answers) = accepted_count answers + 1
+accepted_count (refuses _ ∷ answers) = accepted_count answers
+
+length-accepted : (xs : List Flagged) (ps : List Outcome) → length ps ≡ length xs
+    → length (accepted xs ps) ≡ accepted_count ps
+unfolding accepted accepted_count
+length-accepted [] [] e = refl
+length-accepted [] (a ∷ ps) e = omega (arith, e)
+length-accepted (x ∷ xs) [] e = omega (arith, e)
+length-accepted (x ∷ xs) (accepts ∷ ps) e = omega (arith, length-accepted xs ps (omega (arith, e)))
+length-accepted (x ∷ xs) (refuses _ ∷ ps) e = length-accepted xs ps (omega (arith, e))
+
+accepted_count-≤ : (ps : List Outcome) → accepted_count ps ≤ length ps
+unfolding accepted_count
+accepted_count-≤ [] = omega arith
+accepted_count-≤ (accepts ∷ ps) = omega (arith, accepted_count-≤ ps)
+accepted_count-≤ (refuses _ ∷ ps) = omega (arith, accepted_count-≤ ps)
+
+refused-append : (place sent : ℕ) (ps qs : List Outcome)
+    → refused place sent (ps ++ qs) ≡ refused place sent ps ++ refused (place + length ps) (sent + accepted_count ps) qs
+unfolding refused accepted_count
+refused-append place sent [] qs =
+    let p : place + 0 ≡ place = omega arith in let s : sent + 0 ≡ sent = omega arith in rw (p, s)
+refused-append place sent (accepts ∷ ps) qs =
+    let p : place + length (accepts ∷ ps) ≡ (place + 1) + length ps = omega arith in
+    let s : sent + (accepted_count ps + 1) ≡ (sent + 1) + accepted_count ps = omega arith in
+    rw (p, s) (refused-append (place + 1) (sent + 1) ps qs)
+refused-append place sent (refuses seen ∷ ps) qs =
+    let p : place + length (refuses seen ∷ ps) ≡ (place + 1) + length ps = omega arith in
+    rw p (ap (λ (r : List Overrun). record { at = place; sent = sent; seen = seen } ∷ r) (refused-append (place + 1) sent ps qs))
+
+IsFullAt-append : (capacity sent : ℕ) (ps qs : List Outcome) → IsFullAt capacity sent ps
+    → IsFullAt capacity (sent + accepted_count ps) qs → IsFullAt capacity sent (ps ++ qs)
+unfolding IsFullAt accepted_count
+IsFullAt-append capacity sent [] qs h g = let s : sent + 0 ≡ sent = omega arith in rw s at g
+IsFullAt-append capacity sent (accepts ∷ ps) qs h g =
+    let s : sent + (accepted_count ps + 1) ≡ (sent + 1) + accepted_count ps = omega arith in
+    IsFullAt-append capacity (sent + 1) ps qs h (rw s at g)
+IsFullAt-append capacity sent (refuses seen ∷ ps) qs h g = (h.0, IsFullAt-append capacity sent ps qs h.1 g)
+
+AreAmong-more : (ps : List Outcome) (xs ys : List ℕ) → AreAmong ps ys → AreAmong ps (xs ++ ys)
+unfolding AreAmong
+AreAmong-more [] xs ys h = tt
+AreAmong-more (accepts ∷ ps) xs ys h = AreAmong-more ps xs ys h
+AreAmong-more (refuses seen ∷ ps) xs ys h =
+    (xs ++ h.0, h.1, ap (λ r. xs ++ r) h.2 ∙ sym (append_assoc xs h.0 (seen ∷ h.1)), h.3)
+
+AreAmong-append : (ps qs : List Outcome) (xs ys : List ℕ) → AreAmong ps xs → AreAmong qs ys → AreAmong (ps ++ qs) (xs ++ ys)
+unfolding AreAmong
+AreAmong-append [] qs xs ys h g = AreAmong-more qs xs ys g
+AreAmong-append (accepts ∷ ps) qs xs ys h g = AreAmong-append ps qs xs ys h g
+AreAmong-append (refuses seen ∷ ps) qs xs ys h g =
+    (h.0, h.1 ++ ys, ap (λ r. r ++ ys) h.2 ∙ append_assoc h.0 (seen ∷ h.1) ys, AreAmong-append ps qs h.1 ys h.3 g)
+
+-- ---- offers
+
+pub Offers-none : (capacity place : ℕ) (sent : List Flagged) (heads heads' more : List ℕ) (overruns : List Overrun)
+    → heads' ≡ heads ++ more → Offers capacity place [] sent sent heads heads' overruns overruns
+unfolding accepted refused IsFullAt AreAmong
+Offers-none capacity place sent heads heads' more overruns h = record {
+  answers = [];
+  loaded = more;
+  one_each = refl;
+  accepts_rest = sym (append-nil sent);
+  adds_refused = sym (append-nil overruns);
+  is_full = tt;
+  loads = h;
+  among_loaded = tt;
+}
+
+pub Offers-accept : (capacity place : ℕ) (c : Flagged) (sent sent' : List Flagged) (heads heads' more : List ℕ) (overruns : List Overrun)
+    → heads' ≡ heads ++ more → sent' ≡ sent ++ c ∷ [] → Offers capacity place (c ∷ []) sent sent' heads heads' overruns overruns
+unfolding accepted refused IsFullAt AreAmong
+Offers-accept capacity place c sent sent' heads heads' more overruns h e = record {
+  answers = accepts ∷ [];
+  loaded = more;
+  one_each = refl;
+  accepts_rest = e;
+  adds_refused = sym (append-nil overruns);
+  is_full = tt;
+  loads = h;
+  among_loaded = tt;
+}
+
+pub Offers-refuse : (capacity place count seen : ℕ) (c : Flagged) (sent sent' : List Flagged) (heads heads' : List ℕ) (overruns overruns' : List Overrun)
+    → heads' ≡ heads ++ seen ∷ [] → sent' ≡ sent → count ≡ length sent → count ≡ seen + capacity
+    → overruns' ≡ overruns ++ (record { at = place; sent = count; seen = seen }) ∷ []
+    → Offers capacity place (c ∷ []) sent sent' heads heads' overruns overruns'
+unfolding accepted refused IsFullAt AreAmong
+Offers-refuse capacity place count seen c sent sent' heads heads' overruns overruns' h s n f o = record {
+  answers = refuses seen ∷ [];
+  loaded = seen ∷ [];
+  one_each = refl;
+  accepts_rest = s ∙ sym (append-nil sent);
+  adds_refused = rw n at o;
+  is_full = (sym n ∙ f, tt);
+  loads = h;
+  among_loaded = ([], [], refl, tt);
+}
+
+pub Offers-append : (capacity place place' : ℕ) (xs ys : List Flagged) (s0 s1 s2 : List Flagged) (h0 h1 h2 : List ℕ) (o0 o1 o2 : List Overrun)
+    → place' ≡ place + length xs
+    → Offers capacity place xs s0 s1 h0 h1 o0 o1 → Offers capacity place' ys s1 s2 h1 h2 o1 o2
+    → Offers capacity place (xs ++ ys) s0 s2 h0 h2 o0 o2
+Offers-append capacity place place' xs ys s0 s1 s2 h0 h1 h2 o0 o1 o2 e a b =
+    let count : length s1 ≡ length s0 + accepted_count a.answers =
+    omega (arith, ap length a.accepts_rest, length-append s0 (accepted xs a.answers), length-accepted xs a.answers a.one_each) in
+    let at : place' ≡ place + length a.answers = omega (arith, a.one_each) in
+    let is_full : IsFullAt capacity (length s0 + accepted_count a.answers) b.answers = rw count at b.is_full in
+    record {
+      answers = a.answers ++ b.answers;
+      loaded = a.loaded ++ b.loaded;
+      one_each = omega (arith, length-append a.answers b.answers, length-append xs ys, a.one_each, b.one_each);
+      accepts_rest = rw (accepted-append xs ys a.answers b.answers a.one_each, ← append_assoc, ← a.accepts_rest) b.accepts_rest;
+      adds_refused = rw (refused-append, ← append_assoc, ← a.adds_refused, ← count, ← at) b.adds_refused;
+      is_full = IsFullAt-append capacity (length s0) a.answers b.answers a.is_full is_full;
+      loads = rw (← append_assoc, ← a.loads) b.loads;
+      among_loaded = AreAmong-append a.answers b.answers a.loaded b.loaded a.among_loaded b.among_loaded;
+    }
+
+-- no more was accepted than was offered
+pub Offers-bound : (capacity place : ℕ) (xs : List Flagged) (s0 s1 : List Flagged) (h0 h1 : List ℕ) (o0 o1 : List Overrun)
+    → Offers capacity place xs s0 s1 h0 h1 o0 o1 → length s1 ≤ length s0 + length xs
+Offers-bound capacity place xs s0 s1 h0 h1 o0 o1 a =
+    omega (arith, ap length a.accepts_rest, length-append s0 (accepted xs a.answers), length-accepted xs a.answers a.one_each, accepted_count-≤ a.answers, a.one_each)
+
+pub HandsOver-trans : (capacity : ℕ) (a0 a1 a2 : List Flagged) (s0 s1 s2 : List Flagged) (h0 h1 h2 : List ℕ) (o0 o1 o2 : List Overrun)
+    → HandsOver capacity a0 a1 s0 s1 h0 h1 o0 o1 → HandsOver capacity a1 a2 s1 s2 h1 h2 o1 o2
+    → HandsOver capacity a0 a2 s0 s2 h0 h2 o0 o2
+HandsOver-trans capacity a0 a1 a2 s0 s1 s2 h0 h1 h2 o0 o1 o2 a b =
+    let e : length a1 ≡ length a0 + length a.list = omega (arith, ap length a.grows, length-append a0 a.list) in
+    record {
+      list = a.list ++ b.list;
+      grows = rw (← append_assoc, ← a.grows) b.grows;
+      offers = Offers-append capacity (length a0) (length a1) a.list b.list s0 s1 s2 h0 h1 h2 o0 o1 o2 e a.offers b.offers;
+    }
+
+-- ---- overruns by their places
+
+none_before : (q place sent : ℕ) (ps : List Outcome) → q < place → list_any (λ o. o.at == q) (refused place sent ps) ≡ false
+unfolding refused
+none_before q place sent [] h = refl
+none_before q place sent (accepts ∷ ps) h = none_before q (place + 1) (sent + 1) ps (omega arith)
+none_before q place sent (refuses seen ∷ ps) h =
+    let other : (place == q) ≡ false = grind (arith, nat_tests) in
+    rw other (none_before q (place + 1) sent ps (omega arith))
+
+kept_from-skip : (place : ℕ) (cs : List Flagged) (o : Overrun) (os : List Overrun) → o.at < place
+    → kept_from place cs (o ∷ os) ≡ kept_from place cs os
+unfolding kept_from
+kept_from-skip place [] o os h = refl
+kept_from-skip place (c ∷ cs) o os h =
+    let other : (o.at == place) ≡ false = grind (arith, nat_tests) in
+    rw (other, kept_from-skip (place + 1) cs o os (omega arith)) refl
+
+kept_from-refused : (place sent : ℕ) (cs : List Flagged) (ps : List Outcome) → length ps ≡ length cs
+    → kept_from place cs (refused place sent ps) ≡ accepted cs ps
+unfolding kept_from refused accepted
+kept_from-refused place sent [] ps e = refl
+kept_from-refused place sent (c ∷ cs) [] e = absurd (omega (arith, e))
+kept_from-refused place sent (c ∷ cs) (accepts ∷ ps) e =
+    rw (none_before place (place + 1) (sent + 1) ps (omega arith))
+    (ap (λ r. c ∷ r) (kept_from-refused (place + 1) (sent + 1) cs ps (omega (arith, e))))
+kept_from-refused place sent (c ∷ cs) (refuses seen ∷ ps) e =
+    let here : (place == place) ≡ true = grind (arith, nat_tests) in
+    rw here (kept_from-skip (place + 1) cs (record { at = place; sent = sent; seen = seen }) (refused (place + 1) sent ps) (omega arith)
+    ∙ kept_from-refused (place + 1) sent cs ps (omega (arith, e)))
+
+AreShown-refused : (capacity k floor place sent : ℕ) (ps : List Outcome) → floor ≤ place → sent + k ≡ place → IsFullAt capacity sent ps
+    → AreShown capacity k floor (refused place sent ps)
+unfolding AreShown refused IsFullAt
+AreShown-refused capacity k floor place sent [] f e h = tt
+AreShown-refused capacity k floor place sent (accepts ∷ ps) f e h =
+    AreShown-refused capacity k floor (place + 1) (sent + 1) ps (omega arith) (omega arith) h
+AreShown-refused capacity k floor place sent (refuses seen ∷ ps) f e h =
+    (f, e, h.0, AreShown-refused capacity (k + 1) (place + 1) (place + 1) sent ps (omega arith) (omega arith) h.1)
+
+pub HandsOver-kept : (capacity : ℕ) (all sent : List Flagged) (heads : List ℕ) (overruns : List Overrun)
+    → HandsOver capacity [] all [] sent [] heads [] overruns → sent ≡ kept all overruns
+HandsOver-kept capacity all sent heads overruns a =
+    a.offers.accepts_rest
+    ∙ sym (kept_from-refused 0 0 a.list a.offers.answers a.offers.one_each)
+    ∙ ap (λ l. kept_from 0 l (refused 0 0 a.offers.answers)) (sym a.grows)
+    ∙ ap (kept_from 0 all) (sym a.offers.adds_refused)
+
+pub HandsOver-shown : (capacity : ℕ) (all sent : List Flagged) (heads : List ℕ) (overruns : List Overrun)
+    → HandsOver capacity [] all [] sent [] heads [] overruns → AreShown capacity 0 0 overruns
+HandsOver-shown capacity all sent heads overruns a =
+    rw a.offers.adds_refused (AreShown-refused capacity 0 0 0 0 a.offers.answers (omega arith) (omega arith) a.offers.is_full)

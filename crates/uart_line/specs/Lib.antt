@@ -1,0 +1,4 @@
+pub mod Received
+pub mod Offered
+pub mod LineState
+pub mod Handler

@@ -1,0 +1,389 @@
+//! A serial line: a script of what happens on it, a 16550 receiver, and the interrupt handler that hands
+//! over what was received.
+#![tactic(auto)]
+
+ghost use Rattle.std.specs.Prelude.{◌≡◌, ◌≢◌, ℕ, ◌+◌, ◌-◌, ◌<◌, ◌≤◌, ◌^◌, List, [], ◌∷◌, ◌++◌, length, IsTrue, IfOk, ◌&&◌, true, false, not};
+ghost use Rattle.std.specs.List.{All};
+ghost use Rattle.std.specs.List.Sorted.{IsNonDecreasing};
+ghost use Rattle.tty_base.specs.declared.characters.Flagged.{Flagged};
+ghost use Rattle.tty_base.specs.declared.lines.LineStep.{LineStep};
+ghost use Rattle.tty_base.specs.declared.lines.Overrun.{Overrun};
+ghost use mathlib.Core.List.{IsPrefix};
+ghost use Rattle.uart_regs.specs.Registers.{Registers, fifo_controlled, is_set, is_pending, bit};
+
+use std::alloc::Global;
+use std::marker::Model;
+use tty_base::{Flag, Flagged, LineReport, LineStep, NoMemory, Overrun, Overruns, Put};
+use uart_regs::{Reg, Uart};
+
+const FIFO_DEPTH: u32 = 16;
+
+/// The character times after which the receiver asks for service.
+const TIMEOUT: u32 = 4;
+
+/// A break is one character 00.
+const BREAK: Flagged = Flagged {
+    byte: 0,
+    flag: Flag::Break,
+};
+
+/// Stands where the receive FIFO lost characters.
+const OVERRUN_MARK: Flagged = Flagged {
+    byte: 0,
+    flag: Flag::Overrun,
+};
+
+// LSR
+const DATA_READY: u8 = 0;
+
+const OVERRUN_ERROR: u8 = 1;
+
+const PARITY_ERROR: u8 = 2;
+
+const FRAMING_ERROR: u8 = 3;
+
+const BREAK_INTERRUPT: u8 = 4;
+
+/// What one turn of the handler reads off the receiver.
+#[derive(Clone, Copy)]
+struct Reading {
+    character: Flagged,
+    overrun: bool,
+}
+
+/// A serial line with its receiver, its interrupt handler and its report.
+#[derive(Drop)]
+pub struct Line {
+    uart: Uart,
+    masked: bool,
+    window: u32,
+    handed: u32,
+    most: u32,
+    report: LineReport,
+}
+
+impl Model for Line {
+    ghost use Rattle.uart_line.specs.LineState.{LineState, line_state};
+
+    ghost Value = { LineState };
+
+    ghost use Rattle.uart_line.specs.Handler.{IsLine};
+
+    ghost view = { λ l. line_state l.uart l.masked l.window l.handed l.most l.report };
+
+    ghost invariant = { λ l. IsLine (line_state l.uart l.masked l.window l.handed l.most l.report) };
+}
+
+impl Line {
+    ghost use Rattle.uart_line.specs.Received.{arrival, arrivals, received, waiting, closed};
+    ghost use Rattle.uart_line.specs.LineState.{HasDone};
+    ghost use Rattle.uart_line.specs.Offered.{Offers, HandsOver};
+    ghost use Rattle.uart_line.specs.Handler.{IsLine, is_step, stepped, reading_of, after_turn, with_mark, Serves};
+
+    /// A line on which nothing has happened, with room for `most` arrivals and so for `most` overruns.
+    pub fn new(alloc: Global, most: u32) -> Result<Line, NoMemory>
+        ensures done { IfOk result (λ line. HasDone line []) }
+        ensures room { IfOk result (λ line. line.most ≡ most) }
+        ensures none { IfOk result (λ line. line.report.overruns.items ≡ []) }
+    {
+        let mut overruns = Overruns::new(alloc);
+        overruns.reserve(most as usize)?;
+        Ok(Line {
+            uart: Uart::new(),
+            masked: false,
+            window: 0,
+            handed: 0,
+            most,
+            report: LineReport {
+                arrived: 0,
+                fifo_lost: 0,
+                sent: 0,
+                overruns,
+            },
+        })
+    }
+
+    /// Does one step. Then, where the handler is not masked and an interrupt is pending, the handler
+    /// runs: it takes all characters off the receiver, hands them to `put`, and pushes. A character
+    /// that `put` refuses is added to the report's overruns.
+    pub fn step<P: Put>(&mut self, step: LineStep, put: &mut P)
+        requires good { IsTrue (is_step step) }
+        requires room { self.old.report.arrived + length (arrival step) ≤ self.old.most }
+        requires sent { length (P.sent put.old) < 2 ^ 62 }
+
+        // The report has the numbers of the steps so far, and what waits is their uncut window.
+        ensures done { (before : List LineStep) → HasDone self.old before → HasDone self.new (before ++ step ∷ []) }
+        ensures room { self.new.most ≡ self.old.most }
+        ensures arrived { self.new.report.arrived ≡ self.old.report.arrived + length (arrival step) }
+
+        // What the step adds to the received list was offered, each character once and in order.
+        ensures hands_over { (before : List LineStep) → HasDone self.old before
+            → HandsOver (P.capacity put.old) (received before) (received (before ++ step ∷ []))
+            (P.sent put.old) (P.sent put.new) (P.heads put.old) (P.heads put.new)
+            self.old.report.overruns.items self.new.report.overruns.items }
+        ensures visible { P.visible put.old → P.visible put.new }
+        ensures capacity { P.capacity put.new ≡ P.capacity put.old }
+        ensures rise { IsNonDecreasing (P.heads put.old) → IsNonDecreasing (P.heads put.new) }
+
+        // A run of the handler leaves no interrupt pending.
+        ensures served { (is_pending self.new.registers && not self.new.masked) ≡ false }
+    {
+        let _ = &self.most;
+        self.advance(step, put);
+    }
+
+    /// Does these steps, then `Unmask` and four idle character times, after which nothing waits.
+    pub fn run<P: Put>(&mut self, steps: &[LineStep], put: &mut P)
+        requires good { All (λ step. IsTrue (is_step step)) steps.now }
+        requires room { self.old.report.arrived + arrivals steps.now ≤ self.old.most }
+        requires sent { length (P.sent put.old) < 2 ^ 62 }
+
+        ensures done { (before : List LineStep) → HasDone self.old before → HasDone self.new (before ++ closed steps.now) }
+        ensures room { self.new.most ≡ self.old.most }
+        ensures arrived { self.new.report.arrived ≡ self.old.report.arrived + arrivals steps.now }
+        ensures whole { (before : List LineStep) → waiting (before ++ closed steps.now) ≡ [] }
+
+        ensures hands_over { (before : List LineStep) → HasDone self.old before
+            → HandsOver (P.capacity put.old) (received before) (received (before ++ closed steps.now))
+            (P.sent put.old) (P.sent put.new) (P.heads put.old) (P.heads put.new)
+            self.old.report.overruns.items self.new.report.overruns.items }
+        ensures visible { P.visible put.old → P.visible put.new }
+        ensures capacity { P.capacity put.new ≡ P.capacity put.old }
+        ensures rise { IsNonDecreasing (P.heads put.old) → IsNonDecreasing (P.heads put.new) }
+    {
+        let _ = &self.most;
+        for step in steps {
+            self.advance(*step, put);
+        }
+        self.advance(LineStep::Unmask, put);
+        self.advance(LineStep::Idle(TIMEOUT), put);
+    }
+
+    /// What the line has done so far.
+    pub fn report(&self) -> &LineReport
+        ensures { result.now ≡ self.now.report }
+    {
+        &self.report
+    }
+
+    /// What the line has done.
+    pub fn into_report(self) -> LineReport
+        ensures { result ≡ self.report }
+    {
+        let Line {
+            uart: _,
+            masked: _,
+            window: _,
+            handed: _,
+            most: _,
+            report,
+        } = self;
+        report
+    }
+
+    // A step, where `put` has room in its numbers for all that can still be handed over.
+    fn advance<P: Put>(&mut self, step: LineStep, put: &mut P)
+        requires good { IsTrue (is_step step) }
+        requires room { self.old.report.arrived + length (arrival step) ≤ self.old.most }
+        requires sent { length (P.sent put.old) + self.old.most < 2 ^ 63 + self.old.handed }
+        ensures done { (before : List LineStep) → HasDone self.old before → HasDone self.new (before ++ step ∷ []) }
+        ensures hands_over { (before : List LineStep) → HasDone self.old before
+            → HandsOver (P.capacity put.old) (received before) (received (before ++ step ∷ []))
+            (P.sent put.old) (P.sent put.new) (P.heads put.old) (P.heads put.new)
+            self.old.report.overruns.items self.new.report.overruns.items }
+        ensures visible { P.visible put.old → P.visible put.new }
+        ensures capacity { P.capacity put.new ≡ P.capacity put.old }
+        ensures rise { IsNonDecreasing (P.heads put.old) → IsNonDecreasing (P.heads put.new) }
+        ensures served { (is_pending self.new.registers && not self.new.masked) ≡ false }
+        ensures room { self.new.most ≡ self.old.most }
+        ensures arrived { self.new.report.arrived ≡ self.old.report.arrived + length (arrival step) }
+        ensures bound { length (P.sent put.new) + self.old.handed ≤ length (P.sent put.old) + self.new.handed }
+    {
+        self.receive(step);
+        let held_back = self.masked;
+        if self.uart.pending() && !held_back {
+            self.handle(put);
+        }
+    }
+
+    // The interrupt handler.
+    fn handle<P: Put>(&mut self, put: &mut P)
+        requires { length (P.sent put.old) + self.old.most < 2 ^ 63 + self.old.handed }
+        ensures serves { Serves (P.capacity put.old) self.old self.new (with_mark self.old.registers.overrun self.old.registers.fifo)
+            (P.sent put.old) (P.sent put.new) (P.heads put.old) (P.heads put.new) }
+        ensures fifo { self.new.registers.fifo ≡ [] }
+        ensures overrun { self.new.registers.overrun ≡ false }
+        ensures window { self.new.window ≡ 0 }
+        ensures lost { self.new.report.fifo_lost ≡ self.old.report.fifo_lost + (self.old.window - 16) }
+        ensures counted { self.new.report.sent + length self.new.report.overruns.items ≡ self.new.handed }
+        ensures visible { P.visible put.new }
+        ensures capacity { P.capacity put.new ≡ P.capacity put.old }
+        ensures rise { IsNonDecreasing (P.heads put.old) → IsNonDecreasing (P.heads put.new) }
+    {
+        self.empty(put);
+        self.report.fifo_lost += self.window.saturating_sub(FIFO_DEPTH);
+        self.window = 0;
+        show(put);
+    }
+
+    // Takes all characters off the receiver and offers them.
+    fn empty<P: Put>(&mut self, put: &mut P)
+        requires { length (P.sent put.old) + self.old.most < 2 ^ 63 + self.old.handed }
+        ensures serves { Serves (P.capacity put.old) self.old self.new (with_mark self.old.registers.overrun self.old.registers.fifo)
+            (P.sent put.old) (P.sent put.new) (P.heads put.old) (P.heads put.new) }
+        ensures fifo { self.new.registers.fifo ≡ [] }
+        ensures overrun { self.new.registers.overrun ≡ false }
+        ensures window { self.new.window ≡ self.old.window }
+        ensures lost { self.new.report.fifo_lost ≡ self.old.report.fifo_lost }
+        ensures capacity { P.capacity put.new ≡ P.capacity put.old }
+        ensures rise { IsNonDecreasing (P.heads put.old) → IsNonDecreasing (P.heads put.new) }
+    {
+        while let Some(reading) = self.next_reading() {
+            self.offer(reading.character, put);
+            if reading.overrun {
+                self.offer(OVERRUN_MARK, put);
+            }
+        }
+    }
+
+    // Hands over one character.
+    fn offer<P: Put>(&mut self, c: Flagged, put: &mut P)
+        requires room { self.old.handed + length self.old.registers.fifo + bit self.old.registers.overrun < self.old.report.arrived }
+        requires sent { length (P.sent put.old) < 2 ^ 63 }
+        ensures same { self.new ≡ record self.old {
+          handed = self.old.handed + 1;
+          report = record self.old.report { sent = self.new.report.sent; overruns = self.new.report.overruns };
+        } }
+        ensures offers { Offers (P.capacity put.old) self.old.handed (c ∷ [])
+            (P.sent put.old) (P.sent put.new) (P.heads put.old) (P.heads put.new)
+            self.old.report.overruns.items self.new.report.overruns.items }
+        ensures capacity { P.capacity put.new ≡ P.capacity put.old }
+        ensures rise { IsNonDecreasing (P.heads put.old) → IsNonDecreasing (P.heads put.new) }
+    {
+        match put.put(c) {
+            Ok(()) => self.report.sent += 1,
+            Err(full) => self.report.overruns.add(Overrun {
+                at: self.handed,
+                sent: full.sent,
+                seen: full.seen,
+            }),
+        }
+        self.handed += 1;
+    }
+
+    // The step alone, before the handler.
+    fn receive(&mut self, step: LineStep)
+        requires good { IsTrue (is_step step) }
+        requires room { self.old.report.arrived + length (arrival step) ≤ self.old.most }
+        ensures { self.new ≡ stepped self.old step }
+    {
+        match step {
+            LineStep::Rx(c) => self.arrive(c),
+            LineStep::Break => self.arrive(BREAK),
+            LineStep::Idle(times) => self.uart.idle(times),
+            LineStep::Mask => self.masked = true,
+            LineStep::Unmask => self.masked = false,
+            LineStep::Trigger(level) => self.uart.write(Reg::R2, trigger_control(level)),
+        }
+    }
+
+    fn arrive(&mut self, c: Flagged)
+        requires no_mark { c.flag ≢ Flag.Overrun }
+        requires room { self.old.report.arrived < self.old.most }
+        ensures { self.new ≡ stepped self.old (LineStep.Rx c) }
+    {
+        self.uart.arrive(c);
+        self.window += 1;
+        self.report.arrived += 1;
+    }
+
+    // One turn of the handler: line status, and where it says so the receiver buffer.
+    fn next_reading(&mut self) -> Option<Reading>
+        ensures reading { result ≡ reading_of self.old.registers.overrun self.old.registers.fifo }
+        ensures after { self.new ≡ record self.old { registers = after_turn self.old.registers self.old.registers.fifo } }
+        ensures line { IsLine self.old }
+    {
+        let status = self.uart.read(Reg::R5);
+        if !is_set(status, DATA_READY) {
+            return None;
+        }
+        let byte = self.uart.read(Reg::R0);
+        Some(Reading {
+            character: Flagged {
+                byte,
+                flag: flag_of(status),
+            },
+            overrun: is_set(status, OVERRUN_ERROR),
+        })
+    }
+}
+
+/// Makes all that was put visible to the other end.
+fn show<P: Put>(put: &mut P)
+    ensures sent { P.sent put.new ≡ P.sent put.old }
+    ensures visible { P.visible put.new }
+    ensures grows { IsPrefix (P.heads put.old) (P.heads put.new) }
+    ensures rise { IsNonDecreasing (P.heads put.new) }
+    ensures same { P.capacity put.new ≡ P.capacity put.old }
+{
+    put.push();
+}
+
+ghost use Rattle.uart_line.specs.Offered.{HandsOver, kept, AreShown};
+
+/// What was accepted is what was handed over without the places of the overruns. These rise, and each
+/// tells how many were accepted before it and that the buffer was full.
+pub fn overruns_are_shown()
+    ensures kept { (capacity : ℕ) (all sent : List Flagged) (heads : List ℕ) (overruns : List Overrun)
+        → HandsOver capacity [] all [] sent [] heads [] overruns → sent ≡ kept all overruns }
+    ensures shown { (capacity : ℕ) (all sent : List Flagged) (heads : List ℕ) (overruns : List Overrun)
+        → HandsOver capacity [] all [] sent [] heads [] overruns → AreShown capacity 0 0 overruns }
+{}
+
+/// What is handed over by one run and then by the next is handed over by both.
+pub fn runs_follow_each_other()
+    ensures { (capacity : ℕ) (a0 a1 a2 s0 s1 s2 : List Flagged) (h0 h1 h2 : List ℕ) (o0 o1 o2 : List Overrun)
+        → HandsOver capacity a0 a1 s0 s1 h0 h1 o0 o1 → HandsOver capacity a1 a2 s1 s2 h1 h2 o1 o2
+        → HandsOver capacity a0 a2 s0 s2 h0 h2 o0 o2 }
+{}
+
+/// The FIFO control that sets this trigger.
+fn trigger_control(level: u8) -> u8
+    requires { IsTrue (is_step (LineStep.Trigger level)) }
+    ensures { (r : Registers) → fifo_controlled r result ≡ record r { trigger = level } }
+{
+    match level {
+        1 => 0x01,
+        4 => 0x41,
+        8 => 0x81,
+        _ => 0xc1,
+    }
+}
+
+/// Bit `place` of a register.
+fn is_set(value: u8, place: u8) -> bool
+    requires { place < 8 }
+    ensures { result ≡ is_set value place }
+{
+    value >> place & 1 == 1
+}
+
+ghost use Rattle.uart_line.specs.Handler.{is_step, flag_of};
+
+/// The flag that a line status gives the front character.
+fn flag_of(status: u8) -> Flag
+    ensures { result ≡ flag_of status }
+{
+    if is_set(status, BREAK_INTERRUPT) {
+        Flag::Break
+    } else if is_set(status, PARITY_ERROR) {
+        Flag::Parity
+    } else if is_set(status, FRAMING_ERROR) {
+        Flag::Frame
+    } else {
+        Flag::Normal
+    }
+}
+
+#[cfg(test)]
+mod tests;
