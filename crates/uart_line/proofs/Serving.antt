@@ -1,11 +1,11 @@
 -- Turns of the interrupt handler.
-use Rattle.std.proofs.Common.{◌≡◌, ℕ, ◌+◌, ◌-◌, ◌<◌, ◌≤◌, ◌^◌, Bool, true, false, if◌then◌else◌, List, [], ◌∷◌, ◌++◌, length, refl, sym, ◌∙◌, ap, arith, append_assoc, append-nil, length-append, Some, None}
+use Rattle.std.proofs.Common.{◌≡◌, ℕ, ◌+◌, ◌≤◌, Bool, false, if◌then◌else◌, List, [], ◌∷◌, ◌++◌, length, refl, sym, ◌∙◌, ap, arith, append_assoc, append-nil, length-append, Some}
 use Rattle.tty_base.specs.declared.characters.Flagged.{Flagged}
-use Rattle.uart_regs.specs.Registers.{Registers, bit}
+use Rattle.uart_regs.specs.Registers.{Registers}
 use Rattle.uart_line.specs.Received.{overrun_mark}
 use Rattle.uart_line.specs.LineState.{LineState}
 use Rattle.uart_line.specs.Offered.{Offers}
-use Rattle.uart_line.specs.Handler.{with_mark, reading_of, after_turn, IsReadOff, Serves, IsLine}
+use Rattle.uart_line.specs.Handler.{with_mark, reading_of, after_turn, IsReadOff, Serves}
 use Rattle.uart_line.specs.declared.Reading.{Reading}
 use Rattle.uart_line.proofs.OfferedLemmas.{Offers-none, Offers-append, Offers-bound}
 

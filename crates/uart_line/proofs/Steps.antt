@@ -6,12 +6,12 @@ use Rattle.tty_base.specs.declared.characters.Flagged.{Flagged}
 use Rattle.tty_base.specs.declared.lines.Overrun.{Overrun}
 use Rattle.tty_base.specs.declared.lines.LineStep.{LineStep}
 use Rattle.tty_base.specs.declared.lines.LineStep.TheVariants.{Rx, Break, Idle, Mask, Unmask, Trigger}
-use Rattle.uart_regs.specs.Registers.{Registers, IsReceiver, is_pending}
+use Rattle.uart_regs.specs.Registers.{IsReceiver, is_pending}
 use Rattle.uart_line.specs.Received.{is_flagged, is_masked, trigger_of, idle_of, arrival, arrivals, is_cut, uncut, window, given, received, received_after, lost, lost_after, waiting, closed}
-use Rattle.uart_line.specs.LineState.{LineState, IsWaiting, Stands, HasDone}
-use Rattle.uart_line.specs.Offered.{Offers, HandsOver}
-use Rattle.uart_line.specs.Handler.{with_mark, stepped, IsReadOff, Serves}
-use Rattle.uart_line.proofs.OfferedLemmas.{Offers-none, Offers-append}
+use Rattle.uart_line.specs.LineState.{LineState, Stands, HasDone}
+use Rattle.uart_line.specs.Offered.{HandsOver}
+use Rattle.uart_line.specs.Handler.{with_mark, stepped, Serves}
+use Rattle.uart_line.proofs.OfferedLemmas.{Offers-none}
 use Rattle.uart_line.proofs.Serving.{sent_bound}
 use Rattle.uart_line.proofs.Windows.{is_pending-is_cut, with_mark-given, Stands-stepped}
 

@@ -1,18 +1,16 @@
 -- What the registers say of the window that waits in the receiver.
-use Rattle.std.proofs.Common.{◌≡◌, ◌≢◌, ℕ, ◌+◌, ◌-◌, ◌<◌, ◌≤◌, min, Bool, true, false, not, ◌||◌, ◌&&◌, nat_le, nat_lt, nat_eq, ◌==◌, if◌then◌else◌, List, [], ◌∷◌, ◌++◌, length, take, suc, refl, sym, ◌∙◌, ap, arith, length-append, length-take, append-nil, append_assoc}
+use Rattle.std.proofs.Common.{◌≡◌, ◌≢◌, ℕ, ◌+◌, ◌<◌, ◌≤◌, min, Bool, true, false, not, ◌||◌, ◌&&◌, nat_le, nat_lt, ◌==◌, if◌then◌else◌, List, [], ◌∷◌, ◌++◌, length, take, suc, refl, sym, ◌∙◌, ap, arith, length-append, length-take, append-nil}
 use Rattle.std.proofs.lemmas.Bool.Decides.{nat_tests}
 use Rattle.std.proofs.lemmas.List.{take_all, take-append-le}
-use Rattle.std.proofs.lemmas.Grind.{common_steps}
-use Rattle.std.specs.List.{All}
 use Rattle.tty_base.specs.declared.characters.Flag.{Flag}
 use Rattle.tty_base.specs.declared.characters.Flag.TheVariants as flag
 use Rattle.tty_base.specs.declared.characters.Flagged.{Flagged}
 use Rattle.tty_base.specs.declared.lines.LineStep.{LineStep}
 use Rattle.tty_base.specs.declared.lines.LineStep.TheVariants.{Rx, Break, Idle, Mask, Unmask, Trigger}
 use Rattle.uart_regs.specs.Registers.{Registers, IsReceiver, is_pending, is_set, is_error, front_flag, arrived}
-use Rattle.uart_line.specs.Received.{is_flagged, is_masked, trigger_of, idle_of, is_cut, given, overrun_mark, break_character, arrival, uncut, window}
+use Rattle.uart_line.specs.Received.{is_flagged, is_masked, trigger_of, idle_of, is_cut, given, overrun_mark, break_character, arrival}
 use Rattle.uart_line.specs.LineState.{LineState, IsWaiting, Stands}
-use Rattle.uart_line.specs.Handler.{with_mark, stepped, is_step}
+use Rattle.uart_line.specs.Handler.{with_mark, stepped}
 
 code_pending : (a b c : Bool)
     → not (is_set (192 + (if a then 6 else if b then 4 else if c then 12 else 1)) 0) ≡ (a || b || c)

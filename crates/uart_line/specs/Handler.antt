@@ -1,12 +1,12 @@
 -- The steps of a line and the turns of its interrupt handler, on what contracts see of a line.
-use Rattle.std.specs.Prelude.{◌≡◌, ℕ, ◌+◌, ◌-◌, ◌^◌, ◌≤◌, ◌<◌, Bool, true, false, not, ◌||◌, ◌&&◌, ◌==◌, if◌then◌else◌, List, [], ◌∷◌, length, Option, Some, None}
+use Rattle.std.specs.Prelude.{◌≡◌, ℕ, ◌+◌, ◌^◌, ◌≤◌, ◌<◌, Bool, true, false, ◌||◌, ◌==◌, if◌then◌else◌, List, [], ◌∷◌, length, Option, Some, None}
 use Rattle.tty_base.specs.declared.characters.Flag.{Flag}
 use Rattle.tty_base.specs.declared.characters.Flag.TheVariants as flag
 use Rattle.tty_base.specs.declared.characters.Flagged.{Flagged}
 use Rattle.tty_base.specs.declared.lines.LineStep.{LineStep}
 use Rattle.tty_base.specs.declared.lines.LineStep.TheVariants.{Rx, Break, Idle, Mask, Unmask, Trigger}
-use Rattle.uart_regs.specs.Registers.{Registers, DEPTH, arrived, idled, bit, is_pending, is_set}
-use Rattle.uart_line.specs.Received.{break_character, overrun_mark, arrival}
+use Rattle.uart_regs.specs.Registers.{Registers, arrived, idled, bit, is_set}
+use Rattle.uart_line.specs.Received.{break_character, overrun_mark}
 use Rattle.uart_line.specs.LineState.{LineState}
 use Rattle.uart_line.specs.Offered.{Offers}
 use Rattle.uart_line.specs.declared.Reading.{Reading}

@@ -1,5 +1,5 @@
 -- What contracts see of a line, and which steps it has done.
-use Rattle.std.specs.Prelude.{◌≡◌, ℕ, ◌+◌, ◌≤◌, ◌<◌, min, Bool, true, false, nat_lt, List, [], length, take, reverse}
+use Rattle.std.specs.Prelude.{◌≡◌, ℕ, ◌+◌, ◌<◌, min, Bool, nat_lt, List, length, take, reverse}
 use Rattle.tty_base.specs.declared.characters.Flagged.{Flagged}
 use Rattle.tty_base.specs.declared.lines.LineReport.{LineReport}
 use Rattle.tty_base.specs.declared.lines.LineStep.{LineStep}

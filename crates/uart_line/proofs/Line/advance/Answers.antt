@@ -1,4 +1,4 @@
-use Rattle.std.proofs.Common.{◌≡◌, ℕ, Bool, true, false, not, ◌&&◌, ◌⊎◌, inl, inr, refl, sym, ap, ◌∙◌, arith}
+use Rattle.std.proofs.Common.{◌≡◌, Bool, true, false, not, ◌&&◌, ◌⊎◌, inl, inr, refl, sym, ◌∙◌}
 use Rattle.uart_line.proofs.Steps.{done-quiet, hands_over-quiet, done-served, hands_over-served, bound-served}
 use Rattle.uart_line.proofs.Line.advance.Goals as goal
 use Rattle.uart_line.proofs.Line.advance.Goals.{else-pending-via-then-pending+else-not-held_back, else-pending-via-else-pending}

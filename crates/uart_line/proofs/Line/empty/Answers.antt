@@ -1,4 +1,4 @@
-use Rattle.std.proofs.Common.{◌≡◌, ℕ, ◌+◌, ◌<◌, ◌≤◌, List, [], ◌∷◌, ◌++◌, length, refl, sym, ap, ◌∙◌, arith, rules, append_assoc}
+use Rattle.std.proofs.Common.{◌+◌, [], ◌∷◌, ◌++◌, length, refl, sym, ap, ◌∙◌, arith, append_assoc}
 use Rattle.uart_regs.specs.Registers.{bit}
 use Rattle.uart_line.specs.Received.{overrun_mark}
 use Rattle.uart_line.proofs.Serving.{Serves-none, Serves-turn, Serves-offer, taken, sent_bound}

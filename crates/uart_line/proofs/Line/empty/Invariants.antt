@@ -1,4 +1,4 @@
-use Rattle.std.proofs.Common.{◌≡◌, ◌≢◌, ℕ, ◌+◌, ◌-◌, ◌<◌, ◌≤◌, ◌^◌, List, [], ◌∷◌, ◌++◌, length}
+use Rattle.std.proofs.Common.{◌≡◌, List, ◌++◌, length}
 use Rattle.std.specs.List.Sorted.{IsNonDecreasing}
 use Rattle.tty_base.specs.declared.characters.Flagged.{Flagged}
 use Rattle.uart_line.specs.Handler.{with_mark, Serves}

@@ -1,7 +1,7 @@
-use Rattle.std.proofs.Common.{◌≡◌, ℕ, ◌+◌, ◌<◌, [], length, false, refl, ap, ◌∙◌, arith}
+use Rattle.std.proofs.Common.{◌≡◌, [], length, refl, ap, ◌∙◌, arith}
 use Rattle.uart_regs.specs.Registers.{Registers, set_up}
-use Rattle.uart_line.specs.Received.{is_masked, trigger_of, idle_of, arrivals, received, received_after, lost, lost_after, waiting, window, is_cut}
-use Rattle.uart_line.specs.LineState.{IsWaiting, HasDone}
+use Rattle.uart_line.specs.Received.{is_masked, trigger_of, idle_of, received, received_after, lost, lost_after, waiting, window, is_cut}
+use Rattle.uart_line.specs.LineState.{IsWaiting}
 use Rattle.uart_line.proofs.Line.new.Goals as goal
 
 waits_for_none : (r : Registers) → r ≡ set_up → IsWaiting r [] []

@@ -1,5 +1,4 @@
-use Rattle.std.proofs.Common.{◌≡◌, ℕ, ◌+◌, List, [], ◌∷◌, ◌++◌, length, refl, sym, ap, ◌∙◌, arith}
-use Rattle.uart_line.specs.Offered.{Offers}
+use Rattle.std.proofs.Common.{sym, ap}
 use Rattle.uart_line.proofs.OfferedLemmas.{Offers-accept, Offers-refuse}
 use Rattle.uart_line.proofs.Line.offer.Goals as goal
 use Rattle.uart_line.proofs.Line.offer.Goals.{in-Ok, in-Err}

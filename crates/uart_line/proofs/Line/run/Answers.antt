@@ -1,9 +1,9 @@
-use Rattle.std.proofs.Common.{◌≡◌, ℕ, ◌+◌, ◌<◌, ◌≤◌, [], ◌∷◌, ◌++◌, length, take, refl, sym, ap, ◌∙◌, arith, append-nil}
+use Rattle.std.proofs.Common.{◌+◌, ◌++◌, take, refl, ◌∙◌, arith, append-nil}
 use Rattle.std.proofs.lemmas.List.{take_all}
 use Rattle.tty_base.specs.declared.characters.Flag.TheVariants.{Normal}
 use Rattle.tty_base.specs.declared.lines.LineStep.{LineStep}
-use Rattle.tty_base.specs.declared.lines.LineStep.TheVariants.{Rx, Unmask, Idle}
-use Rattle.uart_line.specs.Received.{received, closed, arrivals}
+use Rattle.tty_base.specs.declared.lines.LineStep.TheVariants.{Rx}
+use Rattle.uart_line.specs.Received.{received}
 use Rattle.uart_line.proofs.OfferedLemmas.{HandsOver-trans}
 use Rattle.uart_line.proofs.Steps.{take-step, arrivals-take, arrivals-take-≤, closed-steps, waiting-closed, HandsOver-none}
 use Rattle.uart_line.proofs.Line.run.Goals as goal

@@ -1,4 +1,4 @@
-use Rattle.std.proofs.Common.{◌≡◌, ℕ, ◌+◌, ◌≤◌, List, ◌++◌, length, take}
+use Rattle.std.proofs.Common.{◌≡◌, ◌+◌, ◌≤◌, List, ◌++◌, length, take}
 use Rattle.std.specs.List.Sorted.{IsNonDecreasing}
 use Rattle.tty_base.specs.declared.lines.LineStep.{LineStep}
 use Rattle.uart_line.specs.Received.{received, arrivals}
