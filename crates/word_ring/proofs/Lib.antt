@@ -1,0 +1,10 @@
+pub mod Beginnings
+pub mod Keeps
+pub mod LastWord
+pub mod Packing
+pub mod Putting
+pub mod Reading
+pub mod Released
+pub mod Seats
+pub mod Standing
+pub mod Taking

@@ -1,0 +1,65 @@
+-- The two ends of a ring and their notes, as contracts see them: here with numbers, in a layer above with what the numbers stand for.
+use Rattle.std.specs.Prelude.{◌≡◌, ℕ, Bool, List, [], ◌∷◌, ◌++◌, length, All, Contains}
+use Rattle.std.proofs.Common.{◌⊎◌}
+use mathlib.Core.List.{IsPrefix}
+use Rattle.atomic_table.specs.Seated.{TableId}
+
+-- The end that puts in.
+pub record PutterState (A : Type 0) : Type 0 where
+  -- which ring it is
+  pub ring : TableId
+  pub capacity : ℕ
+  -- all that was put, the oldest first, and the beginning of them that the other end may find
+  pub sent : List A
+  pub pushed : List A
+  -- the heads that were loaded: how many the other end had taken at each
+  pub heads : List ℕ
+  -- no later head is lower
+  pub floor : ℕ
+
+-- The end that takes out.
+pub record TakerState (A : Type 0) : Type 0 where
+  pub ring : TableId
+  pub capacity : ℕ
+  -- all that was taken, the oldest first
+  pub taken : List A
+  -- the heads that were stored
+  pub released : List ℕ
+  -- the tails that were loaded: how many were pushed at each
+  pub tails : List ℕ
+  -- no later tail is lower
+  pub floor : ℕ
+  -- the other end is finished, so that each later tail is `floor`
+  pub ended : Bool
+
+-- What a putter's note tells the taker.
+pub record NoteState (A : Type 0) : Type 0 where
+  pub ring : TableId
+  pub pushed : List A
+  pub heads : List ℕ
+
+-- What a taker's note tells the putter.
+pub record HeadNoteState : Type 0 where
+  pub ring : TableId
+  pub taken : ℕ
+
+-- one of the lists begins the other
+abbrev pub IsOneWithin : {A : Type 0} → List A → List A → Type 0
+IsOneWithin xs ys = IsPrefix xs ys ⊎ IsPrefix ys xs
+
+-- each of the heads is one that was released, or 0
+abbrev pub AreReleased : List ℕ → List ℕ → Type 0
+AreReleased released heads = All (λ h. (h ≡ 0) ⊎ Contains released h) heads
+
+-- one more head was loaded
+abbrev pub with_loaded : {A : Type 0} → PutterState A → ℕ → PutterState A
+with_loaded p head = record p { heads = p.heads ++ head ∷ []; floor = head }
+
+-- one more tail was loaded
+abbrev pub with_shown : {A : Type 0} → TakerState A → ℕ → TakerState A
+with_shown t tail = record t { tails = t.tails ++ tail ∷ []; floor = tail }
+
+-- some were taken; where there were any, the head was stored
+abbrev pub with_taken : {A : Type 0} → TakerState A → List A → TakerState A
+with_taken t [] = t
+with_taken t (x ∷ xs) = record t { taken = t.taken ++ x ∷ xs; released = t.released ++ length (t.taken ++ x ∷ xs) ∷ [] }

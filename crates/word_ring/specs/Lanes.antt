@@ -1,0 +1,15 @@
+-- Four numbers of 16 bits in one word of 64.
+use Rattle.std.specs.Prelude.{ℕ, zero, suc, ◌*◌, ◌/◌, ◌%◌, ◌^◌, List, [], ◌∷◌, ◌++◌, length, take}
+
+-- the number in a lane of a word
+unfoldable pub lane : ℕ → ℕ → ℕ
+lane word l = word / 65536 ^ l % 65536
+
+-- the numbers in the first lanes of a word
+abbrev pub lanes : ℕ → ℕ → List ℕ
+lanes word zero = []
+lanes word (suc l) = lanes word l ++ lane word l ∷ []
+
+-- the part of a list that fills whole words
+abbrev pub whole : List ℕ → List ℕ
+whole xs = take (length xs / 4 * 4) xs

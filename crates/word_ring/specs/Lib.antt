@@ -1,0 +1,6 @@
+pub mod Ends
+pub mod Lanes
+pub mod Plays
+pub mod PutterParts
+pub mod Rule
+pub mod TakerParts

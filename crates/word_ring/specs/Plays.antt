@@ -1,0 +1,90 @@
+-- What each step on a ring's table tells its seat.
+use Rattle.std.specs.Prelude.{◌≡◌, ℕ, ◌+◌, ◌≤◌, true, false, List, [], ◌∷◌, ◌++◌, length, take, max, All}
+use mathlib.Core.List.{IsPrefix}
+use Rattle.atomic_table.specs.Table.{Me, Step}
+use Rattle.word_ring.specs.declared.table.View.{View}
+use Rattle.word_ring.specs.Ends.{IsOneWithin, AreReleased}
+use Rattle.word_ring.specs.Lanes.{lanes, whole}
+
+abbrev Mine : Type 0
+Mine = Me (Unit {0}) View
+
+-- a seat that knows nothing
+abbrev pub blank : View
+blank = record { puts = false; takes = false; capacity = 0; written = []; pushed = []; heads = []; taken = []; read = []; released = []; tails = []; noted = []; noted_heads = []; head = 0; tail = 0 }
+
+-- the seat of both ends of a new ring
+abbrev pub both_ends : ℕ → View
+both_ends n = record blank { puts = true; takes = true; capacity = n }
+
+abbrev pub with_head : View → ℕ → View
+with_head v n = record v { heads = v.heads ++ n ∷ []; head = n }
+
+abbrev pub with_written : View → List ℕ → View
+with_written v xs = record v { written = xs }
+
+abbrev pub all_pushed : View → View
+all_pushed v = record v { pushed = v.written }
+
+abbrev pub with_tail : View → ℕ → View
+with_tail v n = record v { tails = v.tails ++ n ∷ []; tail = n }
+
+abbrev pub with_read : View → List ℕ → View
+with_read v xs = record v { read = xs }
+
+-- the numbers that were read and stand below the new head are taken, and what was read beyond it is forgotten
+abbrev pub with_taken_to : View → ℕ → View
+with_taken_to v n = record v { taken = take n v.read; read = take n v.read; released = v.released ++ n ∷ []; head = n }
+
+abbrev pub LoadsHead : Step (Unit {0}) → Mine → ℕ → Mine → Type 0
+LoadsHead s m n m' = (m'.0 ≡ with_head m.0 n) × (m'.1 ≡ m.1) × (m.0.head ≤ n) × (n ≤ length m.0.pushed) × (length m.0.pushed ≤ length m.0.written)
+
+-- the word is stored with so many lanes
+abbrev pub StoresLanes : ℕ → Step (Unit {0}) → Mine → ℕ → Mine → Type 0
+StoresLanes k s m n m' = (m'.0 ≡ with_written m.0 (whole m.0.written ++ lanes n k)) × (m'.1 ≡ m.1)
+
+abbrev pub StoresTail : Step (Unit {0}) → Mine → ℕ → Mine → Type 0
+StoresTail s m n m' = (m'.0 ≡ all_pushed m.0) × (m'.1 ≡ m.1)
+
+abbrev pub LoadsTail : Step (Unit {0}) → Mine → ℕ → Mine → Type 0
+LoadsTail s m n m' = (m'.0 ≡ with_tail m.0 n) × (m'.1 ≡ m.1) × (m.0.tail ≤ n) × (length m.0.taken ≤ n) × (n ≤ length m.0.taken + m.0.capacity) × (m.0.puts ≡ true → n ≡ length m.0.pushed)
+
+-- of the word all lanes below the known tail are read
+abbrev pub LoadsLanes : Step (Unit {0}) → Mine → ℕ → Mine → Type 0
+LoadsLanes s m n m' = (m'.0 ≡ with_read m.0 (take m.0.tail (whole m.0.read ++ lanes n 4))) × (m'.1 ≡ m.1) × IsPrefix m.0.read m'.0.read
+
+abbrev pub StoresHead : Step (Unit {0}) → Mine → ℕ → Mine → Type 0
+StoresHead s m n m' = (m'.0 ≡ with_taken_to m.0 n) × (m'.1 ≡ m.1)
+
+-- what was noted is compared with what was taken
+abbrev pub Compares : Step (Unit {0}) → Mine → ℕ → Mine → Type 0
+Compares s m n m' = (m' ≡ m)
+    × IsOneWithin m.0.taken m.0.noted
+    × AreReleased m.0.released m.0.noted_heads
+    × All (λ h. h ≤ length m.0.taken) m.0.noted_heads
+    × (m.0.puts ≡ true → IsPrefix m.0.taken m.0.pushed × AreReleased m.0.released m.0.heads × (m.0.tail ≤ length m.0.pushed))
+
+-- the two ends of a new ring
+abbrev pub putter_of : View → View
+putter_of v = record v { takes = false }
+
+abbrev pub taker_of : View → View
+taker_of v = record v { puts = false }
+
+-- a note of what the putter knows
+abbrev pub note_of : View → View
+note_of v = record blank { noted = v.pushed; noted_heads = v.heads; tail = length v.pushed }
+
+-- a note of how much the taker took
+abbrev pub head_note_of : View → View
+head_note_of v = record blank { head = length v.taken }
+
+abbrev pub with_note : View → View → View
+with_note v w = record v { noted = w.noted; noted_heads = w.noted_heads; tail = max v.tail w.tail }
+
+abbrev pub with_head_note : View → View → View
+with_head_note v w = record v { head = max v.head w.head }
+
+-- the taker takes over the putter's seat
+abbrev pub with_putter : View → View → View
+with_putter v w = record v { puts = true; written = w.written; pushed = w.pushed; heads = w.heads; tail = max v.tail (length w.pushed) }

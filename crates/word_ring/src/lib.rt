@@ -1,0 +1,20 @@
+//! A ring of 16-bit numbers between two threads: one puts, the other takes. It neither locks nor
+//! waits, and nothing but making it asks for memory.
+//!
+//! Four numbers share a word of 64 bits. The putter stores a word once for each four numbers and
+//! at a push, and the tail at a push; the taker stores the head once for each take.
+#![tactic(auto)]
+
+mod lanes;
+mod new;
+mod putter;
+mod steps;
+mod table;
+mod taker;
+
+pub use new::ring;
+pub use putter::{Note, Putter};
+pub use taker::{HeadNote, Taker};
+
+#[cfg(test)]
+mod tests;

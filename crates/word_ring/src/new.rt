@@ -1,0 +1,37 @@
+//! A new ring.
+ghost use Rattle.std.specs.Prelude.{◌≡◌, ◌<◌, ◌≤◌, false, [], IfOk};
+
+use crate::putter::Putter;
+use crate::table::{Apart, Board};
+use crate::taker::Taker;
+use std::alloc::Global;
+use std::sync::Arc;
+use tty_base::NoMemory;
+
+/// The two ends of a new ring, which has room for `n` numbers.
+pub fn ring(alloc: Global, n: usize) -> Result<(Putter, Taker), NoMemory>
+    requires { (0 < n) × (n ≤ 65536) }
+    ensures putter { IfOk result (λ e. e.0 ≡ record { ring = e.1.ring; capacity = n; sent = []; pushed = []; heads = []; floor = 0 }) }
+    ensures taker { IfOk result (λ e. e.1 ≡ record { ring = e.1.ring; capacity = n; taken = []; released = []; tails = []; floor = 0; ended = false }) }
+{
+    let capacity = n as u64;
+    let words = vec![in alloc; 0u64; n / 4 + 4]?;
+    let (table, mut seat) = Board::of_words(alloc, words.as_slice(), &capacity)?;
+    let other = table.shared.split_seat::<Apart>(&mut seat);
+    let board = Arc::new(alloc, table)?;
+    let shared = Arc::try_clone(&board)?;
+    let putter = Putter {
+        board,
+        seat,
+        capacity,
+        sent: 0,
+        word: 0,
+    };
+    let taker = Taker {
+        board: shared,
+        seat: other,
+        capacity,
+        taken: 0,
+    };
+    Ok((putter, taker))
+}

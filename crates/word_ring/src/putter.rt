@@ -1,0 +1,141 @@
+//! The end that puts numbers in, and its notes.
+ghost use Rattle.std.specs.Prelude.{◌≡◌, ◌+◌, ◌<◌, ◌≤◌, ◌^◌, [], ◌∷◌, ◌++◌, length, OnOk, OnErr, MatchResult};
+ghost use Rattle.std.specs.List.Sorted.{IsNonDecreasing};
+ghost use Rattle.word_ring.specs.Ends.{with_loaded};
+
+use crate::lanes::with_lane;
+use crate::steps::{store_lanes, word_of};
+use crate::table::{Board, HEAD, HeadNoted, LoadHead, Noted, Place, StoreTail, TAIL};
+use crate::taker::HeadNote;
+use std::alloc::Global;
+use std::marker::Model;
+use std::sync::Arc;
+use tty_base::Full;
+
+/// The end that puts numbers in.
+#[derive(Drop)]
+pub struct Putter {
+    pub(crate) board: Arc<Board>,
+    pub(crate) seat: Place,
+    pub(crate) capacity: u64,
+    pub(crate) sent: u64,
+    /// The word of the last numbers put, in its lanes below `sent % 4`.
+    pub(crate) word: u64,
+}
+
+impl Model for Putter {
+    ghost use Rattle.std.specs.Prelude.{ℕ};
+    ghost use Rattle.word_ring.specs.Ends.{PutterState};
+
+    ghost Value = { PutterState ℕ };
+
+    ghost use Rattle.word_ring.specs.PutterParts.{putter_state, IsPutter};
+
+    ghost view = { putter_state };
+
+    ghost invariant = { IsPutter };
+}
+
+/// What the putter had pushed, and the heads that it had loaded, when it gave the note.
+#[derive(Drop)]
+pub struct Note {
+    pub(crate) seat: Place,
+}
+
+impl Model for Note {
+    ghost use Rattle.std.specs.Prelude.{ℕ};
+    ghost use Rattle.word_ring.specs.Ends.{NoteState};
+
+    ghost Value = { NoteState ℕ };
+
+    ghost use Rattle.word_ring.specs.PutterParts.{note_state, IsNote};
+
+    ghost view = { note_state };
+
+    ghost invariant = { IsNote };
+}
+
+impl Putter {
+    /// How many numbers were put.
+    pub fn sent(&self) -> u64
+        ensures { result ≡ length self.now.sent }
+    {
+        self.sent
+    }
+
+    /// Puts a number. `Full` says how many were put and how many of these were taken, at the head
+    /// that this call loaded, and comes where as many as the capacity are left. The taker finds the
+    /// number after the next push.
+    pub fn put(&mut self, x: u16) -> Result<(), Full>
+        requires { length self.old.sent < 2 ^ 63 }
+        ensures ok { OnOk result (self.new ≡ record (with_loaded self.old self.new.floor) { sent = self.old.sent ++ x ∷ [] }) }
+        ensures full { OnErr result (self.new ≡ with_loaded self.old self.new.floor) }
+        ensures exact { MatchResult result
+            (λ _. length self.old.sent < self.new.floor + self.old.capacity)
+            (λ f. (f ≡ record { sent = length self.old.sent; seen = self.new.floor }) × (length self.old.sent ≡ self.new.floor + self.old.capacity)) }
+        ensures rises { (self.old.floor ≤ self.new.floor) × (self.new.floor ≤ length self.old.pushed) }
+        ensures rise { IsNonDecreasing self.new.heads }
+    {
+        let seen = self.board.shared.load::<LoadHead>(&mut self.seat, HEAD);
+        let sent = self.sent;
+        if sent - seen == self.capacity {
+            return Err(Full { sent, seen });
+        }
+        self.word = with_lane(self.word, sent % 4, x);
+        self.sent = sent + 1;
+        if sent % 4 < 3 {
+            return Ok(());
+        }
+        store_lanes(
+            &self.board.shared,
+            &mut self.seat,
+            word_of(self.capacity, sent / 4),
+            self.word,
+            4,
+        );
+        Ok(())
+    }
+
+    /// Makes all that was put visible to the taker, by one store of the tail.
+    pub fn push(&mut self)
+        ensures same { self.new ≡ record self.old { pushed = self.old.sent } }
+        ensures rise { IsNonDecreasing self.new.heads }
+    {
+        store_lanes(
+            &self.board.shared,
+            &mut self.seat,
+            word_of(self.capacity, self.sent / 4),
+            self.word,
+            self.sent % 4,
+        );
+        self.board
+            .shared
+            .store::<StoreTail>(&mut self.seat, TAIL, self.sent);
+    }
+
+    /// Pushes, and gives a note of what the putter knows, which the taker can be told.
+    pub fn note(&mut self) -> Note
+        ensures same { self.new ≡ record self.old { pushed = self.old.sent } }
+        ensures note { result ≡ record { ring = self.old.ring; pushed = self.old.sent; heads = self.old.heads } }
+        ensures rise { IsNonDecreasing self.new.heads }
+    {
+        self.push();
+        Note {
+            seat: self.board.shared.split_seat::<Noted>(&mut self.seat),
+        }
+    }
+
+    /// Is told what the taker had taken, and loads the head once. That head and each later one is at
+    /// least that.
+    pub fn meet(&mut self, note: HeadNote)
+        requires { note.ring ≡ self.old.ring }
+        ensures same { self.new ≡ with_loaded self.old self.new.floor }
+        ensures rises { (self.old.floor ≤ self.new.floor) × (note.taken ≤ self.new.floor) × (self.new.floor ≤ length self.old.pushed) }
+        ensures rise { IsNonDecreasing self.new.heads }
+    {
+        let HeadNote { seat } = note;
+        let shared = &self.board.shared;
+        shared.join_seat::<HeadNoted>(&mut self.seat, seat);
+        shared.load::<LoadHead>(&mut self.seat, HEAD);
+    }
+}

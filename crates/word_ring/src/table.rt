@@ -1,0 +1,151 @@
+//! The table that both ends of a ring share: its words, what each seat knows, and what a step tells.
+//! Word 0 is the head, how many numbers were taken; word 1 the tail, how many were pushed; the
+//! words from 2 on have the numbers, four to a word, each at its count.
+ghost use Rattle.word_ring.specs.Plays.{LoadsHead, StoresLanes, StoresTail, LoadsTail, LoadsLanes, StoresHead, Compares, blank, putter_of, taker_of, note_of, head_note_of, with_note, with_head_note, with_putter};
+
+use atomic_table::{Join, Play, Seat, Shared, Split, Table, TableRule};
+use std::alloc::Global;
+
+/// The word that has the head.
+pub(crate) const HEAD: usize = 0;
+
+/// The word that has the tail.
+pub(crate) const TAIL: usize = 1;
+
+/// What a seat at the table knows. No value of it is made. A clause reads an array as a list of any
+/// length.
+pub struct View {
+    /// This is the putter's seat.
+    pub puts: bool,
+    /// This is the taker's seat.
+    pub takes: bool,
+    pub capacity: u64,
+    /// The numbers whose word was stored.
+    pub written: [u16; 0],
+    pub pushed: [u16; 0],
+    /// The loaded heads.
+    pub heads: [u64; 0],
+    pub taken: [u16; 0],
+    /// What was taken, and what was loaded after it.
+    pub read: [u16; 0],
+    /// The stored heads.
+    pub released: [u64; 0],
+    /// The loaded tails.
+    pub tails: [u64; 0],
+    /// What a note says was pushed.
+    pub noted: [u16; 0],
+    /// What a note says of loaded heads.
+    pub noted_heads: [u64; 0],
+    /// The head is at least this.
+    pub head: u64,
+    /// The tail is at least this.
+    pub tail: u64,
+}
+
+/// The rule of a ring. Its key is the capacity.
+pub struct Fifo;
+
+impl TableRule<(), View, u64> for Fifo {
+    ghost use Rattle.word_ring.specs.Rule.{Ring};
+    ghost use Rattle.word_ring.specs.Plays.{both_ends};
+
+    ghost holds = { Ring };
+
+    ghost first = { both_ends };
+}
+
+pub(crate) type Board = Table<(), View, u64, Fifo, Global>;
+
+pub(crate) type Steps = Shared<(), View, u64, Fifo>;
+
+pub(crate) type Place = Seat<(), View>;
+
+pub(crate) struct LoadHead;
+
+impl Play<(), View> for LoadHead {
+    ghost then = { LoadsHead };
+}
+
+pub(crate) struct StoreLanes<const LANES: u64>;
+
+impl<const LANES: u64> Play<(), View> for StoreLanes<LANES> {
+    ghost then = { StoresLanes LANES };
+}
+
+pub(crate) struct StoreTail;
+
+impl Play<(), View> for StoreTail {
+    ghost then = { StoresTail };
+}
+
+pub(crate) struct LoadTail;
+
+impl Play<(), View> for LoadTail {
+    ghost then = { LoadsTail };
+}
+
+pub(crate) struct LoadLanes;
+
+impl Play<(), View> for LoadLanes {
+    ghost then = { LoadsLanes };
+}
+
+pub(crate) struct StoreHead;
+
+impl Play<(), View> for StoreHead {
+    ghost then = { StoresHead };
+}
+
+pub(crate) struct Compare;
+
+impl Play<(), View> for Compare {
+    ghost then = { Compares };
+}
+
+/// The first seat becomes the putter's, and the new one is the taker's.
+pub(crate) struct Apart;
+
+impl Split<View> for Apart {
+    ghost left = { putter_of };
+
+    ghost right = { taker_of };
+}
+
+/// A note of the putter.
+pub(crate) struct Noted;
+
+impl Split<View> for Noted {
+    ghost left = { λ v. v };
+
+    ghost right = { note_of };
+}
+
+impl Join<View> for Noted {
+    ghost both = { with_note };
+
+    ghost spent = { blank };
+}
+
+/// A note of the taker.
+pub(crate) struct HeadNoted;
+
+impl Split<View> for HeadNoted {
+    ghost left = { λ v. v };
+
+    ghost right = { head_note_of };
+}
+
+impl Join<View> for HeadNoted {
+    ghost both = { with_head_note };
+
+    ghost spent = { blank };
+}
+
+/// The taker takes over the putter's seat.
+pub(crate) struct Ended;
+
+impl Join<View> for Ended {
+    ghost both = { with_putter };
+
+    ghost spent = { blank };
+}

@@ -1,0 +1,154 @@
+//! The end that takes numbers out, and its notes.
+ghost use Rattle.std.specs.Prelude.{◌≡◌, ℕ, ◌+◌, ◌-◌, ◌<◌, ◌≤◌, true, List, ◌++◌, length, min, max, All};
+ghost use mathlib.Core.List.{IsPrefix};
+ghost use Rattle.arrayvec.specs.ArrayVec.{array_vec_len};
+ghost use Rattle.word_ring.specs.Ends.{IsOneWithin, AreReleased, with_shown, with_taken};
+
+use crate::putter::{Note, Putter};
+use crate::steps::read;
+use crate::table::{
+    Board, Compare, Ended, HEAD, HeadNoted, LoadTail, Noted, Place, StoreHead, TAIL,
+};
+use arrayvec::ArrayVec;
+use std::alloc::Global;
+use std::marker::Model;
+use std::sync::Arc;
+
+/// The end that takes numbers out.
+#[derive(Drop)]
+pub struct Taker {
+    pub(crate) board: Arc<Board>,
+    pub(crate) seat: Place,
+    pub(crate) capacity: u64,
+    pub(crate) taken: u64,
+}
+
+impl Model for Taker {
+    ghost use Rattle.std.specs.Prelude.{ℕ};
+    ghost use Rattle.word_ring.specs.Ends.{TakerState};
+
+    ghost Value = { TakerState ℕ };
+
+    ghost use Rattle.word_ring.specs.TakerParts.{taker_state, IsTaker};
+
+    ghost view = { taker_state };
+
+    ghost invariant = { IsTaker };
+}
+
+/// How many numbers the taker had taken when it gave the note.
+#[derive(Drop)]
+pub struct HeadNote {
+    pub(crate) seat: Place,
+}
+
+impl Model for HeadNote {
+    ghost use Rattle.word_ring.specs.Ends.{HeadNoteState};
+
+    ghost Value = { HeadNoteState };
+
+    ghost use Rattle.word_ring.specs.TakerParts.{head_note_state, IsHeadNote};
+
+    ghost view = { head_note_state };
+
+    ghost invariant = { IsHeadNote };
+}
+
+impl Taker {
+    /// How many numbers were taken.
+    pub fn taken(&self) -> u64
+        ensures { result ≡ length self.now.taken }
+    {
+        self.taken
+    }
+
+    /// Gives a note of how many numbers were taken, which the putter can be told.
+    pub fn note(&mut self) -> HeadNote
+        ensures same { self.new ≡ self.old }
+        ensures note { result ≡ record { ring = self.old.ring; taken = length self.old.taken } }
+    {
+        HeadNote {
+            seat: self.board.shared.split_seat::<HeadNoted>(&mut self.seat),
+        }
+    }
+
+    /// Is told what the putter had pushed, and the heads that it had loaded. From then on each tail
+    /// counts at least that.
+    pub fn meet(&mut self, note: Note)
+        requires { note.ring ≡ self.old.ring }
+        ensures same { self.new ≡ record self.old { floor = max self.old.floor (length note.pushed) } }
+        ensures compared { IsOneWithin self.old.taken note.pushed }
+        ensures heads { AreReleased self.old.released note.heads × All (λ h. h ≤ length self.old.taken) note.heads }
+    {
+        let Note { seat } = note;
+        let shared = &self.board.shared;
+        shared.join_seat::<Noted>(&mut self.seat, seat);
+        shared.load::<Compare>(&mut self.seat, HEAD);
+    }
+
+    /// How many numbers can be taken, by the tail that this call loads.
+    pub fn look(&mut self) -> usize
+        ensures same { self.new ≡ with_shown self.old self.new.floor }
+        ensures count { length self.old.taken + result ≡ self.new.floor }
+        ensures most { result ≤ self.old.capacity }
+        ensures rises { self.old.floor ≤ self.new.floor }
+        ensures ended { self.old.ended ≡ true → self.new.floor ≡ self.old.floor }
+    {
+        let tail = self.board.shared.load::<LoadTail>(&mut self.seat, TAIL);
+        (tail - self.taken) as usize
+    }
+
+    /// Takes the oldest numbers, at most so many and no more than the tail that this call loads
+    /// counts, and adds them to `out`.
+    pub fn take(&mut self, most: usize, out: &mut ArrayVec<u16, 64>) -> usize
+        requires { array_vec_len out.old + most ≤ 64 }
+        ensures moves { (xs : List ℕ) × (length xs ≡ result) × (out.new.items ≡ out.old.items ++ xs) × (self.new ≡ with_taken (with_shown self.old self.new.floor) xs) }
+        ensures count { (length self.old.taken ≤ self.new.floor) × (result ≡ min most (self.new.floor - length self.old.taken)) }
+        ensures rises { self.old.floor ≤ self.new.floor }
+        ensures ended { self.old.ended ≡ true → self.new.floor ≡ self.old.floor }
+    {
+        let tail = self.board.shared.load::<LoadTail>(&mut self.seat, TAIL);
+        let count = (tail - self.taken).min(most as u64);
+        if count == 0 {
+            return 0;
+        }
+        let head = self.taken + count;
+        let shared = &self.board.shared;
+        read(
+            shared,
+            &mut self.seat,
+            self.taken,
+            count,
+            self.capacity,
+            out,
+        );
+        shared.store::<StoreHead>(&mut self.seat, HEAD, head);
+        self.taken = head;
+        count as usize
+    }
+
+    /// Takes over the putter, which first pushes, and answers how many numbers were put.
+    pub fn finish(&mut self, putter: Putter) -> u64
+        requires { putter.ring ≡ self.old.ring }
+        ensures sent { result ≡ length putter.sent }
+        ensures same { self.new ≡ record self.old { floor = length putter.sent; ended = true } }
+        ensures compared { IsPrefix self.old.taken putter.sent }
+        ensures heads { AreReleased self.old.released putter.heads }
+        ensures floor { self.old.floor ≤ length putter.sent }
+    {
+        let mut putter = putter;
+        putter.push();
+        let sent = putter.sent();
+        let Putter {
+            board: _board,
+            seat,
+            capacity: _,
+            sent: _,
+            word: _,
+        } = putter;
+        let shared = &self.board.shared;
+        shared.join_seat::<Ended>(&mut self.seat, seat);
+        shared.load::<Compare>(&mut self.seat, HEAD);
+        sent
+    }
+}
