@@ -1,0 +1,152 @@
+//! The end that takes characters out.
+ghost use Rattle.std.specs.Prelude.{◌≡◌, ℕ, ◌+◌, ◌-◌, ◌<◌, ◌≤◌, true, List, [], ◌∷◌, ◌++◌, map, length, min, max, All};
+ghost use mathlib.Core.List.{IsPrefix};
+ghost use Rattle.arrayvec.specs.ArrayVec.{array_vec_len};
+ghost use Rattle.tty_base.specs.declared.characters.Flagged.{Flagged};
+ghost use Rattle.word_ring.specs.Ends.{IsOneWithin, AreReleased, with_shown, with_taken};
+ghost use Rattle.flip_buffer.specs.Packed.{char_of};
+
+use crate::input::{FlipIn, FlipNote};
+use crate::packed::character_of;
+use arrayvec::ArrayVec;
+use std::marker::Model;
+use tty_base::{Chars, Flagged};
+use word_ring::{HeadNote, Taker};
+
+/// The end that takes characters out.
+#[derive(Drop)]
+pub struct FlipOut {
+    pub(crate) taker: Taker,
+    pub(crate) capacity: usize,
+}
+
+impl Model for FlipOut {
+    ghost use Rattle.tty_base.specs.declared.characters.Flagged.{Flagged};
+    ghost use Rattle.word_ring.specs.Ends.{TakerState};
+
+    ghost Value = { TakerState Flagged };
+
+    ghost use Rattle.flip_buffer.specs.Parts.{flip_out, HasCapacity};
+
+    ghost view = { flip_out };
+
+    ghost invariant = { HasCapacity };
+}
+
+/// Adds the characters of the numbers.
+fn add_all(numbers: &[u16], out: &mut ArrayVec<Flagged, 64>)
+    requires { array_vec_len out.old + length numbers.now ≤ 64 }
+    ensures items { out.new.items ≡ out.old.items ++ map char_of numbers.now }
+    ensures len { array_vec_len out.new ≡ array_vec_len out.old + length numbers.now }
+{
+    for x in numbers {
+        out.push(character_of(*x));
+    }
+}
+
+/// Adds the characters of the numbers, in room that was reserved.
+fn append_all(numbers: &[u16], out: &mut Chars)
+    requires { length numbers.now ≤ out.old.spare }
+    ensures { out.new ≡ record { items = out.old.items ++ map char_of numbers.now; spare = out.old.spare - length numbers.now } }
+{
+    for x in numbers {
+        out.add(character_of(*x));
+    }
+}
+
+impl FlipOut {
+    /// How many characters the buffer has room for.
+    pub fn capacity(&self) -> usize
+        ensures { result ≡ self.now.capacity }
+    {
+        self.capacity
+    }
+
+    /// How many characters were taken.
+    pub fn taken(&self) -> u64
+        ensures { result ≡ length self.now.taken }
+    {
+        self.taker.taken()
+    }
+
+    /// Gives a note of how many characters were taken, which the other end can be told.
+    pub fn note(&mut self) -> HeadNote
+        ensures same { self.new ≡ self.old }
+        ensures note { result ≡ record { ring = self.old.ring; taken = length self.old.taken } }
+    {
+        self.taker.note()
+    }
+
+    /// Is told what the other end had pushed, and the heads that it had loaded. From then on each
+    /// tail counts at least that.
+    pub fn meet(&mut self, note: FlipNote)
+        requires { note.ring ≡ self.old.ring }
+        ensures same { self.new ≡ record self.old { floor = max self.old.floor (length note.pushed) } }
+        ensures compared { IsOneWithin self.old.taken note.pushed }
+        ensures heads { AreReleased self.old.released note.heads × All (λ h. h ≤ length self.old.taken) note.heads }
+    {
+        let FlipNote { note } = note;
+        self.taker.meet(note);
+    }
+
+    /// How many characters can be taken, by the tail that this call loads.
+    pub fn look(&mut self) -> usize
+        ensures same { self.new ≡ with_shown self.old self.new.floor }
+        ensures count { length self.old.taken + result ≡ self.new.floor }
+        ensures most { result ≤ self.old.capacity }
+        ensures rises { self.old.floor ≤ self.new.floor }
+        ensures ended { self.old.ended ≡ true → self.new.floor ≡ self.old.floor }
+    {
+        self.taker.look()
+    }
+
+    /// Takes the oldest characters, at most so many and no more than the tail that this call loads
+    /// counts, and adds them to `out`.
+    pub fn take(&mut self, most: usize, out: &mut ArrayVec<Flagged, 64>) -> usize
+        requires { array_vec_len out.old + most ≤ 64 }
+        ensures moves { (xs : List Flagged) × (length xs ≡ result) × (out.new.items ≡ out.old.items ++ xs) × (self.new ≡ with_taken (with_shown self.old self.new.floor) xs) }
+        ensures count { (length self.old.taken ≤ self.new.floor) × (result ≡ min most (self.new.floor - length self.old.taken)) }
+        ensures rises { self.old.floor ≤ self.new.floor }
+        ensures ended { self.old.ended ≡ true → self.new.floor ≡ self.old.floor }
+    {
+        let mut numbers = ArrayVec::new();
+        let count = self.taker.take(most, &mut numbers);
+        add_all(numbers.as_slice(), out);
+        count
+    }
+
+    /// Takes the lesser of `most` and what the first tail that this call loads shows, and adds these
+    /// characters to `out`.
+    pub fn drop_all(&mut self, most: usize, out: &mut Chars) -> usize
+        requires few { most ≤ self.old.capacity }
+        requires room { most ≤ out.old.spare }
+        ensures moves { (xs : List Flagged) × (length xs ≡ result) × (out.new ≡ record { items = out.old.items ++ xs; spare = out.old.spare - result }) × (self.new.taken ≡ self.old.taken ++ xs) }
+        ensures shown { (t : ℕ) × IsPrefix (self.old.tails ++ t ∷ []) self.new.tails × (self.old.floor ≤ t) × (t ≤ self.new.floor) × (length self.old.taken ≤ t) × (result ≡ min most (t - length self.old.taken)) × (self.old.ended ≡ true → t ≡ self.old.floor) }
+        ensures same { (self.new.ring ≡ self.old.ring) × (self.new.capacity ≡ self.old.capacity) × (self.new.ended ≡ self.old.ended) }
+        ensures released { IsPrefix self.old.released self.new.released }
+        ensures ended { self.old.ended ≡ true → self.new.floor ≡ self.old.floor }
+    {
+        let shown = self.taker.look().min(most);
+        let mut left = shown;
+        while left > 0 {
+            let mut numbers = ArrayVec::new();
+            let count = self.taker.take(left.min(64), &mut numbers);
+            append_all(numbers.as_slice(), out);
+            left -= count;
+        }
+        shown
+    }
+
+    /// Takes over the other end, which first pushes, and answers how many characters were put.
+    pub fn end(&mut self, putter: FlipIn) -> u64
+        requires { putter.ring ≡ self.old.ring }
+        ensures sent { result ≡ length putter.sent }
+        ensures same { self.new ≡ record self.old { floor = length putter.sent; ended = true } }
+        ensures compared { IsPrefix self.old.taken putter.sent }
+        ensures heads { AreReleased self.old.released putter.heads }
+        ensures floor { self.old.floor ≤ length putter.sent }
+    {
+        let FlipIn { putter } = putter;
+        self.taker.finish(putter)
+    }
+}
