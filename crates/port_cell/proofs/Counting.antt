@@ -1,0 +1,364 @@
+-- Each step on the reference word keeps the rule.
+use Rattle.std.proofs.Common.{◌≡◌, ◌≢◌, ℕ, ◌+◌, ◌%◌, ◌<◌, ◌≤◌, List, [], length, set, Bool, true, false, Option, IsSome, bit_and, bit_or, inl, ⊎_elim, refl, sym, ap, ◌∙◌, subst, append-nil, slice_index, true≢false, arith}
+use mathlib.Core.Option.{some, none}
+use lib.ListN.{get_elem?}
+use Rattle.atomic_table.specs.Table.{State, Allows, step}
+use Rattle.atomic_table.specs.Table.Act.{keeps}
+use Rattle.port_cell.specs.declared.kept.Stamped.{Stamped}
+use Rattle.port_cell.specs.declared.view.User.{User}
+use Rattle.port_cell.specs.declared.view.User.TheVariants.{Free, Trying, Held, Marked, Alone}
+use Rattle.port_cell.specs.declared.view.View.{View}
+use Rattle.port_cell.specs.Entries.{generation_of}
+use Rattle.port_cell.specs.Word.{word_of, generation_in}
+use Rattle.port_cell.specs.Views.{total, Knows, one_if, counts, holds, marks, alone, turn_of, raised_of, counts_of, holds_of, marks_of, alone_of, installs_of, finding, with_user, installing}
+use Rattle.port_cell.specs.Rule.{Rule}
+use Rattle.port_cell.specs.Plays.{Sat, InTurn, entered, left, marked, looked, installed}
+use Rattle.port_cell.proofs.Totals.{total_set, total_same, total_le, total_few, total_one, part_le, two_le}
+use Rattle.port_cell.proofs.Words.{zero_or_one, none_or_some, three, generation_is, changing_is, users_is, or_bit, and_not_bit}
+use Rattle.port_cell.proofs.Keeping.{is_live, kept}
+
+pub counts_few : (u : User) → counts u ≤ 1
+counts_few Trying = omega arith
+counts_few (Held g) = omega arith
+counts_few _ = omega arith
+
+pub holds_le : (u : User) → holds u ≤ counts u
+holds_le (Held g) = omega arith
+holds_le Trying = omega arith
+holds_le _ = omega arith
+
+pub alone_le : (u : User) → alone u ≤ marks u
+alone_le (Alone g) = omega arith
+alone_le (Marked g) = omega arith
+alone_le _ = omega arith
+
+-- a user has a reference or the changing bit, and not both
+pub one_part : (u : User) → counts u + marks u ≤ 1
+one_part Trying = omega arith
+one_part (Held g) = omega arith
+one_part (Marked g) = omega arith
+one_part (Alone g) = omega arith
+one_part Free = omega arith
+
+pub holds_counts : (u : User) → holds u ≡ 1 → counts u ≡ 1
+holds_counts u h = let a = holds_le u in let b = counts_few u in omega arith
+
+pub knows_free : (g h : ℕ) (u : User) → holds u ≡ 0 → marks u ≡ 0 → Knows g u → Knows h u
+knows_free g h Free a b k = tt
+knows_free g h Trying a b k = tt
+knows_free g h (Held x) a b k = absurd (omega arith)
+knows_free g h (Marked x) a b k = absurd (omega arith)
+knows_free g h (Alone x) a b k = absurd (omega arith)
+
+pub lowered : (b : Bool) → (b ≡ true → ⊥) → one_if b ≡ 0
+lowered true h = absurd (h refl)
+lowered false h = refl
+
+module _ {V N E : Type 0} (name : V → N) (list : V → List (Stamped E)) (first : V) (seats : ℕ) where
+  abbrev pub Holds : State (Option V) (View N E) → Type 0
+  Holds = Rule name list first seats
+
+  module _ (s : State (Option V) (View N E)) (r : Rule name list first seats s) where
+    pub word_is : slice_index s.words 0 ≡ word_of r.generation (total marks_of s.views) (total counts_of s.views)
+    word_is = ap (λ ws. slice_index ws 0) r.words
+
+    pub few : total counts_of s.views ≤ 4096
+    few = let a = total_few counts_of (λ v. counts_few v.user) s.views in let b = r.room in omega arith
+
+    pub holds_few : total holds_of s.views ≤ total counts_of s.views
+    holds_few = total_le holds_of counts_of (λ v. holds_le v.user) s.views
+
+    pub alone_few : total alone_of s.views ≤ total marks_of s.views
+    alone_few = total_le alone_of marks_of (λ v. alone_le v.user) s.views
+
+    -- where a seat has the turn, no other has noted a list that is to be installed
+    pub raised_here : (i : ℕ) (v : View N E) → get_elem? s.views i ≡ some v → v.turn ≡ true → total raised_of s.views ≡ raised_of v
+    raised_here i v at turn =
+        total_one raised_of s.views i v at (λ j u apart there. lowered u.raised (λ raised.
+        let one : turn_of v ≡ 1 = ap one_if turn in
+        let two : turn_of u ≡ 1 = ap one_if ((r.each_view j u there).raised raised).0 in
+        let both = two_le turn_of s.views i j v u apart at there in
+        let most = r.one_turn in
+        omega arith))
+
+    in_turn : (i : ℕ) (v : View N E) (w : ℕ) → get_elem? s.views i ≡ some v → IsSome v.name → generation_in w ≡ r.generation → InTurn v w
+    in_turn i v w at named is turn low =
+        let none : raised_of v ≡ 0 = ap one_if low in
+        let all = raised_here i v at turn in
+        let tie = r.tie in
+        let seen : generation_of v.seen ≡ generation_of r.latest = ap generation_of ((is_live (name first) (list first) r.latest r.generation s.views i v named (r.each_view i v at)).newest turn) in
+        omega arith
+
+    -- a step of one seat that changes what it does with the reference word
+    pub uses : (i : ℕ) (v : View N E) (u : User) (raised : Bool) (found steps installs next word : ℕ)
+        → get_elem? s.views i ≡ some v → IsSome v.name → Knows next u
+        → (raised ≡ true → (v.turn ≡ true) × (alone u ≡ 1) × (generation_of v.seen < 4294967296))
+        → ((j : ℕ) (x : View N E) → j ≢ i → get_elem? s.views j ≡ some x → Knows r.generation x.user → Knows next x.user)
+        → let w : View N E = record v { user = u; raised = raised; word = found; steps = steps; installs = installs } in let views = set s.views i w in
+        word ≡ word_of next (total marks_of views) (total counts_of views)
+        → total marks_of views ≤ 1
+        → (0 < total alone_of views → total holds_of views ≡ 0)
+        → generation_of r.latest ≡ next + total raised_of views
+        → next ≡ generation_of (list first) + total installs_of views
+        → Holds record { words = set s.words 0 word; homes = s.homes; views = views }
+    uses i v u raised found steps installs next word at named knows raises others word_now one_mark lone tie grows =
+        let w : View N E = record v { user = u; raised = raised; word = found; steps = steps; installs = installs } in
+        let live = is_live (name first) (list first) r.latest r.generation s.views i v named (r.each_view i v at) in
+        let turns = total_same turn_of s.views i v w at refl in
+        kept name list first seats s r i v w next r.latest []
+        record {
+          place = at;
+          named = named;
+          same_name = refl;
+          same_number = refl;
+          same_made = refl;
+          same_joined = refl;
+          longer = sym (append-nil r.latest);
+          by = tt;
+          in_turn = inl refl;
+          began = live.began;
+          stands = live.stands;
+          newest = live.newest;
+          knows = knows;
+          raised = raises;
+          others = others;
+        }
+        (set s.words 0 word) s.homes
+        (ap (λ ws. set ws 0 word) r.words ∙ three word (total turn_of s.views) (length r.latest) _ _ _ word_now (sym turns) refl)
+        (let h = r.one_turn in omega arith)
+        ((λ e. r.home (sym turns ∙ e)), (λ e. r.out (sym turns ∙ e)))
+        one_mark lone tie grows
+
+  -- the totals before and after one user's change
+  record Moved (s : State (Option V) (View N E)) (i : ℕ) (v w : View N E) : Type 0 where
+    pub counted : total counts_of (set s.views i w) + counts v.user ≡ total counts_of s.views + counts w.user
+    pub held : total holds_of (set s.views i w) + holds v.user ≡ total holds_of s.views + holds w.user
+    pub marked : total marks_of (set s.views i w) + marks v.user ≡ total marks_of s.views + marks w.user
+    pub lonely : total alone_of (set s.views i w) + alone v.user ≡ total alone_of s.views + alone w.user
+    pub raised : total raised_of (set s.views i w) + raised_of v ≡ total raised_of s.views + raised_of w
+    pub installs : total installs_of (set s.views i w) + installs_of v ≡ total installs_of s.views + installs_of w
+
+  moved : (s : State (Option V) (View N E)) (i : ℕ) (v w : View N E) → get_elem? s.views i ≡ some v → Moved s i v w
+  moved s i v w at = record {
+    counted = total_set counts_of s.views i v w at;
+    held = total_set holds_of s.views i v w at;
+    marked = total_set marks_of s.views i v w at;
+    lonely = total_set alone_of s.views i v w at;
+    raised = total_set raised_of s.views i v w at;
+    installs = total_set installs_of s.views i v w at;
+  }
+
+  -- what a free seat has
+  not_raised : (s : State (Option V) (View N E)) (r : Holds s) (i : ℕ) (v : View N E) → get_elem? s.views i ≡ some v → alone v.user ≡ 0 → v.raised ≡ true → ⊥
+  not_raised s r i v at apart raised = let h = ((r.each_view i v at).raised raised).1 in omega arith
+
+  pub enters : (slots i : ℕ) (m : Sat V N E) → m.0.user ≡ Free → IsSome m.0.name
+      → Allows Holds slots i m 0 (λ n. (n + 1) % 18446744073709551616) (entered (step slots 0 1 0 none) m)
+  enters slots i m free named s r deep at fits =
+      let v = m.0 in
+      let n = slice_index s.words 0 in
+      let is = word_is s r in
+      let few = few s r in
+      let small : total counts_of s.views < 2147483648 = omega arith in
+      let bit = r.one_mark in
+      let gen = generation_is n _ _ _ is bit small in
+      let chg = changing_is n _ _ _ is bit small in
+      let a : counts v.user ≡ 0 = ap counts free in
+      let b : holds v.user ≡ 0 = ap holds free in
+      let d : marks v.user ≡ 0 = ap marks free in
+      let e : alone v.user ≡ 0 = ap alone free in
+      let low = alone_few s r in
+      let turn = in_turn s r i v n at named gen in
+      ⊎_elim
+      (λ (clear : total marks_of s.views ≡ 0).
+      let w = finding n (Held (generation_in n)) v in
+      let t = moved s i v w at in (
+        w,
+        keeps,
+        tt,
+        uses s r i v (Held (generation_in n)) v.raised n (v.steps + 1) v.installs r.generation ((n + 1) % 18446744073709551616) at named gen
+            (λ raised. absurd (not_raised s r i v at e raised)) (λ j x apart there k. k)
+            (omega arith) (omega arith) (λ some_alone. absurd (omega arith)) (let tie = r.tie in omega arith) (let grows = r.grows in omega arith),
+        ((λ _. refl), (λ other. absurd (omega arith)), turn),
+      ))
+      (λ (changing : total marks_of s.views ≡ 1).
+      let w = finding n Trying v in
+      let t = moved s i v w at in (
+        w,
+        keeps,
+        tt,
+        uses s r i v Trying v.raised n (v.steps + 1) v.installs r.generation ((n + 1) % 18446744073709551616) at named tt
+            (λ raised. absurd (not_raised s r i v at e raised)) (λ j x apart there k. k)
+            (omega arith) (omega arith) (λ some_alone. let h = r.lone (omega arith) in omega arith) (let tie = r.tie in omega arith) (let grows = r.grows in omega arith),
+        ((λ other. absurd (omega arith)), (λ _. refl), turn),
+      ))
+      (zero_or_one (total marks_of s.views) bit)
+
+  pub leaves : (slots i : ℕ) (m : Sat V N E) → counts m.0.user ≡ 1 → IsSome m.0.name
+      → Allows Holds slots i m 0 (λ n. (n + 18446744073709551615) % 18446744073709551616) (left (step slots 0 1 0 none) m)
+  leaves slots i m user named s r deep at fits =
+      let v = m.0 in
+      let n = slice_index s.words 0 in
+      let is = word_is s r in
+      let few = few s r in
+      let part = one_part v.user in
+      let lone = alone_le v.user in
+      let w = with_user Free v in
+      let t = moved s i v w at in
+      let mine : counts_of v ≤ total counts_of s.views = part_le counts_of s.views i v at in (
+        w,
+        keeps,
+        tt,
+        uses s r i v Free v.raised v.word v.steps v.installs r.generation ((n + 18446744073709551615) % 18446744073709551616) at named tt
+            (λ raised. absurd (not_raised s r i v at (omega arith) raised)) (λ j x apart there k. k)
+            (omega arith) (let bit = r.one_mark in omega arith) (λ some_alone. let h = r.lone (omega arith) in omega arith) (let tie = r.tie in omega arith) (let grows = r.grows in omega arith),
+        refl,
+      )
+
+  pub marks_it : (slots i : ℕ) (m : Sat V N E) → m.0.user ≡ Free → IsSome m.0.name
+      → Allows Holds slots i m 0 (λ n. bit_or n 2147483648) (marked (step slots 0 2147483648 0 none) m)
+  marks_it slots i m free named s r deep at fits =
+      let v = m.0 in
+      let n = slice_index s.words 0 in
+      let is = word_is s r in
+      let few = few s r in
+      let small : total counts_of s.views < 2147483648 = omega arith in
+      let bit = r.one_mark in
+      let gen = generation_is n _ _ _ is bit small in
+      let chg = changing_is n _ _ _ is bit small in
+      let set_bit = or_bit n _ _ _ is bit small in
+      let a : counts v.user ≡ 0 = ap counts free in
+      let b : holds v.user ≡ 0 = ap holds free in
+      let d : marks v.user ≡ 0 = ap marks free in
+      let e : alone v.user ≡ 0 = ap alone free in
+      let low = alone_few s r in
+      let turn = in_turn s r i v n at named gen in
+      ⊎_elim
+      (λ (clear : total marks_of s.views ≡ 0).
+      let w = finding n (Marked (generation_in n)) v in
+      let t = moved s i v w at in (
+        w,
+        keeps,
+        tt,
+        uses s r i v (Marked (generation_in n)) v.raised n (v.steps + 1) v.installs r.generation (bit_or n 2147483648) at named gen
+            (λ raised. absurd (not_raised s r i v at e raised)) (λ j x apart there k. k)
+            (omega arith) (omega arith) (λ some_alone. absurd (omega arith)) (let tie = r.tie in omega arith) (let grows = r.grows in omega arith),
+        ((λ _. refl), (λ other. absurd (omega arith)), turn),
+      ))
+      (λ (changing : total marks_of s.views ≡ 1).
+      let w = finding n Free v in
+      let t = moved s i v w at in (
+        w,
+        keeps,
+        tt,
+        uses s r i v Free v.raised n (v.steps + 1) v.installs r.generation (bit_or n 2147483648) at named tt
+            (λ raised. absurd (not_raised s r i v at e raised)) (λ j x apart there k. k)
+            (omega arith) (omega arith) (λ some_alone. let h = r.lone (omega arith) in omega arith) (let tie = r.tie in omega arith) (let grows = r.grows in omega arith),
+        ((λ other. absurd (omega arith)), (λ _. refl), turn),
+      ))
+      (zero_or_one (total marks_of s.views) bit)
+
+  pub looks : (slots i : ℕ) (m : Sat V N E) → marks m.0.user ≡ 1 → alone m.0.user ≡ 0 → IsSome m.0.name
+      → Allows Holds slots i m 0 (λ n. n) (looked (step slots 0 0 0 none) m)
+  looks slots i m mark e named s r deep at fits =
+      let v = m.0 in
+      let n = slice_index s.words 0 in
+      let is = word_is s r in
+      let few = few s r in
+      let small : total counts_of s.views < 2147483648 = omega arith in
+      let bit = r.one_mark in
+      let gen = generation_is n _ _ _ is bit small in
+      let usr = users_is n _ _ _ is bit small in
+      let part = one_part v.user in
+      let hold = holds_le v.user in
+      let low = holds_few s r in
+      let turn = in_turn s r i v n at named gen in
+      let knows : Knows (generation_in n) v.user = subst (λ g. Knows g v.user) (sym gen) (r.each_view i v at).knows in
+      ⊎_elim
+      (λ (unused : total counts_of s.views ≡ 0).
+      let w = finding n (Alone (generation_in n)) v in
+      let t = moved s i v w at in (
+        w,
+        keeps,
+        tt,
+        uses s r i v (Alone (generation_in n)) v.raised n (v.steps + 1) v.installs r.generation n at named gen
+            (λ raised. absurd (not_raised s r i v at e raised)) (λ j x apart there k. k)
+            (omega arith) (omega arith) (λ some_alone. omega arith) (let tie = r.tie in omega arith) (let grows = r.grows in omega arith),
+        ((λ _. refl), (λ other. absurd (omega arith)), knows, turn),
+      ))
+      (λ (some_users : 0 < total counts_of s.views).
+      let w = finding n v.user v in
+      let t = moved s i v w at in (
+        w,
+        keeps,
+        tt,
+        uses s r i v v.user v.raised n (v.steps + 1) v.installs r.generation n at named (r.each_view i v at).knows
+            (λ raised. absurd (not_raised s r i v at e raised)) (λ j x apart there k. k)
+            (omega arith) (omega arith) (λ some_alone. let h = r.lone (omega arith) in omega arith) (let tie = r.tie in omega arith) (let grows = r.grows in omega arith),
+        ((λ other. absurd (omega arith)), (λ _. refl), knows, turn),
+      ))
+      (none_or_some (total counts_of s.views))
+
+  -- where nobody has set the changing bit nobody is alone
+  none_alone : (views : List (View N E)) → total marks_of views ≡ 0 → 0 < total alone_of views → ⊥
+  none_alone views unset some_alone = let h = total_le alone_of marks_of (λ (v : View N E). alone_le v.user) views in omega arith
+
+  pub unmarks : (slots i : ℕ) (m : Sat V N E) → marks m.0.user ≡ 1 → m.0.raised ≡ false → IsSome m.0.name
+      → Allows Holds slots i m 0 (λ n. bit_and n 18446744071562067967) (left (step slots 0 18446744071562067967 0 none) m)
+  unmarks slots i m mark low named s r deep at fits =
+      let v = m.0 in
+      let n = slice_index s.words 0 in
+      let is = word_is s r in
+      let few = few s r in
+      let small : total counts_of s.views < 2147483648 = omega arith in
+      let bit = r.one_mark in
+      let clear_bit = and_not_bit n _ _ _ is bit small fits in
+      let part = one_part v.user in
+      let hold = holds_le v.user in
+      let w = with_user Free v in
+      let t = moved s i v w at in
+      let mine : marks_of v ≤ total marks_of s.views = part_le marks_of s.views i v at in
+      let unset : total marks_of (set s.views i w) ≡ 0 = omega arith in (
+        w,
+        keeps,
+        tt,
+        uses s r i v Free v.raised v.word v.steps v.installs r.generation (bit_and n 18446744071562067967) at named tt
+            (λ raised. absurd (true≢false (sym raised ∙ low))) (λ j x apart there k. k)
+            (omega arith) (omega arith) (λ some_alone. absurd (none_alone (set s.views i w) unset some_alone)) (let tie = r.tie in omega arith) (let grows = r.grows in omega arith),
+        refl,
+      )
+
+  pub installs : (slots i : ℕ) (m : Sat V N E) → alone m.0.user ≡ 1 → m.0.turn ≡ true → m.0.raised ≡ true → IsSome m.0.name
+      → Allows Holds slots i m 0 (λ n. (n + 2147483648) % 18446744073709551616) (installed (step slots 0 2147483648 0 none) m)
+  installs slots i m only turn raised named s r deep at fits =
+      let v = m.0 in
+      let n = slice_index s.words 0 in
+      let is = word_is s r in
+      let few = few s r in
+      let bit = r.one_mark in
+      let part = one_part v.user in
+      let mark = alone_le v.user in
+      let hold = holds_le v.user in
+      let w = installing v in
+      let t = moved s i v w at in
+      let mine : marks_of v ≤ total marks_of s.views = part_le marks_of s.views i v at in
+      let me_alone : alone_of v ≤ total alone_of s.views = part_le alone_of s.views i v at in
+      let unset : total marks_of (set s.views i w) ≡ 0 = omega arith in
+      let one : raised_of v ≡ 1 = ap one_if raised in
+      let all = raised_here s r i v at turn in
+      let tie = r.tie in
+      let seen : generation_of v.seen ≡ generation_of r.latest = ap generation_of ((is_live (name first) (list first) r.latest r.generation s.views i v named (r.each_view i v at)).newest turn) in
+      let below = ((r.each_view i v at).raised raised).2 in
+      let nobody = r.lone (omega arith) in (
+        w,
+        keeps,
+        tt,
+        uses s r i v Free false v.word v.steps (v.installs + 1) (r.generation + 1) ((n + 2147483648) % 18446744073709551616) at named tt
+            (λ no. absurd (true≢false (sym no)))
+            (λ j x apart there k.
+            let his : holds_of x ≤ total holds_of s.views = part_le holds_of s.views j x there in
+            let both : marks_of v + marks_of x ≤ total marks_of s.views = two_le marks_of s.views i j v x apart at there in
+            knows_free r.generation (r.generation + 1) x.user (omega arith) (omega arith) k)
+            (omega arith) (omega arith) (λ some_alone. absurd (none_alone (set s.views i w) unset some_alone)) (omega arith) (let grows = r.grows in omega arith),
+        refl,
+      )

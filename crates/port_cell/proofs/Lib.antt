@@ -1,0 +1,9 @@
+pub mod Totals
+pub mod Histories
+pub mod Keeping
+pub mod Words
+pub mod Counting
+pub mod Handing
+pub mod OwnEntries
+pub mod Ends
+pub mod Adding

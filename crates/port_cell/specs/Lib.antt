@@ -1,0 +1,7 @@
+pub mod Entries
+pub mod Word
+pub mod Views
+pub mod Rule
+pub mod Plays
+pub mod Seats
+pub mod Lent

@@ -1,0 +1,130 @@
+// The cell, from its first seat to its last.
+ghost use Rattle.std.specs.Prelude.{◌≡◌, ℕ, ◌+◌, ◌<◌, ◌≤◌, [], IfOk, length};
+ghost use Rattle.port_cell.specs.Entries.{generation_of, GoesOn};
+ghost use Rattle.port_cell.specs.Views.{total, installs_of, starting};
+ghost use Rattle.port_cell.specs.Seats.{AllFresh, IsDone, EachSeat, HasAll, Found, PartOf, HasNumber, FoundJoined};
+
+use crate::kept::Kept;
+use crate::plays::{Deal, TakeIn};
+use crate::rule::{CellRule, Opening};
+use crate::view::View;
+use atomic_table::{Refused, Table};
+use std::alloc::Global;
+use std::snapshot::Snapshot;
+use tty_base::NoMemory;
+
+/// A thread's place at a cell. It has no bytes.
+pub type Seat<V> = atomic_table::Seat<Option<V>, View<<V as Kept>::Name, <V as Kept>::Entry>>;
+
+type Board<V> = Table<
+    Option<V>,
+    View<<V as Kept>::Name, <V as Kept>::Entry>,
+    Opening<V>,
+    CellRule,
+    Global,
+>;
+
+// The words of the table.
+pub(crate) const REFERENCES: usize = 0;
+
+pub(crate) const TURN: usize = 1;
+
+pub(crate) const COUNT: usize = 2;
+
+/// One value that threads share.
+#[derive(Drop)]
+pub struct Cell<V: Kept> {
+    pub(crate) table: Board<V>,
+    ghost counted: { (table.shared.table_id.words ≡ 3) × (table.shared.table_id.slots ≡ 1) },
+}
+
+impl<V: Kept> Cell<V> {
+    /// A cell that keeps the value, with its seats, numbered from 0. Want of memory drops the value.
+    pub fn new(alloc: Global, value: V, seats: u32) -> Result<(Cell<V>, Vec<Seat<V>>), NoMemory>
+    where
+        V: Drop,
+        requires { (0 < seats) × (seats ≤ 4096) }
+        ensures { IfOk result (λ r. (r.0.table.shared.key.seats ≡ seats) × (r.0.table.shared.key.value.value ≡ value) × (length r.1.items ≡ seats) × AllFresh r.0.table.shared.table_id (V.name value) (V.list value) 0 r.1.items) }
+    {
+        let about = Opening {
+            value: Snapshot::of(&value),
+            seats: u64::from(seats),
+        };
+        let words = [u64::from(value.generation()) << 32, 0, value.count()];
+        let mut slots = Vec::new(alloc);
+        slots.push(Some(value))?;
+        let Ok((table, first)) = Table::new(alloc, &words, slots, &about) else {
+            return Err(NoMemory);
+        };
+        let cell = Cell { table };
+        let all = cell.deal(alloc, first, seats)?;
+        Ok((cell, all))
+    }
+
+    // Makes the seats, each from the first.
+    fn deal(&self, alloc: Global, mut first: Seat<V>, seats: u32) -> Result<Vec<Seat<V>>, NoMemory>
+        requires first { (first.table_id ≡ self.now.table.shared.table_id) × (first.me ≡ (starting (V.name self.now.table.shared.key.value.value) (V.list self.now.table.shared.key.value.value), [])) }
+        requires room { (0 < seats) × (seats ≤ self.now.table.shared.key.seats) × (seats ≤ 4096) }
+        ensures { IfOk result (λ all. (length all.items ≡ seats) × AllFresh self.now.table.shared.table_id (V.name self.now.table.shared.key.value.value) (V.list self.now.table.shared.key.value.value) 0 all.items) }
+    {
+        let mut others = Vec::new(alloc);
+        'seats: for _ in 1..seats {
+            others.push(self.table.shared.split_seat::<Deal>(&mut first))?;
+        }
+        others.insert(0, first)?;
+        Ok(others)
+    }
+
+    /// Ends the sharing, with all the seats that `new` gave, each free. The value has what every seat
+    /// saw, with the seat's own entries, and the generation that was installed last.
+    pub fn close(self, seats: Vec<Seat<V>>) -> V
+        requires done { EachSeat (IsDone self.table.shared.table_id) seats.items }
+        requires all { (0 < self.table.shared.key.seats) × HasAll self.table.shared.key.seats seats.items }
+        ensures seats { EachSeat (Found (V.name result) (V.list result)) seats.items }
+
+        // each entry after the opening list is some seat's
+        ensures list { GoesOn (λ k. k < self.table.shared.key.seats) (V.list self.table.shared.key.value.value) (V.list result) }
+
+        // the generation installed last: it grew by one at each install of a seat
+        ensures generation { generation_of (V.list result) ≡ generation_of (V.list self.table.shared.key.value.value) + total (λ s. installs_of s.me.0) seats.items }
+    {
+        let mut seats = seats;
+        let Some(last) = seats.pop() else {
+            unreachable!()
+        };
+        let all = self.gather(last, seats);
+        self.end(all)
+    }
+
+    // Joins the seats into one.
+    fn gather(&self, mut last: Seat<V>, mut seats: Vec<Seat<V>>) -> Seat<V>
+        requires last { IsDone self.now.table.shared.table_id last }
+        requires seats { EachSeat (IsDone self.now.table.shared.table_id) seats.items }
+        ensures done { IsDone self.now.table.shared.table_id result }
+        ensures last { PartOf result.me.0 last }
+        ensures seats { EachSeat (PartOf result.me.0) seats.items }
+        ensures installs { installs_of result.me.0 ≡ installs_of last.me.0 + total (λ s. installs_of s.me.0) seats.items }
+    {
+        while let Some(other) = seats.pop() {
+            self.table.shared.join_seat::<TakeIn>(&mut last, other);
+        }
+        last
+    }
+
+    // Ends the sharing with the seat into which all others were joined.
+    fn end(self, seat: Seat<V>) -> V
+        requires done { IsDone self.table.shared.table_id seat }
+        requires all { (n : ℕ) → n < self.table.shared.key.seats → HasNumber seat.me.0 n }
+        ensures seat { Found (V.name result) (V.list result) seat }
+        ensures joined { FoundJoined (V.name result) (V.list result) seat.me.0.joined }
+        ensures list { GoesOn (λ k. k < self.table.shared.key.seats) (V.list self.table.shared.key.value.value) (V.list result) }
+        ensures generation { generation_of (V.list result) ≡ generation_of (V.list self.table.shared.key.value.value) + installs_of seat.me.0 }
+    {
+        let Cell { table } = self;
+        let mut closed = table.close_with(seat);
+        let place = closed.take(0);
+        closed.free();
+        let Some(value) = place else { unreachable!() };
+        value
+    }
+}

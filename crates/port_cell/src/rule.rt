@@ -1,0 +1,24 @@
+// The rule of the table under a cell.
+use crate::kept::Kept;
+use crate::view::View;
+use atomic_table::TableRule;
+use std::snapshot::Snapshot;
+
+/// What the table is told once: the value that the cell was given, and the number of its seats.
+#[derive(Drop)]
+pub struct Opening<V> {
+    pub value: Snapshot<V>,
+    pub seats: u64,
+}
+
+/// The rule, for proofs alone.
+pub struct CellRule;
+
+impl<V: Kept> TableRule<Option<V>, View<V::Name, V::Entry>, Opening<V>> for CellRule {
+    ghost use Rattle.port_cell.specs.Rule.{Rule};
+    ghost use Rattle.port_cell.specs.Views.{starting};
+
+    ghost holds = { λ key. Rule V.name V.list key.value.value key.seats };
+
+    ghost first = { λ key. starting (V.name key.value.value) (V.list key.value.value) };
+}
