@@ -1,0 +1,51 @@
+-- Unread input: bytes, and the ends of its pieces.
+use Rattle.std.specs.Prelude.{◌≡◌, ℕ, suc, ◌≤◌, min, List, [], ◌∷◌, ◌++◌, length, take, drop, if◌then◌else◌, nat_le}
+
+-- a byte, or the end of the piece before it
+pub data Item : Type 0 where
+  Byte : ℕ → Item
+  End : Item
+
+-- the bytes without the ends
+abbrev pub bytes_of : List Item → List ℕ
+bytes_of [] = []
+bytes_of (Byte b ∷ items) = b ∷ bytes_of items
+bytes_of (End ∷ items) = bytes_of items
+
+-- how many pieces are complete
+abbrev pub end_count : List Item → ℕ
+end_count [] = 0
+end_count (Byte b ∷ items) = end_count items
+end_count (End ∷ items) = suc (end_count items)
+
+-- the bytes up to the first end
+abbrev pub first_piece : List Item → List ℕ
+first_piece [] = []
+first_piece (Byte b ∷ items) = b ∷ first_piece items
+first_piece (End ∷ items) = []
+
+-- the last piece has a byte, and no end yet
+abbrev pub EndsInByte : List Item → Type 0
+EndsInByte items = (front : List Item) × (b : ℕ) × (items ≡ front ++ Byte b ∷ [])
+
+-- how many bytes a read that asks for n gets at most
+abbrev pub read_size : ℕ → ℕ
+read_size n = min n 4096
+
+-- what a read of at most so many bytes gives of the first piece
+abbrev pub line_of : (most : ℕ) → List Item → List ℕ
+line_of most items = take most (first_piece items)
+
+-- what it leaves: where it gave all the bytes of the piece, the end goes too
+abbrev pub after_line : (most : ℕ) → List Item → List Item
+after_line most items =
+    if nat_le (length (first_piece items)) most
+    then drop (suc (length (first_piece items))) items
+    else drop most items
+
+-- what a store counts of its items
+pub record IsStore (items : List Item) (bytes lines : ℕ) : Type 0 where
+  pub bytes_count : bytes ≡ length (bytes_of items)
+  pub lines_count : lines ≡ end_count items
+  pub bytes_within : bytes ≤ 4096
+  pub lines_within : lines ≤ 4096

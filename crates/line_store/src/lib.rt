@@ -1,0 +1,11 @@
+//! Unread input of a terminal: bytes in pieces, and the ends of the pieces.
+#![tactic(auto)]
+
+mod bitmap;
+mod circle;
+mod store;
+
+pub use store::Store;
+
+#[cfg(test)]
+mod tests;
