@@ -1,0 +1,150 @@
+ghost use Rattle.std.specs.Prelude.{◌≡◌, ◌+◌, ◌-◌, ◌<◌, ◌≤◌, ◌↔◌, IsTrue, IfOk, [], ◌∷◌, length, take, slice_index};
+ghost use Rattle.tty_modes.specs.Settings.{has_flag};
+ghost use Rattle.n_tty_edit.specs.Line.{Added, Erased, WordErased, Cleared, after, word_start, erase_size};
+ghost use Rattle.n_tty_edit.specs.Width.{width_of, gone_of};
+
+use crate::bytes::Class;
+use crate::widths::width_at;
+use std::alloc::Global;
+use std::marker::Model;
+use tty_base::NoMemory;
+use tty_modes::Modes;
+use tty_modes::places::IUTF8;
+
+/// How many bytes the line has at most.
+const MOST: usize = 4095;
+
+/// What ERASE removed.
+#[derive(Clone, Copy, Debug, PartialEq, Eq)]
+pub struct Gone {
+    /// The first byte of it.
+    pub first: u8,
+    /// How many bytes.
+    pub bytes: usize,
+    /// The sum of their widths, in columns.
+    pub width: usize,
+}
+
+/// The line that is being edited, of at most 4,095 bytes. Contracts see its bytes.
+#[derive(Drop)]
+pub struct Edit {
+    bytes: Vec<u8>,
+}
+
+impl Model for Edit {
+    ghost use Rattle.std.specs.Prelude.{◌≤◌, List, ℕ, vec_len, vec_capacity};
+
+    ghost Value = { List ℕ };
+
+    ghost view = { λ e. e.bytes.items };
+
+    ghost invariant = { λ e. (vec_len e.bytes ≤ 4095) × (4095 ≤ vec_capacity e.bytes) };
+}
+
+impl Edit {
+    /// An empty line, with room for all that it ever holds. No other call takes memory.
+    pub fn new(alloc: Global) -> Result<Edit, NoMemory>
+        ensures { IfOk result (λ line. line ≡ []) }
+    {
+        let bytes = Vec::with_capacity(alloc, MOST)?;
+        Ok(Edit { bytes })
+    }
+
+    /// Adds a byte. A line of 4,095 bytes stays as it is.
+    pub fn add(&mut self, b: u8) -> bool
+        ensures room { IsTrue result ↔ (length self.old < 4095) }
+        ensures line { self.new ≡ after self.old (Added (b ∷ [])) }
+    {
+        self.bytes.len() < MOST && self.bytes.push(b).is_ok()
+    }
+
+    /// Removes the last byte, or with iutf8 the last character: the bytes at the end that continue one,
+    /// and the byte before them. There is none where the line has no such byte, and it then stays. `start`
+    /// is the column in which the line began.
+    pub fn erase(&mut self, start: usize, modes: &Modes) -> Option<Gone>
+        ensures gone { result ≡ gone_of modes.now start self.old }
+        ensures line { self.new ≡ after self.old (Erased (has_flag modes.now IUTF8)) }
+    {
+        let kept = self.erase_start(modes);
+        let bytes = self.bytes.len() - kept;
+        if bytes == 0 {
+            return None;
+        }
+        let gone = Gone {
+            first: self.bytes[kept],
+            bytes,
+            width: width_at(&self.bytes, kept, start, modes),
+        };
+        self.bytes.truncate(kept);
+        Some(gone)
+    }
+
+    /// Removes the bytes at the end that are no ASCII letters, digits or `_`, and then the letters,
+    /// digits and `_` before them. Answers how many bytes went.
+    pub fn erase_word(&mut self) -> usize
+        ensures count { result ≡ length self.old - word_start self.old }
+        ensures line { self.new ≡ after self.old WordErased }
+    {
+        let count = self.word_len();
+        self.bytes.truncate(self.bytes.len() - count);
+        count
+    }
+
+    /// How many bytes `erase_word` would remove.
+    pub fn word_len(&self) -> usize
+        ensures { result ≡ length self.now - word_start self.now }
+    {
+        let word_end = Class::Other.start_at_end(&self.bytes);
+        self.bytes.len() - Class::Word.start_at_end(&self.bytes[..word_end])
+    }
+
+    /// Removes all bytes, and answers how many.
+    pub fn kill(&mut self) -> usize
+        ensures count { result ≡ length self.old }
+        ensures line { self.new ≡ after self.old Cleared }
+    {
+        let count = self.bytes.len();
+        self.bytes.clear();
+        count
+    }
+
+    /// The width of the last byte, in columns. `start` is the column in which the line began.
+    pub fn width_of_last(&self, start: usize, modes: &Modes) -> usize
+        requires { 0 < length self.now }
+        ensures width { result ≡ width_of modes.now start (take (length self.now - 1) self.now)
+            (slice_index self.now (length self.now - 1)) }
+        ensures most { result ≤ 8 }
+    {
+        width_at(&self.bytes, self.bytes.len() - 1, start, modes)
+    }
+
+    /// The width of the byte at a place of the line, in columns.
+    pub fn width_at(&self, i: usize, start: usize, modes: &Modes) -> usize
+        requires { i < length self.now }
+        ensures width { result ≡ width_of modes.now start (take i self.now) (slice_index self.now i) }
+        ensures most { result ≤ 8 }
+    {
+        width_at(&self.bytes, i, start, modes)
+    }
+
+    /// The bytes of the line.
+    pub fn bytes(&self) -> &[u8]
+        ensures bytes { result.now ≡ self.now }
+        ensures most { length self.now ≤ 4095 }
+    {
+        &self.bytes
+    }
+
+    /// Where that begins which ERASE removes.
+    fn erase_start(&self, modes: &Modes) -> usize
+        ensures { result ≡ length self.now - erase_size (has_flag modes.now IUTF8) self.now }
+    {
+        let len = self.bytes.len();
+        if modes.has(IUTF8) {
+            let start = Class::Continuation.start_at_end(&self.bytes);
+            if start == 0 { len } else { start - 1 }
+        } else {
+            len.saturating_sub(1)
+        }
+    }
+}
