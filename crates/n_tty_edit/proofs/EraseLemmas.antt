@@ -1,16 +1,16 @@
 -- What ERASE removes: bytes that continue a character have no width.
-use Rattle.std.proofs.Common.{◌≡◌, ℕ, zero, suc, ◌+◌, ◌-◌, ◌<◌, ◌≤◌, Bool, true, false, cond, eqb, min, Option, Some, None, List, [], ◌∷◌, ◌++◌, length, get_or, take, drop, ◌∙◌, sym, ap, inl, inr, refl, arith, length-drop, reverse, get_or-drop}
+use Rattle.std.proofs.Common.{◌≡◌, ℕ, suc, ◌+◌, ◌-◌, ◌<◌, ◌≤◌, Bool, true, false, cond, eqb, Some, None, List, [], ◌∷◌, ◌++◌, length, get_or, take, drop, ◌∙◌, sym, ap, inl, inr, refl, arith, length-drop, reverse, get_or-drop}
 use Rattle.std.specs.List.{suffix_len}
-use Rattle.std.proofs.lemmas.Bool.{ltb-true, ltb-false, leb-true, ne_eqb, and_parts, cases_Bool}
+use Rattle.std.proofs.lemmas.Bool.{leb-true, ne_eqb, and_parts, cases_Bool}
 use Rattle.std.proofs.lemmas.Bool.Decides.{nat_tests}
-use Rattle.std.proofs.lemmas.List.{drop_more, get_or_default, drop_all, get_or-reverse, length-reverse}
+use Rattle.std.proofs.lemmas.List.{drop_more, drop_all, get_or-reverse, length-reverse}
 use Rattle.std.proofs.lemmas.List.Sums.{suffix_len-le-length, prefix_len_passes}
 use Rattle.tty_modes.specs.Settings.{Settings, has_flag}
 use Rattle.tty_modes.specs.declared.places.TheConstants.{IUTF8}
 use Rattle.n_tty_edit.specs.declared.line.Gone.{Gone}
 use Rattle.n_tty_edit.specs.Bytes.{is_continuation}
 use Rattle.n_tty_edit.specs.Line.{erase_size}
-use Rattle.n_tty_edit.specs.Width.{width_of, widths_of, plain_width, since_tab, gone_of}
+use Rattle.n_tty_edit.specs.Width.{width_of, widths_of, gone_of}
 
 -- what stands at the end of a list, from where its last elements pass a test
 suffix_passes : (p : ℕ → Bool) (xs : List ℕ) (k : ℕ) → length xs - suffix_len p xs ≤ k → k < length xs → p (get_or xs k 0) ≡ true

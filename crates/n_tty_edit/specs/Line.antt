@@ -1,5 +1,5 @@
 -- The edited line.
-use Rattle.std.specs.Prelude.{ℕ, suc, ◌+◌, ◌-◌, min, Bool, true, false, List, [], ◌∷◌, ◌++◌, length, take, fold, if◌then◌else◌, nat_le, nat_lt}
+use Rattle.std.specs.Prelude.{ℕ, suc, ◌+◌, ◌-◌, min, Bool, true, false, List, [], ◌++◌, length, take, fold, if◌then◌else◌, nat_le, nat_lt}
 use Rattle.std.specs.List.{suffix_len}
 use Rattle.n_tty_edit.specs.Bytes.{is_continuation, is_word, is_of}
 use Rattle.n_tty_edit.specs.declared.bytes.Class.TheVariants.{Other}

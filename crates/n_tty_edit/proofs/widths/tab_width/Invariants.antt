@@ -1,4 +1,4 @@
-use Rattle.std.proofs.Common.{◌≡◌, ◌+◌, ◌*◌, ◌≤◌, length, take, drop}
+use Rattle.std.proofs.Common.{◌≡◌, ◌+◌, ◌*◌, ◌≤◌, length, take}
 use Rattle.n_tty_edit.specs.Width.{since_tab}
 use Rattle.n_tty_edit.proofs.widths.tab_width.Given as goal
 

@@ -1,9 +1,9 @@
-use Rattle.std.proofs.Common.{◌≡◌, ℕ, ◌-◌, ◌<◌, Bool, Option, Some, List, length, get_or, take, sym, ap, ◌∙◌, refl, arith}
+use Rattle.std.proofs.Common.{◌≡◌, ◌-◌, ◌<◌, Some, length, get_or, take, ap, ◌∙◌, refl, arith}
 use Rattle.std.proofs.lemmas.List.{get_or_read}
 use Rattle.tty_modes.specs.Settings.{has_flag}
 use Rattle.tty_modes.specs.declared.places.TheConstants.{IUTF8}
 use Rattle.n_tty_edit.specs.Line.{erase_size}
-use Rattle.n_tty_edit.specs.Width.{width_of, gone_of}
+use Rattle.n_tty_edit.specs.Width.{width_of}
 use Rattle.n_tty_edit.proofs.EraseLemmas.{gone, gone_is}
 use Rattle.n_tty_edit.proofs.line.Edit.erase.Goals as goal
 
