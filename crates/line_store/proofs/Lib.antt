@@ -1,3 +1,4 @@
 pub mod BitmapLemmas
 pub mod CircleLemmas
+pub mod ItemLemmas
 pub mod PlaceLemmas

@@ -11,6 +11,7 @@ use Rattle.line_store.specs.declared.circle.Place.TheVariants.{Inner, Last, Eof}
 use Rattle.line_store.specs.declared.circle.Run.{Run}
 use Rattle.line_store.specs.Places.{items_of, place_bytes, plain_places, EndsInner, run_of}
 use Rattle.line_store.specs.Unread.{Item, Byte, End, bytes_of, end_count, first_piece, EndsInByte, line_of, after_line, IsStore}
+use Rattle.line_store.proofs.ItemLemmas.{bytes_of-append, end_count-append, bytes_of-plain, end_count-plain}
 
 -- ---- lists of places
 
@@ -19,16 +20,6 @@ items_of-append [] qs = refl
 items_of-append (Inner b ∷ ps) qs = ap (λ items. Byte b ∷ items) (items_of-append ps qs)
 items_of-append (Last b ∷ ps) qs = ap (λ items. Byte b ∷ End ∷ items) (items_of-append ps qs)
 items_of-append (Eof ∷ ps) qs = ap (λ items. End ∷ items) (items_of-append ps qs)
-
-pub bytes_of-append : (xs ys : List Item) → bytes_of (xs ++ ys) ≡ bytes_of xs ++ bytes_of ys
-bytes_of-append [] ys = refl
-bytes_of-append (Byte b ∷ xs) ys = ap (λ bs. b ∷ bs) (bytes_of-append xs ys)
-bytes_of-append (End ∷ xs) ys = bytes_of-append xs ys
-
-pub end_count-append : (xs ys : List Item) → end_count (xs ++ ys) ≡ end_count xs + end_count ys
-end_count-append [] ys = omega arith
-end_count-append (Byte b ∷ xs) ys = end_count-append xs ys
-end_count-append (End ∷ xs) ys = omega (arith, end_count-append xs ys)
 
 -- a place holds a byte or an EOF mark
 pub length_places_le : (ps : List Place) → length ps ≤ length (bytes_of (items_of ps)) + end_count (items_of ps)
@@ -48,20 +39,6 @@ items_of-plain_places [] = refl
 items_of-plain_places (Inner b ∷ ps) = ap (λ items. Byte b ∷ items) (items_of-plain_places ps)
 items_of-plain_places (Last b ∷ ps) = ap (λ items. Byte b ∷ items) (items_of-plain_places ps)
 items_of-plain_places (Eof ∷ ps) = items_of-plain_places ps
-
-pub bytes_of-plain : (bs : List ℕ) → bytes_of (map Byte bs) ≡ bs
-bytes_of-plain [] = refl
-bytes_of-plain (b ∷ bs) = ap (λ xs. b ∷ xs) (bytes_of-plain bs)
-
-pub end_count-plain : (bs : List ℕ) → end_count (map Byte bs) ≡ 0
-end_count-plain [] = refl
-end_count-plain (b ∷ bs) = end_count-plain bs
-
--- items without ends are their bytes
-pub plain_without_ends : (items : List Item) → end_count items ≡ 0 → items ≡ map Byte (bytes_of items)
-plain_without_ends [] e = refl
-plain_without_ends (Byte b ∷ items) e = ap (λ xs. Byte b ∷ xs) (plain_without_ends items e)
-plain_without_ends (End ∷ items) e = absurd (omega arith)
 
 plain_places-append : (ps qs : List Place) → plain_places (ps ++ qs) ≡ plain_places ps ++ plain_places qs
 plain_places-append [] qs = refl
@@ -197,33 +174,17 @@ run_ends_left zero (Last b ∷ ps) = omega arith
 run_ends_left (suc most) (Last b ∷ ps) = omega arith
 run_ends_left (suc most) (Inner b ∷ ps) = run_ends_left most ps
 
--- the first piece is a front of the bytes
-pub take-first_piece : (items : List Item) → take (length (first_piece items)) (bytes_of items) ≡ first_piece items
-take-first_piece [] = refl
-take-first_piece (Byte b ∷ items) = ap (λ bs. b ∷ bs) (take-first_piece items)
-take-first_piece (End ∷ items) = refl
-
 pub first_piece_places : (ps : List Place) → place_bytes (take (length (first_piece (items_of ps))) ps) ≡ first_piece (items_of ps)
 first_piece_places [] = refl
 first_piece_places (Inner b ∷ ps) = ap (λ bs. b ∷ bs) (first_piece_places ps)
 first_piece_places (Last b ∷ ps) = refl
 first_piece_places (Eof ∷ ps) = refl
 
-pub length-first_piece : (items : List Item) → length (first_piece items) ≤ length (bytes_of items)
-length-first_piece [] = omega arith
-length-first_piece (Byte b ∷ items) = omega (arith, length-first_piece items)
-length-first_piece (End ∷ items) = omega arith
-
 pub length-first_piece_places : (ps : List Place) → length (first_piece (items_of ps)) ≤ length ps
 length-first_piece_places [] = omega arith
 length-first_piece_places (Inner b ∷ ps) = omega (arith, length-first_piece_places ps)
 length-first_piece_places (Last b ∷ ps) = omega arith
 length-first_piece_places (Eof ∷ ps) = omega arith
-
-pub first_piece_without_ends : (items : List Item) → end_count items ≡ 0 → first_piece items ≡ bytes_of items
-first_piece_without_ends [] e = refl
-first_piece_without_ends (Byte b ∷ items) e = ap (λ bs. b ∷ bs) (first_piece_without_ends items e)
-first_piece_without_ends (End ∷ items) e = absurd (omega arith)
 
 -- ---- places without ends
 

@@ -6,7 +6,7 @@ mod bytes;
 mod line;
 mod widths;
 
-pub use line::{Edit, Gone};
+pub use line::{Edit, Gone, edited_by_the_last};
 
 #[cfg(test)]
 mod tests;

@@ -1,6 +1,6 @@
-ghost use Rattle.std.specs.Prelude.{◌≡◌, ◌+◌, ◌-◌, ◌<◌, ◌≤◌, ◌↔◌, IsTrue, IfOk, [], ◌∷◌, length, take, slice_index};
+ghost use Rattle.std.specs.Prelude.{◌≡◌, ◌+◌, ◌-◌, ◌<◌, ◌≤◌, ◌↔◌, IsTrue, IfOk, List, [], ◌∷◌, ◌++◌, length, take, slice_index};
 ghost use Rattle.tty_modes.specs.Settings.{has_flag};
-ghost use Rattle.n_tty_edit.specs.Line.{Added, Erased, WordErased, Cleared, after, word_start, erase_size};
+ghost use Rattle.n_tty_edit.specs.Line.{Change, Added, Erased, WordErased, Cleared, after, edited, word_start, erase_size};
 ghost use Rattle.n_tty_edit.specs.Width.{width_of, gone_of};
 
 use crate::bytes::Class;
@@ -148,3 +148,9 @@ impl Edit {
         }
     }
 }
+
+/// What changes leave of the line is what the last of them makes of what the others leave.
+pub fn edited_by_the_last()
+    ensures { (changes : List Change) (last : Change) →
+        edited (changes ++ last ∷ []) ≡ after (edited changes) last }
+{}

@@ -2,6 +2,7 @@ use Rattle.std.proofs.Common.{◌≡◌, ℕ, List, ◌++◌, length, take, drop
 use Rattle.std.proofs.lemmas.List.{take_at, nil_from_length}
 use Rattle.line_store.specs.Places.{items_of, place_bytes}
 use Rattle.line_store.specs.Unread.{Item, bytes_of, first_piece}
+use Rattle.line_store.proofs.ItemLemmas as unread
 use Rattle.line_store.proofs.PlaceLemmas as places
 use Rattle.line_store.proofs.store.Store.front.Goals as goal
 
@@ -25,7 +26,7 @@ front_of front back items e =
     sym (
     ap (take (length front)) (
     sym (take-append-drop (length (first_piece items)) (bytes_of items))
-    ∙ ap (λ xs. xs ++ rest) (places.take-first_piece items ∙ sym e)
+    ∙ ap (λ xs. xs ++ rest) (unread.take-first_piece items ∙ sym e)
     ∙ append_assoc front back rest
     )
     ∙ take_at front (back ++ rest) (length front) refl

@@ -1,6 +1,7 @@
 use Rattle.std.proofs.Common.{map, ap, ◌∙◌, arith}
 use Rattle.line_store.specs.Places.{items_of}
 use Rattle.line_store.specs.Unread.{Byte, bytes_of, end_count}
+use Rattle.line_store.proofs.ItemLemmas as unread
 use Rattle.line_store.proofs.PlaceLemmas as places
 use Rattle.line_store.proofs.store.Store.plain.Goals as goal
 
@@ -18,4 +19,4 @@ returns-then-self-gt0 c =
 pub returns-else-self-gt0 : goal.returns-else-self-gt0
 returns-else-self-gt0 c =
     let view = ap end_count c.self.view_is in
-    places.plain_without_ends c.args.self.now (omega arith)
+    unread.plain_without_ends c.args.self.now (omega arith)
