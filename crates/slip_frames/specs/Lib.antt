@@ -1,0 +1,3 @@
+pub mod Slip
+pub mod Decoding
+pub mod Inside

@@ -1,0 +1,172 @@
+ghost use Rattle.std.specs.Prelude.{◌≡◌, ℕ, false, ◌∷◌, ◌++◌, ◌≢◌, [], List, IfOk};
+ghost use Rattle.slip_frames.specs.Slip.{unescaped as unescaped_byte, outcomes};
+ghost use Rattle.slip_frames.specs.Decoding.{WasFed, told, fed_by, decoding_after, new_decoding, spelling, spoilt, with_byte, one_more, verdict_of, packet_in};
+
+use crate::{END, ESC, ESC_END, ESC_ESC, MAX_PACKET};
+use std::alloc::Global;
+use std::marker::Model;
+use tty_base::{Flag, Flagged, NoMemory};
+
+/// What one more character of the line gave.
+#[derive(Clone, Copy, Debug, PartialEq, Eq)]
+pub enum Fed {
+    /// The piece goes on.
+    Going,
+    /// The piece ended and spells nothing.
+    Empty,
+    /// The piece ended and spells a packet.
+    Packet,
+    /// The piece ended, and has a flagged character or spells more than a packet has.
+    Bad,
+}
+
+#[derive(Clone, Copy, Debug, PartialEq, Eq)]
+enum Piece {
+    /// A piece whose bytes are kept.
+    Plain,
+    /// The same, and its last character is an ESC.
+    Escaped,
+    /// A piece that is bad already.
+    Spoilt,
+    /// Nothing of a new piece, and the bytes are the packet that has just ended.
+    Ended,
+}
+
+/// Reads SLIP packets (RFC 1055) from the characters of a line. A good END ends a piece of the line; what the
+/// piece was is told by the answer to that END. ESC before a byte that RFC 1055 doesn't name is left out, and
+/// so is an ESC at a piece's end. A flagged character ends no piece and spoils the one that it is in.
+#[derive(Drop)]
+pub struct Decoder {
+    bytes: Vec<u8>,
+    piece: Piece,
+}
+
+impl Model for Decoder {
+    ghost use Rattle.std.specs.Prelude.{◌≤◌, vec_len, vec_capacity};
+    ghost use Rattle.slip_frames.specs.Decoding.{Decoding};
+
+    ghost Value = { Decoding };
+
+    ghost use Rattle.slip_frames.specs.Inside.{decoding_of, IsReserved};
+
+    ghost view = { decoding_of };
+
+    ghost invariant = { IsReserved };
+}
+
+impl Decoder {
+    /// A decoder that was fed nothing, with room for the longest packet: `feed` takes no memory.
+    pub fn new(alloc: Global) -> Result<Decoder, NoMemory>
+        ensures fed { IfOk result (λ d. WasFed d []) }
+        ensures value { IfOk result (λ d. d ≡ new_decoding) }
+    {
+        Ok(Decoder {
+            bytes: Vec::with_capacity(alloc, MAX_PACKET)?,
+            piece: Piece::Plain,
+        })
+    }
+
+    /// Takes the next character. With its answer the decoder has told, in order, what each piece of all that it
+    /// was fed is, and nothing else.
+    pub fn feed(&mut self, c: Flagged) -> Fed
+        ensures fed { (list : List Flagged) → WasFed self.old list → WasFed self.new (list ++ c ∷ []) }
+        ensures told { (list : List Flagged) → WasFed self.old list →
+            outcomes (list ++ c ∷ []) ≡ outcomes list ++ told result self.new.packet }
+
+        // The same step by step, for what keeps a decoder.
+        ensures result { result ≡ fed_by self.old.begun c }
+        ensures after { self.new ≡ decoding_after self.old c }
+    {
+        self.step(c)
+    }
+
+    /// The packet that the last character ended, or nothing where it ended none.
+    pub fn packet(&self) -> &[u8]
+        ensures { result.now ≡ self.now.packet }
+    {
+        match self.piece {
+            Piece::Ended => self.bytes.as_slice(),
+            _ => &[],
+        }
+    }
+
+    fn step(&mut self, c: Flagged) -> Fed
+        ensures result { result ≡ fed_by self.old.begun c }
+        ensures after { self.new ≡ decoding_after self.old c }
+    {
+        self.forget_packet();
+        match c.flag {
+            Flag::Normal if c.byte == END => return self.end_piece(),
+            Flag::Normal => self.add_byte(c.byte),
+            Flag::Break | Flag::Parity | Flag::Frame | Flag::Overrun => self.piece = Piece::Spoilt,
+        }
+        Fed::Going
+    }
+
+    fn forget_packet(&mut self)
+        ensures { self.new ≡ record self.old { packet = [] } }
+    {
+        if matches!(self.piece, Piece::Ended) {
+            self.bytes.clear();
+            self.piece = Piece::Plain;
+        }
+    }
+
+    fn end_piece(&mut self) -> Fed
+        requires { self.old.packet ≡ [] }
+        ensures result { result ≡ verdict_of self.old.begun }
+        ensures after { self.new ≡ record { begun = spelling [] false; packet = packet_in self.old.begun } }
+    {
+        if matches!(self.piece, Piece::Spoilt) {
+            self.bytes.clear();
+            self.piece = Piece::Plain;
+            return Fed::Bad;
+        }
+        self.piece = Piece::Ended;
+        if self.bytes.is_empty() {
+            Fed::Empty
+        } else {
+            Fed::Packet
+        }
+    }
+
+    fn add_byte(&mut self, b: u8)
+        requires { self.old.packet ≡ [] }
+        ensures { self.new ≡ record { begun = with_byte self.old.begun b; packet = [] } }
+    {
+        match self.piece {
+            Piece::Spoilt => {}
+            Piece::Escaped => self.keep(unescaped(b)),
+            Piece::Plain | Piece::Ended => match b {
+                ESC => self.piece = Piece::Escaped,
+                _ => self.keep(b),
+            },
+        }
+    }
+
+    fn keep(&mut self, b: u8)
+        requires none { self.old.packet ≡ [] }
+        requires going { self.old.begun ≢ spoilt }
+        ensures { self.new ≡ record { begun = one_more (packet_in self.old.begun) b; packet = [] } }
+    {
+        if self.bytes.len() < MAX_PACKET {
+            match self.bytes.push(b) {
+                Ok(()) => self.piece = Piece::Plain,
+                Err(_) => unreachable!(),
+            }
+        } else {
+            self.piece = Piece::Spoilt;
+        }
+    }
+}
+
+/// What a byte after [`ESC`] stands for.
+fn unescaped(b: u8) -> u8
+    ensures { result ≡ unescaped_byte b }
+{
+    match b {
+        ESC_END => END,
+        ESC_ESC => ESC,
+        _ => b,
+    }
+}
