@@ -1,0 +1,125 @@
+//! The handles of a port: which numbers are in use, for what access, and whether they are live.
+#![tactic(auto)]
+
+ghost use Rattle.std.specs.Prelude.{◌≡◌, ◌<◌, ◌≤◌, is_some, is_none, length, if◌then◌else◌};
+ghost use Rattle.handle_table.specs.Handles.{no_handles, handle_at, with_handle, without_handle, killed as killed_state, all_killed, is_live as is_live_state, live_count};
+
+use std::marker::Model;
+use tty_calls::Access;
+
+/// How many numbers there are.
+const NUMBERS: usize = 32;
+
+/// One open of a port (open(2)).
+#[derive(Clone, Copy, Debug, PartialEq, Eq)]
+pub struct HandleState {
+    /// What it may be used for.
+    pub access: Access,
+    /// Whether its calls answer at once and never wait (open(2), O_NONBLOCK).
+    pub nonblock: bool,
+    /// Whether no hangup has come since it was opened (vhangup(2)).
+    pub live: bool,
+}
+
+/// The handles of a port, by their numbers from 0 to 31. No call takes memory.
+#[derive(Debug, Drop)]
+pub struct Handles {
+    slots: [Option<HandleState>; NUMBERS],
+}
+
+impl Model for Handles {
+    ghost use Rattle.std.specs.Prelude.{◌≡◌, length};
+    ghost use Rattle.handle_table.specs.Handles.{HandleMap};
+
+    ghost Value = { HandleMap };
+
+    ghost view = { λ handles. handles.slots };
+
+    ghost invariant = { λ handles. length handles.slots ≡ 32 };
+}
+
+impl Handles {
+    /// No number is in use.
+    pub fn new() -> Handles
+        ensures { result ≡ no_handles }
+    {
+        Handles {
+            slots: [None; NUMBERS],
+        }
+    }
+
+    /// Opens a live handle of a number that is not in use. False says that it is in use, by a live handle or
+    /// by a dead one, and nothing changes then.
+    pub fn admit(&mut self, h: u8, access: Access, nonblock: bool) -> bool
+        requires { h < 32 }
+        ensures free { result ≡ is_none (handle_at self.old h) }
+        ensures after { self.new ≡ (if result then with_handle self.old h access nonblock else self.old) }
+    {
+        let slot = &mut self.slots[usize::from(h)];
+        if slot.is_some() {
+            return false;
+        }
+        *slot = Some(HandleState {
+            access,
+            nonblock,
+            live: true,
+        });
+        true
+    }
+
+    /// Frees a number. False says that it was not in use, and nothing changes then.
+    pub fn remove(&mut self, h: u8) -> bool
+        ensures used { result ≡ is_some (handle_at self.old h) }
+        ensures after { self.new ≡ (if result then without_handle self.old h else self.old) }
+    {
+        if self.state(h).is_none() {
+            return false;
+        }
+        self.slots[usize::from(h)] = None;
+        true
+    }
+
+    /// Makes each handle dead. Their numbers stay in use.
+    pub fn kill_all(&mut self)
+        ensures { self.new ≡ all_killed self.old }
+    {
+        for slot in self.slots.iter_mut() {
+            *slot = killed(*slot);
+        }
+    }
+
+    /// The handle of a number, or None where it is not in use.
+    pub fn state(&self, h: u8) -> Option<HandleState>
+        ensures state { result ≡ handle_at self.now h }
+        ensures numbers { length self.now ≡ 32 }
+    {
+        self.slots.get(usize::from(h)).copied().flatten()
+    }
+
+    /// How many handles are live.
+    pub fn live(&self) -> usize
+        ensures count { result ≡ live_count self.now }
+        ensures few { result ≤ 32 }
+    {
+        self.slots.iter().filter(|slot| is_live(**slot)).count()
+    }
+}
+
+/// The handle after a hangup.
+fn killed(slot: Option<HandleState>) -> Option<HandleState>
+    ensures { result ≡ killed_state slot }
+{
+    slot.map(|handle| HandleState {
+        live: false,
+        ..handle
+    })
+}
+
+fn is_live(slot: Option<HandleState>) -> bool
+    ensures { result ≡ is_live_state slot }
+{
+    slot.is_some_and(|handle| handle.live)
+}
+
+#[cfg(test)]
+mod tests;
