@@ -1,5 +1,5 @@
-ghost use Rattle.std.specs.Prelude.{◌≡◌, ℕ, false, ◌∷◌, ◌++◌, ◌≢◌, [], List, IfOk};
-ghost use Rattle.slip_frames.specs.Slip.{unescaped as unescaped_byte, outcomes};
+ghost use Rattle.std.specs.Prelude.{◌≡◌, ◌≤◌, ℕ, false, ◌∷◌, ◌++◌, ◌≢◌, [], List, length, IfOk};
+ghost use Rattle.slip_frames.specs.Slip.{unescaped as unescaped_byte, outcomes, max_packet};
 ghost use Rattle.slip_frames.specs.Decoding.{WasFed, told, fed_by, decoding_after, new_decoding, spelling, spoilt, with_byte, one_more, verdict_of, packet_in};
 
 use crate::{END, ESC, ESC_END, ESC_ESC, MAX_PACKET};
@@ -82,7 +82,8 @@ impl Decoder {
 
     /// The packet that the last character ended, or nothing where it ended none.
     pub fn packet(&self) -> &[u8]
-        ensures { result.now ≡ self.now.packet }
+        ensures packet { result.now ≡ self.now.packet }
+        ensures short { length result.now ≤ max_packet }
     {
         match self.piece {
             Piece::Ended => self.bytes.as_slice(),
