@@ -1,0 +1,133 @@
+ghost use Rattle.std.specs.Prelude.{◌≡◌, ◌-◌, ◌<◌, ◌≤◌, [], ◌∷◌, ◌++◌, List, length, drop, nat_le, IfOk, if◌then◌else◌};
+ghost use Rattle.flow_control.specs.Output.{room_of, sent};
+ghost use Rattle.flow_control.specs.Counting.{counted};
+ghost use Rattle.flow_control.specs.declared.tally.Counter.TheVariants.{PacketOut};
+ghost use Rattle.n_slip.specs.Discipline.{fresh_slip, first_waiting, received, counted_flag, counts_after};
+ghost use Rattle.n_slip.specs.History.{Happening, HasSeen, heard, taken, flushed};
+
+use crate::queue::{MOST, Queue};
+use flow_control::{Counter, Tally, Wire};
+use slip_frames::{Decoder, Fed};
+use std::alloc::Global;
+use std::marker::Model;
+use tty_base::{Bytes, Flag, Flagged, NoMemory};
+
+/// N_SLIP on a port: it receives packets, of which at most 64 wait to be taken, and sends packets. It takes all its memory
+/// in `new`.
+#[derive(Drop)]
+pub struct NSlip {
+    decoder: Decoder,
+    queue: Queue,
+}
+
+impl Model for NSlip {
+    ghost use Rattle.n_slip.specs.Discipline.{Slip};
+
+    ghost Value = { Slip };
+
+    ghost view = { λ s. record { begun = s.decoder.begun; waiting = s.queue } };
+}
+
+impl NSlip {
+    /// Nothing was received, and there is room for 64 packets of the longest.
+    pub fn new(alloc: Global) -> Result<NSlip, NoMemory>
+        ensures value { IfOk result (λ slip. slip ≡ fresh_slip) }
+        ensures seen { IfOk result (λ slip. HasSeen slip []) }
+    {
+        Ok(NSlip {
+            decoder: Decoder::new(alloc)?,
+            queue: Queue::new(alloc)?,
+        })
+    }
+
+    /// Takes a character of the line. Where it ends a packet, the packet waits, or is dropped where 64 wait already. It counts
+    /// the character's flag, and what the piece was that it ended.
+    pub fn receive(&mut self, c: Flagged, tally: &mut Tally)
+        ensures after { self.new ≡ received self.old c }
+        ensures counts { tally.new ≡ record tally.old { counts = counts_after self.old c tally.old.counts } }
+        ensures seen { (events : List Happening) → HasSeen self.old events → HasSeen self.new (events ++ heard c ∷ []) }
+    {
+        self.step(c, tally)
+    }
+
+    /// How many packets wait.
+    pub fn waiting(&self) -> usize
+        ensures len { result ≡ length self.now.waiting }
+        ensures few { result ≤ 64 }
+    {
+        self.queue.len()
+    }
+
+    /// The length of the first packet that waits, or 0 where none does.
+    pub fn first_len(&self) -> usize
+        ensures first { result ≡ length (first_waiting self.now) }
+        ensures short { result ≤ 1006 }
+    {
+        self.queue.first_len()
+    }
+
+    /// Takes the oldest packet that waits: its bytes go to the end of `out`. The answer is its length.
+    pub fn take_packet(&mut self, out: &mut Bytes) -> u32
+        requires some { 0 < length self.old.waiting }
+        requires room { 1006 ≤ out.old.spare }
+        ensures len { result ≡ length (first_waiting self.old) }
+        ensures out { out.new ≡ record { items = out.old.items ++ first_waiting self.old; spare = out.old.spare - length (first_waiting self.old) } }
+        ensures after { self.new ≡ record self.old { waiting = drop 1 self.old.waiting } }
+        ensures seen { (events : List Happening) → HasSeen self.old events → HasSeen self.new (events ++ taken ∷ []) }
+    {
+        self.queue.take(out)
+    }
+
+    /// Sends a packet that was encoded, whole and counted, or else answers false and changes nothing: exactly where its bytes
+    /// exceed the room for held output.
+    pub fn send_packet(&mut self, encoded: &[u8], wire: &mut Wire, tally: &mut Tally) -> bool
+        requires { length encoded.now ≤ wire.old.spare }
+        ensures room { result ≡ nat_le (length encoded.now) (room_of wire.old) }
+        ensures wire { wire.new ≡ (if result then sent wire.old encoded.now else wire.old) }
+        ensures counts { tally.new ≡ (if result then record tally.old { counts = counted tally.old.counts PacketOut 1 } else tally.old) }
+        ensures same { self.new ≡ self.old }
+    {
+        if encoded.len() > wire.room() {
+            return false;
+        }
+        let _sent = wire.send(encoded);
+        tally.count(Counter::PacketOut, 1);
+        true
+    }
+
+    /// Drops the packets that wait. A piece that has begun goes on.
+    pub fn flush_in(&mut self)
+        ensures after { self.new ≡ record self.old { waiting = [] } }
+        ensures seen { (events : List Happening) → HasSeen self.old events → HasSeen self.new (events ++ flushed ∷ []) }
+    {
+        self.queue.clear();
+    }
+
+    fn step(&mut self, c: Flagged, tally: &mut Tally)
+        ensures after { self.new ≡ received self.old c }
+        ensures counts { tally.new ≡ record tally.old { counts = counts_after self.old c tally.old.counts } }
+    {
+        count_flag(c.flag, tally);
+        match self.decoder.feed(c) {
+            Fed::Going | Fed::Empty => {}
+            Fed::Packet if self.queue.len() < MOST => {
+                self.queue.push(self.decoder.packet());
+                tally.count(Counter::PacketIn, 1);
+            }
+            Fed::Packet => tally.count(Counter::PacketFull, 1),
+            Fed::Bad => tally.count(Counter::PacketBad, 1),
+        }
+    }
+}
+
+fn count_flag(flag: Flag, tally: &mut Tally)
+    ensures { tally.new ≡ record tally.old { counts = counted_flag tally.old.counts flag } }
+{
+    match flag {
+        Flag::Normal => {}
+        Flag::Break => tally.count(Counter::Break, 1),
+        Flag::Parity => tally.count(Counter::Parity, 1),
+        Flag::Frame => tally.count(Counter::Frame, 1),
+        Flag::Overrun => tally.count(Counter::Mark, 1),
+    }
+}

@@ -1,0 +1,10 @@
+//! The line discipline N_SLIP (linux/tty.h, number 1): SLIP packets (RFC 1055) that wait to be taken.
+#![tactic(auto)]
+
+mod discipline;
+mod queue;
+
+pub use discipline::NSlip;
+
+#[cfg(test)]
+mod tests;

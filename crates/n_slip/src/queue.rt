@@ -1,0 +1,120 @@
+ghost use Rattle.std.specs.Prelude.{◌≡◌, ◌+◌, ◌-◌, ◌*◌, ◌<◌, ◌≤◌, [], ◌∷◌, ◌++◌, length, take, drop, IfOk, slice_index_or};
+ghost use Rattle.std.specs.VecDeque.{deque_len, deque_capacity};
+
+use slip_frames::MAX_PACKET;
+use std::alloc::Global;
+use std::collections::VecDeque;
+use std::marker::Model;
+use tty_base::{Bytes, NoMemory};
+
+/// How many packets can wait.
+pub const MOST: usize = 64;
+
+/// The packets that wait, oldest first: their bytes one after another, and the length of each.
+#[derive(Drop)]
+pub struct Queue {
+    bytes: VecDeque<u8>,
+    lengths: VecDeque<u32>,
+}
+
+impl Model for Queue {
+    ghost use Rattle.std.specs.Prelude.{List, ℕ};
+
+    ghost Value = { List (List ℕ) };
+
+    ghost use Rattle.n_slip.specs.Queue.{packets_of, IsQueue};
+
+    ghost view = { λ q. packets_of q.lengths.items q.bytes.items };
+
+    ghost invariant = { IsQueue };
+}
+
+impl Queue {
+    /// An empty queue with room for all the packets that it can hold.
+    pub fn new(alloc: Global) -> Result<Queue, NoMemory>
+        ensures { IfOk result (λ q. q ≡ []) }
+    {
+        Ok(Queue {
+            bytes: VecDeque::with_capacity(alloc, MOST * MAX_PACKET)?,
+            lengths: VecDeque::with_capacity(alloc, MOST)?,
+        })
+    }
+
+    pub fn len(&self) -> usize
+        ensures len { result ≡ length self.now }
+        ensures few { result ≤ 64 }
+    {
+        self.lengths.len()
+    }
+
+    /// The length of the oldest packet, or 0 where none waits.
+    pub fn first_len(&self) -> usize
+        ensures first { result ≡ length (slice_index_or self.now 0 []) }
+        ensures short { result ≤ 1006 }
+    {
+        match self.lengths.front() {
+            Some(n) => *n as usize,
+            None => 0,
+        }
+    }
+
+    pub fn push(&mut self, packet: &[u8])
+        requires free { length self.old < 64 }
+        requires short { length packet.now ≤ 1006 }
+        ensures { self.new ≡ self.old ++ packet.now ∷ [] }
+    {
+        push_all(&mut self.bytes, packet);
+        self.lengths.push_back_reserved(packet.len() as u32);
+    }
+
+    /// Moves the oldest packet to the end of `out`, and answers its length.
+    pub fn take(&mut self, out: &mut Bytes) -> u32
+        requires some { 0 < length self.old }
+        requires room { 1006 ≤ out.old.spare }
+        ensures len { result ≡ length (slice_index_or self.old 0 []) }
+        ensures out { out.new ≡ record { items = out.old.items ++ slice_index_or self.old 0 []; spare = out.old.spare - length (slice_index_or self.old 0 []) } }
+        ensures rest { self.new ≡ drop 1 self.old }
+    {
+        match self.lengths.pop_front() {
+            Some(n) => {
+                move_front(&mut self.bytes, n, out);
+                n
+            }
+            None => unreachable!(),
+        }
+    }
+
+    pub fn clear(&mut self)
+        ensures { self.new ≡ [] }
+    {
+        self.bytes.clear();
+        self.lengths.clear();
+    }
+}
+
+fn push_all(bytes: &mut VecDeque<u8>, more: &[u8])
+    requires { deque_len bytes.old + length more.now ≤ deque_capacity bytes.old }
+    ensures items { bytes.new.items ≡ bytes.old.items ++ more.now }
+    ensures len { deque_len bytes.new ≡ deque_len bytes.old + length more.now }
+    ensures capacity { deque_capacity bytes.new ≡ deque_capacity bytes.old }
+{
+    for b in more {
+        bytes.push_back_reserved(*b);
+    }
+}
+
+fn move_front(bytes: &mut VecDeque<u8>, n: u32, out: &mut Bytes)
+    requires all { n ≤ deque_len bytes.old }
+    requires room { n ≤ out.old.spare }
+    ensures rest { bytes.new.items ≡ drop n bytes.old.items }
+    ensures len { deque_len bytes.new + n ≡ deque_len bytes.old }
+    ensures capacity { deque_capacity bytes.new ≡ deque_capacity bytes.old }
+    ensures out { out.new ≡ record { items = out.old.items ++ take n bytes.old.items; spare = out.old.spare - n } }
+{
+    for _ in 0..n {
+        match bytes.pop_front() {
+            Some(b) => out.add(b),
+            None => unreachable!(),
+        }
+    }
+}

@@ -1,0 +1,116 @@
+use crate::NSlip;
+use flow_control::{Tally, Wire};
+use slip_frames::encode;
+use std::alloc::Global;
+use std::test::Fail;
+use tty_base::{Bytes, Flag, Flagged};
+
+fn moves<T: Send + Drop>(_value: T) {}
+
+fn receive_all(slip: &mut NSlip, tally: &mut Tally, bytes: &[u8]) {
+    for b in bytes {
+        slip.receive(
+            Flagged {
+                byte: *b,
+                flag: Flag::Normal,
+            },
+            tally,
+        );
+    }
+}
+
+/// The first packet that waits, or nothing where none does.
+fn take_first(alloc: Global, slip: &mut NSlip) -> Result<Bytes, Fail> {
+    let mut out = Bytes::new(alloc);
+    out.reserve(1006)?;
+    if slip.waiting() > 0 {
+        slip.take_packet(&mut out);
+    }
+    Ok(out)
+}
+
+#[test]
+fn sixty_five_packets(rt: HostRuntime) -> Result<(), Fail> {
+    let mut slip = NSlip::new(rt.alloc())?;
+    let mut tally = Tally::new(rt.alloc());
+    for n in 0..65u8 {
+        receive_all(&mut slip, &mut tally, &[n, 0xc0]);
+    }
+    assert_eq!(rt; slip.waiting(), 64);
+    assert!(rt; tally.counts.pin == 64 && tally.counts.pfull == 1);
+    for n in 0..64u8 {
+        assert_eq!(rt;
+            take_first(rt.alloc(), &mut slip)?.as_slice(),
+            [n].as_slice()
+        );
+    }
+    assert_eq!(rt; slip.waiting(), 0);
+    moves(slip);
+    Ok(())
+}
+
+#[test]
+fn pieces_of_a_line(rt: HostRuntime) -> Result<(), Fail> {
+    let mut slip = NSlip::new(rt.alloc())?;
+    let mut tally = Tally::new(rt.alloc());
+    receive_all(
+        &mut slip,
+        &mut tally,
+        &[0xc0, 0x41, 0xdb, 0xdc, 0xc0, 0xc0, 0x41],
+    );
+    slip.receive(
+        Flagged {
+            byte: 0x42,
+            flag: Flag::Parity,
+        },
+        &mut tally,
+    );
+    receive_all(&mut slip, &mut tally, &[0x43, 0xc0, 0x44]);
+    assert_eq!(rt; slip.first_len(), 2);
+    assert_eq!(rt;
+        take_first(rt.alloc(), &mut slip)?.as_slice(),
+        [0x41, 0xc0].as_slice()
+    );
+    assert!(rt; slip.waiting() == 0 && slip.first_len() == 0);
+    slip.flush_in();
+    receive_all(&mut slip, &mut tally, &[0x45, 0xc0]);
+    assert_eq!(rt;
+        take_first(rt.alloc(), &mut slip)?.as_slice(),
+        [0x44, 0x45].as_slice()
+    );
+    assert!(rt; tally.counts.pin == 2 && tally.counts.pbad == 1 && tally.counts.parity == 1);
+    Ok(())
+}
+
+#[test]
+fn the_longest_packet_and_a_longer_one(rt: HostRuntime) -> Result<(), Fail> {
+    let mut slip = NSlip::new(rt.alloc())?;
+    let mut tally = Tally::new(rt.alloc());
+    let long = vec![in rt.alloc(); 0x61; 1007]?;
+    for packet in [&long.as_slice()[..1006], long.as_slice()] {
+        receive_all(&mut slip, &mut tally, packet);
+        receive_all(&mut slip, &mut tally, &[0xc0]);
+    }
+    assert!(rt; slip.waiting() == 1 && slip.first_len() == 1006);
+    assert!(rt; tally.counts.pin == 1 && tally.counts.pbad == 1);
+    Ok(())
+}
+
+#[test]
+fn a_packet_is_sent_where_there_is_room(rt: HostRuntime) -> Result<(), Fail> {
+    let mut slip = NSlip::new(rt.alloc())?;
+    let mut tally = Tally::new(rt.alloc());
+    let mut wire = Wire::new(rt.alloc())?;
+    wire.reserve(4100)?;
+    let packet = vec![in rt.alloc(); 0xc0; 1006]?;
+    let encoded = encode(rt.alloc(), packet.as_slice())?;
+    wire.stop();
+    for sent in [true, true, false] {
+        assert_eq!(rt;
+            slip.send_packet(encoded.as_slice(), &mut wire, &mut tally),
+            sent
+        );
+    }
+    assert!(rt; wire.held() == 4028 && tally.counts.pout == 2);
+    Ok(())
+}
