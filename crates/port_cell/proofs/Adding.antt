@@ -1,5 +1,5 @@
 -- What a seat with the turn may note, once it has added an entry to the list that it found.
-use Rattle.std.proofs.Common.{◌≡◌, ℕ, ◌+◌, ◌-◌, ◌<◌, List, [], ◌∷◌, ◌++◌, false, inl, inr, sym, ap, ◌∙◌, arith}
+use Rattle.std.proofs.Common.{◌≡◌, ℕ, ◌+◌, ◌<◌, List, [], ◌∷◌, ◌++◌, false, inr, sym, ap, ◌∙◌, arith}
 use Rattle.port_cell.specs.declared.kept.Stamped.{Stamped}
 use Rattle.port_cell.specs.declared.view.View.{View}
 use Rattle.port_cell.specs.Entries.{generation_of, AddsBy}

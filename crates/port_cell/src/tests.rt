@@ -1,6 +1,7 @@
-ghost use Rattle.std.specs.Prelude.{◌≡◌, ◌<◌, ◌+◌, [], ◌∷◌, ◌++◌, false, length, IfOk};
+ghost use Rattle.std.specs.Prelude.{◌≡◌, ◌<◌, ◌+◌, [], ◌∷◌, ◌++◌, false, length, IfOk, IsTrue};
 ghost use Rattle.std.specs.Thread.{IsSync};
-ghost use Rattle.port_cell.specs.Seats.{AllFresh, IsDone};
+ghost use Rattle.port_cell.specs.Views.{Knows, marks, alone};
+ghost use Rattle.port_cell.specs.Seats.{AllFresh, IsDone, IsSeat};
 
 use super::*;
 use std::alloc::Global;
@@ -165,5 +166,173 @@ fn two_threads(rt: HostRuntime) -> Result<(), Fail> {
     let all = vec![in rt.alloc(); first, second]?;
     let log = cell.close(all);
     assert!(rt; is_in_order(log.entries.as_slice()));
+    Ok(())
+}
+
+/// The generation that the seat finds at a turn.
+fn look<R: Wait>(rt: &R, cell: &Cell<Log>, seat: &mut Seat<Log>) -> u32
+    requires { IsSeat cell.now.table.shared.table_id seat.old × (seat.old.me.0.turn ≡ false) }
+    ensures seat { IsSeat cell.now.table.shared.table_id seat.new × (seat.new.me.0.turn ≡ false) × (seat.new.me.0.user ≡ seat.old.me.0.user) }
+    ensures generation { Knows result seat.old.me.0.user }
+{
+    let mut turn = cell.turn(rt, seat);
+    let generation = turn.value().generation();
+    cell.give(seat, turn);
+    generation
+}
+
+/// Takes a reference, and says whether the generation stood still under it.
+fn visit<R: Wait>(rt: &R, cell: &Cell<Log>, seat: &mut Seat<Log>) -> bool
+    requires { IsDone cell.now.table.shared.table_id seat.old }
+    ensures seat { IsDone cell.now.table.shared.table_id seat.new }
+    ensures still { IsTrue result }
+{
+    match cell.enter(seat) {
+        Ok(generation) => {
+            let first = look(rt, cell, seat);
+            let second = look(rt, cell, seat);
+            cell.leave(seat);
+            first == generation && second == generation
+        }
+        Err(_) => {
+            cell.park(rt, seat);
+            true
+        }
+    }
+}
+
+fn watch<R: Wait>(rt: &R, cell: &Cell<Log>, mut seat: Seat<Log>) -> bool
+    requires { IsDone cell.now.table.shared.table_id seat }
+{
+    let mut still = true;
+    for _ in 0..20 {
+        still = visit(rt, cell, &mut seat) && still;
+    }
+    still
+}
+
+fn watch_both<R: Threads + Wait + Sync>(
+    rt: &R,
+    cell: &Cell<Log>,
+    first: Seat<Log>,
+    second: Seat<Log>,
+) -> bool
+    requires { IsDone cell.now.table.shared.table_id first × IsDone cell.now.table.shared.table_id second }
+{
+    let (a, b) = join(
+        rt,
+        move || -> bool
+            requires { IsSync R.row × IsDone cell.now.table.shared.table_id first }
+        { watch(rt, cell, first) },
+        move || -> bool
+            requires { IsSync R.row × IsDone cell.now.table.shared.table_id second }
+        { watch(rt, cell, second) },
+    );
+    a && b
+}
+
+/// Waits until the users have left.
+fn settle<R: Wait>(rt: &R, cell: &Cell<Log>, seat: &mut Seat<Log>)
+    requires seat { IsSeat cell.now.table.shared.table_id seat.old × (seat.old.me.0.turn ≡ false) }
+    requires marked { (marks seat.old.me.0.user ≡ 1) × (alone seat.old.me.0.user ≡ 0) }
+    ensures seat { IsSeat cell.now.table.shared.table_id seat.new × (seat.new.me.0.turn ≡ false) }
+    ensures alone { (alone seat.new.me.0.user ≡ 1) × (seat.new.me.0.number ≡ seat.old.me.0.number) }
+{
+    for _ in rt.forever() {
+        match cell.settled(seat) {
+            Ok(()) => return,
+            Err(_) => cell.park(rt, seat),
+        }
+    }
+    unreachable!()
+}
+
+/// Makes an entry of the next generation, and installs it.
+fn raise<R: Wait + Abort>(rt: &R, cell: &Cell<Log>, seat: &mut Seat<Log>, number: u32)
+    requires seat { IsSeat cell.now.table.shared.table_id seat.old × (seat.old.me.0.turn ≡ false) }
+    requires alone { (alone seat.old.me.0.user ≡ 1) × (seat.old.me.0.number ≡ number) }
+    ensures { IsDone cell.now.table.shared.table_id seat.new × (seat.new.me.0.number ≡ number) }
+{
+    let mut turn = cell.turn(rt, seat);
+    let generation = turn.value().generation();
+    assert!(rt; generation < 1000);
+    turn.value().add(rt, number, generation + 1, 0);
+    cell.note(seat, &mut turn);
+    cell.install(seat, &mut turn);
+    cell.give(seat, turn);
+}
+
+fn change<R: Wait + Abort>(rt: &R, cell: &Cell<Log>, seat: &mut Seat<Log>, number: u32)
+    requires { IsDone cell.now.table.shared.table_id seat.old × (seat.old.me.0.number ≡ number) }
+    ensures { IsDone cell.now.table.shared.table_id seat.new × (seat.new.me.0.number ≡ number) }
+{
+    match cell.mark(seat) {
+        Ok(()) => {
+            settle(rt, cell, seat);
+            raise(rt, cell, seat, number);
+        }
+        Err(_) => cell.park(rt, seat),
+    }
+}
+
+fn change_often<R: Wait + Abort>(rt: &R, cell: &Cell<Log>, mut seat: Seat<Log>, number: u32)
+    requires { IsDone cell.now.table.shared.table_id seat × (seat.me.0.number ≡ number) }
+{
+    for _ in 0..20 {
+        change(rt, cell, &mut seat, number);
+    }
+}
+
+fn crowd<R: Threads + Wait + Abort + Sync>(
+    rt: &R,
+    cell: &Cell<Log>,
+    changer: Seat<Log>,
+    first: (Seat<Log>, Seat<Log>),
+    second: (Seat<Log>, Seat<Log>),
+) -> bool
+    requires changer { IsDone cell.now.table.shared.table_id changer × (changer.me.0.number ≡ 0) }
+    requires first { IsDone cell.now.table.shared.table_id first.0 × IsDone cell.now.table.shared.table_id first.1 }
+    requires second { IsDone cell.now.table.shared.table_id second.0 × IsDone cell.now.table.shared.table_id second.1 }
+{
+    let (a, b) = join(
+        rt,
+        move || -> bool
+            requires { IsSync R.row × IsDone cell.now.table.shared.table_id changer × (changer.me.0.number ≡ 0) × IsDone cell.now.table.shared.table_id first.0 × IsDone cell.now.table.shared.table_id first.1 }
+        { change_beside(rt, cell, changer, first) },
+        move || -> bool
+            requires { IsSync R.row × IsDone cell.now.table.shared.table_id second.0 × IsDone cell.now.table.shared.table_id second.1 }
+        { watch_both(rt, cell, second.0, second.1) },
+    );
+    a && b
+}
+
+fn change_beside<R: Threads + Wait + Abort + Sync>(
+    rt: &R,
+    cell: &Cell<Log>,
+    changer: Seat<Log>,
+    users: (Seat<Log>, Seat<Log>),
+) -> bool
+    requires changer { IsDone cell.now.table.shared.table_id changer × (changer.me.0.number ≡ 0) }
+    requires users { IsDone cell.now.table.shared.table_id users.0 × IsDone cell.now.table.shared.table_id users.1 }
+{
+    let (_, still) = join(
+        rt,
+        move || -> ()
+            requires { IsSync R.row × IsDone cell.now.table.shared.table_id changer × (changer.me.0.number ≡ 0) }
+        { change_often(rt, cell, changer, 0) },
+        move || -> bool
+            requires { IsSync R.row × IsDone cell.now.table.shared.table_id users.0 × IsDone cell.now.table.shared.table_id users.1 }
+        { watch_both(rt, cell, users.0, users.1) },
+    );
+    still
+}
+
+#[test]
+fn a_changer_against_four_users(rt: HostRuntime) -> Result<(), Fail> {
+    let (cell, mut seats) = open(rt.alloc(), 5)?;
+    let first = (last(&cell, &mut seats), last(&cell, &mut seats));
+    let second = (last(&cell, &mut seats), last(&cell, &mut seats));
+    let changer = last(&cell, &mut seats);
+    assert!(rt; crowd(&rt, &cell, changer, first, second));
     Ok(())
 }

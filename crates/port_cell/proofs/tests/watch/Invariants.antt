@@ -1,0 +1,5 @@
+use Rattle.port_cell.specs.Seats.{IsDone}
+use Rattle.port_cell.proofs.tests.watch.Given as goal
+
+abbrev pub invariant-loop : goal.invariant-loop
+invariant-loop g l = IsDone l.cell.table.shared.table_id l.seat
