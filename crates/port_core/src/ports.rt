@@ -214,6 +214,7 @@ impl Port {
     ghost use Rattle.tty_terminal.specs.Outcomes.{outcome};
     ghost use Rattle.tty_terminal.specs.Runs.{IsRun, Grows};
     ghost use Rattle.port_core.specs.Tries.{tried_of, Flushes};
+    ghost use Rattle.port_core.specs.Own.{standing_of, stands, at_first};
     ghost use Rattle.port_core.specs.Ports.{PortValue, IsPort, IsReady, IsPieceOf, Attempts, Appends, IsOpen, call_in, shown, is_stuck, Takes, Denies, phase_entry, end_entry, caller_entry, hangup_entry};
 
     /// A closed port under raw modes, with so many callers in each phase and at most `limit` entries
@@ -630,6 +631,15 @@ impl Port {
         ensures { result.now ≡ self.now.terminal.wire }
     {
         self.terminal.wire()
+    }
+
+    /// Where each caller stands follows from its own entries in the journal, and from the ends of
+    /// phases: its next step, whether its call has begun and waits for its answer, and whether its
+    /// calls of the phase are over. So a caller that made these entries knows what `attempt` needs.
+    pub fn own_entries_tell(&self)
+        ensures { (c : ℕ) → standing_of (caller_at self.now.terminal c) ≡ stands c self.now.journal at_first }
+    {
+        let _ = &self.journal;
     }
 
     /// The journal, and what is left at the end. The journal is a run of every session that has the

@@ -22,6 +22,7 @@ fn a_port_whose_journal_is_full_is_told_so_and_keeps_its_entries(
         Ok(Tried::Done(Answer::Done)) => {}
         _ => assert!(rt; false),
     }
+    port.own_entries_tell();
     assert_eq!(rt; port.put(c), Err(Denied::Full));
     assert_eq!(rt; port.journal().len(), 1);
     assert_eq!(rt; port.generation(), 0);
