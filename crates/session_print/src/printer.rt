@@ -42,7 +42,6 @@ fn put_calls(
 }
 
 /// The lines of a port.
-#[tactic(auto, using(crate::proofs::Joined::joined))]
 fn put_port(alloc: Global, text: &mut Bytes, run: &PortRun, end: &PortEnd) -> Result<(), NoMemory>
     requires taken { taken_count run.now.journal.items < 2 ^ 64 }
     requires dropped { dropped_count run.now.journal.items < 2 ^ 64 }
