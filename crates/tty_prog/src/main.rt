@@ -1,0 +1,31 @@
+//! The program: the words of the command line, standard input and standard output are handed to
+//! `tty_run`, and its status is the program's.
+#![tactic(auto)]
+
+use std::alloc::Global;
+use std::process::ExitCode;
+use std::{env, io};
+use tty_base::{StdSink, StdSource};
+use tty_run::{Ran, tty_run};
+
+fn main(rt: HostRuntime) -> ExitCode {
+    let alloc = rt.alloc();
+    let mut source = StdSource::new(rt.reader());
+    let mut sink = StdSink::new(io::writer(&rt));
+    let mut given: Vec<String> = Vec::new(alloc);
+    let mut words: Vec<&str> = Vec::new(alloc);
+    if let Ok(all) = env::args(&rt) {
+        for word in all.skip(1) {
+            if given.push(word).is_err() {
+                return ExitCode::from(5);
+            }
+        }
+    }
+    for word in &given {
+        if words.push(word.as_str()).is_err() {
+            return ExitCode::from(5);
+        }
+    }
+    let Ran { status, runs: _ } = tty_run(alloc, words.as_slice(), &mut source, &mut sink);
+    ExitCode::from(status)
+}

@@ -1,0 +1,6 @@
+mod Calling
+mod Flushing
+mod Moved
+mod Phases
+mod RunOne
+mod Stages
