@@ -1,5 +1,6 @@
 use crate::NSlip;
-use flow_control::Tally;
+use flow_control::{Tally, Wire};
+use slip_frames::encode;
 use std::alloc::Global;
 use std::test::Fail;
 use tty_base::{Bytes, Flag, Flagged};
@@ -92,5 +93,22 @@ fn the_longest_packet_and_a_longer_one(rt: HostRuntime) -> Result<(), Fail> {
     }
     assert!(rt; slip.waiting() == 1 && slip.first_len() == 1006);
     assert!(rt; tally.counts.pin == 1 && tally.counts.pbad == 1);
+    Ok(())
+}
+
+#[test]
+fn a_packet_is_sent_where_there_is_room(rt: HostRuntime) -> Result<(), Fail> {
+    let mut slip = NSlip::new(rt.alloc())?;
+    let mut tally = Tally::new(rt.alloc());
+    let mut wire = Wire::new(rt.alloc())?;
+    let packet = vec![in rt.alloc(); 0xc0; 1006]?;
+    let encoded = encode(rt.alloc(), packet.as_slice())?;
+    let encoded = encoded.as_slice();
+    wire.stop();
+    for sent in [true, true, false] {
+        wire.reserve(encoded.len())?;
+        assert_eq!(rt; slip.send_packet(encoded, &mut wire, &mut tally), sent);
+    }
+    assert!(rt; wire.held() == 4028 && tally.counts.pout == 2);
     Ok(())
 }
