@@ -1,2 +1,4 @@
+mod Digits
 mod Reading
+pub mod Spelled
 mod Splits

@@ -1,4 +1,6 @@
+pub mod Drafts
 pub mod Fits
+pub mod Grammar
 pub mod Items
 pub mod Text
 pub mod Views
