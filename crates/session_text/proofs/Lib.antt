@@ -1,4 +1,5 @@
 mod Digits
+pub mod Fitting
 mod Reading
 pub mod Spelled
 mod Splits

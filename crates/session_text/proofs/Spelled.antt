@@ -628,3 +628,7 @@ pub none_is_spelled : (text : List ℕ) (r : Result Session TextFault) → Gives
 none_is_spelled text (Ok session) given bad other spells = cc
 none_is_spelled text (Err Bad) given bad other spells = let read = spelled_is_read text other spells in cc (sym given ∙ read)
 none_is_spelled text (Err NoMemory) given bad other spells = cc
+
+-- a text spells one session
+pub spelled_once : (text : List ℕ) (one other : PlainSession) → Spells text one → Spells text other → one ≡ other
+spelled_once text one other h k = same_Some _ _ (sym (spelled_is_read text one h) ∙ spelled_is_read text other k)

@@ -4,8 +4,10 @@
 mod drafts;
 mod faults;
 mod items;
+mod laws;
 mod reader;
 mod words;
 
 pub use faults::TextFault;
+pub use laws::{spelled_sessions_fit, spells_one_session, worked_texts_spell_their_sessions};
 pub use reader::parse;
