@@ -258,7 +258,7 @@ fn call_of(alloc: Global, verb: Verb) -> Result<Call, NoMemory>
 fn name_of(word: &[u8]) -> Result<ArrayString<16>, TextFault>
     ensures { Gives (λ name. name.bytes) result (if is_name word.now then Some word.now else None) }
 {
-    if word.len() > 16 || !begins_name(word) || !are_name_bytes(word) {
+    if !begins_name(word) || !are_name_bytes(word) {
         return Err(TextFault::Bad);
     }
     let mut name = ArrayString::new();

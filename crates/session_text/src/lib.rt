@@ -11,3 +11,6 @@ mod words;
 pub use faults::TextFault;
 pub use laws::{spelled_sessions_fit, spells_one_session, worked_texts_spell_their_sessions};
 pub use reader::parse;
+
+#[cfg(test)]
+mod tests;

@@ -1,8 +1,8 @@
-ghost use Rattle.std.specs.Prelude.{◌≡◌, Some, None, IfOk, map, option_map};
+ghost use Rattle.std.specs.Prelude.{◌≡◌, [], IfOk, map, option_map};
 ghost use Rattle.tty_calls.specs.Sessions.{PlainSession, session_of as session_view, phase_of};
 ghost use Rattle.session_text.specs.Items.{items_of};
 ghost use Rattle.session_text.specs.Grammar.{Spells};
-ghost use Rattle.session_text.specs.Drafts.{draft_of, Gives, fresh, phases_from, at_end, first_phases, after_head as head_read, session_with, session_in};
+ghost use Rattle.session_text.specs.Drafts.{draft_of, Gives, fresh, phases_from, nothing_after as nothing_follows, first_phases, after_head as head_read, session_with, session_in};
 
 use super::drafts::Draft;
 use super::faults::TextFault;
@@ -47,9 +47,7 @@ fn phases_of(alloc: Global, text: &[u8]) -> Result<Buffer<Phase>, TextFault>
     match next_item(text) {
         Some((Item::Phase, rest)) => phases_after(alloc, rest),
         Some((Item::End, rest)) => {
-            if next_item(rest).is_some() {
-                return Err(TextFault::Bad);
-            }
+            nothing_after(rest)?;
             Ok(Buffer::new(alloc))
         }
         _ => Err(TextFault::Bad),
@@ -62,23 +60,29 @@ fn phases_after(alloc: Global, text: &[u8]) -> Result<Buffer<Phase>, TextFault>
 {
     let mut draft = Draft::new(alloc);
     let mut rest = text;
-    while let Some((item, after)) = next_item(rest) {
-        if let Item::End = item {
-            return finish(alloc, draft, after);
+    'items: loop {
+        match next_item(rest) {
+            None => return Err(TextFault::Bad),
+            Some((Item::End, after)) => {
+                nothing_after(after)?;
+                return draft.finish(alloc);
+            }
+            Some((item, after)) => {
+                draft.read(alloc, item)?;
+                rest = after;
+            }
         }
-        draft.read(alloc, item)?;
-        rest = after;
     }
-    Err(TextFault::Bad)
 }
 
-fn finish(alloc: Global, draft: Draft, rest: &[u8]) -> Result<Buffer<Phase>, TextFault>
-    ensures { Gives (λ phases. map phase_of phases.items) result (at_end (draft_of draft) (items_of rest.now)) }
+/// No item may follow the end.
+fn nothing_after(text: &[u8]) -> Result<(), TextFault>
+    ensures { Gives (λ _. []) result (nothing_follows (items_of text.now)) }
 {
-    if next_item(rest).is_some() {
-        return Err(TextFault::Bad);
+    match next_item(text) {
+        None => Ok(()),
+        Some(_) => Err(TextFault::Bad),
     }
-    draft.finish(alloc)
 }
 
 fn session_of(alloc: Global, phases: Buffer<Phase>) -> Result<Session, NoMemory>
