@@ -1,1 +1,5 @@
+mod Answering
+mod Casting
 mod Joined
+mod Numbering
+mod Putting

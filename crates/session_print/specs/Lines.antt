@@ -8,8 +8,8 @@ use Rattle.tty_base.specs.declared.counters.Signal.TheVariants.{Int, Quit, Susp}
 use Rattle.tty_base.specs.declared.counters.Errno.{Errno}
 use Rattle.tty_base.specs.declared.counters.Errno.TheVariants.{EBADF, EEXIST, EBUSY, EAGAIN, EIO, EINVAL, ENOTTY, EMSGSIZE}
 use Rattle.tty_calls.specs.declared.journals.PortRun.{PortRun}
-use Rattle.tty_calls.specs.declared.answers.PortEnd.{PortEnd}
 use Rattle.tty_calls.specs.declared.journals.Entry.{Entry}
+use Rattle.session_print.specs.Ends.{PlainEnd}
 use Rattle.tty_calls.specs.Plain.{event_of, PlainCall, opens, closes, reads, sets_modes, PlainAnswer, done, got, refused, idle, PlainEvent, answered, parted, waited, flushed, ticked, line_ended, clock_ended, caller_ended, phase_ended, hung_up}
 
 abbrev pub errno_name : Errno → List ℕ
@@ -124,7 +124,7 @@ abbrev pub ended : List ℕ → List ℕ
 ended line = line ++ 10 ∷ []
 
 -- what a report says of a port, after its calls
-abbrev pub port_text : PortRun → PortEnd → List ℕ
+abbrev pub port_text : PortRun → PlainEnd → List ℕ
 port_text run end =
     ended (line_line run.line) ++ (ended (input_line run.journal.items) ++ (ended (counts_line end.counts)
-    ++ (ended (signals_line end.signals.items) ++ (ended (generation_line end.generation) ++ (ended (wire_line end.wire.items) ++ ended (codes "done"))))))
+    ++ (ended (signals_line end.signals) ++ (ended (generation_line end.generation) ++ (ended (wire_line end.wire) ++ ended (codes "done"))))))

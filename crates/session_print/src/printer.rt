@@ -1,8 +1,12 @@
 ghost use Rattle.std.specs.Prelude.{◌≡◌, ◌++◌, ◌∷◌, [], ℕ, List, ◌<◌, ◌^◌, IfOk, OnOk, string_bytes};
 ghost use Rattle.tty_calls.specs.Plain.{call_of, answer_of, event_of};
+ghost use Rattle.tty_calls.specs.Sessions.{session_of};
+ghost use Rattle.session_print.specs.Ends.{end_of};
+ghost use Rattle.session_print.specs.Report.{report_text};
 ghost use Rattle.session_print.specs.Lines.{errno_name as name_of_errno, signal_name as name_of_signal, verb_of as verb_in, answer_text as answer_in, got_text as got_in, call_line, line_line, input_line, counts_line, receiver_counts, packet_counts, signals_line, generation_line, wire_line, ended, port_text, taken_count, dropped_count, taken_in as taken_by, dropped_in as dropped_by};
 
-use super::callers::Callers;
+use super::calls::put_calls;
+use super::texts::{put, put_line};
 use std::alloc::{AllocError, Global};
 use tty_base::{Bytes, Counts, Errno, LineReport, NoMemory, Signal};
 use tty_calls::{Answer, Call, Entry, Event, PortEnd, PortRun, Script, Session};
@@ -16,7 +20,7 @@ pub fn report(
 ) -> Result<Bytes, NoMemory>
     requires taken { taken_count run.now.journal.items < 2 ^ 64 }
     requires dropped { dropped_count run.now.journal.items < 2 ^ 64 }
-    ensures { IfOk result (λ text. (calls : List ℕ) × (text.items ≡ calls ++ port_text run.now end.now)) }
+    ensures { IfOk result (λ text. text.items ≡ report_text (session_of session.now) run.now (end_of end.now)) }
 {
     let mut text = Bytes::new(alloc);
     put_calls(alloc, &mut text, session, run.journal.as_slice())?;
@@ -24,28 +28,11 @@ pub fn report(
     Ok(text)
 }
 
-/// The lines of the calls.
-fn put_calls(
-    alloc: Global,
-    text: &mut Bytes,
-    session: &Session,
-    journal: &[Entry],
-) -> Result<(), NoMemory> {
-    let mut callers = Callers::new(alloc);
-    let mut entries = journal;
-    for phase in session.phases.as_slice() {
-        for script in phase.callers.as_slice() {
-            entries = put_script(alloc, text, &mut callers, script, entries)?;
-        }
-    }
-    Ok(())
-}
-
 /// The lines of a port.
 fn put_port(alloc: Global, text: &mut Bytes, run: &PortRun, end: &PortEnd) -> Result<(), NoMemory>
     requires taken { taken_count run.now.journal.items < 2 ^ 64 }
     requires dropped { dropped_count run.now.journal.items < 2 ^ 64 }
-    ensures { OnOk result (text.new.items ≡ text.old.items ++ port_text run.now end.now) }
+    ensures { OnOk result (text.new.items ≡ text.old.items ++ port_text run.now (end_of end.now)) }
 {
     put_line(text, line_text(alloc, &run.line)?)?;
     put_line(text, input_text(alloc, run.journal.as_slice())?)?;
@@ -56,55 +43,10 @@ fn put_port(alloc: Global, text: &mut Bytes, run: &PortRun, end: &PortEnd) -> Re
     put(text, b"done\n")
 }
 
-fn put(text: &mut Bytes, bytes: &[u8]) -> Result<(), NoMemory>
-    ensures { OnOk result (text.new.items ≡ text.old.items ++ bytes.now) }
-{
-    text.reserve(bytes.len())?;
-    text.append(bytes);
-    Ok(())
-}
-
-fn put_line(text: &mut Bytes, line: String) -> Result<(), NoMemory>
-    ensures { OnOk result (text.new.items ≡ text.old.items ++ ended (string_bytes line)) }
-{
-    put(text, line.as_bytes())?;
-    put(text, b"\n")
-}
-
-/// The first answer of a journal, and what follows it.
-fn next_answer(entries: &[Entry]) -> Option<(&Answer, &[Entry])> {
-    for (at, entry) in entries.iter().enumerate() {
-        if let Event::Answer(answer, _) = &entry.event {
-            return Some((answer, &entries[at + 1..]));
-        }
-    }
-    None
-}
-
-fn put_script<'a>(
-    alloc: Global,
-    text: &mut Bytes,
-    callers: &mut Callers,
-    script: &Script,
-    entries: &'a [Entry],
-) -> Result<&'a [Entry], NoMemory> {
-    let number = callers.number(&script.name)?;
-    let mut rest = entries;
-    for call in script.calls.as_slice() {
-        let step = callers.take_step(number);
-        if let Some((answer, after)) = next_answer(rest) {
-            let line = call_text(alloc, script.name.as_str(), step, call, answer)?;
-            put_line(text, line)?;
-            rest = after;
-        }
-    }
-    Ok(rest)
-}
-
-fn call_text(
+pub(crate) fn call_text(
     alloc: Global,
     name: &str,
-    step: u32,
+    step: usize,
     call: &Call,
     answer: &Answer,
 ) -> Result<String, AllocError>
