@@ -1,3 +1,8 @@
+ghost use Rattle.std.specs.Prelude.{◌≡◌, ◌<◌, ◌^◌, [], IfOk};
+ghost use Rattle.tty_calls.specs.declared.journals.Who.TheVariants.{Caller};
+ghost use Rattle.tty_calls.specs.declared.journals.Event.TheVariants as events;
+ghost use Rattle.session_print.specs.Lines.{taken_count, dropped_count};
+
 use super::*;
 use arrayvec::ArrayString;
 use std::alloc::{AllocError, Global};
@@ -27,7 +32,9 @@ fn phase_of(alloc: Global, callers: Vec<Script>) -> Phase {
     }
 }
 
-fn entry_of(who: Who, step: u32, event: Event) -> Entry {
+fn entry_of(who: Who, step: u32, event: Event) -> Entry
+    ensures { result ≡ record { who = who; step = step; part = 0; generation = 0; event = event } }
+{
     Entry {
         who,
         step,
@@ -37,7 +44,9 @@ fn entry_of(who: Who, step: u32, event: Event) -> Entry {
     }
 }
 
-fn answer_of(alloc: Global, caller: u16, step: u32, answer: Answer) -> Entry {
+fn answer_of(alloc: Global, caller: u16, step: u32, answer: Answer) -> Entry
+    ensures { result ≡ record { who = Caller caller; step = step; part = 0; generation = 0; event = events.Answer answer (record { items = []; spare = 0 }) } }
+{
     entry_of(
         Who::Caller(caller),
         step,
@@ -67,7 +76,10 @@ fn two_callers(alloc: Global) -> Result<Session, AllocError> {
     })
 }
 
-fn run_of_two(alloc: Global) -> Result<PortRun, AllocError> {
+fn run_of_two(alloc: Global) -> Result<PortRun, AllocError>
+    ensures taken { IfOk result (λ run. taken_count run.journal.items < 2 ^ 64) }
+    ensures dropped { IfOk result (λ run. dropped_count run.journal.items < 2 ^ 64) }
+{
     let hi = Buffer::from_vec(vec![in alloc; Flagged::default(), Flagged::default()]?);
     let got = Bytes::from_vec(b"hi".to_vec(alloc)?);
     let journal = vec![in alloc;
