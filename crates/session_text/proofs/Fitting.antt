@@ -1,5 +1,5 @@
 -- What a text spells is a session of the first path.
-use Rattle.std.proofs.Common.{◌≡◌, ℕ, ◌+◌, ◌≤◌, ◌<◌, Bool, true, false, cond, List, [], ◌∷◌, ◌++◌, length, map, refl, sym, ap, subst, ◌∙◌, arith}
+use Rattle.std.proofs.Common.{◌≡◌, ℕ, ◌≤◌, Bool, true, false, cond, List, [], ◌∷◌, ◌++◌, length, map, refl, sym, subst, arith}
 use Rattle.std.specs.Prelude.{flat_map, sum_by, codes}
 use Rattle.std.specs.List.{AllByRecursion}
 use Rattle.std.specs.Str.{bytes_eq}
@@ -10,10 +10,10 @@ use Rattle.tty_calls.specs.declared.calls.Access.TheVariants.{Rw}
 use Rattle.tty_calls.specs.declared.calls.When.TheVariants.{Now}
 use Rattle.tty_calls.specs.declared.calls.Word.TheVariants.{Raw}
 use Rattle.tty_calls.specs.Plain.{PlainCall, opens, closes, reads, sets_modes}
-use Rattle.tty_calls.specs.Sessions.{PlainScript, PlainPhase, PlainSession, line_on}
+use Rattle.tty_calls.specs.Sessions.{PlainSession, line_on}
 use Rattle.session_text.specs.Text.{lines_of, words_of}
-use Rattle.session_text.specs.Items.{PlainItem, wrong, header, ports, phase, line, rx, caller, calls, ends, alone, only, first_is, is_count, number_of, rx_in, caller_in, open_in, modes_in, read_in, read_or_close_in, call_on, call_in, end_or_call_in, block_in, item_in, items_in, items_of}
-use Rattle.session_text.specs.Grammar.{Block, line_block, caller_block, block_items, phase_items, session_items, good_character, bytes_of, characters, lines_in, scripts_in, characters_in, phase_meaning, steps_in, IsGoodPhase, IsGood, Spells}
+use Rattle.session_text.specs.Items.{PlainItem, wrong, header, ports, phase, line, rx, caller, calls, ends, alone, only, first_is, is_count, number_of, rx_in, caller_in, open_in, modes_in, read_in, read_or_close_in, call_on, call_in, block_in, item_in, items_in, items_of}
+use Rattle.session_text.specs.Grammar.{Block, line_block, caller_block, block_items, phase_items, session_items, good_character, bytes_of, characters, lines_in, scripts_in, characters_in, phase_meaning, steps_in, IsGoodPhase, Spells}
 use Rattle.session_text.specs.Fits.{AreGoodSteps, IsPlayable, ArePlayable, ScriptsFit, PhaseFits, PhasesFit, calls_in, characters_in as characters_of, Fits}
 
 -- ---- each call of a text is playable

@@ -3,3 +3,5 @@ pub mod Fitting
 mod Reading
 pub mod Spelled
 mod Splits
+mod Tails
+mod Taken

@@ -32,7 +32,7 @@ draft_of d = record {
   characters_left = d.characters_left;
 }
 
--- the draft that begins with a phase
+-- the draft that begins with a phase, the first of 64
 abbrev pub fresh : PlainDraft
 fresh = record { place = Phase; phases = []; line = None; script = None; phases_left = 63; steps_left = 65536; characters_left = 262144 }
 

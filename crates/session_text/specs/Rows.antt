@@ -7,7 +7,7 @@ use Rattle.tty_calls.specs.declared.calls.Access.TheVariants.{Rw}
 use Rattle.tty_calls.specs.declared.calls.When.TheVariants.{Now}
 use Rattle.tty_calls.specs.declared.calls.Word.TheVariants.{Raw}
 use Rattle.tty_calls.specs.Plain.{PlainCall, opens, closes, reads, sets_modes}
-use Rattle.tty_calls.specs.Sessions.{PlainScript, PlainPhase, PlainSession}
+use Rattle.tty_calls.specs.Sessions.{PlainScript, PlainSession}
 
 abbrev pub three_bytes_text : List ℕ
 three_bytes_text = codes "tty-session 1\nports 1\nphase\ncaller a 0\nopen 0 rw nonblock\nmodes 0 now raw\nphase\nline 0\nrx 68690a\ncaller a 0\nread 0 64\nclose 0\nend\n"
