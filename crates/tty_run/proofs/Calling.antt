@@ -1,5 +1,6 @@
 -- A caller's calls, one after the other.
-use Rattle.std.proofs.Common.{◌≡◌, ℕ, zero, suc, List, [], ◌∷◌, true, false, ◌+◌, ◌<◌, length, refl, sym, ap, subst, ◌∙◌, arith, length-append}
+use Rattle.std.proofs.Common.{◌≡◌, ℕ, zero, suc, List, [], ◌∷◌, Bool, true, false, ◌+◌, ◌<◌, length, refl, sym, ap, subst, ◌∙◌, arith, length-append, cond}
+use Rattle.std.proofs.lemmas.List.Sums.{sum_by-set}
 use Rattle.std.specs.Prelude.{slice_set, slice_index_or}
 use Rattle.std.proofs.lemmas.Bool.{false≢true}
 use Rattle.tty_calls.specs.Plain.{PlainEntry}
@@ -89,6 +90,9 @@ playing_stays first v w c step h s sends =
 pub between_calls : (v : PortValue) (runs c : ℕ) → Rests v runs → has_begun (caller_at v.terminal c) ≡ false
 between_calls v runs c h = ap is_bound (idle_at v.terminal.callers c h.idle).1
 
+abbrev over_mark : Bool → ℕ
+over_mark b = cond b 1 0
+
 -- the end of the caller's calls
 pub caller_ends : (first v new : PortValue) (runs c step : ℕ) → Playing first v c step → Rests v runs → Appends v new (end_entry v c) → Rests new runs × Ends first new c step
 caller_ends first v new runs c step h rests made =
@@ -103,6 +107,7 @@ caller_ends first v new runs c step h rests made =
         next_run = rests.next_run;
         below = below_more runs v.journal e rests.below (λ f. absurd (false≢true f));
         few = omega (arith, rests.few, length-append v.journal (e ∷ []));
+        taken = rests.taken;
         limit = rests.limit;
       },
       record {
@@ -112,5 +117,10 @@ caller_ends first v new runs c step h rests made =
         counts = h.counts;
         steps = steps_set v.terminal.callers c (record s { over = true }) ∙ ap (λ ns. slice_set ns c s.next) h.steps ∙ set_again (steps_of first.terminal.callers) c step s.next ∙ ap (λ n. slice_set (steps_of first.terminal.callers) c n) (sym h.next);
         sends = h.sends;
+        over = omega (
+          arith,
+          sum_by-set (λ (x : CallerState). over_mark x.over) v.terminal.callers c (record s { over = true }) idle_caller h.within,
+          ap over_mark h.over,
+        );
       },
     )

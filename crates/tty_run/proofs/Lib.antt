@@ -1,6 +1,13 @@
+mod Acts
 mod Calling
+mod Finished
 mod Flushing
 mod Moved
+mod Names
+mod OnePhase
+mod Parts
 mod Phases
+mod Received
 mod RunOne
+mod Sizes
 mod Stages

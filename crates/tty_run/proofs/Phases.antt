@@ -47,7 +47,7 @@ length_set [] c n = refl
 length_set (x ∷ xs) zero n = refl
 length_set (x ∷ xs) (suc c) n = ap (λ m. suc m) (length_set xs c n)
 
-pub script_played : (old new : PortValue) (steps : List ℕ) (c step : ℕ) → Casts old steps → Ends old new c step → PlaysCallers old new (slice_set steps c step)
+pub script_played : (old new : PortValue) (steps : List ℕ) (c step : ℕ) → Casts old steps → Ends old new c step → PlaysCallers old new (slice_set steps c step) 1
 script_played old new steps c step h e =
     record {
       phase = e.phase;
@@ -57,10 +57,11 @@ script_played old new steps c step h e =
       sends = e.sends;
       at_steps = e.steps ∙ ap (λ ns. slice_set ns c step) h.at_steps;
       total = length_set steps c step ∙ h.total ∙ ap sum (sym e.counts);
+      over = e.over;
     }
 
-pub none_played : (v : PortValue) (steps : List ℕ) → Casts v steps → PlaysCallers v v steps
-none_played v steps h = record { phase = refl; line = refl; clock = refl; counts = refl; sends = λ all. all; at_steps = h.at_steps; total = h.total }
+pub none_played : (v : PortValue) (steps : List ℕ) → Casts v steps → PlaysCallers v v steps 0
+none_played v steps h = record { phase = refl; line = refl; clock = refl; counts = refl; sends = λ all. all; at_steps = h.at_steps; total = h.total; over = omega arith }
 
 -- the clock
 pub record EndsClock (old new : PortValue) : Type 0 where
@@ -80,6 +81,7 @@ clock_ends first v new runs s sends h made =
         next_run = h.next_run;
         below = below_more runs v.journal e h.below (λ f. absurd (false≢true f));
         few = omega (arith, h.few, length-append v.journal (e ∷ []));
+        taken = h.taken;
         limit = h.limit;
       },
       record { phase = s.phase; callers = s.callers; counts = s.counts; sends = sends },
@@ -109,6 +111,7 @@ phase_ends first v new runs s h made =
         next_run = h.next_run;
         below = below_more runs v.journal e h.below (λ f. absurd (false≢true f));
         few = omega (arith, h.few, length-append v.journal (e ∷ []));
+        taken = h.taken;
         limit = h.limit;
       },
       record {
@@ -131,8 +134,8 @@ casts_after_line old new steps h e =
       total = h.total ∙ ap sum (sym e.counts);
     }
 
-pub phase_played : (first lined called new : PortValue) (steps : List ℕ) → EndsLine first lined → PlaysCallers lined called steps → Passes called new → Begins new steps (first.terminal.phase + 1)
-phase_played first lined called new steps l p q =
+pub phase_played : (first lined called new : PortValue) (steps : List ℕ) (callers : ℕ) → EndsLine first lined → PlaysCallers lined called steps callers → Passes called new → Begins new steps (first.terminal.phase + 1)
+phase_played first lined called new steps callers l p q =
     record {
       line = q.line;
       clock = q.clock;
@@ -166,7 +169,7 @@ abbrev pub new_port : List ℕ → PortValue
 new_port counts = record { terminal = opening (sum counts); journal = []; kept = []; counts = counts; limit = 4194304; starved = false; given = [] }
 
 pub rests_new : (counts : List ℕ) → Rests (new_port counts) 0
-rests_new counts = record { idle = idle_new (sum counts); nonblock = nonblock_new 32; kept = tt; next_run = refl; below = tt; few = omega arith; limit = refl }
+rests_new counts = record { idle = idle_new (sum counts); nonblock = nonblock_new 32; kept = tt; next_run = refl; below = tt; few = omega arith; taken = omega arith; limit = refl }
 
 pub begins_new : (counts : List ℕ) → Begins (new_port counts) (replicate (sum counts) 0) 0
 begins_new counts =

@@ -16,7 +16,9 @@ use Rattle.tty_terminal.specs.Outcomes.{Outcome, unknown, waits, gives, refuses,
 use Rattle.tty_terminal.specs.Steps.{MustWait, left_by, answered_caller, follows}
 use Rattle.tty_terminal.specs.Runs.{is_flush, RunHas}
 use Rattle.port_core.specs.Ports.{PortValue, PlainKept, done_by, must_wait, call_in, kept_with, with_call, with_entry, caller_entry, Attempts, IsReady}
-use Rattle.tty_run.specs.Stages.{IsIdle, AreIdle, steps_of, IsNonblock, AreNonblock, OpensNonblock, KeepsNonblock, RunsBelow, Rests, Stays, Called, IsDone, AllSent}
+use Rattle.session_text.specs.Fits.{OpensNonblock}
+use Rattle.tty_run.specs.Playing.{AddsFlushes, AddsAnswer}
+use Rattle.tty_run.specs.Stages.{IsIdle, AreIdle, steps_of, IsNonblock, AreNonblock, KeepsNonblock, RunsBelow, Rests, Stays, Called, IsDone, AllSent}
 use Rattle.port_core.specs.declared.ports.Tried.{Tried}
 use Rattle.port_core.specs.declared.ports.Tried.TheVariants.{Done, Part, MustWait as waits_still}
 use Rattle.port_core.specs.Tries.{tried_of}
@@ -36,6 +38,10 @@ received_same t [] = record { handles = refl; phase = refl; line = refl; clock =
 received_same t (c ∷ cs) =
     let r = received_same (received t c) cs in
     record { handles = r.handles; phase = r.phase; line = r.line; clock = r.clock; callers = r.callers; generation = r.generation; sent = r.sent }
+
+pub received_taken : (t : Terminal) (cs : List Flagged) → (received_all t cs).taken ≡ t.taken + length cs
+received_taken t [] = omega arith
+received_taken t (c ∷ cs) = omega (arith, received_taken (received t c) cs)
 
 pub idle_at : (cs : List CallerState) (c : ℕ) → AreIdle cs → IsIdle (slice_index_or cs c idle_caller)
 idle_at [] c h = (refl, refl)
@@ -80,6 +86,7 @@ pub record Leaves (t : Terminal) (o : Outcome) : Type 0 where
   pub callers : (left_by o t).callers ≡ t.callers
   pub flushed : (left_by o t).flushed ≡ t.flushed
   pub sent : (left_by o t).sent ≡ t.sent
+  pub taken : (left_by o t).taken ≡ t.taken
   pub nonblock : AreNonblock (left_by o t).handles
   pub no_wait : MustWait o → ⊥
 
@@ -88,12 +95,12 @@ either t true x y p q = p
 either t false x y p q = q
 
 still : (t : Terminal) (a : PlainAnswer) → AreNonblock t.handles → Leaves t (gives a false t)
-still t a n = record { phase = refl; line = refl; clock = refl; callers = refl; flushed = refl; sent = refl; nonblock = n; no_wait = λ m. m }
+still t a n = record { phase = refl; line = refl; clock = refl; callers = refl; flushed = refl; sent = refl; taken = refl; nonblock = n; no_wait = λ m. m }
 
 opening_leaves : (t : Terminal) (h : ℕ) (access : Access) (nonblock : Bool) → nonblock ≡ true → AreNonblock t.handles → Leaves t (opening_outcome t h access nonblock)
 opening_leaves t h access nonblock e n =
     let made : Outcome = gives done false (record t { handles = slice_set t.handles h (Some (record { access = access; nonblock = nonblock; live = true })) }) in
-    let opened : Leaves t made = record { phase = refl; line = refl; clock = refl; callers = refl; flushed = refl; sent = refl; nonblock = nonblock_set t.handles h (Some (record { access = access; nonblock = nonblock; live = true })) n e; no_wait = λ m. m } in
+    let opened : Leaves t made = record { phase = refl; line = refl; clock = refl; callers = refl; flushed = refl; sent = refl; taken = refl; nonblock = nonblock_set t.handles h (Some (record { access = access; nonblock = nonblock; live = true })) n e; no_wait = λ m. m } in
     either t (is_some (handle_at t h)) (refuses EEXIST t) (cond t.exclusive (refuses EBUSY t) made) (still t (refused EEXIST) n) (either t t.exclusive (refuses EBUSY t) made (still t (refused EBUSY) n) opened)
 
 closing_leaves : (t : Terminal) (h : ℕ) (o : Option Handle) → AreIdle t.callers → AreNonblock t.handles → Leaves t (closing_outcome t h o)
@@ -101,8 +108,8 @@ closing_leaves t h None i n = still t (refused EBADF) n
 closing_leaves t h (Some handle) i n =
     let same = closing_same h t.callers i in
     let set = nonblock_set t.handles h None n tt in
-    let last : Leaves t (gives done false (last_closed (freed t h))) = record { phase = refl; line = refl; clock = refl; callers = same; flushed = refl; sent = refl; nonblock = set; no_wait = λ m. m } in
-    let other : Leaves t (gives done false (freed t h)) = record { phase = refl; line = refl; clock = refl; callers = same; flushed = refl; sent = refl; nonblock = set; no_wait = λ m. m } in
+    let last : Leaves t (gives done false (last_closed (freed t h))) = record { phase = refl; line = refl; clock = refl; callers = same; flushed = refl; sent = refl; taken = refl; nonblock = set; no_wait = λ m. m } in
+    let other : Leaves t (gives done false (freed t h)) = record { phase = refl; line = refl; clock = refl; callers = same; flushed = refl; sent = refl; taken = refl; nonblock = set; no_wait = λ m. m } in
     either t (handle.live && (live_count (freed t h) == 0)) (gives done false (last_closed (freed t h))) (gives done false (freed t h)) last other
 
 never_waits : (t : Terminal) (b : Bool) → b ≡ true → AreNonblock t.handles → Leaves t (cond b (refuses EAGAIN t) waits)
@@ -114,7 +121,7 @@ reading_leaves t n None e h = still t (refused EBADF) h
 reading_leaves t n (Some handle) e h =
     let given : Outcome = gives (got (take (min n 4096) t.unread)) false (record t { unread = drop (min n 4096) t.unread }) in
     let none : Outcome = cond handle.nonblock (refuses EAGAIN t) waits in
-    let read : Leaves t given = record { phase = refl; line = refl; clock = refl; callers = refl; flushed = refl; sent = refl; nonblock = h; no_wait = λ m. m } in
+    let read : Leaves t given = record { phase = refl; line = refl; clock = refl; callers = refl; flushed = refl; sent = refl; taken = refl; nonblock = h; no_wait = λ m. m } in
     let live : Outcome = cond (length t.unread == 0) none given in
     let some : Outcome = cond (not handle.live) (gives (got []) false t) live in
     either t (not (may_read handle.access)) (refuses EBADF t) some (still t (refused EBADF) h)
@@ -165,7 +172,7 @@ keeps_call true ks c step call h n = h
 keeps_call false ks c step call h n = kept_more ks _ h n
 
 unknown_leaves : (t : Terminal) → AreNonblock t.handles → Leaves t unknown
-unknown_leaves t n = record { phase = refl; line = refl; clock = refl; callers = refl; flushed = refl; sent = refl; nonblock = n; no_wait = λ m. m }
+unknown_leaves t n = record { phase = refl; line = refl; clock = refl; callers = refl; flushed = refl; sent = refl; taken = refl; nonblock = n; no_wait = λ m. m }
 
 found_leaves : (t : Terminal) (s : CallerState) (b : Bool) (call : PlainCall) (o : Option PlainCall) → IsIdle s → AreIdle t.callers → AreNonblock t.handles → OpensNonblock call → Leaves t (outcome_of t s o) → Leaves t (outcome_of t s (cond b (Some call) o))
 found_leaves t s true call o i is n e h = call_leaves t s call i is n e
@@ -191,6 +198,7 @@ answer_made v runs c step call a h n =
         next_run = subst (λ (p : Option Piece). IsTrue (follows p runs 0)) (sym leaves.flushed) h.next_run;
         below = below_more runs v.journal (caller_entry v c (answered a [])) h.below (λ f. absurd (false≢true f));
         few = omega (arith, h.few, length-append v.journal (caller_entry v c (answered a []) ∷ []));
+        taken = omega (arith, h.taken, leaves.taken);
         limit = h.limit;
       },
       record { phase = leaves.phase; line = leaves.line; clock = leaves.clock; callers = set; counts = refl; sends = λ all. leaves.sent ∙ all },
@@ -205,21 +213,8 @@ pub no_wait : (v new : PortValue) (runs c step : ℕ) (call : PlainCall) → Res
 no_wait v new runs c step call h n made = (call_leaves v.terminal (caller_at v.terminal c) call (idle_at v.terminal.callers c h.idle) h.idle h.nonblock n).no_wait made.0
 
 -- characters that came change nothing else
-pub rests_given : (v : PortValue) (given : List Flagged) (runs : ℕ) → Rests v runs → Rests (record v { given = given }) runs
-rests_given v given runs h = record { idle = h.idle; nonblock = h.nonblock; kept = h.kept; next_run = h.next_run; below = h.below; few = h.few; limit = h.limit }
-
--- an entry of the line, the clock or a caller's end
-pub rests_on : (v new : PortValue) (runs : ℕ) → Rests v runs → AreIdle new.terminal.callers → new.terminal.handles ≡ v.terminal.handles → new.terminal.flushed ≡ v.terminal.flushed → new.kept ≡ v.kept → new.limit ≡ v.limit → RunsBelow runs new.journal → runs ≤ length new.journal → Rests new runs
-rests_on v new runs h idle handles flushed kept limit below few =
-    record {
-      idle = idle;
-      nonblock = subst AreNonblock (sym handles) h.nonblock;
-      kept = subst KeepsNonblock (sym kept) h.kept;
-      next_run = subst (λ (p : Option Piece). IsTrue (follows p runs 0)) (sym flushed) h.next_run;
-      below = below;
-      few = few;
-      limit = limit ∙ h.limit;
-    }
+pub rests_given : (v : PortValue) (given : List Flagged) (runs : ℕ) → length v.given ≤ length given → Rests v runs → Rests (record v { given = given }) runs
+rests_given v given runs grows h = record { idle = h.idle; nonblock = h.nonblock; kept = h.kept; next_run = h.next_run; below = h.below; few = h.few; taken = omega (arith, h.taken, grows); limit = h.limit }
 
 -- what an attempt needs, after other acts
 pub ready_after : (a b : PortValue) (runs c step : ℕ) (call : PlainCall) → Stays a b → Rests b runs → c < sum a.counts → step ≡ (caller_at a.terminal c).next → (caller_at a.terminal c).over ≡ false → handle_of call < 32 → IsReady b c step call
@@ -250,3 +245,31 @@ then_called a b d c s sends h =
       counts = h.counts ∙ s.counts;
       sends = λ all. h.sends (sends all);
     }
+
+-- the answer that an attempt after a flush run adds
+answer_entry : (old mid new : PortValue) (runs c step : ℕ) (call : PlainCall) (a : PlainAnswer) → AddsFlushes old mid → Rests mid runs → OpensNonblock call → step ≡ (caller_at mid.terminal c).next → Attempts mid new c step call (done_by a) → AddsAnswer old new c step call
+answer_entry old mid new runs c step call a f rests n at made =
+    let idle = idle_at mid.terminal.callers c rests.idle in
+    record {
+      mid = mid;
+      flushes = f;
+      entry = caller_entry mid c (answered a []);
+      made_by = refl;
+      at_step = sym at;
+      answer = a;
+      answers = refl;
+      journal = ap (λ (x : PortValue). x.journal) made.appended;
+      phase = (call_made mid new runs c step call a rests n made).1.phase;
+      kept = ap (λ (x : PortValue). x.kept) made.appended ∙ ap (λ (b : Bool). kept_with b mid.kept c step call) (ap is_bound idle.1);
+      counts = ap (λ (x : PortValue). x.counts) made.appended;
+    }
+
+pub answer_added : (old mid new : PortValue) (runs c step : ℕ) (call : PlainCall) (tried : Tried) → AddsFlushes old mid → Rests mid runs → OpensNonblock call → step ≡ (caller_at mid.terminal c).next → Attempts mid new c step call (tried_of tried) → AddsAnswer old new c step call
+answer_added old mid new runs c step call (Done answer) f rests n at made = answer_entry old mid new runs c step call (answer_of answer) f rests n at made
+answer_added old mid new runs c step call Part f rests n at made = absurd made
+answer_added old mid new runs c step call waits_still f rests n at made = absurd (no_wait mid new runs c step call rests n made)
+
+pub attempt_keeps : (mid new : PortValue) (c step : ℕ) (call : PlainCall) (tried : Tried) → (Attempts mid new c step call must_wait → ⊥) → Attempts mid new c step call (tried_of tried) → new.given ≡ mid.given
+attempt_keeps mid new c step call (Done answer) none made = ap (λ (x : PortValue). x.given) made.appended
+attempt_keeps mid new c step call Part none made = absurd made
+attempt_keeps mid new c step call waits_still none made = absurd (none made)

@@ -1,12 +1,13 @@
 -- Where a port stands between two acts of its session.
-use Rattle.std.specs.Prelude.{◌≡◌, ℕ, List, [], ◌∷◌, true, false, IsTrue, Option, None, Some, ◌+◌, ◌<◌, ◌≤◌, ◌^◌, length, map, slice_set, sum}
-use Rattle.tty_calls.specs.Plain.{PlainCall, opens, closes, reads, sets_modes, PlainEntry, handle_of}
+use Rattle.std.specs.Prelude.{◌≡◌, ℕ, List, [], ◌∷◌, true, false, IsTrue, Option, None, Some, ◌+◌, ◌<◌, ◌≤◌, ◌^◌, length, map, slice_set, sum, count_by}
+use Rattle.tty_calls.specs.Plain.{PlainEntry}
 use Rattle.tty_terminal.specs.declared.callers.Handle.{Handle}
 use Rattle.tty_terminal.specs.declared.callers.CallerState.{CallerState}
 use Rattle.tty_terminal.specs.Terminals.{caller_at}
 use Rattle.tty_terminal.specs.Steps.{follows, answered_caller}
 use Rattle.tty_terminal.specs.Runs.{is_flush}
 use Rattle.tty_calls.specs.declared.journals.Entry.{Entry}
+use Rattle.session_text.specs.Fits.{OpensNonblock}
 use Rattle.session_print.specs.Lines.{taken_count, dropped_count}
 use Rattle.port_core.specs.Ports.{PortValue, PlainKept}
 use Rattle.port_core.specs.declared.ports.Tried.{Tried}
@@ -37,17 +38,6 @@ abbrev pub AreNonblock : List (Option Handle) → Type 0
 AreNonblock [] = Unit {0}
 AreNonblock (h ∷ hs) = IsNonblock h × AreNonblock hs
 
--- a call that opens no handle on which a read may wait
-abbrev pub OpensNonblock : PlainCall → Type 0
-OpensNonblock (opens h access nonblock) = nonblock ≡ true
-OpensNonblock (closes h) = Unit {0}
-OpensNonblock (reads h n) = Unit {0}
-OpensNonblock (sets_modes h when words) = Unit {0}
-
--- a call that can be played
-abbrev pub IsPlayable : PlainCall → Type 0
-IsPlayable call = (handle_of call < 32) × OpensNonblock call
-
 -- the calls that a port keeps open no such handle
 abbrev pub KeepsNonblock : List PlainKept → Type 0
 KeepsNonblock [] = Unit {0}
@@ -66,6 +56,7 @@ pub record Rests (v : PortValue) (runs : ℕ) : Type 0 where
   pub next_run : IsTrue (follows v.terminal.flushed runs 0)
   pub below : RunsBelow runs v.journal
   pub few : runs ≤ length v.journal
+  pub taken : v.terminal.taken ≤ length v.given
   pub limit : v.limit ≡ 4194304
 
 -- all characters that came were sent, as the last line end said
@@ -104,6 +95,10 @@ IsDone (Done answer) = Unit {0}
 IsDone Part = ⊥
 IsDone MustWait = ⊥
 
+-- how many callers are over
+abbrev pub overs : PortValue → ℕ
+overs v = count_by (λ s. s.over) v.terminal.callers
+
 -- a caller's calls of a phase were played up to its next step, and are over
 pub record Ends (old new : PortValue) (c step : ℕ) : Type 0 where
   pub phase : new.terminal.phase ≡ old.terminal.phase
@@ -112,6 +107,7 @@ pub record Ends (old new : PortValue) (c step : ℕ) : Type 0 where
   pub steps : steps_of new.terminal.callers ≡ slice_set (steps_of old.terminal.callers) c step
   pub counts : new.counts ≡ old.counts
   pub sends : AllSent old → AllSent new
+  pub over : 1 ≤ overs new
 
 -- each caller stands at its step, and none is over
 pub record Casts (v : PortValue) (steps : List ℕ) : Type 0 where
@@ -119,8 +115,8 @@ pub record Casts (v : PortValue) (steps : List ℕ) : Type 0 where
   pub at_steps : steps_of v.terminal.callers ≡ steps
   pub total : length steps ≡ sum v.counts
 
--- the callers of a phase were played, up to these steps
-pub record PlaysCallers (old new : PortValue) (steps : List ℕ) : Type 0 where
+-- so many callers of a phase were played, up to these steps
+pub record PlaysCallers (old new : PortValue) (steps : List ℕ) (callers : ℕ) : Type 0 where
   pub phase : new.terminal.phase ≡ old.terminal.phase
   pub line : new.terminal.line_over ≡ old.terminal.line_over
   pub clock : new.terminal.clock_over ≡ old.terminal.clock_over
@@ -128,6 +124,7 @@ pub record PlaysCallers (old new : PortValue) (steps : List ℕ) : Type 0 where
   pub sends : AllSent old → AllSent new
   pub at_steps : steps_of new.terminal.callers ≡ steps
   pub total : length steps ≡ sum new.counts
+  pub over : callers ≤ overs new
 
 -- a phase ends, and the next one begins
 pub record Passes (old new : PortValue) : Type 0 where

@@ -2,7 +2,9 @@
 //! what happened is written.
 #![tactic(auto)]
 
+mod laws;
 mod one_thread;
 mod top;
 
+pub use laws::{changed_three_bytes_is_not_finished, three_bytes_is_finished};
 pub use top::{Ran, Runs, tty_run};

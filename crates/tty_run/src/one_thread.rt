@@ -1,7 +1,16 @@
-ghost use Rattle.std.specs.Prelude.{◌≡◌, ◌+◌, ◌<◌, ◌≤◌, sum, length, replicate, IfOk, OnOk, IsTrue, false};
+ghost use Rattle.std.specs.Prelude.{◌≡◌, ℕ, ◌+◌, ◌<◌, ◌≤◌, [], ◌∷◌, ◌++◌, sum, length, map, flat_map, replicate, IfOk, IfErr, IfSome, IfNone, OnOk, OnErr, IsTrue, true, false, slice_get};
+ghost use Rattle.std.specs.Str.{bytes_eq};
+ghost use Rattle.std.specs.List.{list_any};
 ghost use Rattle.tty_calls.specs.Plain.{call_of};
+ghost use Rattle.tty_calls.specs.Sessions.{PlainSession, session_of, phase_of, script_of, scripts_on, ticks_on};
 ghost use Rattle.tty_terminal.specs.Terminals.{caller_at};
-ghost use Rattle.tty_run.specs.Stages.{Rests, Stays, Called, EndsLine, IsPlayable, IsDone, Ends, Casts, PlaysCallers, Passes, Begins, AllSent, CountsFit};
+ghost use Rattle.tty_terminal.specs.Steps.{callers_in};
+ghost use Rattle.port_core.specs.Ports.{is_stuck};
+ghost use Rattle.uart_line.specs.Received.{arrival};
+ghost use Rattle.session_text.specs.Fits.{Fits, PhasesFit, IsGoodStep, AreGoodSteps, IsPlayable};
+ghost use Rattle.tty_run.specs.Legal.{phase_at, caller_part, sent_by, Plays};
+ghost use Rattle.tty_run.specs.Playing.{AddsFlushes, AddsAnswer, IsAtLimit, Follows, StopsAt, Between, LineOver, none_yet, IsOnlyCaller, CastIs, texts, IsNumbered, Counted, IsBefore, PlayedAll, IsLeftOf};
+ghost use Rattle.tty_run.specs.Stages.{Rests, Stays, Called, EndsLine, IsDone, Ends, Casts, PlaysCallers, Passes, Begins, AllSent, CountsFit, overs};
 
 use arrayvec::ArrayString;
 use port_core::{Flushed, Port, Tried};
@@ -11,9 +20,6 @@ use tty_calls::{Call, Denied, Phase, PortEnd, PortRun, Script, Session};
 
 /// How many entries a port's journal may have.
 pub(crate) const JOURNAL: u32 = 4_194_304;
-
-/// The most phases that a session has.
-const PHASES: usize = 64;
 
 /// The receive FIFO's trigger, and the most that one flush moves.
 const TRIGGER: u32 = 8;
@@ -26,6 +32,10 @@ pub(crate) fn flush_run(port: &mut Port, run: u32) -> Result<u32, Denied>
     requires { Rests port.old run }
     ensures ok { IfOk result (λ next. Rests port.new next × Stays port.old port.new) }
     ensures sends { OnOk result (AllSent port.old → AllSent port.new) }
+    ensures given { OnOk result (port.new.given ≡ port.old.given) }
+    ensures stuck { OnOk result (is_stuck port.new ≡ true) }
+    ensures more { AddsFlushes port.old port.new }
+    ensures full { IfErr result (λ d. IsAtLimit port.new d) }
 {
     let mut part = 0;
     'pieces: while let Flushed::Took(_) = port.flush_piece(run, part, PIECE)? {
@@ -45,8 +55,14 @@ pub(crate) struct Fifo {
 fn play_step(port: &mut Port, run: u32, fifo: &mut Fifo, step: &LineStep) -> Result<u32, Denied>
     requires rests { Rests port.old run }
     requires below { fifo.old.waiting < 8 }
+    requires good { IsGoodStep step.now }
+    requires counted { Counted fifo.old.arrived port.old }
     ensures ok { IfOk result (λ next. Rests port.new next × Stays port.old port.new) }
     ensures below { OnOk result (fifo.new.waiting < 8) }
+    ensures given { OnOk result (port.new.given ≡ port.old.given ++ arrival step.now) }
+    ensures counted { OnOk result (Counted fifo.new.arrived port.new) }
+    ensures more { AddsFlushes port.old port.new }
+    ensures full { IfErr result (λ d. IsAtLimit port.new d) }
 {
     match step {
         LineStep::Rx(c) => {
@@ -54,7 +70,7 @@ fn play_step(port: &mut Port, run: u32, fifo: &mut Fifo, step: &LineStep) -> Res
             fifo.arrived = fifo.arrived.saturating_add(1);
             empty_at_trigger(port, run, fifo)
         }
-        _ => Ok(run),
+        _ => unreachable!(),
     }
 }
 
@@ -63,6 +79,10 @@ fn empty_at_trigger(port: &mut Port, run: u32, fifo: &mut Fifo) -> Result<u32, D
     requires below { fifo.old.waiting < 8 }
     ensures ok { IfOk result (λ next. Rests port.new next × Stays port.old port.new) }
     ensures below { OnOk result (fifo.new.waiting < 8) }
+    ensures given { OnOk result (port.new.given ≡ port.old.given) }
+    ensures arrived { fifo.new.arrived ≡ fifo.old.arrived }
+    ensures more { AddsFlushes port.old port.new }
+    ensures full { IfErr result (λ d. IsAtLimit port.new d) }
 {
     if fifo.waiting + 1 < TRIGGER {
         fifo.waiting += 1;
@@ -79,11 +99,19 @@ pub(crate) fn play_line(
     fifo: &mut Fifo,
     steps: &[LineStep],
 ) -> Result<u32, Denied>
+    ghost plain: { PlainSession }
     requires rests { Rests port.old run }
     requires open { port.old.terminal.line_over ≡ false }
     requires below { fifo.old.waiting < 8 }
+    requires good { AreGoodSteps steps.now }
+    requires counted { Counted fifo.old.arrived port.old }
+    requires between { Between plain port.old }
     ensures ok { IfOk result (λ next. Rests port.new next × EndsLine port.old port.new) }
     ensures below { OnOk result (fifo.new.waiting < 8) }
+    ensures given { OnOk result (port.new.given ≡ port.old.given ++ flat_map arrival steps.now) }
+    ensures counted { OnOk result (Counted fifo.new.arrived port.new) }
+    ensures over { OnOk result (LineOver plain port.new none_yet) }
+    ensures full { IfErr result (λ d. StopsAt plain port.new d) }
 {
     let mut next = run;
     for step in steps {
@@ -109,6 +137,10 @@ pub(crate) fn play_call(
     requires calling { (caller_at port.old.terminal caller).over ≡ false }
     requires playable { IsPlayable (call_of call.now) }
     ensures ok { IfOk result (λ next. Rests port.new next × Called port.old port.new caller) }
+    ensures added { OnOk result (AddsAnswer port.old port.new caller step (call_of call.now)) }
+    ensures given { OnOk result (port.new.given ≡ port.old.given) }
+    ensures more { OnErr result (AddsFlushes port.old port.new) }
+    ensures full { IfErr result (λ d. IsAtLimit port.new d) }
 {
     let next = flush_run(port, run)?;
     let tried = port.attempt(caller, step, call)?;
@@ -127,41 +159,6 @@ fn settle(tried: Tried)
     }
 }
 
-/// Why playing stopped early.
-#[derive(Drop)]
-pub(crate) enum Stop {
-    /// A port made no entry.
-    Denied(Denied),
-    /// The session has a call or a step that cannot be played. No text spells such a session.
-    Unplayable,
-}
-
-impl From<Denied> for Stop {
-    fn from(denied: Denied) -> Stop {
-        Stop::Denied(denied)
-    }
-}
-
-/// Whether a call's handle is a number below 32, and its open cannot wait.
-fn is_playable(call: &Call) -> bool
-    ensures { IsTrue result → IsPlayable (call_of call.now) }
-{
-    match call {
-        Call::Open {
-            h,
-            access: _,
-            nonblock,
-        } => *h < 32 && *nonblock,
-        Call::Close { h } => *h < 32,
-        Call::Read { h, n: _ } => *h < 32,
-        Call::SetModes {
-            h,
-            when: _,
-            words: _,
-        } => *h < 32,
-    }
-}
-
 /// The calls of a caller in a phase, from its step on, and their end.
 pub(crate) fn play_calls(
     port: &mut Port,
@@ -169,31 +166,29 @@ pub(crate) fn play_calls(
     caller: u16,
     step: &mut u32,
     calls: &[Call],
-) -> Result<u32, Stop>
+) -> Result<u32, Denied>
+    ghost plain: { PlainSession }
     requires rests { Rests port.old run }
     requires known { caller < sum port.old.counts }
     requires within { caller < length port.old.terminal.callers }
     requires next { step.old ≡ (caller_at port.old.terminal caller).next }
     requires calling { (caller_at port.old.terminal caller).over ≡ false }
+    requires over { LineOver plain port.old none_yet }
+    requires only { IsOnlyCaller plain port.old.terminal.phase caller step.old (map call_of calls.now) }
     ensures ok { IfOk result (λ next. Rests port.new next × Ends port.old port.new caller step.new) }
+    ensures step { OnOk result (step.new ≡ step.old + length calls.now) }
+    ensures given { OnOk result (port.new.given ≡ port.old.given) }
+    ensures over { OnOk result (LineOver plain port.new (caller_part 0 plain port.old.terminal.phase)) }
+    ensures full { IfErr result (λ d. StopsAt plain port.new d) }
 {
     let mut next = run;
     for call in calls {
-        if !is_playable(call) || *step == u32::MAX {
-            return Err(Stop::Unplayable);
-        }
         next = play_call(port, next, caller, *step, call)?;
         *step += 1;
     }
     let next = flush_run(port, next)?;
     port.caller_end(caller)?;
     Ok(next)
-}
-
-impl From<NoMemory> for Stop {
-    fn from(_error: NoMemory) -> Stop {
-        Stop::Denied(Denied::NoMemory)
-    }
 }
 
 /// The callers of a port in the order in which their names first occur, and the next step of each.
@@ -203,37 +198,79 @@ pub(crate) struct Cast {
     steps: Vec<u32>,
 }
 
-/// The place of a name, which is new where it did not occur yet.
-fn number_of(names: &mut Vec<ArrayString<16>>, name: &ArrayString<16>) -> Result<usize, NoMemory> {
-    for (place, other) in names.as_slice().iter().enumerate() {
+/// The place of a name among the names.
+fn place_of(names: &[ArrayString<16>], name: &ArrayString<16>) -> Option<usize>
+    ensures found { IfSome result (λ place. slice_get (texts names.now) place ≡ Some name.now.bytes) }
+    ensures none { IfNone result (list_any (bytes_eq name.now.bytes) (texts names.now) ≡ false) }
+{
+    for (place, other) in names.iter().enumerate() {
         if other.as_str() == name.as_str() {
-            return Ok(place);
+            return Some(place);
         }
     }
-    let place = names.len();
-    names.push(*name)?;
-    Ok(place)
+    None
 }
 
-fn play_script(port: &mut Port, run: u32, cast: &mut Cast, script: &Script) -> Result<u32, Stop>
+/// The place of a name, which is new where it did not occur yet.
+fn number_of(names: &mut Vec<ArrayString<16>>, name: &ArrayString<16>) -> Result<usize, NoMemory>
+    ensures { IfOk result (λ place. IsNumbered (texts names.old.items) (texts names.new.items) place name.now.bytes) }
+{
+    match place_of(names.as_slice(), name) {
+        Some(place) => Ok(place),
+        None => {
+            let place = names.len();
+            names.push(*name)?;
+            Ok(place)
+        }
+    }
+}
+
+fn play_script(port: &mut Port, run: u32, cast: &mut Cast, script: &Script) -> Result<u32, Denied>
+    ghost plain: { PlainSession }
     requires rests { Rests port.old run }
     requires casts { Casts port.old cast.old.steps.items }
-    ensures ok { IfOk result (λ next. Rests port.new next × PlaysCallers port.old port.new cast.new.steps.items) }
+    requires cast { CastIs plain port.old.terminal.phase (texts cast.old.names.items) cast.old.steps.items }
+    requires over { LineOver plain port.old none_yet }
+    requires script { scripts_on 0 (phase_at plain port.old.terminal.phase) ≡ script_of script.now ∷ [] }
+    requires within { port.old.terminal.phase < length plain.phases }
+    requires fits { Fits plain }
+    ensures ok { IfOk result (λ next. Rests port.new next × PlaysCallers port.old port.new cast.new.steps.items 1) }
+    ensures cast { OnOk result (CastIs plain (port.old.terminal.phase + 1) (texts cast.new.names.items) cast.new.steps.items) }
+    ensures given { OnOk result (port.new.given ≡ port.old.given) }
+    ensures over { OnOk result (LineOver plain port.new (caller_part 0 plain port.old.terminal.phase)) }
+    ensures full { IfErr result (λ d. StopsAt plain port.new d) }
 {
-    let number = number_of(&mut cast.names, &script.name)?;
-    if number >= cast.steps.len() || number > u16::MAX as usize {
-        return Err(Stop::Unplayable);
-    }
+    let number = match number_of(&mut cast.names, &script.name) {
+        Ok(number) => number,
+        Err(NoMemory) => return Err(Denied::NoMemory),
+    };
     let mut step = cast.steps[number];
     let next = play_calls(port, run, number as u16, &mut step, script.calls.as_slice())?;
     cast.steps[number] = step;
     Ok(next)
 }
 
-fn play_callers(port: &mut Port, run: u32, cast: &mut Cast, scripts: &[Script]) -> Result<u32, Stop>
+/// The caller of a phase, where there is one.
+fn play_callers(
+    port: &mut Port,
+    run: u32,
+    cast: &mut Cast,
+    scripts: &[Script],
+) -> Result<u32, Denied>
+    ghost plain: { PlainSession }
     requires rests { Rests port.old run }
     requires casts { Casts port.old cast.old.steps.items }
-    ensures ok { IfOk result (λ next. Rests port.new next × PlaysCallers port.old port.new cast.new.steps.items) }
+    requires cast { CastIs plain port.old.terminal.phase (texts cast.old.names.items) cast.old.steps.items }
+    requires over { LineOver plain port.old none_yet }
+    requires scripts { scripts_on 0 (phase_at plain port.old.terminal.phase) ≡ map script_of scripts.now }
+    requires few { length scripts.now ≤ 1 }
+    requires within { port.old.terminal.phase < length plain.phases }
+    requires fits { Fits plain }
+    ensures ok { IfOk result (λ next. Rests port.new next × PlaysCallers port.old port.new cast.new.steps.items (length scripts.now)) }
+    ensures cast { OnOk result (CastIs plain (port.old.terminal.phase + 1) (texts cast.new.names.items) cast.new.steps.items) }
+    ensures given { OnOk result (port.new.given ≡ port.old.given) }
+    ensures over { OnOk result (LineOver plain port.new (caller_part 0 plain port.old.terminal.phase)) }
+    ensures full { IfErr result (λ d. StopsAt plain port.new d) }
 {
     match scripts.first() {
         None => Ok(run),
@@ -242,16 +279,24 @@ fn play_callers(port: &mut Port, run: u32, cast: &mut Cast, scripts: &[Script]) 
 }
 
 /// The end of a phase: what can still be flushed, the clock, and the phase.
-fn close_phase(port: &mut Port, run: u32) -> Result<u32, Stop>
+fn close_phase(port: &mut Port, run: u32) -> Result<u32, Denied>
+    ghost plain: { PlainSession }
     requires rests { Rests port.old run }
     requires clock { port.old.terminal.clock_over ≡ false }
+    requires line { port.old.terminal.line_over ≡ true }
+    requires sent { AllSent port.old }
+    requires callers { callers_in port.old.counts port.old.terminal.phase ≤ overs port.old }
+    requires over { LineOver plain port.old (caller_part 0 plain port.old.terminal.phase) }
+    requires received { length port.old.given ≡ sent_by 0 plain [] port.old.terminal.phase }
+    requires no_ticks { ticks_on 0 (phase_at plain port.old.terminal.phase) ≡ 0 }
+    requires within { port.old.terminal.phase < length plain.phases }
     ensures ok { IfOk result (λ next. Rests port.new next × Passes port.old port.new) }
+    ensures given { OnOk result (port.new.given ≡ port.old.given) }
+    ensures between { OnOk result (Between plain port.new) }
+    ensures full { IfErr result (λ d. StopsAt plain port.new d) }
 {
     let next = flush_run(port, run)?;
     port.clock_end()?;
-    if !port.may_end() {
-        return Err(Stop::Unplayable);
-    }
     port.phase_end()?;
     Ok(next)
 }
@@ -264,18 +309,20 @@ pub(crate) fn play_phase(
     fifo: &mut Fifo,
     cast: &mut Cast,
     phase: &Phase,
-) -> Result<u32, Stop>
+) -> Result<u32, Denied>
+    ghost plain: { PlainSession }
     requires rests { Rests port.old run }
-    requires begins { Begins port.old cast.old.steps.items port.old.terminal.phase }
+    requires before { IsBefore plain port.old (texts cast.old.names.items) cast.old.steps.items fifo.old.arrived port.old.terminal.phase }
     requires below { fifo.old.waiting < 8 }
-    ensures ok { IfOk result (λ next. Rests port.new next × Begins port.new cast.new.steps.items (port.old.terminal.phase + 1)) }
-    ensures counts { OnOk result (port.new.counts ≡ port.old.counts) }
+    requires phase { phase_of phase.now ≡ phase_at plain port.old.terminal.phase }
+    requires within { port.old.terminal.phase < length plain.phases }
+    requires fits { Fits plain }
+    ensures rests { IfOk result (λ next. Rests port.new next) }
+    ensures before { OnOk result (IsBefore plain port.new (texts cast.new.names.items) cast.new.steps.items fifo.new.arrived (port.old.terminal.phase + 1)) }
     ensures below { OnOk result (fifo.new.waiting < 8) }
+    ensures full { IfErr result (λ d. StopsAt plain port.new d) }
 {
-    let steps = match phase.lines.as_slice().first() {
-        Some(steps) => steps.as_slice(),
-        None => return Err(Stop::Unplayable),
-    };
+    let steps = phase.lines.as_slice()[0].as_slice();
     let next = play_line(port, run, fifo, steps)?;
     let next = play_callers(port, next, cast, phase.callers.as_slice())?;
     close_phase(port, next)
@@ -286,15 +333,20 @@ fn play_phases(
     port: &mut Port,
     fifo: &mut Fifo,
     cast: &mut Cast,
-    phases: &[Phase],
-) -> Result<(), Stop>
+    session: &Session,
+) -> Result<(), Denied>
+    ghost plain: { PlainSession }
     requires rests { Rests port.old 0 }
-    requires begins { Begins port.old cast.old.steps.items 0 }
-    requires counts { length port.old.counts ≡ length phases.now }
+    requires before { IsBefore plain port.old (texts cast.old.names.items) cast.old.steps.items fifo.old.arrived 0 }
     requires below { fifo.old.waiting < 8 }
+    requires session { plain ≡ session_of session.now }
+    requires fits { Fits plain }
+    ensures played { OnOk result (PlayedAll plain port.new) }
+    ensures counted { OnOk result (Counted fifo.new.arrived port.new) }
+    ensures full { IfErr result (λ d. StopsAt plain port.new d) }
 {
     let mut next = 0;
-    for phase in phases {
+    for phase in session.phases.as_slice() {
         next = play_phase(port, next, fifo, cast, phase)?;
     }
     port.last_hangup()?;
@@ -303,12 +355,12 @@ fn play_phases(
 
 /// How many callers each phase has.
 fn caller_counts(alloc: Global, phases: &[Phase]) -> Result<Vec<u8>, NoMemory>
-    ensures { IfOk result (λ counts. length counts.items ≡ length phases.now) }
+    requires { PhasesFit (map phase_of phases.now) }
+    ensures { IfOk result (λ counts. counts.items ≡ map (λ phase. length (scripts_on 0 phase)) (map phase_of phases.now)) }
 {
     let mut counts = Vec::new(alloc);
     for phase in phases {
-        let count = if phase.callers.len() == 0 { 0 } else { 1 };
-        counts.push(count)?;
+        counts.push(phase.callers.len() as u8)?;
     }
     Ok(counts)
 }
@@ -329,14 +381,12 @@ pub(crate) struct Played {
 }
 
 /// Plays a session's only port on one thread. A full journal ends the run where it stands.
-pub(crate) fn play(alloc: Global, session: &Session) -> Result<Played, Stop>
-    ensures { IfOk result (λ played. CountsFit played.run.journal.items) }
+pub(crate) fn play(alloc: Global, session: &Session) -> Result<Played, NoMemory>
+    requires { Fits (session_of session.now) }
+    ensures plays { IfOk result (λ played. Plays (session_of session.now) played) }
+    ensures fit { IfOk result (λ played. CountsFit played.run.journal.items) }
 {
-    let phases = session.phases.as_slice();
-    if phases.len() > PHASES {
-        return Err(Stop::Unplayable);
-    }
-    let counts = caller_counts(alloc, phases)?;
+    let counts = caller_counts(alloc, session.phases.as_slice())?;
     let list = counts.as_slice();
     let mut port = Port::new(alloc, list, JOURNAL)?;
     let mut cast = cast_of(alloc, list)?;
@@ -344,17 +394,18 @@ pub(crate) fn play(alloc: Global, session: &Session) -> Result<Played, Stop>
         waiting: 0,
         arrived: 0,
     };
-    match play_phases(&mut port, &mut fifo, &mut cast, phases) {
+    match play_phases(&mut port, &mut fifo, &mut cast, session) {
         Ok(()) => {}
-        Err(Stop::Denied(Denied::Full)) => {}
-        Err(stop) => return Err(stop),
+        Err(Denied::Full) => {}
+        Err(Denied::NoMemory) => return Err(NoMemory),
     }
     Ok(port_played(alloc, port, fifo.arrived))
 }
 
 fn cast_of(alloc: Global, counts: &[u8]) -> Result<Cast, NoMemory>
     requires { length counts.now ≤ 64 }
-    ensures { IfOk result (λ cast. cast.steps.items ≡ replicate (sum counts.now) 0) }
+    ensures names { IfOk result (λ cast. cast.names.items ≡ []) }
+    ensures steps { IfOk result (λ cast. cast.steps.items ≡ replicate (sum counts.now) 0) }
 {
     Ok(Cast {
         names: Vec::new(alloc),
@@ -363,7 +414,8 @@ fn cast_of(alloc: Global, counts: &[u8]) -> Result<Cast, NoMemory>
 }
 
 fn port_played(alloc: Global, port: Port, arrived: u32) -> Played
-    ensures { CountsFit result.run.journal.items }
+    ensures left { IsLeftOf port arrived result }
+    ensures fit { CountsFit result.run.journal.items }
 {
     let (journal, end) = port.into_journal();
     let line = LineReport {

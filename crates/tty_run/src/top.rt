@@ -1,8 +1,10 @@
 ghost use Rattle.std.specs.Prelude.{◌≡◌, ◌⊎◌, ◌≢◌, ◌<◌, ◌++◌, ◌↔◌, [], Some, IfSome, IsTrue, map};
 ghost use Rattle.tty_base.specs.Outside.{Rose, GivesFront, TookCount};
+ghost use Rattle.tty_calls.specs.Sessions.{session_of};
+ghost use Rattle.session_text.specs.Fits.{Fits};
 ghost use Rattle.tty_run.specs.Endings.{IsRunOne, line_of, Adds, status_of, text_of, IsOfText, IsOfSource, IsTold, texts_of};
 
-use super::one_thread::{JOURNAL, Played, Stop, play};
+use super::one_thread::{JOURNAL, Played, play};
 use session_print::report;
 use session_text::{TextFault, parse};
 use std::alloc::Global;
@@ -100,6 +102,7 @@ fn run_text(alloc: Global, text: &[u8]) -> Work
 }
 
 fn run_session(alloc: Global, session: &Session) -> Work
+    requires { Fits (session_of session.now) }
     ensures { IsOfText result.ending }
 {
     match play(alloc, session) {
@@ -107,7 +110,7 @@ fn run_session(alloc: Global, session: &Session) -> Work
             Ok(bytes) => Work::played(alloc, played, bytes),
             Err(NoMemory) => Work::ended(alloc, Ending::NoMemory),
         },
-        Err(stop) => Work::stopped(alloc, stop),
+        Err(NoMemory) => Work::ended(alloc, Ending::NoMemory),
     }
 }
 
@@ -136,16 +139,6 @@ impl Work {
         }
         runs.add(run);
         Work { ending, runs }
-    }
-
-    /// A run that gave no journal.
-    fn stopped(alloc: Global, stop: Stop) -> Work
-        ensures { IsOfText result.ending }
-    {
-        match stop {
-            Stop::Denied(_) => Work::ended(alloc, Ending::NoMemory),
-            Stop::Unplayable => Work::ended(alloc, Ending::BadSession),
-        }
     }
 
     /// Gives the text of the ending to the sink.

@@ -1,0 +1,270 @@
+-- A legal run of a session on a port: what its journal and its line report must be.
+use Rattle.std.specs.Prelude.{◌≡◌, ◌⊎◌, ◌≤◌, ◌<◌, ◌+◌, ◌==◌, ℕ, zero, suc, List, [], ◌∷◌, ◌++◌, Bool, true, false, IsTrue, Option, None, Some, if◌then◌else◌, length, map, take, flat_map, slice_get, slice_index_or}
+use Rattle.std.specs.Str.{bytes_eq}
+use Rattle.std.specs.List.{list_any, range_with_len}
+use Rattle.tty_base.specs.declared.characters.Flagged.{Flagged}
+use Rattle.tty_base.specs.declared.lines.LineStep.{LineStep}
+use Rattle.tty_base.specs.declared.lines.Overrun.{Overrun}
+use Rattle.tty_calls.specs.declared.answers.PortEnd.{PortEnd}
+use Rattle.tty_calls.specs.declared.journals.PortRun.{PortRun}
+use Rattle.tty_calls.specs.Plain.{PlainEvent, answered, parted, waited, flushed, ticked, line_ended, clock_ended, caller_ended, phase_ended, hung_up, PlainEntry, entries_of}
+use Rattle.tty_calls.specs.Sessions.{PlainScript, PlainPhase, PlainSession, line_on, ticks_on, scripts_on, scripts_over, names_of, calls_of, call_at, counts_on}
+use Rattle.uart_line.specs.Received.{arrivals, received, lost, script}
+use Rattle.uart_line.specs.Offered.{kept, AreShown}
+use Rattle.tty_terminal.specs.Terminals.{Terminal}
+use Rattle.tty_terminal.specs.Runs.{IsRun, InPhases, OneGeneration, chars_of, is_caller}
+use Rattle.tty_run.specs.declared.one_thread.Played.{Played}
+
+-- ---- what a session asks of a port, phase by phase
+
+-- a phase in which nothing happens stands past the last
+abbrev pub phase_at : PlainSession → ℕ → PlainPhase
+phase_at session k = slice_index_or session.phases k (record { lines = []; ticks = []; callers = [] })
+
+-- the name of a caller, by its number
+abbrev pub name_at : ℕ → PlainSession → ℕ → Option (List ℕ)
+name_at p session c = slice_get (names_of (scripts_over p session.phases)) c
+
+abbrev pub has_script : List PlainScript → Option (List ℕ) → Bool
+has_script scripts None = false
+has_script scripts (Some name) = list_any (λ s. bytes_eq s.name name) scripts
+
+-- a caller of the phase has a script in it, which may be empty
+abbrev pub IsCallerOf : ℕ → PlainSession → ℕ → ℕ → Type 0
+IsCallerOf p session k c = IsTrue (has_script (scripts_on p (phase_at session k)) (name_at p session c))
+
+-- how many calls a caller has in the phases before this one, which is its first step in it, and in it
+abbrev pub first_step : ℕ → PlainSession → ℕ → ℕ → ℕ
+first_step p session k c = length (calls_of (scripts_over p (take k session.phases)) (name_at p session c))
+
+abbrev pub steps_in : ℕ → PlainSession → ℕ → ℕ → ℕ
+steps_in p session k c = length (calls_of (scripts_on p (phase_at session k)) (name_at p session c))
+
+-- a caller's step is of the phase
+abbrev pub IsCallOf : ℕ → PlainSession → ℕ → ℕ → ℕ → Type 0
+IsCallOf p session k c step = (first_step p session k c ≤ step) × (step < first_step p session k c + steps_in p session k c)
+
+-- the line's steps in the first phases
+abbrev pub script_of_first : ℕ → PlainSession → ℕ → List LineStep
+script_of_first p session phases = script (map (line_on p) (take phases session.phases))
+
+-- the line's steps in all phases
+abbrev pub script_on : ℕ → PlainSession → List LineStep
+script_on p session = script (map (line_on p) session.phases)
+
+-- how many characters were received in phases 0 to k, and are no overruns
+abbrev pub sent_by : ℕ → PlainSession → List Overrun → ℕ → ℕ
+sent_by p session overruns k = length (kept (received (script_of_first p session (k + 1))) overruns)
+
+-- ---- the entries of a part of a journal
+
+-- what the line's ends say was sent
+abbrev pub line_ends : PlainEvent → List ℕ
+line_ends (answered a dropped) = []
+line_ends (parted taken) = []
+line_ends waited = []
+line_ends (flushed chars) = []
+line_ends ticked = []
+line_ends (line_ended n) = n ∷ []
+line_ends clock_ended = []
+line_ends caller_ended = []
+line_ends phase_ended = []
+line_ends (hung_up dropped) = []
+
+abbrev pub line_ends_in : List PlainEntry → List ℕ
+line_ends_in part = flat_map (λ e. line_ends e.event) part
+
+pub data ClockMark : Type 0 where
+  ticks : ClockMark
+  clock_ends : ClockMark
+
+abbrev pub clock_marks : PlainEvent → List ClockMark
+clock_marks (answered a dropped) = []
+clock_marks (parted taken) = []
+clock_marks waited = []
+clock_marks (flushed chars) = []
+clock_marks ticked = ticks ∷ []
+clock_marks (line_ended n) = []
+clock_marks clock_ended = clock_ends ∷ []
+clock_marks caller_ended = []
+clock_marks phase_ended = []
+clock_marks (hung_up dropped) = []
+
+abbrev pub clock_marks_in : List PlainEntry → List ClockMark
+clock_marks_in part = flat_map (λ e. clock_marks e.event) part
+
+pub data CallerMark : Type 0 where
+  answers : (step : ℕ) → CallerMark
+  caller_ends : CallerMark
+
+abbrev pub caller_marks : PlainEvent → ℕ → List CallerMark
+caller_marks (answered a dropped) step = answers step ∷ []
+caller_marks (parted taken) step = []
+caller_marks waited step = []
+caller_marks (flushed chars) step = []
+caller_marks ticked step = []
+caller_marks (line_ended n) step = []
+caller_marks clock_ended step = []
+caller_marks caller_ended step = caller_ends ∷ []
+caller_marks phase_ended step = []
+caller_marks (hung_up dropped) step = []
+
+-- the answers and the ends of one caller
+abbrev pub caller_marks_in : ℕ → List PlainEntry → List CallerMark
+caller_marks_in c part = flat_map (λ e. if is_caller e.who c then caller_marks e.event e.step else []) part
+
+-- the ends of phases and the hangups
+abbrev pub session_events : PlainEvent → List PlainEvent
+session_events (answered a dropped) = []
+session_events (parted taken) = []
+session_events waited = []
+session_events (flushed chars) = []
+session_events ticked = []
+session_events (line_ended n) = []
+session_events clock_ended = []
+session_events caller_ended = []
+session_events phase_ended = phase_ended ∷ []
+session_events (hung_up dropped) = hung_up dropped ∷ []
+
+abbrev pub session_events_in : List PlainEntry → List PlainEvent
+session_events_in part = flat_map (λ e. session_events e.event) part
+
+-- ---- a finished journal
+
+-- so many answers, with steps in order from this one on
+abbrev pub answers_from : ℕ → ℕ → List CallerMark
+answers_from first count = map answers (range_with_len first count)
+
+-- a caller of the phase has its calls answered, each once and in order, and then ends; no other has an entry
+abbrev pub caller_part : ℕ → PlainSession → ℕ → ℕ → List CallerMark
+caller_part p session k c =
+    if has_script (scripts_on p (phase_at session k)) (name_at p session c)
+    then answers_from (first_step p session k c) (steps_in p session k c) ++ caller_ends ∷ []
+    else []
+
+abbrev pub ticks_of : ℕ → List ClockMark
+ticks_of n = map (λ _. ticks) (range_with_len 0 n)
+
+-- the entries of phase k before its end
+pub record IsPhasePart (p : ℕ) (session : PlainSession) (overruns : List Overrun) (k : ℕ) (part : List PlainEntry) : Type 0 where
+  -- the line ends once, with the number of characters sent so far
+  pub line : line_ends_in part ≡ sent_by p session overruns k ∷ []
+  -- the clock has its ticks, and then ends once
+  pub clock : clock_marks_in part ≡ ticks_of (ticks_on p (phase_at session k)) ++ clock_ends ∷ []
+  pub callers : (c : ℕ) → caller_marks_in c part ≡ caller_part p session k c
+  pub inside : session_events_in part ≡ []
+
+-- the entries of phase k, its end, and what is left
+pub record EndsPhase (p : ℕ) (session : PlainSession) (overruns : List Overrun) (k : ℕ) (journal : List PlainEntry) (IsRest : List PlainEntry → Type 0) : Type 0 where
+  pub part : List PlainEntry
+  pub last : PlainEntry
+  pub rest : List PlainEntry
+  pub parts : journal ≡ part ++ last ∷ rest
+  pub is_part : IsPhasePart p session overruns k part
+  pub ends : last.event ≡ phase_ended
+  pub goes_on : IsRest rest
+
+-- one hangup, and nothing after it
+pub record HangsUp (journal : List PlainEntry) : Type 0 where
+  pub entry : PlainEntry
+  pub dropped : List Flagged
+  pub alone : journal ≡ entry ∷ []
+  pub is_hangup : entry.event ≡ hung_up dropped
+
+-- the journal has these phases, from phase k on, and the hangup after them
+abbrev pub IsFinishedFrom : ℕ → PlainSession → List Overrun → ℕ → List PlainPhase → List PlainEntry → Type 0
+IsFinishedFrom p session overruns k [] journal = HangsUp journal
+IsFinishedFrom p session overruns k (phase ∷ phases) journal =
+    EndsPhase p session overruns k journal (IsFinishedFrom p session overruns (k + 1) phases)
+
+abbrev pub IsFinished : ℕ → PlainSession → List Overrun → List PlainEntry → Type 0
+IsFinished p session overruns journal = IsFinishedFrom p session overruns 0 session.phases journal
+
+-- ---- overruns
+
+abbrev pub is_phase_end : PlainEvent → Bool
+is_phase_end (answered a dropped) = false
+is_phase_end (parted taken) = false
+is_phase_end waited = false
+is_phase_end (flushed chars) = false
+is_phase_end ticked = false
+is_phase_end (line_ended n) = false
+is_phase_end clock_ended = false
+is_phase_end caller_ended = false
+is_phase_end phase_ended = true
+is_phase_end (hung_up dropped) = false
+
+-- the entries before phase k
+abbrev pub before_phase : ℕ → List PlainEntry → List PlainEntry
+before_phase k [] = []
+before_phase zero (e ∷ es) = []
+before_phase (suc k) (e ∷ es) = e ∷ (if is_phase_end e.event then before_phase k es else before_phase (suc k) es)
+
+-- those before the end of the line of phase k
+abbrev pub before_line_end : ℕ → List PlainEntry → List PlainEntry
+before_line_end k [] = []
+before_line_end zero (e ∷ es) = if length (line_ends e.event) == 0 then e ∷ before_line_end zero es else []
+before_line_end (suc k) (e ∷ es) = e ∷ (if is_phase_end e.event then before_line_end k es else before_line_end (suc k) es)
+
+-- how many characters were received before phase k
+abbrev pub received_before : ℕ → PlainSession → ℕ → ℕ
+received_before p session k = length (received (script_of_first p session k))
+
+-- Where its place lies in what was received in a phase, an overrun has seen taken all that was taken
+-- before that phase, and nothing that was taken after the end of its line.
+abbrev pub IsSeen : ℕ → PlainSession → List PlainEntry → Overrun → Type 0
+IsSeen p session journal o =
+    (k : ℕ) → received_before p session k ≤ o.at → o.at < received_before p session (k + 1)
+    → (length (chars_of (before_phase k journal)) ≤ o.seen) × (o.seen ≤ length (chars_of (before_line_end k journal)))
+
+abbrev pub AreSeen : ℕ → PlainSession → List PlainEntry → List Overrun → Type 0
+AreSeen p session journal [] = Unit {0}
+AreSeen p session journal (o ∷ overruns) = IsSeen p session journal o × AreSeen p session journal overruns
+
+-- ---- a legal run
+
+-- the capacity of a port's flip buffer
+abbrev pub flip_on : ℕ → PlainSession → ℕ
+flip_on p session = slice_index_or session.flips p 0
+
+-- the entries are steps of the terminal for the calls of the session, in their phases, up to this terminal
+pub record IsOnTheWay (p : ℕ) (session : PlainSession) (journal : List PlainEntry) (t : Terminal) : Type 0 where
+  pub steps : IsRun (call_at p session) (counts_on p session) journal t
+  pub in_phases : InPhases (IsCallerOf p session) (IsCallOf p session) 0 journal
+  pub one : OneGeneration journal
+
+-- The journal leads to this terminal and is finished, its characters are those that the line received
+-- without the overruns, and the line's report has the numbers of the line's steps.
+pub record IsLegal (p : ℕ) (session : PlainSession) (run : PortRun) (t : Terminal) : Type 0 where
+  pub on_the_way : IsOnTheWay p session (entries_of run.journal.items) t
+  pub finished : IsFinished p session run.line.overruns.items (entries_of run.journal.items)
+  pub chars : chars_of (entries_of run.journal.items) ≡ kept (received (script_on p session)) run.line.overruns.items
+  pub shown : AreShown (flip_on p session) 0 0 run.line.overruns.items
+  pub seen : AreSeen p session (entries_of run.journal.items) run.line.overruns.items
+  pub arrived : run.line.arrived ≡ arrivals (script_on p session)
+  pub fifo_lost : run.line.fifo_lost ≡ lost (script_on p session)
+  pub sent : run.line.sent ≡ length (kept (received (script_on p session)) run.line.overruns.items)
+
+-- what is left at the end is what the terminal has
+pub record IsEnd (t : Terminal) (end : PortEnd) : Type 0 where
+  pub counts : end.counts ≡ t.counts
+  pub signals : end.signals.items ≡ t.signals
+  pub generation : end.generation ≡ t.generation
+  pub wire : end.wire.items ≡ t.wire
+
+-- a whole run
+pub record PlaysWhole (session : PlainSession) (played : Played) : Type 0 where
+  pub terminal : Terminal
+  pub legal : IsLegal 0 session played.run terminal
+  pub end : IsEnd terminal played.end
+
+-- a run that the limit of the journal ended, legal as far as it went
+pub record FillsJournal (session : PlainSession) (played : Played) : Type 0 where
+  pub terminal : Terminal
+  pub full : length played.run.journal.items ≡ 4194304
+  pub on_the_way : IsOnTheWay 0 session (entries_of played.run.journal.items) terminal
+  pub end : IsEnd terminal played.end
+
+-- what playing a session on its only port gives
+abbrev pub Plays : PlainSession → Played → Type 0
+Plays session played = PlaysWhole session played ⊎ FillsJournal session played
