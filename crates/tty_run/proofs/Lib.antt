@@ -5,6 +5,7 @@ mod Flushing
 mod Moved
 mod Names
 mod OnePhase
+mod Outcomes
 mod Parts
 mod Phases
 mod Received

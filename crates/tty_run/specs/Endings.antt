@@ -1,9 +1,9 @@
 -- How a call of the program ends: its words, its status, and the line that it gives.
-use Rattle.std.specs.Prelude.{◌≡◌, ◌≢◌, map, ℕ, List, [], ◌∷◌, ◌++◌, Option, Some, codes, IfSome, ◌==◌, if◌then◌else◌}
+use Rattle.std.specs.Prelude.{◌≡◌, ◌≢◌, ◌≤◌, map, ℕ, List, [], ◌∷◌, ◌++◌, Option, Some, codes, IfSome, ◌==◌, if◌then◌else◌}
 use denote.Ref.{Bor}
 use Rattle.tty_base.specs.Outside.{Rose, TookCount}
 use Rattle.tty_run.specs.declared.top.Ending.{Ending}
-use Rattle.tty_run.specs.declared.top.Ending.TheVariants.{Done, BadSession, BadWords, ReadFault, NoMemory, TooLong, JournalFull}
+use Rattle.tty_run.specs.declared.top.Ending.TheVariants.{Done, BadSession, BadWords, ReadFault, TooLong, JournalFull}
 
 -- the words `run --one`
 abbrev pub IsRunOne : List (List ℕ) → Type 0
@@ -18,6 +18,10 @@ line_of status =
     else if status == 6 then codes "session too long\n"
     else if status == 8 then codes "journal full\n"
     else []
+
+-- the statuses of the program: 0 to 8 without 7
+abbrev pub IsStatus : ℕ → Type 0
+IsStatus status = (status ≤ 8) × (status ≢ 7)
 
 -- the bytes of a list of texts
 abbrev pub texts_of : List (Bor (List ℕ)) → List (List ℕ)
@@ -36,7 +40,6 @@ status_of (Done report) = 0
 status_of BadSession = 1
 status_of BadWords = 2
 status_of ReadFault = 3
-status_of NoMemory = 5
 status_of TooLong = 6
 status_of JournalFull = 8
 
@@ -45,19 +48,8 @@ text_of (Done report) = report.items
 text_of BadSession = line_of 1
 text_of BadWords = line_of 2
 text_of ReadFault = line_of 3
-text_of NoMemory = []
 text_of TooLong = line_of 6
 text_of JournalFull = line_of 8
-
--- an ending of a text that was read
-abbrev pub IsOfText : Ending → Type 0
-IsOfText (Done report) = Unit {0}
-IsOfText BadSession = Unit {0}
-IsOfText BadWords = ⊥
-IsOfText ReadFault = ⊥
-IsOfText NoMemory = Unit {0}
-IsOfText TooLong = ⊥
-IsOfText JournalFull = Unit {0}
 
 -- not as many bytes as one more than the longest text were read
 abbrev pub IsShort : Option (List ℕ) → Option (List ℕ) → Type 0
@@ -69,6 +61,5 @@ IsOfSource (Done report) faults now left rest = IsShort left rest
 IsOfSource BadSession faults now left rest = IsShort left rest
 IsOfSource BadWords faults now left rest = ⊥
 IsOfSource ReadFault faults now left rest = Rose faults now × IsShort left rest
-IsOfSource NoMemory faults now left rest = IsShort left rest
 IsOfSource TooLong faults now left rest = IfSome left (λ bytes. TookCount 4194305 bytes rest)
 IsOfSource JournalFull faults now left rest = IsShort left rest

@@ -1,8 +1,11 @@
-ghost use Rattle.std.specs.Prelude.{◌≡◌, ◌⊎◌, ◌≢◌, ◌<◌, ◌++◌, ◌↔◌, [], Some, IfSome, IsTrue, map};
+ghost use Rattle.std.specs.Prelude.{◌≡◌, ◌⊎◌, ◌≢◌, ◌<◌, ◌++◌, ◌↔◌, ℕ, List, [], Some, IfSome, IfOk, OnErr, IsTrue, map};
 ghost use Rattle.tty_base.specs.Outside.{Rose, GivesFront, TookCount};
 ghost use Rattle.tty_calls.specs.Sessions.{session_of};
 ghost use Rattle.session_text.specs.Fits.{Fits};
-ghost use Rattle.tty_run.specs.Endings.{IsRunOne, line_of, Adds, status_of, text_of, IsOfText, IsOfSource, IsTold, texts_of};
+ghost use Rattle.tty_run.specs.Stages.{CountsFit};
+ghost use Rattle.tty_run.specs.Endings.{IsRunOne, IsStatus, line_of, Adds, status_of, text_of, IsShort, IsOfSource, IsTold, texts_of};
+ghost use Rattle.tty_run.specs.Outcome.{IsPlayed, IsReported, IsCutShort, IsBroken, SpellsNone, WasGiven};
+ghost use Rattle.tty_run.specs.Works.{IsWork, IsTextWork, IsSessionWork, IsEndingOf};
 
 use super::one_thread::{JOURNAL, Played, play};
 use session_print::report;
@@ -32,7 +35,6 @@ enum Ending {
     BadSession,
     BadWords,
     ReadFault,
-    NoMemory,
     TooLong,
     JournalFull,
 }
@@ -64,11 +66,25 @@ pub fn tty_run<S: Source, K: Sink>(
     ensures too_long { IfSome (S.left source.old) (λ bytes. result.status ≡ 6 → TookCount 4194305 bytes (S.left source.new)) }
     ensures long { IfSome (S.left source.old) (λ bytes. TookCount 4194305 bytes (S.left source.new) → (result.status ≡ 6) ⊎ (result.status ≡ 4)) }
     ensures told { IfSome (K.given sink.old) (λ before. IsTold result.status before (K.given sink.new)) }
+
+    ensures statuses { IsStatus result.status }
+    // 0: the text that was read spells a session, the run is legal, and the sink was given its report.
+    ensures done { result.status ≡ 0 → (text : List ℕ) × IsPlayed (S.left source.old) (λ session. IsReported session result.runs.items text) × WasGiven (K.given sink.old) (K.given sink.new) text }
+    ensures bad_session { result.status ≡ 1 → SpellsNone (S.left source.old) }
+    // 8 comes exactly with a full journal, unless its line could not be given.
+    ensures full { result.status ≡ 8 → IsPlayed (S.left source.old) (λ session. IsCutShort session result.runs.items) }
+    ensures broken { result.status ≡ 4 → IsBroken (texts_of words.now) (S.faults source.old) (S.faults source.new) (S.left source.old) (S.left source.new) (K.given sink.old) (K.given sink.new) result.runs.items }
+    ensures no_runs { result.status ≢ 0 → result.status ≢ 4 → result.status ≢ 8 → result.runs.items ≡ [] }
 {
-    if is_run_one(words) {
-        run_one(alloc, source).tell(sink)
-    } else {
-        Work::ended(alloc, Ending::BadWords).tell(sink)
+    if !is_run_one(words) {
+        return Work::ended(alloc, Ending::BadWords).tell(sink);
+    }
+    match run_one(alloc, source) {
+        Ok(work) => work.tell(sink),
+        Err(NoMemory) => Ran {
+            status: 5,
+            runs: Runs::new(alloc),
+        },
     }
 }
 
@@ -80,38 +96,52 @@ fn is_run_one(words: &[&str]) -> bool
 }
 
 /// Reads a session, plays it on one thread and makes its report.
-fn run_one<S: Source>(alloc: Global, source: &mut S) -> Work
-    ensures { IsOfSource result.ending (S.faults source.old) (S.faults source.new) (S.left source.old) (S.left source.new) }
+fn run_one<S: Source>(alloc: Global, source: &mut S) -> Result<Work, NoMemory>
+    ensures from { IfOk result (λ work. IsOfSource work.ending (S.faults source.old) (S.faults source.new) (S.left source.old) (S.left source.new)) }
+    ensures work { IfOk result (λ work. IsWork (S.left source.old) work.ending work.runs.items) }
+    ensures short { OnErr result (IsShort (S.left source.old) (S.left source.new)) }
 {
     match read_all(alloc, source, LONGEST) {
         Ok(text) => run_text(alloc, text.as_slice()),
-        Err(TakeFault::ReadFault) => Work::ended(alloc, Ending::ReadFault),
-        Err(TakeFault::TooLong) => Work::ended(alloc, Ending::TooLong),
-        Err(TakeFault::NoMemory) => Work::ended(alloc, Ending::NoMemory),
+        Err(TakeFault::ReadFault) => Ok(Work::ended(alloc, Ending::ReadFault)),
+        Err(TakeFault::TooLong) => Ok(Work::ended(alloc, Ending::TooLong)),
+        Err(TakeFault::NoMemory) => Err(NoMemory),
     }
 }
 
-fn run_text(alloc: Global, text: &[u8]) -> Work
-    ensures { IsOfText result.ending }
+fn run_text(alloc: Global, text: &[u8]) -> Result<Work, NoMemory>
+    ensures { IfOk result (λ work. IsTextWork text.now work.ending work.runs.items) }
 {
     match parse(alloc, text) {
         Ok(session) => run_session(alloc, &session),
-        Err(TextFault::Bad) => Work::ended(alloc, Ending::BadSession),
-        Err(TextFault::NoMemory) => Work::ended(alloc, Ending::NoMemory),
+        Err(TextFault::Bad) => Ok(Work::ended(alloc, Ending::BadSession)),
+        Err(TextFault::NoMemory) => Err(NoMemory),
     }
 }
 
-fn run_session(alloc: Global, session: &Session) -> Work
+fn run_session(alloc: Global, session: &Session) -> Result<Work, NoMemory>
     requires { Fits (session_of session.now) }
-    ensures { IsOfText result.ending }
+    ensures { IfOk result (λ work. IsSessionWork (session_of session.now) work.ending work.runs.items) }
 {
-    match play(alloc, session) {
-        Ok(played) => match report(alloc, session, &played.run, &played.end) {
-            Ok(bytes) => Work::played(alloc, played, bytes),
-            Err(NoMemory) => Work::ended(alloc, Ending::NoMemory),
-        },
-        Err(NoMemory) => Work::ended(alloc, Ending::NoMemory),
+    let mut runs = Runs::new(alloc);
+    runs.reserve(1)?;
+    let played = play(alloc, session)?;
+    let ending = ending_of(alloc, session, &played)?;
+    let Played { run, end: _ } = played;
+    runs.add(run);
+    Ok(Work { ending, runs })
+}
+
+/// The report of a run, or that its journal is full.
+fn ending_of(alloc: Global, session: &Session, played: &Played) -> Result<Ending, NoMemory>
+    requires { CountsFit played.now.run.journal.items }
+    ensures { IfOk result (λ ending. IsEndingOf (session_of session.now) played.now ending) }
+{
+    if played.run.journal.len() == JOURNAL as usize {
+        return Ok(Ending::JournalFull);
     }
+    let report = report(alloc, session, &played.run, &played.end)?;
+    Ok(Ending::Done(report))
 }
 
 impl Work {
@@ -122,23 +152,6 @@ impl Work {
             ending,
             runs: Runs::new(alloc),
         }
-    }
-
-    fn played(alloc: Global, played: Played, bytes: Bytes) -> Work
-        ensures { IsOfText result.ending }
-    {
-        let Played { run, end: _ } = played;
-        let ending = if run.journal.len() == JOURNAL as usize {
-            Ending::JournalFull
-        } else {
-            Ending::Done(bytes)
-        };
-        let mut runs = Runs::new(alloc);
-        if runs.reserve(1).is_err() {
-            return Work::ended(alloc, Ending::NoMemory);
-        }
-        runs.add(run);
-        Work { ending, runs }
     }
 
     /// Gives the text of the ending to the sink.
@@ -169,7 +182,6 @@ impl Ending {
             Ending::BadSession => 1,
             Ending::BadWords => 2,
             Ending::ReadFault => 3,
-            Ending::NoMemory => 5,
             Ending::TooLong => 6,
             Ending::JournalFull => 8,
         }
@@ -184,7 +196,6 @@ impl Ending {
             Ending::BadSession => b"bad session\n",
             Ending::BadWords => b"bad words\n",
             Ending::ReadFault => b"read fault\n",
-            Ending::NoMemory => b"",
             Ending::TooLong => b"session too long\n",
             Ending::JournalFull => b"journal full\n",
         }
