@@ -1,0 +1,23 @@
+use Rattle.std.proofs.Common.{◌≡◌, ◌+◌, ◌-◌, ◌*◌, ◌≤◌, true, length, take, drop}
+use Rattle.flow_control.specs.Output.{has_room, sent}
+use Rattle.n_tty.specs.Editing.{erased_echo}
+use Rattle.n_tty.specs.Posting.{column_past_text}
+use Rattle.n_tty.proofs.erasing.post_erased.Given as goal
+
+-- the echo of what is still to be erased completes that of all
+abbrev pub invariant-loop-i : goal.invariant-loop-i
+invariant-loop-i l = record {
+  from : l.from ≤ l.i;
+  within : l.i ≤ length l.edit;
+  column : column_past_text l.modes l.out (erased_echo l.modes l.kind l.start (take l.from l.edit) (drop l.from (take l.i l.edit)))
+      ≡ column_past_text l.modes l.fn.out (erased_echo l.modes l.kind l.start (take l.from l.edit) (drop l.from l.edit));
+  wire : sent l.wire (erased_echo l.modes l.kind l.start (take l.from l.edit) (drop l.from (take l.i l.edit)))
+      ≡ sent l.fn.wire (erased_echo l.modes l.kind l.start (take l.from l.edit) (drop l.from l.edit));
+  room : has_room l.wire (erased_echo l.modes l.kind l.start (take l.from l.edit) (drop l.from (take l.i l.edit))) ≡ true;
+  spare : 8 * (l.i - l.from) ≤ l.wire.spare;
+  spent : l.fn.wire.spare ≤ l.wire.spare + 8 * (length l.edit - l.i);
+  bound : l.out ≤ l.fn.out + 64 * (length l.edit - l.i);
+}
+
+abbrev pub decreases-loop-i : goal.decreases-loop-i
+decreases-loop-i l = l.i

@@ -1,0 +1,10 @@
+pub mod Editing
+pub mod Flow
+pub mod Posting
+pub mod Reading
+pub mod Receiving
+pub mod Roles
+pub mod Rows
+pub mod States
+pub mod Storing
+pub mod Writing

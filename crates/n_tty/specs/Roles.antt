@@ -1,0 +1,45 @@
+-- What a character is for, by the modes (termios(3), special characters).
+use Rattle.std.specs.Prelude.{ℕ, Bool, not, ◌&&◌, ◌==◌, Option, None, Some, if◌then◌else◌}
+use Rattle.tty_base.specs.declared.counters.Signal.{Signal}
+use Rattle.tty_base.specs.declared.counters.Signal.TheVariants.{Int, Quit, Susp}
+use Rattle.tty_modes.specs.Settings.{Settings, has_flag, character}
+use Rattle.tty_modes.specs.declared.places.TheConstants.{ISIG, IEXTEN, INLCR, IGNCR, ICRNL, VINTR, VQUIT, VSUSP, VERASE, VKILL, VWERASE, VLNEXT, VEOF, VEOL, VEOL2}
+use Rattle.n_tty.specs.declared.roles.Role.{Role}
+use Rattle.n_tty.specs.declared.roles.Role.TheVariants.{Erase, Kill, WordErase, Quote, Newline, Eof, Delimiter, Ordinary}
+
+-- whether a byte is the control character at a place; a character of 0 is disabled
+abbrev pub is_character : Settings → (place byte : ℕ) → Bool
+is_character modes place byte = not (byte == 0) && byte == character modes place
+
+-- the same, for a character that works with iexten alone
+abbrev pub is_extended : Settings → (place byte : ℕ) → Bool
+is_extended modes place byte = has_flag modes IEXTEN && is_character modes place byte
+
+-- the signal that a byte raises
+abbrev pub signal_of : Settings → ℕ → Option Signal
+signal_of modes byte =
+    if not (has_flag modes ISIG) then None
+    else if is_character modes VINTR byte then Some Int
+    else if is_character modes VQUIT byte then Some Quit
+    else if is_character modes VSUSP byte then Some Susp
+    else None
+
+-- what becomes of CR (13) and NL (10); a dropped CR becomes nothing
+abbrev pub mapped : Settings → ℕ → Option ℕ
+mapped modes byte =
+    if byte == 13 then (if has_flag modes IGNCR then None else if has_flag modes ICRNL then Some 10 else Some 13)
+    else if byte == 10 && has_flag modes INLCR then Some 13
+    else Some byte
+
+-- what a byte is for in canonical mode; the first that fits
+abbrev pub role_of : Settings → ℕ → Role
+role_of modes byte =
+    if is_character modes VERASE byte then Erase
+    else if is_character modes VKILL byte then Kill
+    else if is_extended modes VWERASE byte then WordErase
+    else if is_extended modes VLNEXT byte then Quote
+    else if byte == 10 then Newline
+    else if is_character modes VEOF byte then Eof
+    else if is_character modes VEOL byte then Delimiter
+    else if is_extended modes VEOL2 byte then Delimiter
+    else Ordinary

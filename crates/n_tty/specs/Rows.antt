@@ -1,0 +1,75 @@
+-- Worked sessions: what came over a line, what is read of it, and what stands on the wire.
+use Rattle.std.specs.Prelude.{ℕ, Bool, true, List, [], ◌∷◌, map, fold, replicate}
+use Rattle.tty_base.specs.declared.characters.Flag.TheVariants.{Normal}
+use Rattle.tty_base.specs.declared.characters.Flag.{Flag}
+use Rattle.tty_base.specs.declared.characters.Flagged.{Flagged}
+use Rattle.tty_modes.specs.declared.words.Word.{Word}
+use Rattle.tty_modes.specs.Settings.{Settings, sane}
+use Rattle.tty_modes.specs.Word.{changed}
+use Rattle.line_store.specs.Unread.{Byte}
+use Rattle.flow_control.specs.Output.{idle_output}
+use Rattle.flow_control.specs.Counting.{no_counts}
+use Rattle.n_tty.specs.States.{NTtyState, OnPort, fresh_tty}
+use Rattle.n_tty.specs.Receiving.{received}
+use Rattle.n_tty.specs.Reading.{bytes_read, after_read}
+use Rattle.n_tty.specs.Flow.{ixoff_ruled}
+
+abbrev pub flagged : Flag → ℕ → Flagged
+flagged flag byte = record { byte = byte; flag = flag }
+
+abbrev pub good : List ℕ → List Flagged
+good bytes = map (flagged Normal) bytes
+
+-- the defaults, changed by words
+abbrev pub modes_by : List Word → Settings
+modes_by words = fold changed sane words
+
+-- a fresh N_TTY on an idle port
+abbrev pub fresh_port : OnPort
+fresh_port = record {
+  tty = fresh_tty;
+  output = idle_output;
+  tally = record { counts = no_counts; signals = record { items = []; spare = 0 } };
+}
+
+-- after characters came, one after the other, all at tick 0
+abbrev pub received_all : Settings → List Flagged → OnPort → OnPort
+received_all modes [] port = port
+received_all modes (c ∷ characters) port = received_all modes characters (received modes 0 c port)
+
+-- after characters came over an idle line
+abbrev pub after_line_of : Settings → List Flagged → OnPort
+after_line_of modes characters = received_all modes characters fresh_port
+
+-- what so many reads give, of at most 4096 bytes each
+abbrev pub reads_of : Settings → (bounds : List ℕ) → NTtyState → List (List ℕ)
+reads_of modes [] tty = []
+reads_of modes (n ∷ bounds) tty = bytes_read modes n tty ∷ reads_of modes bounds (after_read modes n tty)
+
+-- what a session shows: its reads, and the wire
+pub record Shown : Type 0 where
+  pub reads : List (List ℕ)
+  pub wire : List ℕ
+
+abbrev pub shown : Settings → List ℕ → OnPort → Shown
+shown modes bounds port = record { reads = reads_of modes bounds port.tty; wire = port.output.wire }
+
+-- what a line shows, of which so much is read
+abbrev pub line_shows : List Word → (bounds : List ℕ) → List Flagged → Shown
+line_shows words bounds characters = shown (modes_by words) bounds (after_line_of (modes_by words) characters)
+
+-- a port whose output STOP has halted, with so much held
+abbrev pub halted_port : (held : List ℕ) → OnPort
+halted_port held = record fresh_port { output = record idle_output { held = held; stopped = true } }
+
+-- a port with an edited line of so many equal bytes
+abbrev pub edited_port : (count byte : ℕ) → OnPort
+edited_port count byte = record fresh_port { tty = record fresh_tty { edit = replicate count byte } }
+
+-- a port with so many equal plain bytes that are unread
+abbrev pub unread_port : (count byte : ℕ) → OnPort
+unread_port count byte = record fresh_port { tty = record fresh_tty { items = map Byte (replicate count byte) } }
+
+-- the wire after the rule for ixoff was applied
+abbrev pub wire_ruled : Settings → NTtyState → (noted : Bool) → List ℕ
+wire_ruled modes tty noted = (ixoff_ruled modes tty (record idle_output { noted = noted })).wire

@@ -1,0 +1,98 @@
+//! Posting bytes: output processing at the column, and echo that is posted whole or dropped whole.
+
+ghost use Rattle.std.specs.Prelude.{◌≡◌, ◌+◌, ◌*◌, ◌<◌, ◌≤◌, ◌^◌, ℕ, List, true, length, take};
+ghost use Rattle.flow_control.specs.Output.{after_start, has_room, sent, tried};
+ghost use Rattle.n_tty.specs.Posting.{column_past_text, column_tried, posted_text, tally_tried};
+ghost use Rattle.n_tty.specs.Writing.{fitting_count};
+
+use flow_control::{Counter, Tally, Wire};
+use opost_out::Out;
+use tty_modes::Modes;
+
+/// Posts bytes that fit.
+pub fn post(out: &mut Out, bytes: &[u8], modes: &Modes, wire: &mut Wire)
+    requires column { out.old < 2 ^ 62 + 2 ^ 32 }
+    requires short { length bytes.now ≤ 64 }
+    requires spare { length (posted_text modes.now out.old bytes.now) ≤ wire.old.spare }
+    requires room { has_room wire.old (posted_text modes.now out.old bytes.now) ≡ true }
+    ensures column { out.new ≡ column_past_text modes.now out.old (posted_text modes.now out.old bytes.now) }
+    ensures wire { wire.new ≡ sent wire.old (posted_text modes.now out.old bytes.now) }
+{
+    for byte in bytes {
+        let piece = out.post(*byte, modes);
+        let _sent = wire.send(piece.as_slice());
+    }
+}
+
+/// Posts bytes up to the first whose posted bytes do not fit in what can be held under a halt. Answers how many.
+pub fn post_fitting(out: &mut Out, bytes: &[u8], modes: &Modes, wire: &mut Wire) -> usize
+    requires column { out.old < 2 ^ 62 + 2 ^ 32 }
+    requires short { length bytes.now ≤ 64 }
+    requires spare { 512 ≤ wire.old.spare }
+    ensures count { result ≡ fitting_count modes.now out.old wire.old bytes.now }
+    ensures column { out.new ≡ column_past_text modes.now out.old (posted_text modes.now out.old (take result bytes.now)) }
+    ensures wire { wire.new ≡ sent wire.old (posted_text modes.now out.old (take result bytes.now)) }
+{
+    let mut count = 0;
+    for byte in bytes {
+        let mut ahead = *out;
+        let piece = ahead.post(*byte, modes);
+        if !wire.send(piece.as_slice()) {
+            return count;
+        }
+        *out = ahead;
+        count += 1;
+    }
+    count
+}
+
+/// How many bytes are posted for some.
+pub fn text_len(out: &Out, bytes: &[u8], modes: &Modes) -> usize
+    requires column { out.now < 2 ^ 62 + 2 ^ 32 }
+    requires short { length bytes.now ≤ 64 }
+    ensures len { result ≡ length (posted_text modes.now out.now bytes.now) }
+    ensures most { result ≤ 8 * length bytes.now }
+{
+    let mut ahead = *out;
+    let mut count = 0;
+    for byte in bytes {
+        count += ahead.post(*byte, modes).len();
+    }
+    count
+}
+
+/// Whether so many posted bytes fit: without a halt, or in what can be held.
+pub fn has_room(count: usize, wire: &Wire) -> bool
+    ensures { (text : List ℕ) → length text ≡ count → result ≡ has_room wire.now text }
+{
+    !wire.halted() || count <= wire.room()
+}
+
+/// Posts an echo whole, or where it does not fit drops it whole and counts its bytes.
+pub fn echo_bytes(out: &mut Out, echo: &[u8], modes: &Modes, wire: &mut Wire, tally: &mut Tally)
+    requires column { out.old < 2 ^ 62 + 2 ^ 32 }
+    requires short { length echo.now ≤ 24 }
+    requires spare { 192 ≤ wire.old.spare }
+    ensures column { out.new ≡ column_tried modes.now wire.old out.old (posted_text modes.now out.old echo.now) }
+    ensures wire { wire.new ≡ tried wire.old (posted_text modes.now out.old echo.now) }
+    ensures tally { tally.new ≡ tally_tried wire.old (posted_text modes.now out.old echo.now) tally.old }
+    ensures spent { wire.old.spare ≤ wire.new.spare + 192 }
+{
+    let count = text_len(out, echo, modes);
+    if has_room(count, wire) {
+        post(out, echo, modes, wire);
+    } else {
+        tally.count(Counter::Echo, count as u64);
+    }
+}
+
+/// Resumes output that STOP halted.
+pub fn resume(wire: &mut Wire)
+    requires { 4096 ≤ wire.old.spare }
+    ensures wire { wire.new ≡ after_start wire.old }
+    ensures spent { wire.old.spare ≤ wire.new.spare + 4096 }
+{
+    // There is room, since no more is held than can be.
+    let _held = wire.held();
+    wire.start();
+}

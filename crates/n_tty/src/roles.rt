@@ -1,0 +1,109 @@
+//! What a character is for.
+
+ghost use Rattle.std.specs.Prelude.{◌≡◌};
+ghost use Rattle.n_tty.specs.Roles.{is_character, is_extended, signal_of, mapped, role_of};
+
+use tty_base::Signal;
+use tty_modes::Modes;
+use tty_modes::places::{
+    ICRNL, IEXTEN, IGNCR, INLCR, ISIG, VEOF, VEOL, VEOL2, VERASE, VINTR, VKILL, VLNEXT, VQUIT,
+    VSUSP, VWERASE,
+};
+
+pub const NL: u8 = b'\n';
+
+const CR: u8 = b'\r';
+
+/// What a character does in canonical mode.
+#[derive(Clone, Copy, Debug, PartialEq, Eq)]
+pub enum Role {
+    /// Erases the last character.
+    Erase,
+    /// Erases the line.
+    Kill,
+    /// Erases the last word.
+    WordErase,
+    /// Quotes the next character.
+    Quote,
+    /// NL, which ends the line.
+    Newline,
+    /// Ends the line without a byte.
+    Eof,
+    /// Ends the line, as its last byte.
+    Delimiter,
+    /// Joins the line.
+    Ordinary,
+}
+
+/// Whether a byte is the control character at a place. One of 0 is disabled.
+pub fn is_character(place: u8, b: u8, modes: &Modes) -> bool
+    ensures { result ≡ is_character modes.now place b }
+{
+    b != 0 && b == modes.cc(place)
+}
+
+/// The same, for a character that works with iexten alone.
+fn is_extended(place: u8, b: u8, modes: &Modes) -> bool
+    ensures { result ≡ is_extended modes.now place b }
+{
+    modes.has(IEXTEN) && is_character(place, b, modes)
+}
+
+/// The signal that a byte raises.
+pub fn signal_of(b: u8, modes: &Modes) -> Option<Signal>
+    ensures { result ≡ signal_of modes.now b }
+{
+    if !modes.has(ISIG) {
+        None
+    } else if is_character(VINTR, b, modes) {
+        Some(Signal::Int)
+    } else if is_character(VQUIT, b, modes) {
+        Some(Signal::Quit)
+    } else if is_character(VSUSP, b, modes) {
+        Some(Signal::Susp)
+    } else {
+        None
+    }
+}
+
+/// What becomes of CR and NL. There is none for a CR that is dropped.
+pub fn mapped(b: u8, modes: &Modes) -> Option<u8>
+    ensures { result ≡ mapped modes.now b }
+{
+    if b == CR {
+        if modes.has(IGNCR) {
+            None
+        } else if modes.has(ICRNL) {
+            Some(NL)
+        } else {
+            Some(CR)
+        }
+    } else if b == NL && modes.has(INLCR) {
+        Some(CR)
+    } else {
+        Some(b)
+    }
+}
+
+/// What a byte is for in canonical mode: the first that fits.
+pub fn role_of(b: u8, modes: &Modes) -> Role
+    ensures { result ≡ role_of modes.now b }
+{
+    if is_character(VERASE, b, modes) {
+        Role::Erase
+    } else if is_character(VKILL, b, modes) {
+        Role::Kill
+    } else if is_extended(VWERASE, b, modes) {
+        Role::WordErase
+    } else if is_extended(VLNEXT, b, modes) {
+        Role::Quote
+    } else if b == NL {
+        Role::Newline
+    } else if is_character(VEOF, b, modes) {
+        Role::Eof
+    } else if is_character(VEOL, b, modes) || is_extended(VEOL2, b, modes) {
+        Role::Delimiter
+    } else {
+        Role::Ordinary
+    }
+}

@@ -1,0 +1,67 @@
+//! Storing bytes, in the edited line and as unread input.
+
+ghost use Rattle.std.specs.Prelude.{◌≡◌, ◌+◌, ◌<◌, ◌≤◌, [], ◌∷◌, ◌++◌, length, map};
+ghost use Rattle.line_store.specs.Unread.{Byte, End, bytes_of, end_count};
+ghost use Rattle.n_tty.specs.Storing.{start_of};
+
+use line_store::Store;
+use n_tty_edit::Edit;
+
+/// How many bytes the edited line has at most.
+pub const MOST_LINE: usize = 4095;
+
+/// Stores bytes as unread input.
+pub fn push_all(store: &mut Store, bytes: &[u8])
+    requires { length (bytes_of store.old) + length bytes.now ≤ 4096 }
+    ensures { store.new ≡ store.old ++ map Byte bytes.now }
+{
+    for byte in bytes {
+        store.push(*byte);
+    }
+}
+
+/// The column in which a line began: that of now, while it is empty.
+pub fn start_of(edit: &Edit, start: usize, column: u64) -> usize
+    ensures { result ≡ start_of edit.now start column }
+{
+    if edit.bytes().is_empty() {
+        column as usize
+    } else {
+        start
+    }
+}
+
+/// Adds bytes to the line, which has room for them.
+pub fn add_all(edit: &mut Edit, bytes: &[u8])
+    requires { length edit.old + length bytes.now ≤ 4095 }
+    ensures { edit.new ≡ edit.old ++ bytes.now }
+{
+    for byte in bytes {
+        let _added = edit.add(*byte);
+    }
+}
+
+/// The line becomes a piece that ends with its delimiter.
+pub fn end_with(store: &mut Store, edit: &mut Edit, delimiter: u8)
+    requires room { length (bytes_of store.old) + length edit.old < 4096 }
+    requires ends { end_count store.old < 4096 }
+    ensures store { store.new ≡ store.old ++ (map Byte edit.old ++ Byte delimiter ∷ End ∷ []) }
+    ensures edit { edit.new ≡ [] }
+{
+    push_all(store, edit.bytes());
+    store.push(delimiter);
+    store.end_line(false);
+    let _count = edit.kill();
+}
+
+/// The line becomes a piece that ends with an EOF mark.
+pub fn end_with_eof(store: &mut Store, edit: &mut Edit)
+    requires room { length (bytes_of store.old) + length edit.old ≤ 4096 }
+    requires ends { end_count store.old < 4096 }
+    ensures store { store.new ≡ store.old ++ (map Byte edit.old ++ End ∷ []) }
+    ensures edit { edit.new ≡ [] }
+{
+    push_all(store, edit.bytes());
+    store.end_line(true);
+    let _count = edit.kill();
+}
