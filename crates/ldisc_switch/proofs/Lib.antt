@@ -1,0 +1,6 @@
+pub mod KindLemmas
+pub mod PacketLemmas
+pub mod EchoLemmas
+pub mod TakingLemmas
+pub mod ColumnLemmas
+pub mod MovedLemmas

@@ -1,0 +1,4 @@
+pub mod Disciplines
+pub mod Happenings
+pub mod Posted
+pub mod Rows
