@@ -61,7 +61,7 @@ finished_clocks p s overruns k (phase ∷ phases) journal h =
     (ap (λ x. x ++ clock_marks h.last.event) h.is_part.clock ∙ ap (λ x. own ++ clock_marks x) h.ends ∙ append-nil own)
     (finished_clocks p s overruns (k + 1) phases h.rest h.goes_on)
 
-abbrev marks_from : ℕ → PlainSession → ℕ → ℕ → List PlainPhase → List CallerMark
+abbrev pub marks_from : ℕ → PlainSession → ℕ → ℕ → List PlainPhase → List CallerMark
 marks_from p s c k [] = []
 marks_from p s c k (phase ∷ phases) = caller_part p s k c ++ marks_from p s c (k + 1) phases
 
@@ -69,7 +69,7 @@ none_marked : (b : Bool) (event : PlainEvent) (step : ℕ) → caller_marks even
 none_marked true event step h = h
 none_marked false event step h = refl
 
-finished_callers : (p : ℕ) (s : PlainSession) (overruns : List Overrun) (c k : ℕ) (phases : List PlainPhase) (journal : List PlainEntry) → IsFinishedFrom p s overruns k phases journal → caller_marks_in c journal ≡ marks_from p s c k phases
+pub finished_callers : (p : ℕ) (s : PlainSession) (overruns : List Overrun) (c k : ℕ) (phases : List PlainPhase) (journal : List PlainEntry) → IsFinishedFrom p s overruns k phases journal → caller_marks_in c journal ≡ marks_from p s c k phases
 finished_callers p s overruns c k [] journal h =
     ap (caller_marks_in c) h.alone ∙ ap (λ x. x ++ []) (none_marked (is_caller h.entry.who c) h.entry.event h.entry.step (ap (λ x. caller_marks x h.entry.step) h.is_hangup))
 finished_callers p s overruns c k (phase ∷ phases) journal h =

@@ -1,4 +1,5 @@
 mod Acts
+mod Answered
 mod Calling
 mod Finished
 mod Flushing

@@ -1,16 +1,18 @@
 -- What each status says of the work that ended with it.
-use Rattle.std.proofs.Common.{◌≡◌, ℕ, List, [], ◌∷◌, Option, None, Some, IfSome, inl, inr, ap, subst, ◌∙◌}
+use Rattle.std.proofs.Common.{◌≡◌, ◌⊎◌, ◌+◌, ◌≤◌, drop, length, arith, ℕ, List, [], ◌∷◌, Option, None, Some, IfSome, inl, inr, sym, ap, subst, ◌∙◌}
+use Rattle.tty_base.specs.Outside.{Rose, LeavesRest, TookCount}
 use Rattle.tty_calls.specs.declared.journals.PortRun.{PortRun}
 use Rattle.tty_calls.specs.Sessions.{PlainSession}
 use Rattle.session_text.specs.Grammar.{Spells}
 use Rattle.session_print.specs.Ends.{end_of}
 use Rattle.session_print.specs.Report.{report_text}
 use Rattle.tty_run.specs.declared.one_thread.Played.{Played}
+use Rattle.tty_run.specs.declared.top.Work.{Work}
 use Rattle.tty_run.specs.declared.top.Ending.{Ending}
 use Rattle.tty_run.specs.declared.top.Ending.TheVariants.{Done, BadSession, BadWords, ReadFault, TooLong, JournalFull}
-use Rattle.tty_run.specs.Endings.{text_of, IsOfSource}
+use Rattle.tty_run.specs.Endings.{IsRunOne, status_of, text_of, IsOfSource}
 use Rattle.tty_run.specs.Legal.{PlaysWhole, Plays}
-use Rattle.tty_run.specs.Outcome.{end_at, SpellsNone, WasGivenFront, IsBroken, breaks_line, breaks_report, breaks_full}
+use Rattle.tty_run.specs.Outcome.{end_at, IsPlayed, IsReported, IsCutShort, LeaveRoom, Completes, SpellsNone, WasGivenFront, IsBroken, breaks_line, breaks_report, breaks_full}
 use Rattle.tty_run.specs.Works.{IsEndingOf, IsSessionWork, IsTextWork, IsWork}
 
 -- what is left of a terminal, as a report says it
@@ -63,3 +65,42 @@ broken words faults faults' left rest before now runs BadWords of work front = a
 broken words faults faults' left rest before now runs ReadFault of work front = breaks_line 3 of.0 work front
 broken words faults faults' left rest before now runs TooLong of work front = breaks_line 6 of work front
 broken words faults faults' left rest before now runs JournalFull of work front = breaks_full work front
+
+-- ---- what a text comes to where nothing stands in the way
+
+spelled_in : (bytes : List ℕ) (EndsBy : PlainSession → Type 0) (h : IsPlayed (Some bytes) EndsBy) → Spells bytes h.session
+spelled_in bytes EndsBy h = subst (λ (text : List ℕ). Spells text h.session) h.whole h.spelled
+
+full_has_none : (session : PlainSession) (runs : List PortRun) → IsCutShort session runs → LeaveRoom runs → ⊥
+full_has_none session runs h room = (subst LeaveRoom h.only room).0 h.full
+
+too_short : (bytes : List ℕ) (rest : Option (List ℕ)) → LeavesRest bytes rest → TookCount 4194305 bytes rest → length bytes ≤ 4194304 → ⊥
+too_short bytes rest h took short =
+    let counted : length bytes ≡ length (drop h.0 bytes) + 4194305 = subst (λ (o : Option (List ℕ)). TookCount 4194305 bytes o) h.2 took in
+    omega (arith, counted, short)
+
+completes_so : (bytes : List ℕ) (faults faults' : ℕ) (rest : Option (List ℕ)) (runs : List PortRun) (e : Ending) (status : ℕ) → status ≡ status_of e → IsOfSource e faults faults' (Some bytes) rest → IsWork (Some bytes) e runs → LeavesRest bytes rest
+    → length bytes ≤ 4194304 → (Rose faults faults' → ⊥) → Completes bytes status runs
+completes_so bytes faults faults' rest runs (Done report) status is of work left short sound =
+    record {
+      played = λ session spells room. inl is;
+      refused = λ none. absurd (none work.session (spelled_in bytes (λ session. IsReported session runs report.items) work));
+    }
+completes_so bytes faults faults' rest runs BadSession status is of work left short sound =
+    record { played = λ session spells room. absurd (work.1 session spells); refused = λ none. inl is }
+completes_so bytes faults faults' rest runs BadWords status is of work left short sound = absurd of
+completes_so bytes faults faults' rest runs ReadFault status is of work left short sound = absurd (sound of.0)
+completes_so bytes faults faults' rest runs TooLong status is of work left short sound = absurd (too_short bytes rest left of short)
+completes_so bytes faults faults' rest runs JournalFull status is of work left short sound =
+    record {
+      played = λ session spells room. absurd (full_has_none work.session runs work.ends room);
+      refused = λ none. absurd (none work.session (spelled_in bytes (λ session. IsCutShort session runs) work));
+    }
+
+pub completes : (words : List (List ℕ)) (left rest : Option (List ℕ)) (faults faults' gave gave' : ℕ) (runs : List PortRun) (work : Work) (status : ℕ) → runs ≡ work.runs.items → (status ≡ status_of work.ending) ⊎ (status ≡ 4) → (status ≡ 4 → Rose gave gave')
+    → IsOfSource work.ending faults faults' left rest → IsWork left work.ending work.runs.items → IfSome left (λ bytes. LeavesRest bytes rest)
+    → IfSome left (λ bytes. IsRunOne words → length bytes ≤ 4194304 → (Rose faults faults' → ⊥) → (Rose gave gave' → ⊥) → Completes bytes status runs)
+completes words None rest faults faults' gave gave' runs work status same is four of done left = left
+completes words (Some bytes) rest faults faults' gave gave' runs work status same (inl is) four of done left = λ known short sound given.
+    completes_so bytes faults faults' rest runs work.ending status is of (subst (λ (rs : List PortRun). IsWork (Some bytes) work.ending rs) (sym same) done) left short sound
+completes words (Some bytes) rest faults faults' gave gave' runs work status same (inr is) four of done left = λ known short sound given. absurd (given (four is))

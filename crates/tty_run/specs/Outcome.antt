@@ -1,13 +1,13 @@
 -- What a call of the program came to: the session that was read, its run, and the text that was given.
-use Rattle.std.specs.Prelude.{◌≡◌, ◌≢◌, ℕ, List, [], ◌∷◌, ◌++◌, Option, Some, length, IfSome, MatchBool, ◌==◌}
+use Rattle.std.specs.Prelude.{◌≡◌, ◌≢◌, ◌⊎◌, ℕ, List, [], ◌∷◌, ◌++◌, Option, Some, length, flat_map, option_to_list, IfSome, MatchBool, ◌==◌}
 use Rattle.tty_base.specs.Outside.{Rose, TookCount, GivesFront}
 use Rattle.tty_calls.specs.declared.journals.PortRun.{PortRun}
-use Rattle.tty_calls.specs.Plain.{entries_of}
+use Rattle.tty_calls.specs.Plain.{PlainAnswer, PlainEntry, entries_of}
 use Rattle.tty_calls.specs.Sessions.{PlainSession}
 use Rattle.tty_terminal.specs.Terminals.{Terminal}
 use Rattle.session_text.specs.Grammar.{Spells}
 use Rattle.session_print.specs.Ends.{PlainEnd}
-use Rattle.session_print.specs.Report.{report_text}
+use Rattle.session_print.specs.Report.{answer_by, answer_in, report_text}
 use Rattle.tty_run.specs.Endings.{IsRunOne, line_of}
 use Rattle.tty_run.specs.Legal.{IsLegal, IsOnTheWay}
 
@@ -67,3 +67,23 @@ pub data IsBroken (words : List (List ℕ)) (faults faults' : ℕ) (left rest be
   breaks_line : (status : ℕ) → Cause words faults faults' left rest status → runs ≡ [] → WasGivenFront before now (line_of status) → IsBroken words faults faults' left rest before now runs
   breaks_report : (text : List ℕ) → IsPlayed left (λ session. IsReported session runs text) → WasGivenFront before now text → IsBroken words faults faults' left rest before now runs
   breaks_full : IsPlayed left (λ session. IsCutShort session runs) → WasGivenFront before now (line_of 8) → IsBroken words faults faults' left rest before now runs
+
+-- no journal is full
+abbrev pub LeaveRoom : List PortRun → Type 0
+LeaveRoom [] = Unit {0}
+LeaveRoom (run ∷ runs) = (length run.journal.items ≢ 4194304) × LeaveRoom runs
+
+-- a text that spells a session is played, and one that spells none is refused, unless memory was wanting
+pub record Completes (bytes : List ℕ) (status : ℕ) (runs : List PortRun) : Type 0 where
+  pub played : (session : PlainSession) → Spells bytes session → LeaveRoom runs → (status ≡ 0) ⊎ (status ≡ 5)
+  pub refused : ((session : PlainSession) → Spells bytes session → ⊥) → (status ≡ 1) ⊎ (status ≡ 5)
+
+-- all answers of a journal to a caller's step
+abbrev pub answers_to : List PlainEntry → ℕ → ℕ → List PlainAnswer
+answers_to es c step = flat_map (λ e. option_to_list (answer_by e c step)) es
+
+-- the call of a caller's step has one Answer entry, and its answer is the one that a report prints
+pub record IsAnsweredOnce (es : List PlainEntry) (c step : ℕ) : Type 0 where
+  pub answer : PlainAnswer
+  pub once : answers_to es c step ≡ answer ∷ []
+  pub printed : answer_in es c step ≡ Some answer

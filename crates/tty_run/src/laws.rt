@@ -1,8 +1,12 @@
-ghost use Rattle.std.specs.Prelude.{◌≡◌, []};
+ghost use Rattle.std.specs.Prelude.{◌≡◌, ℕ, [], Some};
+ghost use Rattle.tty_calls.specs.declared.journals.PortRun.{PortRun};
+ghost use Rattle.tty_calls.specs.Plain.{PlainCall, entries_of};
+ghost use Rattle.tty_calls.specs.Sessions.{PlainSession, call_at};
 ghost use Rattle.tty_terminal.specs.Terminals.{Terminal};
 ghost use Rattle.tty_terminal.specs.Rows.{three_bytes};
 ghost use Rattle.session_text.specs.Rows.{three_bytes_session};
-ghost use Rattle.tty_run.specs.Legal.{IsOnTheWay, IsFinished};
+ghost use Rattle.tty_run.specs.Legal.{IsOnTheWay, IsFinished, IsLegal};
+ghost use Rattle.tty_run.specs.Outcome.{IsAnsweredOnce};
 ghost use Rattle.tty_run.specs.Rows.{without_answer, without_caller_end, without_clock_end, with_other_line_end, without_hangup};
 
 /// A law: a caller that opens the port, and in the next phase reads the three bytes that were sent
@@ -20,4 +24,11 @@ pub fn changed_three_bytes_is_not_finished()
     ensures no_clock_end { IsFinished 0 three_bytes_session [] without_clock_end → ⊥ }
     ensures other_line_end { IsFinished 0 three_bytes_session [] with_other_line_end → ⊥ }
     ensures no_hangup { IsFinished 0 three_bytes_session [] without_hangup → ⊥ }
+{}
+
+/// A law: in a legal run each call of the session is answered by one entry, so that a report has a line
+/// for each call.
+pub fn each_call_is_answered_once()
+    ensures { (session : PlainSession) (run : PortRun) (t : Terminal) → IsLegal 0 session run t
+        → (c step : ℕ) (call : PlainCall) → call_at 0 session c step ≡ Some call → IsAnsweredOnce (entries_of run.journal.items) c step }
 {}

@@ -6,5 +6,7 @@ mod laws;
 mod one_thread;
 mod top;
 
-pub use laws::{changed_three_bytes_is_not_finished, three_bytes_is_finished};
+pub use laws::{
+    changed_three_bytes_is_not_finished, each_call_is_answered_once, three_bytes_is_finished,
+};
 pub use top::{Ran, Runs, tty_run};

@@ -1,10 +1,10 @@
-ghost use Rattle.std.specs.Prelude.{◌≡◌, ◌⊎◌, ◌≢◌, ◌<◌, ◌++◌, ◌↔◌, ℕ, List, [], Some, IfSome, IfOk, OnErr, IsTrue, map};
-ghost use Rattle.tty_base.specs.Outside.{Rose, GivesFront, TookCount};
+ghost use Rattle.std.specs.Prelude.{◌≡◌, ◌⊎◌, ◌≢◌, ◌<◌, ◌≤◌, ◌++◌, ◌↔◌, ℕ, List, [], Some, IfSome, IfOk, OnErr, IsTrue, length, map};
+ghost use Rattle.tty_base.specs.Outside.{Rose, GivesFront, TookCount, LeavesRest};
 ghost use Rattle.tty_calls.specs.Sessions.{session_of};
 ghost use Rattle.session_text.specs.Fits.{Fits};
 ghost use Rattle.tty_run.specs.Stages.{CountsFit};
 ghost use Rattle.tty_run.specs.Endings.{IsRunOne, IsStatus, line_of, Adds, status_of, text_of, IsShort, IsOfSource, IsTold, texts_of};
-ghost use Rattle.tty_run.specs.Outcome.{IsPlayed, IsReported, IsCutShort, IsBroken, SpellsNone, WasGiven};
+ghost use Rattle.tty_run.specs.Outcome.{IsPlayed, IsReported, IsCutShort, IsBroken, SpellsNone, WasGiven, Completes};
 ghost use Rattle.tty_run.specs.Works.{IsWork, IsTextWork, IsSessionWork, IsEndingOf};
 
 use super::one_thread::{JOURNAL, Played, play};
@@ -75,6 +75,14 @@ pub fn tty_run<S: Source, K: Sink>(
     ensures full { result.status ≡ 8 → IsPlayed (S.left source.old) (λ session. IsCutShort session result.runs.items) }
     ensures broken { result.status ≡ 4 → IsBroken (texts_of words.now) (S.faults source.old) (S.faults source.new) (S.left source.old) (S.left source.new) (K.given sink.old) (K.given sink.new) result.runs.items }
     ensures no_runs { result.status ≢ 0 → result.status ≢ 4 → result.status ≢ 8 → result.runs.items ≡ [] }
+
+    // The source has left an end of what it had left.
+    ensures rest { IfSome (S.left source.old) (λ bytes. LeavesRest bytes (S.left source.new)) }
+    // Where nothing stands in the way, a session is played, and a text that spells none is refused,
+    // unless memory was wanting.
+    ensures complete { IfSome (S.left source.old) (λ bytes. IsRunOne (texts_of words.now) → length bytes ≤ 4194304
+        → (Rose (S.faults source.old) (S.faults source.new) → ⊥) → (Rose (K.faults sink.old) (K.faults sink.new) → ⊥)
+        → Completes bytes result.status result.runs.items) }
 {
     if !is_run_one(words) {
         return Work::ended(alloc, Ending::BadWords).tell(sink);
@@ -100,6 +108,7 @@ fn run_one<S: Source>(alloc: Global, source: &mut S) -> Result<Work, NoMemory>
     ensures from { IfOk result (λ work. IsOfSource work.ending (S.faults source.old) (S.faults source.new) (S.left source.old) (S.left source.new)) }
     ensures work { IfOk result (λ work. IsWork (S.left source.old) work.ending work.runs.items) }
     ensures short { OnErr result (IsShort (S.left source.old) (S.left source.new)) }
+    ensures rest { IfSome (S.left source.old) (λ bytes. LeavesRest bytes (S.left source.new)) }
 {
     match read_all(alloc, source, LONGEST) {
         Ok(text) => run_text(alloc, text.as_slice()),
