@@ -5,7 +5,7 @@
 ghost use Rattle.std.specs.Prelude.{◌≡◌, ◌≤◌, false, [], ◌∷◌, replicate};
 ghost use Rattle.tty_modes.specs.Settings.{has_flag};
 ghost use Rattle.arrayvec.specs.ArrayVec.{array_vec_len};
-ghost use Rattle.echo_out.specs.Echo.{shown, blanked, rubbed_out, erased, killed, kill_rubs_out, echo_of, FitsEcho};
+ghost use Rattle.echo_out.specs.Echo.{shown_bytes, blanking_bytes, rubout_bytes, erase_echo, kill_echo, kill_rubs_out, echo_of, FitsEcho};
 
 use arrayvec::ArrayVec;
 use tty_modes::Modes;
@@ -57,13 +57,13 @@ pub fn echo(event: EchoEvent, modes: &Modes) -> ArrayVec<u8, 24>
         return unechoed(event, modes);
     }
     match event {
-        EchoEvent::Plain(b) => shown(b, modes),
+        EchoEvent::Plain(b) => shown_bytes(b, modes),
         EchoEvent::Erased {
             kind,
             removed,
             width,
-        } => erased(kind, removed, width, modes),
-        EchoEvent::Killed => killed(modes),
+        } => erase_echo(kind, removed, width, modes),
+        EchoEvent::Killed => kill_echo(modes),
         EchoEvent::Quoted => {
             if modes.has(ECHOCTL) {
                 pair(b'^', BS)
@@ -93,8 +93,8 @@ fn unechoed(event: EchoEvent, modes: &Modes) -> Echo
 }
 
 /// A byte as it is shown.
-fn shown(b: u8, modes: &Modes) -> Echo
-    ensures bytes { result.items ≡ shown modes.now b }
+fn shown_bytes(b: u8, modes: &Modes) -> Echo
+    ensures bytes { result.items ≡ shown_bytes modes.now b }
     ensures short { array_vec_len result ≤ 2 }
 {
     let is_control = (b < 32 && b != TAB && b != NL) || b == 127;
@@ -105,22 +105,22 @@ fn shown(b: u8, modes: &Modes) -> Echo
     }
 }
 
-fn erased(kind: EraseKind, removed: u8, width: usize, modes: &Modes) -> Echo
+fn erase_echo(kind: EraseKind, removed: u8, width: usize, modes: &Modes) -> Echo
     requires { width ≤ 8 }
-    ensures { result.items ≡ erased modes.now kind removed width }
+    ensures { result.items ≡ erase_echo modes.now kind removed width }
 {
     match kind {
         EraseKind::Erase => {
             if modes.has(ECHOE) {
-                rubbed_out(removed, width)
+                rubout_bytes(removed, width)
             } else {
-                shown(modes.cc(VERASE), modes)
+                shown_bytes(modes.cc(VERASE), modes)
             }
         }
-        EraseKind::Word => rubbed_out(removed, width),
+        EraseKind::Word => rubout_bytes(removed, width),
         EraseKind::Kill => {
             if kill_rubs_out(modes) {
-                rubbed_out(removed, width)
+                rubout_bytes(removed, width)
             } else {
                 Echo::new()
             }
@@ -135,13 +135,13 @@ fn kill_rubs_out(modes: &Modes) -> bool
     modes.has(ECHOE) && modes.has(ECHOK) && modes.has(ECHOKE)
 }
 
-fn killed(modes: &Modes) -> Echo
-    ensures { result.items ≡ killed modes.now }
+fn kill_echo(modes: &Modes) -> Echo
+    ensures { result.items ≡ kill_echo modes.now }
 {
     if kill_rubs_out(modes) {
         return Echo::new();
     }
-    let mut out = shown(modes.cc(VKILL), modes);
+    let mut out = shown_bytes(modes.cc(VKILL), modes);
     if modes.has(ECHOK) {
         out.push(NL);
     }
@@ -149,14 +149,14 @@ fn killed(modes: &Modes) -> Echo
 }
 
 /// A byte of some width taken off the screen.
-fn rubbed_out(b: u8, width: usize) -> Echo
+fn rubout_bytes(b: u8, width: usize) -> Echo
     requires { width ≤ 8 }
-    ensures { result.items ≡ rubbed_out b width }
+    ensures { result.items ≡ rubout_bytes b width }
 {
     if b == TAB {
         backspaces(width)
     } else {
-        blanked(width)
+        blanking_bytes(width)
     }
 }
 
@@ -171,9 +171,9 @@ fn backspaces(width: usize) -> Echo
     out
 }
 
-fn blanked(width: usize) -> Echo
+fn blanking_bytes(width: usize) -> Echo
     requires { width ≤ 8 }
-    ensures { result.items ≡ blanked width }
+    ensures { result.items ≡ blanking_bytes width }
 {
     let mut out = Echo::new();
     for _ in 0..width {

@@ -6,23 +6,23 @@ use Rattle.tty_base.specs.declared.characters.Flagged.{Flagged}
 use Rattle.word_ring.specs.Ends.{PutterState, TakerState, NoteState}
 
 -- the flag with a number; every further number has the last flag
-abbrev pub flag_of : ℕ → Flag
-flag_of zero = Normal
-flag_of (suc zero) = Break
-flag_of (suc (suc zero)) = Parity
-flag_of (suc (suc (suc zero))) = Frame
-flag_of (suc (suc (suc (suc n)))) = Overrun
+abbrev pub flag_of_number : ℕ → Flag
+flag_of_number zero = Normal
+flag_of_number (suc zero) = Break
+flag_of_number (suc (suc zero)) = Parity
+flag_of_number (suc (suc (suc zero))) = Frame
+flag_of_number (suc (suc (suc (suc n)))) = Overrun
 
 -- the character that a number stands for
 abbrev pub char_of : ℕ → Flagged
-char_of n = record { byte = n % 256; flag = flag_of (n / 256) }
+char_of n = record { byte = n % 256; flag = flag_of_number (n / 256) }
 
 -- the same end, its numbers seen as characters
 abbrev pub in_state : PutterState ℕ → PutterState Flagged
 in_state p = record { ring = p.ring; capacity = p.capacity; sent = map char_of p.sent; pushed = map char_of p.pushed; heads = p.heads; floor = p.floor }
 
 abbrev pub out_state : TakerState ℕ → TakerState Flagged
-out_state t = record { ring = t.ring; capacity = t.capacity; taken = map char_of t.taken; released = t.released; tails = t.tails; floor = t.floor; ended = t.ended }
+out_state t = record { ring = t.ring; capacity = t.capacity; taken = map char_of t.taken; released = t.released; tails = t.tails; floor = t.floor; ended = t.ended; sent = map char_of t.sent }
 
 abbrev pub note_state : NoteState ℕ → NoteState Flagged
 note_state n = record { ring = n.ring; pushed = map char_of n.pushed; heads = n.heads }

@@ -5,7 +5,7 @@ ghost use Rattle.word_ring.specs.Ends.{with_loaded};
 
 use crate::packed::number_of;
 use std::marker::Model;
-use tty_base::{Flagged, Full, Put};
+use tty_base::{Flagged, Full, Moves, Put};
 use word_ring::{HeadNote, Note, Putter};
 
 /// The end that puts characters in.
@@ -43,6 +43,9 @@ impl Model for FlipNote {
 }
 
 impl Put for FlipIn {
+    ghost use Rattle.std.specs.Prelude.{◌≡◌, ◌-◌, ◌^◌, length};
+    ghost use Rattle.word_ring.specs.Names.{name_of};
+
     ghost sent = { λ f. f.sent };
 
     ghost heads = { λ f. f.heads };
@@ -50,6 +53,10 @@ impl Put for FlipIn {
     ghost capacity = { λ f. f.capacity };
 
     ghost visible = { λ f. f.pushed ≡ f.sent };
+
+    ghost name = { λ f. name_of f.ring };
+
+    ghost room = { λ f. 2 ^ 63 - length f.sent };
 
     /// Puts a character. `Full` says how many were put and how many of these were taken, at the head
     /// that this call loaded, and comes where as many as the capacity are left.
@@ -74,6 +81,10 @@ impl Put for FlipIn {
         self.putter.push();
     }
 }
+
+impl Moves for FlipIn {}
+
+impl Moves for FlipNote {}
 
 impl FlipIn {
     /// How many characters were put.

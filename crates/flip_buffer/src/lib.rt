@@ -13,4 +13,4 @@ mod tests;
 pub use input::{FlipIn, FlipNote};
 pub use new::flip;
 pub use output::FlipOut;
-pub use word_ring::HeadNote;
+pub use word_ring::{HeadNote, names_tell_rings};

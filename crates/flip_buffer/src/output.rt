@@ -4,13 +4,14 @@ ghost use mathlib.Core.List.{IsPrefix};
 ghost use Rattle.arrayvec.specs.ArrayVec.{array_vec_len};
 ghost use Rattle.tty_base.specs.declared.characters.Flagged.{Flagged};
 ghost use Rattle.word_ring.specs.Ends.{IsOneWithin, AreReleased, with_shown, with_taken};
+ghost use Rattle.flip_buffer.specs.Drops.{LooksAt, Releases};
 ghost use Rattle.flip_buffer.specs.Packed.{char_of};
 
 use crate::input::{FlipIn, FlipNote};
 use crate::packed::character_of;
 use arrayvec::ArrayVec;
 use std::marker::Model;
-use tty_base::{Chars, Flagged};
+use tty_base::{Chars, Flagged, Moves};
 use word_ring::{HeadNote, Taker};
 
 /// The end that takes characters out.
@@ -54,6 +55,8 @@ fn append_all(numbers: &[u16], out: &mut Chars)
     }
 }
 
+impl Moves for FlipOut {}
+
 impl FlipOut {
     /// How many characters the buffer has room for.
     pub fn capacity(&self) -> usize
@@ -64,7 +67,8 @@ impl FlipOut {
 
     /// How many characters were taken.
     pub fn taken(&self) -> u64
-        ensures { result ≡ length self.now.taken }
+        ensures count { result ≡ length self.now.taken }
+        ensures begins { self.now.ended ≡ true → IsPrefix self.now.taken self.now.sent }
     {
         self.taker.taken()
     }
@@ -95,7 +99,8 @@ impl FlipOut {
         ensures count { length self.old.taken + result ≡ self.new.floor }
         ensures most { result ≤ self.old.capacity }
         ensures rises { self.old.floor ≤ self.new.floor }
-        ensures ended { self.old.ended ≡ true → self.new.floor ≡ self.old.floor }
+        ensures ended { self.old.ended ≡ true → self.new.floor ≡ length self.old.sent }
+        ensures begins { self.old.ended ≡ true → IsPrefix self.old.taken self.old.sent }
     {
         self.taker.look()
     }
@@ -107,7 +112,9 @@ impl FlipOut {
         ensures moves { (xs : List Flagged) × (length xs ≡ result) × (out.new.items ≡ out.old.items ++ xs) × (self.new ≡ with_taken (with_shown self.old self.new.floor) xs) }
         ensures count { (length self.old.taken ≤ self.new.floor) × (result ≡ min most (self.new.floor - length self.old.taken)) }
         ensures rises { self.old.floor ≤ self.new.floor }
-        ensures ended { self.old.ended ≡ true → self.new.floor ≡ self.old.floor }
+        ensures most { self.new.floor ≤ length self.old.taken + self.old.capacity }
+        ensures ended { self.old.ended ≡ true → self.new.floor ≡ length self.old.sent }
+        ensures begins { self.old.ended ≡ true → IsPrefix self.new.taken self.old.sent }
     {
         let mut numbers = ArrayVec::new();
         let count = self.taker.take(most, &mut numbers);
@@ -115,16 +122,17 @@ impl FlipOut {
         count
     }
 
-    /// Takes the lesser of `most` and what the first tail that this call loads shows, and adds these
-    /// characters to `out`.
+    /// Looks once, takes what that look shows, or the first `most` of it, and adds these characters to
+    /// `out`.
     pub fn drop_all(&mut self, most: usize, out: &mut Chars) -> usize
         requires few { most ≤ self.old.capacity }
         requires room { most ≤ out.old.spare }
         ensures moves { (xs : List Flagged) × (length xs ≡ result) × (out.new ≡ record { items = out.old.items ++ xs; spare = out.old.spare - result }) × (self.new.taken ≡ self.old.taken ++ xs) }
-        ensures shown { (t : ℕ) × IsPrefix (self.old.tails ++ t ∷ []) self.new.tails × (self.old.floor ≤ t) × (t ≤ self.new.floor) × (length self.old.taken ≤ t) × (result ≡ min most (t - length self.old.taken)) × (self.old.ended ≡ true → t ≡ self.old.floor) }
-        ensures same { (self.new.ring ≡ self.old.ring) × (self.new.capacity ≡ self.old.capacity) × (self.new.ended ≡ self.old.ended) }
-        ensures released { IsPrefix self.old.released self.new.released }
-        ensures ended { self.old.ended ≡ true → self.new.floor ≡ self.old.floor }
+        ensures shown { (tail : ℕ) × LooksAt self.old self.new tail × (result ≡ min most (tail - length self.old.taken)) }
+        ensures same { (self.new.ring ≡ self.old.ring) × (self.new.capacity ≡ self.old.capacity) × (self.new.ended ≡ self.old.ended) × (self.new.sent ≡ self.old.sent) }
+        ensures released { Releases self.old self.new }
+        ensures ended { self.old.ended ≡ true → self.new.floor ≡ length self.old.sent }
+        ensures begins { self.old.ended ≡ true → IsPrefix self.new.taken self.old.sent }
     {
         let shown = self.taker.look().min(most);
         let mut left = shown;
@@ -137,11 +145,12 @@ impl FlipOut {
         shown
     }
 
-    /// Takes over the other end, which first pushes, and answers how many characters were put.
+    /// Takes over the other end, which first pushes, and answers how many characters were put. From
+    /// then on each tail counts these.
     pub fn end(&mut self, putter: FlipIn) -> u64
         requires { putter.ring ≡ self.old.ring }
         ensures sent { result ≡ length putter.sent }
-        ensures same { self.new ≡ record self.old { floor = length putter.sent; ended = true } }
+        ensures same { self.new ≡ record self.old { floor = length putter.sent; ended = true; sent = putter.sent } }
         ensures compared { IsPrefix self.old.taken putter.sent }
         ensures heads { AreReleased self.old.released putter.heads }
         ensures floor { self.old.floor ≤ length putter.sent }

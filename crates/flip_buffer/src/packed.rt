@@ -1,12 +1,12 @@
 //! A character in a number of 16 bits.
 ghost use Rattle.std.specs.Prelude.{◌≡◌, ◌≤◌};
-ghost use Rattle.flip_buffer.specs.Packed.{char_of, flag_of};
+ghost use Rattle.flip_buffer.specs.Packed.{char_of, flag_of_number};
 
 use tty_base::{Flag, Flagged};
 
 fn flag_number(flag: Flag) -> u16
     ensures fits { result ≤ 4 }
-    ensures flag { flag_of result ≡ flag }
+    ensures flag { flag_of_number result ≡ flag }
 {
     match flag {
         Flag::Normal => 0,
@@ -18,7 +18,7 @@ fn flag_number(flag: Flag) -> u16
 }
 
 fn numbered_flag(number: u16) -> Flag
-    ensures { result ≡ flag_of number }
+    ensures { result ≡ flag_of_number number }
 {
     match number {
         0 => Flag::Normal,

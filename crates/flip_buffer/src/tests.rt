@@ -22,9 +22,6 @@ fn character(i: usize) -> Flagged
     }
 }
 
-// Takes what may move to another thread.
-fn moves<T: Send>(_item: &T) {}
-
 #[test]
 fn sixty_five_characters(rt: HostRuntime) -> Result<(), Fail> {
     let (mut input, mut output) = flip(rt.alloc(), 64)?;
@@ -57,10 +54,8 @@ fn notes_and_the_end(rt: HostRuntime) -> Result<(), Fail> {
     let (mut input, mut output) = flip(rt.alloc(), 64)?;
     assert!(rt; input.put(character(1)).is_ok());
     let note = input.note();
-    moves(&note);
     output.meet(note);
     let head = output.note();
-    moves(&head);
     input.meet(head);
     assert_eq!(rt; output.look(), 1);
     assert_eq!(rt; output.end(input), 1);

@@ -1,19 +1,21 @@
 //! The wire, held output, and what halts it.
 
-ghost use Rattle.std.specs.Prelude.{◌≡◌, ◌≤◌, ◌<◌, ◌+◌, ◌-◌, [], ◌∷◌, ◌++◌, length, false, true, IfOk, OnOk, OnErr, vec_len, vec_capacity};
-ghost use Rattle.flow_control.specs.Output.{after_reset, after_start, after_tco_on, flushed, has_room, idle_output, is_halted, on_wire, released, room_of, tried};
+ghost use Rattle.std.specs.Prelude.{◌≡◌, ◌≤◌, ◌<◌, ◌+◌, ◌-◌, [], ◌∷◌, ◌++◌, length, take, false, true, IfOk, OnOk, OnErr, vec_len, vec_capacity};
+ghost use Rattle.flow_control.specs.Output.{after_reset, after_start, after_tco_on, with_held_sent, has_room, idle_output, is_halted, on_wire, after_release, room_of, after_try, without_front};
 
 use std::alloc::Global;
 use std::marker::Model;
-use tty_base::{Bytes, NoMemory};
+use tty_base::{Bytes, Moves, NoMemory};
 
 /// How many bytes can be held while output is halted.
 const HELD_BYTES: usize = 4096;
 
-/// The output side of a port. Without a halt bytes go to the wire at once, and with one they are held, at most 4,096.
+/// What a port sends: the wire, which is all that went out so far, and behind it up to 4,096 bytes that wait while output
+/// is halted. Two halts can stand, that of STOP and that of TCOOFF (tcflow(3)); the one that goes last lets out what waits,
+/// in the order in which it was sent.
 ///
-/// Output is halted by STOP or by TCOOFF (tcflow(3)). When the last halt goes, the held bytes go to the wire in order.
-/// Room on the wire is reserved before bytes are sent, so that only `new` and `reserve` take memory.
+/// Room on the wire is reserved before bytes are sent, so that only `new` and `reserve` take memory. Contracts see it as
+/// `spare`; what each call takes of it at most is its clause `spent`.
 #[derive(Debug, Drop)]
 pub struct Wire {
     wire: Bytes,
@@ -37,6 +39,8 @@ impl Model for Wire {
       only_halted : w.stopped ≡ false → w.off ≡ false → w.held.items ≡ [];
     } };
 }
+
+impl Moves for Wire {}
 
 impl Wire {
     /// An empty wire, without a halt, with room for 4,096 held bytes.
@@ -68,7 +72,8 @@ impl Wire {
     pub fn send(&mut self, bytes: &[u8]) -> bool
         requires { length bytes.now ≤ self.old.spare }
         ensures room { result ≡ has_room self.old bytes.now }
-        ensures sent { self.new ≡ tried self.old bytes.now }
+        ensures sent { self.new ≡ after_try self.old bytes.now }
+        ensures spent { self.old.spare ≤ self.new.spare + length bytes.now }
     {
         if !self.halted() {
             self.wire.append(bytes);
@@ -91,7 +96,9 @@ impl Wire {
     /// START resumes output that STOP halted.
     pub fn start(&mut self)
         requires { length self.old.held ≤ self.old.spare }
-        ensures { self.new ≡ after_start self.old }
+        ensures after { self.new ≡ after_start self.old }
+        // What goes to the wire was held.
+        ensures spent { self.old.spare + length self.new.held ≤ self.new.spare + length self.old.held }
     {
         if !self.off {
             self.flush();
@@ -109,7 +116,8 @@ impl Wire {
     /// TCOON resumes output that TCOOFF halted, also where STOP halted it too. Without TCOOFF it does nothing.
     pub fn tco_on(&mut self)
         requires { length self.old.held ≤ self.old.spare }
-        ensures { self.new ≡ after_tco_on self.old }
+        ensures after { self.new ≡ after_tco_on self.old }
+        ensures spent { self.old.spare + length self.new.held ≤ self.new.spare + length self.old.held }
     {
         if self.off {
             self.release();
@@ -129,7 +137,8 @@ impl Wire {
     /// Clears both halts and sends the held bytes.
     pub fn release(&mut self)
         requires { length self.old.held ≤ self.old.spare }
-        ensures { self.new ≡ released self.old }
+        ensures after { self.new ≡ after_release self.old }
+        ensures spent { self.old.spare + length self.new.held ≤ self.new.spare + length self.old.held }
     {
         self.flush();
         self.stopped = false;
@@ -146,7 +155,8 @@ impl Wire {
     /// Puts one byte on the wire, past a halt.
     pub fn urgent(&mut self, b: u8)
         requires { 0 < self.old.spare }
-        ensures { self.new ≡ on_wire self.old (b ∷ []) }
+        ensures after { self.new ≡ on_wire self.old (b ∷ []) }
+        ensures spent { self.old.spare ≤ self.new.spare + 1 }
     {
         self.wire.add(b);
     }
@@ -181,6 +191,16 @@ impl Wire {
         self.wire.as_slice()
     }
 
+    /// Moves the first `n` bytes of the wire to the end of `out`, for a user who runs for ever. Their room is free again.
+    pub fn take_front(&mut self, n: usize, out: &mut Bytes)
+        requires within { n ≤ length self.old.wire }
+        requires room { n ≤ out.old.spare }
+        ensures front { out.new ≡ record { items = out.old.items ++ take n self.old.wire; spare = out.old.spare - n } }
+        ensures rest { self.new ≡ without_front n self.old }
+    {
+        self.wire.take_front(n, out);
+    }
+
     /// All bytes that went to the wire, as a list of their own. It takes no memory.
     pub fn into_wire(self) -> Bytes
         ensures { result.items ≡ self.wire }
@@ -212,7 +232,7 @@ impl Wire {
     // Sends the held bytes.
     fn flush(&mut self)
         requires { length self.old.held ≤ self.old.spare }
-        ensures { self.new ≡ flushed self.old }
+        ensures { self.new ≡ with_held_sent self.old }
     {
         self.wire.append(self.held.as_slice());
         self.held.clear();

@@ -1,7 +1,7 @@
 //! What a port counts, and the signals that it raised.
 
 use std::alloc::Global;
-use tty_base::{Buffer, Counts, NoMemory, Signal};
+use tty_base::{Buffer, Counts, Moves, NoMemory, Signal};
 
 /// A kind of event that is counted.
 #[derive(Clone, Copy, PartialEq, Eq, Debug)]
@@ -40,9 +40,11 @@ pub struct Tally {
     pub signals: Signals,
 }
 
+impl Moves for Tally {}
+
 impl Tally {
-    ghost use Rattle.std.specs.Prelude.{◌≡◌, ◌≤◌, ◌<◌, ◌-◌, [], ◌∷◌, ◌++◌, OnOk, OnErr};
-    ghost use Rattle.flow_control.specs.Counting.{counted, no_counts};
+    ghost use Rattle.std.specs.Prelude.{◌≡◌, ◌≤◌, ◌<◌, ◌-◌, [], ◌∷◌, ◌++◌, length, take, OnOk, OnErr};
+    ghost use Rattle.flow_control.specs.Counting.{with_count, no_counts, without_signals};
 
     /// Nothing is counted and no signal is raised. It takes no memory.
     pub fn new(alloc: Global) -> Tally
@@ -67,7 +69,7 @@ impl Tally {
 
     /// Counts `more` events of one kind.
     pub fn count(&mut self, counter: Counter, more: u64)
-        ensures { self.new ≡ record self.old { counts = counted self.old.counts counter more } }
+        ensures { self.new ≡ record self.old { counts = with_count self.old.counts counter more } }
     {
         let counts = &mut self.counts;
         match counter {
@@ -93,5 +95,15 @@ impl Tally {
             } }
     {
         self.signals.add(signal);
+    }
+
+    /// Moves the first `n` signals to the end of `out`, for a user who runs for ever. Their room is free again.
+    pub fn take_signals(&mut self, n: usize, out: &mut Signals)
+        requires within { n ≤ length self.old.signals.items }
+        requires room { n ≤ out.old.spare }
+        ensures front { out.new ≡ record { items = out.old.items ++ take n self.old.signals.items; spare = out.old.spare - n } }
+        ensures rest { self.new ≡ without_signals n self.old }
+    {
+        self.signals.take_front(n, out);
     }
 }

@@ -1,12 +1,16 @@
-use crate::{Counter, Tally, Wire};
+use crate::{Counter, Signals, Tally, Wire, room_makes_no_difference};
 use std::test::Fail;
-use tty_base::Signal;
-
-fn moves<T: Send + Drop>(_value: T) {}
+use tty_base::{Bytes, Signal};
 
 fn send_spare(wire: &mut Wire, bytes: &[u8]) -> Result<bool, Fail> {
     wire.reserve(bytes.len())?;
     Ok(wire.send(bytes))
+}
+
+fn take_front_where(wire: &mut Wire, n: usize, out: &mut Bytes) {
+    if n <= wire.wire().len() && n <= out.spare() {
+        wire.take_front(n, out);
+    }
 }
 
 #[test]
@@ -22,7 +26,6 @@ fn held_output_goes_out_in_order(rt: HostRuntime) -> Result<(), Fail> {
     wire.start();
     assert!(rt; wire.held() == 0 && !wire.halted() && wire.wire().len() == 4096);
     assert_eq!(rt; wire.wire().last().copied(), Some(98));
-    moves(wire);
     Ok(())
 }
 
@@ -53,6 +56,32 @@ fn both_halts_and_the_note(rt: HostRuntime) -> Result<(), Fail> {
     wire.reset();
     assert!(rt; !wire.halted() && !wire.noted());
     assert!(rt; wire.into_wire().as_slice() == b"\x13ac".as_slice());
+    room_makes_no_difference();
+    Ok(())
+}
+
+#[test]
+fn what_went_out_is_taken_from_the_front(rt: HostRuntime) -> Result<(), Fail> {
+    let mut wire = Wire::new(rt.alloc())?;
+    assert!(rt; send_spare(&mut wire, b"abcd")?);
+    let mut out = Bytes::new(rt.alloc());
+    out.reserve(3)?;
+    take_front_where(&mut wire, 3, &mut out);
+    assert!(rt; out.as_slice() == b"abc".as_slice() && wire.wire() == b"d".as_slice());
+    Ok(())
+}
+
+#[test]
+fn signals_are_taken_from_the_front(rt: HostRuntime) -> Result<(), Fail> {
+    let mut tally = Tally::new(rt.alloc());
+    tally.reserve(2)?;
+    tally.raise(Signal::Int);
+    tally.raise(Signal::Quit);
+    let mut out = Signals::new(rt.alloc());
+    out.reserve(1)?;
+    tally.take_signals(1, &mut out);
+    assert!(rt; out.as_slice() == [Signal::Int].as_slice());
+    assert!(rt; tally.signals.as_slice() == [Signal::Quit].as_slice());
     Ok(())
 }
 
@@ -67,6 +96,5 @@ fn counts_and_signals(rt: HostRuntime) -> Result<(), Fail> {
     tally.count(Counter::PacketBad, 1);
     assert!(rt; tally.counts.echo == u64::MAX && tally.counts.pbad == 1 && tally.counts.mark == 0);
     assert!(rt; tally.signals.as_slice() == [Signal::Int, Signal::Susp].as_slice());
-    moves(tally);
     Ok(())
 }

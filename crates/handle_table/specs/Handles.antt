@@ -1,5 +1,5 @@
 -- The handles of a port: a map from the numbers 0 to 31.
-use Rattle.std.specs.Prelude.{ℕ, Bool, true, false, Option, Some, None, List, slice_index_or, slice_set, map, replicate, count_by}
+use Rattle.std.specs.Prelude.{◌≡◌, ℕ, length, Bool, true, false, Option, Some, None, List, slice_index_or, slice_set, map, replicate, count_by}
 use Rattle.tty_calls.specs.declared.calls.Access.{Access}
 use Rattle.handle_table.specs.declared.HandleState.{HandleState}
 
@@ -20,13 +20,14 @@ with_handle handles h access nonblock = slice_set handles h (Some (record { acce
 abbrev pub without_handle : HandleMap → ℕ → HandleMap
 without_handle handles h = slice_set handles h None
 
--- a handle after a hangup: it keeps its number, and is dead
-abbrev pub killed : Option HandleState → Option HandleState
-killed None = None
-killed (Some handle) = Some (record handle { live = false })
+-- a slot after a hangup: its handle is dead, and keeps the number
+abbrev pub handle_after_hangup : Option HandleState → Option HandleState
+handle_after_hangup None = None
+handle_after_hangup (Some handle) = Some (record handle { live = false })
 
-abbrev pub all_killed : HandleMap → HandleMap
-all_killed handles = map killed handles
+-- all of them after a hangup
+abbrev pub after_hangup : HandleMap → HandleMap
+after_hangup handles = map handle_after_hangup handles
 
 abbrev pub is_live : Option HandleState → Bool
 is_live None = false
@@ -34,3 +35,8 @@ is_live (Some handle) = handle.live
 
 abbrev pub live_count : HandleMap → ℕ
 live_count handles = count_by is_live handles
+
+-- there are 32 slots, and the number that is kept is that of the live handles in them
+pub record IsTable (slots : HandleMap) (live : ℕ) : Type 0 where
+  pub numbers : length slots ≡ 32
+  pub live_is : live ≡ live_count slots

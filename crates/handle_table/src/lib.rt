@@ -2,7 +2,7 @@
 #![tactic(auto)]
 
 ghost use Rattle.std.specs.Prelude.{◌≡◌, ◌<◌, ◌≤◌, is_some, is_none, length, if◌then◌else◌};
-ghost use Rattle.handle_table.specs.Handles.{no_handles, handle_at, with_handle, without_handle, killed as killed_state, all_killed, is_live as is_live_state, live_count};
+ghost use Rattle.handle_table.specs.Handles.{no_handles, handle_at, with_handle, without_handle, handle_after_hangup, after_hangup, live_count};
 
 use std::marker::Model;
 use tty_calls::Access;
@@ -25,17 +25,17 @@ pub struct HandleState {
 #[derive(Debug, Drop)]
 pub struct Handles {
     slots: [Option<HandleState>; NUMBERS],
+    live: usize,
 }
 
 impl Model for Handles {
-    ghost use Rattle.std.specs.Prelude.{◌≡◌, length};
-    ghost use Rattle.handle_table.specs.Handles.{HandleMap};
+    ghost use Rattle.handle_table.specs.Handles.{HandleMap, IsTable};
 
     ghost Value = { HandleMap };
 
     ghost view = { λ handles. handles.slots };
 
-    ghost invariant = { λ handles. length handles.slots ≡ 32 };
+    ghost invariant = { λ handles. IsTable handles.slots handles.live };
 }
 
 impl Handles {
@@ -45,6 +45,7 @@ impl Handles {
     {
         Handles {
             slots: [None; NUMBERS],
+            live: 0,
         }
     }
 
@@ -64,6 +65,7 @@ impl Handles {
             nonblock,
             live: true,
         });
+        self.live += 1;
         true
     }
 
@@ -72,20 +74,24 @@ impl Handles {
         ensures used { result ≡ is_some (handle_at self.old h) }
         ensures after { self.new ≡ (if result then without_handle self.old h else self.old) }
     {
-        if self.state(h).is_none() {
+        let Some(handle) = self.state(h) else {
             return false;
-        }
+        };
         self.slots[usize::from(h)] = None;
+        if handle.live {
+            self.live -= 1;
+        }
         true
     }
 
     /// Makes each handle dead. Their numbers stay in use.
     pub fn kill_all(&mut self)
-        ensures { self.new ≡ all_killed self.old }
+        ensures { self.new ≡ after_hangup self.old }
     {
         for slot in self.slots.iter_mut() {
-            *slot = killed(*slot);
+            *slot = handle_after_hangup(*slot);
         }
+        self.live = 0;
     }
 
     /// The handle of a number, or None where it is not in use.
@@ -101,24 +107,18 @@ impl Handles {
         ensures count { result ≡ live_count self.now }
         ensures few { result ≤ 32 }
     {
-        self.slots.iter().filter(|slot| is_live(**slot)).count()
+        self.live
     }
 }
 
 /// The handle after a hangup.
-fn killed(slot: Option<HandleState>) -> Option<HandleState>
-    ensures { result ≡ killed_state slot }
+fn handle_after_hangup(slot: Option<HandleState>) -> Option<HandleState>
+    ensures { result ≡ handle_after_hangup slot }
 {
     slot.map(|handle| HandleState {
         live: false,
         ..handle
     })
-}
-
-fn is_live(slot: Option<HandleState>) -> bool
-    ensures { result ≡ is_live_state slot }
-{
-    slot.is_some_and(|handle| handle.live)
 }
 
 #[cfg(test)]

@@ -25,3 +25,10 @@ fn a_killed_handle_keeps_its_number(rt: HostRuntime) {
     assert!(rt; handles.admit(31, Access::W, false));
     assert_eq!(rt; handles.live(), 1);
 }
+
+fn moves<T: Send + Sync + Drop>(_value: T) {}
+
+#[test]
+fn handles_move_between_threads(_rt: HostRuntime) {
+    moves(Handles::new());
+}

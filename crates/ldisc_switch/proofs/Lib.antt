@@ -3,4 +3,4 @@ pub mod PacketLemmas
 pub mod EchoLemmas
 pub mod TakingLemmas
 pub mod ColumnLemmas
-pub mod MovedLemmas
+pub mod WithoutRoom

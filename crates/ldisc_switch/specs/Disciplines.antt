@@ -1,13 +1,15 @@
 -- A line discipline of a port: N_TTY or N_SLIP.
-use Rattle.std.specs.Prelude.{ℕ, ◌==◌, Bool, true, Option, Some, None, if◌then◌else◌}
+use Rattle.std.specs.Prelude.{ℕ, ◌==◌, Bool, true, false, Option, Some, None, if◌then◌else◌}
 use Rattle.tty_base.specs.declared.characters.Flagged.{Flagged}
 use Rattle.tty_modes.specs.Settings.{Settings}
-use Rattle.flow_control.specs.Output.{Output}
+use Rattle.flow_control.specs.Output.{Output, without_room}
+use Rattle.flow_control.specs.Counting.{without_signal_room}
 use Rattle.flow_control.specs.declared.tally.Tally.{Tally}
-use Rattle.n_tty.specs.States.{fresh_tty, OnPort, on_port, is_accepting, unread_count, FitsModes}
-use Rattle.n_tty.specs.Receiving.{received}
-use Rattle.n_tty.specs.Flow.{ixoff_ruled}
-use Rattle.n_slip.specs.Discipline.{fresh_slip, received as slip_received, counts_after}
+use Rattle.n_tty.specs.States.{fresh_tty, OnPort, on_port, is_accepting, unread_count, has_piece, FitsModes}
+use Rattle.n_tty.specs.Receiving.{after_character}
+use Rattle.n_tty.specs.Flow.{after_ixoff_rule}
+use Rattle.n_tty.specs.Spending.{pending_count}
+use Rattle.n_slip.specs.Discipline.{fresh_slip, after_character as after_slip_character, counts_after_character}
 use Rattle.ldisc_switch.specs.declared.kinds.Kind.{Kind}
 use Rattle.ldisc_switch.specs.declared.kinds.Kind.TheVariants as kind
 use Rattle.ldisc_switch.specs.declared.discipline.Disc.{Disc}
@@ -36,6 +38,11 @@ abbrev pub unread_of : Disc → ℕ
 unread_of (disc.Tty tty) = unread_count tty
 unread_of (disc.Slip slip) = 0
 
+-- a piece is complete; under N_SLIP none is
+abbrev pub has_piece_of : Disc → Bool
+has_piece_of (disc.Tty tty) = has_piece tty
+has_piece_of (disc.Slip slip) = false
+
 -- under N_TTY the state fits the modes
 abbrev pub Fits : Settings → Disc → Type 0
 Fits modes (disc.Tty tty) = FitsModes modes tty
@@ -50,26 +57,35 @@ abbrev pub last_in : Disc → ℕ
 last_in (disc.Tty tty) = tty.last
 last_in (disc.Slip slip) = 0
 
--- the rule for ixoff; N_SLIP has nothing unread, as a fresh N_TTY has
-abbrev pub ixoff_of : Settings → Disc → Output → Output
-ixoff_of modes (disc.Tty tty) output = ixoff_ruled modes tty output
-ixoff_of modes (disc.Slip slip) output = ixoff_ruled modes fresh_tty output
+-- the rule for ixoff, by what the discipline has unread
+abbrev pub after_ixoff_rule_of : Settings → Disc → Output → Output
+after_ixoff_rule_of modes state output = after_ixoff_rule modes (unread_of state) (has_piece_of state) output
+
+-- how many bytes can still go to the wire for what is there, beside what the next character adds; a character under N_SLIP
+-- lets nothing go that is held
+abbrev pub pending_count_of : Disc → Output → ℕ
+pending_count_of (disc.Tty tty) output = pending_count tty output
+pending_count_of (disc.Slip slip) output = 0
 
 -- a discipline, with the port's output and what the port counts
-pub record WithPort : Type 0 where
+pub record DiscOnPort : Type 0 where
   pub disc : Disc
   pub output : Output
   pub tally : Tally
 
-abbrev pub with_port : Disc → Output → Tally → WithPort
-with_port disc output tally = record { disc = disc; output = output; tally = tally }
+abbrev pub disc_on_port : Disc → Output → Tally → DiscOnPort
+disc_on_port disc output tally = record { disc = disc; output = output; tally = tally }
 
-abbrev pub tty_with_port : OnPort → WithPort
-tty_with_port port = with_port (disc.Tty port.tty) port.output port.tally
+abbrev pub tty_on_port : OnPort → DiscOnPort
+tty_on_port port = disc_on_port (disc.Tty port.tty) port.output port.tally
 
 -- receiving a character; the rule for ixoff follows
-abbrev pub received_by : Settings → (now : ℕ) → Flagged → Disc → Output → Tally → WithPort
-received_by modes now c (disc.Tty tty) output tally = tty_with_port (received modes now c (on_port tty output tally))
-received_by modes now c (disc.Slip slip) output tally =
-    with_port (disc.Slip (slip_received slip c)) (ixoff_of modes (disc.Slip slip) output)
-    (record tally { counts = counts_after slip c tally.counts })
+abbrev pub after_character_of : Settings → (now : ℕ) → Flagged → Disc → Output → Tally → DiscOnPort
+after_character_of modes now c (disc.Tty tty) output tally = tty_on_port (after_character modes now c (on_port tty output tally))
+after_character_of modes now c (disc.Slip slip) output tally =
+    disc_on_port (disc.Slip (after_slip_character slip c)) (after_ixoff_rule_of modes (disc.Slip slip) output)
+    (record tally { counts = counts_after_character slip c tally.counts })
+
+-- a discipline with its port as others see it: reserved room is no part of it
+abbrev pub disc_without_room : DiscOnPort → DiscOnPort
+disc_without_room port = disc_on_port port.disc (without_room port.output) (without_signal_room port.tally)

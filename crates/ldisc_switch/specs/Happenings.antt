@@ -1,77 +1,77 @@
--- A discipline as a kind and the list of what has happened to it since it was installed.
+-- The life of a discipline on its port: what kind it is, and what befell it there, event by event.
 use Rattle.std.specs.Prelude.{◌≡◌, ℕ, List, [], ◌∷◌, ◌++◌, drop, fold}
 use Rattle.tty_base.specs.declared.characters.Flagged.{Flagged}
 use Rattle.tty_modes.specs.Settings.{Settings}
 use Rattle.flow_control.specs.Output.{Output}
 use Rattle.flow_control.specs.declared.tally.Tally.{Tally}
 use Rattle.n_tty.specs.Reading.{after_read}
-use Rattle.n_tty.specs.Storing.{emptied, recast}
+use Rattle.n_tty.specs.Storing.{without_input, after_recast}
 use Rattle.n_tty.specs.Writing.{after_write}
 use Rattle.n_slip.specs.History as slip
 use Rattle.ldisc_switch.specs.declared.kinds.Kind.{Kind}
 use Rattle.ldisc_switch.specs.declared.discipline.Disc.{Disc}
 use Rattle.ldisc_switch.specs.declared.discipline.Disc.TheVariants as disc
-use Rattle.ldisc_switch.specs.Disciplines.{fresh_of, received_by}
+use Rattle.ldisc_switch.specs.Disciplines.{fresh_of, after_character_of}
 
--- what a character found: the modes, the tick, and the port's output and counts
-pub record Found : Type 0 where
+-- what a character comes upon, and what its effect depends on: the modes, the tick, and the port's output and counts
+pub record Conditions : Type 0 where
   pub modes : Settings
   pub tick : ℕ
   pub output : Output
   pub tally : Tally
 
--- What can happen to a discipline, each with what its effect on the discipline depends on.
+-- One event, with all that its effect on the discipline is computed from.
 pub data Happening : Type 0 where
-  -- a character came
-  heard : Found → Flagged → Happening
-  -- at most so many bytes were read
-  was_read : Settings → (n : ℕ) → Happening
-  -- a piece of a write, of these bytes, under this output
-  wrote : Settings → Output → List ℕ → Happening
-  -- unread input was flushed
-  flushed : Happening
-  -- the modes were changed
-  changed : (old new : Settings) → Happening
-  -- the rule for ixoff was applied
-  ruled : Happening
-  -- the oldest packet was taken
-  packet_taken : Happening
+  -- a character is received
+  character : Conditions → Flagged → Happening
+  -- a read that asks for n bytes
+  read : Settings → (n : ℕ) → Happening
+  -- a piece of a write of these bytes, under this output
+  write : Settings → Output → List ℕ → Happening
+  -- input is thrown away
+  flush : Happening
+  -- other modes
+  mode_change : (old new : Settings) → Happening
+  -- the rule for ixoff
+  ixoff_rule : Happening
+  -- the oldest packet leaves
+  packet_take : Happening
 
--- a discipline after one of them; N_SLIP has no reads and writes of bytes, and N_TTY no packets
+-- a discipline after one event; bytes are read and written under N_TTY alone, and packets are under N_SLIP alone
 abbrev pub after_one : Disc → Happening → Disc
-after_one state (heard found c) = (received_by found.modes found.tick c state found.output found.tally).disc
-after_one (disc.Tty tty) (was_read modes n) = disc.Tty (after_read modes n tty)
-after_one (disc.Tty tty) (wrote modes output bytes) = disc.Tty (after_write modes output bytes tty)
-after_one (disc.Tty tty) flushed = disc.Tty (emptied tty)
-after_one (disc.Tty tty) (changed old new) = disc.Tty (recast old new tty)
-after_one (disc.Tty tty) ruled = disc.Tty tty
-after_one (disc.Tty tty) packet_taken = disc.Tty tty
-after_one (disc.Slip slip) (was_read modes n) = disc.Slip slip
-after_one (disc.Slip slip) (wrote modes output bytes) = disc.Slip slip
-after_one (disc.Slip slip) flushed = disc.Slip (record slip { waiting = [] })
-after_one (disc.Slip slip) (changed old new) = disc.Slip slip
-after_one (disc.Slip slip) ruled = disc.Slip slip
-after_one (disc.Slip slip) packet_taken = disc.Slip (record slip { waiting = drop 1 slip.waiting })
+after_one state (character conditions c) = (after_character_of conditions.modes conditions.tick c state conditions.output conditions.tally).disc
+after_one (disc.Tty tty) (read modes n) = disc.Tty (after_read modes n tty)
+after_one (disc.Tty tty) (write modes output bytes) = disc.Tty (after_write modes output bytes tty)
+after_one (disc.Tty tty) flush = disc.Tty (without_input tty)
+after_one (disc.Tty tty) (mode_change old new) = disc.Tty (after_recast old new tty)
+after_one (disc.Tty tty) ixoff_rule = disc.Tty tty
+after_one (disc.Tty tty) packet_take = disc.Tty tty
+after_one (disc.Slip slip) (read modes n) = disc.Slip slip
+after_one (disc.Slip slip) (write modes output bytes) = disc.Slip slip
+after_one (disc.Slip slip) flush = disc.Slip (record slip { packets = [] })
+after_one (disc.Slip slip) (mode_change old new) = disc.Slip slip
+after_one (disc.Slip slip) ixoff_rule = disc.Slip slip
+after_one (disc.Slip slip) packet_take = disc.Slip (record slip { packets = drop 1 slip.packets })
 
--- a discipline after all of them, in order
+-- a discipline after one event and the next, to the last
 abbrev pub after_all : Disc → List Happening → Disc
 after_all state events = fold after_one state events
 
--- this has happened to a discipline of this kind since it was installed, in this order, and nothing else
+-- a discipline of this kind, put fresh on its port, came to where it is by exactly these events
 abbrev pub HasHappened : Disc → Kind → List Happening → Type 0
 HasHappened state kind events = state ≡ after_all (fresh_of kind) events
 
--- what N_SLIP knows of a happening
+-- an event as N_SLIP sees it
 abbrev pub slip_part : Happening → List slip.Happening
-slip_part (heard found c) = slip.heard c ∷ []
-slip_part flushed = slip.flushed ∷ []
-slip_part packet_taken = slip.taken ∷ []
-slip_part (was_read modes n) = []
-slip_part (wrote modes output bytes) = []
-slip_part (changed old new) = []
-slip_part ruled = []
+slip_part (character conditions c) = slip.character c ∷ []
+slip_part flush = slip.flush ∷ []
+slip_part packet_take = slip.packet_take ∷ []
+slip_part (read modes n) = []
+slip_part (write modes output bytes) = []
+slip_part (mode_change old new) = []
+slip_part ixoff_rule = []
 
--- what has happened to N_SLIP, among these
+-- the events that N_SLIP sees, among these
 abbrev pub slip_parts : List Happening → List slip.Happening
 slip_parts [] = []
 slip_parts (event ∷ events) = slip_part event ++ slip_parts events

@@ -2,46 +2,46 @@
 use Rattle.std.specs.Prelude.{ℕ, ◌==◌, List, [], ◌∷◌, ◌++◌, if◌then◌else◌}
 use Rattle.tty_base.specs.declared.characters.Flagged.{Flagged}
 use Rattle.tty_modes.specs.Settings.{Settings}
-use Rattle.opost_out.specs.Column.{Sent, sent_under}
+use Rattle.opost_out.specs.Column.{PostedByte, posted_text_under}
 use Rattle.flow_control.specs.Output.{Output, idle_output}
 use Rattle.flow_control.specs.Counting.{no_counts}
 use Rattle.flow_control.specs.declared.tally.Tally.{Tally}
 use Rattle.n_tty.specs.States.{NTtyState, OnPort, on_port}
-use Rattle.n_tty.specs.Receiving.{taken_by}
+use Rattle.n_tty.specs.Receiving.{after_flagged}
 use Rattle.n_tty.specs.Writing.{piece_text}
 use Rattle.ldisc_switch.specs.declared.discipline.Disc.{Disc}
 use Rattle.ldisc_switch.specs.declared.discipline.Disc.TheVariants as disc
-use Rattle.ldisc_switch.specs.Happenings.{Found, Happening, heard, was_read, wrote, flushed, changed, ruled, packet_taken, after_one}
+use Rattle.ldisc_switch.specs.Happenings.{Conditions, Happening, character, read, write, flush, mode_change, ixoff_rule, packet_take, after_one}
 
 abbrev pub new_tally : Tally
 new_tally = record { counts = no_counts; signals = record { items = []; spare = 0 } }
 
 -- a character taken under some output, by a port that has counted nothing
-abbrev pub taken_under : Settings → (now : ℕ) → Flagged → NTtyState → Output → OnPort
-taken_under modes now c tty output = taken_by modes now c.flag c.byte (on_port tty output new_tally)
+abbrev pub port_after_character : Settings → (now : ℕ) → Flagged → NTtyState → Output → OnPort
+port_after_character modes now c tty output = after_flagged modes now c.flag c.byte (on_port tty output new_tally)
 
 -- The echo of a character is what an idle port puts on its wire for it. Under an output that has no room for it, it is
 -- dropped whole and counted, and nothing is posted.
-abbrev pub kept_text : (under on_idle : OnPort) → List ℕ
-kept_text under on_idle = if under.tally.counts.echo == 0 then on_idle.output.wire else []
+abbrev pub kept_echo : (under on_idle : OnPort) → List ℕ
+kept_echo under on_idle = if under.tally.counts.echo == 0 then on_idle.output.wire else []
 
 -- what a character posts
-abbrev pub echo_posted : Found → Flagged → NTtyState → List ℕ
-echo_posted found c tty =
-    kept_text (taken_under found.modes found.tick c tty found.output) (taken_under found.modes found.tick c tty idle_output)
+abbrev pub character_echo : Conditions → Flagged → NTtyState → List ℕ
+character_echo conditions c tty =
+    kept_echo (port_after_character conditions.modes conditions.tick c tty conditions.output) (port_after_character conditions.modes conditions.tick c tty idle_output)
 
 -- what one happening posts, each byte with whether iutf8 was set
-abbrev pub posted_at : Disc → Happening → List Sent
-posted_at (disc.Tty tty) (heard found c) = sent_under found.modes (echo_posted found c tty)
-posted_at (disc.Tty tty) (wrote modes output bytes) = sent_under modes (piece_text modes tty output bytes)
-posted_at (disc.Tty tty) (was_read modes n) = []
-posted_at (disc.Tty tty) flushed = []
-posted_at (disc.Tty tty) (changed old new) = []
-posted_at (disc.Tty tty) ruled = []
-posted_at (disc.Tty tty) packet_taken = []
-posted_at (disc.Slip slip) event = []
+abbrev pub text_at : Disc → Happening → List PostedByte
+text_at (disc.Tty tty) (character conditions c) = posted_text_under conditions.modes (character_echo conditions c tty)
+text_at (disc.Tty tty) (write modes output bytes) = posted_text_under modes (piece_text modes tty output bytes)
+text_at (disc.Tty tty) (read modes n) = []
+text_at (disc.Tty tty) flush = []
+text_at (disc.Tty tty) (mode_change old new) = []
+text_at (disc.Tty tty) ixoff_rule = []
+text_at (disc.Tty tty) packet_take = []
+text_at (disc.Slip slip) event = []
 
 -- all that these happenings post, from a state on
-abbrev pub posted_by : Disc → List Happening → List Sent
-posted_by state [] = []
-posted_by state (event ∷ events) = posted_at state event ++ posted_by (after_one state event) events
+abbrev pub text_of_all : Disc → List Happening → List PostedByte
+text_of_all state [] = []
+text_of_all state (event ∷ events) = text_at state event ++ text_of_all (after_one state event) events

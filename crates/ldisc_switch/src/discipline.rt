@@ -1,19 +1,15 @@
 ghost use Rattle.std.specs.Prelude.{◌≡◌, ◌+◌, ◌^◌, ◌<◌, ◌≤◌, List, [], ◌∷◌, ◌++◌, IfOk, true};
 ghost use Rattle.tty_modes.specs.Settings.{Settings};
-ghost use Rattle.n_tty.specs.States.{FitsModes, fresh_tty, is_accepting, on_port};
-ghost use Rattle.n_tty.specs.Receiving.{received};
-ghost use Rattle.n_tty.specs.Flow.{ixoff_ruled};
-ghost use Rattle.ldisc_switch.specs.Disciplines.{kind_of, fresh_of, accepts_of, unread_of, Fits, column_in, last_in, ixoff_of, with_port, received_by};
-ghost use Rattle.ldisc_switch.specs.Happenings.{Found, Happening, heard, ruled, HasHappened};
+ghost use Rattle.ldisc_switch.specs.Disciplines.{kind_of, fresh_of, accepts_of, unread_of, Fits, column_in, last_in, pending_count_of, after_ixoff_rule_of, disc_on_port, after_character_of};
+ghost use Rattle.ldisc_switch.specs.Happenings.{Conditions, Happening, character, ixoff_rule, HasHappened};
 
 use crate::Kind;
 use flow_control::{Tally, Wire};
 use n_slip::NSlip;
-use n_tty::NTty;
+use n_tty::{CHARACTER_ROOM, NTty, apply_ixoff_rule};
 use std::alloc::Global;
-use tty_base::{Flagged, NoMemory};
+use tty_base::{Flagged, Moves, NoMemory};
 use tty_modes::Modes;
-use tty_modes::places::VSTART;
 
 /// A line discipline of either kind.
 #[derive(Drop)]
@@ -36,6 +32,8 @@ pub fn fresh(alloc: Global, kind: Kind) -> Result<Disc, NoMemory>
         Kind::Slip => Disc::Slip(NSlip::new(alloc)?),
     })
 }
+
+impl Moves for Disc {}
 
 impl Disc {
     /// Which kind it is.
@@ -69,6 +67,18 @@ impl Disc {
         }
     }
 
+    /// How many bytes can still go to the wire for what is there, beside what the next character adds: with
+    /// `CHARACTER_ROOM` for each character, the room that characters need.
+    pub fn pending(&self, wire: &Wire) -> usize
+        ensures count { result ≡ pending_count_of self.now wire.now }
+        ensures most { result ≤ 36856 }
+    {
+        match self {
+            Disc::Tty(tty) => tty.pending(wire),
+            Disc::Slip(_) => 0,
+        }
+    }
+
     /// Receives a character at a tick, and then applies the rule for ixoff.
     pub fn receive(
         &mut self,
@@ -80,23 +90,27 @@ impl Disc {
     )
         requires accepting { accepts_of modes.now self.old ≡ true }
         requires fitting { Fits modes.now self.old }
-        requires room { 40960 ≤ wire.old.spare }
+        requires room { pending_count_of self.old wire.old + CHARACTER_ROOM ≤ wire.old.spare }
         requires signal { 0 < tally.old.signals.spare }
         requires column { column_in self.old < 2 ^ 62 }
-        ensures after { with_port self.new wire.new tally.new ≡ received_by modes.now now c self.old wire.old tally.old }
+        ensures after { disc_on_port self.new wire.new tally.new ≡ after_character_of modes.now now c self.old wire.old tally.old }
         ensures happened { (kind : Kind) (events : List Happening) → HasHappened self.old kind events →
-            let found : Found = record { modes = modes.now; tick = now; output = wire.old; tally = tally.old } in
-            HasHappened self.new kind (events ++ heard found c ∷ []) }
+            let conditions : Conditions = record { modes = modes.now; tick = now; output = wire.old; tally = tally.old } in
+            HasHappened self.new kind (events ++ character conditions c ∷ []) }
         ensures fits { Fits modes.now self.new }
+        // So several characters need room for what is pending once, and `CHARACTER_ROOM` for each.
+        ensures spent { wire.old.spare + pending_count_of self.new wire.new
+            ≤ wire.new.spare + (pending_count_of self.old wire.old + CHARACTER_ROOM) }
+        ensures signals { tally.old.signals.spare ≤ tally.new.signals.spare + 1 }
         // So a caller can say how far its characters have moved the column.
         ensures moved { column_in self.new ≤ column_in self.old + 2 ^ 22 }
         ensures past { last_in self.old ≤ now → last_in self.new ≤ now }
     {
         match self {
-            Disc::Tty(tty) => receive_bounded(tty, c, now, modes, wire, tally),
+            Disc::Tty(tty) => tty.receive(c, now, modes, wire, tally),
             Disc::Slip(slip) => {
                 slip.receive(c, tally);
-                start_where_noted(modes, wire);
+                apply_ixoff_rule(0, false, modes, wire);
             }
         }
     }
@@ -106,51 +120,15 @@ impl Disc {
     pub fn ixoff(&self, modes: &Modes, wire: &mut Wire)
         requires fitting { Fits modes.now self.now }
         requires room { 0 < wire.old.spare }
-        ensures wire { wire.new ≡ ixoff_of modes.now self.now wire.old }
+        ensures wire { wire.new ≡ after_ixoff_rule_of modes.now self.now wire.old }
+        ensures held { wire.new.held ≡ wire.old.held }
+        ensures spent { wire.old.spare ≤ wire.new.spare + 1 }
         ensures happened { (kind : Kind) (events : List Happening) → HasHappened self.now kind events →
-            HasHappened self.now kind (events ++ ruled ∷ []) }
+            HasHappened self.now kind (events ++ ixoff_rule ∷ []) }
     {
         match self {
             Disc::Tty(tty) => tty.ixoff(modes, wire),
-            Disc::Slip(_) => start_where_noted(modes, wire),
+            Disc::Slip(_) => apply_ixoff_rule(0, false, modes, wire),
         }
     }
-}
-
-/// N_TTY receives a character. No line is so long that its echo moves the column far.
-fn receive_bounded(
-    tty: &mut NTty,
-    c: Flagged,
-    now: u64,
-    modes: &Modes,
-    wire: &mut Wire,
-    tally: &mut Tally,
-)
-    requires accepting { is_accepting modes.now tty.old ≡ true }
-    requires fitting { FitsModes modes.now tty.old }
-    requires room { 40960 ≤ wire.old.spare }
-    requires signal { 0 < tally.old.signals.spare }
-    requires column { tty.old.column < 2 ^ 62 }
-    ensures after { on_port tty.new wire.new tally.new ≡ received modes.now now c (on_port tty.old wire.old tally.old) }
-    ensures fits { FitsModes modes.now tty.new }
-    ensures moved { tty.new.column ≤ tty.old.column + 2 ^ 22 }
-    ensures past { tty.old.last ≤ now → tty.new.last ≤ now }
-{
-    prove!(tty.unread() <= 4096);
-    tty.receive(c, now, modes, wire, tally);
-}
-
-/// The rule for ixoff where nothing is unread: a sender that was told to stop may go on.
-fn start_where_noted(modes: &Modes, wire: &mut Wire)
-    requires { 0 < wire.old.spare }
-    ensures { wire.new ≡ ixoff_ruled modes.now fresh_tty wire.old }
-{
-    if !wire.noted() {
-        return;
-    }
-    let start = modes.cc(VSTART);
-    if start != 0 {
-        wire.urgent(start);
-    }
-    wire.set_noted(false);
 }

@@ -4,13 +4,13 @@
 mod discipline;
 mod kinds;
 mod laws;
-mod rows;
+pub mod rows;
 
 pub use discipline::{Disc, fresh};
 pub use kinds::Kind;
 pub use laws::{
-    calls_of_n_slip, calls_of_n_tty, column_after_a_write, column_of_all_posted, kind_stays,
-    one_more, packets_of_all_heard, rule_under_n_slip,
+    calls_of_n_slip, calls_of_n_tty, column_of_all_posted, kind_stays, one_more,
+    packets_of_all_heard, room_makes_no_difference, rule_under_n_slip,
 };
 
 #[cfg(test)]

@@ -2,16 +2,15 @@ ghost use Rattle.std.specs.Prelude.{◌≡◌};
 ghost use Rattle.ldisc_switch.specs.Disciplines.{fresh_of};
 
 use crate::{
-    Disc, Kind, calls_of_n_slip, calls_of_n_tty, column_after_a_write, column_of_all_posted, fresh,
-    kind_stays, one_more, packets_of_all_heard, rule_under_n_slip,
+    Disc, Kind, calls_of_n_slip, calls_of_n_tty, column_of_all_posted, fresh, kind_stays, one_more,
+    packets_of_all_heard, room_makes_no_difference, rule_under_n_slip,
 };
 use flow_control::{Tally, Wire};
+use n_tty::CHARACTER_ROOM;
 use std::alloc::Global;
 use std::test::Fail;
 use tty_base::{Bytes, Flag, Flagged};
 use tty_modes::Modes;
-
-fn moves<T: Send + Drop>(_value: T) {}
 
 fn good(byte: u8) -> Flagged {
     Flagged {
@@ -31,7 +30,7 @@ fn kinds_by_number(rt: HostRuntime) {
     rule_under_n_slip();
     kind_stays();
     column_of_all_posted();
-    column_after_a_write();
+    room_makes_no_difference();
     packets_of_all_heard();
 }
 
@@ -44,7 +43,8 @@ fn hear_first(
 ) -> Result<(), Fail>
     requires { disc.old ≡ fresh_of Kind.Tty }
 {
-    wire.reserve(40_960)?;
+    let room = disc.pending(wire) + CHARACTER_ROOM;
+    wire.reserve(room)?;
     tally.reserve(1)?;
     if disc.accepts(modes) {
         disc.receive(good(byte), 0, modes, wire, tally);
@@ -65,7 +65,6 @@ fn a_character_under_n_tty(rt: HostRuntime) -> Result<(), Fail> {
     hear_first(&mut disc, b'a', &modes, &mut wire, &mut tally)?;
     assert_eq!(rt; disc.unread(), 1);
     assert_eq!(rt; wire.wire(), b"\x11a".as_slice());
-    moves(disc);
     Ok(())
 }
 
@@ -76,7 +75,8 @@ fn hear(
     wire: &mut Wire,
     tally: &mut Tally,
 ) -> Result<(), Fail> {
-    wire.reserve(40_960)?;
+    let room = disc.pending(wire) + CHARACTER_ROOM;
+    wire.reserve(room)?;
     tally.reserve(1)?;
     if let Disc::Slip(_) = disc {
         disc.receive(good(byte), 0, modes, wire, tally);
@@ -86,9 +86,9 @@ fn hear(
 
 fn take_first(alloc: Global, disc: &mut Disc) -> Result<Bytes, Fail> {
     let mut out = Bytes::new(alloc);
-    out.reserve(1006)?;
     if let Disc::Slip(slip) = disc {
         if slip.waiting() > 0 {
+            out.reserve(slip.first_len())?;
             slip.take_packet(&mut out);
         }
     }

@@ -65,11 +65,18 @@ impl Store {
         self.lines += 1;
     }
 
+    /// How many bytes `take_line` gives where it is asked for at most `n`.
+    pub fn line_len(&self, n: u32) -> u32
+        ensures { result ≡ length (line_of (read_size n) self.now) }
+    {
+        self.circle.run((n as usize).min(MOST)).bytes as u32
+    }
+
     /// Takes at most `n` bytes of the first piece, and at most 4,096, adds them to `out`, and answers
     /// how many. Where these are all its bytes, its end goes too, so that an EOF mark alone gives none.
     pub fn take_line(&mut self, n: u32, out: &mut Bytes) -> u32
         requires complete { 0 < end_count self.old }
-        requires room { read_size n ≤ out.old.spare }
+        requires room { length (line_of (read_size n) self.old) ≤ out.old.spare }
         ensures count { result ≡ length (line_of (read_size n) self.old) }
         ensures line { out.new ≡ record {
           items = out.old.items ++ line_of (read_size n) self.old;
@@ -85,11 +92,18 @@ impl Store {
         run.bytes as u32
     }
 
+    /// How many bytes `take_raw` gives where it is asked for at most `n`.
+    pub fn raw_len(&self, n: u32) -> u32
+        ensures { result ≡ length (take (read_size n) (bytes_of self.now)) }
+    {
+        (n as usize).min(MOST).min(self.bytes) as u32
+    }
+
     /// Takes at most `n` bytes and at most 4,096 of a store without ends, adds them to `out`, and
     /// answers how many.
     pub fn take_raw(&mut self, n: u32, out: &mut Bytes) -> u32
         requires plain { end_count self.old ≡ 0 }
-        requires room { read_size n ≤ out.old.spare }
+        requires room { length (take (read_size n) (bytes_of self.old)) ≤ out.old.spare }
         ensures count { result ≡ length (take (read_size n) (bytes_of self.old)) }
         ensures bytes { out.new ≡ record {
           items = out.old.items ++ take (read_size n) (bytes_of self.old);

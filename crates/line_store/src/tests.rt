@@ -79,11 +79,12 @@ fn read(rt: &(impl Abort + Alloc<A = Global>), both: &mut Both, n: u8) -> Result
     assert!(rt; both.plain.bytes.starts_with(both.store.front()));
     let mut read = Bytes::new(rt.alloc());
     let mut wanted = Vec::new(rt.alloc());
-    read.reserve(4096)?;
     if both.store.lines() == 0 {
+        read.reserve(both.store.raw_len(u32::from(n)) as usize)?;
         both.store.take_raw(u32::from(n), &mut read);
         both.plain.take(usize::from(n), &mut wanted)?;
     } else {
+        read.reserve(both.store.line_len(u32::from(n)) as usize)?;
         both.store.take_line(u32::from(n), &mut read);
         both.plain.take_line(usize::from(n), &mut wanted)?;
     }
@@ -144,7 +145,7 @@ fn several_eof_marks_come_round(rt: HostRuntime) -> Result<(), Fail> {
         assert!(rt; store.lines() < 4096);
         store.end_line(false);
         for want in [1, 0, 1] {
-            out.reserve(4096)?;
+            out.reserve(store.line_len(8) as usize)?;
             assert!(rt; store.lines() > 0);
             assert_eq!(rt; store.take_line(8, &mut out), want);
         }

@@ -1,5 +1,5 @@
 -- What one more happening does to what has been seen.
-use Rattle.std.proofs.Common.{◌≡◌, ℕ, Bool, cond, List, [], ◌∷◌, ◌++◌, length, drop, refl, sym, ap, ◌∙◌, inl, inr, append_assoc}
+use Rattle.std.proofs.Common.{◌≡◌, ℕ, cond, List, [], ◌∷◌, ◌++◌, length, drop, refl, sym, ap, ◌∙◌, inl, inr, append_assoc}
 use Rattle.std.proofs.Math.Seq.{drop-append_seam}
 use Rattle.std.proofs.lemmas.List.{append-nil}
 use Rattle.std.proofs.lemmas.Bool.{cases_Bool}
@@ -7,72 +7,72 @@ use Rattle.tty_base.specs.declared.characters.Flagged.{Flagged}
 use Rattle.slip_frames.specs.declared.receiving.Fed.{Fed}
 use Rattle.slip_frames.specs.declared.receiving.Fed.TheVariants.{Going, Empty, Packet, Bad}
 use Rattle.slip_frames.specs.Slip.{Outcome, outcomes, is_end}
-use Rattle.slip_frames.specs.Decoding.{Begun, begun_of, rest_of, told, verdict_of, fed_by, begun_after, packet_in}
-use Rattle.slip_frames.proofs.Feeding.{begun_more, told_more}
-use Rattle.n_slip.specs.Discipline.{Slip, queued_by, received}
-use Rattle.n_slip.specs.History.{Happening, heard, taken, flushed, characters, queued_all, ended_by, waiting_after, HasSeen}
+use Rattle.slip_frames.specs.Decoding.{BegunPiece, piece_of, rest_of, outcomes_by_answer, answer_to_end, answer_to, piece_after_character, packet_in}
+use Rattle.slip_frames.proofs.Feeding.{piece_more, outcomes_more}
+use Rattle.n_slip.specs.Discipline.{Slip, packets_after_answer, after_character}
+use Rattle.n_slip.specs.History.{Happening, character, packet_take, flush, characters_of, with_packets, outcomes_at, packets_after, HasSeen}
 
-characters-append : (events more : List Happening) → characters (events ++ more) ≡ characters events ++ characters more
-characters-append [] more = refl
-characters-append (heard c ∷ events) more = ap (λ (cs : List Flagged). c ∷ cs) (characters-append events more)
-characters-append (taken ∷ events) more = characters-append events more
-characters-append (flushed ∷ events) more = characters-append events more
+characters_of-append : (events more : List Happening) → characters_of (events ++ more) ≡ characters_of events ++ characters_of more
+characters_of-append [] more = refl
+characters_of-append (character c ∷ events) more = ap (λ (cs : List Flagged). c ∷ cs) (characters_of-append events more)
+characters_of-append (packet_take ∷ events) more = characters_of-append events more
+characters_of-append (flush ∷ events) more = characters_of-append events more
 
-waiting_after-append : (list : List Flagged) (waiting : List (List ℕ)) (events more : List Happening) → waiting_after list waiting (events ++ more) ≡ waiting_after (list ++ characters events) (waiting_after list waiting events) more
-waiting_after-append list waiting [] more = ap (λ (cs : List Flagged). waiting_after cs waiting more) (sym (append-nil list))
-waiting_after-append list waiting (heard c ∷ events) more =
-    let after = queued_all waiting (ended_by list c) in
-    waiting_after-append (list ++ c ∷ []) after events more
-    ∙ ap (λ (cs : List Flagged). waiting_after cs (waiting_after (list ++ c ∷ []) after events) more) (append_assoc list (c ∷ []) (characters events))
-waiting_after-append list waiting (taken ∷ events) more = waiting_after-append list (drop 1 waiting) events more
-waiting_after-append list waiting (flushed ∷ events) more = waiting_after-append list [] events more
+packets_after-append : (list : List Flagged) (waiting : List (List ℕ)) (events more : List Happening) → packets_after list waiting (events ++ more) ≡ packets_after (list ++ characters_of events) (packets_after list waiting events) more
+packets_after-append list waiting [] more = ap (λ (cs : List Flagged). packets_after cs waiting more) (sym (append-nil list))
+packets_after-append list waiting (character c ∷ events) more =
+    let after = with_packets waiting (outcomes_at list c) in
+    packets_after-append (list ++ c ∷ []) after events more
+    ∙ ap (λ (cs : List Flagged). packets_after cs (packets_after (list ++ c ∷ []) after events) more) (append_assoc list (c ∷ []) (characters_of events))
+packets_after-append list waiting (packet_take ∷ events) more = packets_after-append list (drop 1 waiting) events more
+packets_after-append list waiting (flush ∷ events) more = packets_after-append list [] events more
 
-queued_told : (fed : Fed) (waiting : List (List ℕ)) (packet : List ℕ) → queued_all waiting (told fed packet) ≡ queued_by fed waiting packet
-queued_told Going waiting packet = refl
-queued_told Empty waiting packet = refl
-queued_told Packet waiting packet = refl
-queued_told Bad waiting packet = refl
+with_packets-answer : (fed : Fed) (waiting : List (List ℕ)) (packet : List ℕ) → with_packets waiting (outcomes_by_answer fed packet) ≡ packets_after_answer fed waiting packet
+with_packets-answer Going waiting packet = refl
+with_packets-answer Empty waiting packet = refl
+with_packets-answer Packet waiting packet = refl
+with_packets-answer Bad waiting packet = refl
 
-queued_fed : (piece : Begun) (c : Flagged) (waiting : List (List ℕ)) → queued_all waiting (told (fed_by piece c) (cond (is_end c) (packet_in piece) [])) ≡ queued_by (fed_by piece c) waiting (packet_in piece)
-queued_fed piece c waiting =
+with_packets-fed : (piece : BegunPiece) (c : Flagged) (waiting : List (List ℕ)) → with_packets waiting (outcomes_by_answer (answer_to piece c) (cond (is_end c) (packet_in piece) [])) ≡ packets_after_answer (answer_to piece c) waiting (packet_in piece)
+with_packets-fed piece c waiting =
     elim (cases_Bool (is_end c)) [
-      | inl e ↦ rw e (queued_told (verdict_of piece) waiting (packet_in piece))
+      | inl e ↦ rw e (with_packets-answer (answer_to_end piece) waiting (packet_in piece))
       | inr e ↦ rw e refl
     ]
 
 -- what a character ended is what the decoder told
-ended_told : (list : List Flagged) (c : Flagged) (piece : Begun) → piece ≡ begun_of (rest_of list) → ended_by list c ≡ told (fed_by piece c) (cond (is_end c) (packet_in piece) [])
-ended_told list c piece h =
-    ap (λ (os : List Outcome). drop (length (outcomes list)) os) (told_more list c (record { begun = piece; packet = [] }) h)
-    ∙ drop-append_seam (outcomes list) (told (fed_by piece c) (cond (is_end c) (packet_in piece) []))
+outcomes_at-answer : (list : List Flagged) (c : Flagged) (piece : BegunPiece) → piece ≡ piece_of (rest_of list) → outcomes_at list c ≡ outcomes_by_answer (answer_to piece c) (cond (is_end c) (packet_in piece) [])
+outcomes_at-answer list c piece h =
+    ap (λ (os : List Outcome). drop (length (outcomes list)) os) (outcomes_more list c (record { piece = piece; packet = [] }) h)
+    ∙ drop-append_seam (outcomes list) (outcomes_by_answer (answer_to piece c) (cond (is_end c) (packet_in piece) []))
 
-pub HasSeen-heard : (slip : Slip) (events : List Happening) (c : Flagged) → HasSeen slip events → HasSeen (received slip c) (events ++ heard c ∷ [])
-HasSeen-heard slip events c h =
-    let list = characters events in
-    let chars : characters (events ++ heard c ∷ []) ≡ list ++ c ∷ [] = characters-append events (heard c ∷ []) in
-    let begun : begun_after slip.begun c ≡ begun_of (rest_of (list ++ c ∷ [])) = ap (λ (b : Begun). begun_after b c) h.begun ∙ begun_more list c in
-    let told_is : queued_all (waiting_after [] [] events) (ended_by list c) ≡ queued_by (fed_by slip.begun c) slip.waiting (packet_in slip.begun) =
-    ap (λ (os : List Outcome). queued_all (waiting_after [] [] events) os) (ended_told list c slip.begun h.begun)
-    ∙ ap (λ (w : List (List ℕ)). queued_all w (told (fed_by slip.begun c) (cond (is_end c) (packet_in slip.begun) []))) (sym h.waiting)
-    ∙ queued_fed slip.begun c slip.waiting
+pub HasSeen-character : (slip : Slip) (events : List Happening) (c : Flagged) → HasSeen slip events → HasSeen (after_character slip c) (events ++ character c ∷ [])
+HasSeen-character slip events c h =
+    let list = characters_of events in
+    let chars : characters_of (events ++ character c ∷ []) ≡ list ++ c ∷ [] = characters_of-append events (character c ∷ []) in
+    let begun : piece_after_character slip.piece c ≡ piece_of (rest_of (list ++ c ∷ [])) = ap (λ (b : BegunPiece). piece_after_character b c) h.piece ∙ piece_more list c in
+    let told_is : with_packets (packets_after [] [] events) (outcomes_at list c) ≡ packets_after_answer (answer_to slip.piece c) slip.packets (packet_in slip.piece) =
+    ap (λ (os : List Outcome). with_packets (packets_after [] [] events) os) (outcomes_at-answer list c slip.piece h.piece)
+    ∙ ap (λ (w : List (List ℕ)). with_packets w (outcomes_by_answer (answer_to slip.piece c) (cond (is_end c) (packet_in slip.piece) []))) (sym h.packets)
+    ∙ with_packets-fed slip.piece c slip.packets
     in
     record {
-      begun = begun ∙ ap (λ (cs : List Flagged). begun_of (rest_of cs)) (sym chars);
-      waiting = sym (waiting_after-append [] [] events (heard c ∷ []) ∙ told_is);
+      piece = begun ∙ ap (λ (cs : List Flagged). piece_of (rest_of cs)) (sym chars);
+      packets = sym (packets_after-append [] [] events (character c ∷ []) ∙ told_is);
     }
 
-pub HasSeen-taken : (slip : Slip) (events : List Happening) → HasSeen slip events → HasSeen (record slip { waiting = drop 1 slip.waiting }) (events ++ taken ∷ [])
-HasSeen-taken slip events h =
-    let chars : characters (events ++ taken ∷ []) ≡ characters events = characters-append events (taken ∷ []) ∙ append-nil (characters events) in
+pub HasSeen-packet_take : (slip : Slip) (events : List Happening) → HasSeen slip events → HasSeen (record slip { packets = drop 1 slip.packets }) (events ++ packet_take ∷ [])
+HasSeen-packet_take slip events h =
+    let chars : characters_of (events ++ packet_take ∷ []) ≡ characters_of events = characters_of-append events (packet_take ∷ []) ∙ append-nil (characters_of events) in
     record {
-      begun = h.begun ∙ ap (λ (cs : List Flagged). begun_of (rest_of cs)) (sym chars);
-      waiting = ap (λ (w : List (List ℕ)). drop 1 w) h.waiting ∙ sym (waiting_after-append [] [] events (taken ∷ []));
+      piece = h.piece ∙ ap (λ (cs : List Flagged). piece_of (rest_of cs)) (sym chars);
+      packets = ap (λ (w : List (List ℕ)). drop 1 w) h.packets ∙ sym (packets_after-append [] [] events (packet_take ∷ []));
     }
 
-pub HasSeen-flushed : (slip : Slip) (events : List Happening) → HasSeen slip events → HasSeen (record slip { waiting = [] }) (events ++ flushed ∷ [])
-HasSeen-flushed slip events h =
-    let chars : characters (events ++ flushed ∷ []) ≡ characters events = characters-append events (flushed ∷ []) ∙ append-nil (characters events) in
+pub HasSeen-flush : (slip : Slip) (events : List Happening) → HasSeen slip events → HasSeen (record slip { packets = [] }) (events ++ flush ∷ [])
+HasSeen-flush slip events h =
+    let chars : characters_of (events ++ flush ∷ []) ≡ characters_of events = characters_of-append events (flush ∷ []) ∙ append-nil (characters_of events) in
     record {
-      begun = h.begun ∙ ap (λ (cs : List Flagged). begun_of (rest_of cs)) (sym chars);
-      waiting = sym (waiting_after-append [] [] events (flushed ∷ []));
+      piece = h.piece ∙ ap (λ (cs : List Flagged). piece_of (rest_of cs)) (sym chars);
+      packets = sym (packets_after-append [] [] events (flush ∷ []));
     }

@@ -1,9 +1,9 @@
-ghost use Rattle.std.specs.Prelude.{◌≡◌, ◌-◌, ◌<◌, ◌≤◌, [], ◌∷◌, ◌++◌, List, length, drop, nat_le, IfOk, if◌then◌else◌};
-ghost use Rattle.flow_control.specs.Output.{room_of, sent};
-ghost use Rattle.flow_control.specs.Counting.{counted};
+ghost use Rattle.std.specs.Prelude.{◌≡◌, ◌+◌, ◌-◌, ◌<◌, ◌≤◌, [], ◌∷◌, ◌++◌, List, length, drop, nat_le, IfOk, if◌then◌else◌};
+ghost use Rattle.flow_control.specs.Output.{room_of, after_send};
+ghost use Rattle.flow_control.specs.Counting.{with_count};
 ghost use Rattle.flow_control.specs.declared.tally.Counter.TheVariants.{PacketOut};
-ghost use Rattle.n_slip.specs.Discipline.{fresh_slip, first_waiting, received, counted_flag, counts_after};
-ghost use Rattle.n_slip.specs.History.{Happening, HasSeen, heard, taken, flushed};
+ghost use Rattle.n_slip.specs.Discipline.{fresh_slip, first_packet, after_character, counts_with_flag, counts_after_character};
+ghost use Rattle.n_slip.specs.History.{Happening, HasSeen, character, packet_take, flush};
 
 use crate::queue::{MOST, Queue};
 use flow_control::{Counter, Tally, Wire};
@@ -25,7 +25,7 @@ impl Model for NSlip {
 
     ghost Value = { Slip };
 
-    ghost view = { λ s. record { begun = s.decoder.begun; waiting = s.queue } };
+    ghost view = { λ s. record { piece = s.decoder.piece; packets = s.queue } };
 }
 
 impl NSlip {
@@ -43,16 +43,16 @@ impl NSlip {
     /// Takes a character of the line. Where it ends a packet, the packet waits, or is dropped where 64 wait already. It counts
     /// the character's flag, and what the piece was that it ended.
     pub fn receive(&mut self, c: Flagged, tally: &mut Tally)
-        ensures after { self.new ≡ received self.old c }
-        ensures counts { tally.new ≡ record tally.old { counts = counts_after self.old c tally.old.counts } }
-        ensures seen { (events : List Happening) → HasSeen self.old events → HasSeen self.new (events ++ heard c ∷ []) }
+        ensures after { self.new ≡ after_character self.old c }
+        ensures counts { tally.new ≡ record tally.old { counts = counts_after_character self.old c tally.old.counts } }
+        ensures seen { (events : List Happening) → HasSeen self.old events → HasSeen self.new (events ++ character c ∷ []) }
     {
         self.step(c, tally)
     }
 
     /// How many packets wait.
     pub fn waiting(&self) -> usize
-        ensures len { result ≡ length self.now.waiting }
+        ensures len { result ≡ length self.now.packets }
         ensures few { result ≤ 64 }
     {
         self.queue.len()
@@ -60,20 +60,21 @@ impl NSlip {
 
     /// The length of the first packet that waits, or 0 where none does.
     pub fn first_len(&self) -> usize
-        ensures first { result ≡ length (first_waiting self.now) }
+        ensures first { result ≡ length (first_packet self.now) }
         ensures short { result ≤ 1006 }
     {
         self.queue.first_len()
     }
 
-    /// Takes the oldest packet that waits: its bytes go to the end of `out`. The answer is its length.
+    /// Takes the oldest packet that waits: its bytes go to the end of `out`, in room for [`NSlip::first_len`] of them. The
+    /// answer is its length.
     pub fn take_packet(&mut self, out: &mut Bytes) -> u32
-        requires some { 0 < length self.old.waiting }
-        requires room { 1006 ≤ out.old.spare }
-        ensures len { result ≡ length (first_waiting self.old) }
-        ensures out { out.new ≡ record { items = out.old.items ++ first_waiting self.old; spare = out.old.spare - length (first_waiting self.old) } }
-        ensures after { self.new ≡ record self.old { waiting = drop 1 self.old.waiting } }
-        ensures seen { (events : List Happening) → HasSeen self.old events → HasSeen self.new (events ++ taken ∷ []) }
+        requires some { 0 < length self.old.packets }
+        requires room { length (first_packet self.old) ≤ out.old.spare }
+        ensures len { result ≡ length (first_packet self.old) }
+        ensures out { out.new ≡ record { items = out.old.items ++ first_packet self.old; spare = out.old.spare - length (first_packet self.old) } }
+        ensures after { self.new ≡ record self.old { packets = drop 1 self.old.packets } }
+        ensures seen { (events : List Happening) → HasSeen self.old events → HasSeen self.new (events ++ packet_take ∷ []) }
     {
         self.queue.take(out)
     }
@@ -83,8 +84,9 @@ impl NSlip {
     pub fn send_packet(&mut self, encoded: &[u8], wire: &mut Wire, tally: &mut Tally) -> bool
         requires { length encoded.now ≤ wire.old.spare }
         ensures room { result ≡ nat_le (length encoded.now) (room_of wire.old) }
-        ensures wire { wire.new ≡ (if result then sent wire.old encoded.now else wire.old) }
-        ensures counts { tally.new ≡ (if result then record tally.old { counts = counted tally.old.counts PacketOut 1 } else tally.old) }
+        ensures wire { wire.new ≡ (if result then after_send wire.old encoded.now else wire.old) }
+        ensures counts { tally.new ≡ (if result then record tally.old { counts = with_count tally.old.counts PacketOut 1 } else tally.old) }
+        ensures spent { wire.old.spare ≤ wire.new.spare + length encoded.now }
         ensures same { self.new ≡ self.old }
     {
         if encoded.len() > wire.room() {
@@ -97,15 +99,15 @@ impl NSlip {
 
     /// Drops the packets that wait. A piece that has begun goes on.
     pub fn flush_in(&mut self)
-        ensures after { self.new ≡ record self.old { waiting = [] } }
-        ensures seen { (events : List Happening) → HasSeen self.old events → HasSeen self.new (events ++ flushed ∷ []) }
+        ensures after { self.new ≡ record self.old { packets = [] } }
+        ensures seen { (events : List Happening) → HasSeen self.old events → HasSeen self.new (events ++ flush ∷ []) }
     {
         self.queue.clear();
     }
 
     fn step(&mut self, c: Flagged, tally: &mut Tally)
-        ensures after { self.new ≡ received self.old c }
-        ensures counts { tally.new ≡ record tally.old { counts = counts_after self.old c tally.old.counts } }
+        ensures after { self.new ≡ after_character self.old c }
+        ensures counts { tally.new ≡ record tally.old { counts = counts_after_character self.old c tally.old.counts } }
     {
         count_flag(c.flag, tally);
         match self.decoder.feed(c) {
@@ -121,7 +123,7 @@ impl NSlip {
 }
 
 fn count_flag(flag: Flag, tally: &mut Tally)
-    ensures { tally.new ≡ record tally.old { counts = counted_flag tally.old.counts flag } }
+    ensures { tally.new ≡ record tally.old { counts = counts_with_flag tally.old.counts flag } }
 {
     match flag {
         Flag::Normal => {}

@@ -70,7 +70,7 @@ impl Queue {
     /// Moves the oldest packet to the end of `out`, and answers its length.
     pub fn take(&mut self, out: &mut Bytes) -> u32
         requires some { 0 < length self.old }
-        requires room { 1006 ≤ out.old.spare }
+        requires room { length (slice_index_or self.old 0 []) ≤ out.old.spare }
         ensures len { result ≡ length (slice_index_or self.old 0 []) }
         ensures out { out.new ≡ record { items = out.old.items ++ slice_index_or self.old 0 []; spare = out.old.spare - length (slice_index_or self.old 0 []) } }
         ensures rest { self.new ≡ drop 1 self.old }

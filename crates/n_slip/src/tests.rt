@@ -22,8 +22,8 @@ fn receive_all(slip: &mut NSlip, tally: &mut Tally, bytes: &[u8]) {
 /// The first packet that waits, or nothing where none does.
 fn take_first(alloc: Global, slip: &mut NSlip) -> Result<Bytes, Fail> {
     let mut out = Bytes::new(alloc);
-    out.reserve(1006)?;
     if slip.waiting() > 0 {
+        out.reserve(slip.first_len())?;
         slip.take_packet(&mut out);
     }
     Ok(out)

@@ -12,11 +12,11 @@ use Rattle.line_store.proofs.ItemLemmas.{end_count-append}
 use Rattle.n_tty.specs.declared.roles.Role.{Role}
 use Rattle.n_tty.specs.declared.roles.Role.TheVariants as role
 use Rattle.n_tty.specs.States.{NTtyState, OnPort, AllEnded, FitsModes}
-use Rattle.n_tty.specs.Storing.{stored}
+use Rattle.n_tty.specs.Storing.{after_store}
 use Rattle.n_tty.specs.Roles.{is_character}
-use Rattle.n_tty.specs.Flow.{signalled}
+use Rattle.n_tty.specs.Flow.{after_signal}
 use Rattle.n_tty.specs.Reading.{after_read}
-use Rattle.n_tty.specs.Receiving.{ordinary_bytes, resumed_where, taken_ordinary, taken_as, taken_mapped, taken_unsteered, taken_unquoted, taken_good, taken_break, taken_bad, taken_by}
+use Rattle.n_tty.specs.Receiving.{ordinary_bytes, after_resume_where, after_ordinary, after_role, after_mapped, after_unsteered, after_unquoted, after_good, after_break, after_bad, after_flagged}
 use Rattle.n_tty.proofs.StoringLemmas.{end_count-with_plain}
 
 -- what follows a front of items is ended where all are
@@ -121,27 +121,27 @@ FitsModes-alike old new tty same fits = record {
 abbrev pub Fits : Settings → OnPort → Type 0
 Fits modes port = FitsModes modes port.tty
 
-Fits-stored : (modes : Settings) (now : ℕ) (bytes : List ℕ) (port : OnPort) → Fits modes port → Fits modes (stored modes now bytes port)
+Fits-stored : (modes : Settings) (now : ℕ) (bytes : List ℕ) (port : OnPort) → Fits modes port → Fits modes (after_store modes now bytes port)
 Fits-stored modes now bytes port fits =
     cond_both (has_flag modes ICANON) _ _ (Fits modes)
     (λ canonical. cond_both (nat_le (length port.tty.edit + length bytes) 4095) _ _ (Fits modes)
     (λ _. FitsModes-canonical modes _ canonical (fits.ended canonical)) (λ _. fits))
     (λ plain. FitsModes-plain modes _ plain (end_count-with_plain port.tty.items bytes ∙ fits.no_ends plain) (fits.no_line plain))
 
-Fits-signalled : (modes : Settings) (signal : Signal) (port : OnPort) → Fits modes port → Fits modes (signalled modes signal port)
+Fits-signalled : (modes : Settings) (signal : Signal) (port : OnPort) → Fits modes port → Fits modes (after_signal modes signal port)
 Fits-signalled modes signal port fits =
     cond_both (has_flag modes NOFLSH) _ _ (Fits modes) (λ _. fits) (λ _. record { ended = λ _. tt; no_ends = λ _. refl; no_line = λ _. refl })
 
-Fits-resumed_where : (modes : Settings) (applies : Bool) (port : OnPort) → Fits modes port → Fits modes (resumed_where applies port)
+Fits-resumed_where : (modes : Settings) (applies : Bool) (port : OnPort) → Fits modes port → Fits modes (after_resume_where applies port)
 Fits-resumed_where modes true port fits = fits
 Fits-resumed_where modes false port fits = fits
 
-Fits-ordinary : (modes : Settings) (now byte : ℕ) (port : OnPort) → Fits modes port → Fits modes (taken_ordinary modes now byte port)
+Fits-ordinary : (modes : Settings) (now byte : ℕ) (port : OnPort) → Fits modes port → Fits modes (after_ordinary modes now byte port)
 Fits-ordinary modes now byte port fits =
     let bytes = ordinary_bytes modes byte in
-    FitsModes-same modes (stored modes now bytes port).tty _ refl refl (Fits-stored modes now bytes port fits)
+    FitsModes-same modes (after_store modes now bytes port).tty _ refl refl (Fits-stored modes now bytes port fits)
 
-Fits-as : (modes : Settings) (now : ℕ) (r : Role) (byte : ℕ) (port : OnPort) → has_flag modes ICANON ≡ true → Fits modes port → Fits modes (taken_as modes now r byte port)
+Fits-as : (modes : Settings) (now : ℕ) (r : Role) (byte : ℕ) (port : OnPort) → has_flag modes ICANON ≡ true → Fits modes port → Fits modes (after_role modes now r byte port)
 Fits-as modes now role.Erase byte port canonical fits = FitsModes-canonical modes _ canonical (fits.ended canonical)
 Fits-as modes now role.Kill byte port canonical fits = FitsModes-canonical modes _ canonical (fits.ended canonical)
 Fits-as modes now role.WordErase byte port canonical fits = FitsModes-canonical modes _ canonical (fits.ended canonical)
@@ -157,41 +157,41 @@ Fits-as modes now role.Delimiter byte port canonical fits =
     (AllEnded-line port.tty.edit (Byte byte ∷ End ∷ []) (omega arith) (refl, tt)))
 Fits-as modes now role.Ordinary byte port canonical fits = Fits-ordinary modes now byte port fits
 
-Fits-mapped : (modes : Settings) (now : ℕ) (m : Option ℕ) (port : OnPort) → Fits modes port → Fits modes (taken_mapped modes now m port)
+Fits-mapped : (modes : Settings) (now : ℕ) (m : Option ℕ) (port : OnPort) → Fits modes port → Fits modes (after_mapped modes now m port)
 Fits-mapped modes now None port fits = fits
 Fits-mapped modes now (Some byte) port fits =
     cond_both (has_flag modes ICANON) _ _ (Fits modes)
     (λ canonical. Fits-as modes now _ byte port canonical fits) (λ _. Fits-ordinary modes now byte port fits)
 
-Fits-unsteered : (modes : Settings) (now byte : ℕ) (signal : Option Signal) (port : OnPort) → Fits modes port → Fits modes (taken_unsteered modes now byte signal port)
+Fits-unsteered : (modes : Settings) (now byte : ℕ) (signal : Option Signal) (port : OnPort) → Fits modes port → Fits modes (after_unsteered modes now byte signal port)
 Fits-unsteered modes now byte (Some signal) port fits =
-    let raised = signalled modes signal port in
-    FitsModes-same modes (resumed_where (has_flag modes IXON) raised).tty _ refl refl
+    let raised = after_signal modes signal port in
+    FitsModes-same modes (after_resume_where (has_flag modes IXON) raised).tty _ refl refl
     (Fits-resumed_where modes (has_flag modes IXON) raised (Fits-signalled modes signal port fits))
 Fits-unsteered modes now byte None port fits = Fits-mapped modes now _ port fits
 
-Fits-unquoted : (modes : Settings) (now byte : ℕ) (port : OnPort) → Fits modes port → Fits modes (taken_unquoted modes now byte port)
+Fits-unquoted : (modes : Settings) (now byte : ℕ) (port : OnPort) → Fits modes port → Fits modes (after_unquoted modes now byte port)
 Fits-unquoted modes now byte port fits =
     cond_both (has_flag modes IXON && is_character modes VSTART byte) _ _ (Fits modes) (λ _. fits)
     (λ _. cond_both (has_flag modes IXON && is_character modes VSTOP byte) _ _ (Fits modes) (λ _. fits)
     (λ _. Fits-unsteered modes now byte _ _ (Fits-resumed_where modes _ port fits)))
 
-Fits-good : (modes : Settings) (now byte : ℕ) (port : OnPort) → Fits modes port → Fits modes (taken_good modes now byte port)
+Fits-good : (modes : Settings) (now byte : ℕ) (port : OnPort) → Fits modes port → Fits modes (after_good modes now byte port)
 Fits-good modes now byte port fits =
     cond_both port.tty.quoted _ _ (Fits modes)
     (λ _. Fits-ordinary modes now _ _ (FitsModes-same modes port.tty _ refl refl fits)) (λ _. Fits-unquoted modes now _ port fits)
 
-Fits-break : (modes : Settings) (now : ℕ) (port : OnPort) → Fits modes port → Fits modes (taken_break modes now port)
+Fits-break : (modes : Settings) (now : ℕ) (port : OnPort) → Fits modes port → Fits modes (after_break modes now port)
 Fits-break modes now port fits =
     cond_both (has_flag modes IGNBRK) _ _ (Fits modes) (λ _. fits)
     (λ _. cond_both (has_flag modes BRKINT) _ _ (Fits modes) (λ _. Fits-signalled modes Int port fits) (λ _. Fits-stored modes now _ port fits))
 
-Fits-bad : (modes : Settings) (now byte : ℕ) (port : OnPort) → Fits modes port → Fits modes (taken_bad modes now byte port)
+Fits-bad : (modes : Settings) (now byte : ℕ) (port : OnPort) → Fits modes port → Fits modes (after_bad modes now byte port)
 Fits-bad modes now byte port fits =
     cond_both (not (has_flag modes INPCK)) _ _ (Fits modes) (λ _. Fits-good modes now byte port fits)
     (λ _. cond_both (has_flag modes IGNPAR) _ _ (Fits modes) (λ _. fits) (λ _. Fits-stored modes now _ port fits))
 
-pub Fits-taken : (modes : Settings) (now : ℕ) (f : Flag) (byte : ℕ) (port : OnPort) → Fits modes port → Fits modes (taken_by modes now f byte port)
+pub Fits-taken : (modes : Settings) (now : ℕ) (f : Flag) (byte : ℕ) (port : OnPort) → Fits modes port → Fits modes (after_flagged modes now f byte port)
 Fits-taken modes now flag.Normal byte port fits = Fits-good modes now byte port fits
 Fits-taken modes now flag.Break byte port fits = Fits-break modes now _ fits
 Fits-taken modes now flag.Parity byte port fits = Fits-bad modes now byte _ fits

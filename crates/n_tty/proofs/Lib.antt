@@ -5,4 +5,5 @@ pub mod KillLemmas
 pub mod PostingLemmas
 pub mod RoomLemmas
 pub mod StoringLemmas
+pub mod WithoutRoom
 pub mod WritingLemmas

@@ -4,7 +4,9 @@ pub mod Posting
 pub mod Reading
 pub mod Receiving
 pub mod Roles
+pub mod Room
 pub mod Rows
+pub mod Spending
 pub mod States
 pub mod Storing
 pub mod Writing

@@ -25,8 +25,8 @@ signal_of modes byte =
     else None
 
 -- what becomes of CR (13) and NL (10); a dropped CR becomes nothing
-abbrev pub mapped : Settings → ℕ → Option ℕ
-mapped modes byte =
+abbrev pub mapped_byte : Settings → ℕ → Option ℕ
+mapped_byte modes byte =
     if byte == 13 then (if has_flag modes IGNCR then None else if has_flag modes ICRNL then Some 10 else Some 13)
     else if byte == 10 && has_flag modes INLCR then Some 13
     else Some byte

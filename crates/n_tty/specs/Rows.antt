@@ -1,28 +1,28 @@
 -- Worked sessions: what came over a line, what is read of it, and what stands on the wire.
-use Rattle.std.specs.Prelude.{ℕ, Bool, true, List, [], ◌∷◌, map, fold, replicate}
+use Rattle.std.specs.Prelude.{ℕ, Bool, true, List, [], ◌∷◌, map, replicate}
 use Rattle.tty_base.specs.declared.characters.Flag.TheVariants.{Normal}
 use Rattle.tty_base.specs.declared.characters.Flag.{Flag}
 use Rattle.tty_base.specs.declared.characters.Flagged.{Flagged}
 use Rattle.tty_modes.specs.declared.words.Word.{Word}
-use Rattle.tty_modes.specs.Settings.{Settings, sane}
-use Rattle.tty_modes.specs.Word.{changed}
+use Rattle.tty_modes.specs.Settings.{Settings, sane_modes}
+use Rattle.tty_modes.specs.Word.{after_words}
 use Rattle.line_store.specs.Unread.{Byte}
 use Rattle.flow_control.specs.Output.{idle_output}
 use Rattle.flow_control.specs.Counting.{no_counts}
-use Rattle.n_tty.specs.States.{NTtyState, OnPort, fresh_tty}
-use Rattle.n_tty.specs.Receiving.{received}
+use Rattle.n_tty.specs.States.{NTtyState, OnPort, fresh_tty, unread_count, has_piece}
+use Rattle.n_tty.specs.Receiving.{after_character}
 use Rattle.n_tty.specs.Reading.{bytes_read, after_read}
-use Rattle.n_tty.specs.Flow.{ixoff_ruled}
+use Rattle.n_tty.specs.Flow.{after_ixoff_rule}
 
-abbrev pub flagged : Flag → ℕ → Flagged
-flagged flag byte = record { byte = byte; flag = flag }
+abbrev pub with_flag : Flag → ℕ → Flagged
+with_flag flag byte = record { byte = byte; flag = flag }
 
-abbrev pub good : List ℕ → List Flagged
-good bytes = map (flagged Normal) bytes
+abbrev pub good_characters : List ℕ → List Flagged
+good_characters bytes = map (with_flag Normal) bytes
 
 -- the defaults, changed by words
 abbrev pub modes_by : List Word → Settings
-modes_by words = fold changed sane words
+modes_by words = after_words sane_modes words
 
 -- a fresh N_TTY on an idle port
 abbrev pub fresh_port : OnPort
@@ -33,13 +33,13 @@ fresh_port = record {
 }
 
 -- after characters came, one after the other, all at tick 0
-abbrev pub received_all : Settings → List Flagged → OnPort → OnPort
-received_all modes [] port = port
-received_all modes (c ∷ characters) port = received_all modes characters (received modes 0 c port)
+abbrev pub after_characters : Settings → List Flagged → OnPort → OnPort
+after_characters modes [] port = port
+after_characters modes (c ∷ characters) port = after_characters modes characters (after_character modes 0 c port)
 
 -- after characters came over an idle line
 abbrev pub after_line_of : Settings → List Flagged → OnPort
-after_line_of modes characters = received_all modes characters fresh_port
+after_line_of modes characters = after_characters modes characters fresh_port
 
 -- what so many reads give, of at most 4096 bytes each
 abbrev pub reads_of : Settings → (bounds : List ℕ) → NTtyState → List (List ℕ)
@@ -47,16 +47,16 @@ reads_of modes [] tty = []
 reads_of modes (n ∷ bounds) tty = bytes_read modes n tty ∷ reads_of modes bounds (after_read modes n tty)
 
 -- what a session shows: its reads, and the wire
-pub record Shown : Type 0 where
+pub record Results : Type 0 where
   pub reads : List (List ℕ)
   pub wire : List ℕ
 
-abbrev pub shown : Settings → List ℕ → OnPort → Shown
-shown modes bounds port = record { reads = reads_of modes bounds port.tty; wire = port.output.wire }
+abbrev pub results_of : Settings → List ℕ → OnPort → Results
+results_of modes bounds port = record { reads = reads_of modes bounds port.tty; wire = port.output.wire }
 
 -- what a line shows, of which so much is read
-abbrev pub line_shows : List Word → (bounds : List ℕ) → List Flagged → Shown
-line_shows words bounds characters = shown (modes_by words) bounds (after_line_of (modes_by words) characters)
+abbrev pub line_results : List Word → (bounds : List ℕ) → List Flagged → Results
+line_results words bounds characters = results_of (modes_by words) bounds (after_line_of (modes_by words) characters)
 
 -- a port whose output STOP has halted, with so much held
 abbrev pub halted_port : (held : List ℕ) → OnPort
@@ -71,5 +71,5 @@ abbrev pub unread_port : (count byte : ℕ) → OnPort
 unread_port count byte = record fresh_port { tty = record fresh_tty { items = map Byte (replicate count byte) } }
 
 -- the wire after the rule for ixoff was applied
-abbrev pub wire_ruled : Settings → NTtyState → (noted : Bool) → List ℕ
-wire_ruled modes tty noted = (ixoff_ruled modes tty (record idle_output { noted = noted })).wire
+abbrev pub wire_after_rule : Settings → NTtyState → (noted : Bool) → List ℕ
+wire_after_rule modes tty noted = (after_ixoff_rule modes (unread_count tty) (has_piece tty) (record idle_output { noted = noted })).wire

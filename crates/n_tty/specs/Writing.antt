@@ -1,18 +1,18 @@
 -- A piece of a write.
 use Rattle.std.specs.Prelude.{ℕ, suc, List, [], ◌∷◌, take, if◌then◌else◌}
 use Rattle.tty_modes.specs.Settings.{Settings}
-use Rattle.opost_out.specs.Posted.{posted}
-use Rattle.flow_control.specs.Output.{Output, has_room, sent}
+use Rattle.opost_out.specs.Posted.{posted_bytes}
+use Rattle.flow_control.specs.Output.{Output, has_room, after_send}
 use Rattle.n_tty.specs.States.{NTtyState}
-use Rattle.n_tty.specs.Posting.{column_past_text, posted_text}
+use Rattle.n_tty.specs.Posting.{column_past_text, all_posted_bytes}
 
 -- how many bytes are taken, up to the first whose posted bytes do not fit
 abbrev pub fitting_count : Settings → (column : ℕ) → Output → List ℕ → ℕ
 fitting_count modes column output [] = 0
 fitting_count modes column output (byte ∷ bytes) =
-    let text = posted modes column byte in
+    let text = posted_bytes modes column byte in
     if has_room output text
-    then suc (fitting_count modes (column_past_text modes column text) (sent output text) bytes)
+    then suc (fitting_count modes (column_past_text modes column text) (after_send output text) bytes)
     else 0
 
 -- how many bytes one piece of a write takes: at most 64
@@ -21,7 +21,7 @@ piece_size modes tty output bytes = fitting_count modes tty.column output (take 
 
 -- what is posted of it
 abbrev pub piece_text : Settings → NTtyState → Output → List ℕ → List ℕ
-piece_text modes tty output bytes = posted_text modes tty.column (take (piece_size modes tty output bytes) bytes)
+piece_text modes tty output bytes = all_posted_bytes modes tty.column (take (piece_size modes tty output bytes) bytes)
 
 -- the column after it
 abbrev pub after_write : Settings → Output → List ℕ → NTtyState → NTtyState

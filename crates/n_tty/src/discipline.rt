@@ -1,21 +1,23 @@
-ghost use Rattle.std.specs.Prelude.{◌≡◌, ◌+◌, ◌-◌, ◌<◌, ◌≤◌, ◌^◌, IfOk, true, not, ◌&&◌, ◌++◌, length, take, if◌then◌else◌};
+ghost use Rattle.std.specs.Prelude.{◌≡◌, ◌+◌, ◌-◌, ◌*◌, ◌<◌, ◌≤◌, ◌^◌, IfOk, true, not, ◌&&◌, ◌++◌, length, take, nat_lt, if◌then◌else◌};
 ghost use Rattle.tty_modes.specs.Settings.{has_flag};
 ghost use Rattle.tty_modes.specs.declared.places.TheConstants.{ICANON};
 ghost use Rattle.line_store.specs.Unread.{end_count};
-ghost use Rattle.flow_control.specs.Output.{Output, after_start, sent};
+ghost use Rattle.flow_control.specs.Output.{Output, after_start, after_send};
 ghost use Rattle.echo_out.specs.Echo.{echo_of, FitsEcho};
-ghost use Rattle.n_tty.specs.States.{NTtyState, fresh_tty, on_port, is_accepting, unread_count, FitsModes};
-ghost use Rattle.n_tty.specs.Storing.{most_stored, stored, emptied, recast};
-ghost use Rattle.n_tty.specs.Editing.{erased, word_erased, killed};
-ghost use Rattle.n_tty.specs.Flow.{signalled, must_stop, ixoff_ruled};
-ghost use Rattle.n_tty.specs.Receiving.{received, taken_by, taken_good, taken_unquoted, taken_mapped, taken_signal, taken_as, taken_ordinary, taken_delimiter, taken_break, taken_bad, with_echo};
-ghost use Rattle.n_tty.specs.Roles.{mapped, role_of};
+ghost use Rattle.n_tty.specs.States.{NTtyState, fresh_tty, on_port, is_accepting, unread_count, has_piece, FitsModes};
+ghost use Rattle.n_tty.specs.Storing.{most_stored, after_store, without_input, after_recast};
+ghost use Rattle.n_tty.specs.Editing.{after_erase, after_word_erase, after_kill};
+ghost use Rattle.n_tty.specs.Flow.{after_signal, after_ixoff_rule};
+ghost use Rattle.n_tty.specs.Receiving.{after_character, after_flagged, after_good, after_unquoted, after_mapped, after_signal_character, after_role, after_ordinary, after_delimiter, after_break, after_bad, with_echo};
+ghost use Rattle.n_tty.specs.Roles.{mapped_byte, role_of};
 ghost use Rattle.n_tty.specs.Reading.{bytes_read, after_read, is_readable, ready_count};
+ghost use Rattle.n_tty.specs.Spending.{pending_count};
 ghost use Rattle.n_tty.specs.Writing.{piece_size, piece_text, after_write};
 
 use crate::erasing::echo_erased;
-use crate::posting::{echo_bytes, post_fitting, resume};
-use crate::roles::{Role, is_character, mapped, role_of, signal_of};
+use crate::flow::apply_ixoff_rule;
+use crate::posting::{echo_bytes, fits_any, post_fitting};
+use crate::roles::{Role, is_character, mapped_byte, role_of, signal_of};
 use crate::storing::{MOST_LINE, add_all, end_with, end_with_eof, push_all, start_of};
 use echo_out::{EchoEvent, EraseKind, echo};
 use flow_control::{Counter, Tally, Wire};
@@ -24,24 +26,22 @@ use n_tty_edit::Edit;
 use opost_out::Out;
 use std::alloc::Global;
 use std::marker::Model;
-use tty_base::{Bytes, Flag, Flagged, NoMemory, Signal};
+use tty_base::{Bytes, Flag, Flagged, Moves, NoMemory, Signal};
 use tty_modes::Modes;
 use tty_modes::places::{
-    BRKINT, ICANON, IGNBRK, IGNPAR, INPCK, ISTRIP, IUTF8, IXANY, IXOFF, IXON, NOFLSH, PARMRK, VMIN,
+    BRKINT, ICANON, IGNBRK, IGNPAR, INPCK, ISTRIP, IUTF8, IXANY, IXON, NOFLSH, PARMRK, VMIN,
     VSTART, VSTOP, VTIME,
 };
 
 /// How many ends of pieces stand at most.
 const MOST_ENDS: usize = 4096;
 
-/// More unread bytes than this send STOP, with ixoff.
-const HIGH_WATER: usize = 3968;
-
-/// So many unread bytes, or fewer, send START after STOP was sent.
-const LOW_WATER: usize = 128;
-
 /// How many bytes one piece of a write takes at most.
 const MOST_WRITTEN: usize = 64;
+
+/// How much room on the wire one character takes at most, beyond what is pending: its echo as it is posted, what taking it
+/// off the screen again can post, and STOP or START.
+pub const CHARACTER_ROOM: usize = 41;
 
 /// What marks a character with an error, and is doubled as a character of its own (termios(3), PARMRK).
 const MARK: u8 = 0xff;
@@ -69,6 +69,8 @@ impl Model for NTty {
 
     ghost invariant = { λ t. record { within : length (bytes_of t.store) + length t.edit ≤ 4096; line : length t.edit ≤ 4095 } };
 }
+
+impl Moves for NTty {}
 
 impl NTty {
     /// Nothing is unread and nothing was posted; there is room for all that it ever holds.
@@ -106,13 +108,20 @@ impl NTty {
     )
         requires accepting { is_accepting modes.now self.old ≡ true }
         requires fitting { FitsModes modes.now self.old }
-        requires room { 40960 ≤ wire.old.spare }
+        requires room { pending_count self.old wire.old + CHARACTER_ROOM ≤ wire.old.spare }
         requires signal { 0 < tally.old.signals.spare }
         requires column { self.old.column < 2 ^ 62 }
         ensures after { on_port self.new wire.new tally.new
-            ≡ received modes.now now c (on_port self.old wire.old tally.old) }
+            ≡ after_character modes.now now c (on_port self.old wire.old tally.old) }
         ensures fits { FitsModes modes.now self.new }
+        // So several characters need room for what is pending once, and `CHARACTER_ROOM` for each.
+        ensures spent { wire.old.spare + pending_count self.new wire.new
+            ≤ wire.new.spare + (pending_count self.old wire.old + CHARACTER_ROOM) }
+        ensures signals { tally.old.signals.spare ≤ tally.new.signals.spare + 1 }
+        ensures moved { self.new.column ≤ self.old.column + 2 ^ 22 }
+        ensures past { self.old.last ≤ now → self.new.last ≤ now }
     {
+        prove!(self.edit.bytes().len() <= MOST_LINE);
         self.take(c, now, modes, wire, tally);
         self.ixoff(modes, wire);
     }
@@ -120,9 +129,7 @@ impl NTty {
     /// Whether a read of at most `n` bytes is ready, which has waited since a tick, by MIN and TIME or by
     /// a complete piece.
     pub fn ready(&self, n: u32, modes: &Modes, nonblock: bool, since: u64, now: u64) -> bool
-        requires fitting { FitsModes modes.now self.now }
-        requires since_past { since ≤ now }
-        requires last_past { self.now.last ≤ now }
+        requires { FitsModes modes.now self.now }
         ensures { result ≡ is_readable modes.now nonblock n since now self.now }
     {
         if modes.has(ICANON) {
@@ -137,12 +144,24 @@ impl NTty {
         }
     }
 
+    /// How many bytes `read` gives where it is asked for at most `n`: room for so many is to be reserved.
+    pub fn read_len(&self, n: u32, modes: &Modes) -> u32
+        requires { FitsModes modes.now self.now }
+        ensures { result ≡ length (bytes_read modes.now n self.now) }
+    {
+        if modes.has(ICANON) {
+            self.store.line_len(n)
+        } else {
+            self.store.raw_len(n)
+        }
+    }
+
     /// Reads at most `n` bytes, and at most 4,096: adds them to `out`, and answers how many. In canonical
     /// mode they are of the first piece, whose end goes with its last byte.
     pub fn read(&mut self, n: u32, modes: &Modes, out: &mut Bytes) -> u32
         requires fitting { FitsModes modes.now self.old }
         requires complete { has_flag modes.now ICANON ≡ true → 0 < end_count self.old.items }
-        requires room { 4096 ≤ out.old.spare }
+        requires room { length (bytes_read modes.now n self.old) ≤ out.old.spare }
         ensures count { result ≡ length (bytes_read modes.now n self.old) }
         ensures bytes { out.new ≡ record {
           items = out.old.items ++ bytes_read modes.now n self.old;
@@ -165,18 +184,29 @@ impl NTty {
         requires room { 512 ≤ wire.old.spare }
         requires column { self.old.column < 2 ^ 62 }
         ensures count { result ≡ piece_size modes.now self.old wire.old bytes.now }
-        ensures wire { wire.new ≡ sent wire.old (piece_text modes.now self.old wire.old bytes.now) }
+        ensures wire { wire.new ≡ after_send wire.old (piece_text modes.now self.old wire.old bytes.now) }
         ensures after { self.new ≡ after_write modes.now wire.old bytes.now self.old }
         ensures fits { FitsModes modes.now self.new }
+        ensures few { result ≤ 64 }
+        ensures spent { wire.old.spare ≤ wire.new.spare + 512 }
+        ensures moved { self.new.column ≤ self.old.column + 4096 }
     {
         post_fitting(&mut self.out, piece_of(bytes), modes, wire)
+    }
+
+    /// Whether a piece of a write takes any of these bytes: the first, where its posted bytes fit.
+    pub fn can_write(&self, bytes: &[u8], modes: &Modes, wire: &Wire) -> bool
+        requires { self.now.column < 2 ^ 62 }
+        ensures { result ≡ nat_lt 0 (piece_size modes.now self.now wire.now bytes.now) }
+    {
+        fits_any(&self.out, piece_of(bytes), modes, wire)
     }
 
     /// Goes over to other modes. Where canonical mode ends, all that is unread becomes plain and the
     /// quoting ends; where it begins, plain bytes become one piece that ends with an EOF mark.
     pub fn recast(&mut self, old: &Modes, new: &Modes)
         requires { FitsModes old.now self.old }
-        ensures after { self.new ≡ recast old.now new.now self.old }
+        ensures after { self.new ≡ after_recast old.now new.now self.old }
         ensures fits { FitsModes new.now self.new }
     {
         if modes_leave(old, new) {
@@ -191,7 +221,7 @@ impl NTty {
 
     /// Drops unread input, the edited line and the quoting mark.
     pub fn flush_in(&mut self)
-        ensures { self.new ≡ emptied self.old }
+        ensures { self.new ≡ without_input self.old }
     {
         self.store.clear();
         let _count = self.edit.kill();
@@ -204,6 +234,14 @@ impl NTty {
         ensures most { result ≤ 4096 }
     {
         self.store.len() + self.edit.bytes().len()
+    }
+
+    /// How many bytes can still go to the wire for what is held, and for what erasing the edited line shows.
+    pub fn pending(&self, wire: &Wire) -> usize
+        ensures count { result ≡ pending_count self.now wire.now }
+        ensures most { result ≤ 36856 }
+    {
+        wire.held() + 8 * self.edit.bytes().len()
     }
 
     /// How many bytes can be read: in canonical mode those of complete pieces.
@@ -224,43 +262,22 @@ impl NTty {
     pub fn ixoff(&self, modes: &Modes, wire: &mut Wire)
         requires fitting { FitsModes modes.now self.now }
         requires room { 0 < wire.old.spare }
-        ensures { wire.new ≡ ixoff_ruled modes.now self.now wire.old }
+        ensures after { wire.new ≡ after_ixoff_rule modes.now (unread_count self.now) (has_piece self.now) wire.old }
+        ensures held { wire.new.held ≡ wire.old.held }
+        ensures spent { wire.old.spare ≤ wire.new.spare + 1 }
     {
-        if self.must_stop(modes, wire) {
-            let stop = modes.cc(VSTOP);
-            if stop != 0 {
-                wire.urgent(stop);
-                wire.set_noted(true);
-            }
-        } else if wire.noted() && (self.unread() <= LOW_WATER || !modes.has(IXOFF)) {
-            let start = modes.cc(VSTART);
-            if start != 0 {
-                wire.urgent(start);
-            }
-            wire.set_noted(false);
-        }
-    }
-
-    /// Whether STOP must be sent for ixoff.
-    fn must_stop(&self, modes: &Modes, wire: &Wire) -> bool
-        ensures { result ≡ must_stop modes.now self.now wire.now }
-    {
-        modes.has(IXOFF)
-            && !wire.noted()
-            && self.unread() > HIGH_WATER
-            && (!modes.has(ICANON) || self.store.lines() > 0)
+        apply_ixoff_rule(self.unread(), self.store.lines() > 0, modes, wire);
     }
 
     /// Takes a character by its flag.
     fn take(&mut self, c: Flagged, now: u64, modes: &Modes, wire: &mut Wire, tally: &mut Tally)
         requires accepting { is_accepting modes.now self.old ≡ true }
         requires fitting { FitsModes modes.now self.old }
-        requires room { 40960 ≤ wire.old.spare }
+        requires room { pending_count self.old wire.old + 40 ≤ wire.old.spare }
         requires signal { 0 < tally.old.signals.spare }
         requires column { self.old.column < 2 ^ 62 }
         ensures after { on_port self.new wire.new tally.new
-            ≡ taken_by modes.now now c.flag c.byte (on_port self.old wire.old tally.old) }
-        ensures spent { wire.old.spare ≤ wire.new.spare + 40000 }
+            ≡ after_flagged modes.now now c.flag c.byte (on_port self.old wire.old tally.old) }
     {
         match c.flag {
             Flag::Normal => self.take_good(c.byte, now, modes, wire, tally),
@@ -286,8 +303,7 @@ impl NTty {
         requires fitting { FitsModes modes.now self.old }
         requires signal { 0 < tally.old.signals.spare }
         ensures after { on_port self.new wire.new tally.new
-            ≡ taken_break modes.now now (on_port self.old wire.old tally.old) }
-        ensures spent { wire.old.spare ≤ wire.new.spare }
+            ≡ after_break modes.now now (on_port self.old wire.old tally.old) }
     {
         if modes.has(IGNBRK) {
             return;
@@ -305,12 +321,11 @@ impl NTty {
     fn take_bad(&mut self, b: u8, now: u64, modes: &Modes, wire: &mut Wire, tally: &mut Tally)
         requires accepting { is_accepting modes.now self.old ≡ true }
         requires fitting { FitsModes modes.now self.old }
-        requires room { 40960 ≤ wire.old.spare }
+        requires room { pending_count self.old wire.old + 40 ≤ wire.old.spare }
         requires signal { 0 < tally.old.signals.spare }
         requires column { self.old.column < 2 ^ 62 }
         ensures after { on_port self.new wire.new tally.new
-            ≡ taken_bad modes.now now b (on_port self.old wire.old tally.old) }
-        ensures spent { wire.old.spare ≤ wire.new.spare + 40000 }
+            ≡ after_bad modes.now now b (on_port self.old wire.old tally.old) }
     {
         if !modes.has(INPCK) {
             self.take_good(b, now, modes, wire, tally);
@@ -327,12 +342,11 @@ impl NTty {
     fn take_good(&mut self, b: u8, now: u64, modes: &Modes, wire: &mut Wire, tally: &mut Tally)
         requires accepting { is_accepting modes.now self.old ≡ true }
         requires fitting { FitsModes modes.now self.old }
-        requires room { 40960 ≤ wire.old.spare }
+        requires room { pending_count self.old wire.old + 40 ≤ wire.old.spare }
         requires signal { 0 < tally.old.signals.spare }
         requires column { self.old.column < 2 ^ 62 }
         ensures after { on_port self.new wire.new tally.new
-            ≡ taken_good modes.now now b (on_port self.old wire.old tally.old) }
-        ensures spent { wire.old.spare ≤ wire.new.spare + 40000 }
+            ≡ after_good modes.now now b (on_port self.old wire.old tally.old) }
     {
         let b = if modes.has(ISTRIP) { b % 128 } else { b };
         if self.quoted {
@@ -347,15 +361,14 @@ impl NTty {
     fn take_unquoted(&mut self, b: u8, now: u64, modes: &Modes, wire: &mut Wire, tally: &mut Tally)
         requires accepting { is_accepting modes.now self.old ≡ true }
         requires fitting { FitsModes modes.now self.old }
-        requires room { 40960 ≤ wire.old.spare }
+        requires room { pending_count self.old wire.old + 40 ≤ wire.old.spare }
         requires signal { 0 < tally.old.signals.spare }
         requires column { self.old.column < 2 ^ 62 }
         ensures after { on_port self.new wire.new tally.new
-            ≡ taken_unquoted modes.now now b (on_port self.old wire.old tally.old) }
-        ensures spent { wire.old.spare ≤ wire.new.spare + 40000 }
+            ≡ after_unquoted modes.now now b (on_port self.old wire.old tally.old) }
     {
         if modes.has(IXON) && is_character(VSTART, b, modes) {
-            resume(wire);
+            wire.start();
             return;
         }
         if modes.has(IXON) && is_character(VSTOP, b, modes) {
@@ -378,12 +391,11 @@ impl NTty {
         wire: &mut Wire,
         tally: &mut Tally,
     )
-        requires room { 4288 ≤ wire.old.spare }
+        requires room { length wire.old.held + 24 ≤ wire.old.spare }
         requires signal { 0 < tally.old.signals.spare }
         requires column { self.old.column < 2 ^ 62 }
         ensures after { on_port self.new wire.new tally.new
-            ≡ taken_signal modes.now signal b (on_port self.old wire.old tally.old) }
-        ensures spent { wire.old.spare ≤ wire.new.spare + 4288 }
+            ≡ after_signal_character modes.now signal b (on_port self.old wire.old tally.old) }
     {
         self.signal(signal, modes, wire, tally);
         resume_where(modes.has(IXON), wire);
@@ -394,13 +406,12 @@ impl NTty {
     fn take_mapped(&mut self, b: u8, now: u64, modes: &Modes, wire: &mut Wire, tally: &mut Tally)
         requires accepting { is_accepting modes.now self.old ≡ true }
         requires fitting { FitsModes modes.now self.old }
-        requires room { 32760 ≤ wire.old.spare }
+        requires room { 8 * length self.old.edit + 24 ≤ wire.old.spare }
         requires column { self.old.column < 2 ^ 62 }
         ensures after { on_port self.new wire.new tally.new
-            ≡ taken_mapped modes.now now (mapped modes.now b) (on_port self.old wire.old tally.old) }
-        ensures spent { wire.old.spare ≤ wire.new.spare + 32760 }
+            ≡ after_mapped modes.now now (mapped_byte modes.now b) (on_port self.old wire.old tally.old) }
     {
-        let Some(b) = mapped(b, modes) else {
+        let Some(b) = mapped_byte(b, modes) else {
             return;
         };
         if modes.has(ICANON) {
@@ -415,11 +426,10 @@ impl NTty {
         requires canonical { has_flag modes.now ICANON ≡ true }
         requires accepting { is_accepting modes.now self.old ≡ true }
         requires fitting { FitsModes modes.now self.old }
-        requires room { 32760 ≤ wire.old.spare }
+        requires room { 8 * length self.old.edit + 24 ≤ wire.old.spare }
         requires column { self.old.column < 2 ^ 62 }
         ensures after { on_port self.new wire.new tally.new
-            ≡ taken_as modes.now now (role_of modes.now b) b (on_port self.old wire.old tally.old) }
-        ensures spent { wire.old.spare ≤ wire.new.spare + 32760 }
+            ≡ after_role modes.now now (role_of modes.now b) b (on_port self.old wire.old tally.old) }
     {
         match role_of(b, modes) {
             Role::Erase => self.erase(modes, wire, tally),
@@ -440,11 +450,10 @@ impl NTty {
     fn take_ordinary(&mut self, b: u8, now: u64, modes: &Modes, wire: &mut Wire, tally: &mut Tally)
         requires accepting { is_accepting modes.now self.old ≡ true }
         requires fitting { FitsModes modes.now self.old }
-        requires room { 192 ≤ wire.old.spare }
+        requires room { 24 ≤ wire.old.spare }
         requires column { self.old.column < 2 ^ 62 }
         ensures after { on_port self.new wire.new tally.new
-            ≡ taken_ordinary modes.now now b (on_port self.old wire.old tally.old) }
-        ensures spent { wire.old.spare ≤ wire.new.spare + 192 }
+            ≡ after_ordinary modes.now now b (on_port self.old wire.old tally.old) }
     {
         if modes.has(PARMRK) && !modes.has(ISTRIP) && b == MARK {
             self.store_bytes([MARK, MARK].as_slice(), now, modes, tally);
@@ -467,11 +476,10 @@ impl NTty {
         requires accepting { is_accepting modes.now self.old ≡ true }
         requires fitting { FitsModes modes.now self.old }
         requires event { FitsEcho event }
-        requires room { 192 ≤ wire.old.spare }
+        requires room { 24 ≤ wire.old.spare }
         requires column { self.old.column < 2 ^ 62 }
         ensures after { on_port self.new wire.new tally.new
-            ≡ taken_delimiter modes.now now b event (on_port self.old wire.old tally.old) }
-        ensures spent { wire.old.spare ≤ wire.new.spare + 192 }
+            ≡ after_delimiter modes.now now b event (on_port self.old wire.old tally.old) }
     {
         end_with(&mut self.store, &mut self.edit, b);
         self.last = now;
@@ -480,11 +488,10 @@ impl NTty {
 
     /// ERASE, with its echo.
     fn erase(&mut self, modes: &Modes, wire: &mut Wire, tally: &mut Tally)
-        requires room { 192 ≤ wire.old.spare }
+        requires room { 24 ≤ wire.old.spare }
         requires column { self.old.column < 2 ^ 62 }
         ensures after { on_port self.new wire.new tally.new
-            ≡ erased modes.now (on_port self.old wire.old tally.old) }
-        ensures spent { wire.old.spare ≤ wire.new.spare + 192 }
+            ≡ after_erase modes.now (on_port self.old wire.old tally.old) }
     {
         if let Some(gone) = self.edit.erase(self.start, modes) {
             let event = EchoEvent::Erased {
@@ -498,11 +505,10 @@ impl NTty {
 
     /// WERASE, with its echo.
     fn erase_word(&mut self, modes: &Modes, wire: &mut Wire, tally: &mut Tally)
-        requires room { 32760 ≤ wire.old.spare }
+        requires room { 8 * length self.old.edit + 24 ≤ wire.old.spare }
         requires column { self.old.column < 2 ^ 62 }
         ensures after { on_port self.new wire.new tally.new
-            ≡ word_erased modes.now (on_port self.old wire.old tally.old) }
-        ensures spent { wire.old.spare ≤ wire.new.spare + 32760 }
+            ≡ after_word_erase modes.now (on_port self.old wire.old tally.old) }
     {
         let from = self.edit.bytes().len() - self.edit.word_len();
         echo_erased(
@@ -520,11 +526,10 @@ impl NTty {
 
     /// KILL, with its echo: of each byte, or of itself.
     fn kill(&mut self, modes: &Modes, wire: &mut Wire, tally: &mut Tally)
-        requires room { 32760 ≤ wire.old.spare }
+        requires room { 8 * length self.old.edit + 24 ≤ wire.old.spare }
         requires column { self.old.column < 2 ^ 62 }
         ensures after { on_port self.new wire.new tally.new
-            ≡ killed modes.now (on_port self.old wire.old tally.old) }
-        ensures spent { wire.old.spare ≤ wire.new.spare + 32760 }
+            ≡ after_kill modes.now (on_port self.old wire.old tally.old) }
     {
         if self.edit.bytes().is_empty() {
             return;
@@ -553,7 +558,7 @@ impl NTty {
         requires fitting { FitsModes modes.now self.old }
         requires few { length bytes.now ≤ most_stored modes.now }
         ensures after { (output : Output) → on_port self.new output tally.new
-            ≡ stored modes.now now bytes.now (on_port self.old output tally.old) }
+            ≡ after_store modes.now now bytes.now (on_port self.old output tally.old) }
         ensures column { self.new.column ≡ self.old.column }
     {
         if !modes.has(ICANON) {
@@ -572,8 +577,9 @@ impl NTty {
     fn signal(&mut self, signal: Signal, modes: &Modes, wire: &mut Wire, tally: &mut Tally)
         requires { 0 < tally.old.signals.spare }
         ensures after { on_port self.new wire.new tally.new
-            ≡ signalled modes.now signal (on_port self.old wire.old tally.old) }
+            ≡ after_signal modes.now signal (on_port self.old wire.old tally.old) }
         ensures spent { wire.new.spare ≡ wire.old.spare }
+        ensures held { length wire.new.held ≤ length wire.old.held }
     {
         tally.raise(signal);
         if !modes.has(NOFLSH) {
@@ -585,11 +591,10 @@ impl NTty {
     /// Posts the echo of an event.
     fn echo(&mut self, event: EchoEvent, modes: &Modes, wire: &mut Wire, tally: &mut Tally)
         requires event { FitsEcho event }
-        requires room { 192 ≤ wire.old.spare }
+        requires room { 24 ≤ wire.old.spare }
         requires column { self.old.column < 2 ^ 62 }
         ensures after { on_port self.new wire.new tally.new
             ≡ with_echo modes.now event (on_port self.old wire.old tally.old) }
-        ensures spent { wire.old.spare ≤ wire.new.spare + 192 }
     {
         echo_bytes(
             &mut self.out,
@@ -617,11 +622,11 @@ fn piece_of(bytes: &[u8]) -> &[u8]
 
 /// Resumes output that STOP halted, where it applies.
 fn resume_where(applies: bool, wire: &mut Wire)
-    requires { 4096 ≤ wire.old.spare }
+    requires { length wire.old.held ≤ wire.old.spare }
     ensures wire { wire.new ≡ (if applies then after_start wire.old else wire.old) }
-    ensures spent { wire.old.spare ≤ wire.new.spare + 4096 }
+    ensures spent { wire.old.spare + length wire.new.held ≤ wire.new.spare + length wire.old.held }
 {
     if applies {
-        resume(wire);
+        wire.start();
     }
 }

@@ -1,9 +1,9 @@
 //! The echo of bytes that WERASE and KILL erase.
 
-ghost use Rattle.std.specs.Prelude.{◌≡◌, ◌+◌, ◌<◌, ◌≤◌, ◌^◌, ◌⊎◌, true, length, take, drop};
-ghost use Rattle.flow_control.specs.Output.{has_room, sent, tried};
-ghost use Rattle.n_tty.specs.Editing.{erased_echo};
-ghost use Rattle.n_tty.specs.Posting.{column_past_text, column_tried, posted_text, tally_tried};
+ghost use Rattle.std.specs.Prelude.{◌≡◌, ◌*◌, ◌<◌, ◌≤◌, ◌^◌, ◌⊎◌, true, length, take, drop};
+ghost use Rattle.flow_control.specs.Output.{has_room, after_send, after_try};
+ghost use Rattle.n_tty.specs.Editing.{echo_of_gone};
+ghost use Rattle.n_tty.specs.Posting.{column_past_text, column_after_try, all_posted_bytes, tally_after_try};
 
 use crate::posting::{has_room, post};
 use echo_out::{EchoEvent, EraseKind, echo};
@@ -16,7 +16,7 @@ use tty_modes::Modes;
 fn erased_len(edit: &Edit, kind: EraseKind, from: usize, start: usize, modes: &Modes) -> usize
     requires from { from ≤ length edit.now }
     requires kind { (kind ≡ EraseKind.Word) ⊎ (kind ≡ EraseKind.Kill) }
-    ensures len { result ≡ length (erased_echo modes.now kind start (take from edit.now) (drop from edit.now)) }
+    ensures len { result ≡ length (echo_of_gone modes.now kind start (take from edit.now) (drop from edit.now)) }
     ensures most { result ≤ 32760 }
 {
     let line = edit.bytes();
@@ -46,12 +46,11 @@ fn post_erased(
     requires from { from ≤ length edit.now }
     requires kind { (kind ≡ EraseKind.Word) ⊎ (kind ≡ EraseKind.Kill) }
     requires column { out.old < 2 ^ 62 }
-    requires spare { 32760 ≤ wire.old.spare }
-    requires room { has_room wire.old (erased_echo modes.now kind start (take from edit.now) (drop from edit.now)) ≡ true }
+    requires spare { 8 * length edit.now ≤ wire.old.spare }
+    requires room { has_room wire.old (echo_of_gone modes.now kind start (take from edit.now) (drop from edit.now)) ≡ true }
     ensures column { out.new ≡ column_past_text modes.now out.old
-        (erased_echo modes.now kind start (take from edit.now) (drop from edit.now)) }
-    ensures wire { wire.new ≡ sent wire.old (erased_echo modes.now kind start (take from edit.now) (drop from edit.now)) }
-    ensures spent { wire.old.spare ≤ wire.new.spare + 32760 }
+        (echo_of_gone modes.now kind start (take from edit.now) (drop from edit.now)) }
+    ensures wire { wire.new ≡ after_send wire.old (echo_of_gone modes.now kind start (take from edit.now) (drop from edit.now)) }
 {
     let line = edit.bytes();
     let mut i = line.len();
@@ -81,14 +80,13 @@ pub fn echo_erased(
     requires from { from ≤ length edit.now }
     requires kind { (kind ≡ EraseKind.Word) ⊎ (kind ≡ EraseKind.Kill) }
     requires column { out.old < 2 ^ 62 }
-    requires spare { 32760 ≤ wire.old.spare }
-    ensures column { out.new ≡ column_tried modes.now wire.old out.old
-        (posted_text modes.now out.old (erased_echo modes.now kind start (take from edit.now) (drop from edit.now))) }
-    ensures wire { wire.new ≡ tried wire.old
-        (posted_text modes.now out.old (erased_echo modes.now kind start (take from edit.now) (drop from edit.now))) }
-    ensures tally { tally.new ≡ tally_tried wire.old
-        (posted_text modes.now out.old (erased_echo modes.now kind start (take from edit.now) (drop from edit.now))) tally.old }
-    ensures spent { wire.old.spare ≤ wire.new.spare + 32760 }
+    requires spare { 8 * length edit.now ≤ wire.old.spare }
+    ensures column { out.new ≡ column_after_try modes.now wire.old out.old
+        (all_posted_bytes modes.now out.old (echo_of_gone modes.now kind start (take from edit.now) (drop from edit.now))) }
+    ensures wire { wire.new ≡ after_try wire.old
+        (all_posted_bytes modes.now out.old (echo_of_gone modes.now kind start (take from edit.now) (drop from edit.now))) }
+    ensures tally { tally.new ≡ tally_after_try wire.old
+        (all_posted_bytes modes.now out.old (echo_of_gone modes.now kind start (take from edit.now) (drop from edit.now))) tally.old }
 {
     let count = erased_len(edit, kind, from, start, modes);
     if has_room(count, wire) {

@@ -4,12 +4,16 @@
 
 mod discipline;
 mod erasing;
+mod flow;
+mod laws;
 mod posting;
 mod roles;
-mod rows;
+pub mod rows;
 mod storing;
 
-pub use discipline::NTty;
+pub use discipline::{CHARACTER_ROOM, NTty};
+pub use flow::apply_ixoff_rule;
+pub use laws::room_makes_no_difference;
 
 #[cfg(test)]
 mod tests;

@@ -1,8 +1,8 @@
 //! Posting bytes: output processing at the column, and echo that is posted whole or dropped whole.
 
-ghost use Rattle.std.specs.Prelude.{◌≡◌, ◌+◌, ◌*◌, ◌<◌, ◌≤◌, ◌^◌, ℕ, List, true, length, take};
-ghost use Rattle.flow_control.specs.Output.{after_start, has_room, sent, tried};
-ghost use Rattle.n_tty.specs.Posting.{column_past_text, column_tried, posted_text, tally_tried};
+ghost use Rattle.std.specs.Prelude.{◌≡◌, ◌+◌, ◌*◌, ◌<◌, ◌≤◌, ◌^◌, ℕ, List, true, length, nat_lt, take};
+ghost use Rattle.flow_control.specs.Output.{has_room, after_send, after_try};
+ghost use Rattle.n_tty.specs.Posting.{column_past_text, column_after_try, all_posted_bytes, tally_after_try};
 ghost use Rattle.n_tty.specs.Writing.{fitting_count};
 
 use flow_control::{Counter, Tally, Wire};
@@ -13,10 +13,10 @@ use tty_modes::Modes;
 pub fn post(out: &mut Out, bytes: &[u8], modes: &Modes, wire: &mut Wire)
     requires column { out.old < 2 ^ 62 + 2 ^ 32 }
     requires short { length bytes.now ≤ 64 }
-    requires spare { length (posted_text modes.now out.old bytes.now) ≤ wire.old.spare }
-    requires room { has_room wire.old (posted_text modes.now out.old bytes.now) ≡ true }
-    ensures column { out.new ≡ column_past_text modes.now out.old (posted_text modes.now out.old bytes.now) }
-    ensures wire { wire.new ≡ sent wire.old (posted_text modes.now out.old bytes.now) }
+    requires spare { length (all_posted_bytes modes.now out.old bytes.now) ≤ wire.old.spare }
+    requires room { has_room wire.old (all_posted_bytes modes.now out.old bytes.now) ≡ true }
+    ensures column { out.new ≡ column_past_text modes.now out.old (all_posted_bytes modes.now out.old bytes.now) }
+    ensures wire { wire.new ≡ after_send wire.old (all_posted_bytes modes.now out.old bytes.now) }
 {
     for byte in bytes {
         let piece = out.post(*byte, modes);
@@ -30,8 +30,8 @@ pub fn post_fitting(out: &mut Out, bytes: &[u8], modes: &Modes, wire: &mut Wire)
     requires short { length bytes.now ≤ 64 }
     requires spare { 512 ≤ wire.old.spare }
     ensures count { result ≡ fitting_count modes.now out.old wire.old bytes.now }
-    ensures column { out.new ≡ column_past_text modes.now out.old (posted_text modes.now out.old (take result bytes.now)) }
-    ensures wire { wire.new ≡ sent wire.old (posted_text modes.now out.old (take result bytes.now)) }
+    ensures column { out.new ≡ column_past_text modes.now out.old (all_posted_bytes modes.now out.old (take result bytes.now)) }
+    ensures wire { wire.new ≡ after_send wire.old (all_posted_bytes modes.now out.old (take result bytes.now)) }
 {
     let mut count = 0;
     for byte in bytes {
@@ -46,11 +46,23 @@ pub fn post_fitting(out: &mut Out, bytes: &[u8], modes: &Modes, wire: &mut Wire)
     count
 }
 
+/// Whether the first of some bytes fits with what is posted for it.
+pub fn fits_any(out: &Out, bytes: &[u8], modes: &Modes, wire: &Wire) -> bool
+    requires { out.now < 2 ^ 62 + 2 ^ 32 }
+    ensures { result ≡ nat_lt 0 (fitting_count modes.now out.now wire.now bytes.now) }
+{
+    let [byte, ..] = bytes else {
+        return false;
+    };
+    let mut ahead = *out;
+    has_room(ahead.post(*byte, modes).len(), wire)
+}
+
 /// How many bytes are posted for some.
 pub fn text_len(out: &Out, bytes: &[u8], modes: &Modes) -> usize
     requires column { out.now < 2 ^ 62 + 2 ^ 32 }
     requires short { length bytes.now ≤ 64 }
-    ensures len { result ≡ length (posted_text modes.now out.now bytes.now) }
+    ensures len { result ≡ length (all_posted_bytes modes.now out.now bytes.now) }
     ensures most { result ≤ 8 * length bytes.now }
 {
     let mut ahead = *out;
@@ -72,11 +84,10 @@ pub fn has_room(count: usize, wire: &Wire) -> bool
 pub fn echo_bytes(out: &mut Out, echo: &[u8], modes: &Modes, wire: &mut Wire, tally: &mut Tally)
     requires column { out.old < 2 ^ 62 + 2 ^ 32 }
     requires short { length echo.now ≤ 24 }
-    requires spare { 192 ≤ wire.old.spare }
-    ensures column { out.new ≡ column_tried modes.now wire.old out.old (posted_text modes.now out.old echo.now) }
-    ensures wire { wire.new ≡ tried wire.old (posted_text modes.now out.old echo.now) }
-    ensures tally { tally.new ≡ tally_tried wire.old (posted_text modes.now out.old echo.now) tally.old }
-    ensures spent { wire.old.spare ≤ wire.new.spare + 192 }
+    requires spare { length (all_posted_bytes modes.now out.old echo.now) ≤ wire.old.spare }
+    ensures column { out.new ≡ column_after_try modes.now wire.old out.old (all_posted_bytes modes.now out.old echo.now) }
+    ensures wire { wire.new ≡ after_try wire.old (all_posted_bytes modes.now out.old echo.now) }
+    ensures tally { tally.new ≡ tally_after_try wire.old (all_posted_bytes modes.now out.old echo.now) tally.old }
 {
     let count = text_len(out, echo, modes);
     if has_room(count, wire) {
@@ -84,15 +95,4 @@ pub fn echo_bytes(out: &mut Out, echo: &[u8], modes: &Modes, wire: &mut Wire, ta
     } else {
         tally.count(Counter::Echo, count as u64);
     }
-}
-
-/// Resumes output that STOP halted.
-pub fn resume(wire: &mut Wire)
-    requires { 4096 ≤ wire.old.spare }
-    ensures wire { wire.new ≡ after_start wire.old }
-    ensures spent { wire.old.spare ≤ wire.new.spare + 4096 }
-{
-    // There is room, since no more is held than can be.
-    let _held = wire.held();
-    wire.start();
 }

@@ -1,7 +1,7 @@
 //! What a character is for.
 
 ghost use Rattle.std.specs.Prelude.{◌≡◌};
-ghost use Rattle.n_tty.specs.Roles.{is_character, is_extended, signal_of, mapped, role_of};
+ghost use Rattle.n_tty.specs.Roles.{is_character, is_extended, signal_of, mapped_byte, role_of};
 
 use tty_base::Signal;
 use tty_modes::Modes;
@@ -67,8 +67,8 @@ pub fn signal_of(b: u8, modes: &Modes) -> Option<Signal>
 }
 
 /// What becomes of CR and NL. There is none for a CR that is dropped.
-pub fn mapped(b: u8, modes: &Modes) -> Option<u8>
-    ensures { result ≡ mapped modes.now b }
+pub fn mapped_byte(b: u8, modes: &Modes) -> Option<u8>
+    ensures { result ≡ mapped_byte modes.now b }
 {
     if b == CR {
         if modes.has(IGNCR) {

@@ -1,15 +1,13 @@
 ghost use Rattle.std.specs.Prelude.{◌+◌, ◌<◌, ◌≤◌, ◌^◌, IfOk, length};
 ghost use Rattle.n_tty.specs.States.{FitsModes};
 
-use crate::NTty;
+use crate::{CHARACTER_ROOM, NTty, room_makes_no_difference};
 use flow_control::{Tally, Wire};
 use std::alloc::Global;
 use std::test::Fail;
 use tty_base::{Bytes, Flag, Flagged, NoMemory};
 use tty_modes::places::{IXANY, IXOFF};
 use tty_modes::{Modes, Word};
-
-fn moves<T: Send + Drop>(_value: T) {}
 
 /// N_TTY on a port, and what was read of it.
 #[derive(Drop)]
@@ -25,7 +23,6 @@ impl Line {
     /// An idle port with the defaults, changed by words.
     fn new(alloc: Global, words: &[Word]) -> Result<Line, NoMemory>
         ensures fits { IfOk result (λ line. FitsModes line.modes line.tty) }
-        ensures past { IfOk result (λ line. line.tty.last ≤ 0) }
         ensures column { IfOk result (λ line. line.tty.column ≤ 0) }
     {
         let mut modes = Modes::sane();
@@ -44,18 +41,17 @@ impl Line {
     /// Good characters come, all at tick 0. Answers whether each was accepted.
     fn type_in(&mut self, bytes: &[u8]) -> Result<bool, NoMemory>
         requires fitting { FitsModes self.old.modes self.old.tty }
-        requires past { self.old.tty.last ≤ 0 }
         requires column { self.old.tty.column < 2 ^ 60 }
         requires short { length bytes.now ≤ 8192 }
         ensures fits { FitsModes self.new.modes self.new.tty }
-        ensures past { self.new.tty.last ≤ 0 }
         ensures column { self.new.tty.column ≤ self.old.tty.column + 2 ^ 35 }
     {
         for byte in bytes {
-            if self.tty.unread() > 4096 || !self.tty.accepts(&self.modes) {
+            if !self.tty.accepts(&self.modes) {
                 return Ok(false);
             }
-            self.wire.reserve(40960)?;
+            let room = self.tty.pending(&self.wire) + CHARACTER_ROOM;
+            self.wire.reserve(room)?;
             self.tally.reserve(1)?;
             let character = Flagged {
                 byte: *byte,
@@ -70,12 +66,11 @@ impl Line {
     /// Reads at tick 0 where a read is ready, and then applies the rule for ixoff. Answers how many bytes it read.
     fn read(&mut self, most: u32) -> Result<Option<u32>, NoMemory>
         requires fitting { FitsModes self.old.modes self.old.tty }
-        requires past { self.old.tty.last ≤ 0 }
         ensures fits { FitsModes self.new.modes self.new.tty }
-        ensures past { self.new.tty.last ≤ 0 }
         ensures column { self.new.tty.column ≤ self.old.tty.column }
     {
-        self.out.reserve(4096)?;
+        let count = self.tty.read_len(most, &self.modes);
+        self.out.reserve(count as usize)?;
         self.wire.reserve(1)?;
         if !self.tty.ready(most, &self.modes, false, 0, 0) {
             return Ok(None);
@@ -88,10 +83,8 @@ impl Line {
     /// Writes a piece. Answers how many bytes it took.
     fn write(&mut self, bytes: &[u8]) -> Result<usize, NoMemory>
         requires fitting { FitsModes self.old.modes self.old.tty }
-        requires past { self.old.tty.last ≤ 0 }
         requires column { self.old.tty.column < 2 ^ 60 }
         ensures fits { FitsModes self.new.modes self.new.tty }
-        ensures past { self.new.tty.last ≤ 0 }
         ensures column { self.new.tty.column ≤ self.old.tty.column + 4096 }
     {
         self.wire.reserve(512)?;
@@ -107,7 +100,6 @@ fn a_line_is_edited_and_read(rt: HostRuntime) -> Result<(), Fail> {
     assert!(rt; line.read(64)? == Some(3) && line.tty.unread() == 0);
     assert_eq!(rt; line.out.as_slice(), b"ac\n".as_slice());
     assert_eq!(rt; line.wire.wire(), b"ab\x08 \x08c\r\n".as_slice());
-    moves(line.tty);
     Ok(())
 }
 
@@ -142,6 +134,7 @@ fn the_edited_line_becomes_plain(rt: HostRuntime) -> Result<(), Fail> {
     assert!(rt; line.type_in(b"ab")?);
     line.tty.recast(&line.modes, &raw);
     assert_eq!(rt; line.tty.inq(&raw), 2);
+    room_makes_no_difference();
     Ok(())
 }
 

@@ -8,9 +8,9 @@ use Rattle.std.proofs.lemmas.List.Sums.{suffix_len-le-length, prefix_len_passes}
 use Rattle.tty_modes.specs.Settings.{Settings, has_flag}
 use Rattle.tty_modes.specs.declared.places.TheConstants.{IUTF8}
 use Rattle.n_tty_edit.specs.declared.line.Gone.{Gone}
-use Rattle.n_tty_edit.specs.Bytes.{is_continuation}
+use Rattle.tty_modes.specs.Utf8.{is_continuation}
 use Rattle.n_tty_edit.specs.Line.{erase_size}
-use Rattle.n_tty_edit.specs.Width.{width_of, widths_of, gone_of}
+use Rattle.n_tty_edit.specs.Width.{width_of, total_width_of, gone_of}
 
 -- what stands at the end of a list, from where its last elements pass a test
 suffix_passes : (p : ℕ → Bool) (xs : List ℕ) (k : ℕ) → length xs - suffix_len p xs ≤ k → k < length xs → p (get_or xs k 0) ≡ true
@@ -28,7 +28,7 @@ width_of_continuation modes start before byte utf8 continues =
     rw (no_tab, utf8, continues) refl
 
 widths_of_continuation : (modes : Settings) (start : ℕ) (before bytes : List ℕ) → has_flag modes IUTF8 ≡ true
-    → ((k : ℕ) → k < length bytes → is_continuation (get_or bytes k 0) ≡ true) → widths_of modes start before bytes ≡ 0
+    → ((k : ℕ) → k < length bytes → is_continuation (get_or bytes k 0) ≡ true) → total_width_of modes start before bytes ≡ 0
 widths_of_continuation modes start before [] utf8 each = refl
 widths_of_continuation modes start before (byte ∷ bytes) utf8 each =
     let first = width_of_continuation modes start before byte utf8 (each 0 (omega arith)) in
@@ -50,7 +50,7 @@ module _ (modes : Settings) (start : ℕ) (line : List ℕ) (size kept : ℕ) (i
   within = omega (arith, erase_size_within (has_flag modes IUTF8) line)
 
   -- nothing but the first byte has a width
-  rest_width : widths_of modes start (take kept line ++ get_or line kept 0 ∷ []) (drop (kept + 1) line) ≡ 0
+  rest_width : total_width_of modes start (take kept line ++ get_or line kept 0 ∷ []) (drop (kept + 1) line) ≡ 0
   rest_width = elim (cases_Bool (has_flag modes IUTF8)) [
     | inl utf8 ↦
         let is : size ≡ erase_size true line = is_size ∙ ap (λ u. erase_size u line) utf8 in
@@ -60,21 +60,21 @@ module _ (modes : Settings) (start : ℕ) (line : List ℕ) (size kept : ℕ) (i
         ap is_continuation (get_or-drop (kept + 1) line k 0) ∙ suffix_passes is_continuation line (kept + 1 + k) (omega arith) (omega arith))
     | inr no_utf8 ↦
         let is : size ≡ erase_size false line = is_size ∙ ap (λ u. erase_size u line) no_utf8 in
-        ap (widths_of modes start _) (drop_all (kept + 1) line (omega arith))
+        ap (total_width_of modes start _) (drop_all (kept + 1) line (omega arith))
   ]
 
-  all_widths : widths_of modes start (take kept line) (drop kept line) ≡ width_of modes start (take kept line) (get_or line kept 0)
+  all_widths : total_width_of modes start (take kept line) (drop kept line) ≡ width_of modes start (take kept line) (get_or line kept 0)
   all_widths =
       let first = get_or line kept 0 in
-      ap (widths_of modes start (take kept line)) (drop_more line kept 0 (omega (arith, within)))
+      ap (total_width_of modes start (take kept line)) (drop_more line kept 0 (omega (arith, within)))
       ∙ ap (λ w. width_of modes start (take kept line) first + w) rest_width
       ∙ omega arith
 
   pub gone_is : (first width : ℕ) → first ≡ get_or line kept 0 → width ≡ width_of modes start (take kept line) (get_or line kept 0)
       → Some (gone first (length line - kept) width) ≡ gone_of modes start line
   gone_is first width is_first is_width =
-      let made = λ (k : ℕ). Some (gone (get_or line k 0) size (widths_of modes start (take k line) (drop k line))) in
-      let body = λ (n : ℕ). cond (eqb n 0) None (Some (gone (get_or line (length line - n) 0) n (widths_of modes start (take (length line - n) line) (drop (length line - n) line)))) in
+      let made = λ (k : ℕ). Some (gone (get_or line k 0) size (total_width_of modes start (take k line) (drop k line))) in
+      let body = λ (n : ℕ). cond (eqb n 0) None (Some (gone (get_or line (length line - n) 0) n (total_width_of modes start (take (length line - n) line) (drop (length line - n) line)))) in
       ap (λ f. Some (gone f (length line - kept) width)) is_first
       ∙ ap (λ n. Some (gone (get_or line kept 0) n width)) (let n : length line - kept ≡ size = omega (arith, within) in n)
       ∙ ap (λ w. Some (gone (get_or line kept 0) size w)) (is_width ∙ sym all_widths)

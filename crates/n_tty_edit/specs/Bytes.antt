@@ -1,15 +1,12 @@
 -- Classes of bytes.
 use Rattle.std.specs.Prelude.{ℕ, Bool, ◌&&◌, ◌||◌, ◌==◌, not, nat_le}
+use Rattle.tty_modes.specs.Utf8.{is_continuation}
 use Rattle.n_tty_edit.specs.declared.bytes.Class.{Class}
 use Rattle.n_tty_edit.specs.declared.bytes.Class.TheVariants.{Continuation, Word, Other}
 
 -- a byte within two bounds
 abbrev pub is_within : (low high byte : ℕ) → Bool
 is_within low high byte = nat_le low byte && nat_le byte high
-
--- a byte that continues a character of UTF-8
-abbrev pub is_continuation : ℕ → Bool
-is_continuation = is_within 128 191
 
 -- an ASCII digit or letter, or `_`
 abbrev pub is_word : ℕ → Bool

@@ -1,16 +1,17 @@
 -- The edited line.
 use Rattle.std.specs.Prelude.{ℕ, suc, ◌+◌, ◌-◌, min, Bool, true, false, List, [], ◌++◌, length, take, fold, if◌then◌else◌, nat_le, nat_lt}
 use Rattle.std.specs.List.{suffix_len}
-use Rattle.n_tty_edit.specs.Bytes.{is_continuation, is_word, is_of}
+use Rattle.tty_modes.specs.Utf8.{is_continuation}
+use Rattle.n_tty_edit.specs.Bytes.{is_word, is_of}
 use Rattle.n_tty_edit.specs.declared.bytes.Class.TheVariants.{Other}
 
 -- what is done to the line: the bytes of one character are added, ERASE with or without iutf8, WERASE, and KILL or a
 -- delimiter
 pub data Change : Type 0 where
-  Added : List ℕ → Change
-  Erased : (utf8 : Bool) → Change
-  WordErased : Change
-  Cleared : Change
+  AddBytes : List ℕ → Change
+  EraseLast : (utf8 : Bool) → Change
+  EraseWord : Change
+  Clear : Change
 
 -- How many bytes ERASE removes: the last one. With iutf8 the character is those at the end that continue one, and the
 -- byte before them; where there is no such byte, nothing.
@@ -28,12 +29,12 @@ word_start line =
     word_end - suffix_len is_word (take word_end line)
 
 -- the line after one more change; at most 4095 bytes stand in it
-abbrev pub after : List ℕ → Change → List ℕ
-after line (Added bytes) = if nat_le (length line + length bytes) 4095 then line ++ bytes else line
-after line (Erased utf8) = take (length line - erase_size utf8 line) line
-after line WordErased = take (word_start line) line
-after line Cleared = []
+abbrev pub after_change : List ℕ → Change → List ℕ
+after_change line (AddBytes bytes) = if nat_le (length line + length bytes) 4095 then line ++ bytes else line
+after_change line (EraseLast utf8) = take (length line - erase_size utf8 line) line
+after_change line EraseWord = take (word_start line) line
+after_change line Clear = []
 
 -- the line that changes leave, by the last of them
-abbrev pub edited : List Change → List ℕ
-edited = fold after []
+abbrev pub edited_line : List Change → List ℕ
+edited_line = fold after_change []

@@ -1,6 +1,6 @@
 ghost use Rattle.std.specs.Prelude.{◌≡◌, ◌+◌, ◌-◌, ◌<◌, ◌≤◌, ◌↔◌, IsTrue, IfOk, List, [], ◌∷◌, ◌++◌, length, take, slice_index};
 ghost use Rattle.tty_modes.specs.Settings.{has_flag};
-ghost use Rattle.n_tty_edit.specs.Line.{Change, Added, Erased, WordErased, Cleared, after, edited, word_start, erase_size};
+ghost use Rattle.n_tty_edit.specs.Line.{Change, AddBytes, EraseLast, EraseWord, Clear, after_change, edited_line, word_start, erase_size};
 ghost use Rattle.n_tty_edit.specs.Width.{width_of, gone_of};
 
 use crate::bytes::Class;
@@ -53,7 +53,7 @@ impl Edit {
     /// Adds a byte. A line of 4,095 bytes stays as it is.
     pub fn add(&mut self, b: u8) -> bool
         ensures room { IsTrue result ↔ (length self.old < 4095) }
-        ensures line { self.new ≡ after self.old (Added (b ∷ [])) }
+        ensures line { self.new ≡ after_change self.old (AddBytes (b ∷ [])) }
     {
         self.bytes.len() < MOST && self.bytes.push(b).is_ok()
     }
@@ -63,7 +63,7 @@ impl Edit {
     /// is the column in which the line began.
     pub fn erase(&mut self, start: usize, modes: &Modes) -> Option<Gone>
         ensures gone { result ≡ gone_of modes.now start self.old }
-        ensures line { self.new ≡ after self.old (Erased (has_flag modes.now IUTF8)) }
+        ensures line { self.new ≡ after_change self.old (EraseLast (has_flag modes.now IUTF8)) }
     {
         let kept = self.erase_start(modes);
         let bytes = self.bytes.len() - kept;
@@ -83,7 +83,7 @@ impl Edit {
     /// digits and `_` before them. Answers how many bytes went.
     pub fn erase_word(&mut self) -> usize
         ensures count { result ≡ length self.old - word_start self.old }
-        ensures line { self.new ≡ after self.old WordErased }
+        ensures line { self.new ≡ after_change self.old EraseWord }
     {
         let count = self.word_len();
         self.bytes.truncate(self.bytes.len() - count);
@@ -101,7 +101,7 @@ impl Edit {
     /// Removes all bytes, and answers how many.
     pub fn kill(&mut self) -> usize
         ensures count { result ≡ length self.old }
-        ensures line { self.new ≡ after self.old Cleared }
+        ensures line { self.new ≡ after_change self.old Clear }
     {
         let count = self.bytes.len();
         self.bytes.clear();
@@ -152,5 +152,5 @@ impl Edit {
 /// What changes leave of the line is what the last of them makes of what the others leave.
 pub fn edited_by_the_last()
     ensures { (changes : List Change) (last : Change) →
-        edited (changes ++ last ∷ []) ≡ after (edited changes) last }
+        edited_line (changes ++ last ∷ []) ≡ after_change (edited_line changes) last }
 {}

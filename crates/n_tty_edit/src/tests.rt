@@ -13,6 +13,8 @@ fn line_of(alloc: Global, bytes: &[u8]) -> Result<Edit, NoMemory> {
     Ok(line)
 }
 
+fn moves<T: Send + Drop>(_value: T) {}
+
 fn gone(first: u8, bytes: usize, width: usize) -> Option<Gone> {
     Some(Gone {
         first,
@@ -67,5 +69,6 @@ fn words_lines_and_the_bound(rt: HostRuntime) -> Result<(), Fail> {
     assert_eq!(rt; line.width_at(0, 0, &modes), 1);
     assert_eq!(rt; line.kill(), 4095);
     assert_eq!(rt; line.bytes(), b"".as_slice());
+    moves(line);
     Ok(())
 }

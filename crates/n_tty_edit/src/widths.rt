@@ -1,5 +1,5 @@
 ghost use Rattle.std.specs.Prelude.{◌≡◌, ◌<◌, ◌≤◌, ◌-◌, ◌%◌, length, take, slice_index};
-ghost use Rattle.n_tty_edit.specs.Width.{plain_width, since_tab, width_of};
+ghost use Rattle.n_tty_edit.specs.Width.{plain_width, width_since_tab, width_of};
 
 use crate::bytes::Class;
 use tty_modes::Modes;
@@ -26,7 +26,7 @@ fn plain_width(b: u8, modes: &Modes) -> usize
 /// The width of a TAB after a line.
 fn tab_width(before: &[u8], start: usize, modes: &Modes) -> usize
     requires { length before.now ≤ 4095 }
-    ensures width { result ≡ 8 - since_tab modes.now start before.now % 8 }
+    ensures width { result ≡ 8 - width_since_tab modes.now start before.now % 8 }
     ensures most { result ≤ 8 }
 {
     let mut i = before.len();

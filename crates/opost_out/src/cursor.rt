@@ -1,8 +1,8 @@
 //! The column of all that a line discipline has posted, and output processing at that column.
 
 ghost use Rattle.std.specs.Prelude.{◌≡◌, ℕ, ◌≤◌, ◌<◌, ◌+◌, ◌-◌, ◌^◌, [], ◌∷◌, ◌++◌, length, List};
-ghost use Rattle.opost_out.specs.Column.{Sent, column_after, column_of, column_past, marked, sent_under};
-ghost use Rattle.opost_out.specs.Posted.{posted};
+ghost use Rattle.opost_out.specs.Column.{PostedByte, column_after, column_of, column_after_byte, posted_text, posted_text_under};
+ghost use Rattle.opost_out.specs.Posted.{posted_bytes};
 
 use crate::pieces::{CR, NL, Piece, TAB};
 use std::marker::Model;
@@ -47,9 +47,9 @@ impl Out {
     /// Posts one byte: gives the bytes that are posted for it, and moves the column by them.
     pub fn post(&mut self, b: u8, modes: &Modes) -> Piece
         requires { self.old < 2 ^ 63 }
-        ensures piece { result ≡ posted modes.now self.old b }
-        ensures column { self.new ≡ column_after self.old (sent_under modes.now result) }
-        ensures text { (text : List Sent) → self.old ≡ column_of text → self.new ≡ column_of (text ++ sent_under modes.now result) }
+        ensures piece { result ≡ posted_bytes modes.now self.old b }
+        ensures column { self.new ≡ column_after self.old (posted_text_under modes.now result) }
+        ensures text { (text : List PostedByte) → self.old ≡ column_of text → self.new ≡ column_of (text ++ posted_text_under modes.now result) }
     {
         let piece = self.would(b, modes);
         self.column = column_after(self.column, piece.as_slice(), modes.has(IUTF8));
@@ -58,7 +58,7 @@ impl Out {
 
     /// The bytes that `post` would give. Nothing changes.
     pub fn would(&self, b: u8, modes: &Modes) -> Piece
-        ensures { result ≡ posted modes.now self.now b }
+        ensures { result ≡ posted_bytes modes.now self.now b }
     {
         if !modes.has(OPOST) {
             return Piece::of_byte(b);
@@ -74,24 +74,24 @@ impl Out {
 
 /// The column of a text that goes on is the column after its front, moved by the rest.
 pub fn column_of_more()
-    ensures { (front rest : List Sent) → column_of (front ++ rest) ≡ column_after (column_of front) rest }
+    ensures { (front rest : List PostedByte) → column_of (front ++ rest) ≡ column_after (column_of front) rest }
 {}
 
 fn column_after(start: u64, bytes: &[u8], utf8: bool) -> u64
     requires room { start < 2 ^ 63 }
     requires short { length bytes.now ≤ 8 }
-    ensures { result ≡ column_after start (marked utf8 bytes.now) }
+    ensures { result ≡ column_after start (posted_text utf8 bytes.now) }
 {
     let mut column = start;
     for byte in bytes {
-        column = column_past(column, *byte, utf8);
+        column = column_after_byte(column, *byte, utf8);
     }
     column
 }
 
-fn column_past(column: u64, byte: u8, utf8: bool) -> u64
+fn column_after_byte(column: u64, byte: u8, utf8: bool) -> u64
     requires { column < 2 ^ 63 + 64 }
-    ensures value { result ≡ column_past column (record { byte = byte; utf8 = utf8 }) }
+    ensures value { result ≡ column_after_byte column (record { byte = byte; utf8 = utf8 }) }
     ensures bound { result ≤ column + 8 }
 {
     match byte {

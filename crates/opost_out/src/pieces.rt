@@ -1,7 +1,7 @@
 //! What is posted for one byte.
 
 ghost use Rattle.std.specs.Prelude.{◌≡◌, ◌≤◌, ◌-◌, ◌%◌, [], ◌∷◌, length, replicate, ◌==◌};
-ghost use Rattle.opost_out.specs.Posted.{posted_newline, posted_return, posted_tab};
+ghost use Rattle.opost_out.specs.Posted.{newline_bytes, return_bytes, tab_bytes};
 
 use arrayvec::ArrayVec;
 use std::marker::Model;
@@ -62,7 +62,7 @@ impl Piece {
 
     /// What is posted for NL.
     pub(crate) fn of_newline(modes: &Modes) -> Piece
-        ensures { result ≡ posted_newline modes.now }
+        ensures { result ≡ newline_bytes modes.now }
     {
         let mut bytes = ArrayVec::new();
         if modes.has(ONLCR) {
@@ -74,7 +74,7 @@ impl Piece {
 
     /// What is posted for CR at a column.
     pub(crate) fn of_return(modes: &Modes, column: u64) -> Piece
-        ensures { result ≡ posted_return modes.now column }
+        ensures { result ≡ return_bytes modes.now column }
     {
         let mut bytes = ArrayVec::new();
         if !(modes.has(ONOCR) && column == 0) {
@@ -85,7 +85,7 @@ impl Piece {
 
     /// What is posted for TAB at a column.
     pub(crate) fn of_tab(modes: &Modes, column: u64) -> Piece
-        ensures { result ≡ posted_tab modes.now column }
+        ensures { result ≡ tab_bytes modes.now column }
     {
         if modes.has(TAB3) {
             Piece::of_blanks(8 - column % 8)

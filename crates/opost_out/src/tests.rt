@@ -13,6 +13,8 @@ fn modes_of(words: &[&str]) -> Modes {
     modes
 }
 
+fn moves<T: Send + Drop>(_value: T) {}
+
 fn assert_posts(rt: &impl Abort, modes: &Modes, bytes: &[u8], posted: &[u8]) {
     let mut out = Out::new();
     let mut at = 0;
@@ -69,4 +71,6 @@ fn backspace_stops_at_the_start(rt: HostRuntime) {
     let modes = modes_of(["raw"].as_slice());
     let piece = out.post(8, &modes);
     assert!(rt; piece.len() == 1 && !piece.is_empty() && out.column() == 0);
+    moves(out);
+    moves(piece);
 }

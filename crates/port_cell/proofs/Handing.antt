@@ -10,9 +10,9 @@ use Rattle.port_cell.specs.declared.kept.Stamped.{Stamped}
 use Rattle.port_cell.specs.declared.view.View.{View}
 use Rattle.port_cell.specs.Entries.{generation_of, Each, Begins, Keeps, AddsBy}
 use Rattle.port_cell.specs.Word.{word_of}
-use Rattle.port_cell.specs.Views.{total, Knows, one_if, alone, turn_of, raised_of, counts_of, holds_of, marks_of, alone_of, installs_of, taking, noting, giving, installed_of, MayNote}
+use Rattle.port_cell.specs.Views.{total, Knows, bit_of, lone_part, turns_of, raises_of, users_of, references_of, marks_of, lone_marks_of, installs_of, with_turn, with_list, without_turn, installed_generation, MayTell}
 use Rattle.port_cell.specs.Rule.{LiveOk, Rule}
-use Rattle.port_cell.specs.Plays.{Sat, took, noted, gave}
+use Rattle.port_cell.specs.Plays.{SeatState, Takes, Notes, Gives}
 use Rattle.port_cell.proofs.Totals.{total_set, total_same, total_none, part_le}
 use Rattle.port_cell.proofs.Histories.{each_weaker, goes_on, goes_nowhere, begins}
 use Rattle.port_cell.proofs.Words.{zero_or_one, three}
@@ -34,14 +34,14 @@ module _ {V N E : Type 0} (name : V → N) (list : V → List (Stamped E)) (firs
   Holds = Rule name list first seats
 
   module _ (s : State (Option V) (View N E)) (r : Rule name list first seats s) where
-    turn_word : slice_index s.words 1 ≡ total turn_of s.views
+    turn_word : slice_index s.words 1 ≡ total turns_of s.views
     turn_word = ap (λ ws. slice_index ws 1) r.words
 
-    none_raised : total turn_of s.views ≡ 0 → total raised_of s.views ≡ 0
+    none_raised : total turns_of s.views ≡ 0 → total raises_of s.views ≡ 0
     none_raised free =
-        total_none raised_of s.views (λ j u there. lowered u.raised (λ raised.
-        let one : turn_of u ≡ 1 = ap one_if ((r.each_view j u there).raised raised).0 in
-        let part : turn_of u ≤ total turn_of s.views = part_le turn_of s.views j u there in
+        total_none raises_of s.views (λ j u there. lowered u.raised (λ raised.
+        let one : turns_of u ≡ 1 = ap bit_of ((r.each_view j u there).raised raised).0 in
+        let part : turns_of u ≤ total turns_of s.views = part_le turns_of s.views j u there in
         omega arith))
 
     living : (i : ℕ) (v : View N E) → get_elem? s.views i ≡ some v → IsSome v.name → LiveOk (name first) (list first) r.latest s.views i v
@@ -52,19 +52,19 @@ module _ {V N E : Type 0} (name : V → N) (list : V → List (Stamped E)) (firs
         → get_elem? s.views i ≡ some v → IsSome v.name
         → now ≡ r.latest ++ more → Each (λ k. k ≡ i) more → (now ≡ r.latest) ⊎ (v.turn ≡ true)
         → Begins (list first) seen → Keeps i seen now → (turn ≡ true → seen ≡ now)
-        → (raised ≡ true → (turn ≡ true) × (alone v.user ≡ 1) × (generation_of seen < 4294967296))
+        → (raised ≡ true → (turn ≡ true) × (lone_part v.user ≡ 1) × (generation_of seen < 4294967296))
         → let w : View N E = record v { turn = turn; seen = seen; raised = raised } in
-        words ≡ word_of r.generation (total marks_of s.views) (total counts_of s.views) ∷ total turn_of (set s.views i w) ∷ length now ∷ []
-        → total turn_of (set s.views i w) ≤ 1
-        → AtHome name list first seats (total turn_of (set s.views i w)) now homes
-        → generation_of now ≡ r.generation + total raised_of (set s.views i w)
+        words ≡ word_of r.generation (total marks_of s.views) (total users_of s.views) ∷ total turns_of (set s.views i w) ∷ length now ∷ []
+        → total turns_of (set s.views i w) ≤ 1
+        → AtHome name list first seats (total turns_of (set s.views i w)) now homes
+        → generation_of now ≡ r.generation + total raises_of (set s.views i w)
         → Holds record { words = words; homes = homes; views = set s.views i w }
     hands i v turn seen raised now more words homes at named longer by in_turn began stands newest raises words_are one_turn at_home tie =
         let w : View N E = record v { turn = turn; seen = seen; raised = raised } in
         let a = total_same marks_of s.views i v w at refl in
-        let b = total_same counts_of s.views i v w at refl in
-        let d = total_same holds_of s.views i v w at refl in
-        let e = total_same alone_of s.views i v w at refl in
+        let b = total_same users_of s.views i v w at refl in
+        let d = total_same references_of s.views i v w at refl in
+        let e = total_same lone_marks_of s.views i v w at refl in
         kept name list first seats s r i v w r.generation now more
         record {
           place = at;
@@ -91,25 +91,25 @@ module _ {V N E : Type 0} (name : V → N) (list : V → List (Stamped E)) (firs
         tie
         (let h = r.grows in let i = total_same installs_of s.views i v w at refl in omega arith)
 
-  pub takes_turn : (slots i : ℕ) (m : Sat V N E) → m.0.turn ≡ false → IsSome m.0.name
-      → Allows Holds slots i m 1 (λ _. 1) (took name list (step slots 1 1 0 none) m)
+  pub takes_turn : (slots i : ℕ) (m : SeatState V N E) → m.0.turn ≡ false → IsSome m.0.name
+      → Allows Holds slots i m 1 (λ _. 1) (Takes name list (step slots 1 1 0 none) m)
   takes_turn slots i m without named s r deep at fits =
       let v = m.0 in
       let n = turn_word s r in
       let live = living s r i v at named in
-      let zero_mine : turn_of v ≡ 0 = ap one_if without in
+      let zero_mine : turns_of v ≡ 0 = ap bit_of without in
       ⊎_elim
-      (λ (free : total turn_of s.views ≡ 0).
+      (λ (free : total turns_of s.views ≡ 0).
       let x = (r.home free).0 in
       let home = r.home free in
       let here : list x ≡ r.latest = home.3 in
-      let w = taking (list x) v in
-      let t : total turn_of (set s.views i w) + turn_of v ≡ total turn_of s.views + 1 = total_set turn_of s.views i v w at in
-      let u = total_same raised_of s.views i v w at refl in
+      let w = with_turn (list x) v in
+      let t : total turns_of (set s.views i w) + turns_of v ≡ total turns_of s.views + 1 = total_set turns_of s.views i v w at in
+      let u = total_same raises_of s.views i v w at refl in
       let low = none_raised s r free in
       let tie = r.tie in
       let same : generation_of (list x) ≡ r.generation = ap generation_of here ∙ omega arith in
-      let opened : total turn_of (set s.views i w) ≡ 1 = omega arith in (
+      let opened : total turns_of (set s.views i w) ≡ 1 = omega arith in (
         w,
         takes 0 (Some x),
         ap (λ hs. get_elem? hs 0) home.1,
@@ -135,7 +135,7 @@ module _ {V N E : Type 0} (name : V → N) (list : V → List (Stamped E)) (firs
           (λ other. absurd (other (n ∙ free))),
         ),
       ))
-      (λ (taken : total turn_of s.views ≡ 1). (
+      (λ (taken : total turns_of s.views ≡ 1). (
         v,
         keeps,
         tt,
@@ -143,30 +143,30 @@ module _ {V N E : Type 0} (name : V → N) (list : V → List (Stamped E)) (firs
             (λ k. (sym (set_again s.words 1 1 (ap (λ ws. get_elem? ws 1) r.words ∙ ap some taken)) k, sym (set_again s.views i v at) k)) r,
         ((λ free. absurd (omega arith)), (λ _. refl)),
       ))
-      (zero_or_one (total turn_of s.views) r.one_turn)
+      (zero_or_one (total turns_of s.views) r.one_turn)
 
-  pub notes : (slots i : ℕ) (m : Sat V N E) (count : ℕ) (told : List (Stamped E)) → m.0.turn ≡ true → IsSome m.0.name
-      → AddsBy m.0.number m.0.seen told → MayNote m.0 (generation_of told) → count ≡ length told
-      → Allows Holds slots i m 2 (λ _. count) (λ _. noted told (step slots 2 count 0 none) m count)
+  pub notes : (slots i : ℕ) (m : SeatState V N E) (count : ℕ) (told : List (Stamped E)) → m.0.turn ≡ true → IsSome m.0.name
+      → AddsBy m.0.number m.0.seen told → MayTell m.0 (generation_of told) → count ≡ length told
+      → Allows Holds slots i m 2 (λ _. count) (λ _. Notes told (step slots 2 count 0 none) m count)
   notes slots i m count told turn named adds may counted s r deep at fits =
       let v = m.0 in
       let live = living s r i v at named in
       let newest = live.newest turn in
-      let w = noting told v in
-      let mine : turn_of v ≡ 1 = ap one_if turn in
-      let part : turn_of v ≤ total turn_of s.views = part_le turn_of s.views i v at in
+      let w = with_list told v in
+      let mine : turns_of v ≡ 1 = ap bit_of turn in
+      let part : turns_of v ≤ total turns_of s.views = part_le turns_of s.views i v at in
       let one = r.one_turn in
-      let t : total turn_of (set s.views i w) ≡ total turn_of s.views = total_same turn_of s.views i v w at refl in
-      let u : total raised_of (set s.views i w) + raised_of v ≡ total raised_of s.views + raised_of w = total_set raised_of s.views i v w at in
+      let t : total turns_of (set s.views i w) ≡ total turns_of s.views = total_same turns_of s.views i v w at refl in
+      let u : total raises_of (set s.views i w) + raises_of v ≡ total raises_of s.views + raises_of w = total_set raises_of s.views i v w at in
       let high = raised_here name list first seats s r i v at turn in
       let tie = r.tie in
       let seen : generation_of v.seen ≡ generation_of r.latest = ap generation_of newest in
-      let installed : installed_of v ≡ r.generation = omega arith in
+      let installed : installed_generation v ≡ r.generation = omega arith in
       let longer : told ≡ r.latest ++ adds.0 = adds.1 ∙ ap (λ ys. ys ++ adds.0) newest in
       let by : Each (λ k. k ≡ i) adds.0 = subst (λ n. Each (λ k. k ≡ n) adds.0) live.numbered adds.2 in
-      let put : (raised : Bool) → raised ≡ w.raised → (raised ≡ true → (alone v.user ≡ 1) × (generation_of told < 4294967296)) → generation_of told ≡ r.generation + one_if raised
+      let put : (raised : Bool) → raised ≡ w.raised → (raised ≡ true → (lone_part v.user ≡ 1) × (generation_of told < 4294967296)) → generation_of told ≡ r.generation + bit_of raised
       → Holds record { words = set s.words 2 count; homes = s.homes; views = set s.views i w } = λ raised is raises fit.
-      let part_is : raised_of w ≡ one_if raised = ap one_if (sym is) in
+      let part_is : raises_of w ≡ bit_of raised = ap bit_of (sym is) in
       hands s r i v v.turn told w.raised told adds.0 (set s.words 2 count) s.homes at named
       longer by (inr turn)
       (subst (λ (ys : List (Stamped E)). Begins (list first) ys) (sym longer)
@@ -182,26 +182,26 @@ module _ {V N E : Type 0} (name : V → N) (list : V → List (Stamped E)) (firs
         keeps,
         tt,
         ⊎_elim
-            (λ (same : generation_of told ≡ installed_of v). put false (sym (not_raised _ _ same)) (λ no. absurd (true≢false (sym no))) (omega arith))
-            (λ (next : (alone v.user ≡ 1) × (generation_of told ≡ installed_of v + 1) × (generation_of told < 4294967296)). put true (sym (is_raised _ _ next.1)) (λ _. (next.0, next.2)) (omega arith))
+            (λ (same : generation_of told ≡ installed_generation v). put false (sym (not_raised _ _ same)) (λ no. absurd (true≢false (sym no))) (omega arith))
+            (λ (next : (lone_part v.user ≡ 1) × (generation_of told ≡ installed_generation v + 1) × (generation_of told < 4294967296)). put true (sym (is_raised _ _ next.1)) (λ _. (next.0, next.2)) (omega arith))
             may,
         refl,
       )
 
-  pub gives_turn : (slots i : ℕ) (m : Sat V N E) (x : V) → m.0.turn ≡ true → IsSome m.0.name
+  pub gives_turn : (slots i : ℕ) (m : SeatState V N E) (x : V) → m.0.turn ≡ true → IsSome m.0.name
       → m.0.name ≡ Some (name x) → m.0.seen ≡ list x → m.0.raised ≡ false → m.1 ≡ (0, Some x) ∷ []
-      → Allows Holds slots i m 1 (λ _. 0) (λ _. gave (step slots 1 0 0 none) m 0)
+      → Allows Holds slots i m 1 (λ _. 0) (λ _. Gives (step slots 1 0 0 none) m 0)
   gives_turn slots i m x turn named is_name is_list low hand s r deep at fits =
       let v = m.0 in
       let live = living s r i v at named in
       let newest = live.newest turn in
-      let w = giving v in
-      let mine : turn_of v ≡ 1 = ap one_if turn in
-      let part : turn_of v ≤ total turn_of s.views = part_le turn_of s.views i v at in
+      let w = without_turn v in
+      let mine : turns_of v ≡ 1 = ap bit_of turn in
+      let part : turns_of v ≤ total turns_of s.views = part_le turns_of s.views i v at in
       let one = r.one_turn in
-      let t : total turn_of (set s.views i w) + turn_of v ≡ total turn_of s.views + 0 = total_set turn_of s.views i v w at in
-      let u : total raised_of (set s.views i w) ≡ total raised_of s.views = total_same raised_of s.views i v w at refl in
-      let free : total turn_of (set s.views i w) ≡ 0 = omega arith in
+      let t : total turns_of (set s.views i w) + turns_of v ≡ total turns_of s.views + 0 = total_set turns_of s.views i v w at in
+      let u : total raises_of (set s.views i w) ≡ total raises_of s.views = total_same raises_of s.views i v w at refl in
+      let free : total turns_of (set s.views i w) ≡ 0 = omega arith in
       let out = r.out (omega arith) in
       let tie = r.tie in
       let named_so : Some (name x) ≡ Some (name first) = sym is_name ∙ live.named in (

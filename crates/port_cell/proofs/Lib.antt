@@ -7,3 +7,4 @@ pub mod Handing
 pub mod OwnEntries
 pub mod Ends
 pub mod Adding
+pub mod Between

@@ -1,17 +1,17 @@
--- Lists of entries. Each entry has the number of the seat that made it, and the generation after it.
+-- Histories: lists of stamped entries. A stamp tells who added the entry, and which generation stands since.
 use Rattle.std.specs.Prelude.{◌≡◌, ◌≢◌, ℕ, List, [], ◌∷◌, ◌++◌, filter, ◌==◌}
 use Rattle.port_cell.specs.declared.kept.Stamped.{Stamped}
 
 module _ {E : Type 0} where
-  -- the generation after the last entry, or 0 where there is none
+  -- the generation in which a history ends; one without entries is in generation 0
   abbrev pub generation_of : List (Stamped E) → ℕ
   generation_of [] = 0
   generation_of (e ∷ []) = e.after
   generation_of (e ∷ f ∷ es) = generation_of (f ∷ es)
 
-  -- what a seat made, in its order
-  abbrev pub own : ℕ → List (Stamped E) → List (Stamped E)
-  own n = filter (λ (e : Stamped E). e.seat == n)
+  -- the part of a history that one seat added
+  abbrev pub entries_by : ℕ → List (Stamped E) → List (Stamped E)
+  entries_by n = filter (λ (e : Stamped E). e.seat == n)
 
   -- p holds of the seat of each entry
   abbrev pub Each : (ℕ → Type 0) → List (Stamped E) → Type 0

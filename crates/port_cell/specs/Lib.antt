@@ -3,5 +3,9 @@ pub mod Word
 pub mod Views
 pub mod Rule
 pub mod Plays
+pub mod Knowledge
 pub mod Seats
+pub mod Cells
+pub mod Joining
 pub mod Lent
+pub mod Laws

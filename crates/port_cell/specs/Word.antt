@@ -1,4 +1,5 @@
--- The reference word: the generation in its high 32 bits, the changing bit 31, and the user count in bits 0 to 30.
+-- The reference word, from its high end: 32 bits for the generation that is installed, one bit that is set
+-- while a seat is about to change it, and 31 bits that count the seats that use it.
 use Rattle.std.specs.Prelude.{ℕ, ◌+◌, ◌*◌, ◌/◌, ◌%◌}
 
 abbrev pub word_of : ℕ → ℕ → ℕ → ℕ

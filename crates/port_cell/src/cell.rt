@@ -1,8 +1,10 @@
 // The cell, from its first seat to its last.
 ghost use Rattle.std.specs.Prelude.{◌≡◌, ℕ, ◌+◌, ◌<◌, ◌≤◌, [], IfOk, length};
-ghost use Rattle.port_cell.specs.Entries.{generation_of, GoesOn};
-ghost use Rattle.port_cell.specs.Views.{total, installs_of, starting};
-ghost use Rattle.port_cell.specs.Seats.{AllFresh, IsDone, EachSeat, HasAll, Found, PartOf, HasNumber, FoundJoined};
+ghost use Rattle.port_cell.specs.Entries.{generation_of, entries_by, GoesOn};
+ghost use Rattle.port_cell.specs.Views.{total, installs_of, first_view};
+ghost use Rattle.port_cell.specs.Knowledge.{number_of, own_entries, install_count};
+ghost use Rattle.port_cell.specs.Seats.{AllNew, IsFree, EachSeat, HasAll, IsNamedAs, GoesOnFrom};
+ghost use Rattle.port_cell.specs.Joining.{Finds, PartOf, HasNumber, FindsJoined};
 
 use crate::kept::Kept;
 use crate::plays::{Deal, TakeIn};
@@ -39,12 +41,18 @@ pub struct Cell<V: Kept> {
 }
 
 impl<V: Kept> Cell<V> {
+    ghost use Rattle.port_cell.specs.Cells.{identity_of, opening_value, seat_count};
+
     /// A cell that keeps the value, with its seats, numbered from 0. Want of memory drops the value.
     pub fn new(alloc: Global, value: V, seats: u32) -> Result<(Cell<V>, Vec<Seat<V>>), NoMemory>
     where
         V: Drop,
-        requires { (0 < seats) × (seats ≤ 4096) }
-        ensures { IfOk result (λ r. (r.0.table.shared.key.seats ≡ seats) × (r.0.table.shared.key.value.value ≡ value) × (length r.1.items ≡ seats) × AllFresh r.0.table.shared.table_id (V.name value) (V.list value) 0 r.1.items) }
+        requires some { 0 < seats }
+        requires few { seats ≤ 4096 }
+        ensures opening { IfOk result (λ r. opening_value r.0 ≡ value) }
+        ensures count { IfOk result (λ r. seat_count r.0 ≡ seats) }
+        ensures seats { IfOk result (λ r. length r.1.items ≡ seats) }
+        ensures each { IfOk result (λ r. AllNew (identity_of r.0) (V.name value) (V.list value) 0 r.1.items) }
     {
         let about = Opening {
             value: Snapshot::of(&value),
@@ -63,9 +71,9 @@ impl<V: Kept> Cell<V> {
 
     // Makes the seats, each from the first.
     fn deal(&self, alloc: Global, mut first: Seat<V>, seats: u32) -> Result<Vec<Seat<V>>, NoMemory>
-        requires first { (first.table_id ≡ self.now.table.shared.table_id) × (first.me ≡ (starting (V.name self.now.table.shared.key.value.value) (V.list self.now.table.shared.key.value.value), [])) }
-        requires room { (0 < seats) × (seats ≤ self.now.table.shared.key.seats) × (seats ≤ 4096) }
-        ensures { IfOk result (λ all. (length all.items ≡ seats) × AllFresh self.now.table.shared.table_id (V.name self.now.table.shared.key.value.value) (V.list self.now.table.shared.key.value.value) 0 all.items) }
+        requires first { (first.table_id ≡ identity_of self.now) × (first.me ≡ (first_view (V.name (opening_value self.now)) (V.list (opening_value self.now)), [])) }
+        requires room { (0 < seats) × (seats ≤ seat_count self.now) × (seats ≤ 4096) }
+        ensures { IfOk result (λ all. (length all.items ≡ seats) × AllNew (identity_of self.now) (V.name (opening_value self.now)) (V.list (opening_value self.now)) 0 all.items) }
     {
         let mut others = Vec::new(alloc);
         'seats: for _ in 1..seats {
@@ -78,15 +86,19 @@ impl<V: Kept> Cell<V> {
     /// Ends the sharing, with all the seats that `new` gave, each free. The value has what every seat
     /// saw, with the seat's own entries, and the generation that was installed last.
     pub fn close(self, seats: Vec<Seat<V>>) -> V
-        requires done { EachSeat (IsDone self.table.shared.table_id) seats.items }
-        requires all { (0 < self.table.shared.key.seats) × HasAll self.table.shared.key.seats seats.items }
-        ensures seats { EachSeat (Found (V.name result) (V.list result)) seats.items }
+        requires free { EachSeat (IsFree (identity_of self)) seats.items }
+        requires some { 0 < seat_count self }
+        requires all { HasAll (seat_count self) seats.items }
+        ensures opening { V.name result ≡ V.name (opening_value self) }
+        ensures name { EachSeat (IsNamedAs (V.name result)) seats.items }
+        ensures seats { EachSeat (GoesOnFrom (V.list result)) seats.items }
+        ensures own { EachSeat (λ s. entries_by (number_of s) (V.list result) ≡ own_entries s) seats.items }
 
         // each entry after the opening list is some seat's
-        ensures list { GoesOn (λ k. k < self.table.shared.key.seats) (V.list self.table.shared.key.value.value) (V.list result) }
+        ensures list { GoesOn (λ k. k < seat_count self) (V.list (opening_value self)) (V.list result) }
 
         // the generation installed last: it grew by one at each install of a seat
-        ensures generation { generation_of (V.list result) ≡ generation_of (V.list self.table.shared.key.value.value) + total (λ s. installs_of s.me.0) seats.items }
+        ensures generation { generation_of (V.list result) ≡ generation_of (V.list (opening_value self)) + total install_count seats.items }
     {
         let mut seats = seats;
         let Some(last) = seats.pop() else {
@@ -98,12 +110,12 @@ impl<V: Kept> Cell<V> {
 
     // Joins the seats into one.
     fn gather(&self, mut last: Seat<V>, mut seats: Vec<Seat<V>>) -> Seat<V>
-        requires last { IsDone self.now.table.shared.table_id last }
-        requires seats { EachSeat (IsDone self.now.table.shared.table_id) seats.items }
-        ensures done { IsDone self.now.table.shared.table_id result }
+        requires last { IsFree (identity_of self.now) last }
+        requires seats { EachSeat (IsFree (identity_of self.now)) seats.items }
+        ensures free { IsFree (identity_of self.now) result }
         ensures last { PartOf result.me.0 last }
         ensures seats { EachSeat (PartOf result.me.0) seats.items }
-        ensures installs { installs_of result.me.0 ≡ installs_of last.me.0 + total (λ s. installs_of s.me.0) seats.items }
+        ensures installs { installs_of result.me.0 ≡ installs_of last.me.0 + total install_count seats.items }
     {
         while let Some(other) = seats.pop() {
             self.table.shared.join_seat::<TakeIn>(&mut last, other);
@@ -113,12 +125,13 @@ impl<V: Kept> Cell<V> {
 
     // Ends the sharing with the seat into which all others were joined.
     fn end(self, seat: Seat<V>) -> V
-        requires done { IsDone self.table.shared.table_id seat }
-        requires all { (n : ℕ) → n < self.table.shared.key.seats → HasNumber seat.me.0 n }
-        ensures seat { Found (V.name result) (V.list result) seat }
-        ensures joined { FoundJoined (V.name result) (V.list result) seat.me.0.joined }
-        ensures list { GoesOn (λ k. k < self.table.shared.key.seats) (V.list self.table.shared.key.value.value) (V.list result) }
-        ensures generation { generation_of (V.list result) ≡ generation_of (V.list self.table.shared.key.value.value) + installs_of seat.me.0 }
+        requires free { IsFree (identity_of self) seat }
+        requires all { (n : ℕ) → n < seat_count self → HasNumber seat.me.0 n }
+        ensures opening { V.name result ≡ V.name (opening_value self) }
+        ensures seat { Finds (V.name result) (V.list result) seat }
+        ensures joined { FindsJoined (V.name result) (V.list result) seat.me.0.joined }
+        ensures list { GoesOn (λ k. k < seat_count self) (V.list (opening_value self)) (V.list result) }
+        ensures generation { generation_of (V.list result) ≡ generation_of (V.list (opening_value self)) + installs_of seat.me.0 }
     {
         let Cell { table } = self;
         let mut closed = table.close_with(seat);

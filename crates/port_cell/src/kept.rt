@@ -1,8 +1,8 @@
-// What a cell keeps.
+// Values with a history.
 ghost use Rattle.std.specs.Prelude.{◌≡◌, List, length};
 ghost use Rattle.port_cell.specs.Entries.{generation_of};
 
-/// An entry of a list, with the number of the seat that made it and the generation after it.
+/// An entry of a history with its stamp: the seat that added it, and the generation that stands since.
 #[derive(Clone, Copy, Debug, PartialEq, Eq)]
 pub struct Stamped<E> {
     pub seat: u32,
@@ -10,11 +10,11 @@ pub struct Stamped<E> {
     pub what: E,
 }
 
-/// A value that keeps a list of entries. Contracts see its name, which never changes, and its list.
+/// A value with a history. Contracts see two things of it: a name that stays as it is, and the history.
 pub trait Kept {
-    /// What tells the value from others.
+    /// By this values are told apart.
     type Name;
-    /// An entry of the list.
+    /// What is written into the history.
     type Entry;
 
     ghost use Rattle.std.specs.Prelude.{List, ◌≡◌, length};
@@ -25,11 +25,11 @@ pub trait Kept {
 
     ghost list: { Self → List (Stamped Self.Entry) };
 
-    /// How many entries the list has.
+    /// The length of the history.
     fn count(&self) -> u64
         ensures { result ≡ length (list self.now) };
 
-    /// The generation after the last entry, or 0 where there is none.
+    /// The generation in which the history ends.
     fn generation(&self) -> u32
         ensures { result ≡ generation_of (list self.now) };
 }

@@ -1,8 +1,8 @@
 // What each step tells. These types are for the proofs alone.
 ghost use Rattle.std.specs.Prelude.{List, []};
 ghost use Rattle.port_cell.specs.declared.kept.Stamped.{Stamped};
-ghost use Rattle.port_cell.specs.Plays.{entered, left, marked, looked, installed, took, noted, gave};
-ghost use Rattle.port_cell.specs.Views.{dealing, dealt, joining, spent};
+ghost use Rattle.port_cell.specs.Plays.{Enters, Leaves, Marks, Looks, Installs, Takes, Notes, Gives};
+ghost use Rattle.port_cell.specs.Views.{with_one_made, next_view, with_joined, spent_view};
 
 use crate::kept::{Kept, Stamped};
 use crate::view::View;
@@ -12,43 +12,43 @@ use std::marker::{Brand, PhantomData};
 pub(crate) struct Enter;
 
 impl<V, N, E> Play<Option<V>, View<N, E>> for Enter {
-    ghost then = { entered };
+    ghost then = { Enters };
 }
 
 pub(crate) struct Leave;
 
 impl<V, N, E> Play<Option<V>, View<N, E>> for Leave {
-    ghost then = { left };
+    ghost then = { Leaves };
 }
 
 pub(crate) struct Mark;
 
 impl<V, N, E> Play<Option<V>, View<N, E>> for Mark {
-    ghost then = { marked };
+    ghost then = { Marks };
 }
 
 pub(crate) struct Look;
 
 impl<V, N, E> Play<Option<V>, View<N, E>> for Look {
-    ghost then = { looked };
+    ghost then = { Looks };
 }
 
 pub(crate) struct Install;
 
 impl<V, N, E> Play<Option<V>, View<N, E>> for Install {
-    ghost then = { installed };
+    ghost then = { Installs };
 }
 
 pub(crate) struct Take;
 
 impl<V: Kept> Play<Option<V>, View<V::Name, V::Entry>> for Take {
-    ghost then = { took V.name V.list };
+    ghost then = { Takes V.name V.list };
 }
 
 pub(crate) struct Give;
 
 impl<V, N, E> Play<Option<V>, View<N, E>> for Give {
-    ghost then = { gave };
+    ghost then = { Gives };
 }
 
 /// The list that a step notes. A store reads no list, so its proof picks it.
@@ -68,21 +68,21 @@ pub(crate) struct Note<T> {
 }
 
 impl<V, N, E, T: Told<E>> Play<Option<V>, View<N, E>> for Note<T> {
-    ghost then = { noted T.told };
+    ghost then = { Notes T.told };
 }
 
 pub(crate) struct Deal;
 
 impl<N, E> Split<View<N, E>> for Deal {
-    ghost left = { dealing };
+    ghost left = { with_one_made };
 
-    ghost right = { dealt };
+    ghost right = { next_view };
 }
 
 pub(crate) struct TakeIn;
 
 impl<N, E> Join<View<N, E>> for TakeIn {
-    ghost both = { joining };
+    ghost both = { with_joined };
 
-    ghost spent = { spent };
+    ghost spent = { spent_view };
 }

@@ -1,10 +1,14 @@
 // The reference word: who uses the generation, and who changes it.
-ghost use Rattle.std.specs.Prelude.{◌≡◌, ◌↔◌, ◌<◌, ◌/◌, ◌%◌, true, false, IsTrue, IfOk, IfErr, OnOk};
+ghost use Rattle.std.specs.Prelude.{◌≡◌, ◌↔◌, ◌+◌, ◌<◌, ◌/◌, ◌%◌, true, false, IsTrue, IfOk, IfErr, OnOk, OnErr};
 ghost use Rattle.port_cell.specs.declared.view.User.TheVariants.{Free, Held, Marked, Alone};
 ghost use Rattle.port_cell.specs.Entries.{generation_of};
 ghost use Rattle.port_cell.specs.Word.{generation_in, changing_in, users_in};
-ghost use Rattle.port_cell.specs.Views.{Knows, counts, holds, marks, alone, with_user, finding, installing};
-ghost use Rattle.port_cell.specs.Seats.{IsSeat, Becomes};
+ghost use Rattle.port_cell.specs.Views.{Knows, user_part, with_user};
+ghost use Rattle.port_cell.specs.Knowledge.{list_seen, user_of, has_turn, is_raised, last_word, step_count, install_count, HoldsReference, HasMark, IsAlone, AwaitsOthers};
+ghost use Rattle.port_cell.specs.Seats.{IsSeat, IsSameSeat, KeepsTurn, KeepsWord};
+ghost use Rattle.port_cell.specs.Cells.{identity_of};
+ghost use Rattle.port_cell.specs.Joining.{Becomes};
+ghost use Rattle.port_cell.specs.Lent.{value_in};
 
 use crate::cell::{COUNT, Cell, REFERENCES, Seat};
 use crate::kept::Kept;
@@ -51,13 +55,21 @@ impl<V: Kept> Cell<V> {
     /// Takes a reference, and answers the generation, which stands until `leave`. `Changing` comes
     /// exactly where the word that its one step found has the changing bit; the seat then holds nothing.
     pub fn enter(&self, seat: &mut Seat<V>) -> Result<u32, Changing>
-        requires seat { IsSeat self.now.table.shared.table_id seat.old }
-        requires free { seat.old.me.0.user ≡ Free }
-        ensures ok { IfOk result (λ g. Becomes seat.old seat.new (finding seat.new.me.0.word (Held g) seat.old.me.0) × (changing_in seat.new.me.0.word ≡ 0) × (g ≡ generation_in seat.new.me.0.word)) }
-        ensures err { IfErr result (λ c. Becomes seat.old seat.new (finding c.word Free seat.old.me.0) × (changing_in c.word ≡ 1)) }
+        requires seat { IsSeat (identity_of self.now) seat.old }
+        requires free { user_of seat.old ≡ Free }
+        ensures seat { IsSeat (identity_of self.now) seat.new }
+        ensures same { IsSameSeat seat.old seat.new }
+        ensures turn { KeepsTurn seat.old seat.new }
+        ensures step { step_count seat.new ≡ step_count seat.old + 1 }
+        ensures held { IfOk result (λ g. user_of seat.new ≡ Held g) }
+        ensures generation { IfOk result (λ g. g ≡ generation_in (last_word seat.new)) }
+        ensures clear { OnOk result (changing_in (last_word seat.new) ≡ 0) }
+        ensures free { OnErr result (user_of seat.new ≡ Free) }
+        ensures word { IfErr result (λ c. c.word ≡ last_word seat.new) }
+        ensures changing { OnErr result (changing_in (last_word seat.new) ≡ 1) }
 
         // with the turn, the generation in the word is that of the list that the seat found
-        ensures installed { seat.old.me.0.turn ≡ true → seat.old.me.0.raised ≡ false → generation_in seat.new.me.0.word ≡ generation_of seat.old.me.0.seen }
+        ensures installed { has_turn seat.old ≡ true → is_raised seat.old ≡ false → generation_in (last_word seat.new) ≡ generation_of (list_seen seat.old) }
     {
         let word = self.table.shared.fetch_add::<Enter>(seat, REFERENCES, USER);
         if is_changing(word) {
@@ -69,17 +81,21 @@ impl<V: Kept> Cell<V> {
 
     /// Gives the reference back.
     pub fn leave(&self, seat: &mut Seat<V>)
-        requires seat { IsSeat self.now.table.shared.table_id seat.old }
-        requires held { holds seat.old.me.0.user ≡ 1 }
-        ensures { Becomes seat.old seat.new (with_user Free seat.old.me.0) }
+        requires seat { IsSeat (identity_of self.now) seat.old }
+        requires held { HoldsReference seat.old }
+        ensures seat { IsSeat (identity_of self.now) seat.new }
+        ensures same { IsSameSeat seat.old seat.new }
+        ensures turn { KeepsTurn seat.old seat.new }
+        ensures word { KeepsWord seat.old seat.new }
+        ensures free { user_of seat.new ≡ Free }
     {
         self.withdraw(seat);
     }
 
     // Takes the seat out of the user count.
     fn withdraw(&self, seat: &mut Seat<V>)
-        requires seat { IsSeat self.now.table.shared.table_id seat.old }
-        requires counted { counts seat.old.me.0.user ≡ 1 }
+        requires seat { IsSeat (identity_of self.now) seat.old }
+        requires counted { user_part (user_of seat.old) ≡ 1 }
         ensures { Becomes seat.old seat.new (with_user Free seat.old.me.0) }
     {
         self.table.shared.fetch_sub::<Leave>(seat, REFERENCES, USER);
@@ -89,13 +105,20 @@ impl<V: Kept> Cell<V> {
     /// Sets the changing bit, which keeps others from entering. `Changing` comes exactly where the word
     /// that its one step found has the bit already; the seat then holds nothing.
     pub fn mark(&self, seat: &mut Seat<V>) -> Result<(), Changing>
-        requires seat { IsSeat self.now.table.shared.table_id seat.old }
-        requires free { seat.old.me.0.user ≡ Free }
-        ensures ok { OnOk result (Becomes seat.old seat.new (finding seat.new.me.0.word (Marked (generation_in seat.new.me.0.word)) seat.old.me.0) × (changing_in seat.new.me.0.word ≡ 0)) }
-        ensures err { IfErr result (λ c. Becomes seat.old seat.new (finding c.word Free seat.old.me.0) × (changing_in c.word ≡ 1)) }
+        requires seat { IsSeat (identity_of self.now) seat.old }
+        requires free { user_of seat.old ≡ Free }
+        ensures seat { IsSeat (identity_of self.now) seat.new }
+        ensures same { IsSameSeat seat.old seat.new }
+        ensures turn { KeepsTurn seat.old seat.new }
+        ensures step { step_count seat.new ≡ step_count seat.old + 1 }
+        ensures marked { OnOk result (user_of seat.new ≡ Marked (generation_in (last_word seat.new))) }
+        ensures clear { OnOk result (changing_in (last_word seat.new) ≡ 0) }
+        ensures free { OnErr result (user_of seat.new ≡ Free) }
+        ensures word { IfErr result (λ c. c.word ≡ last_word seat.new) }
+        ensures changing { OnErr result (changing_in (last_word seat.new) ≡ 1) }
 
         // with the turn, the generation in the word is that of the list that the seat found
-        ensures installed { seat.old.me.0.turn ≡ true → seat.old.me.0.raised ≡ false → generation_in seat.new.me.0.word ≡ generation_of seat.old.me.0.seen }
+        ensures installed { has_turn seat.old ≡ true → is_raised seat.old ≡ false → generation_in (last_word seat.new) ≡ generation_of (list_seen seat.old) }
     {
         let word = self
             .table
@@ -111,14 +134,21 @@ impl<V: Kept> Cell<V> {
     /// has a user count above 0. After `Ok` the seat is alone: until it installs or unmarks, nobody
     /// holds a reference.
     pub fn settled(&self, seat: &mut Seat<V>) -> Result<(), Users>
-        requires seat { IsSeat self.now.table.shared.table_id seat.old }
-        requires marked { (marks seat.old.me.0.user ≡ 1) × (alone seat.old.me.0.user ≡ 0) }
-        ensures ok { OnOk result (Becomes seat.old seat.new (finding seat.new.me.0.word (Alone (generation_in seat.new.me.0.word)) seat.old.me.0) × (users_in seat.new.me.0.word ≡ 0)) }
-        ensures err { IfErr result (λ u. Becomes seat.old seat.new (finding u.word seat.old.me.0.user seat.old.me.0) × (0 < users_in u.word)) }
+        requires seat { IsSeat (identity_of self.now) seat.old }
+        requires marked { AwaitsOthers seat.old }
+        ensures seat { IsSeat (identity_of self.now) seat.new }
+        ensures same { IsSameSeat seat.old seat.new }
+        ensures turn { KeepsTurn seat.old seat.new }
+        ensures step { step_count seat.new ≡ step_count seat.old + 1 }
+        ensures alone { OnOk result (user_of seat.new ≡ Alone (generation_in (last_word seat.new))) }
+        ensures unused { OnOk result (users_in (last_word seat.new) ≡ 0) }
+        ensures marked { OnErr result (user_of seat.new ≡ user_of seat.old) }
+        ensures word { IfErr result (λ u. u.word ≡ last_word seat.new) }
+        ensures used { OnErr result (0 < users_in (last_word seat.new)) }
 
         // the generation has not moved since the mark
-        ensures same { Knows (generation_in seat.new.me.0.word) seat.old.me.0.user }
-        ensures installed { seat.old.me.0.turn ≡ true → seat.old.me.0.raised ≡ false → generation_in seat.new.me.0.word ≡ generation_of seat.old.me.0.seen }
+        ensures stands { Knows (generation_in (last_word seat.new)) (user_of seat.old) }
+        ensures installed { has_turn seat.old ≡ true → is_raised seat.old ≡ false → generation_in (last_word seat.new) ≡ generation_of (list_seen seat.old) }
     {
         let word = self.table.shared.load::<Look>(seat, REFERENCES);
         if has_users(word) {
@@ -129,10 +159,14 @@ impl<V: Kept> Cell<V> {
 
     /// Takes the changing bit back, with the generation as it was.
     pub fn unmark(&self, seat: &mut Seat<V>)
-        requires seat { IsSeat self.now.table.shared.table_id seat.old }
-        requires marked { marks seat.old.me.0.user ≡ 1 }
-        requires lowered { seat.old.me.0.raised ≡ false }
-        ensures { Becomes seat.old seat.new (with_user Free seat.old.me.0) }
+        requires seat { IsSeat (identity_of self.now) seat.old }
+        requires marked { HasMark seat.old }
+        requires lowered { is_raised seat.old ≡ false }
+        ensures seat { IsSeat (identity_of self.now) seat.new }
+        ensures same { IsSameSeat seat.old seat.new }
+        ensures turn { KeepsTurn seat.old seat.new }
+        ensures word { KeepsWord seat.old seat.new }
+        ensures free { user_of seat.new ≡ Free }
     {
         self.table
             .shared
@@ -142,13 +176,20 @@ impl<V: Kept> Cell<V> {
 
     /// Installs the generation of the noted value, and takes the changing bit back, in one step.
     pub fn install(&self, seat: &mut Seat<V>, turn: &mut Turn<V>)
-        requires seat { IsSeat self.now.table.shared.table_id seat.old }
-        requires alone { alone seat.old.me.0.user ≡ 1 }
-        requires turn { seat.old.me.0.turn ≡ true }
-        requires noted { seat.old.me.0.seen ≡ V.list turn.old.value }
-        requires raised { seat.old.me.0.raised ≡ true }
-        ensures seat { Becomes seat.old seat.new (installing seat.old.me.0) }
-        ensures turn { turn.new ≡ turn.old }
+        requires seat { IsSeat (identity_of self.now) seat.old }
+        requires alone { IsAlone seat.old }
+        requires turn { has_turn seat.old ≡ true }
+        requires noted { list_seen seat.old ≡ V.list (value_in turn.old) }
+        requires raised { is_raised seat.old ≡ true }
+        ensures seat { IsSeat (identity_of self.now) seat.new }
+        ensures same { IsSameSeat seat.old seat.new }
+        ensures word { KeepsWord seat.old seat.new }
+        ensures turn { has_turn seat.new ≡ true }
+        ensures list { list_seen seat.new ≡ list_seen seat.old }
+        ensures free { user_of seat.new ≡ Free }
+        ensures lowered { is_raised seat.new ≡ false }
+        ensures installs { install_count seat.new ≡ install_count seat.old + 1 }
+        ensures value { turn.new ≡ turn.old }
     {
         let _value = &turn.value;
         self.table

@@ -16,9 +16,9 @@ pub struct CellRule;
 
 impl<V: Kept> TableRule<Option<V>, View<V::Name, V::Entry>, Opening<V>> for CellRule {
     ghost use Rattle.port_cell.specs.Rule.{Rule};
-    ghost use Rattle.port_cell.specs.Views.{starting};
+    ghost use Rattle.port_cell.specs.Views.{first_view};
 
     ghost holds = { λ key. Rule V.name V.list key.value.value key.seats };
 
-    ghost first = { λ key. starting (V.name key.value.value) (V.list key.value.value) };
+    ghost first = { λ key. first_view (V.name key.value.value) (V.list key.value.value) };
 }

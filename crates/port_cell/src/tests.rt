@@ -1,7 +1,9 @@
 ghost use Rattle.std.specs.Prelude.{◌≡◌, ◌<◌, ◌+◌, [], ◌∷◌, ◌++◌, false, length, IfOk, IsTrue};
 ghost use Rattle.std.specs.Thread.{IsSync};
-ghost use Rattle.port_cell.specs.Views.{Knows, marks, alone};
-ghost use Rattle.port_cell.specs.Seats.{AllFresh, IsDone, IsSeat};
+ghost use Rattle.port_cell.specs.Views.{Knows};
+ghost use Rattle.port_cell.specs.Knowledge.{number_of, user_of, has_turn, IsAlone, AwaitsOthers};
+ghost use Rattle.port_cell.specs.Seats.{AllNew, IsFree, IsSeat};
+ghost use Rattle.port_cell.specs.Cells.{identity_of, opening_value, seat_count};
 
 use super::*;
 use std::alloc::Global;
@@ -51,7 +53,7 @@ impl Log {
 
 fn open(alloc: Global, seats: u32) -> Result<(Cell<Log>, Vec<Seat<Log>>), NoMemory>
     requires { (0 < seats) × (seats < 10) }
-    ensures { IfOk result (λ r. (r.0.table.shared.key.seats ≡ seats) × (length r.1.items ≡ seats) × AllFresh r.0.table.shared.table_id r.0.table.shared.key.value.value.name r.0.table.shared.key.value.value.entries.items 0 r.1.items) }
+    ensures { IfOk result (λ r. (seat_count r.0 ≡ seats) × (length r.1.items ≡ seats) × AllNew (identity_of r.0) (opening_value r.0).name (opening_value r.0).entries.items 0 r.1.items) }
 {
     let log = Log {
         name: 7,
@@ -63,9 +65,9 @@ fn open(alloc: Global, seats: u32) -> Result<(Cell<Log>, Vec<Seat<Log>>), NoMemo
 
 /// Takes out the seat with the highest number.
 fn last(cell: &Cell<Log>, seats: &mut Vec<Seat<Log>>) -> Seat<Log>
-    requires { AllFresh cell.now.table.shared.table_id cell.now.table.shared.key.value.value.name cell.now.table.shared.key.value.value.entries.items 0 seats.old.items × (0 < length seats.old.items) }
-    ensures seat { IsDone cell.now.table.shared.table_id result × (result.me.0.number ≡ length seats.new.items) }
-    ensures others { AllFresh cell.now.table.shared.table_id cell.now.table.shared.key.value.value.name cell.now.table.shared.key.value.value.entries.items 0 seats.new.items }
+    requires { AllNew (identity_of cell.now) (opening_value cell.now).name (opening_value cell.now).entries.items 0 seats.old.items × (0 < length seats.old.items) }
+    ensures seat { IsFree (identity_of cell.now) result × (number_of result ≡ length seats.new.items) }
+    ensures others { AllNew (identity_of cell.now) (opening_value cell.now).name (opening_value cell.now).entries.items 0 seats.new.items }
     ensures count { length seats.new.items + 1 ≡ length seats.old.items }
 {
     let Some(seat) = seats.pop() else {
@@ -76,8 +78,8 @@ fn last(cell: &Cell<Log>, seats: &mut Vec<Seat<Log>>) -> Seat<Log>
 
 /// One turn, in which the seat makes an entry of the generation that it finds.
 fn record<R: Wait + Abort>(rt: &R, cell: &Cell<Log>, seat: &mut Seat<Log>, number: u32, what: u32)
-    requires { IsDone cell.now.table.shared.table_id seat.old × (seat.old.me.0.number ≡ number) }
-    ensures { IsDone cell.now.table.shared.table_id seat.new × (seat.new.me.0.number ≡ number) }
+    requires { IsFree (identity_of cell.now) seat.old × (number_of seat.old ≡ number) }
+    ensures { IsFree (identity_of cell.now) seat.new × (number_of seat.new ≡ number) }
 {
     let mut turn = cell.turn(rt, seat);
     let generation = turn.value().generation();
@@ -87,13 +89,29 @@ fn record<R: Wait + Abort>(rt: &R, cell: &Cell<Log>, seat: &mut Seat<Log>, numbe
 }
 
 fn make<R: Wait + Abort>(rt: &R, cell: &Cell<Log>, mut seat: Seat<Log>, number: u32) -> Seat<Log>
-    requires { IsDone cell.now.table.shared.table_id seat × (seat.me.0.number ≡ number) }
-    ensures { IsDone cell.now.table.shared.table_id result × (result.me.0.number ≡ number) }
+    requires { IsFree (identity_of cell.now) seat × (number_of seat ≡ number) }
+    ensures { IsFree (identity_of cell.now) result × (number_of result ≡ number) }
 {
     for what in 0..100 {
         record(rt, cell, &mut seat, number, what);
     }
     seat
+}
+
+fn moves<T: Send>() {}
+
+fn is_shared<T: Send + Sync>() {}
+
+/// For any value that moves.
+fn cross_threads<V: Kept + Send>() {
+    is_shared::<Cell<V>>();
+    moves::<Seat<V>>();
+    moves::<Turn<V>>();
+}
+
+#[test]
+fn cells_seats_and_turns_cross_threads() {
+    cross_threads::<Log>();
 }
 
 #[test]
@@ -124,20 +142,20 @@ fn both<R: Threads + Wait + Abort + Sync>(
     first: Seat<Log>,
     second: Seat<Log>,
 ) -> (Seat<Log>, Seat<Log>)
-    requires first { IsDone cell.now.table.shared.table_id first × (first.me.0.number ≡ 0) }
-    requires second { IsDone cell.now.table.shared.table_id second × (second.me.0.number ≡ 1) }
-    ensures first { IsDone cell.now.table.shared.table_id result.0 × (result.0.me.0.number ≡ 0) }
-    ensures second { IsDone cell.now.table.shared.table_id result.1 × (result.1.me.0.number ≡ 1) }
+    requires first { IsFree (identity_of cell.now) first × (number_of first ≡ 0) }
+    requires second { IsFree (identity_of cell.now) second × (number_of second ≡ 1) }
+    ensures first { IsFree (identity_of cell.now) result.0 × (number_of result.0 ≡ 0) }
+    ensures second { IsFree (identity_of cell.now) result.1 × (number_of result.1 ≡ 1) }
 {
     join(
         rt,
         move || -> Seat<Log>
-            requires { IsSync R.row × IsDone cell.now.table.shared.table_id first × (first.me.0.number ≡ 0) }
-            ensures { IsDone cell.entry.now.table.shared.table_id result × (result.me.0.number ≡ 0) }
+            requires { IsSync R.row × IsFree (identity_of cell.now) first × (number_of first ≡ 0) }
+            ensures { IsFree (identity_of cell.entry.now) result × (number_of result ≡ 0) }
         { make(rt, cell, first, 0) },
         move || -> Seat<Log>
-            requires { IsSync R.row × IsDone cell.now.table.shared.table_id second × (second.me.0.number ≡ 1) }
-            ensures { IsDone cell.entry.now.table.shared.table_id result × (result.me.0.number ≡ 1) }
+            requires { IsSync R.row × IsFree (identity_of cell.now) second × (number_of second ≡ 1) }
+            ensures { IsFree (identity_of cell.entry.now) result × (number_of result ≡ 1) }
         { make(rt, cell, second, 1) },
     )
 }
@@ -171,9 +189,9 @@ fn two_threads(rt: HostRuntime) -> Result<(), Fail> {
 
 /// The generation that the seat finds at a turn.
 fn look<R: Wait>(rt: &R, cell: &Cell<Log>, seat: &mut Seat<Log>) -> u32
-    requires { IsSeat cell.now.table.shared.table_id seat.old × (seat.old.me.0.turn ≡ false) }
-    ensures seat { IsSeat cell.now.table.shared.table_id seat.new × (seat.new.me.0.turn ≡ false) × (seat.new.me.0.user ≡ seat.old.me.0.user) }
-    ensures generation { Knows result seat.old.me.0.user }
+    requires { IsSeat (identity_of cell.now) seat.old × (has_turn seat.old ≡ false) }
+    ensures seat { IsSeat (identity_of cell.now) seat.new × (has_turn seat.new ≡ false) × (user_of seat.new ≡ user_of seat.old) }
+    ensures generation { Knows result (user_of seat.old) }
 {
     let mut turn = cell.turn(rt, seat);
     let generation = turn.value().generation();
@@ -183,8 +201,8 @@ fn look<R: Wait>(rt: &R, cell: &Cell<Log>, seat: &mut Seat<Log>) -> u32
 
 /// Takes a reference, and says whether the generation stood still under it.
 fn visit<R: Wait>(rt: &R, cell: &Cell<Log>, seat: &mut Seat<Log>) -> bool
-    requires { IsDone cell.now.table.shared.table_id seat.old }
-    ensures seat { IsDone cell.now.table.shared.table_id seat.new }
+    requires { IsFree (identity_of cell.now) seat.old }
+    ensures seat { IsFree (identity_of cell.now) seat.new }
     ensures still { IsTrue result }
 {
     match cell.enter(seat) {
@@ -202,7 +220,7 @@ fn visit<R: Wait>(rt: &R, cell: &Cell<Log>, seat: &mut Seat<Log>) -> bool
 }
 
 fn watch<R: Wait>(rt: &R, cell: &Cell<Log>, mut seat: Seat<Log>) -> bool
-    requires { IsDone cell.now.table.shared.table_id seat }
+    requires { IsFree (identity_of cell.now) seat }
 {
     let mut still = true;
     for _ in 0..20 {
@@ -217,15 +235,15 @@ fn watch_both<R: Threads + Wait + Sync>(
     first: Seat<Log>,
     second: Seat<Log>,
 ) -> bool
-    requires { IsDone cell.now.table.shared.table_id first × IsDone cell.now.table.shared.table_id second }
+    requires { IsFree (identity_of cell.now) first × IsFree (identity_of cell.now) second }
 {
     let (a, b) = join(
         rt,
         move || -> bool
-            requires { IsSync R.row × IsDone cell.now.table.shared.table_id first }
+            requires { IsSync R.row × IsFree (identity_of cell.now) first }
         { watch(rt, cell, first) },
         move || -> bool
-            requires { IsSync R.row × IsDone cell.now.table.shared.table_id second }
+            requires { IsSync R.row × IsFree (identity_of cell.now) second }
         { watch(rt, cell, second) },
     );
     a && b
@@ -233,10 +251,10 @@ fn watch_both<R: Threads + Wait + Sync>(
 
 /// Waits until the users have left.
 fn settle<R: Wait>(rt: &R, cell: &Cell<Log>, seat: &mut Seat<Log>)
-    requires seat { IsSeat cell.now.table.shared.table_id seat.old × (seat.old.me.0.turn ≡ false) }
-    requires marked { (marks seat.old.me.0.user ≡ 1) × (alone seat.old.me.0.user ≡ 0) }
-    ensures seat { IsSeat cell.now.table.shared.table_id seat.new × (seat.new.me.0.turn ≡ false) }
-    ensures alone { (alone seat.new.me.0.user ≡ 1) × (seat.new.me.0.number ≡ seat.old.me.0.number) }
+    requires seat { IsSeat (identity_of cell.now) seat.old × (has_turn seat.old ≡ false) }
+    requires marked { AwaitsOthers seat.old }
+    ensures seat { IsSeat (identity_of cell.now) seat.new × (has_turn seat.new ≡ false) }
+    ensures alone { IsAlone seat.new × (number_of seat.new ≡ number_of seat.old) }
 {
     for _ in rt.forever() {
         match cell.settled(seat) {
@@ -249,9 +267,9 @@ fn settle<R: Wait>(rt: &R, cell: &Cell<Log>, seat: &mut Seat<Log>)
 
 /// Makes an entry of the next generation, and installs it.
 fn raise<R: Wait + Abort>(rt: &R, cell: &Cell<Log>, seat: &mut Seat<Log>, number: u32)
-    requires seat { IsSeat cell.now.table.shared.table_id seat.old × (seat.old.me.0.turn ≡ false) }
-    requires alone { (alone seat.old.me.0.user ≡ 1) × (seat.old.me.0.number ≡ number) }
-    ensures { IsDone cell.now.table.shared.table_id seat.new × (seat.new.me.0.number ≡ number) }
+    requires seat { IsSeat (identity_of cell.now) seat.old × (has_turn seat.old ≡ false) }
+    requires alone { IsAlone seat.old × (number_of seat.old ≡ number) }
+    ensures { IsFree (identity_of cell.now) seat.new × (number_of seat.new ≡ number) }
 {
     let mut turn = cell.turn(rt, seat);
     let generation = turn.value().generation();
@@ -263,8 +281,8 @@ fn raise<R: Wait + Abort>(rt: &R, cell: &Cell<Log>, seat: &mut Seat<Log>, number
 }
 
 fn change<R: Wait + Abort>(rt: &R, cell: &Cell<Log>, seat: &mut Seat<Log>, number: u32)
-    requires { IsDone cell.now.table.shared.table_id seat.old × (seat.old.me.0.number ≡ number) }
-    ensures { IsDone cell.now.table.shared.table_id seat.new × (seat.new.me.0.number ≡ number) }
+    requires { IsFree (identity_of cell.now) seat.old × (number_of seat.old ≡ number) }
+    ensures { IsFree (identity_of cell.now) seat.new × (number_of seat.new ≡ number) }
 {
     match cell.mark(seat) {
         Ok(()) => {
@@ -276,7 +294,7 @@ fn change<R: Wait + Abort>(rt: &R, cell: &Cell<Log>, seat: &mut Seat<Log>, numbe
 }
 
 fn change_often<R: Wait + Abort>(rt: &R, cell: &Cell<Log>, mut seat: Seat<Log>, number: u32)
-    requires { IsDone cell.now.table.shared.table_id seat × (seat.me.0.number ≡ number) }
+    requires { IsFree (identity_of cell.now) seat × (number_of seat ≡ number) }
 {
     for _ in 0..20 {
         change(rt, cell, &mut seat, number);
@@ -290,17 +308,17 @@ fn crowd<R: Threads + Wait + Abort + Sync>(
     first: (Seat<Log>, Seat<Log>),
     second: (Seat<Log>, Seat<Log>),
 ) -> bool
-    requires changer { IsDone cell.now.table.shared.table_id changer × (changer.me.0.number ≡ 0) }
-    requires first { IsDone cell.now.table.shared.table_id first.0 × IsDone cell.now.table.shared.table_id first.1 }
-    requires second { IsDone cell.now.table.shared.table_id second.0 × IsDone cell.now.table.shared.table_id second.1 }
+    requires changer { IsFree (identity_of cell.now) changer × (number_of changer ≡ 0) }
+    requires first { IsFree (identity_of cell.now) first.0 × IsFree (identity_of cell.now) first.1 }
+    requires second { IsFree (identity_of cell.now) second.0 × IsFree (identity_of cell.now) second.1 }
 {
     let (a, b) = join(
         rt,
         move || -> bool
-            requires { IsSync R.row × IsDone cell.now.table.shared.table_id changer × (changer.me.0.number ≡ 0) × IsDone cell.now.table.shared.table_id first.0 × IsDone cell.now.table.shared.table_id first.1 }
+            requires { IsSync R.row × IsFree (identity_of cell.now) changer × (number_of changer ≡ 0) × IsFree (identity_of cell.now) first.0 × IsFree (identity_of cell.now) first.1 }
         { change_beside(rt, cell, changer, first) },
         move || -> bool
-            requires { IsSync R.row × IsDone cell.now.table.shared.table_id second.0 × IsDone cell.now.table.shared.table_id second.1 }
+            requires { IsSync R.row × IsFree (identity_of cell.now) second.0 × IsFree (identity_of cell.now) second.1 }
         { watch_both(rt, cell, second.0, second.1) },
     );
     a && b
@@ -312,16 +330,16 @@ fn change_beside<R: Threads + Wait + Abort + Sync>(
     changer: Seat<Log>,
     users: (Seat<Log>, Seat<Log>),
 ) -> bool
-    requires changer { IsDone cell.now.table.shared.table_id changer × (changer.me.0.number ≡ 0) }
-    requires users { IsDone cell.now.table.shared.table_id users.0 × IsDone cell.now.table.shared.table_id users.1 }
+    requires changer { IsFree (identity_of cell.now) changer × (number_of changer ≡ 0) }
+    requires users { IsFree (identity_of cell.now) users.0 × IsFree (identity_of cell.now) users.1 }
 {
     let (_, still) = join(
         rt,
         move || -> ()
-            requires { IsSync R.row × IsDone cell.now.table.shared.table_id changer × (changer.me.0.number ≡ 0) }
+            requires { IsSync R.row × IsFree (identity_of cell.now) changer × (number_of changer ≡ 0) }
         { change_often(rt, cell, changer, 0) },
         move || -> bool
-            requires { IsSync R.row × IsDone cell.now.table.shared.table_id users.0 × IsDone cell.now.table.shared.table_id users.1 }
+            requires { IsSync R.row × IsFree (identity_of cell.now) users.0 × IsFree (identity_of cell.now) users.1 }
         { watch_both(rt, cell, users.0, users.1) },
     );
     still

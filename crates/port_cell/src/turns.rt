@@ -2,10 +2,13 @@
 ghost use Rattle.std.specs.Prelude.{◌≡◌, ◌<◌, ◌+◌, true, false, Some, IsSome, IfSome, IfNone};
 ghost use Rattle.std.specs.Borrow.{Lends, sem};
 ghost use Rattle.port_cell.specs.contracts.turns.Turn.{the_row};
-ghost use Rattle.port_cell.specs.Lent.{with_value};
-ghost use Rattle.port_cell.specs.Entries.{generation_of, own, Keeps, AddsBy};
-ghost use Rattle.port_cell.specs.Views.{Knows, taking, noting, giving, installed_of, MayNote};
-ghost use Rattle.port_cell.specs.Seats.{IsSeat, Becomes};
+ghost use Rattle.port_cell.specs.Lent.{with_value, value_in};
+ghost use Rattle.port_cell.specs.Entries.{generation_of, entries_by, Keeps, AddsBy};
+ghost use Rattle.port_cell.specs.Views.{Knows, with_turn, with_list, MayTell};
+ghost use Rattle.port_cell.specs.Knowledge.{number_of, name_of, list_seen, own_entries, user_of, has_turn, is_raised, generation_installed, MayNote};
+ghost use Rattle.port_cell.specs.Seats.{IsSeat, IsSameSeat, KeepsUse};
+ghost use Rattle.port_cell.specs.Cells.{identity_of};
+ghost use Rattle.port_cell.specs.Joining.{Becomes};
 
 use crate::cell::{COUNT, Cell, Seat, TURN};
 use crate::kept::Kept;
@@ -26,7 +29,7 @@ impl<V> Turn<V> {
     /// The value, to be read and changed.
     pub fn value(&mut self) -> &mut V
         ensures* writes_back { sem 𝓛 (Lends (the_row V.row) V.row self.entry result with_value) }
-        ensures value { result.now ≡ self.old.value }
+        ensures value { result.now ≡ value_in self.old }
     {
         &mut self.value
     }
@@ -37,14 +40,18 @@ impl<V: Kept> Cell<V> {
     /// that the seat saw before, and the seat's own entries are those that it made. Where the seat holds
     /// a reference, or has marked the cell, the generation is the one that it knows.
     pub fn turn<R: Wait>(&self, rt: &R, seat: &mut Seat<V>) -> Turn<V>
-        requires seat { IsSeat self.now.table.shared.table_id seat.old }
-        requires none { seat.old.me.0.turn ≡ false }
-        ensures seat { Becomes seat.old seat.new (taking (V.list result.value) seat.old.me.0) }
-        ensures name { seat.old.me.0.name ≡ Some (V.name result.value) }
-        ensures list { Keeps seat.old.me.0.number seat.old.me.0.seen (V.list result.value) }
-        ensures own { own seat.old.me.0.number (V.list result.value) ≡ own seat.old.me.0.number seat.old.me.0.seen }
-        ensures generation { Knows (generation_of (V.list result.value)) seat.old.me.0.user }
-        ensures lowered { seat.new.me.0.raised ≡ false }
+        requires seat { IsSeat (identity_of self.now) seat.old }
+        requires none { has_turn seat.old ≡ false }
+        ensures seat { IsSeat (identity_of self.now) seat.new }
+        ensures same { IsSameSeat seat.old seat.new }
+        ensures references { KeepsUse seat.old seat.new }
+        ensures turn { has_turn seat.new ≡ true }
+        ensures lowered { is_raised seat.new ≡ false }
+        ensures seen { list_seen seat.new ≡ V.list (value_in result) }
+        ensures name { name_of seat.old ≡ Some (V.name (value_in result)) }
+        ensures list { Keeps (number_of seat.old) (list_seen seat.old) (V.list (value_in result)) }
+        ensures own { own_entries seat.new ≡ own_entries seat.old }
+        ensures generation { Knows (generation_of (V.list (value_in result))) (user_of seat.old) }
     {
         for _ in rt.forever() {
             if let Some(value) = self.take(seat) {
@@ -57,9 +64,9 @@ impl<V: Kept> Cell<V> {
 
     // Takes the turn where nobody has it.
     fn take(&self, seat: &mut Seat<V>) -> Option<V>
-        requires seat { IsSeat self.now.table.shared.table_id seat.old }
-        requires none { seat.old.me.0.turn ≡ false }
-        ensures some { IfSome result (λ x. Becomes seat.old seat.new (taking (V.list x) seat.old.me.0) × (seat.old.me.0.name ≡ Some (V.name x)) × Keeps seat.old.me.0.number seat.old.me.0.seen (V.list x) × Knows (generation_of (V.list x)) seat.old.me.0.user × (seat.new.me.0.raised ≡ false)) }
+        requires seat { IsSeat (identity_of self.now) seat.old }
+        requires none { has_turn seat.old ≡ false }
+        ensures some { IfSome result (λ x. Becomes seat.old seat.new (with_turn (V.list x) seat.old.me.0) × (seat.old.me.0.name ≡ Some (V.name x)) × Keeps seat.old.me.0.number seat.old.me.0.seen (V.list x) × Knows (generation_of (V.list x)) seat.old.me.0.user × (seat.new.me.0.raised ≡ false)) }
         ensures none { IfNone result ((seat.new.table_id ≡ seat.old.table_id) × (seat.new.id ≡ seat.old.id) × (seat.new.me ≡ seat.old.me)) }
     {
         if self.table.shared.swap::<Take>(seat, TURN, 1) != 0 {
@@ -72,27 +79,31 @@ impl<V: Kept> Cell<V> {
     /// turn found or last noted, and the rest is this seat's. Its generation is the installed one, or, by
     /// a seat that is alone, the next.
     pub fn note(&self, seat: &mut Seat<V>, turn: &mut Turn<V>)
-        requires seat { IsSeat self.now.table.shared.table_id seat.old }
-        requires turn { seat.old.me.0.turn ≡ true }
-        requires name { seat.old.me.0.name ≡ Some (V.name turn.old.value) }
-        requires list { AddsBy seat.old.me.0.number seat.old.me.0.seen (V.list turn.old.value) }
-        requires generation { MayNote seat.old.me.0 (generation_of (V.list turn.old.value)) }
-        ensures seat { Becomes seat.old seat.new (noting (V.list turn.old.value) seat.old.me.0) }
-        ensures same { generation_of (V.list turn.old.value) ≡ installed_of seat.old.me.0 → seat.new.me.0.raised ≡ false }
-        ensures next { generation_of (V.list turn.old.value) ≡ installed_of seat.old.me.0 + 1 → seat.new.me.0.raised ≡ true }
-        ensures turn { turn.new ≡ turn.old }
+        requires seat { IsSeat (identity_of self.now) seat.old }
+        requires turn { has_turn seat.old ≡ true }
+        requires name { name_of seat.old ≡ Some (V.name (value_in turn.old)) }
+        requires list { AddsBy (number_of seat.old) (list_seen seat.old) (V.list (value_in turn.old)) }
+        requires generation { MayNote seat.old (generation_of (V.list (value_in turn.old))) }
+        ensures seat { IsSeat (identity_of self.now) seat.new }
+        ensures same { IsSameSeat seat.old seat.new }
+        ensures references { KeepsUse seat.old seat.new }
+        ensures turn { has_turn seat.new ≡ true }
+        ensures seen { list_seen seat.new ≡ V.list (value_in turn.old) }
+        ensures lowered { generation_of (V.list (value_in turn.old)) ≡ generation_installed seat.old → is_raised seat.new ≡ false }
+        ensures raised { generation_of (V.list (value_in turn.old)) ≡ generation_installed seat.old + 1 → is_raised seat.new ≡ true }
+        ensures value { turn.new ≡ turn.old }
     {
         self.tell::<Brand>(seat, &turn.value);
         self.wake();
     }
 
     fn tell<T: Told<V::Entry>>(&self, seat: &mut Seat<V>, value: &V)
-        requires seat { IsSeat self.now.table.shared.table_id seat.old }
-        requires turn { seat.old.me.0.turn ≡ true }
-        requires list { AddsBy seat.old.me.0.number seat.old.me.0.seen (V.list value.now) }
-        requires generation { MayNote seat.old.me.0 (generation_of (V.list value.now)) }
+        requires seat { IsSeat (identity_of self.now) seat.old }
+        requires turn { has_turn seat.old ≡ true }
+        requires list { AddsBy (number_of seat.old) (list_seen seat.old) (V.list value.now) }
+        requires generation { MayTell seat.old.me.0 (generation_of (V.list value.now)) }
         requires told { T.told ≡ V.list value.now }
-        ensures { Becomes seat.old seat.new (noting (V.list value.now) seat.old.me.0) }
+        ensures { Becomes seat.old seat.new (with_list (V.list value.now) seat.old.me.0) }
     {
         self.table
             .shared
@@ -101,12 +112,17 @@ impl<V: Kept> Cell<V> {
 
     /// Gives the turn back, with the value as it was noted last and nothing left to install.
     pub fn give(&self, seat: &mut Seat<V>, turn: Turn<V>)
-        requires seat { IsSeat self.now.table.shared.table_id seat.old }
-        requires turn { seat.old.me.0.turn ≡ true }
-        requires name { seat.old.me.0.name ≡ Some (V.name turn.value) }
-        requires noted { seat.old.me.0.seen ≡ V.list turn.value }
-        requires installed { seat.old.me.0.raised ≡ false }
-        ensures { Becomes seat.old seat.new (giving seat.old.me.0) }
+        requires seat { IsSeat (identity_of self.now) seat.old }
+        requires turn { has_turn seat.old ≡ true }
+        requires name { name_of seat.old ≡ Some (V.name (value_in turn)) }
+        requires noted { list_seen seat.old ≡ V.list (value_in turn) }
+        requires installed { is_raised seat.old ≡ false }
+        ensures seat { IsSeat (identity_of self.now) seat.new }
+        ensures same { IsSameSeat seat.old seat.new }
+        ensures references { KeepsUse seat.old seat.new }
+        ensures turn { has_turn seat.new ≡ false }
+        ensures list { list_seen seat.new ≡ list_seen seat.old }
+        ensures lowered { is_raised seat.new ≡ false }
     {
         let Turn { value } = turn;
         let place = self.table.shared.exchange(seat, 0, Some(value));
@@ -118,8 +134,8 @@ impl<V: Kept> Cell<V> {
     /// Waits until something may have changed: an entry, a reference, or the generation. It comes back
     /// without a change too.
     pub fn park<R: Wait>(&self, rt: &R, seat: &mut Seat<V>)
-        requires seat { IsSeat self.now.table.shared.table_id seat.old }
-        requires none { seat.old.me.0.turn ≡ false }
+        requires seat { IsSeat (identity_of self.now) seat.old }
+        requires none { has_turn seat.old ≡ false }
         ensures { seat.new ≡ seat.old }
     {
         let _seat = &*seat;

@@ -1,25 +1,34 @@
 -- The calls that a port keeps, and the entries of a call.
-use Rattle.std.specs.Prelude.{MatchBool}
-use Rattle.std.proofs.Common.{◌≡◌, ℕ, List, [], ◌∷◌, ◌++◌, Bool, true, false, ◌&&◌, ◌==◌, not, Option, None, Some, is_some, cond, if◌then◌else◌, ◌+◌, ◌<◌, ◌≤◌, length, min, refl, sym, ◌∙◌, ap, subst, arith, add-zero, length-take}
-use Rattle.std.proofs.lemmas.List.{get_or-set_same}
-use Rattle.std.proofs.lemmas.Bool.Decides.{nat_tests}
+use Rattle.std.proofs.Common.{◌≡◌, ℕ, List, [], ◌∷◌, ◌++◌, Bool, true, false, ◌&&◌, ◌==◌, Option, None, Some, is_some, cond, if◌then◌else◌, ◌+◌, ◌-◌, ◌<◌, ◌≤◌, inl, inr, length, map, set, get_or, min, refl, sym, ◌∙◌, ap, subst, arith, add-zero, append_assoc, length-set, get_or-set_same, get_or-set_other}
+use Rattle.std.proofs.lemmas.Bool.{false≢true, eqb-true, eq-eqb}
+use Rattle.std.proofs.lemmas.Bool.Decides.{nat_tests, eqb_tells}
+use Rattle.std.proofs.lemmas.List.{map-append}
+use Rattle.tty_base.specs.declared.characters.Flagged.{Flagged}
+use Rattle.word_ring.specs.Ends.{TakerState}
+use Rattle.tty_calls.specs.declared.calls.Call.{Call}
 use Rattle.tty_calls.specs.declared.answers.Answer.{Answer}
-use Rattle.tty_calls.specs.declared.journals.Who.TheVariants.{Caller}
-use Rattle.tty_calls.specs.Plain.{PlainCall, opens, closes, reads, sets_modes, handle_of, PlainAnswer, idle, bytes_in, answer_of, PlainEvent, answered, waited, PlainEntry}
-use Rattle.tty_terminal.specs.declared.callers.Handle.{Handle}
+use Rattle.tty_calls.specs.Plain.{PlainCall, handle_of, idle, answer_of, call_of, PlainEvent, answered, parted, waited, flushed, ticked, line_ended, clock_ended, caller_ended, phase_ended, hung_up, PlainEntry}
+use Rattle.ldisc_switch.specs.Disciplines.{column_in}
 use Rattle.tty_terminal.specs.declared.callers.Bound.{Bound}
 use Rattle.tty_terminal.specs.declared.callers.CallerState.{CallerState}
-use Rattle.tty_terminal.specs.declared.terminals.Met.TheVariants.{Gives, Waits}
-use Rattle.tty_terminal.specs.Terminals.{Terminal, caller_at, handle_at, handle_for, has_begun, is_bound, begun_of, idle_caller, live_count}
-use Rattle.tty_terminal.specs.Outcomes.{Outcome, unknown, waits, takes, gives, outcome, outcome_of, closing_outcome, reading_outcome, modes_outcome, may_read, freed}
-use Rattle.tty_terminal.specs.Meeting.{Meets, room_for}
-use Rattle.tty_terminal.specs.Steps.{Answers, Drops, MustWait, left_by, advanced, with_dropped, answered_caller, waiting_since, waiting_caller, noted, with_caller, after_event}
-use Rattle.tty_terminal.specs.Runs.{Grows}
-use Rattle.tty_terminal.proofs.Effects.{outcome_keeps}
-use Rattle.tty_terminal.specs.Steps.{Allowed, after, quiet}
-use Rattle.tty_terminal.proofs.StepLaws.{begun_after}
-use Rattle.port_core.specs.Ports.{PlainKept, PortValue, IsPort, IsReady, call_in, kept_with, AllBegun, Attempts, done_by, must_wait, caller_entry}
-use Rattle.port_core.proofs.Entries.{entered, goes_on, begun_on, port_callers}
+use Rattle.tty_terminal.specs.declared.rooms.Met.TheVariants as met
+use Rattle.tty_terminal.specs.Terminals.{Terminal, caller_at, has_begun, is_bound, begun_of}
+use Rattle.tty_terminal.specs.Outcomes.{Outcome, unknown, waits, takes, gives}
+use Rattle.tty_terminal.specs.Meeting.{Meets, drops_of}
+use Rattle.tty_terminal.specs.Steps.{Answers, Drops, MustWait, TakesPart, left_by, with_dropped, Allowed, after, quiet}
+use Rattle.tty_terminal.specs.Standing.{Standing, standing_of, standing_after_own, standing_after_other}
+use Rattle.tty_terminal.specs.Runs.{Grows, is_flush, is_of_call, chars_in}
+use Rattle.tty_terminal.proofs.StepLaws.{sent_of, begun_after}
+use Rattle.tty_terminal.proofs.StandingLaws.{step_stands}
+use Rattle.port_core.specs.declared.entries.KeptCall.{KeptCall}
+use Rattle.port_core.specs.Kept.{kept_of, IsCopyOf, kept_after, places_after}
+use Rattle.port_core.specs.Flips.{shown_count}
+use Rattle.port_core.specs.Ports.{PlainKept, PortValue, IsPort, call_in, kept_with, with_call, with_entry, AllBegun, caller_entry}
+use Rattle.port_core.specs.Attempts.{IsReady}
+use Rattle.port_core.specs.Inside.{IsPlaceOf, ArePlaces, KeepsPlaces}
+use Rattle.port_core.proofs.GoingOn.{goes_on, begun_on}
+
+-- ---- the calls that are kept
 
 found_more : (b : Bool) (x y z : Option PlainCall) (call : PlainCall) → (y ≡ Some call → z ≡ Some call) → cond b x y ≡ Some call → cond b x z ≡ Some call
 found_more true x y z call more h = h
@@ -68,22 +77,38 @@ begun_append t [] k all one = (one, tt)
 begun_append t (x ∷ xs) k all one = (all.0, begun_append t xs k all.1 one)
 
 -- the call that is kept has begun
-pub begun_with : (b : Bool) (t : Terminal) (ks : List PlainKept) (c step : ℕ) (call : PlainCall) → AllBegun t ks → step < begun_of (caller_at t c) → AllBegun t (kept_with b ks c step call)
+begun_with : (b : Bool) (t : Terminal) (ks : List PlainKept) (c step : ℕ) (call : PlainCall) → AllBegun t ks → step < begun_of (caller_at t c) → AllBegun t (kept_with b ks c step call)
 begun_with true t ks c step call all one = all
 begun_with false t ks c step call all one = begun_append t ks (record { caller = c; step = step; call = call }) all one
 
+-- what the code keeps
+pub kept_is : (b : Bool) (ks : List KeptCall) (c step : ℕ) (call : PlainCall) (copy : Option Call) → IsCopyOf b call copy → map kept_of (kept_after ks c step copy) ≡ kept_with b (map kept_of ks) c step call
+kept_is true ks c step call None is = refl
+kept_is true ks c step call (Some copy) is = absurd is
+kept_is false ks c step call None is = absurd is
+kept_is false ks c step call (Some copy) is =
+    map-append kept_of ks (record { caller = c; step = step; call = copy } ∷ []) ∙ ap (λ (x : PlainCall). map kept_of ks ++ record { caller = c; step = step; call = x } ∷ []) is
+
+-- ---- outcomes and answers
+
 -- what the code answers is the answer of the outcome
-pub answers_met : (may : Bool) (o : Outcome) (given : Answer) → Meets o (Gives given) → Answers may o (answer_of given)
+pub answers_met : (may : Bool) (o : Outcome) (given : Answer) → Meets o (met.Gives given) → Answers may o (answer_of given)
 answers_met may unknown given h = h
 answers_met may waits given h = absurd h
 answers_met may (takes n left) given h = h
 answers_met may (gives a drops left) given h = h
 
-pub waits_met : (o : Outcome) → Meets o Waits → MustWait o
+pub waits_met : (o : Outcome) → Meets o met.Waits → MustWait o
 waits_met unknown h = h
 waits_met waits h = h
 waits_met (takes n left) h = h
 waits_met (gives a drops left) h = h
+
+pub parts_met : (o : Outcome) (n : ℕ) → Meets o (met.Takes n) → TakesPart o n
+parts_met unknown n h = h
+parts_met waits n h = h
+parts_met (takes taken left) n h = h
+parts_met (gives a drops left) n h = h
 
 pub idle_answers : (may : Bool) (o : Outcome) → MustWait o → may ≡ true → Answers may o idle
 idle_answers may unknown must quiet = must
@@ -98,207 +123,198 @@ left_waiting waits t must = refl
 left_waiting (takes n left) t must = absurd must
 left_waiting (gives a drops left) t must = absurd must
 
-either_drops : (t : Terminal) (b : Bool) (x y : Outcome) → Drops t x 0 → Drops t y 0 → Drops t (if b then x else y) 0
-either_drops t true x y p q = p
-either_drops t false x y p q = q
+pub waiting_drops : (t : Terminal) (o : Outcome) → MustWait o → Drops t o 0
+waiting_drops t unknown must = refl
+waiting_drops t waits must = refl
+waiting_drops t (takes n left) must = refl
+waiting_drops t (gives a drops left) must = absurd must
 
-reading_drops : (t : Terminal) (n : ℕ) (handle : Option Handle) → Drops t (reading_outcome t n handle) 0
-reading_drops t n None = refl
-reading_drops t n (Some handle) =
-    either_drops t (not (may_read handle.access)) _ _ refl (either_drops t (not handle.live) _ _ refl (either_drops t (length t.unread == 0) _ _ (either_drops t handle.nonblock _ _ refl refl) refl))
+pub waiting_keeps : (o : Outcome) → MustWait o → drops_of o ≡ false
+waiting_keeps unknown must = refl
+waiting_keeps waits must = refl
+waiting_keeps (takes n left) must = refl
+waiting_keeps (gives a drops left) must = absurd must
 
-closing_drops : (t : Terminal) (h : ℕ) (handle : Option Handle) → Drops t (closing_outcome t h handle) 0
-closing_drops t h None = refl
-closing_drops t h (Some handle) = either_drops t (handle.live && (live_count (freed t h) == 0)) _ _ refl refl
+pub none_dropped : (t : Terminal) (o : Outcome) → drops_of o ≡ false → Drops t o 0
+none_dropped t unknown keeps = refl
+none_dropped t waits keeps = refl
+none_dropped t (takes n left) keeps = refl
+none_dropped t (gives a false left) keeps = refl
+none_dropped t (gives a true left) keeps = absurd (false≢true (sym keeps))
 
-modes_drops : (t : Terminal) (handle : Option Handle) → Drops t (modes_outcome t handle) 0
-modes_drops t None = refl
-modes_drops t (Some handle) = either_drops t (not handle.live) _ _ refl refl
+drops_shown_at : (over : Bool) (tail taken sent capacity n : ℕ) → sent ≤ tail → tail ≤ taken + capacity → n ≡ (if over then min (tail - taken) (sent - taken) else tail - taken) → (sent - taken ≤ n) × (n ≤ capacity) × (over ≡ true → n ≡ sent - taken)
+drops_shown_at true tail taken sent capacity n least most is = (omega arith, omega arith, λ _. omega arith)
+drops_shown_at false tail taken sent capacity n least most is = (omega arith, omega arith, λ h. absurd (false≢true h))
 
--- no call of today drops characters
-pub never_drops : (t : Terminal) (s : CallerState) (call : PlainCall) → Drops t (outcome t s call) 0
-never_drops t s (opens h access nonblock) = either_drops t (is_some (handle_at t h)) _ _ refl (either_drops t t.exclusive _ _ refl refl)
-never_drops t s (closes h) = closing_drops t h (handle_at t h)
-never_drops t s (reads h n) = reading_drops t n (handle_for t s h)
-never_drops t s (sets_modes h when words) = modes_drops t (handle_for t s h)
+-- what one look shows is dropped
+pub some_dropped : (t : Terminal) (o : Outcome) (tail n : ℕ) → drops_of o ≡ true → t.sent ≤ tail → tail ≤ t.taken + t.capacity → n ≡ shown_count t tail → Drops t o n
+some_dropped t unknown tail n drops least most is = absurd (false≢true drops)
+some_dropped t waits tail n drops least most is = absurd (false≢true drops)
+some_dropped t (takes m left) tail n drops least most is = absurd (false≢true drops)
+some_dropped t (gives a false left) tail n drops least most is = absurd (false≢true drops)
+some_dropped t (gives a true left) tail n drops least most is = drops_shown_at t.line_over tail t.taken t.sent t.capacity n least most is
 
-none_dropped : (t : Terminal) → with_dropped t 0 ≡ t
-none_dropped t = ap (λ (n : ℕ). record t { taken = n }) (add-zero t.taken)
+pub with_none_dropped : (t : Terminal) → with_dropped t 0 ≡ t
+with_none_dropped t = ap (λ (n : ℕ). record t { taken = n }) (add-zero t.taken)
 
--- what an answer does, where the call is known
-pub answered_leaves : (f : ℕ → ℕ → Option PlainCall) (t u : Terminal) (c step part : ℕ) (a : PlainAnswer) (call : PlainCall) → f c step ≡ Some call → u ≡ left_by (outcome t (caller_at t c) call) t → after_event f t (Caller c) step part (answered a []) ≡ advanced u c
-answered_leaves f t u c step part a call known left =
-    ap (λ (o : Option PlainCall). advanced (with_dropped (left_by (outcome_of t (caller_at t c) o) t) 0) c) known
-    ∙ ap (λ (w : Terminal). advanced w c) (none_dropped (left_by (outcome t (caller_at t c) call) t) ∙ sym left)
+-- ---- where the caller stands
 
-pub waited_leaves : (f : ℕ → ℕ → Option PlainCall) (t : Terminal) (c step part : ℕ) (call : PlainCall) → f c step ≡ Some call → after_event f t (Caller c) step part waited ≡ with_caller t c (waiting_since t (caller_at t c) (handle_of call))
-waited_leaves f t c step part call known = ap (λ (o : Option PlainCall). with_caller t c (waiting_caller t (caller_at t c) o)) known
+-- a call has begun, or is answered
+abbrev BeginsOrEnds : Standing → Standing → Type 0
+BeginsOrEnds s u = (s.next < (if u.begun then u.next + 1 else u.next)) × (u.begun ≡ true → u.next ≡ s.next)
 
--- the caller's step has begun after its answer
-pub answered_begun : (t : Terminal) (c : ℕ) (call : PlainCall) (u : Terminal) → c < length t.callers → u ≡ left_by (outcome t (caller_at t c) call) t → (caller_at t c).next < begun_of (caller_at (advanced u c) c)
-answered_begun t c call u known left =
-    let keeps = (outcome_keeps t (caller_at t c) (Some call)).left in
-    let here : c < length u.callers = rw left (subst (λ n. c < n) (sym keeps.callers) known) in
-    let next : (caller_at u c).next ≡ (caller_at t c).next = rw left (keeps.caller c).next in
-    let is : caller_at (advanced u c) c ≡ answered_caller (caller_at u c) = get_or-set_same u.callers c (answered_caller (caller_at u c)) idle_caller here in
-    rw is (omega (arith, next))
+own_begins : (event : PlainEvent) (g : ℕ) (s : Standing) → is_of_call event ≡ true → BeginsOrEnds s (standing_after_own event g s)
+own_begins (answered a dropped) g s h = (omega arith, λ begun. absurd (false≢true begun))
+own_begins (parted n) g s h = (omega arith, λ begun. refl)
+own_begins waited g s h = (omega arith, λ begun. refl)
+own_begins (flushed chars) g s h = absurd (false≢true h)
+own_begins ticked g s h = absurd (false≢true h)
+own_begins (line_ended n) g s h = absurd (false≢true h)
+own_begins clock_ended g s h = absurd (false≢true h)
+own_begins caller_ended g s h = absurd (false≢true h)
+own_begins phase_ended g s h = absurd (false≢true h)
+own_begins (hung_up dropped) g s h = absurd (false≢true h)
 
-bound_begun : (t : Terminal) (b : Option Bound) (next h : ℕ) → next < cond (is_bound (noted t b h)) (next + 1) next
-bound_begun t None next h = omega arith
-bound_begun t (Some b) next h = omega arith
+other_call : (event : PlainEvent) (s : Standing) → is_of_call event ≡ true → standing_after_other event s ≡ s
+other_call (answered a dropped) s h = refl
+other_call (parted n) s h = refl
+other_call waited s h = refl
+other_call (flushed chars) s h = refl
+other_call ticked s h = refl
+other_call (line_ended n) s h = refl
+other_call clock_ended s h = refl
+other_call caller_ended s h = refl
+other_call phase_ended s h = absurd (false≢true h)
+other_call (hung_up dropped) s h = refl
 
-waits_begun : (t : Terminal) (s : CallerState) (h : ℕ) → s.next < begun_of (waiting_since t s h)
-waits_begun t s h = bound_begun t s.bound s.next h
+self_test : (c : ℕ) → (c == c) ≡ true
+self_test c = eq-eqb c c refl
 
--- and after its wait
-pub waited_begun : (t : Terminal) (c h : ℕ) → c < length t.callers → (caller_at t c).next < begun_of (caller_at (with_caller t c (waiting_since t (caller_at t c) h)) c)
-waited_begun t c h known =
-    let is : caller_at (with_caller t c (waiting_since t (caller_at t c) h)) c ≡ waiting_since t (caller_at t c) h = get_or-set_same t.callers c (waiting_since t (caller_at t c) h) idle_caller known in
-    rw is (waits_begun t (caller_at t c) h)
+not_self : (c d : ℕ) → (c ≡ d → ⊥) → (c == d) ≡ false
+not_self c d other = grind (arith, nat_tests)
 
--- an answer is no longer than the room that is made for it
-pub record FitsIn (o : Outcome) (n : ℕ) : Type 0 where
-  pub fits : (given : Answer) → Meets o (Gives given) → length (bytes_in (answer_of given)) ≤ n
+choose : {A : Type 0} (b : Bool) (x y : A) → b ≡ true → (if b then x else y) ≡ x
+choose true x y h = refl
+choose false x y h = absurd (false≢true h)
 
-either_fits : (b : Bool) (x y : Outcome) (n : ℕ) → FitsIn x n → FitsIn y n → FitsIn (if b then x else y) n
-either_fits true x y n p q = p
-either_fits false x y n p q = q
+choose_other : {A : Type 0} (b : Bool) (x y : A) → b ≡ false → (if b then x else y) ≡ y
+choose_other true x y h = absurd (false≢true (sym h))
+choose_other false x y h = refl
 
-gives_fits : (a : PlainAnswer) (drops : Bool) (left : Terminal) (n : ℕ) → length (bytes_in a) ≤ n → FitsIn (gives a drops left) n
-gives_fits a drops left n fits = record { fits = λ given h. subst (λ (b : PlainAnswer). length (bytes_in b) ≤ n) (sym h) fits }
+own_stands : (v : PortValue) (g : ℕ → ℕ → Option PlainCall) (c : ℕ) (event : PlainEvent) → Allowed g v.counts v.terminal (caller_entry v c event)
+    → standing_of (caller_at (after g v.terminal (caller_entry v c event)) c) ≡ standing_after_own event v.terminal.generation (standing_of (caller_at v.terminal c))
+own_stands v g c event allowed = step_stands g v.counts v.terminal (caller_entry v c event) allowed c ∙ choose (c == c) _ _ (self_test c)
 
-waits_fits : (n : ℕ) → FitsIn waits n
-waits_fits n = record { fits = λ given h. absurd h }
+other_stands : (v : PortValue) (g : ℕ → ℕ → Option PlainCall) (c : ℕ) (event : PlainEvent) → Allowed g v.counts v.terminal (caller_entry v c event) → is_of_call event ≡ true → (d : ℕ) → (c == d) ≡ false
+    → standing_of (caller_at (after g v.terminal (caller_entry v c event)) d) ≡ standing_of (caller_at v.terminal d)
+other_stands v g c event allowed of_call d other =
+    step_stands g v.counts v.terminal (caller_entry v c event) allowed d ∙ (choose_other (c == d) _ _ other ∙ other_call event (standing_of (caller_at v.terminal d)) of_call)
 
-reading_fits : (t : Terminal) (n : ℕ) (handle : Option Handle) → FitsIn (reading_outcome t n handle) (min (min n 4096) (length t.unread))
-reading_fits t n None = gives_fits _ _ _ _ (omega arith)
-reading_fits t n (Some handle) =
-    either_fits (not (may_read handle.access)) _ _ _ (gives_fits _ _ _ _ (omega arith))
-    (either_fits (not handle.live) _ _ _ (gives_fits _ _ _ _ (omega arith))
-    (either_fits (length t.unread == 0) _ _ _ (either_fits handle.nonblock _ _ _ (gives_fits _ _ _ _ (omega arith)) (waits_fits _))
-    (gives_fits _ _ _ _ (omega (arith, length-take (min n 4096) t.unread)))))
+-- a place stays one where calls are added behind
+place_stays : (t u : Terminal) (ks : List KeptCall) (more : List KeptCall) (d place : ℕ) → (caller_at u d).next ≡ (caller_at t d).next → IsPlaceOf t ks d place → ((call : PlainCall) → call_in (map kept_of ks) d (caller_at t d).next ≡ Some call → call_in (map kept_of (ks ++ more)) d (caller_at t d).next ≡ Some call) → IsPlaceOf u (ks ++ more) d place
+place_stays t u ks more d place next was found =
+    record {
+      kept = was.kept;
+      before = was.before;
+      later = was.later ++ more;
+      splits = ap (λ (xs : List KeptCall). xs ++ more) was.splits ∙ append_assoc was.before (was.kept ∷ was.later) more;
+      at_place = was.at_place;
+      found = ap (λ (n : ℕ). call_in (map kept_of (ks ++ more)) d n) next ∙ found (call_of was.kept.call) was.found;
+      number = was.number;
+    }
 
-closing_fits : (t : Terminal) (h : ℕ) (handle : Option Handle) → FitsIn (closing_outcome t h handle) 0
-closing_fits t h None = gives_fits _ _ _ _ (omega arith)
-closing_fits t h (Some handle) = either_fits (handle.live && (live_count (freed t h) == 0)) _ _ _ (gives_fits _ _ _ _ (omega arith)) (gives_fits _ _ _ _ (omega arith))
+place_moves : (t u : Terminal) (ks : List KeptCall) (d place : ℕ) → (caller_at u d).next ≡ (caller_at t d).next → IsPlaceOf t ks d place → IsPlaceOf u ks d place
+place_moves t u ks d place next was =
+    record { kept = was.kept; before = was.before; later = was.later; splits = was.splits; at_place = was.at_place; found = ap (λ (n : ℕ). call_in (map kept_of ks) d n) next ∙ was.found; number = was.number }
 
-modes_fits : (t : Terminal) (handle : Option Handle) → FitsIn (modes_outcome t handle) 0
-modes_fits t None = gives_fits _ _ _ _ (omega arith)
-modes_fits t (Some handle) = either_fits (not handle.live) _ _ _ (gives_fits _ _ _ _ (omega arith)) (gives_fits _ _ _ _ (omega arith))
+found_behind : (ks : List KeptCall) (k : KeptCall) (d n : ℕ) (call : PlainCall) → call_in (map kept_of ks) d n ≡ Some call → call_in (map kept_of (ks ++ k ∷ [])) d n ≡ Some call
+found_behind ks k d n call h = ap (λ (xs : List PlainKept). call_in xs d n) (map-append kept_of ks (k ∷ [])) ∙ call_in_more (map kept_of ks) (kept_of k) d n call h
 
-pub answer_fits : (t : Terminal) (s : CallerState) (call : PlainCall) → FitsIn (outcome t s call) (room_for t call)
-answer_fits t s (opens h access nonblock) = either_fits (is_some (handle_at t h)) _ _ _ (gives_fits _ _ _ _ (omega arith)) (either_fits t.exclusive _ _ _ (gives_fits _ _ _ _ (omega arith)) (gives_fits _ _ _ _ (omega arith)))
-answer_fits t s (closes h) = closing_fits t h (handle_at t h)
-answer_fits t s (reads h n) = reading_fits t n (handle_for t s h)
-answer_fits t s (sets_modes h when words) = modes_fits t (handle_for t s h)
+begun_before : (b : Bool) (call : PlainCall) → IsCopyOf b call None → b ≡ true
+begun_before true call is = refl
+begun_before false call is = absurd is
 
--- the callers after a call was made
-pub left_known : (t u : Terminal) (c d : ℕ) (call : PlainCall) → u ≡ left_by (outcome t (caller_at t c) call) t → d < length t.callers → d < length u.callers
-left_known t u c d call left known = rw left (subst (λ n. d < n) (sym (outcome_keeps t (caller_at t c) (Some call)).left.callers) known)
+copied : (b : Bool) (call : PlainCall) (copy : Call) → IsCopyOf b call (Some copy) → call_of copy ≡ call
+copied true call copy is = absurd is
+copied false call copy is = is
 
-pub left_next : (t u : Terminal) (c : ℕ) (call : PlainCall) → u ≡ left_by (outcome t (caller_at t c) call) t → (caller_at u c).next ≡ (caller_at t c).next
-left_next t u c call left = rw left ((outcome_keeps t (caller_at t c) (Some call)).left.caller c).next
+-- each caller's place after an entry of a call
+call_places : (t u : Terminal) (ks : List KeptCall) (places : List ℕ) (c step : ℕ) (call : PlainCall) (copy : Option Call) → c < length places → IsCopyOf (has_begun (caller_at t c)) call copy → step ≡ (caller_at t c).next
+    → call_in (map kept_of (kept_after ks c step copy)) c step ≡ Some call
+    → (has_begun (caller_at u c) ≡ true → (caller_at u c).next ≡ (caller_at t c).next)
+    → ((d : ℕ) → (c == d) ≡ false → ((caller_at u d).next ≡ (caller_at t d).next) × (has_begun (caller_at u d) ≡ has_begun (caller_at t d)))
+    → ArePlaces t ks places → handle_of call < 32 → ArePlaces u (kept_after ks c step copy) (places_after places ks c copy)
+call_places t u ks places c step call None known is at_step found own others are number = λ d begun.
+    elim (eqb_tells c d) [
+      | inl h ↦ subst (λ (x : ℕ). has_begun (caller_at u x) ≡ true → IsPlaceOf u ks x (get_or places x 0)) h.1
+          (λ now. place_moves t u ks c (get_or places c 0) (own now) (are c (begun_before (has_begun (caller_at t c)) call is))) begun
+      | inr h ↦ place_moves t u ks d (get_or places d 0) (others d h.0).0 (are d (sym (others d h.0).1 ∙ begun))
+    ]
+call_places t u ks places c step call (Some copy) known is at_step found own others are number = λ d begun.
+    let k : KeptCall = record { caller = c; step = step; call = copy } in
+    elim (eqb_tells c d) [
+      | inl h ↦ subst (λ (x : ℕ). has_begun (caller_at u x) ≡ true → IsPlaceOf u (ks ++ k ∷ []) x (get_or (set places c (length ks)) x 0)) h.1
+          (λ now. record {
+            kept = k;
+            before = ks;
+            later = [];
+            splits = refl;
+            at_place = get_or-set_same places c (length ks) 0 known;
+            found = ap (λ (n : ℕ). call_in (map kept_of (ks ++ k ∷ [])) c n) (own now ∙ sym at_step) ∙ (found ∙ ap (λ (x : PlainCall). Some x) (sym (copied (has_begun (caller_at t c)) call copy is)));
+            number = subst (λ (x : PlainCall). handle_of x < 32) (sym (copied (has_begun (caller_at t c)) call copy is)) number;
+          }) begun
+      | inr h ↦ subst (λ (place : ℕ). IsPlaceOf u (ks ++ k ∷ []) d place) (sym (get_or-set_other places c d (length ks) 0 (λ e. h.1 (sym e))))
+          (place_stays t u ks (k ∷ []) d (get_or places d 0) (others d h.0).0 (are d (sym (others d h.0).1 ∙ begun)) (λ other. found_behind ks k d (caller_at t d).next other))
+    ]
 
--- an entry of a call, as the code makes it
-abbrev pub call_entry : PortValue → ℕ → ℕ → PlainEvent → PlainEntry
-call_entry v c step event = record { who = Caller c; step = step; part = (caller_at v.terminal c).parts; generation = v.terminal.generation; event = event }
+some_waits : {A : Type 0} (o : Option A) → is_some o ≡ false → o ≡ None
+some_waits None h = refl
+some_waits (Some x) h = absurd (false≢true (sym h))
 
--- the port after it
-abbrev pub after_call : PortValue → ℕ → ℕ → PlainCall → PlainEvent → Terminal → PortValue
-after_call v c step call event u =
-    record v { terminal = u; journal = v.journal ++ call_entry v c step event ∷ []; kept = kept_with (has_begun (caller_at v.terminal c)) v.kept c step call }
+many_places : (places : List ℕ) (ks : List KeptCall) (c : ℕ) (copy : Option Call) → length (places_after places ks c copy) ≡ length places
+many_places places ks c None = refl
+many_places places ks c (Some copy) = length-set places c (length ks)
 
--- a call is answered
-pub answer_goes_on : (v now : PortValue) (c step : ℕ) (call : PlainCall) (a : PlainAnswer) (u : Terminal) → IsPort v → length v.journal < v.limit → IsReady v c step call
-    → Answers (is_some (caller_at v.terminal c).waits && quiet v.counts v.terminal) (outcome v.terminal (caller_at v.terminal c) call) a
-    → u ≡ left_by (outcome v.terminal (caller_at v.terminal c) call) v.terminal
-    → now ≡ after_call v c step call (answered a []) (advanced u c)
-    → IsPort now × Attempts v now c step call (done_by a)
-answer_goes_on v now c step call a u p few ready answers left is =
+-- an entry of a call keeps the port
+pub call_goes_on : (v now : PortValue) (ks : List KeptCall) (places : List ℕ) (c step : ℕ) (call : PlainCall) (copy : Option Call) (f : TakerState Flagged) (event : PlainEvent)
+    → KeepsPlaces v ks places → v.kept ≡ map kept_of ks → length v.journal < v.limit → IsReady v c step call → IsCopyOf (has_begun (caller_at v.terminal c)) call copy → is_of_call event ≡ true → is_flush event ≡ false
+    → Allowed (call_in (kept_with (has_begun (caller_at v.terminal c)) v.kept c step call)) v.counts v.terminal (caller_entry v c event)
+    → f.taken ≡ v.flip.taken ++ chars_in event → length (chars_in event) ≤ 65536 → f.capacity ≡ v.flip.capacity → sent_of event v.terminal.sent ≤ f.floor
+    → column_in (after (call_in (kept_with (has_begun (caller_at v.terminal c)) v.kept c step call)) v.terminal (caller_entry v c event)).disc ≤ column_in v.terminal.disc + 4096
+    → now ≡ record (with_entry (with_call v c step call) (caller_entry v c event)) { flip = f } → KeepsPlaces now (kept_after ks c step copy) (places_after places ks c copy)
+call_goes_on v now ks places c step call copy f event keeps kept few ready is of_call other allowed taken some capacity sent column now_is =
     let t = v.terminal in
-    let s = caller_at t c in
-    let ks = kept_with (has_begun s) v.kept c step call in
-    let f = call_in ks in
-    let e : PlainEntry = caller_entry v c (answered a []) in
-    let found : f c s.next ≡ Some call = subst (λ n. f c n ≡ Some call) ready.next (known_call v c step call p ready) in
-    let known : c < length t.callers = subst (λ n. c < n) (sym (port_callers v p)) ready.known in
-    let may = is_some s.waits && quiet v.counts t in
-    let allowed : Allowed f v.counts t e = (
-      refl,
-      record {
-        next = record { known = known; at_step = refl; at_part = refl; not_over = ready.not_over };
-        answer = subst (λ (o : Option PlainCall). Answers may (outcome_of t s o) a) (sym found) answers;
-        drops = subst (λ (o : Option PlainCall). Drops t (outcome_of t s o) 0) (sym found) (never_drops t s call);
-      },
-    ) in
-    let leaves : after f t e ≡ advanced u c = answered_leaves f t u c s.next s.parts a call found left in
-    let stands : entered v ks e ≡ now =
-    ap (λ (w : Terminal). record v { terminal = w; journal = v.journal ++ e ∷ []; kept = ks }) leaves
-    ∙ sym (is ∙ ap (λ (n : ℕ). record v { terminal = advanced u c; journal = v.journal ++ call_entry v c n (answered a []) ∷ []; kept = ks }) ready.next) in
-    let begun : step < begun_of (caller_at (after f t e) c) =
-    subst (λ n. n < begun_of (caller_at (after f t e) c)) (sym ready.next) (subst (λ (w : Terminal). s.next < begun_of (caller_at w c)) (sym leaves) (answered_begun t c call u known left)) in (
-      subst IsPort stands (goes_on v ks e p (record {
+    let p = keeps.port in
+    let b = has_begun (caller_at t c) in
+    let g = call_in (kept_with b v.kept c step call) in
+    let e : PlainEntry = caller_entry v c event in
+    let u : Terminal = after g t e in
+    let own = own_stands v g c event allowed in
+    let begins : BeginsOrEnds (standing_of (caller_at t c)) (standing_of (caller_at u c)) = subst (BeginsOrEnds (standing_of (caller_at t c))) (sym own) (own_begins event t.generation (standing_of (caller_at t c)) of_call) in
+    let begun : step < begun_of (caller_at u c) = subst (λ n. n < begun_of (caller_at u c)) (sym ready.next) begins.0 in
+    let found : call_in (map kept_of (kept_after ks c step copy)) c step ≡ Some call =
+    ap (λ (xs : List PlainKept). call_in xs c step) (kept_is b ks c step call copy is ∙ ap (λ (xs : List PlainKept). kept_with b xs c step call) (sym kept)) ∙ known_call v c step call p ready in
+    let known : c < length places = omega (arith, keeps.many, ready.known) in
+    let others : (d : ℕ) → (c == d) ≡ false → ((caller_at u d).next ≡ (caller_at t d).next) × (has_begun (caller_at u d) ≡ has_begun (caller_at t d)) =
+    λ d apart. (let same = other_stands v g c event allowed of_call d apart in (ap (λ (s : Standing). s.next) same, ap (λ (s : Standing). s.begun) same)) in
+    subst (λ (w : PortValue). KeepsPlaces w (kept_after ks c step copy) (places_after places ks c copy)) (sym now_is) (record {
+      port = goes_on v (kept_with b v.kept c step call) f e p (record {
         few = few;
-        grows = grows_kept (has_begun s) v.kept c step call;
+        grows = grows_kept b v.kept c step call;
         allowed = allowed;
-        begun = begun_with (has_begun s) (after f t e) v.kept c step call (begun_on t (after f t e) v.kept (begun_after f v.counts t e allowed) p.begun) begun;
-        chars = refl;
-        taken = omega (arith, p.taken);
-        sent = p.sent;
-        one = λ h part. absurd (cc);
-      })),
-      record { allowed = allowed; appended = sym stands },
-    )
-
-when_false : (b : Bool) (P Q : Type 0) → b ≡ false → Q → MatchBool b P Q
-when_false true P Q is q = absurd (cc)
-when_false false P Q is q = q
-
--- a call begins to wait
-pub wait_goes_on : (v now : PortValue) (c step : ℕ) (call : PlainCall) → IsPort v → length v.journal < v.limit → IsReady v c step call
-    → MustWait (outcome v.terminal (caller_at v.terminal c) call)
-    → (caller_at v.terminal c).waits ≡ None
-    → now ≡ after_call v c step call waited (with_caller v.terminal c (waiting_since v.terminal (caller_at v.terminal c) (handle_of call)))
-    → IsPort now × Attempts v now c step call must_wait
-wait_goes_on v now c step call p few ready must first is =
-    let t = v.terminal in
-    let s = caller_at t c in
-    let ks = kept_with (has_begun s) v.kept c step call in
-    let f = call_in ks in
-    let u = with_caller t c (waiting_since t s (handle_of call)) in
-    let e : PlainEntry = caller_entry v c waited in
-    let found : f c s.next ≡ Some call = subst (λ n. f c n ≡ Some call) ready.next (known_call v c step call p ready) in
-    let known : c < length t.callers = subst (λ n. c < n) (sym (port_callers v p)) ready.known in
-    let allowed : Allowed f v.counts t e = (
-      refl,
-      record {
-        next = record { known = known; at_step = refl; at_part = refl; not_over = ready.not_over };
-        first = first;
-        must = subst (λ (o : Option PlainCall). MustWait (outcome_of t s o)) (sym found) must;
-      },
-    ) in
-    let leaves : after f t e ≡ u = waited_leaves f t c s.next s.parts call found in
-    let stands : entered v ks e ≡ now =
-    ap (λ (w : Terminal). record v { terminal = w; journal = v.journal ++ e ∷ []; kept = ks }) leaves
-    ∙ sym (is ∙ ap (λ (n : ℕ). record v { terminal = u; journal = v.journal ++ call_entry v c n waited ∷ []; kept = ks }) ready.next) in
-    let begun : step < begun_of (caller_at (after f t e) c) =
-    subst (λ n. n < begun_of (caller_at (after f t e) c)) (sym ready.next) (subst (λ (w : Terminal). s.next < begun_of (caller_at w c)) (sym leaves) (waited_begun t c (handle_of call) known)) in (
-      subst IsPort stands (goes_on v ks e p (record {
-        few = few;
-        grows = grows_kept (has_begun s) v.kept c step call;
-        allowed = allowed;
-        begun = begun_with (has_begun s) (after f t e) v.kept c step call (begun_on t (after f t e) v.kept (begun_after f v.counts t e allowed) p.begun) begun;
-        chars = refl;
-        taken = omega (arith, p.taken);
-        sent = p.sent;
-        one = λ h part. absurd (cc);
-      })),
-      (must, when_false (is_some s.waits) _ _ (ap (λ (o : Option ℕ). is_some o) first) (record { allowed = allowed; appended = sym stands })),
-    )
-
--- a port whose parts are these
-pub made : (v : PortValue) (t u : Terminal) (js ls : List PlainEntry) (ks ms : List PlainKept) (starved : Bool) → t ≡ u → js ≡ ls → ks ≡ ms → starved ≡ v.starved → record v { terminal = t; journal = js; kept = ks; starved = starved } ≡ record v { terminal = u; journal = ls; kept = ms }
-made v t u js ls ks ms starved p q r s = cc
+        begun = begun_with b u v.kept c step call (begun_on t u v.kept (begun_after g v.counts t e allowed) p.begun) begun;
+        taken = taken;
+        capacity = capacity;
+        sent = sent;
+        column = omega (arith, column);
+        some = some;
+        piece = λ h. absurd (false≢true (sym other ∙ h));
+        generation = λ d h by parts waits. subst (λ (x : ℕ). 0 < (caller_at t x).parts → is_some (caller_at t x).waits ≡ false → (caller_at t x).generation ≡ t.generation) (eqb-true c d by)
+            (λ parted_here waits_not. ready.generation (some_waits (caller_at t c).waits waits_not) parted_here) parts waits;
+      });
+      many = many_places places ks c copy ∙ keeps.many;
+      places = call_places t u ks places c step call copy known is ready.next found begins.1 others keeps.places ready.number;
+    })
 
 some_bound : (b : Option Bound) → is_some b ≡ is_bound b
 some_bound None = refl
@@ -307,8 +323,3 @@ some_bound (Some b) = refl
 -- the test whether a call has begun, as the code makes it
 pub begun_is : (t : Terminal) (c : ℕ) (s : CallerState) (begun : Bool) → s ≡ caller_at t c → begun ≡ is_some s.bound → begun ≡ has_begun (caller_at t c)
 begun_is t c s begun same is = is ∙ some_bound s.bound ∙ ap (λ (x : CallerState). has_begun x) same
-
-pub both : (a b : Bool) → a ≡ true → b ≡ true → (a && b) ≡ true
-both true true p q = refl
-both true false p q = q
-both false b p q = p

@@ -1,106 +1,132 @@
--- Characters that are handed over one by one, and the entries that hand over or drop some.
-use Rattle.std.proofs.Common.{◌≡◌, ℕ, List, [], ◌∷◌, ◌++◌, Bool, true, false, not, ◌||◌, ◌==◌, if◌then◌else◌, IsTrue, ◌+◌, ◌-◌, ◌<◌, ◌≤◌, length, take, drop, refl, sym, ◌∙◌, ap, subst, arith, length-take, length-drop}
-use Rattle.std.proofs.Math.Seq.{take-length}
-use Rattle.std.proofs.lemmas.List.{take-take, length-take-le}
+-- Characters that are handed over one by one, and pieces of flush runs.
+use Rattle.std.proofs.Common.{◌≡◌, ℕ, List, [], ◌∷◌, ◌++◌, Bool, true, false, not, ◌||◌, ◌==◌, IsTrue, if◌then◌else◌, ◌+◌, ◌-◌, ◌*◌, ◌^◌, ◌<◌, ◌≤◌, ◌⊎◌, inl, inr, ⊎_elim, MatchBool, min, length, refl, sym, ◌∙◌, ap, subst, arith}
+use Rattle.std.proofs.lemmas.Bool.{cases_lt, false≢true}
 use Rattle.std.proofs.lemmas.Bool.Decides.{nat_tests}
+use mathlib.Core.List.{IsPrefix}
 use Rattle.tty_base.specs.declared.characters.Flagged.{Flagged}
-use Rattle.tty_calls.specs.declared.journals.Who.TheVariants.{Session}
-use Rattle.tty_calls.specs.Plain.{PlainEntry, hung_up}
+use Rattle.word_ring.specs.Ends.{TakerState, with_shown}
+use Rattle.word_ring.proofs.Beginnings.{begins_through}
+use Rattle.flip_buffer.specs.Drops.{LooksAt}
+use Rattle.tty_calls.specs.Plain.{PlainEntry}
+use Rattle.ldisc_switch.specs.Disciplines.{column_in}
 use Rattle.tty_terminal.specs.Terminals.{Terminal, live_count}
-use Rattle.tty_terminal.specs.Receiving.{accepts, received, received_all, AcceptsAll}
-use Rattle.tty_terminal.specs.Steps.{Allowed, after}
-use Rattle.tty_terminal.proofs.StepLaws.{begun_after}
-use Rattle.port_core.specs.Ports.{PortValue, IsPort, IsPieceOf, shown, is_stuck, call_in, flush_entry, hangup_entry, with_entry}
-use Rattle.port_core.proofs.Entries.{goes_on, begun_on}
+use Rattle.tty_terminal.specs.Receiving.{accepts, after_character, after_characters, AcceptsAll}
+use Rattle.tty_terminal.specs.Steps.{Allowed}
+use Rattle.port_core.specs.declared.entries.KeptCall.{KeptCall}
+use Rattle.port_core.specs.Flips.{TakesOut, shown_count}
+use Rattle.port_core.specs.Flushes.{IsPieceOf, Takes, TakesNone}
+use Rattle.port_core.specs.Ports.{PortValue, IsPort, is_stuck, call_in, flush_entry, with_entry}
+use Rattle.port_core.specs.Inside.{KeepsPlaces}
+use Rattle.port_core.proofs.GoingOn.{plainly, port_taken, port_in_line}
+use Rattle.port_core.proofs.Taking.{looks_first}
 
-pub received_more : (t : Terminal) (xs : List Flagged) (c : Flagged) → received_all t (xs ++ c ∷ []) ≡ received (received_all t xs) c
+pub received_more : (t : Terminal) (xs : List Flagged) (c : Flagged) → after_characters t (xs ++ c ∷ []) ≡ after_character (after_characters t xs) c
 received_more t [] c = refl
-received_more t (x ∷ xs) c = received_more (received t x) xs c
+received_more t (x ∷ xs) c = received_more (after_character t x) xs c
 
-pub accepts_more : (t : Terminal) (xs : List Flagged) (c : Flagged) → AcceptsAll t xs → IsTrue (accepts (received_all t xs)) → AcceptsAll t (xs ++ c ∷ [])
+pub accepts_more : (t : Terminal) (xs : List Flagged) (c : Flagged) → AcceptsAll t xs → IsTrue (accepts (after_characters t xs)) → AcceptsAll t (xs ++ c ∷ [])
 accepts_more t [] c all more = (more, tt)
-accepts_more t (x ∷ xs) c all more = (all.0, accepts_more (received t x) xs c all.1 more)
+accepts_more t (x ∷ xs) c all more = (all.0, accepts_more (after_character t x) xs c all.1 more)
 
 or_false : (a b : Bool) → (a || b) ≡ false → (a ≡ false) × (b ≡ false)
-or_false true b h = absurd (cc)
+or_false true b h = absurd (false≢true (sym h))
 or_false false b h = (refl, h)
 
 not_false : (b : Bool) → not b ≡ false → b ≡ true
 not_false true h = refl
-not_false false h = absurd (cc)
+not_false false h = absurd (false≢true (sym h))
 
 above_zero : (n : ℕ) → (n == 0) ≡ false → 0 < n
 above_zero n h = grind (arith, nat_tests)
 
-shown_less : (over : Bool) (k : ℕ) (xs : List Flagged) → length (if over then take k xs else xs) ≤ length xs
-shown_less true k xs = omega (arith, length-take k xs)
-shown_less false k xs = omega arith
+same_number : (m n : ℕ) → m ≡ n → (m == n) ≡ true
+same_number m n h = grind (arith, nat_tests)
 
-shown_sent : (over : Bool) (k n : ℕ) (xs : List Flagged) → n ≤ length (if over then take k xs else xs) → IsTrue over → n ≤ k
-shown_sent true k n xs h over = omega (arith, h, length-take k xs)
-shown_sent false k n xs h over = absurd (cc)
+or_first : (a b : Bool) → a ≡ true → (a || b) ≡ true
+or_first true b h = refl
+or_first false b h = absurd (false≢true h)
+
+pub when_false : (b : Bool) (P Q : Type 0) → b ≡ false → Q → MatchBool b P Q
+when_false true P Q is q = absurd (false≢true (sym is))
+when_false false P Q is q = q
 
 -- at least one character is taken where one is there and accepted
-some_taken : (t u : Terminal) (cs : List Flagged) (n : ℕ) → u ≡ received_all t cs → accepts t ≡ true → 0 < n → (length cs < n → accepts u ≡ false) → 0 < length cs
-some_taken t u [] n is accepted some stops = absurd (let one : accepts u ≡ true = ap (λ (w : Terminal). accepts w) is ∙ accepted in let other : accepts u ≡ false = stops some in cc)
+some_taken : (t u : Terminal) (cs : List Flagged) (n : ℕ) → u ≡ after_characters t cs → accepts t ≡ true → 0 < n → (length cs < n → accepts u ≡ false) → 0 < length cs
+some_taken t u [] n is accepted some stops = absurd (false≢true (sym (stops some) ∙ (ap (λ (w : Terminal). accepts w) is ∙ accepted)))
 some_taken t u (x ∷ xs) n is accepted some stops = omega arith
 
+-- a look that shows none counts no more than was taken
+shown_none : (over : Bool) (tail taken sent : ℕ) → sent ≤ tail → (if over then min (tail - taken) (sent - taken) else tail - taken) ≡ 0 → sent ≤ taken
+shown_none true tail taken sent least none = omega arith
+shown_none false tail taken sent least none = omega arith
+
+-- once the line is over a look shows no more than was sent
+shown_sent : (over : Bool) (tail taken sent n : ℕ) → n ≤ (if over then min (tail - taken) (sent - taken) else tail - taken) → IsTrue over → n ≤ sent - taken
+shown_sent true tail taken sent n most h = omega arith
+shown_sent false tail taken sent n most h = absurd (false≢true h)
+
+-- nothing is shown
+pub takes_none : (v now : PortValue) (f : TakerState Flagged) → IsPort v → is_stuck v.terminal ≡ false → f ≡ with_shown v.flip f.floor → LooksAt v.flip f f.floor → shown_count v.terminal f.floor ≡ 0 → now ≡ record v { flip = f } → TakesNone v now
+takes_none v now f p free same looks none now_is =
+    let least : v.terminal.sent ≤ f.floor = omega (arith, p.sent, looks.rises) in
+    let all : v.terminal.sent ≤ v.terminal.taken = shown_none v.terminal.line_over f.floor v.terminal.taken v.terminal.sent least none in
+    subst (λ (w : PortValue). TakesNone v w) (sym now_is) (record {
+      cause = when_false (is_stuck v.terminal) _ _ free (record { looked = ap (λ (x : TakerState Flagged). record v { flip = x }) same; looks = looks; none = none });
+      caught_up = λ _. all;
+      idle = λ over. or_first (v.terminal.taken == v.terminal.sent) _ (same_number v.terminal.taken v.terminal.sent (omega (arith, all, port_in_line v p over, port_taken v p)));
+    })
+
+-- a piece stopped where the look shows no more, or where the discipline does not accept
+why_stopped : (n count shown most : ℕ) (P : Type 0) → n ≤ count → count ≡ min shown most → (n < count → P) → n < most → (n ≡ shown) ⊎ P
+why_stopped n count shown most P within is stops less =
+    ⊎_elim (λ early. inr (stops early)) (λ late. inl (omega (arith, within, is, less, late))) (cases_lt n count)
+
 -- a piece of a flush run is handed over
-pub piece_goes_on : (v now : PortValue) (run part count : ℕ) (ready cs : List Flagged) (u : Terminal) → IsPort v → length v.journal < v.limit → IsPieceOf v run part count
-    → count ≤ length (shown v) → is_stuck v ≡ false → ready ≡ take count (drop v.terminal.taken v.given)
-    → cs ≡ take (length cs) ready → length cs ≤ length ready → u ≡ received_all v.terminal cs → AcceptsAll v.terminal cs → (length cs < length ready → accepts u ≡ false)
-    → with_entry v (flush_entry v run part cs) ≡ now → IsPort now
-piece_goes_on v now run part count ready cs u p few piece within free ready_is front less is accepted stops now_is =
+pub takes_piece : (v now : PortValue) (ks : List KeptCall) (places : List ℕ) (run part most count shown : ℕ) (f g : TakerState Flagged) (chars : List Flagged) (u : Terminal) → KeepsPlaces v ks places → length v.journal < v.limit → IsPieceOf v run part most → is_stuck v.terminal ≡ false
+    → f ≡ with_shown v.flip f.floor → LooksAt v.flip f f.floor → shown ≡ shown_count v.terminal f.floor → count ≡ min shown most → 0 < count
+    → TakesOut f g chars → length chars ≤ count → u ≡ after_characters v.terminal chars → AcceptsAll v.terminal chars → (length chars < count → accepts u ≡ false) → column_in u.disc ≤ column_in v.terminal.disc + 2 ^ 22 * count
+    → now ≡ record (with_entry v (flush_entry v run part chars)) { flip = g } → KeepsPlaces now ks places × Takes v now run part most (length chars)
+takes_piece v now ks places run part most count shown f g chars u keeps few piece free same looks shown_is count_is some takes within is accepted stops column now_is =
     let t = v.terminal in
-    let rest = drop t.taken v.given in
-    let loose = or_false (live_count t == 0) _ free in
-    let open_and_there = or_false (not (accepts t)) _ loose.1 in
+    let p = keeps.port in
+    let loose = or_false (live_count t == 0) (not (accepts t)) free in
     let live : 0 < live_count t = above_zero (live_count t) loose.0 in
-    let willing : accepts t ≡ true = not_false (accepts t) open_and_there.0 in
-    let there : count ≤ length rest = omega (arith, within, shown_less t.line_over (t.sent - t.taken) rest) in
-    let count_is : length ready ≡ count = ap (λ (xs : List Flagged). length xs) ready_is ∙ length-take-le count rest there in
-    let some : 0 < length cs = some_taken t u cs (length ready) is willing (omega (arith, piece.some, count_is)) stops in
-    let n = length cs in
-    let small : n ≤ count = omega (arith, less, count_is) in
-    let e : PlainEntry = flush_entry v run part cs in
-    let sent : IsTrue t.line_over → t.taken + n ≤ t.sent = λ over.
-    omega (arith, shown_sent t.line_over (t.sent - t.taken) n rest (omega (arith, within, small)) over, some) in
+    let willing : accepts t ≡ true = not_false (accepts t) loose.1 in
+    let n = length chars in
+    let several : 0 < n = some_taken t u chars count is willing some stops in
+    let small : n ≤ 64 = omega (arith, piece.few) in
+    let shows : n ≤ shown_count t f.floor = omega (arith, shown_is) in
+    let e : PlainEntry = flush_entry v run part chars in
+    let sent : IsTrue t.line_over → t.taken + n ≤ t.sent = λ over. omega (arith, shown_sent t.line_over f.floor t.taken t.sent n shows over, several) in
     let allowed : Allowed (call_in v.kept) v.counts t e =
-    (refl, (refl, record { live = live; some = some; few = omega (arith, small, piece.few); accepted = accepted; numbered = piece.numbered; sent = sent })) in
-    subst IsPort now_is (goes_on v v.kept e p (record {
-      few = few;
-      grows = λ c s call h. h;
-      allowed = allowed;
-      begun = begun_on t (after (call_in v.kept) t e) v.kept (begun_after (call_in v.kept) v.counts t e allowed) p.begun;
-      chars = front ∙ ap (λ (xs : List Flagged). take n xs) ready_is ∙ take-take n count rest small;
-      taken = omega (arith, there, small, length-drop t.taken v.given, p.taken);
-      sent = p.sent;
-      one = λ h. piece.one;
-    }))
-
--- the session hangs up
-pub hangup_goes_on : (v now : PortValue) → IsPort v → length v.journal < v.limit → v.terminal.phase ≡ length v.counts → v.terminal.sent ≡ length v.given → with_entry v (hangup_entry v) ≡ now → IsPort now
-hangup_goes_on v now p few at_end sent now_is =
-    let t = v.terminal in
-    let rest = drop t.taken v.given in
-    let e : PlainEntry = hangup_entry v in
-    let size : length rest ≡ length v.given - t.taken = length-drop t.taken v.given in
-    let allowed : Allowed (call_in v.kept) v.counts t e =
-    (refl, (refl, record { after = omega (arith, at_end); at_step = refl; at_part = refl; all = size ∙ ap (λ n. n - t.taken) (sym sent) })) in
-    subst IsPort now_is (goes_on v v.kept e p (record {
-      few = few;
-      grows = λ c s call h. h;
-      allowed = allowed;
-      begun = begun_on t (after (call_in v.kept) t e) v.kept (begun_after (call_in v.kept) v.counts t e allowed) p.begun;
-      chars = sym (take-length rest);
-      taken = omega (arith, size, p.taken);
-      sent = p.sent;
-      one = λ h part. absurd (cc);
-    }))
-
--- the hangup's entry, as the code makes it
-pub made_hangup : (v : PortValue) (step generation : ℕ) (dropped : List Flagged) → step ≡ length v.counts → generation ≡ v.terminal.generation → dropped ≡ drop v.terminal.taken v.given → record { who = Session; step = step; part = 0; generation = generation; event = hung_up dropped } ≡ hangup_entry v
-made_hangup v step generation dropped p q r =
-    ap (λ (n : ℕ). record { who = Session; step = n; part = 0; generation = generation; event = hung_up dropped }) p
-    ∙ ap (λ (n : ℕ). record { who = Session; step = length v.counts; part = 0; generation = n; event = hung_up dropped }) q
-    ∙ ap (λ (cs : List Flagged). record { who = Session; step = length v.counts; part = 0; generation = v.terminal.generation; event = hung_up cs }) r
+    (refl, (refl, record { live = live; some = several; few = small; accepted = accepted; numbered = piece.numbered; sent = sent })) in
+    let rises = looks.rises in
+    let out : TakesOut v.flip g chars = looks_first v.flip f g chars same rises takes in
+    let higher = takes.floor in
+    let least = p.sent in
+    let received : column_in (after_characters t chars).disc ≡ column_in u.disc = ap (λ (w : Terminal). column_in w.disc) (sym is) in
+    let tails : IsPrefix f.tails g.tails = takes.tails in
+    let least_taken = looks.least in
+    let most_taken = looks.most in (
+      plainly v now ks places g e keeps few allowed out.taken (omega arith) out.capacity (omega arith) refl (λ h. piece.one) (omega (arith, piece.few)) now_is,
+      subst (λ (w : PortValue). Takes v w run part most n) (sym now_is) (record {
+        chars = chars;
+        count = refl;
+        appends = record { allowed = allowed; appended = refl };
+        takes_out = out;
+        tail = f.floor;
+        looks = record {
+          looked = begins_through (v.flip.tails ++ f.floor ∷ []) f.tails g.tails looks.looked tails;
+          rises = rises;
+          floor = higher;
+          least = least_taken;
+          most = most_taken;
+          ended = looks.ended;
+        };
+        some = several;
+        few = omega arith;
+        within = shows;
+        stops = λ less. subst (λ (k : ℕ). (n ≡ k) ⊎ (accepts (after_characters t chars) ≡ false)) shown_is
+            (why_stopped n count shown most (accepts (after_characters t chars) ≡ false) within count_is (λ early. ap (λ (w : Terminal). accepts w) (sym is) ∙ stops early) less);
+      }),
+    )

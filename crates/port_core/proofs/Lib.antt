@@ -1,4 +1,8 @@
+pub mod Answering
 pub mod Calls
-pub mod Entries
+pub mod Ending
+pub mod Fitting
+pub mod GoingOn
 pub mod Handing
-pub mod Standing
+pub mod Raising
+pub mod Taking

@@ -1,5 +1,7 @@
+pub mod Attempts
+pub mod Flips
+pub mod Flushes
 pub mod Inside
 pub mod Kept
-pub mod Own
+pub mod Phases
 pub mod Ports
-pub mod Tries

@@ -1,11 +1,12 @@
-//! A port of one thread: the terminal, the journal of what happened to it, and the characters that
-//! its line handed over. Each entry of the journal is a step of the terminal, and the journal is
-//! always a run that leads to it.
+//! A port of one thread: the terminal, the journal of what happened to it, the calls that it was
+//! asked, and the end of its flip buffer at which characters are taken out. Each entry of the journal
+//! is a step of the terminal, and the journal is always a run that leads to it.
 #![tactic(auto)]
 
+mod entries;
+mod flips;
 mod ports;
 
-pub use ports::{Flushed, Port, Tried};
-
-#[cfg(test)]
-mod tests;
+pub use ports::Port;
+pub use ports::attempting::Tried;
+pub use ports::flushing::Flushed;

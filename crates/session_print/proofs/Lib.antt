@@ -1,5 +1,6 @@
 mod Answering
-mod Casting
-mod Joined
+mod ModeTexts
+mod Naming
 mod Numbering
-mod Putting
+mod Pieces
+mod Telling

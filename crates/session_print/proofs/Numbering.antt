@@ -1,17 +1,15 @@
 -- The callers' numbers and steps: those that the printer counts are those of the session.
-use Rattle.std.proofs.Common.{◌≡◌, ℕ, Bool, true, false, ◌||◌, List, [], ◌∷◌, ◌++◌, Option, None, Some, ◌+◌, length, map, fold, refl, sym, ap, ◌∙◌, cond, arith, zero-add, add-zero, append_assoc, append-nil, length-append}
+use Rattle.std.proofs.Common.{◌≡◌, ◌≢◌, ℕ, Bool, true, false, List, [], ◌∷◌, ◌++◌, Option, None, Some, ◌+◌, ◌<◌, length, flat_map, get_or, set, replicate, refl, sym, ap, ◌∙◌, cond, arith, add-zero, append-nil, length-append, length-set}
 use Rattle.std.specs.Str.{bytes_eq}
-use Rattle.std.specs.List.{list_any, position_from}
 use Rattle.std.proofs.lemmas.Bool.{false≢true}
-use Rattle.std.proofs.lemmas.Bool.Decides.{same_from_decides}
 use Rattle.std.proofs.lemmas.Slice.Eq.{bytes_eq-Decides}
-use Rattle.std.proofs.lemmas.List.Sums.{fold-append}
 use Rattle.std.proofs.lemmas.Grind.{flat_map-append}
-use Rattle.std.proofs.lemmas.Iterator.Adapters.{position_from-zero}
+use Rattle.std.proofs.lemmas.List.{get_or-replicate, length-replicate, get_or-set_same, get_or-set_other}
+use Rattle.std.proofs.lemmas.List.Quantifiers.{position-Some}
 use Rattle.tty_calls.specs.Plain.{PlainCall, PlainAnswer}
-use Rattle.tty_calls.specs.Sessions.{PlainScript, with_name, names_of, number_in, calls_under}
-use Rattle.session_print.specs.Report.{calls_text, answered_line, scripts_text}
-use Rattle.session_print.specs.Printing.{Known, place_of, next_of, gone_on, after_script, printed}
+use Rattle.tty_calls.specs.Sessions.{PlainScript, PlainSession, scripts_over, names_of, number_in, calls_under}
+use Rattle.session_print.specs.Report.{Told, told_from, told_in, told_on, told_line, answer_to, answered_line}
+use Rattle.session_print.specs.Printing.{told_script, steps_then, told_scripts}
 
 is_same : (a b : List ℕ) → bytes_eq a b ≡ true → a ≡ b
 is_same a b e = (bytes_eq-Decides a b).0 e
@@ -19,30 +17,12 @@ is_same a b e = (bytes_eq-Decides a b).0 e
 same_is : (a b : List ℕ) → a ≡ b → bytes_eq a b ≡ true
 same_is a b e = (bytes_eq-Decides a b).1 e
 
-eq_sym : (a b : List ℕ) → bytes_eq a b ≡ bytes_eq b a
-eq_sym a b = same_from_decides (bytes_eq a b) (bytes_eq b a) (bytes_eq-Decides a b) (λ e. sym (is_same b a e), λ e. same_is b a (sym e))
+-- a number is the place of its name
+pub place_within : (names : List (List ℕ)) (name : List ℕ) (c : ℕ) → number_in names name ≡ Some c → c < length names
+place_within names name c e = (position-Some (bytes_eq name) names c [] e).0
 
-abbrev more_steps : Known → ℕ → Known
-more_steps k n = record { name = k.name; next = k.next + n }
-
-next_either : (k : Known) (ks : List Known) (m : List ℕ) (n : ℕ) (q : List ℕ) (b1 b2 b3 : Bool) → bytes_eq k.name m ≡ b1 → bytes_eq k.name q ≡ b2 → bytes_eq m q ≡ b3
-    → next_of (gone_on ks m n) q ≡ next_of ks q + cond b3 n 0
-    → next_of (cond b1 (more_steps k n ∷ ks) (k ∷ gone_on ks m n)) q ≡ cond b2 k.next (next_of ks q) + cond b3 n 0
-next_either k ks m n q true true true e1 e2 e3 h = ap (λ b. cond b (k.next + n) (next_of ks q)) e2
-next_either k ks m n q true true false e1 e2 e3 h =
-    absurd (false≢true (sym e3 ∙ same_is m q (sym (is_same k.name m e1) ∙ is_same k.name q e2)))
-next_either k ks m n q true false true e1 e2 e3 h =
-    absurd (false≢true (sym e2 ∙ same_is k.name q (is_same k.name m e1 ∙ is_same m q e3)))
-next_either k ks m n q true false false e1 e2 e3 h = ap (λ b. cond b (k.next + n) (next_of ks q)) e2 ∙ sym (add-zero (next_of ks q))
-next_either k ks m n q false true true e1 e2 e3 h =
-    absurd (false≢true (sym e1 ∙ same_is k.name m (is_same k.name q e2 ∙ sym (is_same m q e3))))
-next_either k ks m n q false true false e1 e2 e3 h = ap (λ b. cond b k.next (next_of (gone_on ks m n) q)) e2 ∙ sym (add-zero k.next)
-next_either k ks m n q false false b3 e1 e2 e3 h = ap (λ b. cond b k.next (next_of (gone_on ks m n) q)) e2 ∙ h
-
--- the next step of each name, after a caller has gone on
-next_gone : (ks : List Known) (m : List ℕ) (n : ℕ) (q : List ℕ) → next_of (gone_on ks m n) q ≡ next_of ks q + cond (bytes_eq m q) n 0
-next_gone [] m n q = sym (zero-add (cond (bytes_eq m q) n 0))
-next_gone (k ∷ ks) m n q = next_either k ks m n q (bytes_eq k.name m) (bytes_eq k.name q) (bytes_eq m q) refl refl refl (next_gone ks m n q)
+pub name_at_place : (names : List (List ℕ)) (name : List ℕ) (c : ℕ) → number_in names name ≡ Some c → name ≡ get_or names c []
+name_at_place names name c e = is_same name (get_or names c []) (position-Some (bytes_eq name) names c [] e).1
 
 length_either : (b : Bool) (calls : List PlainCall) → length (cond b calls []) ≡ cond b (length calls) 0
 length_either true calls = refl
@@ -56,129 +36,108 @@ calls_more name before s =
     ∙ length-append (calls_under name before) (own ++ [])
     ∙ ap (λ n. length (calls_under name before) + n) (ap (λ cs. length cs) (append-nil own) ∙ length_either (bytes_eq s.name name) s.calls)
 
-abbrev names_in : List Known → List (List ℕ)
-names_in ks = map (λ k. k.name) ks
+calls_same : (name : List ℕ) (before : List PlainScript) (s : PlainScript) → bytes_eq s.name name ≡ true → length (calls_under name (before ++ s ∷ [])) ≡ length (calls_under name before) + length s.calls
+calls_same name before s e =
+    calls_more name before s ∙ ap (λ b. length (calls_under name before) + cond b (length s.calls) 0) e
 
--- the names with one that may be new
-abbrev added : List (List ℕ) → List ℕ → List (List ℕ)
-added [] name = name ∷ []
-added (n ∷ ns) name = cond (bytes_eq name n) (n ∷ ns) (n ∷ added ns name)
+calls_other : (name : List ℕ) (before : List PlainScript) (s : PlainScript) → bytes_eq s.name name ≡ false → length (calls_under name (before ++ s ∷ [])) ≡ length (calls_under name before)
+calls_other name before s e =
+    calls_more name before s
+    ∙ ap (λ b. length (calls_under name before) + cond b (length s.calls) 0) e
+    ∙ add-zero (length (calls_under name before))
 
-added_either : (b c : Bool) (n : List ℕ) (ns : List (List ℕ)) (name : List ℕ) → cond c ns (ns ++ name ∷ []) ≡ added ns name
-    → cond (b || c) (n ∷ ns) (n ∷ (ns ++ name ∷ [])) ≡ cond b (n ∷ ns) (n ∷ added ns name)
-added_either true c n ns name h = refl
-added_either false true n ns name h = ap (λ xs. n ∷ xs) h
-added_either false false n ns name h = ap (λ xs. n ∷ xs) h
+-- each caller's next step, after some scripts
+record Stands (names : List (List ℕ)) (before : List PlainScript) (steps : List ℕ) : Type 0 where
+  each : length steps ≡ length names
+  next : (name : List ℕ) (c : ℕ) → number_in names name ≡ Some c → get_or steps c 0 ≡ length (calls_under name before)
 
-with_name_is : (ns : List (List ℕ)) (name : List ℕ) → with_name ns name ≡ added ns name
-with_name_is [] name = refl
-with_name_is (n ∷ ns) name = added_either (bytes_eq name n) (list_any (bytes_eq name) ns) n ns name (with_name_is ns name)
-
-names_either : (b : Bool) (k : Known) (ks : List Known) (m : List ℕ) (n : ℕ) → names_in (gone_on ks m n) ≡ added (names_in ks) m
-    → names_in (cond b (more_steps k n ∷ ks) (k ∷ gone_on ks m n)) ≡ cond b (k.name ∷ names_in ks) (k.name ∷ added (names_in ks) m)
-names_either true k ks m n h = refl
-names_either false k ks m n h = ap (λ xs. k.name ∷ xs) h
-
-names_gone : (ks : List Known) (m : List ℕ) (n : ℕ) → names_in (gone_on ks m n) ≡ added (names_in ks) m
-names_gone [] m n = refl
-names_gone (k ∷ ks) m n =
-    names_either (bytes_eq k.name m) k ks m n (names_gone ks m n)
-    ∙ ap (λ b. cond b (k.name ∷ names_in ks) (k.name ∷ added (names_in ks) m)) (eq_sym k.name m)
-
--- the place of a name among the names that have it
-place_either : (b : Bool) (i : ℕ) (k : Known) (ks : List Known) (name : List ℕ) → bytes_eq name k.name ≡ b
-    → position_from (bytes_eq name) (i + 1) (added (names_in ks) name) ≡ Some (i + 1 + place_of ks name)
-    → position_from (bytes_eq name) i (cond b (k.name ∷ names_in ks) (k.name ∷ added (names_in ks) name)) ≡ Some (i + cond b 0 (place_of ks name + 1))
-place_either true i k ks name e h =
-    ap (λ t. cond t (Some i) (position_from (bytes_eq name) (i + 1) (names_in ks))) e ∙ ap (λ n. Some n) (sym (add-zero i))
-place_either false i k ks name e h =
-    ap (λ t. cond t (Some i) (position_from (bytes_eq name) (i + 1) (added (names_in ks) name))) e ∙ h ∙ ap (λ n. Some n) (omega arith)
-
-place_added : (i : ℕ) (ks : List Known) (name : List ℕ) → position_from (bytes_eq name) i (added (names_in ks) name) ≡ Some (i + place_of ks name)
-place_added i [] name = ap (λ t. cond t (Some i) None) (same_is name name refl) ∙ ap (λ n. Some n) (sym (add-zero i))
-place_added i (k ∷ ks) name =
-    place_either (bytes_eq name k.name) i k ks name refl (place_added (i + 1) ks name)
-    ∙ ap (λ b. Some (i + cond b 0 (place_of ks name + 1))) (eq_sym name k.name)
-
-found_either : (b : Bool) (i k : ℕ) (rest more : Option ℕ) → (rest ≡ Some k → more ≡ Some k) → cond b (Some i) rest ≡ Some k → cond b (Some i) more ≡ Some k
-found_either true i k rest more h e = e
-found_either false i k rest more h e = h e
-
--- more names after those change no place
-found_on : (p : List ℕ → Bool) (i k : ℕ) (ns more : List (List ℕ)) → position_from p i ns ≡ Some k → position_from p i (ns ++ more) ≡ Some k
-found_on p i k [] more e = absurd (none_some e)
-  where
-    none_some : None ≡ Some k → ⊥
-    none_some e = cc
-found_on p i k (n ∷ ns) more e = found_either (p n) i k (position_from p (i + 1) ns) (position_from p (i + 1) (ns ++ more)) (found_on p (i + 1) k ns more) e
-
-added_on : (ns : List (List ℕ)) (name : List ℕ) → (more : List (List ℕ)) × (added ns name ≡ ns ++ more)
-added_on [] name = (name ∷ [], refl)
-added_on (n ∷ ns) name = on_either (bytes_eq name n) (added_on ns name)
-  where
-    on_either : (b : Bool) → ((more : List (List ℕ)) × (added ns name ≡ ns ++ more)) → (more : List (List ℕ)) × (cond b (n ∷ ns) (n ∷ added ns name) ≡ n ∷ (ns ++ more))
-    on_either true h = ([], ap (λ xs. n ∷ xs) (sym (append-nil ns)))
-    on_either false h = (h.0, ap (λ xs. n ∷ xs) h.1)
-
-abbrev then_name : List (List ℕ) → PlainScript → List (List ℕ)
-then_name names s = with_name names s.name
-
--- names only come after names
-names_on : (ns : List (List ℕ)) (ss : List PlainScript) → (more : List (List ℕ)) × (fold then_name ns ss ≡ ns ++ more)
-names_on ns [] = ([], sym (append-nil ns))
-names_on ns (s ∷ ss) =
-    let here = added_on ns s.name in
-    let rest = names_on (with_name ns s.name) ss in
-    (here.0 ++ rest.0, rest.1 ∙ ap (λ xs. xs ++ rest.0) (with_name_is ns s.name ∙ here.1) ∙ append_assoc ns here.0 rest.0)
-
--- what the printer knows after some scripts
-record Knows (before : List PlainScript) (ks : List Known) : Type 0 where
-  names : names_in ks ≡ names_of before
-  next : (q : List ℕ) → next_of ks q ≡ length (calls_under q before)
-
-knows_more : (before : List PlainScript) (ks : List Known) (s : PlainScript) → Knows before ks → Knows (before ++ s ∷ []) (after_script ks s)
-knows_more before ks s h =
+stands_first : (names : List (List ℕ)) (steps : List ℕ) → steps ≡ replicate (length names) 0 → Stands names [] steps
+stands_first names steps is =
     record {
-      names =
-          names_gone ks s.name (length s.calls)
-          ∙ ap (λ ns. added ns s.name) h.names
-          ∙ sym (with_name_is (names_of before) s.name)
-          ∙ sym (fold-append then_name [] before (s ∷ []));
-      next = λ q.
-          next_gone ks s.name (length s.calls) q
-          ∙ ap (λ n. n + cond (bytes_eq s.name q) (length s.calls) 0) (h.next q)
-          ∙ sym (calls_more q before s);
+      each = ap (λ xs. length xs) is ∙ length-replicate (length names) 0;
+      next = λ name c e. ap (λ xs. get_or xs c 0) is ∙ get_or-replicate (length names) c 0 0 (place_within names name c e);
     }
 
-number_is : (before ss : List PlainScript) (ks : List Known) (s : PlainScript) → Knows before ks → number_in (names_of (before ++ s ∷ ss)) s.name ≡ Some (place_of ks s.name)
-number_is before ss ks s h =
-    let rest = names_on (with_name (names_of before) s.name) ss in
-    let all : names_of (before ++ s ∷ ss) ≡ added (names_in ks) s.name ++ rest.0 =
-    fold-append then_name [] before (s ∷ ss) ∙ rest.1 ∙ ap (λ ns. ns ++ rest.0) (with_name_is (names_of before) s.name ∙ ap (λ ns. added ns s.name) (sym h.names))
-    in
-    position_from-zero (bytes_eq s.name) (names_of (before ++ s ∷ ss))
-    ∙ ap (λ ns. position_from (bytes_eq s.name) 0 ns) all
-    ∙ found_on (bytes_eq s.name) 0 (place_of ks s.name) (added (names_in ks) s.name) rest.0 (place_added 0 ks s.name ∙ ap (λ n. Some n) (zero-add (place_of ks s.name)))
+stands_none : (names : List (List ℕ)) (before : List PlainScript) (steps : List ℕ) (s : PlainScript) → number_in names s.name ≡ None → Stands names before steps → Stands names (before ++ s ∷ []) steps
+stands_none names before steps s none h = record { each = h.each; next = λ name c e. either name c (bytes_eq s.name name) refl e }
+  where
+    either : (name : List ℕ) (c : ℕ) (b : Bool) → bytes_eq s.name name ≡ b → number_in names name ≡ Some c → get_or steps c 0 ≡ length (calls_under name (before ++ s ∷ []))
+    either name c true same e = absurd (clash (sym none ∙ ap (λ n. number_in names n) (is_same s.name name same) ∙ e))
+      where
+        clash : {X : Type 0} {x : X} → None ≡ Some x → ⊥
+        clash e = cc
+    either name c false other e = h.next name c e ∙ sym (calls_other name before s other)
 
-same_calls : (answers other : ℕ → ℕ → Option PlainAnswer) → ((c step : ℕ) → answers c step ≡ other c step) → (c : ℕ) (name : List ℕ) (step : ℕ) (calls : List PlainCall) → calls_text answers (Some c) name step calls ≡ calls_text other (Some c) name step calls
-same_calls answers other same c name step [] = refl
-same_calls answers other same c name step (call ∷ calls) =
-    ap (λ a. answered_line name step call a ++ calls_text answers (Some c) name (step + 1) calls) (same c step)
-    ∙ ap (λ text. answered_line name step call (other c step) ++ text) (same_calls answers other same c name (step + 1) calls)
+stands_some : (names : List (List ℕ)) (before : List PlainScript) (steps : List ℕ) (s : PlainScript) (n : ℕ) → number_in names s.name ≡ Some n → Stands names before steps
+    → Stands names (before ++ s ∷ []) (set steps n (get_or steps n 0 + length s.calls))
+stands_some names before steps s n at h = record {
+  each = length-set steps n (get_or steps n 0 + length s.calls) ∙ h.each;
+  next = λ name c e. either name c (bytes_eq s.name name) refl e;
+}
+  where
+    either : (name : List ℕ) (c : ℕ) (b : Bool) → bytes_eq s.name name ≡ b → number_in names name ≡ Some c
+        → get_or (set steps n (get_or steps n 0 + length s.calls)) c 0 ≡ length (calls_under name (before ++ s ∷ []))
+    either name c true same e =
+        let there : c ≡ n = some_is c n (sym e ∙ ap (λ m. number_in names m) (sym (is_same s.name name same)) ∙ at) in
+        let within : n < length steps = omega (arith, h.each, place_within names s.name n at) in
+        ap (λ k. get_or (set steps n (get_or steps n 0 + length s.calls)) k 0) there
+        ∙ get_or-set_same steps n (get_or steps n 0 + length s.calls) 0 within
+        ∙ ap (λ k. k + length s.calls) (h.next s.name n at ∙ ap (λ m. length (calls_under m before)) (is_same s.name name same))
+        ∙ sym (calls_same name before s same)
+      where
+        some_is : (x y : ℕ) → Some x ≡ Some y → x ≡ y
+        some_is x y e = cc
+    either name c false other e =
+        let apart : c ≢ n = λ same. false≢true (sym other ∙ same_is s.name name (name_at_place names s.name n at ∙ ap (λ k. get_or names k []) (sym same) ∙ sym (name_at_place names name c e))) in
+        get_or-set_other steps n c (get_or steps n 0 + length s.calls) 0 apart ∙ h.next name c e ∙ sym (calls_other name before s other)
 
-goes_on : (answers other : ℕ → ℕ → Option PlainAnswer) → ((c step : ℕ) → answers c step ≡ other c step) → (names : List (List ℕ)) (before ss : List PlainScript) (ks : List Known)
-    → Knows before ks → names ≡ names_of (before ++ ss) → printed answers ks ss ≡ scripts_text other names before ss
-goes_on answers other same names before [] ks h all = refl
-goes_on answers other same names before (s ∷ ss) ks h all =
-    ap (λ text. text ++ printed answers (after_script ks s) ss) (
-    same_calls answers other same (place_of ks s.name) s.name (next_of ks s.name) s.calls
-    ∙ ap (λ c. calls_text other c s.name (next_of ks s.name) s.calls) (sym (number_is before ss ks s h) ∙ ap (λ ns. number_in ns s.name) (sym all))
-    ∙ ap (λ n. calls_text other (number_in names s.name) s.name n s.calls) (h.next s.name)
-    )
-    ∙ ap (λ text. calls_text other (number_in names s.name) s.name (length (calls_under s.name before)) s.calls ++ text) (
-    goes_on answers other same names (before ++ s ∷ []) ss (after_script ks s) (knows_more before ks s h) (all ∙ ap names_of (sym (append_assoc before (s ∷ []) ss)))
-    )
+-- a caller without a number is told nothing
+told_none : (p : ℕ) (answers : ℕ → ℕ → Option PlainAnswer) (name : List ℕ) (step : ℕ) (calls : List PlainCall) → flat_map (told_line p answers) (told_from name None step calls) ≡ []
+told_none p answers name step [] = refl
+told_none p answers name step (call ∷ calls) = told_none p answers name (step + 1) calls
 
--- what is printed is the text of the scripts
-pub printed_is : (answers other : ℕ → ℕ → Option PlainAnswer) → ((c step : ℕ) → answers c step ≡ other c step) → (ss : List PlainScript) → printed answers [] ss ≡ scripts_text other (names_of ss) [] ss
-printed_is answers other same ss = goes_on answers other same (names_of ss) [] ss [] (record { names = refl; next = λ q. refl }) refl
+goes_on : (p : ℕ) (answers : ℕ → ℕ → Option PlainAnswer) (names : List (List ℕ)) (before ss : List PlainScript) (steps : List ℕ) → Stands names before steps
+    → flat_map (told_line p answers) (told_scripts names steps ss) ≡ flat_map (told_line p answers) (told_in names before ss)
+goes_on p answers names before [] steps h = refl
+goes_on p answers names before (s ∷ ss) steps h =
+    either (number_in names s.name) refl (λ next stands. goes_on p answers names (before ++ s ∷ []) ss next stands)
+  where
+    either : (o : Option ℕ) → number_in names s.name ≡ o
+        → ((next : List ℕ) → Stands names (before ++ s ∷ []) next
+        → flat_map (told_line p answers) (told_scripts names next ss) ≡ flat_map (told_line p answers) (told_in names (before ++ s ∷ []) ss))
+        → flat_map (told_line p answers) (told_script steps s o ++ told_scripts names (steps_then steps s o) ss)
+        ≡ flat_map (told_line p answers) (told_from s.name o (length (calls_under s.name before)) s.calls ++ told_in names (before ++ s ∷ []) ss)
+    either None none go =
+        let step : ℕ = length (calls_under s.name before) in
+        let rest : List Told = told_in names (before ++ s ∷ []) ss in
+        go steps (stands_none names before steps s none h)
+        ∙ ap (λ xs. xs ++ flat_map (told_line p answers) rest) (sym (told_none p answers s.name step s.calls))
+        ∙ sym (flat_map-append (told_line p answers) (told_from s.name None step s.calls) rest)
+    either (Some n) at go =
+        let then : List ℕ = set steps n (get_or steps n 0 + length s.calls) in
+        let mine : List Told = told_from s.name (Some n) (get_or steps n 0) s.calls in
+        let rest : List Told = told_in names (before ++ s ∷ []) ss in
+        flat_map-append (told_line p answers) mine (told_scripts names then ss)
+        ∙ ap (λ xs. flat_map (told_line p answers) mine ++ xs) (go then (stands_some names before steps s n at h))
+        ∙ sym (flat_map-append (told_line p answers) mine rest)
+        ∙ ap (λ k. flat_map (told_line p answers) (told_from s.name (Some n) k s.calls ++ rest)) (h.next s.name n at)
+
+same_line : (p : ℕ) (found answers : ℕ → ℕ → Option PlainAnswer) → ((c step : ℕ) → found c step ≡ answers c step) → (t : Told) (c : Option ℕ) → answered_line p t (answer_to found c t.step) ≡ answered_line p t (answer_to answers c t.step)
+same_line p found answers same t None = refl
+same_line p found answers same t (Some c) = ap (answered_line p t) (same c t.step)
+
+same_lines : (p : ℕ) (found answers : ℕ → ℕ → Option PlainAnswer) → ((c step : ℕ) → found c step ≡ answers c step) → (ts : List Told) → flat_map (told_line p found) ts ≡ flat_map (told_line p answers) ts
+same_lines p found answers same [] = refl
+same_lines p found answers same (t ∷ ts) =
+    ap (λ xs. xs ++ flat_map (told_line p found) ts) (same_line p found answers same t t.caller)
+    ∙ ap (λ xs. told_line p answers t ++ xs) (same_lines p found answers same ts)
+
+-- what is told by numbers and steps is what is told of the session
+pub told_is : (p : ℕ) (found answers : ℕ → ℕ → Option PlainAnswer) → ((c step : ℕ) → found c step ≡ answers c step)
+    → (session : PlainSession) (names : List (List ℕ)) (steps : List ℕ) → names ≡ names_of (scripts_over p session.phases) → steps ≡ replicate (length names) 0
+    → flat_map (told_line p found) (told_scripts names steps (scripts_over p session.phases)) ≡ flat_map (told_line p answers) (told_on p session)
+told_is p found answers same session names steps named zeros =
+    let scripts : List PlainScript = scripts_over p session.phases in
+    goes_on p found names [] scripts steps (stands_first names steps zeros)
+    ∙ same_lines p found answers same (told_in names [] scripts)
+    ∙ ap (λ ns. flat_map (told_line p answers) (told_in ns [] scripts)) named

@@ -1,21 +1,12 @@
--- The text of a report: what each call of a session was answered, and what became of its port.
-use Rattle.std.specs.Prelude.{ℕ, List, [], ◌∷◌, ◌++◌, ◌+◌, ◌==◌, ◌&&◌, Bool, false, Option, None, Some, if◌then◌else◌, length}
+-- The text of a report: what each call of a session was answered, and what became of its ports.
+use Rattle.std.specs.Prelude.{ℕ, List, [], ◌∷◌, ◌++◌, ◌+◌, ◌==◌, ◌&&◌, Bool, false, Option, None, Some, if◌then◌else◌, length, flat_map, codes}
 use Rattle.std.specs.Option.{option_or}
-use Rattle.tty_calls.specs.declared.journals.Who.{Who}
-use Rattle.tty_calls.specs.declared.journals.Who.TheVariants.{Caller, Flusher, Line, Clock, Session}
 use Rattle.tty_calls.specs.declared.journals.PortRun.{PortRun}
-use Rattle.tty_calls.specs.Plain.{PlainCall, PlainAnswer, PlainEvent, answered, parted, waited, flushed, ticked, line_ended, clock_ended, caller_ended, phase_ended, hung_up, PlainEntry, entries_of}
+use Rattle.tty_calls.specs.Plain.{PlainCall, PlainAnswer, PlainEvent, answered, parted, waited, flushed, ticked, line_ended, clock_ended, caller_ended, phase_ended, hung_up, PlainEntry, entries_of, is_caller}
 use Rattle.tty_calls.specs.Sessions.{PlainScript, PlainSession, scripts_over, names_of, number_in, calls_under}
-use Rattle.session_print.specs.Lines.{call_line, ended, port_text}
+use Rattle.session_print.specs.Lines.{call_line, port_text, newline}
 use Rattle.session_print.specs.Ends.{PlainEnd}
-
--- made by this caller
-abbrev pub is_by : Who → ℕ → Bool
-is_by (Caller number) c = number == c
-is_by Flusher c = false
-is_by Line c = false
-is_by Clock c = false
-is_by Session c = false
+use Rattle.session_print.specs.Journals.{journals_text}
 
 abbrev pub answer_of_event : PlainEvent → Option PlainAnswer
 answer_of_event (answered answer dropped) = Some answer
@@ -31,38 +22,70 @@ answer_of_event (hung_up dropped) = None
 
 -- what an entry answers to a caller's step
 abbrev pub answer_by : PlainEntry → ℕ → ℕ → Option PlainAnswer
-answer_by e c step = if is_by e.who c && (e.step == step) then answer_of_event e.event else None
+answer_by e c step = if is_caller e.who c && (e.step == step) then answer_of_event e.event else None
 
 -- the answer of the Answer entry of a caller and step: a run has one at most, and else it is the latest
 abbrev pub answer_in : List PlainEntry → ℕ → ℕ → Option PlainAnswer
 answer_in [] c step = None
 answer_in (e ∷ es) c step = option_or (answer_in es c step) (answer_by e c step)
 
+-- a call as a report tells it: its caller's name and number, its step, and what it calls
+pub record Told : Type 0 where
+  pub name : List ℕ
+  pub caller : Option ℕ
+  pub step : ℕ
+  pub call : PlainCall
+
+-- a caller's calls, from this step on
+abbrev pub told_from : List ℕ → Option ℕ → ℕ → List PlainCall → List Told
+told_from name c step [] = []
+told_from name c step (call ∷ calls) = record { name = name; caller = c; step = step; call = call } ∷ told_from name c (step + 1) calls
+
+-- the calls of scripts that come after others: a caller's steps go on over its scripts
+abbrev pub told_in : List (List ℕ) → List PlainScript → List PlainScript → List Told
+told_in names before [] = []
+told_in names before (s ∷ ss) =
+    told_from s.name (number_in names s.name) (length (calls_under s.name before)) s.calls ++ told_in names (before ++ s ∷ []) ss
+
+-- the calls of a port, in the text's order
+abbrev pub told_on : ℕ → PlainSession → List Told
+told_on p session = told_in (names_of (scripts_over p session.phases)) [] (scripts_over p session.phases)
+
+-- the answer to a told call, by the answers of each caller and step
 abbrev pub answer_to : (ℕ → ℕ → Option PlainAnswer) → Option ℕ → ℕ → Option PlainAnswer
 answer_to answers None step = None
 answer_to answers (Some c) step = answers c step
 
 -- the line of a call that was answered
-abbrev pub answered_line : List ℕ → ℕ → PlainCall → Option PlainAnswer → List ℕ
-answered_line name step call None = []
-answered_line name step call (Some answer) = ended (call_line name step call answer)
+abbrev pub answered_line : ℕ → Told → Option PlainAnswer → List ℕ
+answered_line p t None = []
+answered_line p t (Some answer) = call_line p t.name t.step t.call answer
 
--- the lines of a caller's calls from this step on, by the answers of each caller and step
-abbrev pub calls_text : (ℕ → ℕ → Option PlainAnswer) → Option ℕ → List ℕ → ℕ → List PlainCall → List ℕ
-calls_text answers c name step [] = []
-calls_text answers c name step (call ∷ calls) =
-    answered_line name step call (answer_to answers c step) ++ calls_text answers c name (step + 1) calls
+abbrev pub told_line : ℕ → (ℕ → ℕ → Option PlainAnswer) → Told → List ℕ
+told_line p answers t = answered_line p t (answer_to answers t.caller t.step)
 
--- the lines of scripts that come after others: a caller's steps go on over its scripts
-abbrev pub scripts_text : (ℕ → ℕ → Option PlainAnswer) → List (List ℕ) → List PlainScript → List PlainScript → List ℕ
-scripts_text answers names before [] = []
-scripts_text answers names before (s ∷ ss) =
-    calls_text answers (number_in names s.name) s.name (length (calls_under s.name before)) s.calls ++ scripts_text answers names (before ++ s ∷ []) ss
+-- the lines of the calls of a port
+abbrev pub calls_text : ℕ → PlainSession → PortRun → List ℕ
+calls_text p session run = flat_map (told_line p (answer_in (entries_of run.journal.items))) (told_on p session)
 
--- the lines of the calls of port 0
-abbrev pub session_text : (ℕ → ℕ → Option PlainAnswer) → PlainSession → List ℕ
-session_text answers session = scripts_text answers (names_of (scripts_over 0 session.phases)) [] (scripts_over 0 session.phases)
+-- the lines of the calls of all ports, from this port on; there is one run for each port
+abbrev pub calls_from : ℕ → PlainSession → List PortRun → List ℕ
+calls_from p session [] = []
+calls_from p session (run ∷ runs) = calls_text p session run ++ calls_from (p + 1) session runs
 
--- the report of a session whose only port is port 0
-abbrev pub report_text : PlainSession → PortRun → PlainEnd → List ℕ
-report_text session run end = session_text (answer_in (entries_of run.journal.items)) session ++ port_text run end
+-- the lines of all ports, from this port on; there is one run and one end for each port
+abbrev pub ports_from : ℕ → PlainSession → List PortRun → List PlainEnd → List ℕ
+ports_from p session [] ends = []
+ports_from p session (run ∷ runs) [] = []
+ports_from p session (run ∷ runs) (end ∷ ends) = port_text session p run end ++ ports_from (p + 1) session runs ends
+
+-- The text of a session that was played: the answers, what became of the ports, and, where they are
+-- asked for, the journals.
+abbrev pub play_text : Bool → PlainSession → List PortRun → List PlainEnd → List ℕ
+play_text journals session runs ends =
+    calls_from 0 session runs ++ (ports_from 0 session runs ends
+    ++ ((if journals then journals_text session runs else []) ++ (codes "done" ++ newline)))
+
+-- the report: the text without the journals
+abbrev pub report_text : PlainSession → List PortRun → List PlainEnd → List ℕ
+report_text session runs ends = play_text false session runs ends

@@ -1,99 +1,129 @@
-ghost use Rattle.std.specs.Prelude.{◌≡◌, ◌++◌, ◌+◌, ◌<◌, ◌^◌, [], Some, ℕ, OnOk, length, map};
-ghost use Rattle.tty_calls.specs.Plain.{call_of, entries_of};
-ghost use Rattle.tty_calls.specs.Sessions.{script_of, scripts_over, session_of, phase_of};
-ghost use Rattle.session_print.specs.Report.{answer_in, calls_text, session_text};
-ghost use Rattle.session_print.specs.Printing.{found, knowns, script_text, after_script, printed, after_scripts, plain_scripts};
+ghost use Rattle.std.specs.Prelude.{◌≡◌, ◌++◌, ◌+◌, ◌<◌, ◌^◌, Some, OnOk, flat_map, length, map, string_bytes};
+ghost use Rattle.tty_calls.specs.Plain.{call_of, answer_of};
+ghost use Rattle.tty_calls.specs.Sessions.{script_of, number_in, session_of};
+ghost use Rattle.session_print.specs.Lines.{call_line};
+ghost use Rattle.session_print.specs.Report.{calls_text, told_line, told_from};
+ghost use Rattle.session_print.specs.Printing.{found, scripts_for, told_script, steps_then, told_scripts, steps_after};
 
 use super::answers::{Turn, answers_of};
-use super::callers::{Caller, go_on};
-use super::printer::call_text;
-use super::texts::put_line;
-use std::alloc::Global;
+use super::words::{put_answer, verb_of};
+use std::alloc::{AllocError, Global};
 use std::collections::HashMap;
-use tty_base::{Bytes, NoMemory};
-use tty_calls::{Answer, Call, Entry, Phase, Script, Session};
+use tty_base::NoMemory;
+use tty_calls::{Answer, Call, Names, PortRun, Script, Session};
 
-/// The lines of a session's calls.
+/// Adds a line for each call of a port that its journal answers, script by script.
 pub(crate) fn put_calls(
     alloc: Global,
-    text: &mut Bytes,
+    text: &mut String,
+    port: usize,
     session: &Session,
-    journal: &[Entry],
+    run: &PortRun,
 ) -> Result<(), NoMemory>
-    ensures { OnOk result (text.new.items ≡ text.old.items ++ session_text (answer_in (entries_of journal.now)) (session_of session.now)) }
+    ensures { OnOk result (string_bytes text.new ≡ string_bytes text.old ++ calls_text port (session_of session.now) run.now) }
 {
-    let answers = answers_of(alloc, journal)?;
-    put_phases(alloc, text, &answers, session.phases.as_slice())
-}
-
-/// The lines of all phases.
-fn put_phases(
-    alloc: Global,
-    text: &mut Bytes,
-    answers: &HashMap<Turn, &Answer>,
-    phases: &[Phase],
-) -> Result<(), NoMemory>
-    ensures { OnOk result (text.new.items ≡ text.old.items ++ printed (found answers.now) [] (scripts_over 0 (map phase_of phases.now))) }
-{
-    let mut callers = Vec::new(alloc);
-    for phase in phases {
-        put_scripts(alloc, text, &mut callers, answers, phase.callers.as_slice())?;
+    let teller = Teller {
+        port,
+        names: Names::on_port(alloc, session, port)?,
+        answers: answers_of(alloc, run.journal.as_slice())?,
+    };
+    let mut steps = vec![in alloc; 0usize; teller.names.len()]?;
+    for phase in session.phases.as_slice() {
+        teller.put_scripts(text, &mut steps, phase.callers.as_slice())?;
     }
     Ok(())
 }
 
-/// The lines of a phase's scripts.
-fn put_scripts(
-    alloc: Global,
-    text: &mut Bytes,
-    callers: &mut Vec<Caller>,
-    answers: &HashMap<Turn, &Answer>,
-    scripts: &[Script],
-) -> Result<(), NoMemory>
-    ensures text { OnOk result (text.new.items ≡ text.old.items ++ printed (found answers.now) (knowns callers.old.items) (plain_scripts scripts.now)) }
-    ensures callers { OnOk result (knowns callers.new.items ≡ after_scripts (knowns callers.old.items) (plain_scripts scripts.now)) }
-{
-    for script in scripts {
-        if script.port == 0 {
-            put_script(alloc, text, callers, answers, script)?;
+/// What the calls of a port are told from: the names of its callers, and the answers of its journal.
+#[derive(Drop)]
+struct Teller<'a> {
+    port: usize,
+    names: Names,
+    answers: HashMap<Turn, &'a Answer>,
+}
+
+impl Teller<'_> {
+    /// Adds the lines of the port's scripts among these. `steps` has each caller's next step.
+    fn put_scripts(
+        &self,
+        text: &mut String,
+        steps: &mut Vec<usize>,
+        scripts: &[Script],
+    ) -> Result<(), NoMemory>
+        requires { length steps.old.items ≡ length self.now.names }
+        ensures text { OnOk result (string_bytes text.new ≡ string_bytes text.old
+            ++ flat_map (told_line self.now.port (found self.now.answers)) (told_scripts self.now.names steps.old.items (scripts_for self.now.port scripts.now))) }
+        ensures steps { OnOk result (steps.new.items ≡ steps_after self.now.names steps.old.items (scripts_for self.now.port scripts.now)) }
+        ensures each { OnOk result (length steps.new.items ≡ length steps.old.items) }
+    {
+        for script in scripts {
+            if usize::from(script.port) == self.port {
+                self.put_script(text, steps, script)?;
+            }
+        }
+        Ok(())
+    }
+
+    /// Adds the lines of a script. More steps than can be counted are want of memory.
+    fn put_script(
+        &self,
+        text: &mut String,
+        steps: &mut Vec<usize>,
+        script: &Script,
+    ) -> Result<(), NoMemory>
+        requires { length steps.old.items ≡ length self.now.names }
+        ensures text { OnOk result (string_bytes text.new ≡ string_bytes text.old
+            ++ flat_map (told_line self.now.port (found self.now.answers)) (told_script steps.old.items (script_of script.now) (number_in self.now.names script.now.name.bytes))) }
+        ensures steps { OnOk result (steps.new.items ≡ steps_then steps.old.items (script_of script.now) (number_in self.now.names script.now.name.bytes)) }
+    {
+        let calls = script.calls.as_slice();
+        match self.names.number(&script.name) {
+            None => Ok(()),
+            Some(caller) => {
+                let step = steps[caller];
+                steps[caller] = step.checked_add(calls.len()).ok_or(NoMemory)?;
+                self.put_steps(text, script.name.as_str(), Turn { caller, step }, calls)?;
+                Ok(())
+            }
         }
     }
-    Ok(())
+
+    /// Adds the lines of a caller's calls, from this turn on.
+    fn put_steps(
+        &self,
+        text: &mut String,
+        name: &str,
+        first: Turn,
+        calls: &[Call],
+    ) -> Result<(), AllocError>
+        requires { first.step + length calls.now < 2 ^ 64 }
+        ensures { OnOk result (string_bytes text.new ≡ string_bytes text.old
+            ++ flat_map (told_line self.now.port (found self.now.answers)) (told_from name.now (Some first.caller) first.step (map call_of calls.now))) }
+    {
+        let mut turn = first;
+        for call in calls {
+            if let Some(answer) = self.answers.get(&turn) {
+                put_call(text, self.port, name, turn.step, call, answer)?;
+            }
+            turn.step += 1;
+        }
+        Ok(())
+    }
 }
 
-fn put_script(
-    alloc: Global,
-    text: &mut Bytes,
-    callers: &mut Vec<Caller>,
-    answers: &HashMap<Turn, &Answer>,
-    script: &Script,
-) -> Result<(), NoMemory>
-    ensures text { OnOk result (text.new.items ≡ text.old.items ++ script_text (found answers.now) (knowns callers.old.items) (script_of script.now)) }
-    ensures callers { OnOk result (knowns callers.new.items ≡ after_script (knowns callers.old.items) (script_of script.now)) }
-{
-    let calls = script.calls.as_slice();
-    let first = go_on(callers, &script.name, calls.len())?;
-    put_steps(alloc, text, answers, script.name.as_str(), first, calls)
-}
-
-/// The lines of a caller's calls, from its first step on.
-fn put_steps(
-    alloc: Global,
-    text: &mut Bytes,
-    answers: &HashMap<Turn, &Answer>,
+/// Adds the line of a call and its answer.
+fn put_call(
+    text: &mut String,
+    port: usize,
     name: &str,
-    first: Turn,
-    calls: &[Call],
-) -> Result<(), NoMemory>
-    requires { first.step + length calls.now < 2 ^ 64 }
-    ensures { OnOk result (text.new.items ≡ text.old.items ++ calls_text (found answers.now) (Some first.caller) name.now first.step (map call_of calls.now)) }
+    step: usize,
+    call: &Call,
+    answer: &Answer,
+) -> Result<(), AllocError>
+    ensures { OnOk result (string_bytes text.new ≡ string_bytes text.old ++ call_line port name.now step (call_of call.now) (answer_of answer.now)) }
 {
-    let mut turn = first;
-    for call in calls {
-        if let Some(answer) = answers.get(&turn) {
-            put_line(text, call_text(alloc, name, turn.step, call, answer)?)?;
-        }
-        turn.step += 1;
-    }
-    Ok(())
+    let verb = verb_of(call);
+    write!(text, "{port}.{name}.{step} {verb} ")?;
+    put_answer(text, answer)?;
+    text.push_str("\n")
 }

@@ -1,13 +1,20 @@
-//! The text of a report: what each call was answered, and what became of each port.
+//! The texts of what was played: the report, which says what each call was answered and what became
+//! of each port, and the journals, which say what happened on each port, entry by entry.
 #![tactic(auto)]
 
 mod answers;
-mod callers;
 mod calls;
-mod printer;
+mod digits;
+mod journals;
+mod laws;
+mod modes;
+mod ports;
 mod texts;
+mod words;
 
-pub use printer::report;
+pub use journals::journal_text;
+pub use laws::each_call_has_its_line;
+pub use texts::{play_text, report};
 
 #[cfg(test)]
 mod tests;

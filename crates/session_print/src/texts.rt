@@ -1,21 +1,76 @@
-ghost use Rattle.std.specs.Prelude.{◌≡◌, ◌++◌, OnOk, string_bytes};
-ghost use Rattle.session_print.specs.Lines.{ended};
+ghost use Rattle.std.specs.Prelude.{◌≡◌, ◌++◌, IfOk, OnOk, map, string_bytes};
+ghost use Rattle.tty_calls.specs.Sessions.{session_of};
+ghost use Rattle.session_print.specs.Ends.{end_of};
+ghost use Rattle.session_print.specs.Report.{report_text, play_text as text_of_play, calls_from, ports_from};
 
+use super::calls::put_calls;
+use super::journals::put_journals;
+use super::ports::put_port;
+use std::alloc::Global;
 use tty_base::{Bytes, NoMemory};
+use tty_calls::{PortEnd, PortRun, Session};
 
-/// Adds bytes to a text.
-pub(crate) fn put(text: &mut Bytes, bytes: &[u8]) -> Result<(), NoMemory>
-    ensures { OnOk result (text.new.items ≡ text.old.items ++ bytes.now) }
+/// The report of a session: each call with its answer, then what became of each port. There is one
+/// run, and one end, for each port.
+pub fn report(
+    alloc: Global,
+    session: &Session,
+    runs: &[PortRun],
+    ends: &[PortEnd],
+) -> Result<Bytes, NoMemory>
+    ensures { IfOk result (λ text. text.items ≡ report_text (session_of session.now) runs.now (map end_of ends.now)) }
 {
-    text.reserve(bytes.len())?;
-    text.append(bytes);
+    play_text(alloc, session, runs, ends, false)
+}
+
+/// The report of a session, and within it the journals of its ports where they are asked for.
+pub fn play_text(
+    alloc: Global,
+    session: &Session,
+    runs: &[PortRun],
+    ends: &[PortEnd],
+    journals: bool,
+) -> Result<Bytes, NoMemory>
+    ensures { IfOk result (λ text. text.items ≡ text_of_play journals (session_of session.now) runs.now (map end_of ends.now)) }
+{
+    let mut text = String::new(alloc);
+    put_all_calls(alloc, &mut text, session, runs)?;
+    put_ports(&mut text, session, runs, ends)?;
+    if journals {
+        put_journals(alloc, &mut text, session, runs)?;
+    }
+    text.push_str("done\n")?;
+    Ok(Bytes::from_vec(text.into_bytes()))
+}
+
+/// Adds the lines of the calls of all ports.
+fn put_all_calls(
+    alloc: Global,
+    text: &mut String,
+    session: &Session,
+    runs: &[PortRun],
+) -> Result<(), NoMemory>
+    ensures { OnOk result (string_bytes text.new ≡ string_bytes text.old ++ calls_from 0 (session_of session.now) runs.now) }
+{
+    for (port, run) in runs.iter().enumerate() {
+        put_calls(alloc, text, port, session, run)?;
+    }
     Ok(())
 }
 
-/// Adds a line and its end to a text.
-pub(crate) fn put_line(text: &mut Bytes, line: String) -> Result<(), NoMemory>
-    ensures { OnOk result (text.new.items ≡ text.old.items ++ ended (string_bytes line)) }
+/// Adds the lines of all ports.
+fn put_ports(
+    text: &mut String,
+    session: &Session,
+    runs: &[PortRun],
+    ends: &[PortEnd],
+) -> Result<(), NoMemory>
+    ensures { OnOk result (string_bytes text.new ≡ string_bytes text.old ++ ports_from 0 (session_of session.now) runs.now (map end_of ends.now)) }
 {
-    put(text, line.as_bytes())?;
-    put(text, b"\n")
+    for (port, run) in runs.iter().enumerate() {
+        if let Some(end) = ends.get(port) {
+            put_port(text, port, session, run, end)?;
+        }
+    }
+    Ok(())
 }

@@ -1,7 +1,10 @@
-mod Digits
-pub mod Fitting
-mod Reading
+mod Added
+mod Bounds
+mod Fits
+mod Heads
+mod Judged
+mod Lists
+mod Rests
+mod Runs
 pub mod Spelled
-mod Splits
-mod Tails
-mod Taken
+pub mod Within

@@ -1,117 +1,204 @@
--- A text spells exactly the session that is read of it.
-use Rattle.std.proofs.Common.{◌≡◌, ℕ, List, [], ◌∷◌, ◌++◌, length, map, Option, Some, None, Result, Ok, Err, refl, sym, ap, subst, ◌∙◌, arith, append_assoc}
-use Rattle.std.proofs.lemmas.List.Sums.{sum_by-cons}
-use Rattle.std.proofs.lemmas.Option.{same_Some, option_and_then_some}
-use Rattle.std.specs.Prelude.{flat_map, option_map, IfOk}
-use Rattle.tty_calls.specs.Sessions.{PlainPhase, PlainSession, session_of}
+-- A text is read exactly where it spells a session, and is refused exactly where it spells none.
+use Rattle.std.proofs.Common.{◌≡◌, ◌⊎◌, ℕ, Bool, true, false, cond, List, [], ◌∷◌, Option, Some, None, Result, Ok, Err, refl, ap, sym, subst, ◌∙◌, inl, inr}
+use Rattle.std.specs.Prelude.{map, filter, not}
+use Rattle.std.specs.Prelude.{IfOk}
 use Rattle.tty_calls.specs.declared.sessions.Session.{Session}
+use Rattle.tty_calls.specs.Sessions.{PlainSession, session_of}
+use Rattle.text_lines.specs.Lines.{says, first_is}
+use Rattle.session_text.specs.declared.faults.Reason.{Reason}
+use Rattle.session_text.specs.declared.faults.Reason.TheVariants as reason
+use Rattle.session_text.specs.declared.faults.BadLine.{BadLine}
 use Rattle.session_text.specs.declared.faults.TextFault.{TextFault}
 use Rattle.session_text.specs.declared.faults.TextFault.TheVariants.{Bad, NoMemory}
-use Rattle.session_text.specs.Items.{PlainItem, wrong, header, ports, phase, line, rx, caller, calls, ends, items_of}
-use Rattle.session_text.specs.Grammar.{Block, block_items, phase_items, characters_in, phase_meaning, steps_in, IsGood, Spells}
-use Rattle.session_text.specs.Drafts.{fresh, nothing_after, first_phases, after_head, session_in, session_with, Gives}
-use Rattle.session_text.proofs.Tails.{sound}
-use Rattle.session_text.proofs.Taken.{the_end, first_read}
+use Rattle.session_text.specs.declared.verbs.Verb.{Verb}
+use Rattle.session_text.specs.Verbs.{verb_text}
+use Rattle.session_text.specs.Stands.{PlainStand, is_ended, verdict_on, stand_after}
+use Rattle.session_text.specs.Drafts.{draft_after, session_with}
+use Rattle.session_text.specs.Refusals.{next_line, stand_from, stand_after_line, or_later, refusal_from, refusal, lines_in}
+use Rattle.session_text.specs.Reading.{PlainReading, first_reading, reading_after_item, reading_after_line, session_at_end, then_read, session_from, session_in, Gives}
+use Rattle.session_text.specs.Grammar.{Item, item_words, session_items, session_meaning, Spells}
+use Rattle.session_text.proofs.Judged.{word_found}
+use Rattle.session_text.proofs.Runs.{Run, session_read, item_with}
+use Rattle.session_text.proofs.Heads.{run_written, written_taken}
 
-record Written (items : List PlainItem) (read : List PlainPhase) : Type 0 where
-  phases : List (List Block)
-  items_are : items ≡ flat_map phase_items phases ++ the_end
-  good : IsGood phases
-  means : read ≡ map phase_meaning phases
+-- ---- lines and items
 
-nothing_written : (items : List PlainItem) (read : List PlainPhase) → nothing_after items ≡ Some read → Written (ends ∷ items) read
-nothing_written [] read h = record { phases = []; items_are = refl; good = record { few_phases = omega arith; each = tt; few_steps = omega arith; few_characters = omega arith }; means = sym (same_Some _ _ h) }
-nothing_written (item ∷ items) read h = absurd (cc)
+-- what is read of lines: the items of those that say something
+pub record Reads (r : PlainReading) (lines : List (List (List ℕ))) (x : PlainSession) : Type 0 where
+  pub items : List Item
+  pub words : filter says lines ≡ map item_words items
+  pub run : Run r.stand items
+  pub session : x ≡ session_read r.stand r.draft items
 
-first_written : (items : List PlainItem) (read : List PlainPhase) → first_phases items ≡ Some read → Written items read
-first_written [] read h = absurd (cc)
-first_written (phase ∷ items) read h =
-    let r = sound items fresh read h in
-    let t = r.0 in
-    let g = r.1 in
-    let count = sum_by-cons steps_in t.blocks t.phases in
-    let len = sum_by-cons (λ blocks. length (characters_in blocks)) t.blocks t.phases in
-    record {
-      phases = t.blocks ∷ t.phases;
-      items_are = ap (λ (xs : List PlainItem). phase ∷ xs) (g.items_are ∙ sym (append_assoc (flat_map block_items t.blocks) (flat_map phase_items t.phases) the_end));
-      good = record {
-        few_phases = omega (arith, g.few_phases);
-        each = (record { one_line = omega (arith, g.one_line); one_caller = omega (arith, g.one_caller); each = g.good_blocks }, g.good_phases);
-        few_steps = omega (arith, g.few_steps, count);
-        few_characters = omega (arith, g.few_characters, len);
-      };
-      means = g.means;
+abbrev pub end_result : PlainReading → ℕ → Bool → Result PlainSession BadLine
+end_result r n ended = cond ended (Ok (session_with r.stand r.draft)) (Err (record { line = n; reason = reason.Order }))
+
+at_end : (r : PlainReading) (n : ℕ) (x : PlainSession) (ended : Bool) → is_ended r.stand.place ≡ ended → end_result r n ended ≡ Ok x → Reads r [] x
+at_end r n x true e h = record { items = []; words = refl; run = e; session = cc }
+at_end r n x false e h = cc
+
+-- a line that says nothing
+silent : (r : PlainReading) (words : List (List ℕ)) (lines : List (List (List ℕ))) (x : PlainSession) → says words ≡ false → Reads r lines x → Reads r (words ∷ lines) x
+silent r words lines x none reads = record {
+  items = reads.items;
+  words = ap (λ (b : Bool). cond b (words ∷ filter says lines) (filter says lines)) none ∙ reads.words;
+  run = reads.run;
+  session = reads.session;
+}
+
+abbrev pub reading_after : PlainReading → Verb → List (List ℕ) → PlainReading
+reading_after r verb arguments = record { stand = stand_after r.stand verb arguments; draft = draft_after r.stand r.draft verb arguments }
+
+-- a line that is an item
+telling : (r : PlainReading) (word : List ℕ) (arguments : List (List ℕ)) (lines : List (List (List ℕ))) (x : PlainSession) (verb : Verb) → first_is 35 word ≡ false → verdict_on r.stand word arguments ≡ Ok verb
+    → Reads (reading_after r verb arguments) lines x → Reads r ((word ∷ arguments) ∷ lines) x
+telling r word arguments lines x verb says_one good reads =
+    let same = word_found r.stand word arguments verb good in record {
+      items = item_with verb arguments ∷ reads.items;
+      words = ap (λ (b : Bool). cond (not b) ((word ∷ arguments) ∷ filter says lines) (filter says lines)) says_one
+          ∙ ap (λ (w : List ℕ). (w ∷ arguments) ∷ filter says lines) same ∙ ap (λ (ws : List (List (List ℕ))). item_words (item_with verb arguments) ∷ ws) reads.words;
+      run = (subst (λ (w : List ℕ). verdict_on r.stand w arguments ≡ Ok verb) same good, reads.run);
+      session = reads.session;
     }
-first_written (ends ∷ items) read h = nothing_written items read h
-first_written (wrong ∷ items) read h = absurd (cc)
-first_written (header ∷ items) read h = absurd (cc)
-first_written (ports ∷ items) read h = absurd (cc)
-first_written (line ∷ items) read h = absurd (cc)
-first_written (rx digits ∷ items) read h = absurd (cc)
-first_written (caller name ∷ items) read h = absurd (cc)
-first_written (calls call ∷ items) read h = absurd (cc)
 
--- ---- the session
+item_reads : (r : PlainReading) (n : ℕ) (word : List ℕ) (arguments : List (List ℕ)) (lines : List (List (List ℕ))) (x : PlainSession) (verdict : Result Verb Reason) → verdict_on r.stand word arguments ≡ verdict → first_is 35 word ≡ false
+    → then_read (reading_after_item r n arguments verdict) (λ next. session_from next (next_line n) lines) ≡ Ok x → ((next : PlainReading) → session_from next (next_line n) lines ≡ Ok x → Reads next lines x) → Reads r ((word ∷ arguments) ∷ lines) x
+item_reads r n word arguments lines x (Ok verb) good says_one h later = telling r word arguments lines x verb says_one good (later (reading_after r verb arguments) h)
+item_reads r n word arguments lines x (Err fault) good says_one h later = cc
 
-head_cut : (items rest : List PlainItem) → after_head items ≡ Some rest → items ≡ header ∷ ports ∷ rest
-head_cut [] rest h = absurd (cc)
-head_cut (header ∷ ports ∷ items) rest h = ap (λ (xs : List PlainItem). header ∷ ports ∷ xs) (same_Some _ _ h)
-head_cut (header ∷ []) rest h = absurd (cc)
-head_cut (header ∷ wrong ∷ items) rest h = absurd (cc)
-head_cut (header ∷ header ∷ items) rest h = absurd (cc)
-head_cut (header ∷ phase ∷ items) rest h = absurd (cc)
-head_cut (header ∷ line ∷ items) rest h = absurd (cc)
-head_cut (header ∷ rx digits ∷ items) rest h = absurd (cc)
-head_cut (header ∷ caller name ∷ items) rest h = absurd (cc)
-head_cut (header ∷ calls call ∷ items) rest h = absurd (cc)
-head_cut (header ∷ ends ∷ items) rest h = absurd (cc)
-head_cut (wrong ∷ items) rest h = absurd (cc)
-head_cut (ports ∷ items) rest h = absurd (cc)
-head_cut (phase ∷ items) rest h = absurd (cc)
-head_cut (line ∷ items) rest h = absurd (cc)
-head_cut (rx digits ∷ items) rest h = absurd (cc)
-head_cut (caller name ∷ items) rest h = absurd (cc)
-head_cut (calls call ∷ items) rest h = absurd (cc)
-head_cut (ends ∷ items) rest h = absurd (cc)
+line_reads : (r : PlainReading) (n : ℕ) (word : List ℕ) (arguments : List (List ℕ)) (lines : List (List (List ℕ))) (x : PlainSession) (comment : Bool) → first_is 35 word ≡ comment
+    → then_read (cond comment (Ok r) (reading_after_item r n arguments (verdict_on r.stand word arguments))) (λ next. session_from next (next_line n) lines) ≡ Ok x → ((next : PlainReading) → session_from next (next_line n) lines ≡ Ok x → Reads next lines x) → Reads r ((word ∷ arguments) ∷ lines) x
+line_reads r n word arguments lines x true comment h later = silent r (word ∷ arguments) lines x (ap not comment) (later r h)
+line_reads r n word arguments lines x false comment h later = item_reads r n word arguments lines x (verdict_on r.stand word arguments) refl comment h later
 
-mapped_some : (o : Option (List PlainPhase)) (session : PlainSession) → option_map session_with o ≡ Some session → (read : List PlainPhase) × (o ≡ Some read) × (session_with read ≡ session)
-mapped_some None session h = absurd (cc)
-mapped_some (Some read) session h = (read, refl, same_Some _ _ h)
+pub lines_read : (lines : List (List (List ℕ))) (r : PlainReading) (n : ℕ) (x : PlainSession) → session_from r n lines ≡ Ok x → Reads r lines x
+lines_read [] r n x h = at_end r n x (is_ended r.stand.place) refl h
+lines_read ([] ∷ lines) r n x h = silent r [] lines x refl (lines_read lines r (next_line n) x h)
+lines_read ((word ∷ arguments) ∷ lines) r n x h = line_reads r n word arguments lines x (first_is 35 word) refl h (λ next onwards. lines_read lines next (next_line n) x onwards)
+
+-- ---- items and lines
+
+no_words : (item : Item) (items : List Item) → [] ≡ map item_words (item ∷ items) → ⊥
+no_words item items e = cc
+
+no_items : (words : List (List ℕ)) (rest : List (List (List ℕ))) → words ∷ rest ≡ map item_words [] → ⊥
+no_items words rest e = cc
+
+first_words : (words : List (List ℕ)) (rest : List (List (List ℕ))) (item : Item) (items : List Item) → words ∷ rest ≡ map item_words (item ∷ items) → words ≡ item_words item
+first_words words rest item items e = cc
+
+later_words : (words : List (List ℕ)) (rest : List (List (List ℕ))) (item : Item) (items : List Item) → words ∷ rest ≡ map item_words (item ∷ items) → rest ≡ map item_words items
+later_words words rest item items e = cc
+
+end_reads : (items : List Item) (r : PlainReading) (n : ℕ) → [] ≡ map item_words items → Run r.stand items → session_from r n [] ≡ Ok (session_read r.stand r.draft items)
+end_reads [] r n e run = ap (end_result r n) run
+end_reads (item ∷ items) r n e run = absurd (no_words item items e)
+
+item_line : (r : PlainReading) (n : ℕ) (word : List ℕ) (arguments : List (List ℕ)) (lines : List (List (List ℕ))) (items : List Item) → first_is 35 word ≡ false → (word ∷ arguments) ∷ filter says lines ≡ map item_words items → Run r.stand items
+    → ((next : PlainReading) (more : List Item) → filter says lines ≡ map item_words more → Run next.stand more → session_from next (next_line n) lines ≡ Ok (session_read next.stand next.draft more))
+    → session_from r n ((word ∷ arguments) ∷ lines) ≡ Ok (session_read r.stand r.draft items)
+item_line r n word arguments lines [] says_one e run later = absurd (no_items (word ∷ arguments) (filter says lines) e)
+item_line r n word arguments lines (item ∷ items) says_one e run later =
+    let here = first_words (word ∷ arguments) (filter says lines) item items e in
+    let there = later_words (word ∷ arguments) (filter says lines) item items e in
+    let same_word : word ≡ verb_text item.verb = cc in
+    let same_words : arguments ≡ item.arguments = cc in
+    let good : verdict_on r.stand word arguments ≡ Ok item.verb = ap (λ (w : List ℕ). verdict_on r.stand w arguments) same_word ∙ ap (verdict_on r.stand (verb_text item.verb)) same_words ∙ run.0 in
+    let next = reading_after r item.verb item.arguments in
+    ap (λ (b : Bool). then_read (cond b (Ok r) (reading_after_item r n arguments (verdict_on r.stand word arguments))) (λ next. session_from next (next_line n) lines)) says_one
+    ∙ ap (λ (v : Result Verb Reason). then_read (reading_after_item r n arguments v) (λ next. session_from next (next_line n) lines)) good
+    ∙ ap (λ (words : List (List ℕ)). session_from (reading_after r item.verb words) (next_line n) lines) same_words ∙ later next items there run.1
+
+word_line : (r : PlainReading) (n : ℕ) (word : List ℕ) (arguments : List (List ℕ)) (lines : List (List (List ℕ))) (items : List Item) (comment : Bool) → first_is 35 word ≡ comment
+    → cond (not comment) ((word ∷ arguments) ∷ filter says lines) (filter says lines) ≡ map item_words items → Run r.stand items
+    → ((next : PlainReading) (more : List Item) → filter says lines ≡ map item_words more → Run next.stand more → session_from next (next_line n) lines ≡ Ok (session_read next.stand next.draft more))
+    → session_from r n ((word ∷ arguments) ∷ lines) ≡ Ok (session_read r.stand r.draft items)
+word_line r n word arguments lines items true comment e run later =
+    ap (λ (b : Bool). then_read (cond b (Ok r) (reading_after_item r n arguments (verdict_on r.stand word arguments))) (λ next. session_from next (next_line n) lines)) comment ∙ later r items e run
+word_line r n word arguments lines items false comment e run later = item_line r n word arguments lines items comment e run later
+
+pub items_read : (lines : List (List (List ℕ))) (r : PlainReading) (n : ℕ) (items : List Item) → filter says lines ≡ map item_words items → Run r.stand items → session_from r n lines ≡ Ok (session_read r.stand r.draft items)
+items_read [] r n items e run = end_reads items r n e run
+items_read ([] ∷ lines) r n items e run = items_read lines r (next_line n) items e run
+items_read ((word ∷ arguments) ∷ lines) r n items e run =
+    word_line r n word arguments lines items (first_is 35 word) refl e run (λ next more same onwards. items_read lines next (next_line n) more same onwards)
+
+-- ---- spelled and read
 
 -- what is read is spelled
-read_is_spelled : (text : List ℕ) (read : List PlainPhase) → session_in (items_of text) ≡ Some read → Spells text (session_with read)
-read_is_spelled text read h =
-    option_and_then_some first_phases (after_head (items_of text)) read h (λ rest cut first.
-    let w = first_written rest read first in
-    record {
-      phases = w.phases;
-      items = head_cut (items_of text) rest cut ∙ ap (λ (xs : List PlainItem). header ∷ ports ∷ xs) w.items_are;
-      good = w.good;
-      means = ap session_with w.means;
-    })
+pub read_spells : (text : List ℕ) (x : PlainSession) → session_in text ≡ Ok x → Spells text x
+read_spells text x h =
+    let reads = lines_read (lines_in text) first_reading 1 x h in
+    let is = run_written reads.items reads.run in
+    let taken = written_taken is.written is.good in record {
+      written = is.written;
+      words = reads.words ∙ ap (map item_words) is.items_are;
+      good = is.good;
+      means = reads.session ∙ ap (session_read first_reading.stand first_reading.draft) is.items_are ∙ taken.meant;
+    }
 
 -- .. and what is spelled is read
-pub spelled_is_read : (text : List ℕ) (session : PlainSession) → Spells text session → option_map session_with (session_in (items_of text)) ≡ Some session
-spelled_is_read text session h =
-    ap (λ (items : List PlainItem). option_map session_with (session_in items)) h.items
-    ∙ ap (option_map session_with) (first_read h.phases h.good) ∙ ap Some (sym h.means)
+pub spelled_read : (text : List ℕ) (x : PlainSession) → Spells text x → session_in text ≡ Ok x
+spelled_read text x h =
+    let taken = written_taken h.written h.good in
+    items_read (lines_in text) first_reading 1 (session_items h.written) h.words taken.run ∙ ap (λ (session : PlainSession). let r : Result PlainSession BadLine = Ok session in r) (taken.meant ∙ sym h.means)
 
-pub given_is_spelled : (text : List ℕ) (session : PlainSession) → option_map session_with (session_in (items_of text)) ≡ Some session → Spells text session
-given_is_spelled text session h =
-    let made = mapped_some (session_in (items_of text)) session h in
-    subst (λ (s : PlainSession). Spells text s) made.2 (read_is_spelled text made.0 made.1)
-
--- ---- the clauses of the reader
-
-pub is_spelled : (text : List ℕ) (r : Result Session TextFault) → Gives session_of r (option_map session_with (session_in (items_of text))) → IfOk r (λ session. Spells text (session_of session))
-is_spelled text (Ok session) given = given_is_spelled text (session_of session) given
-is_spelled text (Err fault) given = tt
-
-pub none_is_spelled : (text : List ℕ) (r : Result Session TextFault) → Gives session_of r (option_map session_with (session_in (items_of text))) → r ≡ Err Bad → (session : PlainSession) → Spells text session → ⊥
-none_is_spelled text (Ok session) given bad other spells = cc
-none_is_spelled text (Err Bad) given bad other spells = let read = spelled_is_read text other spells in cc (sym given ∙ read)
-none_is_spelled text (Err NoMemory) given bad other spells = cc
-
--- a text spells one session
 pub spelled_once : (text : List ℕ) (one other : PlainSession) → Spells text one → Spells text other → one ≡ other
-spelled_once text one other h k = same_Some _ _ (sym (spelled_is_read text one h) ∙ spelled_is_read text other k)
+spelled_once text one other a b = let first = spelled_read text one a in let second = spelled_read text other b in cc
+
+-- ---- refused
+
+abbrev pub fault_in : Result PlainSession BadLine → Option BadLine
+fault_in (Ok session) = None
+fault_in (Err line) = Some line
+
+item_faults : (r : PlainReading) (n : ℕ) (arguments : List (List ℕ)) (lines : List (List (List ℕ))) (verdict : Result Verb Reason) → ((next : PlainReading) → fault_in (session_from next (next_line n) lines) ≡ refusal_from next.stand (next_line n) lines)
+    → fault_in (then_read (reading_after_item r n arguments verdict) (λ next. session_from next (next_line n) lines)) ≡ or_later n (stand_from r.stand arguments verdict) (λ next. refusal_from next (next_line n) lines)
+item_faults r n arguments lines (Ok verb) later = later (reading_after r verb arguments)
+item_faults r n arguments lines (Err fault) later = refl
+
+line_faults : (r : PlainReading) (n : ℕ) (word : List ℕ) (arguments : List (List ℕ)) (lines : List (List (List ℕ))) (comment : Bool) → ((next : PlainReading) → fault_in (session_from next (next_line n) lines) ≡ refusal_from next.stand (next_line n) lines)
+    → fault_in (then_read (cond comment (Ok r) (reading_after_item r n arguments (verdict_on r.stand word arguments))) (λ next. session_from next (next_line n) lines))
+    ≡ or_later n (cond comment (Ok r.stand) (stand_from r.stand arguments (verdict_on r.stand word arguments))) (λ next. refusal_from next (next_line n) lines)
+line_faults r n word arguments lines true later = later r
+line_faults r n word arguments lines false later = item_faults r n arguments lines (verdict_on r.stand word arguments) later
+
+end_faults : (r : PlainReading) (n : ℕ) (ended : Bool) → fault_in (end_result r n ended) ≡ cond ended None (Some (record { line = n; reason = reason.Order }))
+end_faults r n true = refl
+end_faults r n false = refl
+
+pub same_fault : (lines : List (List (List ℕ))) (r : PlainReading) (n : ℕ) → fault_in (session_from r n lines) ≡ refusal_from r.stand n lines
+same_fault [] r n = end_faults r n (is_ended r.stand.place)
+same_fault ([] ∷ lines) r n = same_fault lines r (next_line n)
+same_fault ((word ∷ arguments) ∷ lines) r n = line_faults r n word arguments lines (first_is 35 word) (λ next. same_fault lines next (next_line n))
+
+pub text_fault : (text : List ℕ) → fault_in (session_in text) ≡ refusal text
+text_fault text = same_fault (lines_in text) first_reading 1
+
+-- a text that spells a session is not refused
+pub spelled_fault : (text : List ℕ) (x : PlainSession) → Spells text x → refusal text ≡ None
+spelled_fault text x h = sym (text_fault text) ∙ ap fault_in (spelled_read text x h)
+
+spells_by : (text : List ℕ) (read : Result PlainSession BadLine) → session_in text ≡ read → fault_in read ≡ None → (x : PlainSession) × Spells text x
+spells_by text (Ok x) h none = (x, read_spells text x h)
+spells_by text (Err line) h none = cc
+
+-- .. and one that is not refused spells one
+pub unrefused_spells : (text : List ℕ) → refusal text ≡ None → (x : PlainSession) × Spells text x
+unrefused_spells text h = spells_by text (session_in text) refl (text_fault text ∙ h)
+
+-- ---- what the reader gave
+
+pub given_spells : (text : List ℕ) (result : Result Session TextFault) → Gives session_of result (session_in text) → IfOk result (λ session. Spells text (session_of session))
+given_spells text (Ok session) h = read_spells text (session_of session) h
+given_spells text (Err fault) h = tt
+
+pub given_bad : (text : List ℕ) (result : Result Session TextFault) → Gives session_of result (session_in text) → (line : BadLine) → result ≡ Err (Bad line) → refusal text ≡ Some line
+given_bad text (Ok session) h line e = cc
+given_bad text (Err NoMemory) h line e = cc
+given_bad text (Err (Bad other)) h line e = let same : other ≡ line = cc in sym (text_fault text) ∙ ap fault_in h ∙ ap Some same
+
+pub given_refused : (text : List ℕ) (result : Result Session TextFault) → Gives session_of result (session_in text) → (line : BadLine) → refusal text ≡ Some line → (result ≡ Err (Bad line)) ⊎ (result ≡ Err NoMemory)
+given_refused text (Ok session) h line e = let none = ap fault_in h in let fault = text_fault text in cc
+given_refused text (Err NoMemory) h line e = inr refl
+given_refused text (Err (Bad other)) h line e = let same : other ≡ line = (let fault = ap fault_in h in let told = text_fault text in cc) in inl (ap (λ (l : BadLine). let r : Result Session TextFault = Err (Bad l) in r) same)

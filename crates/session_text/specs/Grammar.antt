@@ -1,109 +1,234 @@
--- The sessions that texts spell.
-use Rattle.std.specs.Prelude.{◌≡◌, ℕ, ◌+◌, ◌%◌, ◌≤◌, ◌==◌, ◌&&◌, ◌||◌, nat_le, Bool, false, IsTrue, List, [], ◌∷◌, ◌++◌, length, map, flat_map, sum_by}
-use Rattle.std.specs.List.{list_all, AllByRecursion}
-use Rattle.std.specs.Result.{result_unwrap_or}
-use Rattle.hex.specs.Hex.{is_hex_digit, decode_of}
-use Rattle.tty_base.specs.declared.characters.Flag.TheVariants.{Normal}
+-- The sessions that texts spell: what is written, what it means, what is allowed.
+use Rattle.std.specs.Prelude.{◌≡◌, ℕ, ◌<◌, ◌≤◌, ◌==◌, Bool, true, false, IsTrue, List, [], ◌∷◌, ◌++◌, length, map, filter, fold, flat_map, sum_by, replicate, slice_set, if◌then◌else◌}
+use Rattle.std.specs.List.{list_any, AllByRecursion}
 use Rattle.tty_base.specs.declared.lines.LineStep.{LineStep}
-use Rattle.tty_base.specs.declared.lines.LineStep.TheVariants.{Rx}
 use Rattle.tty_calls.specs.Plain.{PlainCall}
-use Rattle.tty_calls.specs.Sessions.{PlainScript, PlainPhase, PlainSession}
-use Rattle.session_text.specs.Items.{PlainItem, header, ports, phase, line, rx, caller, calls, ends, is_digit, items_of}
-
--- A block of a phase: a line, with the digits of each `rx`, or a caller, with its name and calls.
-pub data Block : Type 0 where
-  line_block : (rxs : List (List ℕ)) → Block
-  caller_block : (name : List ℕ) (steps : List PlainCall) → Block
+use Rattle.tty_calls.specs.Sessions.{PlainPhase, PlainSession}
+use Rattle.text_lines.specs.Lines.{says}
+use Rattle.text_lines.specs.Values.{word_at, number_at}
+use Rattle.session_text.specs.declared.verbs.Verb.{Verb}
+use Rattle.session_text.specs.declared.verbs.Verb.TheVariants.{Session, Ports, Flip, Phase, Line, Clock, Caller, Tick, End, Step, Call}
+use Rattle.session_text.specs.Verbs.{verb_text}
+use Rattle.session_text.specs.Meaning.{steps_in, call_in, empty_phase, with_steps, with_ticks, with_script}
+use Rattle.session_text.specs.Stands.{PlainKey, key_in, holds, same_key, callers_on, arrivals, has_many, is_good}
+use Rattle.session_text.specs.Refusals.{lines_in}
 
 -- ---- what is written
 
-abbrev pub block_items : Block → List PlainItem
-block_items (line_block rxs) = line ∷ map rx rxs
-block_items (caller_block name steps) = caller name ∷ map calls steps
+-- An item: a verb, and words.
+pub record Item : Type 0 where
+  pub verb : Verb
+  pub arguments : List (List ℕ)
 
-abbrev pub phase_items : List Block → List PlainItem
-phase_items blocks = phase ∷ flat_map block_items blocks
+-- A block of a phase: the item that opens it, and the items in it.
+pub record Block : Type 0 where
+  pub opening : Item
+  pub items : List Item
 
-abbrev pub session_items : List (List Block) → List PlainItem
-session_items phases = header ∷ ports ∷ (flat_map phase_items phases ++ ends ∷ [])
+-- A session: the words after `tty-session` and `ports`, those of each `flip`, and the blocks of each phase.
+pub record Written : Type 0 where
+  pub version : List ℕ
+  pub ports : List ℕ
+  pub flips : List (List (List ℕ))
+  pub phases : List (List Block)
+
+abbrev pub item_words : Item → List (List ℕ)
+item_words item = verb_text item.verb ∷ item.arguments
+
+abbrev pub flip_item : List (List ℕ) → Item
+flip_item arguments = record { verb = Flip; arguments = arguments }
+
+abbrev pub block_items : Block → List Item
+block_items block = block.opening ∷ block.items
+
+abbrev pub phase_item : Item
+phase_item = record { verb = Phase; arguments = [] }
+
+abbrev pub phase_items : List Block → List Item
+phase_items blocks = phase_item ∷ flat_map block_items blocks
+
+abbrev pub end_item : Item
+end_item = record { verb = End; arguments = [] }
+
+abbrev pub session_items : Written → List Item
+session_items w =
+    record { verb = Session; arguments = w.version ∷ [] }
+    ∷ record { verb = Ports; arguments = w.ports ∷ [] }
+    ∷ (map flip_item w.flips ++ (flat_map phase_items w.phases ++ end_item ∷ []))
 
 -- ---- what it means
 
--- the bytes that pairs of hexadecimal digits write
-abbrev pub bytes_of : List ℕ → List ℕ
-bytes_of digits = result_unwrap_or (decode_of digits) []
+abbrev pub steps_of : Verb → List (List ℕ) → List LineStep
+steps_of (Step verb) arguments = steps_in verb arguments
+steps_of other arguments = []
 
--- a byte arrives without error
-abbrev pub good_character : ℕ → LineStep
-good_character byte = Rx (record { byte = byte; flag = Normal })
+abbrev pub ticks_of : Verb → List (List ℕ) → ℕ
+ticks_of Tick arguments = number_at arguments 0
+ticks_of other arguments = 0
 
-abbrev pub characters : List ℕ → List LineStep
-characters digits = map good_character (bytes_of digits)
+abbrev pub calls_of : Verb → List (List ℕ) → List PlainCall
+calls_of (Call verb) arguments = call_in verb arguments ∷ []
+calls_of other arguments = []
 
--- the lines of a phase, each with its `rx` items
-abbrev pub lines_in : List Block → List (List (List ℕ))
-lines_in [] = []
-lines_in (line_block rxs ∷ blocks) = rxs ∷ lines_in blocks
-lines_in (caller_block name steps ∷ blocks) = lines_in blocks
+abbrev pub steps_by : Item → List LineStep
+steps_by item = steps_of item.verb item.arguments
 
--- the callers of a phase, each with its calls
-abbrev pub scripts_in : List Block → List PlainScript
-scripts_in [] = []
-scripts_in (line_block rxs ∷ blocks) = scripts_in blocks
-scripts_in (caller_block name steps ∷ blocks) = record { port = 0; name = name; calls = steps } ∷ scripts_in blocks
+abbrev pub ticks_by : Item → ℕ
+ticks_by item = ticks_of item.verb item.arguments
 
-abbrev pub characters_in : List Block → List LineStep
-characters_in blocks = flat_map (flat_map characters) (lines_in blocks)
+abbrev pub calls_by : Item → List PlainCall
+calls_by item = calls_of item.verb item.arguments
 
-abbrev pub phase_meaning : List Block → PlainPhase
-phase_meaning blocks = record { lines = characters_in blocks ∷ []; ticks = 0 ∷ []; callers = scripts_in blocks }
+-- the phase with what a block adds, which begins with this verb and these words
+abbrev pub with_block_of : Verb → List (List ℕ) → List Item → PlainPhase → PlainPhase
+with_block_of Line arguments items phase = with_steps (number_at arguments 0) (flat_map steps_by items) phase
+with_block_of Clock arguments items phase = with_ticks (number_at arguments 0) (sum_by ticks_by items) phase
+with_block_of Caller arguments items phase =
+    with_script (record { port = number_at arguments 1; name = word_at arguments 0; calls = flat_map calls_by items }) phase
+with_block_of other arguments items phase = phase
 
-abbrev pub meaning : List (List Block) → PlainSession
-meaning phases = record { version = 1; ports = 1; flips = 4096 ∷ []; phases = map phase_meaning phases }
+abbrev pub with_block : PlainPhase → Block → PlainPhase
+with_block phase block = with_block_of block.opening.verb block.opening.arguments block.items phase
+
+abbrev pub phase_meaning : ℕ → List Block → PlainPhase
+phase_meaning ports blocks = fold with_block (empty_phase ports) blocks
+
+abbrev pub with_flip : List ℕ → List (List ℕ) → List ℕ
+with_flip flips arguments = slice_set flips (number_at arguments 0) (number_at arguments 1)
+
+abbrev pub version_of : Written → ℕ
+version_of w = number_at (w.version ∷ []) 0
+
+abbrev pub ports_of : Written → ℕ
+ports_of w = number_at (w.ports ∷ []) 0
+
+abbrev pub session_meaning : Written → PlainSession
+session_meaning w = record {
+  version = version_of w;
+  ports = ports_of w;
+  flips = fold with_flip (replicate (ports_of w) 4096) w.flips;
+  phases = map (phase_meaning (ports_of w)) w.phases;
+}
 
 -- ---- what is allowed
 
-abbrev pub is_lowercase : ℕ → Bool
-is_lowercase byte = nat_le 97 byte && nat_le byte 122
+-- whether an item with this verb is one of a block that begins with that verb
+abbrev pub is_inside : Verb → Verb → Bool
+is_inside Line (Step verb) = true
+is_inside Clock Tick = true
+is_inside Caller (Call verb) = true
+is_inside opening verb = false
 
-abbrev pub is_name_byte : ℕ → Bool
-is_name_byte byte = (is_lowercase byte || is_digit byte) || byte == 95
+abbrev pub opens_block : Verb → Bool
+opens_block Line = true
+opens_block Clock = true
+opens_block Caller = true
+opens_block verb = false
 
-abbrev pub begins_name : List ℕ → Bool
-begins_name [] = false
-begins_name (first ∷ bytes) = is_lowercase first
+-- whether a `modes` item has more than 64 mode words
+abbrev pub has_many_modes : Verb → List (List ℕ) → Bool
+has_many_modes (Call verb) arguments = has_many verb (length arguments)
+has_many_modes verb arguments = false
 
--- a letter a to z, and up to 15 letters, digits or `_`
-abbrev pub is_name : List ℕ → Bool
-is_name name = (begins_name name && list_all is_name_byte name) && nat_le (length name) 16
+pub record IsGoodItem (ports : ℕ) (opening : Verb) (item : Item) : Type 0 where
+  pub inside : IsTrue (is_inside opening item.verb)
+  pub good : IsTrue (is_good ports item.verb item.arguments)
+  pub few_modes : has_many_modes item.verb item.arguments ≡ false
 
--- an even number, not 0, of hexadecimal digits
-abbrev pub is_hex : List ℕ → Bool
-is_hex [] = false
-is_hex (first ∷ digits) = list_all is_hex_digit (first ∷ digits) && length (first ∷ digits) % 2 == 0
+pub record IsGoodBlock (ports : ℕ) (block : Block) : Type 0 where
+  pub opens_one : IsTrue (opens_block block.opening.verb)
+  pub good : IsTrue (is_good ports block.opening.verb block.opening.arguments)
+  pub each : AllByRecursion (IsGoodItem ports block.opening.verb) block.items
 
-abbrev pub IsGoodBlock : Block → Type 0
-IsGoodBlock (line_block rxs) = AllByRecursion (λ digits. IsTrue (is_hex digits)) rxs
-IsGoodBlock (caller_block name steps) = IsTrue (is_name name)
+-- the port of a block
+abbrev pub port_in : Verb → List (List ℕ) → ℕ
+port_in Caller arguments = number_at arguments 1
+port_in verb arguments = number_at arguments 0
 
-pub record IsGoodPhase (blocks : List Block) : Type 0 where
-  pub one_line : length (lines_in blocks) ≤ 1
-  pub one_caller : length (scripts_in blocks) ≤ 1
-  pub each : AllByRecursion IsGoodBlock blocks
+abbrev pub port_of : Block → ℕ
+port_of block = port_in block.opening.verb block.opening.arguments
 
--- how many steps a phase has: its `rx` items and its calls
-abbrev pub steps_in : List Block → ℕ
-steps_in blocks = sum_by length (lines_in blocks) + sum_by (λ s. length s.calls) (scripts_in blocks)
+-- the port of a line block, of a clock block; the key of a caller's block
+abbrev pub line_port : Verb → List (List ℕ) → List ℕ
+line_port Line arguments = number_at arguments 0 ∷ []
+line_port verb arguments = []
 
-pub record IsGood (phases : List (List Block)) : Type 0 where
-  pub few_phases : length phases ≤ 64
-  pub each : AllByRecursion IsGoodPhase phases
-  pub few_steps : sum_by steps_in phases ≤ 65536
-  pub few_characters : sum_by (λ blocks. length (characters_in blocks)) phases ≤ 262144
+abbrev pub clock_port : Verb → List (List ℕ) → List ℕ
+clock_port Clock arguments = number_at arguments 0 ∷ []
+clock_port verb arguments = []
 
--- The text spells the session: its lines are the items of good phases that mean the session.
+abbrev pub caller_key : Verb → List (List ℕ) → List PlainKey
+caller_key Caller arguments = key_in arguments ∷ []
+caller_key verb arguments = []
+
+abbrev pub line_ports : List Block → List ℕ
+line_ports blocks = flat_map (λ block. line_port block.opening.verb block.opening.arguments) blocks
+
+abbrev pub clock_ports : List Block → List ℕ
+clock_ports blocks = flat_map (λ block. clock_port block.opening.verb block.opening.arguments) blocks
+
+abbrev pub caller_keys : List Block → List PlainKey
+caller_keys blocks = flat_map (λ block. caller_key block.opening.verb block.opening.arguments) blocks
+
+-- each port is none of those before it
+abbrev pub Once : List ℕ → List ℕ → Type 0
+Once before [] = Unit {0}
+Once before (port ∷ ports) = (holds before port ≡ false) × Once (before ++ port ∷ []) ports
+
+-- each caller is none of those before it, of which fewer than 16 are on its port
+abbrev pub CallersFit : List PlainKey → List PlainKey → Type 0
+CallersFit before [] = Unit {0}
+CallersFit before (key ∷ keys) = (list_any (same_key key.name key.port) before ≡ false) × (callers_on key.port before < 16) × CallersFit (before ++ key ∷ []) keys
+
+pub record IsGoodPhase (ports : ℕ) (blocks : List Block) : Type 0 where
+  pub each : AllByRecursion (IsGoodBlock ports) blocks
+  pub lines_once : Once [] (line_ports blocks)
+  pub clocks_once : Once [] (clock_ports blocks)
+  pub callers_fit : CallersFit [] (caller_keys blocks)
+
+-- how many steps a phase has: the items in its blocks
+abbrev pub steps_count : List Block → ℕ
+steps_count blocks = sum_by (λ block. length block.items) blocks
+
+abbrev pub arrivals_of : Verb → List (List ℕ) → ℕ
+arrivals_of (Step verb) arguments = arrivals verb arguments
+arrivals_of other arguments = 0
+
+abbrev pub arrivals_by : Item → ℕ
+arrivals_by item = arrivals_of item.verb item.arguments
+
+-- how many characters arrive on a port in a phase, and how many ticks its clock has
+abbrev pub block_characters : ℕ → Block → ℕ
+block_characters port block = if port_of block == port then sum_by arrivals_by block.items else 0
+
+abbrev pub characters_count : ℕ → List Block → ℕ
+characters_count port blocks = sum_by (block_characters port) blocks
+
+abbrev pub block_ticks : ℕ → Block → ℕ
+block_ticks port block = if port_of block == port then sum_by ticks_by block.items else 0
+
+abbrev pub ticks_count : ℕ → List Block → ℕ
+ticks_count port blocks = sum_by (block_ticks port) blocks
+
+pub record IsGoodFlip (version ports : ℕ) (arguments : List (List ℕ)) : Type 0 where
+  pub second : version ≡ 2
+  pub good : IsTrue (is_good ports Flip arguments)
+
+pub record IsGood (w : Written) : Type 0 where
+  pub header : IsTrue (is_good 0 Session (w.version ∷ []))
+  pub ports : IsTrue (is_good 0 Ports (w.ports ∷ []))
+  pub flips : AllByRecursion (IsGoodFlip (version_of w) (ports_of w)) w.flips
+  pub flips_once : Once [] (map (λ arguments. number_at arguments 0) w.flips)
+  pub phases : AllByRecursion (IsGoodPhase (ports_of w)) w.phases
+  pub few_phases : length w.phases ≤ 64
+  pub few_steps : sum_by steps_count w.phases ≤ 65536
+  pub few_characters : (port : ℕ) → sum_by (characters_count port) w.phases ≤ 262144
+  pub few_ticks : (port : ℕ) → sum_by (ticks_count port) w.phases ≤ 65536
+
+-- The text spells the session: the lines that say something are the items of a good written session that
+-- means it.
 pub record Spells (text : List ℕ) (session : PlainSession) : Type 0 where
-  pub phases : List (List Block)
-  pub items : items_of text ≡ session_items phases
-  pub good : IsGood phases
-  pub means : session ≡ meaning phases
+  pub written : Written
+  pub words : filter says (lines_in text) ≡ map item_words (session_items written)
+  pub good : IsGood written
+  pub means : session ≡ session_meaning written

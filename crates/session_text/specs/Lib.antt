@@ -1,7 +1,10 @@
 pub mod Drafts
-pub mod Fits
 pub mod Grammar
-pub mod Items
+pub mod Kinds
+pub mod Meaning
+pub mod Reading
+pub mod Refusals
 pub mod Rows
-pub mod Text
+pub mod Stands
+pub mod Verbs
 pub mod Views

@@ -1,28 +1,39 @@
--- What the reader's items say.
-use Rattle.std.specs.Prelude.{true, [], ◌∷◌}
-use Rattle.tty_calls.specs.Plain.{PlainCall, opens, closes, reads, sets_modes}
-use Rattle.tty_calls.specs.declared.calls.Access.TheVariants.{Rw}
-use Rattle.tty_calls.specs.declared.calls.When.TheVariants.{Now}
-use Rattle.tty_calls.specs.declared.calls.Word.TheVariants.{Raw as raw_word}
-use Rattle.session_text.specs.declared.items.Item.{Item}
-use Rattle.session_text.specs.declared.items.Item.TheVariants.{Wrong, Header, Ports, Phase, Line, Rx, Caller, Call, End}
-use Rattle.session_text.specs.declared.items.Verb.{Verb}
-use Rattle.session_text.specs.declared.items.Verb.TheVariants.{Open, Raw, Read, Close}
-use Rattle.session_text.specs.Items.{PlainItem, wrong, header, ports, phase, line, rx, caller, calls, ends}
+-- What the reader's values are as plain data.
+use Rattle.std.specs.Prelude.{map, option_map}
+use Rattle.tty_calls.specs.Sessions.{PlainPhase, phase_of, script_of}
+use Rattle.session_text.specs.declared.stands.Key.{Key}
+use Rattle.session_text.specs.declared.stands.Stand.{Stand}
+use Rattle.session_text.specs.declared.drafts.OpenPhase.{OpenPhase}
+use Rattle.session_text.specs.declared.drafts.Draft.{Draft}
+use Rattle.session_text.specs.declared.reader.Reader.{Reader}
+use Rattle.session_text.specs.Stands.{PlainKey, PlainStand}
+use Rattle.session_text.specs.Drafts.{PlainDraft}
+use Rattle.session_text.specs.Reading.{PlainReading}
 
-abbrev pub call_of_verb : Verb → PlainCall
-call_of_verb Open = opens 0 Rw true
-call_of_verb Raw = sets_modes 0 Now (raw_word ∷ [])
-call_of_verb (Read n) = reads 0 n
-call_of_verb Close = closes 0
+abbrev pub key_of : Key → PlainKey
+key_of key = record { name = key.name.bytes; port = key.port }
 
-abbrev pub item_of : Item → PlainItem
-item_of Wrong = wrong
-item_of Header = header
-item_of Ports = ports
-item_of Phase = phase
-item_of Line = line
-item_of (Rx digits) = rx digits.now
-item_of (Caller name) = caller name.now
-item_of (Call verb) = calls (call_of_verb verb)
-item_of End = ends
+abbrev pub stand_of : Stand → PlainStand
+stand_of s = record {
+  place = s.place;
+  version = s.version;
+  ports = s.ports;
+  flips = s.flips.items;
+  lines = s.lines.items;
+  clocks = s.clocks.items;
+  callers = map key_of s.callers.items;
+  port = s.port;
+  phases_left = s.phases_left;
+  steps_left = s.steps_left;
+  characters_left = s.characters_left;
+  ticks_left = s.ticks_left;
+}
+
+abbrev pub phase_view : OpenPhase → PlainPhase
+phase_view p = record { lines = map (λ steps. steps.items) p.lines.items; ticks = p.ticks.items; callers = map script_of p.callers.items }
+
+abbrev pub draft_of : Draft → PlainDraft
+draft_of d = record { flips = d.flips.items; phases = map phase_of d.phases.items; open_phase = option_map phase_view d.open_phase }
+
+abbrev pub reading_of : Reader → PlainReading
+reading_of r = record { stand = stand_of r.stand; draft = draft_of r.draft }

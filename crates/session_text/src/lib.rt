@@ -1,30 +1,27 @@
-//! The text of a session: its lines and words, what each line says, and the session that they spell.
+//! The text of a session: what may be written, what it means, and what is wrong with a text that is none.
 //!
-//! A line ends at LF, and the last LF may be missing. Words are parted by blanks, TABs and CRs. A line
-//! without words, or whose first word begins with `#`, says nothing. Each other line is an item:
-//!
-//! - `tty-session 1` and `ports 1` come first, and `end` last.
-//! - Between them stand up to 64 phases. A phase is `phase` and its blocks, in any order: at most one
-//!   line and at most one caller.
-//! - A line is `line 0` and `rx HEX` items: characters that arrive without error, their bytes in pairs
-//!   of hexadecimal digits of either case, at least one pair an item.
-//! - A caller is `caller NAME 0` and calls: `open 0 rw nonblock`, `modes 0 now raw`, `read 0 N` with N
-//!   from 1 to 65,536 in decimal digits without a leading 0, `close 0`. A name is a letter a to z and up
-//!   to 15 letters a to z, digits or `_`.
-//!
-//! A session has at most 65,536 `rx` items and calls together, and at most 262,144 characters.
+//! A text is read line by line, by the place where the reader stands. What it spells is defined as what
+//! is written: phases of blocks of items, each item a verb and words, with what they mean and how many
+//! there may be. The first wrong line is defined beside it, by the tests of a line in their order. A law
+//! joins the two: a text has a first wrong line exactly where it spells no session.
 #![tactic(auto)]
 
+mod calls;
 mod drafts;
 mod faults;
-mod items;
+mod kinds;
 mod laws;
 mod reader;
+mod stands;
+mod verbs;
 mod words;
 
-pub use faults::TextFault;
-pub use laws::{spelled_sessions_fit, spells_one_session, worked_texts_spell_their_sessions};
-pub use reader::parse;
+pub use faults::{BadLine, Reason, TextFault};
+pub use laws::{
+    a_text_is_refused_exactly_where_it_spells_no_session, spelled_sessions_are_within_limits,
+    spells_one_session, worked_texts_are_refused_at_their_lines, worked_texts_spell_their_sessions,
+};
+pub use reader::{Reader, parse};
 
 #[cfg(test)]
 mod tests;

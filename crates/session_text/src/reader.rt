@@ -1,100 +1,115 @@
-ghost use Rattle.std.specs.Prelude.{◌≡◌, [], IfOk, map, option_map};
-ghost use Rattle.tty_calls.specs.Sessions.{PlainSession, session_of as session_view, phase_of};
-ghost use Rattle.session_text.specs.Items.{items_of};
+ghost use Rattle.std.specs.Prelude.{◌≡◌, ◌⊎◌, Some, IfOk};
+ghost use Rattle.session_text.specs.Refusals.{refusal};
 ghost use Rattle.session_text.specs.Grammar.{Spells};
-ghost use Rattle.session_text.specs.Drafts.{draft_of, Gives, fresh, phases_from, nothing_after as nothing_follows, first_phases, after_head as head_read, session_with, session_in};
+ghost use Rattle.tty_calls.specs.Sessions.{session_of as session_view};
+ghost use Rattle.text_lines.specs.Lines.{words_of};
+ghost use Rattle.session_text.specs.Reading.{Gives, first_reading, reading_after_line, reading_after_item, session_at_end, session_in};
+ghost use Rattle.session_text.specs.Stands.{verdict_on, is_ended};
+ghost use Rattle.session_text.specs.Views.{stand_of, reading_of};
 
 use super::drafts::Draft;
-use super::faults::TextFault;
-use super::items::{Item, next_item};
+use super::faults::{BadLine, Reason, TextFault};
+use super::stands::{Place, Stand};
 use std::alloc::Global;
-use tty_base::{Buffer, NoMemory};
-use tty_calls::{Phase, Session};
+use text_lines::{is_comment, split_line, split_word};
+use tty_calls::Session;
 
-const FLIP: u32 = 4_096;
+/// Where the reader of a text stands, and what it has read.
+#[derive(Debug, Drop)]
+pub struct Reader {
+    stand: Stand,
+    draft: Draft,
+}
 
-/// The session that a text spells, or `Bad` where it spells none.
+impl Reader {
+    /// Before the first line.
+    pub fn new(alloc: Global) -> Reader
+        ensures { reading_of result ≡ first_reading }
+    {
+        Reader {
+            stand: Stand::new(alloc),
+            draft: Draft::new(alloc),
+        }
+    }
+
+    /// Reads the line with this number.
+    pub fn read_line(&mut self, alloc: Global, number: u32, line: &[u8]) -> Result<(), TextFault>
+        ensures { Gives (λ _. reading_of self.new) result (reading_after_line (reading_of self.old) number (words_of line.now)) }
+    {
+        match split_word(line) {
+            None => Ok(()),
+            Some((word, arguments)) => {
+                if is_comment(word) {
+                    return Ok(());
+                }
+                self.read_item(alloc, number, word, arguments)
+            }
+        }
+    }
+
+    fn read_item(
+        &mut self,
+        alloc: Global,
+        number: u32,
+        word: &[u8],
+        arguments: &[u8],
+    ) -> Result<(), TextFault>
+        ensures { Gives (λ _. reading_of self.new) result (reading_after_item (reading_of self.old) number (words_of arguments.now) (verdict_on (stand_of self.old.stand) word.now (words_of arguments.now))) }
+    {
+        match self.stand.judge(word, arguments) {
+            Ok(verb) => {
+                self.draft.add(alloc, &self.stand, verb, arguments)?;
+                self.stand.take(alloc, verb, arguments)?;
+                Ok(())
+            }
+            Err(reason) => Err(TextFault::Bad(BadLine {
+                line: number,
+                reason,
+            })),
+        }
+    }
+
+    /// Whether the session is over.
+    pub fn is_ended(&self) -> bool
+        ensures { result ≡ is_ended self.now.stand.place }
+    {
+        matches!(self.stand.place(), Place::Ended)
+    }
+
+    /// The session, where the text ends before the line with this number.
+    pub fn finish(self, number: u32) -> Result<Session, TextFault>
+        ensures { Gives session_view result (session_at_end (reading_of self) number) }
+    {
+        if !self.is_ended() {
+            return Err(TextFault::Bad(BadLine {
+                line: number,
+                reason: Reason::Order,
+            }));
+        }
+        Ok(self.draft.finish(&self.stand)?)
+    }
+}
+
+/// The session that a text spells. `Bad` comes exactly where it spells none, and names its first wrong
+/// line, counted from 1 and as far as 32 bits count, and why that line is wrong.
 pub fn parse(alloc: Global, text: &[u8]) -> Result<Session, TextFault>
     ensures ok { IfOk result (λ session. Spells text.now (session_view session)) }
-    ensures bad { result ≡ Err TextFault.Bad → (session : PlainSession) → Spells text.now session → ⊥ }
+    ensures bad { (line : BadLine) → result ≡ Err (TextFault.Bad line) → refusal text.now ≡ Some line }
+    ensures refused { (line : BadLine) → refusal text.now ≡ Some line → (result ≡ Err (TextFault.Bad line)) ⊎ (result ≡ Err TextFault.NoMemory) }
 {
-    session_in(alloc, text)
+    read_session(alloc, text)
 }
 
-fn session_in(alloc: Global, text: &[u8]) -> Result<Session, TextFault>
-    ensures { Gives session_view result (option_map session_with (session_in (items_of text.now))) }
+fn read_session(alloc: Global, text: &[u8]) -> Result<Session, TextFault>
+    ensures { Gives session_view result (session_in text.now) }
 {
-    let rest = after_head(text)?;
-    let phases = phases_of(alloc, rest)?;
-    Ok(session_of(alloc, phases)?)
-}
-
-fn after_head(text: &[u8]) -> Result<&[u8], TextFault>
-    ensures { Gives (λ rest. items_of rest.now) result (head_read (items_of text.now)) }
-{
-    match next_item(text) {
-        Some((Item::Header, rest)) => match next_item(rest) {
-            Some((Item::Ports, after)) => Ok(after),
-            _ => Err(TextFault::Bad),
-        },
-        _ => Err(TextFault::Bad),
-    }
-}
-
-fn phases_of(alloc: Global, text: &[u8]) -> Result<Buffer<Phase>, TextFault>
-    ensures { Gives (λ phases. map phase_of phases.items) result (first_phases (items_of text.now)) }
-{
-    match next_item(text) {
-        Some((Item::Phase, rest)) => phases_after(alloc, rest),
-        Some((Item::End, rest)) => {
-            nothing_after(rest)?;
-            Ok(Buffer::new(alloc))
-        }
-        _ => Err(TextFault::Bad),
-    }
-}
-
-/// The phases, from the first item of the first phase on.
-fn phases_after(alloc: Global, text: &[u8]) -> Result<Buffer<Phase>, TextFault>
-    ensures { Gives (λ phases. map phase_of phases.items) result (phases_from fresh (items_of text.now)) }
-{
-    let mut draft = Draft::new(alloc);
+    let mut reader = Reader::new(alloc);
     let mut rest = text;
-    'items: loop {
-        match next_item(rest) {
-            None => return Err(TextFault::Bad),
-            Some((Item::End, after)) => {
-                nothing_after(after)?;
-                return draft.finish(alloc);
-            }
-            Some((item, after)) => {
-                draft.read(alloc, item)?;
-                rest = after;
-            }
-        }
+    let mut number = 1u32;
+    while let Some((line, after)) = split_line(rest) {
+        reader.read_line(alloc, number, line)?;
+        rest = after;
+        number = number.saturating_add(1);
     }
-}
-
-/// No item may follow the end.
-fn nothing_after(text: &[u8]) -> Result<(), TextFault>
-    ensures { Gives (λ _. []) result (nothing_follows (items_of text.now)) }
-{
-    match next_item(text) {
-        None => Ok(()),
-        Some(_) => Err(TextFault::Bad),
-    }
-}
-
-fn session_of(alloc: Global, phases: Buffer<Phase>) -> Result<Session, NoMemory>
-    ensures { IfOk result (λ session. session_view session ≡ session_with (map phase_of phases.items)) }
-{
-    let mut flips = Buffer::new(alloc);
-    flips.reserve(1)?;
-    flips.add(FLIP);
-    Ok(Session {
-        version: 1,
-        ports: 1,
-        flips,
-        phases,
-    })
+    reader.finish(number)
 }

@@ -1,55 +1,77 @@
-ghost use Rattle.std.specs.Prelude.{◌≡◌, ◌⊎◌, ◌<◌, [], ◌∷◌, position, not, length, MatchOption};
-ghost use Rattle.session_text.specs.Text.{is_newline, is_blank, lines_of, words_of};
+ghost use Rattle.std.specs.Prelude.{◌≡◌};
+ghost use Rattle.tty_modes.specs.Reading.{word_of};
+ghost use Rattle.session_text.specs.Kinds.{access_of, when_of, queue_of, act_of, is_nonblock};
 
-/// The first line of a text, and what follows it. A line ends at LF; the last LF may be missing.
-pub(crate) fn split_line(text: &[u8]) -> (&[u8], &[u8])
-    ensures lines { (lines_of text.now ≡ result.0.now ∷ lines_of result.1.now)
-        ⊎ ((lines_of text.now ≡ result.0.now ∷ []) × (result.1.now ≡ [])) }
-    ensures shorter { 0 < length text.now → length result.1.now < length text.now }
+use tty_calls::{Access, Act, Queue, When};
+use tty_modes::{Word, set_word_bytes};
+
+pub(crate) fn access_of(word: &[u8]) -> Option<Access>
+    ensures { result ≡ access_of word.now }
 {
-    match newline_in(text) {
-        Some(at) => (&text[..at], &text[at + 1..]),
-        None => (text, &text[text.len()..]),
+    if word == b"r".as_slice() {
+        Some(Access::R)
+    } else if word == b"w".as_slice() {
+        Some(Access::W)
+    } else if word == b"rw".as_slice() {
+        Some(Access::Rw)
+    } else {
+        None
     }
 }
 
-fn newline_in(text: &[u8]) -> Option<usize>
-    ensures { result ≡ position is_newline text.now }
+pub(crate) fn when_of(word: &[u8]) -> Option<When>
+    ensures { result ≡ when_of word.now }
 {
-    text.iter().position(|byte| *byte == b'\n')
-}
-
-/// Words are parted by blanks, TABs and CRs.
-fn is_blank(byte: u8) -> bool
-    ensures { result ≡ is_blank byte }
-{
-    byte == b' ' || byte == b'\t' || byte == b'\r'
-}
-
-fn blank_in(line: &[u8]) -> Option<usize>
-    ensures { result ≡ position is_blank line.now }
-{
-    line.iter().position(|byte| is_blank(*byte))
-}
-
-fn word_in(line: &[u8]) -> Option<usize>
-    ensures { result ≡ position (λ byte. not (is_blank byte)) line.now }
-{
-    line.iter().position(|byte| !is_blank(*byte))
-}
-
-/// The first word of a line, and what follows it.
-pub(crate) fn split_word(line: &[u8]) -> Option<(&[u8], &[u8])>
-    ensures { MatchOption result (words_of line.now ≡ []) (λ parts. words_of line.now ≡ parts.0.now ∷ words_of parts.1.now) }
-{
-    match word_in(line) {
-        None => None,
-        Some(start) => {
-            let begun = &line[start..];
-            match blank_in(begun) {
-                Some(at) => Some((&begun[..at], &begun[at + 1..])),
-                None => Some((begun, &begun[begun.len()..])),
-            }
-        }
+    if word == b"now".as_slice() {
+        Some(When::Now)
+    } else if word == b"drain".as_slice() {
+        Some(When::Drain)
+    } else if word == b"flush".as_slice() {
+        Some(When::Flush)
+    } else {
+        None
     }
+}
+
+pub(crate) fn queue_of(word: &[u8]) -> Option<Queue>
+    ensures { result ≡ queue_of word.now }
+{
+    if word == b"in".as_slice() {
+        Some(Queue::Input)
+    } else if word == b"out".as_slice() {
+        Some(Queue::Output)
+    } else if word == b"both".as_slice() {
+        Some(Queue::Both)
+    } else {
+        None
+    }
+}
+
+pub(crate) fn act_of(word: &[u8]) -> Option<Act>
+    ensures { result ≡ act_of word.now }
+{
+    if word == b"ooff".as_slice() {
+        Some(Act::Ooff)
+    } else if word == b"oon".as_slice() {
+        Some(Act::Oon)
+    } else if word == b"ioff".as_slice() {
+        Some(Act::Ioff)
+    } else if word == b"ion".as_slice() {
+        Some(Act::Ion)
+    } else {
+        None
+    }
+}
+
+pub(crate) fn is_nonblock(word: &[u8]) -> bool
+    ensures { result ≡ is_nonblock word.now }
+{
+    word == b"nonblock".as_slice()
+}
+
+/// The mode word that a word is.
+pub(crate) fn mode_of(word: &[u8]) -> Option<Word>
+    ensures { result ≡ word_of word.now }
+{
+    set_word_bytes(word).ok()
 }

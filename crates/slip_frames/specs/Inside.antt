@@ -4,13 +4,13 @@ use Rattle.slip_frames.specs.Slip.{max_packet}
 use Rattle.slip_frames.specs.declared.receiving.Piece.{Piece}
 use Rattle.slip_frames.specs.declared.receiving.Piece.TheVariants.{Plain, Escaped, Spoilt, Ended}
 use Rattle.slip_frames.specs.declared.receiving.Decoder.TheInside.{Inside}
-use Rattle.slip_frames.specs.Decoding.{spoilt, spelling, Decoding}
+use Rattle.slip_frames.specs.Decoding.{bad_piece, spelling, Decoding}
 
 abbrev pub decoding_by : Piece → List ℕ → Decoding
-decoding_by Plain bytes = record { begun = spelling bytes false; packet = [] }
-decoding_by Escaped bytes = record { begun = spelling bytes true; packet = [] }
-decoding_by Spoilt bytes = record { begun = spoilt; packet = [] }
-decoding_by Ended bytes = record { begun = spelling [] false; packet = bytes }
+decoding_by Plain bytes = record { piece = spelling bytes false; packet = [] }
+decoding_by Escaped bytes = record { piece = spelling bytes true; packet = [] }
+decoding_by Spoilt bytes = record { piece = bad_piece; packet = [] }
+decoding_by Ended bytes = record { piece = spelling [] false; packet = bytes }
 
 abbrev pub decoding_of : Inside → Decoding
 decoding_of d = decoding_by d.piece d.bytes.items

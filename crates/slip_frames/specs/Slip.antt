@@ -33,14 +33,14 @@ pub data Spells : List ℕ → List ℕ → Type 0 where
   itself : (b : ℕ) (piece bytes : List ℕ) → b ≢ esc → Spells piece bytes → Spells (b ∷ piece) (b ∷ bytes)
 
 -- what a byte after ESC stands for
-abbrev pub unescaped : ℕ → ℕ
-unescaped b = if b == esc_end then end else if b == esc_esc then esc else b
+abbrev pub byte_after_escape : ℕ → ℕ
+byte_after_escape b = if b == esc_end then end else if b == esc_esc then esc else b
 
 -- the one list of bytes that a piece spells
 abbrev pub text_of : List ℕ → List ℕ
 text_of [] = []
 text_of (b ∷ []) = if b == esc then [] else b ∷ []
-text_of (b ∷ c ∷ piece) = if b == esc then unescaped c ∷ text_of piece else b ∷ text_of (c ∷ piece)
+text_of (b ∷ c ∷ piece) = if b == esc then byte_after_escape c ∷ text_of piece else b ∷ text_of (c ∷ piece)
 
 -- whether a flag is that of a good character
 abbrev pub is_normal : Flag → Bool
@@ -58,14 +58,14 @@ abbrev pub is_end : Flagged → Bool
 is_end c = is_normal c.flag && (c.byte == end)
 
 -- the pieces with c put before the first; where there is none, no END has come yet
-abbrev pub onto_piece : Flagged → List (List Flagged) → List (List Flagged)
-onto_piece c [] = []
-onto_piece c (piece ∷ more) = (c ∷ piece) ∷ more
+abbrev pub with_first_character : Flagged → List (List Flagged) → List (List Flagged)
+with_first_character c [] = []
+with_first_character c (piece ∷ more) = (c ∷ piece) ∷ more
 
 -- the pieces that the good ENDs of a list cut off; what follows the last one is no piece yet
 abbrev pub pieces : List Flagged → List (List Flagged)
 pieces [] = []
-pieces (c ∷ list) = if is_end c then [] ∷ pieces list else onto_piece c (pieces list)
+pieces (c ∷ list) = if is_end c then [] ∷ pieces list else with_first_character c (pieces list)
 
 abbrev pub bytes_of : List Flagged → List ℕ
 bytes_of piece = map (λ c. c.byte) piece
@@ -92,13 +92,13 @@ abbrev pub outcomes : List Flagged → List Outcome
 outcomes list = map outcome_of (pieces list)
 
 -- a byte as it is sent
-abbrev pub stuffed : ℕ → List ℕ
-stuffed b = if b == end then esc ∷ esc_end ∷ [] else if b == esc then esc ∷ esc_esc ∷ [] else b ∷ []
+abbrev pub spelling_of_byte : ℕ → List ℕ
+spelling_of_byte b = if b == end then esc ∷ esc_end ∷ [] else if b == esc then esc ∷ esc_esc ∷ [] else b ∷ []
 
 -- a packet as it is sent
-abbrev pub spelled : List ℕ → List ℕ
-spelled packet = end ∷ flat_map stuffed packet ++ end ∷ []
+abbrev pub spelling_of : List ℕ → List ℕ
+spelling_of packet = end ∷ flat_map spelling_of_byte packet ++ end ∷ []
 
 -- bytes that came unharmed
-abbrev pub good : List ℕ → List Flagged
-good bytes = map (λ b. record { byte = b; flag = Normal }) bytes
+abbrev pub good_characters : List ℕ → List Flagged
+good_characters bytes = map (λ b. record { byte = b; flag = Normal }) bytes

@@ -1,6 +1,6 @@
 ghost use Rattle.std.specs.Prelude.{◌≡◌, ◌≤◌, ℕ, false, ◌∷◌, ◌++◌, ◌≢◌, [], List, length, IfOk};
-ghost use Rattle.slip_frames.specs.Slip.{unescaped as unescaped_byte, outcomes, max_packet};
-ghost use Rattle.slip_frames.specs.Decoding.{WasFed, told, fed_by, decoding_after, new_decoding, spelling, spoilt, with_byte, one_more, verdict_of, packet_in};
+ghost use Rattle.slip_frames.specs.Slip.{byte_after_escape, outcomes, max_packet};
+ghost use Rattle.slip_frames.specs.Decoding.{WasFed, outcomes_by_answer, answer_to, decoding_after_character, new_decoding, spelling, bad_piece, with_byte, with_text_byte, answer_to_end, packet_in};
 
 use crate::{END, ESC, ESC_END, ESC_ESC, MAX_PACKET};
 use std::alloc::Global;
@@ -70,12 +70,12 @@ impl Decoder {
     /// was fed is, and nothing else.
     pub fn feed(&mut self, c: Flagged) -> Fed
         ensures fed { (list : List Flagged) → WasFed self.old list → WasFed self.new (list ++ c ∷ []) }
-        ensures told { (list : List Flagged) → WasFed self.old list →
-            outcomes (list ++ c ∷ []) ≡ outcomes list ++ told result self.new.packet }
+        ensures outcomes { (list : List Flagged) → WasFed self.old list →
+            outcomes (list ++ c ∷ []) ≡ outcomes list ++ outcomes_by_answer result self.new.packet }
 
         // The same step by step, for what keeps a decoder.
-        ensures result { result ≡ fed_by self.old.begun c }
-        ensures after { self.new ≡ decoding_after self.old c }
+        ensures result { result ≡ answer_to self.old.piece c }
+        ensures after { self.new ≡ decoding_after_character self.old c }
     {
         self.step(c)
     }
@@ -92,8 +92,8 @@ impl Decoder {
     }
 
     fn step(&mut self, c: Flagged) -> Fed
-        ensures result { result ≡ fed_by self.old.begun c }
-        ensures after { self.new ≡ decoding_after self.old c }
+        ensures result { result ≡ answer_to self.old.piece c }
+        ensures after { self.new ≡ decoding_after_character self.old c }
     {
         self.forget_packet();
         match c.flag {
@@ -115,8 +115,8 @@ impl Decoder {
 
     fn end_piece(&mut self) -> Fed
         requires { self.old.packet ≡ [] }
-        ensures result { result ≡ verdict_of self.old.begun }
-        ensures after { self.new ≡ record { begun = spelling [] false; packet = packet_in self.old.begun } }
+        ensures result { result ≡ answer_to_end self.old.piece }
+        ensures after { self.new ≡ record { piece = spelling [] false; packet = packet_in self.old.piece } }
     {
         if matches!(self.piece, Piece::Spoilt) {
             self.bytes.clear();
@@ -133,11 +133,11 @@ impl Decoder {
 
     fn add_byte(&mut self, b: u8)
         requires { self.old.packet ≡ [] }
-        ensures { self.new ≡ record { begun = with_byte self.old.begun b; packet = [] } }
+        ensures { self.new ≡ record { piece = with_byte self.old.piece b; packet = [] } }
     {
         match self.piece {
             Piece::Spoilt => {}
-            Piece::Escaped => self.keep(unescaped(b)),
+            Piece::Escaped => self.keep(byte_after_escape(b)),
             Piece::Plain | Piece::Ended => match b {
                 ESC => self.piece = Piece::Escaped,
                 _ => self.keep(b),
@@ -147,8 +147,8 @@ impl Decoder {
 
     fn keep(&mut self, b: u8)
         requires none { self.old.packet ≡ [] }
-        requires going { self.old.begun ≢ spoilt }
-        ensures { self.new ≡ record { begun = one_more (packet_in self.old.begun) b; packet = [] } }
+        requires going { self.old.piece ≢ bad_piece }
+        ensures { self.new ≡ record { piece = with_text_byte (packet_in self.old.piece) b; packet = [] } }
     {
         if self.bytes.len() < MAX_PACKET {
             match self.bytes.push(b) {
@@ -162,8 +162,8 @@ impl Decoder {
 }
 
 /// What a byte after [`ESC`] stands for.
-fn unescaped(b: u8) -> u8
-    ensures { result ≡ unescaped_byte b }
+fn byte_after_escape(b: u8) -> u8
+    ensures { result ≡ byte_after_escape b }
 {
     match b {
         ESC_END => END,

@@ -1,5 +1,5 @@
 ghost use Rattle.std.specs.Prelude.{◌≡◌, ℕ, ◌+◌, ◌++◌, ◌<◌, ◌≤◌, ◌↔◌, length, IfOk, Err};
-ghost use Rattle.slip_frames.specs.Slip.{spelled, stuffed, max_packet};
+ghost use Rattle.slip_frames.specs.Slip.{spelling_of, spelling_of_byte, max_packet};
 ghost use Rattle.slip_frames.specs.declared.sending.SlipFault.TheVariants.{NoMemory as OutOfMemory};
 
 use crate::{END, ESC, ESC_END, ESC_ESC, MAX_PACKET};
@@ -24,7 +24,7 @@ impl From<NoMemory> for SlipFault {
 
 fn add_stuffed(out: &mut Bytes, b: u8)
     requires { 2 ≤ out.old.spare }
-    ensures items { out.new.items ≡ out.old.items ++ stuffed b }
+    ensures items { out.new.items ≡ out.old.items ++ spelling_of_byte b }
     ensures spare { out.old.spare ≤ out.new.spare + 2 }
 {
     match b {
@@ -43,7 +43,7 @@ fn add_stuffed(out: &mut Bytes, b: u8)
 /// A packet as it is sent (RFC 1055): [`END`], its bytes with [`END`] and [`ESC`] as two bytes each, and [`END`].
 pub fn encode(alloc: Global, packet: &[u8]) -> Result<Bytes, SlipFault>
     ensures too_long { (result ≡ Err SlipFault.TooLong) ↔ (max_packet < length packet.now) }
-    ensures ok { IfOk result (λ out. out.items ≡ spelled packet.now) }
+    ensures ok { IfOk result (λ out. out.items ≡ spelling_of packet.now) }
 {
     if packet.len() > MAX_PACKET {
         return Err(SlipFault::TooLong);

@@ -14,6 +14,8 @@ fn feed_all(decoder: &mut Decoder, bytes: &[u8]) -> Fed {
     fed
 }
 
+fn moves<T: Send + Drop>(_value: T) {}
+
 #[test]
 fn stuffs_end_and_escape(rt: HostRuntime) -> Result<(), Fail> {
     let sent = encode(rt.alloc(), &[0xc0, 0xdb, 0x41])?;
@@ -75,5 +77,6 @@ fn flagged_character_spoils_its_piece(rt: HostRuntime) -> Result<(), Fail> {
     }
     assert_eq!(rt; feed_all(&mut decoder, &[0x44, 0xc0]), Fed::Packet);
     assert_eq!(rt; decoder.packet(), [0x44].as_slice());
+    moves(decoder);
     Ok(())
 }

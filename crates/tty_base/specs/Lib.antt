@@ -1,3 +1,4 @@
 pub mod Contents
+pub mod Lines
 pub mod Memory
 pub mod Outside

@@ -1,12 +1,12 @@
 use Rattle.std.specs.Prelude.{ℕ, List, ◌+◌, min}
 
 -- the number of the call after this one, as far as 32 bits count
-abbrev pub counted : ℕ → ℕ
-counted calls = min (calls + 1) 4294967295
+abbrev pub call_after : ℕ → ℕ
+call_after calls = min (calls + 1) 4294967295
 
 -- the count of faults after one more: it stands still at the last value of 64 bits
-abbrev pub faulted : ℕ → ℕ
-faulted faults = min (faults + 1) 18446744073709551615
+abbrev pub faults_after : ℕ → ℕ
+faults_after faults = min (faults + 1) 18446744073709551615
 
 -- a source in memory: the bytes left, the most that one call gives, the calls that fail, the number of the next call, and the faults so far
 pub record MemoryIn : Type 0 where

@@ -1,4 +1,4 @@
-ghost use Rattle.std.specs.Prelude.{◌≡◌, ◌+◌, ◌-◌, ◌≤◌, ◌<◌, ◌^◌, [], ◌∷◌, ◌++◌, length, IfOk, OnOk, OnErr, vec_len};
+ghost use Rattle.std.specs.Prelude.{◌≡◌, ◌+◌, ◌-◌, ◌≤◌, ◌<◌, ◌^◌, [], ◌∷◌, ◌++◌, length, take, drop, IfOk, OnOk, OnErr, vec_len};
 ghost use Rattle.tty_base.specs.Contents.{Contents};
 
 use super::characters::Flagged;
@@ -132,6 +132,20 @@ impl<T: Copy> Buffer<T> {
             Ok(()) => {}
             Err(_) => unreachable!(),
         }
+    }
+
+    /// Moves the first `n` items to the end of `out`. The room that they took is free again.
+    pub fn take_front(&mut self, n: usize, out: &mut Buffer<T>)
+        requires within { n ≤ length self.old.items }
+        requires room { n ≤ out.old.spare }
+        ensures front { out.new ≡ record { items = out.old.items ++ take n self.old.items; spare = out.old.spare - n } }
+        ensures rest { self.new ≡ record { items = drop n self.old.items; spare = self.old.spare + n } }
+    {
+        let rest = self.items.len() - n;
+        out.append(&self.items.as_slice()[..n]);
+        self.items.rotate_left(n);
+        self.items.truncate(rest);
+        self.spare += n;
     }
 
     /// An equal list, with room of its own.

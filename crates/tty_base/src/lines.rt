@@ -1,9 +1,9 @@
-ghost use Rattle.std.specs.Prelude.{◌≡◌, ℕ, List, [], ◌∷◌, ◌++◌, ◌+◌, ◌<◌, ◌^◌, length, OnOk, IfErr};
+ghost use Rattle.std.specs.Prelude.{◌≡◌, ℕ, List, [], ◌∷◌, ◌++◌, ◌+◌, ◌-◌, ◌<◌, ◌≤◌, Ok, length, OnOk, IfErr};
 ghost use Rattle.std.specs.List.Sorted.{IsNonDecreasing};
 ghost use Rattle.tty_base.specs.declared.characters.Flagged.{Flagged};
 ghost use mathlib.Core.List.{IsPrefix};
 
-use super::buffers::Buffer;
+use super::buffers::{Buffer, Chars};
 use super::characters::Flagged;
 
 /// What a serial line does next, as its receiver sees it (16550 data sheet).
@@ -71,10 +71,16 @@ pub trait Put {
     /// That the other end can see all that was put.
     ghost visible: { Self → Type 0 } = { λ _. Unit {0} };
 
+    /// Which buffer it is the end of.
+    ghost name: { Self → List ℕ } = { λ _. [] };
+
+    /// How many more characters may be handed to it, whether it accepts them or not.
+    ghost room: { Self → ℕ };
+
     /// Accepts a character, or answers `Full`, which says by its two numbers that no room was left
     /// when this call looked.
     fn put(&mut self, c: Flagged) -> Result<(), Full>
-        requires { length (sent self.old) < 2 ^ 63 }
+        requires { 0 < room self.old }
         ensures ok { OnOk result (sent self.new ≡ sent self.old ++ c ∷ []) }
         ensures full { IfErr result (λ f. (sent self.new ≡ sent self.old)
             × (heads self.new ≡ heads self.old ++ f.seen ∷ [])
@@ -82,7 +88,9 @@ pub trait Put {
             × (f.sent ≡ f.seen + capacity self.old)) }
         ensures grows { IsPrefix (heads self.old) (heads self.new) }
         ensures rise { IsNonDecreasing (heads self.new) }
-        ensures same { capacity self.new ≡ capacity self.old };
+        ensures same { capacity self.new ≡ capacity self.old }
+        ensures name { name self.new ≡ name self.old }
+        ensures room { room self.old ≤ room self.new + 1 };
 
     /// Makes all that was put visible to the other end.
     fn push(&mut self)
@@ -90,5 +98,32 @@ pub trait Put {
         ensures visible { visible self.new }
         ensures grows { IsPrefix (heads self.old) (heads self.new) }
         ensures rise { IsNonDecreasing (heads self.new) }
-        ensures same { capacity self.new ≡ capacity self.old };
+        ensures same { capacity self.new ≡ capacity self.old }
+        ensures name { name self.new ≡ name self.old }
+        ensures room { room self.new ≡ room self.old };
+}
+
+/// A list in reserved room accepts each character, and nobody takes from it.
+impl Put for Chars {
+    ghost use Rattle.std.specs.Prelude.{[], ◌+◌, length};
+
+    ghost sent = { λ list. list.items };
+
+    ghost heads = { λ _. [] };
+
+    ghost capacity = { λ list. length list.items + list.spare + 1 };
+
+    ghost room = { λ list. list.spare };
+
+    fn put(&mut self, c: Flagged) -> Result<(), Full>
+        requires { 0 < self.old.spare }
+        ensures { (result ≡ Ok tt) × (self.new ≡ record { items = self.old.items ++ c ∷ []; spare = self.old.spare - 1 }) }
+    {
+        self.add(c);
+        Ok(())
+    }
+
+    fn push(&mut self)
+        ensures { self.new ≡ self.old }
+    {}
 }

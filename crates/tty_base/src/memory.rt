@@ -1,6 +1,6 @@
 ghost use Rattle.std.specs.Prelude.{◌≡◌, ◌⊎◌, ℕ, List, [], Option, Some, Ok, Err, ◌+◌, ◌-◌, ◌++◌, ◌≤◌, ◌<◌, ◌↔◌, min, take, drop, length, IfOk, IfSome, OnOk, OnErr, IsErr, Contains};
 ghost use Rattle.tty_base.specs.Outside.{Rose, Gives};
-ghost use Rattle.tty_base.specs.Memory.{counted, faulted};
+ghost use Rattle.tty_base.specs.Memory.{call_after, faults_after};
 
 use super::buffers::{Bytes, NoMemory};
 use super::sinks::Sink;
@@ -63,8 +63,8 @@ impl Source for MemSource {
 
         ensures fails { IsErr result ↔ Contains self.old.fails self.old.calls }
         ensures ok { IfOk result (λ k. (k ≡ min (min (length self.old.left) self.old.piece) (length buf.old))
-            × (self.new ≡ record self.old { left = drop k self.old.left; calls = counted self.old.calls })) }
-        ensures err { OnErr result (self.new ≡ record self.old { calls = counted self.old.calls; faults = faulted self.old.faults }) }
+            × (self.new ≡ record self.old { left = drop k self.old.left; calls = call_after self.old.calls })) }
+        ensures err { OnErr result (self.new ≡ record self.old { calls = call_after self.old.calls; faults = faults_after self.old.faults }) }
     {
         let call = self.calls;
         self.calls = call.saturating_add(1);
@@ -150,8 +150,8 @@ impl Sink for MemSink {
 
         ensures fails { IsErr result ↔ (self.old.room ≡ 0) ⊎ Contains self.old.fails self.old.calls }
         ensures ok { IfOk result (λ k. (k ≡ min (min (length bytes.now) self.old.piece) self.old.room)
-            × (self.new ≡ record self.old { given = self.old.given ++ take k bytes.now; room = self.old.room - k; calls = counted self.old.calls })) }
-        ensures err { OnErr result (self.new ≡ record self.old { calls = counted self.old.calls; faults = faulted self.old.faults }) }
+            × (self.new ≡ record self.old { given = self.old.given ++ take k bytes.now; room = self.old.room - k; calls = call_after self.old.calls })) }
+        ensures err { OnErr result (self.new ≡ record self.old { calls = call_after self.old.calls; faults = faults_after self.old.faults }) }
     {
         let call = self.calls;
         self.calls = call.saturating_add(1);

@@ -4,28 +4,44 @@ use std::io;
 use std::io::{ErrorKind, Read, Write};
 use std::test::Fail;
 
-/// A device that fails at its first call and moves one byte at each later one.
+/// A device that fails at its first call, and then moves one byte at each: out of a text, or into
+/// nothing.
 #[derive(Drop)]
 struct Flaky {
     failed: bool,
+    text: &'static [u8],
+}
+
+impl Flaky {
+    fn fail_once(&mut self) -> io::Result<()> {
+        if self.failed {
+            return Ok(());
+        }
+        self.failed = true;
+        Err(io::Error::from(ErrorKind::BrokenPipe))
+    }
 }
 
 impl Read for Flaky {
     fn read(&mut self, buf: &mut [u8]) -> io::Result<usize> {
-        if !self.failed {
-            self.failed = true;
-            return Err(io::Error::from(ErrorKind::BrokenPipe));
+        self.fail_once()?;
+        if buf.is_empty() {
+            return Ok(0);
         }
-        Ok(buf.len().min(1))
+        match self.text {
+            [] => Ok(0),
+            [first, rest @ ..] => {
+                buf[0] = *first;
+                self.text = rest;
+                Ok(1)
+            }
+        }
     }
 }
 
 impl Write for Flaky {
     fn write(&mut self, buf: &[u8]) -> io::Result<usize> {
-        if !self.failed {
-            self.failed = true;
-            return Err(io::Error::from(ErrorKind::BrokenPipe));
-        }
+        self.fail_once()?;
         Ok(buf.len().min(1))
     }
 
@@ -86,16 +102,41 @@ fn a_failing_source_and_a_failing_sink_are_told(rt: HostRuntime) -> Result<(), F
 }
 
 #[test]
-fn standard_input_that_fails_is_a_fault_and_can_go_on(rt: HostRuntime) {
-    let mut source = StdSource::new(Flaky { failed: false });
+fn standard_input_that_fails_is_a_fault_and_gives_its_text_after(
+    rt: HostRuntime,
+) -> Result<(), Fail> {
+    let mut source = StdSource::new(Flaky {
+        failed: false,
+        text: b"hello",
+    });
     let mut buf = [0u8; 4];
     assert_eq!(rt; source.read(&mut buf), Err(Failed));
-    assert_eq!(rt; source.read(&mut buf), Ok(1));
+    let text = read_all(rt.alloc(), &mut source, 9)?;
+    assert_eq!(rt; text.as_slice(), b"hello".as_slice());
+    assert_eq!(rt; source.read(&mut buf), Ok(0));
+    Ok(())
 }
 
 #[test]
 fn standard_output_that_fails_is_a_fault_and_can_go_on(rt: HostRuntime) {
-    let mut sink = StdSink::new(Flaky { failed: false });
+    let mut sink = StdSink::new(Flaky {
+        failed: false,
+        text: b"",
+    });
     assert_eq!(rt; sink.write(b"hi"), Err(Failed));
     assert_eq!(rt; sink.write(b"hi"), Ok(1));
+}
+
+#[test]
+fn a_list_takes_characters_in_its_reserved_room(rt: HostRuntime) -> Result<(), Fail> {
+    let mut list = Chars::new(rt.alloc());
+    list.reserve(1)?;
+    let c = Flagged {
+        byte: 97,
+        flag: Flag::Parity,
+    };
+    assert_eq!(rt; list.put(c), Ok(()));
+    list.push();
+    assert_eq!(rt; list.as_slice(), [c].as_slice());
+    Ok(())
 }

@@ -1,2 +1,4 @@
+pub mod Limits
+pub mod Naming
 pub mod Plain
 pub mod Sessions

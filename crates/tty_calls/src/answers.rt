@@ -3,14 +3,23 @@ ghost use Rattle.tty_calls.specs.Plain.{answer_of, bytes_in};
 
 use std::alloc::Global;
 use tty_base::{Buffer, Bytes, Counts, Errno, NoMemory, Signal};
+use tty_modes::Modes;
 
 /// What a call is answered.
 #[derive(Debug, Drop)]
 pub enum Answer {
     /// The call did what it is for.
     Done,
-    /// The bytes that a read gives. None are the end of file.
+    /// How many bytes a write took.
+    Count(u32),
+    /// The bytes that a read gives, or a packet. No bytes are the end of file.
     Got(Bytes),
+    /// The number that was asked for.
+    Number(u32),
+    /// The modes that were asked for.
+    ModesAre(Modes),
+    /// The counts that were asked for.
+    CountsAre(Counts),
     /// The call was refused (errno(3)).
     Refused(Errno),
     /// The call waited, and nothing could come any more that it waited for.
@@ -23,8 +32,12 @@ impl Answer {
         ensures { IfOk result (λ copy. answer_of copy ≡ answer_of self.now) }
     {
         match self {
-            Answer::Done => Ok(Answer::Done),
             Answer::Got(bytes) => Ok(Answer::Got(bytes.copy(alloc)?)),
+            Answer::Done => Ok(Answer::Done),
+            Answer::Count(count) => Ok(Answer::Count(*count)),
+            Answer::Number(number) => Ok(Answer::Number(*number)),
+            Answer::ModesAre(modes) => Ok(Answer::ModesAre(*modes)),
+            Answer::CountsAre(counts) => Ok(Answer::CountsAre(*counts)),
             Answer::Refused(errno) => Ok(Answer::Refused(*errno)),
             Answer::Idle => Ok(Answer::Idle),
         }
@@ -37,17 +50,20 @@ impl Answer {
         ensures { answer_of result ≡ answer_of self.now }
     {
         match self {
-            Answer::Done => Answer::Done,
             Answer::Got(bytes) => {
                 room.append(bytes.as_slice());
                 Answer::Got(room)
             }
+            Answer::Done => Answer::Done,
+            Answer::Count(count) => Answer::Count(*count),
+            Answer::Number(number) => Answer::Number(*number),
+            Answer::ModesAre(modes) => Answer::ModesAre(*modes),
+            Answer::CountsAre(counts) => Answer::CountsAre(*counts),
             Answer::Refused(errno) => Answer::Refused(*errno),
             Answer::Idle => Answer::Idle,
         }
     }
 }
-
 /// Why a port made no entry.
 #[derive(Clone, Copy, Debug, PartialEq, Eq)]
 pub enum Denied {

@@ -1,8 +1,9 @@
 ghost use Rattle.std.specs.Prelude.{◌≡◌, IfOk};
-ghost use Rattle.tty_calls.specs.Plain.{call_of, handle_of};
+ghost use Rattle.tty_calls.specs.Plain.{call_of, handle_of, changes};
 
 use std::alloc::Global;
-use tty_base::{Buffer, NoMemory};
+use tty_base::{Buffer, Bytes, NoMemory};
+use tty_modes::Word;
 
 /// What a handle may be used for (open(2), access mode).
 #[derive(Clone, Copy, Debug, PartialEq, Eq)]
@@ -12,18 +13,38 @@ pub enum Access {
     Rw,
 }
 
-/// When new modes are set (ioctl_tty(2), TCSETS).
+/// When new modes are set (ioctl_tty(2), TCSETS, TCSETSW and TCSETSF).
 #[derive(Clone, Copy, Debug, PartialEq, Eq)]
 pub enum When {
     /// At once.
     Now,
+    /// When no output is held.
+    Drain,
+    /// When no output is held, and unread input is dropped.
+    Flush,
 }
 
-/// One change of modes.
+/// What is dropped (ioctl_tty(2), TCFLSH).
 #[derive(Clone, Copy, Debug, PartialEq, Eq)]
-pub enum Word {
-    /// Clears the flags of cfmakeraw(3).
-    Raw,
+pub enum Queue {
+    /// What was received and not read.
+    Input,
+    /// What was written and is held.
+    Output,
+    Both,
+}
+
+/// What flow control is told (ioctl_tty(2), TCXONC).
+#[derive(Clone, Copy, Debug, PartialEq, Eq)]
+pub enum Act {
+    /// Output is halted.
+    Ooff,
+    /// Output that was halted so goes on.
+    Oon,
+    /// The STOP character is sent.
+    Ioff,
+    /// The START character is sent.
+    Ion,
 }
 
 /// A list of mode words.
@@ -47,11 +68,76 @@ pub enum Call {
         h: u8,
         n: u32,
     },
+    /// Writes 1 to 65,536 bytes (write(2)).
+    Write {
+        h: u8,
+        bytes: Bytes,
+    },
+    /// Asks for the modes (ioctl_tty(2), TCGETS).
+    GetModes {
+        h: u8,
+    },
     /// Applies 1 to 64 mode words in their order (ioctl_tty(2), TCSETS).
     SetModes {
         h: u8,
         when: When,
         words: Words,
+    },
+    /// Asks for the number of the line discipline (ioctl_tty(2), TIOCGETD).
+    GetDisc {
+        h: u8,
+    },
+    /// Changes the line discipline (ioctl_tty(2), TIOCSETD).
+    SetDisc {
+        h: u8,
+        number: u32,
+    },
+    /// Drops what was not read or not sent (ioctl_tty(2), TCFLSH).
+    Flush {
+        h: u8,
+        queue: Queue,
+    },
+    /// Halts output or lets it go on, or tells the sender to (ioctl_tty(2), TCXONC).
+    Xonc {
+        h: u8,
+        act: Act,
+    },
+    /// Asks how many bytes can be read (ioctl_tty(2), FIONREAD).
+    Inq {
+        h: u8,
+    },
+    /// Asks how many bytes are held (ioctl_tty(2), TIOCOUTQ).
+    Outq {
+        h: u8,
+    },
+    /// Lets nobody else open the port (ioctl_tty(2), TIOCEXCL).
+    Excl {
+        h: u8,
+    },
+    /// Lets others open the port again (ioctl_tty(2), TIOCNXCL).
+    Nxcl {
+        h: u8,
+    },
+    /// Waits until no output is held (ioctl_tty(2), TCSBRK).
+    Drain {
+        h: u8,
+    },
+    /// Asks what the port has counted.
+    Counts {
+        h: u8,
+    },
+    /// Hangs the port up (vhangup(2)).
+    Vhangup {
+        h: u8,
+    },
+    /// Sends a packet of 1 to 65,536 bytes (RFC 1055), of which SLIP takes at most 1,006.
+    SendPacket {
+        h: u8,
+        bytes: Bytes,
+    },
+    /// Takes the first packet that was received (RFC 1055).
+    TakePacket {
+        h: u8,
     },
 }
 
@@ -62,7 +148,23 @@ impl Call {
     {
         match self {
             Call::Open { h, .. } | Call::Close { h } | Call::Read { h, .. } => *h,
-            Call::SetModes { h, .. } => *h,
+            Call::Write { h, .. } | Call::GetModes { h } | Call::SetModes { h, .. } => *h,
+            Call::GetDisc { h } | Call::SetDisc { h, .. } | Call::Flush { h, .. } => *h,
+            Call::Xonc { h, .. } | Call::Inq { h } | Call::Outq { h } => *h,
+            Call::Excl { h } | Call::Nxcl { h } | Call::Drain { h } => *h,
+            Call::Counts { h } | Call::Vhangup { h } => *h,
+            Call::SendPacket { h, .. } | Call::TakePacket { h } => *h,
+        }
+    }
+
+    /// Whether the call may change the line discipline or the generation: `Close`, `SetDisc` and
+    /// `Vhangup` may.
+    pub fn changes(&self) -> bool
+        ensures { result ≡ changes (call_of self.now) }
+    {
+        match self {
+            Call::Close { .. } | Call::SetDisc { .. } | Call::Vhangup { .. } => true,
+            _ => false,
         }
     }
 
@@ -70,23 +172,44 @@ impl Call {
     pub fn copy(&self, alloc: Global) -> Result<Call, NoMemory>
         ensures { IfOk result (λ copy. call_of copy ≡ call_of self.now) }
     {
-        match self {
+        Ok(match *self {
             Call::Open {
                 h,
                 access,
                 nonblock,
-            } => Ok(Call::Open {
-                h: *h,
-                access: *access,
-                nonblock: *nonblock,
-            }),
-            Call::Close { h } => Ok(Call::Close { h: *h }),
-            Call::Read { h, n } => Ok(Call::Read { h: *h, n: *n }),
-            Call::SetModes { h, when, words } => Ok(Call::SetModes {
-                h: *h,
-                when: *when,
+            } => Call::Open {
+                h,
+                access,
+                nonblock,
+            },
+            Call::Close { h } => Call::Close { h },
+            Call::Read { h, n } => Call::Read { h, n },
+            Call::Write { h, ref bytes } => Call::Write {
+                h,
+                bytes: bytes.copy(alloc)?,
+            },
+            Call::GetModes { h } => Call::GetModes { h },
+            Call::SetModes { h, when, ref words } => Call::SetModes {
+                h,
+                when,
                 words: words.copy(alloc)?,
-            }),
-        }
+            },
+            Call::GetDisc { h } => Call::GetDisc { h },
+            Call::SetDisc { h, number } => Call::SetDisc { h, number },
+            Call::Flush { h, queue } => Call::Flush { h, queue },
+            Call::Xonc { h, act } => Call::Xonc { h, act },
+            Call::Inq { h } => Call::Inq { h },
+            Call::Outq { h } => Call::Outq { h },
+            Call::Excl { h } => Call::Excl { h },
+            Call::Nxcl { h } => Call::Nxcl { h },
+            Call::Drain { h } => Call::Drain { h },
+            Call::Counts { h } => Call::Counts { h },
+            Call::Vhangup { h } => Call::Vhangup { h },
+            Call::SendPacket { h, ref bytes } => Call::SendPacket {
+                h,
+                bytes: bytes.copy(alloc)?,
+            },
+            Call::TakePacket { h } => Call::TakePacket { h },
+        })
     }
 }

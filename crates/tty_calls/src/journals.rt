@@ -1,3 +1,6 @@
+ghost use Rattle.std.specs.Prelude.{◌≡◌};
+ghost use Rattle.tty_calls.specs.Plain.{is_caller};
+
 use super::answers::Answer;
 use tty_base::{Buffer, Chars, LineReport};
 
@@ -10,6 +13,18 @@ pub enum Who {
     Line,
     Clock,
     Session,
+}
+
+impl Who {
+    /// Whether the entry was made by the caller of this number.
+    pub fn is_caller(&self, caller: u16) -> bool
+        ensures { result ≡ is_caller self.now caller }
+    {
+        match self {
+            Who::Caller(number) => *number == caller,
+            _ => false,
+        }
+    }
 }
 
 /// What one entry of a journal says.

@@ -5,11 +5,13 @@
 mod answers;
 mod calls;
 mod journals;
+mod names;
 mod sessions;
 
 pub use answers::{Answer, Denied, PortEnd};
-pub use calls::{Access, Call, When, Word, Words};
+pub use calls::{Access, Act, Call, Queue, When, Words};
 pub use journals::{Entry, Event, Journal, PortRun, Who};
+pub use names::Names;
 pub use sessions::{Phase, Script, Session};
 
 #[cfg(test)]

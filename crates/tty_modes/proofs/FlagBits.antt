@@ -11,7 +11,7 @@ use Rattle.std.specs.Int.{bit_at, w32}
 use Rattle.std.specs.Int.RustNames.{bit_and, bit_or}
 use Rattle.bitflags.specs.Sets.{without}
 use Rattle.tty_modes.specs.Bits.{flags_of}
-use Rattle.tty_modes.specs.Settings.{set_at, raw_places}
+use Rattle.tty_modes.specs.Settings.{with_flags_at, raw_places}
 
 pub length-flags_of : (count bits : ℕ) → length (flags_of count bits) ≡ count
 unfolding flags_of
@@ -112,7 +112,7 @@ without-or bits a b a_fits b_fits =
     omega arith)
 
 -- clearing the bits at some places clears their flags
-flags_of-clear_all : (places : List ℕ) (bits : ℕ) → AllInside places → flags_of 29 (without 32 bits (mask_of places)) ≡ set_at false places (flags_of 29 bits)
+flags_of-clear_all : (places : List ℕ) (bits : ℕ) → AllInside places → flags_of 29 (without 32 bits (mask_of places)) ≡ with_flags_at false places (flags_of 29 bits)
 flags_of-clear_all [] bits inside =
     same_flags 29 (without 32 bits 0) bits
     (λ k below.
@@ -123,10 +123,10 @@ flags_of-clear_all [] bits inside =
 flags_of-clear_all (place ∷ places) bits inside =
     without-or bits (2 ^ place) (mask_of places) (pow_below place 29 inside.0) (mask_of-lt places inside.1)
     ∙ flags_of-clear_all places (without 32 bits (2 ^ place)) inside.1
-    ∙ ap (set_at false places) (flags_of-clear bits place inside.0)
+    ∙ ap (with_flags_at false places) (flags_of-clear bits place inside.0)
 
 -- clearing the bits of cfmakeraw(3) clears its flags
-pub flags_of-raw : (bits : ℕ) → flags_of 29 (without 32 bits (mask_of raw_places)) ≡ set_at false raw_places (flags_of 29 bits)
+pub flags_of-raw : (bits : ℕ) → flags_of 29 (without 32 bits (mask_of raw_places)) ≡ with_flags_at false raw_places (flags_of 29 bits)
 flags_of-raw bits =
     flags_of-clear_all raw_places bits
     (lit< tt, (lit< tt, (lit< tt, (lit< tt, (lit< tt, (lit< tt, (lit< tt, (lit< tt, (lit< tt, (lit< tt, (lit< tt, (lit< tt, (lit< tt, (lit< tt, tt))))))))))))))

@@ -1,2 +1,3 @@
 pub mod FlagBits
 pub mod WordTexts
+mod AsciiTexts

@@ -23,14 +23,14 @@ abbrev pub character : Settings → ℕ → ℕ
 character modes place = slice_index modes.characters place
 
 -- the flags with those at some places set, or cleared
-abbrev pub set_at : Bool → List ℕ → List Bool → List Bool
-set_at value [] flags = flags
-set_at value (place ∷ places) flags = set_at value places (slice_set flags place value)
+abbrev pub with_flags_at : Bool → List ℕ → List Bool → List Bool
+with_flags_at value [] flags = flags
+with_flags_at value (place ∷ places) flags = with_flags_at value places (slice_set flags place value)
 
 -- the defaults
-abbrev pub sane : Settings
-sane = record {
-  flags = set_at true (ICRNL ∷ IXON ∷ OPOST ∷ ONLCR ∷ ISIG ∷ ICANON ∷ ECHO ∷ ECHOE ∷ ECHOK ∷ ECHOKE ∷ ECHOCTL ∷ IEXTEN ∷ [])
+abbrev pub sane_modes : Settings
+sane_modes = record {
+  flags = with_flags_at true (ICRNL ∷ IXON ∷ OPOST ∷ ONLCR ∷ ISIG ∷ ICANON ∷ ECHO ∷ ECHOE ∷ ECHOK ∷ ECHOKE ∷ ECHOCTL ∷ IEXTEN ∷ [])
       (replicate FLAG_COUNT false);
   characters = 3 ∷ 28 ∷ 127 ∷ 21 ∷ 4 ∷ 0 ∷ 1 ∷ 17 ∷ 19 ∷ 26 ∷ 0 ∷ 18 ∷ 23 ∷ 22 ∷ 0 ∷ [];
 }

@@ -11,7 +11,7 @@ mod settings;
 mod words;
 
 pub use names::{character_name, flag_name};
-pub use reading::{BadWord, set_word, words_are_their_texts};
+pub use reading::{BadWord, set_word, set_word_bytes, words_are_their_texts};
 pub use settings::Modes;
 pub use words::Word;
 

@@ -27,6 +27,19 @@ pub fn set_word(text: &str) -> Result<Word, BadWord>
     read_word(text).ok_or(BadWord)
 }
 
+/// Reads a mode word as [`set_word`] does, from bytes that need not be a text.
+pub fn set_word_bytes(bytes: &[u8]) -> Result<Word, BadWord>
+    ensures word { IfOk result (λ w. IsModeWord w × (word_text w ≡ bytes.now)) }
+    ensures read_back { (w : Word) → IsModeWord w → word_text w ≡ bytes.now → result ≡ Ok w }
+    ensures bad { OnErr result ((w : Word) → IsModeWord w → word_text w ≢ bytes.now) }
+    ensures value { result_ok result ≡ word_of bytes.now }
+{
+    match str::from_utf8(bytes) {
+        Ok(text) => set_word(text),
+        Err(_) => Err(BadWord),
+    }
+}
+
 /// Each mode word is read back from its text, what is read spells the text, and different mode words have different texts.
 pub fn words_are_their_texts()
     ensures read_back { (w : Word) → IsModeWord w → word_of (word_text w) ≡ Some w }

@@ -1,7 +1,7 @@
 //! Modes: which flags are set, and the control characters.
 
 ghost use Rattle.std.specs.Prelude.{◌≡◌, ◌↔◌, IsTrue};
-ghost use Rattle.tty_modes.specs.Settings.{has_flag, character, sane};
+ghost use Rattle.tty_modes.specs.Settings.{has_flag, character, sane_modes};
 
 use crate::bits::{ModeBits, bit};
 use crate::places::{CHARACTER_COUNT, FLAG_COUNT};
@@ -59,11 +59,11 @@ impl Eq for Modes {
 }
 
 impl Modes {
-    ghost use Rattle.tty_modes.specs.Word.{changed};
+    ghost use Rattle.tty_modes.specs.Word.{after_word, after_words};
 
     /// The defaults.
     pub fn sane() -> Modes
-        ensures { result ≡ sane }
+        ensures { result ≡ sane_modes }
     {
         Modes {
             bits: ModeBits::SANE,
@@ -87,7 +87,7 @@ impl Modes {
 
     /// Makes one change. A place past its list changes nothing.
     pub fn apply(&mut self, word: Word)
-        ensures { self.new ≡ changed self.old word }
+        ensures { self.new ≡ after_word self.old word }
     {
         match word {
             Word::On(flag) => {
@@ -107,6 +107,15 @@ impl Modes {
             }
             Word::Raw => self.bits.remove(ModeBits::RAW),
             Word::Sane => *self = Modes::sane(),
+        }
+    }
+
+    /// Makes several changes, in their order.
+    pub fn apply_all(&mut self, words: &[Word])
+        ensures { self.new ≡ after_words self.old words.now }
+    {
+        for word in words {
+            self.apply(*word);
         }
     }
 }

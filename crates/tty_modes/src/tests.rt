@@ -1,5 +1,8 @@
 use crate::places::{CHARACTER_COUNT, FLAG_COUNT, ICANON, IUTF8, OPOST, TOSTOP, VEOL2, VMIN};
-use crate::{BadWord, Modes, Word, character_name, flag_name, set_word, words_are_their_texts};
+use crate::{
+    BadWord, Modes, Word, character_name, flag_name, set_word, set_word_bytes,
+    words_are_their_texts,
+};
 use std::test::Fail;
 
 #[test]
@@ -33,6 +36,8 @@ fn words_are_read(rt: HostRuntime) {
     assert_eq!(rt; set_word("min=0"), Ok(Word::Cc(6, 0)));
     assert_eq!(rt; set_word("raw"), Ok(Word::Raw));
     assert_eq!(rt; set_word("sane"), Ok(Word::Sane));
+    assert_eq!(rt; set_word_bytes(b"-echo"), Ok(Word::Off(19)));
+    assert_eq!(rt; set_word_bytes(b"ech\xef"), Err(BadWord));
 }
 
 #[test]
@@ -64,4 +69,9 @@ fn words_change_modes(rt: HostRuntime) {
     assert!(rt; modes != before && !modes.has(TOSTOP));
     modes.apply(Word::Sane);
     assert!(rt; modes == Modes::sane() && !modes.has(IUTF8) && modes.cc(VEOL2) == 0);
+    modes.apply_all(&[Word::On(IUTF8), Word::Raw, Word::Off(IUTF8)]);
+    assert!(rt; !modes.has(IUTF8) && !modes.has(ICANON));
+    moves(modes);
 }
+
+fn moves<T: Send + Sync + Drop>(_value: T) {}

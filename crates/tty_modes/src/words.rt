@@ -1,4 +1,4 @@
-//! Mode words: a flag's name sets it, `-` and the name clears it, `NAME=N` sets a control character, and `raw` and `sane` set modes whole.
+//! The changes of modes that a word can ask for.
 
 /// One change of modes.
 #[derive(Clone, Copy, PartialEq, Eq, Debug)]

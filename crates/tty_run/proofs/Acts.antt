@@ -7,12 +7,12 @@ use Rattle.std.proofs.lemmas.Grind.{flat_map-append}
 use Rattle.std.proofs.lemmas.Bool.Decides.{eqb_tells}
 use Rattle.tty_base.specs.declared.characters.Flagged.{Flagged}
 use Rattle.tty_base.specs.declared.lines.LineStep.{LineStep}
-use Rattle.tty_calls.specs.declared.calls.Call.{Call}
-use Rattle.tty_calls.specs.Plain.{PlainCall, call_of}
-use Rattle.tty_calls.specs.Sessions.{PlainScript, PlainSession, scripts_on, scripts_over, with_name, names_of, calls_of, call_at}
-use Rattle.uart_line.specs.Received.{arrival}
-use Rattle.port_core.specs.Ports.{PortValue, Appends, end_entry}
-use Rattle.session_text.specs.Fits.{Fits, PhaseFits, ScriptsFit, ArePlayable, IsPlayable, IsGoodStep, AreGoodSteps}
+use Rattle.first_calls.specs.declared.calls.Call.{Call}
+use Rattle.first_calls.specs.Plain.{PlainCall, call_of}
+use Rattle.first_calls.specs.Sessions.{PlainScript, PlainSession, scripts_on, scripts_over, with_name, names_of, calls_of, call_at}
+use Rattle.tty_base.specs.Lines.{arrival}
+use Rattle.first_port.specs.Ports.{PortValue, Appends, end_entry}
+use Rattle.first_text.specs.Fits.{Fits, PhaseFits, ScriptsFit, ArePlayable, IsPlayable, IsGoodStep, AreGoodSteps}
 use Rattle.tty_run.specs.Stages.{Casts}
 use Rattle.tty_run.specs.Legal.{phase_at, name_at, first_step, steps_in, IsCallerOf, IsCallOf, caller_part}
 use Rattle.tty_run.specs.Playing.{AddsFlushes, AddsAnswer, Follows, LineOver, IsOnlyCaller, CastIs, IsNumbered}

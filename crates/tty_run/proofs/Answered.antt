@@ -7,14 +7,14 @@ use Rattle.std.specs.Option.{option_or}
 use Rattle.std.proofs.lemmas.Bool.{false≢true, cases_lt}
 use Rattle.std.proofs.lemmas.List.{take_all}
 use Rattle.std.proofs.lemmas.Option.{slice_get_within}
-use Rattle.tty_calls.specs.declared.journals.Who.{Who}
-use Rattle.tty_calls.specs.declared.journals.Who.TheVariants.{Caller, Flusher, Line, Clock, Session}
-use Rattle.tty_calls.specs.declared.journals.PortRun.{PortRun}
-use Rattle.tty_calls.specs.Plain.{PlainCall, PlainAnswer, PlainEvent, answered, parted, waited, flushed, ticked, line_ended, clock_ended, caller_ended, phase_ended, hung_up, PlainEntry, entries_of}
-use Rattle.tty_calls.specs.Sessions.{PlainScript, PlainPhase, PlainSession, scripts_on, scripts_over, calls_of, call_at}
-use Rattle.tty_terminal.specs.Terminals.{Terminal}
-use Rattle.tty_terminal.specs.Runs.{is_caller}
-use Rattle.session_print.specs.Report.{is_by, answer_of_event, answer_by, answer_in}
+use Rattle.first_calls.specs.declared.journals.Who.{Who}
+use Rattle.first_calls.specs.declared.journals.Who.TheVariants.{Caller, Flusher, Line, Clock, Session}
+use Rattle.first_calls.specs.declared.journals.PortRun.{PortRun}
+use Rattle.first_calls.specs.Plain.{PlainCall, PlainAnswer, PlainEvent, answered, parted, waited, flushed, ticked, line_ended, clock_ended, caller_ended, phase_ended, hung_up, PlainEntry, entries_of}
+use Rattle.first_calls.specs.Sessions.{PlainScript, PlainPhase, PlainSession, scripts_on, scripts_over, calls_of, call_at}
+use Rattle.first_terminal.specs.Terminals.{Terminal}
+use Rattle.first_terminal.specs.Runs.{is_caller}
+use Rattle.first_print.specs.Report.{is_by, answer_of_event, answer_by, answer_in}
 use Rattle.tty_run.specs.Legal.{phase_at, name_at, has_script, first_step, steps_in, CallerMark, answers, caller_ends, caller_marks, caller_marks_in, answers_from, caller_part, IsLegal}
 use Rattle.tty_run.specs.Outcome.{answers_to, IsAnsweredOnce}
 use Rattle.tty_run.proofs.Names.{first_next}

@@ -3,11 +3,11 @@ use Rattle.std.proofs.Common.{◌≡◌, ℕ, zero, suc, List, [], ◌∷◌, Bo
 use Rattle.std.proofs.lemmas.List.Sums.{sum_by-set}
 use Rattle.std.specs.Prelude.{slice_set, slice_index_or}
 use Rattle.std.proofs.lemmas.Bool.{false≢true}
-use Rattle.tty_calls.specs.Plain.{PlainEntry}
-use Rattle.tty_terminal.specs.declared.callers.CallerState.{CallerState}
-use Rattle.tty_terminal.specs.Terminals.{caller_at, idle_caller, has_begun, is_bound}
-use Rattle.tty_terminal.specs.Steps.{answered_caller}
-use Rattle.port_core.specs.Ports.{PortValue, Appends, end_entry}
+use Rattle.first_calls.specs.Plain.{PlainEntry}
+use Rattle.first_terminal.specs.declared.callers.CallerState.{CallerState}
+use Rattle.first_terminal.specs.Terminals.{caller_at, idle_caller, has_begun, is_bound}
+use Rattle.first_terminal.specs.Steps.{answered_caller}
+use Rattle.first_port.specs.Ports.{PortValue, Appends, end_entry}
 use Rattle.tty_run.specs.Stages.{steps_of, Rests, Stays, Called, Ends, AllSent}
 use Rattle.tty_run.proofs.Stages.{idle_at, idle_set, steps_set, below_more}
 

@@ -6,16 +6,16 @@ use Rattle.std.proofs.lemmas.Bool.Decides.{nat_tests}
 use Rattle.std.proofs.lemmas.Grind.{flat_map-append}
 use Rattle.tty_base.specs.declared.characters.Flagged.{Flagged}
 use Rattle.tty_base.specs.declared.lines.Overrun.{Overrun}
-use Rattle.tty_calls.specs.declared.journals.Who.TheVariants.{Session}
-use Rattle.tty_calls.specs.Plain.{PlainCall, PlainEvent, PlainEntry, phase_ended, hung_up}
-use Rattle.tty_calls.specs.Sessions.{PlainPhase, PlainSession, ticks_on, call_at}
-use Rattle.uart_line.specs.Received.{received, received_after, is_cut, window, given, is_masked, trigger_of, idle_of, script}
-use Rattle.uart_line.specs.Offered.{kept_from}
-use Rattle.tty_terminal.specs.Terminals.{Terminal}
-use Rattle.tty_terminal.specs.Rows.{three_bytes, three_bytes_calls, three_bytes_counts, whole}
-use Rattle.tty_terminal.specs.Runs.{IsRun, Grows, is_caller}
-use Rattle.tty_terminal.proofs.Grown.{leads_grown}
-use Rattle.session_text.specs.Rows.{three_bytes_session}
+use Rattle.first_calls.specs.declared.journals.Who.TheVariants.{Session}
+use Rattle.first_calls.specs.Plain.{PlainCall, PlainEvent, PlainEntry, phase_ended, hung_up}
+use Rattle.first_calls.specs.Sessions.{PlainPhase, PlainSession, ticks_on, call_at}
+use Rattle.uart_line.specs.Received.{received_list, received_list_after, is_cut, window, window_output, is_masked, trigger_of, idle_of, script}
+use Rattle.uart_line.specs.Offered.{kept_list_from}
+use Rattle.first_terminal.specs.Terminals.{Terminal}
+use Rattle.first_terminal.specs.Rows.{three_bytes, three_bytes_calls, three_bytes_counts, whole}
+use Rattle.first_terminal.specs.Runs.{IsRun, Grows, is_caller}
+use Rattle.first_terminal.proofs.Grown.{leads_grown}
+use Rattle.first_text.specs.Rows.{three_bytes_session}
 use Rattle.tty_run.specs.Legal.{phase_at, sent_by, line_ends, line_ends_in, clock_marks, clock_marks_in, ClockMark, clock_ends, ticks_of, CallerMark, caller_marks, caller_marks_in, caller_part, session_events, session_events_in, IsFinishedFrom, IsFinished, IsOnTheWay}
 use Rattle.tty_run.specs.Rows.{opening_entries, reading_entries, reading_phase, without_answer, without_caller_end, without_clock_end, with_other_line_end, without_hangup}
 
@@ -93,7 +93,7 @@ reading_callers zero = refl
 reading_callers (suc c) = simp not_first
 
 pub three_bytes_finished : IsFinished 0 three_bytes_session [] three_bytes
-unfolding received received_after is_cut window given is_masked trigger_of idle_of script kept_from
+unfolding received_list received_list_after is_cut window window_output is_masked trigger_of idle_of script kept_list_from
 three_bytes_finished =
     record {
       part = opening_entries;
@@ -137,7 +137,7 @@ pub no_clock_end : IsFinished 0 three_bytes_session [] without_clock_end → ⊥
 no_clock_end h = cc (finished_clocks 0 three_bytes_session [] 0 three_bytes_session.phases without_clock_end h)
 
 pub other_line_end : IsFinished 0 three_bytes_session [] with_other_line_end → ⊥
-unfolding received received_after is_cut window given is_masked trigger_of idle_of script kept_from
+unfolding received_list received_list_after is_cut window window_output is_masked trigger_of idle_of script kept_list_from
 other_line_end h = cc (finished_lines 0 three_bytes_session [] 0 three_bytes_session.phases with_other_line_end h)
 
 pub no_hangup : IsFinished 0 three_bytes_session [] without_hangup → ⊥

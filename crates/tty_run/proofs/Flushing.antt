@@ -3,12 +3,12 @@ use Rattle.std.proofs.Common.{◌≡◌, ◌⊎◌, inl, inr, ℕ, List, [], ◌
 use Rattle.std.proofs.lemmas.Bool.{false≢true}
 use Rattle.std.specs.Prelude.{◌==◌}
 use Rattle.tty_base.specs.declared.characters.Flagged.{Flagged}
-use Rattle.tty_calls.specs.declared.journals.Who.TheVariants.{Line}
-use Rattle.tty_calls.specs.Plain.{PlainEntry, line_ended}
-use Rattle.tty_terminal.specs.declared.callers.Piece.{Piece}
-use Rattle.tty_terminal.specs.Steps.{follows}
-use Rattle.tty_terminal.specs.Runs.{RunHas}
-use Rattle.port_core.specs.Ports.{PortValue, Takes, shown, flush_entry, with_entry, Appends, phase_entry}
+use Rattle.first_calls.specs.declared.journals.Who.TheVariants.{Line}
+use Rattle.first_calls.specs.Plain.{PlainEntry, line_ended}
+use Rattle.first_terminal.specs.declared.callers.Piece.{Piece}
+use Rattle.first_terminal.specs.Steps.{follows}
+use Rattle.first_terminal.specs.Runs.{RunHas}
+use Rattle.first_port.specs.Ports.{PortValue, Takes, shown, flush_entry, with_entry, Appends, phase_entry}
 use Rattle.tty_run.specs.Stages.{AreIdle, AreNonblock, KeepsNonblock, RunsBelow, Rests, Stays, EndsLine, AllSent}
 use Rattle.tty_run.specs.Playing.{AreFlushes, AddsFlushes}
 use Rattle.tty_run.proofs.Stages.{received_same, received_taken, below_more, below_next, none_has, has_more, rests_given}

@@ -1,11 +1,11 @@
 -- How many characters a journal moved and dropped: those that came, at most.
 use Rattle.std.proofs.Common.{◌≡◌, List, [], ◌∷◌, ◌+◌, ◌<◌, ◌^◌, length, take, refl, ap, ◌∙◌, arith, length-append, length-take}
 use Rattle.std.proofs.lemmas.List.Sums.{sum_by-cons}
-use Rattle.tty_calls.specs.declared.journals.Entry.{Entry}
-use Rattle.tty_calls.specs.Plain.{event_of, entries_of, PlainEvent, answered, parted, waited, flushed, ticked, line_ended, clock_ended, caller_ended, phase_ended, hung_up}
-use Rattle.tty_terminal.specs.Runs.{chars_in, chars_of}
-use Rattle.port_core.specs.Ports.{PortValue, IsPort}
-use Rattle.session_print.specs.Lines.{taken_in, dropped_in, taken_count, dropped_count}
+use Rattle.first_calls.specs.declared.journals.Entry.{Entry}
+use Rattle.first_calls.specs.Plain.{event_of, entries_of, PlainEvent, answered, parted, waited, flushed, ticked, line_ended, clock_ended, caller_ended, phase_ended, hung_up}
+use Rattle.first_terminal.specs.Runs.{chars_in, chars_of}
+use Rattle.first_port.specs.Ports.{PortValue, IsPort}
+use Rattle.first_print.specs.Lines.{taken_in, dropped_in, taken_count, dropped_count}
 
 moved_in : (e : PlainEvent) → taken_in e + dropped_in e ≡ length (chars_in e)
 moved_in (answered a dropped) = omega arith

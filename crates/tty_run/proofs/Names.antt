@@ -9,8 +9,8 @@ use Rattle.std.proofs.lemmas.List.Folds.{list_any-append}
 use Rattle.std.proofs.lemmas.List.Sums.{fold-append, sum_by-cons}
 use Rattle.std.proofs.lemmas.Grind.{flat_map-append}
 use Rattle.std.proofs.lemmas.Slice.Eq.{bytes_eq-Decides}
-use Rattle.tty_calls.specs.Plain.{PlainCall}
-use Rattle.tty_calls.specs.Sessions.{PlainScript, PlainPhase, PlainSession, scripts_on, scripts_over, with_name, names_of, calls_of, call_at, counts_on}
+use Rattle.first_calls.specs.Plain.{PlainCall}
+use Rattle.first_calls.specs.Sessions.{PlainScript, PlainPhase, PlainSession, scripts_on, scripts_over, with_name, names_of, calls_of, call_at, counts_on}
 use Rattle.arrayvec.specs.ArrayString.{ArrayString}
 use Rattle.tty_run.specs.Playing.{texts, IsNumbered}
 use Rattle.tty_run.specs.Legal.{phase_at, name_at, has_script, first_step, steps_in, IsCallerOf}

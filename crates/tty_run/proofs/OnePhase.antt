@@ -5,19 +5,20 @@ use Rattle.tty_base.specs.Contents.{Contents}
 use Rattle.tty_base.specs.declared.characters.Flagged.{Flagged}
 use Rattle.tty_base.specs.declared.lines.LineStep.{LineStep}
 use Rattle.tty_base.specs.declared.lines.Overrun.{Overrun}
-use Rattle.tty_calls.specs.declared.journals.Entry.{Entry}
-use Rattle.tty_calls.specs.declared.answers.Denied.TheVariants.{Full}
-use Rattle.tty_calls.specs.declared.answers.Denied.{Denied}
-use Rattle.tty_calls.specs.declared.sessions.Phase.{Phase}
-use Rattle.tty_calls.specs.declared.sessions.Script.{Script}
-use Rattle.tty_calls.specs.Plain.{PlainEntry, entries_of}
-use Rattle.tty_calls.specs.Sessions.{PlainScript, PlainPhase, PlainSession, calls_of, phase_of, script_of, line_on, ticks_on, scripts_on, counts_on, call_at}
-use Rattle.uart_line.specs.Received.{arrival, received, script}
-use Rattle.uart_line.specs.Offered.{kept, kept_from, AreShown}
-use Rattle.tty_terminal.specs.Steps.{callers_in}
-use Rattle.tty_terminal.specs.Runs.{IsRun, chars_of}
-use Rattle.port_core.specs.Ports.{PortValue, Appends, hangup_entry}
-use Rattle.session_text.specs.Fits.{Fits, PhaseFits, AreGoodSteps}
+use Rattle.first_calls.specs.declared.journals.Entry.{Entry}
+use Rattle.first_calls.specs.declared.answers.Denied.TheVariants.{Full}
+use Rattle.first_calls.specs.declared.answers.Denied.{Denied}
+use Rattle.first_calls.specs.declared.sessions.Phase.{Phase}
+use Rattle.first_calls.specs.declared.sessions.Script.{Script}
+use Rattle.first_calls.specs.Plain.{PlainEntry, entries_of}
+use Rattle.first_calls.specs.Sessions.{PlainScript, PlainPhase, PlainSession, calls_of, phase_of, script_of, line_on, ticks_on, scripts_on, counts_on, call_at}
+use Rattle.uart_line.specs.Received.{received_list, script}
+use Rattle.tty_base.specs.Lines.{arrival}
+use Rattle.uart_line.specs.Offered.{kept_list, kept_list_from, AreShown}
+use Rattle.first_terminal.specs.Steps.{callers_in}
+use Rattle.first_terminal.specs.Runs.{IsRun, chars_of}
+use Rattle.first_port.specs.Ports.{PortValue, Appends, hangup_entry}
+use Rattle.first_text.specs.Fits.{Fits, PhaseFits, AreGoodSteps}
 use Rattle.tty_run.specs.declared.one_thread.Played.{Played}
 use Rattle.tty_run.specs.Stages.{Rests, Begins, EndsLine, PlaysCallers, Passes, overs}
 use Rattle.tty_run.specs.Legal.{phase_at, name_at, flip_on, script_of_first, script_on, sent_by, IsFinished, IsOnTheWay, AreSeen, Plays}
@@ -70,23 +71,23 @@ scripts_few s k x scripts h is = omega (arith, (phase_fits s k x h).one_caller, 
 
 -- ---- before the end of the phase
 
-kept_none : (cs : List Flagged) (place : ℕ) → kept_from place cs [] ≡ cs
-unfolding kept_from
+kept_none : (cs : List Flagged) (place : ℕ) → kept_list_from place cs [] ≡ cs
+unfolding kept_list_from
 kept_none [] place = refl
 kept_none (c ∷ cs) place = ap (λ xs. c ∷ xs) (kept_none cs (place + 1))
 
-pub kept_all : (cs : List Flagged) (overruns : List Overrun) → overruns ≡ [] → kept cs overruns ≡ cs
-kept_all cs overruns none = ap (kept cs) none ∙ kept_none cs 0
+pub kept_all : (cs : List Flagged) (overruns : List Overrun) → overruns ≡ [] → kept_list cs overruns ≡ cs
+kept_all cs overruns none = ap (kept_list cs) none ∙ kept_none cs 0
 
 -- what came in this phase too
-pub given_now : (s : PlainSession) (k : ℕ) (before steps_given : List Flagged) (steps : List LineStep) → k < length s.phases → Fits s → before ≡ received (script_of_first 0 s k) → steps_given ≡ before ++ flat_map arrival steps → line_on 0 (phase_at s k) ≡ steps → steps_given ≡ received (script_of_first 0 s (k + 1))
+pub given_now : (s : PlainSession) (k : ℕ) (before steps_given : List Flagged) (steps : List LineStep) → k < length s.phases → Fits s → before ≡ received_list (script_of_first 0 s k) → steps_given ≡ before ++ flat_map arrival steps → line_on 0 (phase_at s k) ≡ steps → steps_given ≡ received_list (script_of_first 0 s (k + 1))
 given_now s k before steps_given steps h fits is more line =
     more ∙ ap (λ (cs : List Flagged). cs ++ flat_map arrival steps) is
-    ∙ ap (λ (xs : List LineStep). received (script_of_first 0 s k) ++ flat_map arrival xs) (sym line)
+    ∙ ap (λ (xs : List LineStep). received_list (script_of_first 0 s k) ++ flat_map arrival xs) (sym line)
     ∙ sym (received_next s k h fits)
 
-pub sent_now : (s : PlainSession) (k : ℕ) (given : List Flagged) → given ≡ received (script_of_first 0 s (k + 1)) → length given ≡ sent_by 0 s [] k
-sent_now s k given is = ap (λ (cs : List Flagged). length cs) (is ∙ sym (kept_all (received (script_of_first 0 s (k + 1))) [] refl))
+pub sent_now : (s : PlainSession) (k : ℕ) (given : List Flagged) → given ≡ received_list (script_of_first 0 s (k + 1)) → length given ≡ sent_by 0 s [] k
+sent_now s k given is = ap (λ (cs : List Flagged). length cs) (is ∙ sym (kept_all (received_list (script_of_first 0 s (k + 1))) [] refl))
 
 counts_at : (phases : List PlainPhase) (k : ℕ) → k < length phases → slice_index_or (map (λ phase. length (scripts_on 0 phase)) phases) k 0 ≡ length (scripts_on 0 (slice_index_or phases k (record { lines = []; ticks = []; callers = [] })))
 counts_at [] k h = absurd (omega (arith, h))
@@ -103,7 +104,7 @@ ticks_none s k x h = ap (λ (ns : List ℕ). slice_index_or ns 0 0) (fits_at s.p
 
 -- ---- the next phase
 
-pub before_next : (s : PlainSession) (first lined called new : PortValue) (r : Result ℕ Denied) (names : List (List ℕ)) (steps : List ℕ) (callers arrived : ℕ) → EndsLine first lined → PlaysCallers lined called steps callers → CastIs s (lined.terminal.phase + 1) names steps → Counted arrived lined → called.given ≡ lined.given → lined.given ≡ received (script_of_first 0 s (first.terminal.phase + 1)) → IfOk r (λ next. Rests new next × Passes called new) → OnOk r (new.given ≡ called.given) → OnOk r (Between s new) → OnOk r (IsBefore s new names steps arrived (first.terminal.phase + 1))
+pub before_next : (s : PlainSession) (first lined called new : PortValue) (r : Result ℕ Denied) (names : List (List ℕ)) (steps : List ℕ) (callers arrived : ℕ) → EndsLine first lined → PlaysCallers lined called steps callers → CastIs s (lined.terminal.phase + 1) names steps → Counted arrived lined → called.given ≡ lined.given → lined.given ≡ received_list (script_of_first 0 s (first.terminal.phase + 1)) → IfOk r (λ next. Rests new next × Passes called new) → OnOk r (new.given ≡ called.given) → OnOk r (Between s new) → OnOk r (IsBefore s new names steps arrived (first.terminal.phase + 1))
 before_next s first lined called new (Err d) names steps callers arrived l p cast counted same given ok kept between = ok
 before_next s first lined called new (Ok next) names steps callers arrived l p cast counted same given ok kept between =
     let chars : new.given ≡ lined.given = kept ∙ same in
@@ -129,7 +130,7 @@ played_all s v new names steps arrived k runs h rests all made =
     record {
       follows = ends.0;
       finished = ends.1;
-      given = given ∙ h.given ∙ ap (λ n. received (script_of_first 0 s n)) all ∙ ap (λ (ps : List PlainPhase). received (script (map (line_on 0) ps))) (take_all s.phases);
+      given = given ∙ h.given ∙ ap (λ n. received_list (script_of_first 0 s n)) all ∙ ap (λ (ps : List PlainPhase). received_list (script (map (line_on 0) ps))) (take_all s.phases);
       all = omega (arith, taken, length-drop v.terminal.taken v.given, rests.taken, ap (λ (cs : List Flagged). length cs) given);
     }
 
@@ -157,7 +158,7 @@ starts s v counts names steps is made none zero_steps =
       counted = refl;
     })
   where
-    none_received : received (script []) ≡ []
+    none_received : received_list (script []) ≡ []
     none_received = (hands_over_nothing).all
 
     none_called : (name : Option (List ℕ)) → length (calls_of [] name) ≡ 0
@@ -198,7 +199,7 @@ plays_whole s v arrived played fits h counted left =
     let length_given : length v.given ≡ length (characters_of s.phases) = ap (λ (cs : List Flagged). length cs) (h.given ∙ hands.all) in
     let count : arrived ≡ length v.given = omega (arith, counted, length_given, few_characters s fits) in
     let all : take v.terminal.taken v.given ≡ v.given = ap (λ n. take n v.given) h.all ∙ take_all v.given in
-    let keeps : kept (received (script_on 0 s)) played.run.line.overruns.items ≡ v.given = kept_all (received (script_on 0 s)) played.run.line.overruns.items left.no_overruns ∙ sym h.given in
+    let keeps : kept_list (received_list (script_on 0 s)) played.run.line.overruns.items ≡ v.given = kept_all (received_list (script_on 0 s)) played.run.line.overruns.items left.no_overruns ∙ sym h.given in
     inl (record {
       terminal = v.terminal;
       legal = record {

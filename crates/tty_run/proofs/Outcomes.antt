@@ -1,11 +1,11 @@
 -- What each status says of the work that ended with it.
 use Rattle.std.proofs.Common.{◌≡◌, ◌⊎◌, ◌+◌, ◌≤◌, drop, length, arith, ℕ, List, [], ◌∷◌, Option, None, Some, IfSome, inl, inr, sym, ap, subst, ◌∙◌}
 use Rattle.tty_base.specs.Outside.{Rose, LeavesRest, TookCount}
-use Rattle.tty_calls.specs.declared.journals.PortRun.{PortRun}
-use Rattle.tty_calls.specs.Sessions.{PlainSession}
-use Rattle.session_text.specs.Grammar.{Spells}
-use Rattle.session_print.specs.Ends.{end_of}
-use Rattle.session_print.specs.Report.{report_text}
+use Rattle.first_calls.specs.declared.journals.PortRun.{PortRun}
+use Rattle.first_calls.specs.Sessions.{PlainSession}
+use Rattle.first_text.specs.Grammar.{Spells}
+use Rattle.first_print.specs.Ends.{end_of}
+use Rattle.first_print.specs.Report.{report_text}
 use Rattle.tty_run.specs.declared.one_thread.Played.{Played}
 use Rattle.tty_run.specs.declared.top.Work.{Work}
 use Rattle.tty_run.specs.declared.top.Ending.{Ending}

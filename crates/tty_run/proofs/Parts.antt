@@ -5,14 +5,14 @@ use Rattle.std.proofs.lemmas.Bool.{false≢true, eq-eqb, and_parts}
 use Rattle.std.proofs.lemmas.Grind.{flat_map-append}
 use Rattle.std.proofs.lemmas.List.FromFn.{map-range_with_len_more}
 use Rattle.tty_base.specs.declared.characters.Flagged.{Flagged}
-use Rattle.tty_calls.specs.declared.answers.Denied.{Denied}
-use Rattle.tty_calls.specs.declared.answers.Denied.TheVariants.{NoMemory, Full}
-use Rattle.tty_calls.specs.declared.journals.Who.{Who}
-use Rattle.tty_calls.specs.declared.journals.Who.TheVariants.{Caller, Line, Clock, Session}
-use Rattle.tty_calls.specs.Plain.{PlainCall, PlainAnswer, PlainEvent, answered, line_ended, clock_ended, phase_ended, PlainEntry}
-use Rattle.tty_calls.specs.Sessions.{PlainPhase, PlainSession, ticks_on, scripts_on, call_at}
-use Rattle.tty_terminal.specs.Runs.{InPhase, InPhases, phase_after, is_of_call, is_caller, Grows}
-use Rattle.port_core.specs.Ports.{PortValue, PlainKept, call_in, Appends, Denies, phase_entry, end_entry, hangup_entry}
+use Rattle.first_calls.specs.declared.answers.Denied.{Denied}
+use Rattle.first_calls.specs.declared.answers.Denied.TheVariants.{NoMemory, Full}
+use Rattle.first_calls.specs.declared.journals.Who.{Who}
+use Rattle.first_calls.specs.declared.journals.Who.TheVariants.{Caller, Line, Clock, Session}
+use Rattle.first_calls.specs.Plain.{PlainCall, PlainAnswer, PlainEvent, answered, line_ended, clock_ended, phase_ended, PlainEntry}
+use Rattle.first_calls.specs.Sessions.{PlainPhase, PlainSession, ticks_on, scripts_on, call_at}
+use Rattle.first_terminal.specs.Runs.{InPhase, InPhases, phase_after, is_of_call, is_caller, Grows}
+use Rattle.first_port.specs.Ports.{PortValue, PlainKept, call_in, Appends, Denies, phase_entry, end_entry, hangup_entry}
 use Rattle.tty_run.specs.Stages.{Rests}
 use Rattle.tty_run.specs.Legal.{phase_at, name_at, has_script, first_step, steps_in, IsCallerOf, IsCallOf, CallerMark, answers, caller_ends, ClockMark, clock_ends, line_ends, line_ends_in, clock_marks, clock_marks_in, caller_marks, caller_marks_in, session_events, session_events_in, answers_from, ticks_of, caller_part, sent_by, IsPhasePart, IsFinishedFrom, IsFinished}
 use Rattle.tty_run.specs.Playing.{IsFlushEntry, AreFlushes, AddsFlushes, AddsAnswer, IsAtLimit, phase_over, KeepsCalls, Follows, StopsAt, Between, StandsIn, none_yet, LineOver, IsOnlyCaller}

@@ -2,12 +2,12 @@
 use Rattle.std.proofs.Common.{◌≡◌, ℕ, zero, suc, List, [], ◌∷◌, false, ◌+◌, ◌<◌, length, map, refl, sym, ap, subst, ◌∙◌, arith, length-append, None}
 use Rattle.std.specs.Prelude.{slice_set, slice_index_or, sum, replicate}
 use Rattle.std.proofs.lemmas.Bool.{false≢true}
-use Rattle.tty_calls.specs.declared.journals.Who.TheVariants.{Clock, Session}
-use Rattle.tty_calls.specs.Plain.{PlainEntry, clock_ended, phase_ended}
-use Rattle.tty_terminal.specs.declared.callers.CallerState.{CallerState}
-use Rattle.tty_terminal.specs.Terminals.{caller_at, idle_caller, opening}
-use Rattle.tty_terminal.specs.Steps.{calling_again}
-use Rattle.port_core.specs.Ports.{PortValue, Appends, phase_entry}
+use Rattle.first_calls.specs.declared.journals.Who.TheVariants.{Clock, Session}
+use Rattle.first_calls.specs.Plain.{PlainEntry, clock_ended, phase_ended}
+use Rattle.first_terminal.specs.declared.callers.CallerState.{CallerState}
+use Rattle.first_terminal.specs.Terminals.{caller_at, idle_caller, opening}
+use Rattle.first_terminal.specs.Steps.{calling_again}
+use Rattle.first_port.specs.Ports.{PortValue, Appends, phase_entry}
 use Rattle.tty_run.specs.Stages.{AreIdle, AreCalling, AreNonblock, steps_of, Rests, Stays, Ends, EndsLine, Casts, PlaysCallers, Passes, Begins, AllSent}
 use Rattle.tty_run.proofs.Stages.{below_more}
 

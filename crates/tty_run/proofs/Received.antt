@@ -7,9 +7,10 @@ use Rattle.std.proofs.lemmas.Bool.Decides.{nat_tests}
 use Rattle.tty_base.specs.declared.characters.Flagged.{Flagged}
 use Rattle.tty_base.specs.declared.lines.LineStep.{LineStep}
 use Rattle.tty_base.specs.declared.lines.LineStep.TheVariants.{Rx, Break, Idle, Mask, Unmask, Trigger}
-use Rattle.uart_line.specs.Received.{is_flagged, is_masked, trigger_of, idle_of, arrival, arrivals, is_cut, window, given, received, received_after, lost, lost_after, waiting, closed, script}
-use Rattle.uart_line.proofs.Steps.{cut_after, received-step, lost-step, waiting-step, arrivals-step}
-use Rattle.session_text.specs.Fits.{IsGoodStep, AreGoodSteps}
+use Rattle.uart_line.specs.Received.{is_flagged, is_masked, trigger_of, idle_of, is_cut, window, window_output, received_list, received_list_after, lost_count, lost_count_after, waiting_list, closed_script, script}
+use Rattle.tty_base.specs.Lines.{arrival, arrival_count}
+use Rattle.uart_line.proofs.Steps.{cut_after, received_list-step, lost_count-step, waiting_list-step, arrival_count-step}
+use Rattle.first_text.specs.Fits.{IsGoodStep, AreGoodSteps}
 
 -- ---- one step
 
@@ -55,8 +56,8 @@ at_most_16 : (n : ℕ) → n ≤ 16 → nat_lt 16 n ≡ false
 at_most_16 n h = grind (arith, nat_tests)
 
 -- a window of at most 16 characters gives them
-given_whole : (cs : List Flagged) → length cs ≤ 16 → given cs ≡ cs
-unfolding given
+given_whole : (cs : List Flagged) → length cs ≤ 16 → window_output cs ≡ cs
+unfolding window_output
 given_whole [] h = refl
 given_whole (c ∷ cs) h = short_given (nat_lt 16 (length (c ∷ cs))) _ _ (at_most_16 (length (c ∷ cs)) h)
 
@@ -68,20 +69,20 @@ few_left : (cut : Bool) (w : List Flagged) → (cut ≡ false → length w < 8) 
 few_left true w h = omega arith
 few_left false w h = h refl
 
-none_lost : (cut : Bool) (n lost : ℕ) → n ≤ 16 → lost ≡ 0 → lost + (if cut then n - 16 else 0) ≡ 0
-none_lost true n lost few h = omega arith
-none_lost false n lost few h = omega arith
+none_lost : (cut : Bool) (n lost_count : ℕ) → n ≤ 16 → lost_count ≡ 0 → lost_count + (if cut then n - 16 else 0) ≡ 0
+none_lost true n lost_count few h = omega arith
+none_lost false n lost_count few h = omega arith
 
 -- ---- a list of steps
 
 -- These characters arrived, none is lost, and fewer than eight wait.
 record Arrives (before : List LineStep) (chars : List Flagged) : Type 0 where
-  joined : received before ++ waiting before ≡ chars
-  lost_none : lost before ≡ 0
-  arrived : arrivals before ≡ length chars
+  joined : received_list before ++ waiting_list before ≡ chars
+  lost_none : lost_count before ≡ 0
+  arrived : arrival_count before ≡ length chars
   unmasked : is_masked (reverse before) ≡ false
   trigger : trigger_of (reverse before) ≡ 8
-  few : length (waiting before) < 8
+  few : length (waiting_list before) < 8
 
 reverse_step : (before : List LineStep) (step : LineStep) → reverse (before ++ step ∷ []) ≡ step ∷ reverse before
 reverse_step before step = reverse-append before (step ∷ [])
@@ -89,15 +90,15 @@ reverse_step before step = reverse-append before (step ∷ [])
 arrives_step : (before : List LineStep) (chars : List Flagged) (step : LineStep) → Arrives before chars → is_masked (step ∷ reverse before) ≡ false → trigger_of (step ∷ reverse before) ≡ 8 → length (arrival step) ≤ 1 → Arrives (before ++ step ∷ []) (chars ++ arrival step)
 arrives_step before chars step h unmasked trigger one =
     let cut : Bool = cut_after before step in
-    let w : List Flagged = waiting before in
+    let w : List Flagged = waiting_list before in
     let a : List Flagged = arrival step in
     let few : length (w ++ a) ≤ 16 = omega (arith, h.few, one, length-append w a) in
-    let whole : given (w ++ a) ≡ w ++ a = given_whole (w ++ a) few in
-    let waits : waiting (before ++ step ∷ []) ≡ (if cut then [] else w ++ a) = waiting-step before step in
+    let whole : window_output (w ++ a) ≡ w ++ a = given_whole (w ++ a) few in
+    let waits : waiting_list (before ++ step ∷ []) ≡ (if cut then [] else w ++ a) = waiting_list-step before step in
     record {
-      joined = ap (λ (x : List Flagged). x ++ waiting (before ++ step ∷ [])) (received-step before step) ∙ ap (λ (x : List Flagged). (received before ++ (if cut then given (w ++ a) else [])) ++ x) waits ∙ joined_cut cut (received before) w a (given (w ++ a)) whole ∙ ap (λ (x : List Flagged). x ++ a) h.joined;
-      lost_none = lost-step before step ∙ none_lost cut (length (w ++ a)) (lost before) few h.lost_none;
-      arrived = arrivals-step before step ∙ ap (λ n. n + length a) h.arrived ∙ sym (length-append chars a);
+      joined = ap (λ (x : List Flagged). x ++ waiting_list (before ++ step ∷ [])) (received_list-step before step) ∙ ap (λ (x : List Flagged). (received_list before ++ (if cut then window_output (w ++ a) else [])) ++ x) waits ∙ joined_cut cut (received_list before) w a (window_output (w ++ a)) whole ∙ ap (λ (x : List Flagged). x ++ a) h.joined;
+      lost_none = lost_count-step before step ∙ none_lost cut (length (w ++ a)) (lost_count before) few h.lost_none;
+      arrived = arrival_count-step before step ∙ ap (λ n. n + length a) h.arrived ∙ sym (length-append chars a);
       unmasked = ap is_masked (reverse_step before step) ∙ unmasked;
       trigger = ap trigger_of (reverse_step before step) ∙ trigger;
       few = subst (λ (x : List Flagged). length x < 8) (sym waits) (few_left cut (w ++ a) (λ no. uncut_few (step ∷ reverse before) (w ++ a) unmasked trigger no));
@@ -123,21 +124,21 @@ arrives_all before chars (step ∷ steps) h good =
 
 -- these characters arrived, and were handed over
 pub record HandsOverAll (before : List LineStep) (chars : List Flagged) : Type 0 where
-  pub all : received before ≡ chars
-  pub lost_none : lost before ≡ 0
-  pub arrived : arrivals before ≡ length chars
+  pub all : received_list before ≡ chars
+  pub lost_none : lost_count before ≡ 0
+  pub arrived : arrival_count before ≡ length chars
   pub unmasked : is_masked (reverse before) ≡ false
   pub trigger : trigger_of (reverse before) ≡ 8
-  pub none_waits : waiting before ≡ []
+  pub none_waits : waiting_list before ≡ []
 
 pub hands_over_none : HandsOverAll [] []
-unfolding received received_after lost lost_after waiting window is_cut is_masked trigger_of
+unfolding received_list received_list_after lost_count lost_count_after waiting_list window is_cut is_masked trigger_of
 hands_over_none = record { all = refl; lost_none = refl; arrived = refl; unmasked = refl; trigger = refl; none_waits = refl }
 
 arrives_again : (before : List LineStep) (chars : List Flagged) → HandsOverAll before chars → Arrives before chars
 arrives_again before chars h =
     record {
-      joined = ap (λ (x : List Flagged). received before ++ x) h.none_waits ∙ append-nil (received before) ∙ h.all;
+      joined = ap (λ (x : List Flagged). received_list before ++ x) h.none_waits ∙ append-nil (received_list before) ∙ h.all;
       lost_none = h.lost_none;
       arrived = h.arrived;
       unmasked = h.unmasked;
@@ -155,9 +156,9 @@ unfolding is_masked trigger_of
 idle_hands_over before chars h =
     let on : Arrives (before ++ Idle 4 ∷ []) (chars ++ []) = arrives_step before chars (Idle 4) h h.unmasked h.trigger (omega arith) in
     let same : chars ++ [] ≡ chars = append-nil chars in
-    let none : waiting (before ++ Idle 4 ∷ []) ≡ [] = waiting-step before (Idle 4) ∙ none_left (cut_after before (Idle 4)) (waiting before ++ []) (λ no. uncut_none (reverse before) (waiting before ++ []) h.unmasked no) in
+    let none : waiting_list (before ++ Idle 4 ∷ []) ≡ [] = waiting_list-step before (Idle 4) ∙ none_left (cut_after before (Idle 4)) (waiting_list before ++ []) (λ no. uncut_none (reverse before) (waiting_list before ++ []) h.unmasked no) in
     record {
-      all = sym (append-nil (received (before ++ Idle 4 ∷ []))) ∙ ap (λ (x : List Flagged). received (before ++ Idle 4 ∷ []) ++ x) (sym none) ∙ on.joined ∙ same;
+      all = sym (append-nil (received_list (before ++ Idle 4 ∷ []))) ∙ ap (λ (x : List Flagged). received_list (before ++ Idle 4 ∷ []) ++ x) (sym none) ∙ on.joined ∙ same;
       lost_none = on.lost_none;
       arrived = on.arrived ∙ ap (λ (x : List Flagged). length x) same;
       unmasked = on.unmasked;
@@ -170,17 +171,17 @@ unfolding is_masked trigger_of
 unmask_on before chars h = subst (λ (x : List Flagged). Arrives (before ++ Unmask ∷ []) x) (append-nil chars) (arrives_step before chars Unmask h refl h.trigger (omega arith))
 
 -- a line of good characters, closed
-pub hands_over_more : (before : List LineStep) (chars : List Flagged) (steps : List LineStep) → HandsOverAll before chars → AreGoodSteps steps → HandsOverAll (before ++ closed steps) (chars ++ flat_map arrival steps)
+pub hands_over_more : (before : List LineStep) (chars : List Flagged) (steps : List LineStep) → HandsOverAll before chars → AreGoodSteps steps → HandsOverAll (before ++ closed_script steps) (chars ++ flat_map arrival steps)
 hands_over_more before chars steps h good =
     let on = idle_hands_over ((before ++ steps) ++ Unmask ∷ []) (chars ++ flat_map arrival steps) (unmask_on (before ++ steps) (chars ++ flat_map arrival steps) (arrives_all before chars steps (arrives_again before chars h) good)) in
-    let same : ((before ++ steps) ++ Unmask ∷ []) ++ Idle 4 ∷ [] ≡ before ++ closed steps = append_assoc (before ++ steps) (Unmask ∷ []) (Idle 4 ∷ []) ∙ append_assoc before steps (Unmask ∷ Idle 4 ∷ []) in
+    let same : ((before ++ steps) ++ Unmask ∷ []) ++ Idle 4 ∷ [] ≡ before ++ closed_script steps = append_assoc (before ++ steps) (Unmask ∷ []) (Idle 4 ∷ []) ∙ append_assoc before steps (Unmask ∷ Idle 4 ∷ []) in
     subst (λ (x : List LineStep). HandsOverAll x (chars ++ flat_map arrival steps)) same on
 
 -- the script of one more phase
-pub script_more : (lines : List (List LineStep)) (steps : List LineStep) → script (lines ++ steps ∷ []) ≡ script lines ++ closed steps
+pub script_more : (lines : List (List LineStep)) (steps : List LineStep) → script (lines ++ steps ∷ []) ≡ script lines ++ closed_script steps
 unfolding script
-script_more [] steps = append-nil (closed steps)
-script_more (x ∷ xs) steps = ap (λ (y : List LineStep). closed x ++ y) (script_more xs steps) ∙ sym (append_assoc (closed x) (script xs) (closed steps))
+script_more [] steps = append-nil (closed_script steps)
+script_more (x ∷ xs) steps = ap (λ (y : List LineStep). closed_script x ++ y) (script_more xs steps) ∙ sym (append_assoc (closed_script x) (script xs) (closed_script steps))
 
 pub hands_over_script : (lines : List (List LineStep)) (chars : List Flagged) (steps : List LineStep) → HandsOverAll (script lines) chars → AreGoodSteps steps → HandsOverAll (script (lines ++ steps ∷ [])) (chars ++ flat_map arrival steps)
 hands_over_script lines chars steps h good = subst (λ (x : List LineStep). HandsOverAll x (chars ++ flat_map arrival steps)) (sym (script_more lines steps)) (hands_over_more (script lines) chars steps h good)

@@ -8,11 +8,12 @@ use Rattle.std.proofs.lemmas.List.Sums.{sum_by-cons, sum_by-append, sum_by-take-
 use Rattle.tty_base.specs.declared.characters.Flagged.{Flagged}
 use Rattle.tty_base.specs.declared.lines.LineStep.{LineStep}
 use Rattle.tty_base.specs.declared.lines.LineStep.TheVariants.{Rx, Break, Idle, Mask, Unmask, Trigger}
-use Rattle.tty_calls.specs.declared.sessions.Phase.{Phase}
-use Rattle.tty_calls.specs.declared.sessions.Script.{Script}
-use Rattle.tty_calls.specs.Sessions.{phase_of, script_of, PlainScript, PlainPhase, PlainSession, line_on, scripts_on, scripts_over, calls_of}
-use Rattle.uart_line.specs.Received.{arrival, received, script}
-use Rattle.session_text.specs.Fits.{Fits, PhaseFits, PhasesFit, ScriptsFit, characters_in}
+use Rattle.first_calls.specs.declared.sessions.Phase.{Phase}
+use Rattle.first_calls.specs.declared.sessions.Script.{Script}
+use Rattle.first_calls.specs.Sessions.{phase_of, script_of, PlainScript, PlainPhase, PlainSession, line_on, scripts_on, scripts_over, calls_of}
+use Rattle.uart_line.specs.Received.{received_list, script}
+use Rattle.tty_base.specs.Lines.{arrival}
+use Rattle.first_text.specs.Fits.{Fits, PhaseFits, PhasesFit, ScriptsFit, characters_in}
 use Rattle.tty_run.specs.Legal.{phase_at, name_at, first_step, steps_in, script_of_first, script_on}
 use Rattle.tty_run.proofs.Received.{HandsOverAll, hands_over_nothing, hands_over_script}
 use Rattle.tty_run.proofs.Names.{first_next}
@@ -169,7 +170,7 @@ phases_hand_over s (suc k) h fits =
     (subst (λ (x : List (List LineStep)). HandsOverAll (script x) (characters_of (take (k + 1) s.phases))) (sym (lines_next s k within))
     (subst (λ (x : List Flagged). HandsOverAll (script (map (line_on 0) (take k s.phases) ++ line_on 0 (phase_at s k) ∷ [])) x) (sym (characters_next s k within)) on))
 
-pub received_next : (s : PlainSession) (k : ℕ) → k < length s.phases → Fits s → received (script_of_first 0 s (k + 1)) ≡ received (script_of_first 0 s k) ++ flat_map arrival (line_on 0 (phase_at s k))
+pub received_next : (s : PlainSession) (k : ℕ) → k < length s.phases → Fits s → received_list (script_of_first 0 s (k + 1)) ≡ received_list (script_of_first 0 s k) ++ flat_map arrival (line_on 0 (phase_at s k))
 received_next s k h fits =
     (phases_hand_over s (k + 1) (omega (arith, h)) fits).all ∙ characters_next s k h
     ∙ ap (λ (x : List Flagged). x ++ flat_map arrival (line_on 0 (phase_at s k))) (sym (phases_hand_over s k (omega (arith, h)) fits).all)

@@ -4,24 +4,24 @@ use Rattle.std.proofs.lemmas.Bool.{false≢true}
 use Rattle.std.specs.Prelude.{slice_set, slice_index_or, ◌==◌, is_some, sum}
 use Rattle.tty_base.specs.declared.characters.Flagged.{Flagged}
 use Rattle.tty_base.specs.declared.counters.Errno.TheVariants.{EBADF, EEXIST, EBUSY, EAGAIN}
-use Rattle.tty_calls.specs.declared.calls.Access.{Access}
-use Rattle.tty_calls.specs.Plain.{PlainCall, opens, closes, reads, sets_modes, PlainEntry, PlainAnswer, done, got, refused, answered, answer_of, handle_of}
-use Rattle.tty_terminal.specs.declared.callers.Handle.{Handle}
-use Rattle.tty_terminal.specs.declared.callers.Bound.{Bound}
-use Rattle.tty_terminal.specs.declared.callers.CallerState.{CallerState}
-use Rattle.tty_terminal.specs.declared.callers.Piece.{Piece}
-use Rattle.tty_terminal.specs.Terminals.{Terminal, handle_at, handle_for, caller_at, idle_caller, bound_or, has_begun, is_bound, live_count}
-use Rattle.tty_terminal.specs.Receiving.{received, received_all}
-use Rattle.tty_terminal.specs.Outcomes.{Outcome, unknown, waits, gives, refuses, may_read, opening_outcome, closing_outcome, reading_outcome, modes_outcome, outcome, outcome_of, without_handle, closed_under, freed, last_closed}
-use Rattle.tty_terminal.specs.Steps.{MustWait, left_by, answered_caller, follows}
-use Rattle.tty_terminal.specs.Runs.{is_flush, RunHas}
-use Rattle.port_core.specs.Ports.{PortValue, PlainKept, done_by, must_wait, call_in, kept_with, with_call, with_entry, caller_entry, Attempts, IsReady}
-use Rattle.session_text.specs.Fits.{OpensNonblock}
+use Rattle.first_calls.specs.declared.calls.Access.{Access}
+use Rattle.first_calls.specs.Plain.{PlainCall, opens, closes, reads, sets_modes, PlainEntry, PlainAnswer, done, got, refused, answered, answer_of, handle_of}
+use Rattle.first_terminal.specs.declared.callers.Handle.{Handle}
+use Rattle.first_terminal.specs.declared.callers.Bound.{Bound}
+use Rattle.first_terminal.specs.declared.callers.CallerState.{CallerState}
+use Rattle.first_terminal.specs.declared.callers.Piece.{Piece}
+use Rattle.first_terminal.specs.Terminals.{Terminal, handle_at, handle_for, caller_at, idle_caller, bound_or, has_begun, is_bound, live_count}
+use Rattle.first_terminal.specs.Receiving.{received, received_all}
+use Rattle.first_terminal.specs.Outcomes.{Outcome, unknown, waits, gives, refuses, may_read, opening_outcome, closing_outcome, reading_outcome, modes_outcome, outcome, outcome_of, without_handle, closed_under, freed, last_closed}
+use Rattle.first_terminal.specs.Steps.{MustWait, left_by, answered_caller, follows}
+use Rattle.first_terminal.specs.Runs.{is_flush, RunHas}
+use Rattle.first_port.specs.Ports.{PortValue, PlainKept, done_by, must_wait, call_in, kept_with, with_call, with_entry, caller_entry, Attempts, IsReady}
+use Rattle.first_text.specs.Fits.{OpensNonblock}
 use Rattle.tty_run.specs.Playing.{AddsFlushes, AddsAnswer}
 use Rattle.tty_run.specs.Stages.{IsIdle, AreIdle, steps_of, IsNonblock, AreNonblock, KeepsNonblock, RunsBelow, Rests, Stays, Called, IsDone, AllSent}
-use Rattle.port_core.specs.declared.ports.Tried.{Tried}
-use Rattle.port_core.specs.declared.ports.Tried.TheVariants.{Done, Part, MustWait as waits_still}
-use Rattle.port_core.specs.Tries.{tried_of}
+use Rattle.first_port.specs.declared.ports.Tried.{Tried}
+use Rattle.first_port.specs.declared.ports.Tried.TheVariants.{Done, Part, MustWait as waits_still}
+use Rattle.first_port.specs.Tries.{tried_of}
 
 -- a terminal that received characters, in what concerns the session's acts
 pub record Same (t u : Terminal) : Type 0 where

@@ -5,14 +5,15 @@ use Rattle.std.specs.List.{list_any, range_with_len}
 use Rattle.tty_base.specs.declared.characters.Flagged.{Flagged}
 use Rattle.tty_base.specs.declared.lines.LineStep.{LineStep}
 use Rattle.tty_base.specs.declared.lines.Overrun.{Overrun}
-use Rattle.tty_calls.specs.declared.answers.PortEnd.{PortEnd}
-use Rattle.tty_calls.specs.declared.journals.PortRun.{PortRun}
-use Rattle.tty_calls.specs.Plain.{PlainEvent, answered, parted, waited, flushed, ticked, line_ended, clock_ended, caller_ended, phase_ended, hung_up, PlainEntry, entries_of}
-use Rattle.tty_calls.specs.Sessions.{PlainScript, PlainPhase, PlainSession, line_on, ticks_on, scripts_on, scripts_over, names_of, calls_of, call_at, counts_on}
-use Rattle.uart_line.specs.Received.{arrivals, received, lost, script}
-use Rattle.uart_line.specs.Offered.{kept, AreShown}
-use Rattle.tty_terminal.specs.Terminals.{Terminal}
-use Rattle.tty_terminal.specs.Runs.{IsRun, InPhases, OneGeneration, chars_of, is_caller}
+use Rattle.first_calls.specs.declared.answers.PortEnd.{PortEnd}
+use Rattle.first_calls.specs.declared.journals.PortRun.{PortRun}
+use Rattle.first_calls.specs.Plain.{PlainEvent, answered, parted, waited, flushed, ticked, line_ended, clock_ended, caller_ended, phase_ended, hung_up, PlainEntry, entries_of}
+use Rattle.first_calls.specs.Sessions.{PlainScript, PlainPhase, PlainSession, line_on, ticks_on, scripts_on, scripts_over, names_of, calls_of, call_at, counts_on}
+use Rattle.uart_line.specs.Received.{received_list, lost_count, script}
+use Rattle.tty_base.specs.Lines.{arrival_count}
+use Rattle.uart_line.specs.Offered.{kept_list, AreShown}
+use Rattle.first_terminal.specs.Terminals.{Terminal}
+use Rattle.first_terminal.specs.Runs.{IsRun, InPhases, OneGeneration, chars_of, is_caller}
 use Rattle.tty_run.specs.declared.one_thread.Played.{Played}
 
 -- ---- what a session asks of a port, phase by phase
@@ -54,7 +55,7 @@ script_on p session = script (map (line_on p) session.phases)
 
 -- how many characters were received in phases 0 to k, and are no overruns
 abbrev pub sent_by : ℕ → PlainSession → List Overrun → ℕ → ℕ
-sent_by p session overruns k = length (kept (received (script_of_first p session (k + 1))) overruns)
+sent_by p session overruns k = length (kept_list (received_list (script_of_first p session (k + 1))) overruns)
 
 -- ---- the entries of a part of a journal
 
@@ -208,7 +209,7 @@ before_line_end (suc k) (e ∷ es) = e ∷ (if is_phase_end e.event then before_
 
 -- how many characters were received before phase k
 abbrev pub received_before : ℕ → PlainSession → ℕ → ℕ
-received_before p session k = length (received (script_of_first p session k))
+received_before p session k = length (received_list (script_of_first p session k))
 
 -- Where its place lies in what was received in a phase, an overrun has seen taken all that was taken
 -- before that phase, and nothing that was taken after the end of its line.
@@ -238,12 +239,12 @@ pub record IsOnTheWay (p : ℕ) (session : PlainSession) (journal : List PlainEn
 pub record IsLegal (p : ℕ) (session : PlainSession) (run : PortRun) (t : Terminal) : Type 0 where
   pub on_the_way : IsOnTheWay p session (entries_of run.journal.items) t
   pub finished : IsFinished p session run.line.overruns.items (entries_of run.journal.items)
-  pub chars : chars_of (entries_of run.journal.items) ≡ kept (received (script_on p session)) run.line.overruns.items
+  pub chars : chars_of (entries_of run.journal.items) ≡ kept_list (received_list (script_on p session)) run.line.overruns.items
   pub shown : AreShown (flip_on p session) 0 0 run.line.overruns.items
   pub seen : AreSeen p session (entries_of run.journal.items) run.line.overruns.items
-  pub arrived : run.line.arrived ≡ arrivals (script_on p session)
-  pub fifo_lost : run.line.fifo_lost ≡ lost (script_on p session)
-  pub sent : run.line.sent ≡ length (kept (received (script_on p session)) run.line.overruns.items)
+  pub arrived : run.line.arrived ≡ arrival_count (script_on p session)
+  pub fifo_lost : run.line.fifo_lost ≡ lost_count (script_on p session)
+  pub sent : run.line.sent ≡ length (kept_list (received_list (script_on p session)) run.line.overruns.items)
 
 -- what is left at the end is what the terminal has
 pub record IsEnd (t : Terminal) (end : PortEnd) : Type 0 where

@@ -1,13 +1,13 @@
 -- What a call of the program came to: the session that was read, its run, and the text that was given.
 use Rattle.std.specs.Prelude.{◌≡◌, ◌≢◌, ◌⊎◌, ℕ, List, [], ◌∷◌, ◌++◌, Option, Some, length, flat_map, option_to_list, IfSome, MatchBool, ◌==◌}
 use Rattle.tty_base.specs.Outside.{Rose, TookCount, GivesFront}
-use Rattle.tty_calls.specs.declared.journals.PortRun.{PortRun}
-use Rattle.tty_calls.specs.Plain.{PlainAnswer, PlainEntry, entries_of}
-use Rattle.tty_calls.specs.Sessions.{PlainSession}
-use Rattle.tty_terminal.specs.Terminals.{Terminal}
-use Rattle.session_text.specs.Grammar.{Spells}
-use Rattle.session_print.specs.Ends.{PlainEnd}
-use Rattle.session_print.specs.Report.{answer_by, answer_in, report_text}
+use Rattle.first_calls.specs.declared.journals.PortRun.{PortRun}
+use Rattle.first_calls.specs.Plain.{PlainAnswer, PlainEntry, entries_of}
+use Rattle.first_calls.specs.Sessions.{PlainSession}
+use Rattle.first_terminal.specs.Terminals.{Terminal}
+use Rattle.first_text.specs.Grammar.{Spells}
+use Rattle.first_print.specs.Ends.{PlainEnd}
+use Rattle.first_print.specs.Report.{answer_by, answer_in, report_text}
 use Rattle.tty_run.specs.Endings.{IsRunOne, line_of}
 use Rattle.tty_run.specs.Legal.{IsLegal, IsOnTheWay}
 

@@ -1,15 +1,15 @@
 -- How far the playing of a session on its one port has come.
 use Rattle.std.specs.Prelude.{◌≡◌, ◌+◌, ◌≤◌, ℕ, List, [], ◌∷◌, ◌++◌, false, Option, Some, length, map, take, drop, min, slice_get, slice_index_or}
 use Rattle.tty_base.specs.declared.characters.Flagged.{Flagged}
-use Rattle.tty_calls.specs.declared.journals.Who.TheVariants.{Caller, Flusher}
-use Rattle.tty_calls.specs.declared.answers.Denied.{Denied}
-use Rattle.tty_calls.specs.declared.answers.Denied.TheVariants.{NoMemory, Full}
-use Rattle.tty_calls.specs.Plain.{PlainCall, PlainAnswer, PlainEntry, answered, flushed, entries_of}
-use Rattle.tty_calls.specs.Sessions.{PlainSession, scripts_on, scripts_over, names_of, with_name, call_at, counts_on}
-use Rattle.uart_line.specs.Received.{received}
-use Rattle.tty_terminal.specs.Runs.{IsRun, InPhases, Grows, phase_after}
-use Rattle.port_core.specs.Ports.{PortValue, PlainKept, IsPort, call_in}
-use Rattle.session_text.specs.Fits.{ArePlayable}
+use Rattle.first_calls.specs.declared.journals.Who.TheVariants.{Caller, Flusher}
+use Rattle.first_calls.specs.declared.answers.Denied.{Denied}
+use Rattle.first_calls.specs.declared.answers.Denied.TheVariants.{NoMemory, Full}
+use Rattle.first_calls.specs.Plain.{PlainCall, PlainAnswer, PlainEntry, answered, flushed, entries_of}
+use Rattle.first_calls.specs.Sessions.{PlainSession, scripts_on, scripts_over, names_of, with_name, call_at, counts_on}
+use Rattle.uart_line.specs.Received.{received_list}
+use Rattle.first_terminal.specs.Runs.{IsRun, InPhases, Grows, phase_after}
+use Rattle.first_port.specs.Ports.{PortValue, PlainKept, IsPort, call_in}
+use Rattle.first_text.specs.Fits.{ArePlayable}
 use Rattle.arrayvec.specs.ArrayString.{ArrayString}
 use Rattle.tty_run.specs.declared.one_thread.Played.{Played}
 use Rattle.tty_run.specs.Stages.{Begins}
@@ -137,7 +137,7 @@ Counted arrived v = arrived ≡ min (length v.given) 4294967295
 pub record IsBefore (s : PlainSession) (v : PortValue) (names : List (List ℕ)) (steps : List ℕ) (arrived phase : ℕ) : Type 0 where
   pub begins : Begins v steps phase
   pub between : Between s v
-  pub given : v.given ≡ received (script_of_first 0 s phase)
+  pub given : v.given ≡ received_list (script_of_first 0 s phase)
   pub cast : CastIs s phase names steps
   pub counted : Counted arrived v
 
@@ -147,7 +147,7 @@ pub record IsBefore (s : PlainSession) (v : PortValue) (names : List (List ℕ))
 pub record PlayedAll (s : PlainSession) (v : PortValue) : Type 0 where
   pub follows : Follows s v
   pub finished : IsFinished 0 s [] v.journal
-  pub given : v.given ≡ received (script_on 0 s)
+  pub given : v.given ≡ received_list (script_on 0 s)
   pub all : v.terminal.taken ≡ length v.given
 
 -- what is left of a port, whose line had this many characters

@@ -1,8 +1,8 @@
 -- The journal of the session of three bytes, and how it may be changed.
 use Rattle.std.specs.Prelude.{List, [], ◌∷◌, ◌++◌}
-use Rattle.tty_calls.specs.declared.journals.Who.TheVariants.{Caller, Line, Clock, Session}
-use Rattle.tty_calls.specs.Plain.{done, answered, line_ended, clock_ended, caller_ended, phase_ended, PlainEntry}
-use Rattle.tty_terminal.specs.Rows.{whole, opening_part, flush_part, reading_part, closed_part}
+use Rattle.first_calls.specs.declared.journals.Who.TheVariants.{Caller, Line, Clock, Session}
+use Rattle.first_calls.specs.Plain.{done, answered, line_ended, clock_ended, caller_ended, phase_ended, PlainEntry}
+use Rattle.first_terminal.specs.Rows.{whole, opening_part, flush_part, reading_part, closed_part}
 
 -- the phase in which the port is opened, without its end
 abbrev pub opening_entries : List PlainEntry

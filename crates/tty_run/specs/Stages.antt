@@ -1,17 +1,17 @@
 -- Where a port stands between two acts of its session.
 use Rattle.std.specs.Prelude.{◌≡◌, ℕ, List, [], ◌∷◌, true, false, IsTrue, Option, None, Some, ◌+◌, ◌<◌, ◌≤◌, ◌^◌, length, map, slice_set, sum, count_by}
-use Rattle.tty_calls.specs.Plain.{PlainEntry}
-use Rattle.tty_terminal.specs.declared.callers.Handle.{Handle}
-use Rattle.tty_terminal.specs.declared.callers.CallerState.{CallerState}
-use Rattle.tty_terminal.specs.Terminals.{caller_at}
-use Rattle.tty_terminal.specs.Steps.{follows, answered_caller}
-use Rattle.tty_terminal.specs.Runs.{is_flush}
-use Rattle.tty_calls.specs.declared.journals.Entry.{Entry}
-use Rattle.session_text.specs.Fits.{OpensNonblock}
-use Rattle.session_print.specs.Lines.{taken_count, dropped_count}
-use Rattle.port_core.specs.Ports.{PortValue, PlainKept}
-use Rattle.port_core.specs.declared.ports.Tried.{Tried}
-use Rattle.port_core.specs.declared.ports.Tried.TheVariants.{Done, Part, MustWait}
+use Rattle.first_calls.specs.Plain.{PlainEntry}
+use Rattle.first_terminal.specs.declared.callers.Handle.{Handle}
+use Rattle.first_terminal.specs.declared.callers.CallerState.{CallerState}
+use Rattle.first_terminal.specs.Terminals.{caller_at}
+use Rattle.first_terminal.specs.Steps.{follows, answered_caller}
+use Rattle.first_terminal.specs.Runs.{is_flush}
+use Rattle.first_calls.specs.declared.journals.Entry.{Entry}
+use Rattle.first_text.specs.Fits.{OpensNonblock}
+use Rattle.first_print.specs.Lines.{taken_count, dropped_count}
+use Rattle.first_port.specs.Ports.{PortValue, PlainKept}
+use Rattle.first_port.specs.declared.ports.Tried.{Tried}
+use Rattle.first_port.specs.declared.ports.Tried.TheVariants.{Done, Part, MustWait}
 
 -- no call of the caller has begun
 abbrev pub IsIdle : CallerState → Type 0

@@ -1,10 +1,10 @@
 -- What the work on a session came to, by its ending and its runs: for private functions alone.
 use Rattle.std.specs.Prelude.{◌≡◌, ◌≢◌, ℕ, List, [], Option, length}
-use Rattle.tty_calls.specs.declared.journals.PortRun.{PortRun}
-use Rattle.tty_calls.specs.Sessions.{PlainSession}
-use Rattle.session_text.specs.Grammar.{Spells}
-use Rattle.session_print.specs.Ends.{end_of}
-use Rattle.session_print.specs.Report.{report_text}
+use Rattle.first_calls.specs.declared.journals.PortRun.{PortRun}
+use Rattle.first_calls.specs.Sessions.{PlainSession}
+use Rattle.first_text.specs.Grammar.{Spells}
+use Rattle.first_print.specs.Ends.{end_of}
+use Rattle.first_print.specs.Report.{report_text}
 use Rattle.tty_run.specs.declared.one_thread.Played.{Played}
 use Rattle.tty_run.specs.declared.top.Ending.{Ending}
 use Rattle.tty_run.specs.declared.top.Ending.TheVariants.{Done, BadSession, BadWords, ReadFault, TooLong, JournalFull}

@@ -1,10 +1,10 @@
 ghost use Rattle.std.specs.Prelude.{◌≡◌, ℕ, [], Some};
-ghost use Rattle.tty_calls.specs.declared.journals.PortRun.{PortRun};
-ghost use Rattle.tty_calls.specs.Plain.{PlainCall, entries_of};
-ghost use Rattle.tty_calls.specs.Sessions.{PlainSession, call_at};
-ghost use Rattle.tty_terminal.specs.Terminals.{Terminal};
-ghost use Rattle.tty_terminal.specs.Rows.{three_bytes};
-ghost use Rattle.session_text.specs.Rows.{three_bytes_session};
+ghost use Rattle.first_calls.specs.declared.journals.PortRun.{PortRun};
+ghost use Rattle.first_calls.specs.Plain.{PlainCall, entries_of};
+ghost use Rattle.first_calls.specs.Sessions.{PlainSession, call_at};
+ghost use Rattle.first_terminal.specs.Terminals.{Terminal};
+ghost use Rattle.first_terminal.specs.Rows.{three_bytes};
+ghost use Rattle.first_text.specs.Rows.{three_bytes_session};
 ghost use Rattle.tty_run.specs.Legal.{IsOnTheWay, IsFinished, IsLegal};
 ghost use Rattle.tty_run.specs.Outcome.{IsAnsweredOnce};
 ghost use Rattle.tty_run.specs.Rows.{without_answer, without_caller_end, without_clock_end, with_other_line_end, without_hangup};

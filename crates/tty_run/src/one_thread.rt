@@ -1,22 +1,22 @@
 ghost use Rattle.std.specs.Prelude.{◌≡◌, ℕ, ◌+◌, ◌<◌, ◌≤◌, [], ◌∷◌, ◌++◌, sum, length, map, flat_map, replicate, IfOk, IfErr, IfSome, IfNone, OnOk, OnErr, IsTrue, true, false, slice_get};
 ghost use Rattle.std.specs.Str.{bytes_eq};
 ghost use Rattle.std.specs.List.{list_any};
-ghost use Rattle.tty_calls.specs.Plain.{call_of};
-ghost use Rattle.tty_calls.specs.Sessions.{PlainSession, session_of, phase_of, script_of, scripts_on, ticks_on};
-ghost use Rattle.tty_terminal.specs.Terminals.{caller_at};
-ghost use Rattle.tty_terminal.specs.Steps.{callers_in};
-ghost use Rattle.port_core.specs.Ports.{is_stuck};
-ghost use Rattle.uart_line.specs.Received.{arrival};
-ghost use Rattle.session_text.specs.Fits.{Fits, PhasesFit, IsGoodStep, AreGoodSteps, IsPlayable};
+ghost use Rattle.first_calls.specs.Plain.{call_of};
+ghost use Rattle.first_calls.specs.Sessions.{PlainSession, session_of, phase_of, script_of, scripts_on, ticks_on};
+ghost use Rattle.first_terminal.specs.Terminals.{caller_at};
+ghost use Rattle.first_terminal.specs.Steps.{callers_in};
+ghost use Rattle.first_port.specs.Ports.{is_stuck};
+ghost use Rattle.tty_base.specs.Lines.{arrival};
+ghost use Rattle.first_text.specs.Fits.{Fits, PhasesFit, IsGoodStep, AreGoodSteps, IsPlayable};
 ghost use Rattle.tty_run.specs.Legal.{phase_at, caller_part, sent_by, Plays};
 ghost use Rattle.tty_run.specs.Playing.{AddsFlushes, AddsAnswer, IsAtLimit, Follows, StopsAt, Between, LineOver, none_yet, IsOnlyCaller, CastIs, texts, IsNumbered, Counted, IsBefore, PlayedAll, IsLeftOf};
 ghost use Rattle.tty_run.specs.Stages.{Rests, Stays, Called, EndsLine, IsDone, Ends, Casts, PlaysCallers, Passes, Begins, AllSent, CountsFit, overs};
 
 use arrayvec::ArrayString;
-use port_core::{Flushed, Port, Tried};
+use first_calls::{Call, Denied, Phase, PortEnd, PortRun, Script, Session};
+use first_port::{Flushed, Port, Tried};
 use std::alloc::Global;
 use tty_base::{Buffer, LineReport, LineStep, NoMemory};
-use tty_calls::{Call, Denied, Phase, PortEnd, PortRun, Script, Session};
 
 /// How many entries a port's journal may have.
 pub(crate) const JOURNAL: u32 = 4_194_304;

@@ -1,18 +1,18 @@
 ghost use Rattle.std.specs.Prelude.{◌≡◌, ◌⊎◌, ◌≢◌, ◌<◌, ◌≤◌, ◌++◌, ◌↔◌, ℕ, List, [], Some, IfSome, IfOk, OnErr, IsTrue, length, map};
 ghost use Rattle.tty_base.specs.Outside.{Rose, GivesFront, TookCount, LeavesRest};
-ghost use Rattle.tty_calls.specs.Sessions.{session_of};
-ghost use Rattle.session_text.specs.Fits.{Fits};
+ghost use Rattle.first_calls.specs.Sessions.{session_of};
+ghost use Rattle.first_text.specs.Fits.{Fits};
 ghost use Rattle.tty_run.specs.Stages.{CountsFit};
 ghost use Rattle.tty_run.specs.Endings.{IsRunOne, IsStatus, line_of, Adds, status_of, text_of, IsShort, IsOfSource, IsTold, texts_of};
 ghost use Rattle.tty_run.specs.Outcome.{IsPlayed, IsReported, IsCutShort, IsBroken, SpellsNone, WasGiven, Completes};
 ghost use Rattle.tty_run.specs.Works.{IsWork, IsTextWork, IsSessionWork, IsEndingOf};
 
 use super::one_thread::{JOURNAL, Played, play};
-use session_print::report;
-use session_text::{TextFault, parse};
+use first_calls::{PortRun, Session};
+use first_print::report;
+use first_text::{TextFault, parse};
 use std::alloc::Global;
 use tty_base::{Buffer, Bytes, NoMemory, Sink, Source, TakeFault, read_all, write_all};
-use tty_calls::{PortRun, Session};
 
 /// The runs of a session's ports.
 pub type Runs = Buffer<PortRun>;

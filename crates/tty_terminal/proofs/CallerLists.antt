@@ -1,9 +1,9 @@
 -- A list of callers after one of them, or each, has changed.
-use Rattle.std.proofs.Common.{◌≡◌, ℕ, zero, suc, ◌+◌, ◌≤◌, List, [], ◌∷◌, Bool, true, false, Option, None, Some, if◌then◌else◌, map, set, get_or, replicate, refl, arith}
+use Rattle.std.proofs.Common.{◌≡◌, ℕ, zero, suc, ◌+◌, ◌≤◌, List, [], ◌∷◌, Bool, true, false, Option, None, Some, if◌then◌else◌, map, set, get_or, replicate, refl, ap, arith}
 use Rattle.tty_terminal.specs.declared.callers.Bound.{Bound}
 use Rattle.tty_terminal.specs.declared.callers.CallerState.{CallerState}
-use Rattle.tty_terminal.specs.Terminals.{idle_caller, is_bound, begun_of}
-use Rattle.tty_terminal.specs.Outcomes.{closed_under, without_handle, killed_under, with_dead_handle}
+use Rattle.tty_terminal.specs.Terminals.{idle_caller, is_bound, has_begun, begun_of}
+use Rattle.tty_terminal.specs.Generations.{bound_after_close, caller_after_close, bound_after_hangup, caller_after_hangup}
 
 -- one caller changes, and each other one stays
 pub set_relates : (R : CallerState → CallerState → Type 0) → ((s : CallerState) → R s s) → (cs : List CallerState) (c : ℕ) (s : CallerState) (d : ℕ) → R (get_or cs c idle_caller) s → R (get_or cs d idle_caller) (get_or (set cs c s) d idle_caller)
@@ -24,27 +24,46 @@ all_idle zero c = refl
 all_idle (suc n) zero = refl
 all_idle (suc n) (suc c) = all_idle n c
 
--- the caller has its next step and is at the same call
+-- of a caller nothing changes but what became of the handle of its call
 pub record Stays (s u : CallerState) : Type 0 where
   pub next : u.next ≡ s.next
+  pub over : u.over ≡ s.over
+  pub waits : u.waits ≡ s.waits
+  pub parts : u.parts ≡ s.parts
+  pub taken : u.taken ≡ s.taken
+  pub generation : u.generation ≡ s.generation
+  pub bound : has_begun u ≡ has_begun s
   pub begun : begun_of u ≡ begun_of s
 
 pub stays : (s : CallerState) → Stays s s
-stays s = record { next = refl; begun = refl }
+stays s = record { next = refl; over = refl; waits = refl; parts = refl; taken = refl; generation = refl; bound = refl; begun = refl }
 
-closed_is_bound : (h : ℕ) (b : Option Bound) → is_bound (closed_under h b) ≡ is_bound b
+closed_is_bound : (h : ℕ) (b : Option Bound) → is_bound (bound_after_close h b) ≡ is_bound b
 closed_is_bound h None = refl
 closed_is_bound h (Some b) = refl
 
-killed_is_bound : (b : Option Bound) → is_bound (killed_under b) ≡ is_bound b
+killed_is_bound : (b : Option Bound) → is_bound (bound_after_hangup b) ≡ is_bound b
 killed_is_bound None = refl
 killed_is_bound (Some b) = refl
 
-pub without_stays : (h : ℕ) (s : CallerState) → Stays s (without_handle h s)
-without_stays h s = record { next = refl; begun = rw (closed_is_bound h s.bound) refl }
+bound_stays : (s : CallerState) (b : Option Bound) → is_bound b ≡ is_bound s.bound → Stays s (record s { bound = b })
+bound_stays s b e =
+    record {
+      next = refl;
+      over = refl;
+      waits = refl;
+      parts = refl;
+      taken = refl;
+      generation = refl;
+      bound = e;
+      begun = ap (λ (begun : Bool). if begun then s.next + 1 else s.next) e;
+    }
 
-pub dead_stays : (s : CallerState) → Stays s (with_dead_handle s)
-dead_stays s = record { next = refl; begun = rw (killed_is_bound s.bound) refl }
+pub close_stays : (h : ℕ) (s : CallerState) → Stays s (caller_after_close h s)
+close_stays h s = bound_stays s (bound_after_close h s.bound) (closed_is_bound h s.bound)
+
+pub hangup_stays : (s : CallerState) → Stays s (caller_after_hangup s)
+hangup_stays s = bound_stays s (bound_after_hangup s.bound) (killed_is_bound s.bound)
 
 most_of : (b : Bool) (n : ℕ) → (if b then n + 1 else n) ≤ n + 1
 most_of true n = omega arith
@@ -55,7 +74,7 @@ least_of true n = omega arith
 least_of false n = omega arith
 
 pub begun_most : (s : CallerState) → begun_of s ≤ s.next + 1
-begun_most s = most_of (is_bound s.bound) s.next
+begun_most s = most_of (has_begun s) s.next
 
 pub begun_least : (s : CallerState) → s.next ≤ begun_of s
-begun_least s = least_of (is_bound s.bound) s.next
+begun_least s = least_of (has_begun s) s.next

@@ -1,34 +1,35 @@
 -- What the fields of a terminal stand for, and what they keep.
-use Rattle.std.specs.Prelude.{◌≤◌, length}
-use Rattle.std.specs.VecDeque.{deque_capacity}
+use Rattle.flow_control.specs.Output.{without_room}
+use Rattle.flow_control.specs.Counting.{without_signal_room}
+use Rattle.ldisc_switch.specs.Disciplines.{Fits}
 use Rattle.tty_terminal.specs.declared.terminals.Terminal.TheInside.{Inside}
 use Rattle.tty_terminal.specs.Terminals.{Terminal}
+use Rattle.tty_terminal.specs.Meeting.{InRoom}
 
 abbrev pub terminal_of : Inside → Terminal
 terminal_of a =
     record {
-      unread = a.unread.items;
-      counts = a.counts;
-      signals = a.signals.items;
-      wire = a.wire.items;
+      disc = a.disc;
+      modes = a.modes;
+      output = without_room a.wire;
+      tally = without_signal_room a.tally;
       handles = a.handles;
       exclusive = a.exclusive;
       tick = a.tick;
       generation = a.generation;
+      capacity = a.capacity;
       taken = a.taken;
       sent = a.sent;
       phase = a.phase;
       line_over = a.line_over;
       clock_over = a.clock_over;
-      callers = a.callers.items;
+      callers = a.callers;
       flushed = a.flushed;
     }
 
--- room is reserved for all that can be unread, and no count exceeds the characters taken
-pub record IsSound (a : Inside) : Type 0 where
-  pub room : 4095 ≤ deque_capacity a.unread
-  pub unread : length a.unread.items ≤ 4095
-  pub mark : a.counts.mark ≤ a.taken
-  pub parity : a.counts.parity ≤ a.taken
-  pub frame : a.counts.frame ≤ a.taken
-  pub breaks : a.counts.breaks ≤ a.taken
+abbrev pub value_of : Inside → InRoom
+value_of a = record { terminal = terminal_of a; wire_room = a.wire.spare; signal_room = a.tally.signals.spare }
+
+-- the discipline fits the modes
+abbrev pub IsSound : Inside → Type 0
+IsSound a = Fits a.modes a.disc

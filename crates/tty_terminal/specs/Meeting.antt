@@ -1,22 +1,193 @@
--- What the code answers of an outcome.
-use Rattle.std.specs.Prelude.{◌≡◌, ℕ, length, min}
-use Rattle.tty_calls.specs.Plain.{PlainCall, opens, closes, reads, sets_modes, answer_of}
-use Rattle.tty_terminal.specs.declared.terminals.Met.{Met}
-use Rattle.tty_terminal.specs.declared.terminals.Met.TheVariants.{Gives, Waits}
-use Rattle.tty_terminal.specs.Terminals.{Terminal}
+-- What the code answers of an outcome, and the room that it needs.
+use Rattle.std.specs.Prelude.{◌≡◌, ◌≤◌, ◌==◌, ◌+◌, ◌*◌, ℕ, List, [], Option, None, Some, Bool, false, nat_lt, if◌then◌else◌, length, option_map}
+use Rattle.tty_calls.specs.Plain.{PlainCall, opens, closes, reads, writes, gets_modes, sets_modes, gets_disc, sets_disc, flushes, steers, counts_input, counts_output, excludes, admits, drains, gets_counts, hangs_up, sends_packet, takes_packet, answer_of}
+use Rattle.n_tty.specs.Reading.{bytes_read}
+use Rattle.n_slip.specs.Discipline.{first_packet}
+use Rattle.slip_frames.specs.Slip.{max_packet, spelling_of}
+use Rattle.handle_table.specs.declared.HandleState.{HandleState}
+use Rattle.ldisc_switch.specs.declared.kinds.Kind.{Kind}
+use Rattle.ldisc_switch.specs.declared.kinds.Kind.TheVariants as kind
+use Rattle.ldisc_switch.specs.declared.discipline.Disc.{Disc}
+use Rattle.ldisc_switch.specs.declared.discipline.Disc.TheVariants as disc
+use Rattle.ldisc_switch.specs.Disciplines.{kind_of_number, fresh_of, pending_count_of}
+use Rattle.n_tty.specs.declared.discipline.TheConstants.{CHARACTER_ROOM}
+use Rattle.tty_terminal.specs.declared.rooms.Room.{Room}
+use Rattle.tty_terminal.specs.declared.rooms.Met.{Met}
+use Rattle.tty_terminal.specs.declared.rooms.Met.TheVariants as met
+use Rattle.tty_terminal.specs.Terminals.{Terminal, handle_at}
 use Rattle.tty_terminal.specs.Outcomes.{Outcome, unknown, waits, takes, gives}
+use Rattle.tty_terminal.specs.Opening.{is_last_live}
+use Rattle.tty_terminal.specs.Switching.{number_of}
+
+-- a terminal, with the room that is reserved for bytes on the wire and for signals
+pub record InRoom : Type 0 where
+  pub terminal : Terminal
+  pub wire_room : ℕ
+  pub signal_room : ℕ
 
 abbrev pub Meets : Outcome → Met → Type 0
-Meets unknown met = ⊥
-Meets waits Waits = Unit {0}
-Meets waits (Gives given) = ⊥
-Meets (takes taken left) met = ⊥
-Meets (gives answer drops left) Waits = ⊥
-Meets (gives answer drops left) (Gives given) = answer_of given ≡ answer
+Meets unknown result = ⊥
+Meets waits met.Waits = Unit {0}
+Meets waits (met.Gives given) = ⊥
+Meets waits (met.Takes n) = ⊥
+Meets (takes taken left) met.Waits = ⊥
+Meets (takes taken left) (met.Gives given) = ⊥
+Meets (takes taken left) (met.Takes n) = n ≡ taken
+Meets (gives answer drops left) met.Waits = ⊥
+Meets (gives answer drops left) (met.Gives given) = answer_of given ≡ answer
+Meets (gives answer drops left) (met.Takes n) = ⊥
+
+-- what an outcome leaves, before the rule for ixoff
+abbrev pub left_before_rule : Outcome → Terminal → Terminal
+left_before_rule unknown t = t
+left_before_rule waits t = t
+left_before_rule (takes taken left) t = left
+left_before_rule (gives answer drops left) t = left
+
+-- whether an answer drops what waits in the flip buffer
+abbrev pub drops_of : Outcome → Bool
+drops_of unknown = false
+drops_of waits = false
+drops_of (takes taken left) = false
+drops_of (gives answer drops left) = drops
+
+-- ---- room
+
+-- the room on the wire that a call needs: the bytes that can be held, and the character for ixoff
+abbrev pub room_for_call : ℕ
+room_for_call = 4097
+
+-- the room on the wire that so many characters need at most: for what is pending once, and for each of them
+abbrev pub room_for_characters : Terminal → ℕ → ℕ
+room_for_characters t n = pending_count_of t.disc t.output + CHARACTER_ROOM * n
+
+-- how many bytes a read gives, where it is ready
+abbrev pub read_room : Terminal → ℕ → Disc → ℕ
+read_room t n (disc.Tty tty) = length (bytes_read t.modes n tty)
+read_room t n (disc.Slip slip) = 0
+
+abbrev pub packet_room : Disc → ℕ
+packet_room (disc.Tty tty) = 0
+packet_room (disc.Slip slip) = length (first_packet slip)
 
 -- the room that the answer to a call needs
 abbrev pub room_for : Terminal → PlainCall → ℕ
 room_for t (opens h access nonblock) = 0
 room_for t (closes h) = 0
-room_for t (reads h n) = min (min n 4096) (length t.unread)
+room_for t (reads h n) = read_room t n t.disc
+room_for t (writes h bytes) = 0
+room_for t (gets_modes h) = 0
 room_for t (sets_modes h when words) = 0
+room_for t (gets_disc h) = 0
+room_for t (sets_disc h n) = 0
+room_for t (flushes h queue) = 0
+room_for t (steers h act) = 0
+room_for t (counts_input h) = 0
+room_for t (counts_output h) = 0
+room_for t (excludes h) = 0
+room_for t (admits h) = 0
+room_for t (drains h) = 0
+room_for t (gets_counts h) = 0
+room_for t (hangs_up h) = 0
+room_for t (sends_packet h bytes) = 0
+room_for t (takes_packet h) = packet_room t.disc
+
+-- the discipline that a close installs: a fresh one where it is the last
+abbrev pub close_kind : Terminal → Option HandleState → Option Kind
+close_kind t None = None
+close_kind t (Some handle) = if is_last_live t handle then Some kind.Tty else None
+
+-- the kind of the fresh discipline that a call installs
+abbrev pub fresh_kind : Terminal → PlainCall → Option Kind
+fresh_kind t (opens h access nonblock) = None
+fresh_kind t (closes h) = close_kind t (handle_at t h)
+fresh_kind t (reads h n) = None
+fresh_kind t (writes h bytes) = None
+fresh_kind t (gets_modes h) = None
+fresh_kind t (sets_modes h when words) = None
+fresh_kind t (gets_disc h) = None
+fresh_kind t (sets_disc h n) = if number_of t.disc == n then None else kind_of_number n
+fresh_kind t (flushes h queue) = None
+fresh_kind t (steers h act) = None
+fresh_kind t (counts_input h) = None
+fresh_kind t (counts_output h) = None
+fresh_kind t (excludes h) = None
+fresh_kind t (admits h) = None
+fresh_kind t (drains h) = None
+fresh_kind t (gets_counts h) = None
+fresh_kind t (hangs_up h) = Some kind.Tty
+fresh_kind t (sends_packet h bytes) = None
+fresh_kind t (takes_packet h) = None
+
+-- a packet that a call sends, as it is spelled, unless it is too long
+abbrev pub spelled_packet : PlainCall → List ℕ
+spelled_packet (opens h access nonblock) = []
+spelled_packet (closes h) = []
+spelled_packet (reads h n) = []
+spelled_packet (writes h bytes) = []
+spelled_packet (gets_modes h) = []
+spelled_packet (sets_modes h when words) = []
+spelled_packet (gets_disc h) = []
+spelled_packet (sets_disc h n) = []
+spelled_packet (flushes h queue) = []
+spelled_packet (steers h act) = []
+spelled_packet (counts_input h) = []
+spelled_packet (counts_output h) = []
+spelled_packet (excludes h) = []
+spelled_packet (admits h) = []
+spelled_packet (drains h) = []
+spelled_packet (gets_counts h) = []
+spelled_packet (hangs_up h) = []
+spelled_packet (sends_packet h bytes) = if nat_lt max_packet (length bytes) then [] else spelling_of bytes
+spelled_packet (takes_packet h) = []
+
+-- how many bytes a call hands over
+abbrev pub byte_count : PlainCall → ℕ
+byte_count (opens h access nonblock) = 0
+byte_count (closes h) = 0
+byte_count (reads h n) = 0
+byte_count (writes h bytes) = length bytes
+byte_count (gets_modes h) = 0
+byte_count (sets_modes h when words) = 0
+byte_count (gets_disc h) = 0
+byte_count (sets_disc h n) = 0
+byte_count (flushes h queue) = 0
+byte_count (steers h act) = 0
+byte_count (counts_input h) = 0
+byte_count (counts_output h) = 0
+byte_count (excludes h) = 0
+byte_count (admits h) = 0
+byte_count (drains h) = 0
+byte_count (gets_counts h) = 0
+byte_count (hangs_up h) = 0
+byte_count (sends_packet h bytes) = length bytes
+byte_count (takes_packet h) = 0
+
+-- the calls in groups: opens, closes and transfers; modes and disciplines; output and exclusive use; the others
+abbrev pub group_of : PlainCall → ℕ
+group_of (opens h access nonblock) = 0
+group_of (closes h) = 0
+group_of (reads h n) = 0
+group_of (writes h bytes) = 0
+group_of (gets_modes h) = 1
+group_of (sets_modes h when words) = 1
+group_of (gets_disc h) = 1
+group_of (sets_disc h n) = 1
+group_of (flushes h queue) = 2
+group_of (steers h act) = 2
+group_of (counts_input h) = 3
+group_of (counts_output h) = 2
+group_of (excludes h) = 2
+group_of (admits h) = 2
+group_of (drains h) = 3
+group_of (gets_counts h) = 3
+group_of (hangs_up h) = 3
+group_of (sends_packet h bytes) = 3
+group_of (takes_packet h) = 3
+
+-- what a call needs was made before it: room for its answer, the discipline that it installs, and its packet as it is spelled
+pub record IsRoomFor (t : Terminal) (call : PlainCall) (room : Room) : Type 0 where
+  pub empty : room.bytes.items ≡ []
+  pub fits : room_for t call ≤ room.bytes.spare
+  pub fresh : room.fresh ≡ option_map fresh_of (fresh_kind t call)
+  pub encoded : room.encoded.items ≡ spelled_packet call

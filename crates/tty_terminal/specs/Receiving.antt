@@ -1,40 +1,31 @@
--- What becomes of a character under raw modes: without inpck, ignbrk, brkint and parmrk (termios(3)).
-use Rattle.std.specs.Prelude.{ℕ, List, [], ◌∷◌, ◌++◌, ◌+◌, Bool, IsTrue, nat_le, length}
-use Rattle.tty_base.specs.declared.counters.Counts.{Counts}
-use Rattle.tty_base.specs.declared.characters.Flag.{Flag}
-use Rattle.tty_base.specs.declared.characters.Flag.TheVariants.{Normal, Break, Parity, Frame, Overrun}
+-- What becomes of the characters of a flush.
+use Rattle.std.specs.Prelude.{◌+◌, Bool, IsTrue, List, [], ◌∷◌}
 use Rattle.tty_base.specs.declared.characters.Flagged.{Flagged}
+use Rattle.ldisc_switch.specs.Disciplines.{DiscOnPort, accepts_of, after_character_of, after_ixoff_rule_of}
 use Rattle.tty_terminal.specs.Terminals.{Terminal}
 
--- a character is accepted while at most 4,094 bytes are unread
+-- whether the discipline accepts a character
 abbrev pub accepts : Terminal → Bool
-accepts t = nat_le (length t.unread) 4094
+accepts t = accepts_of t.modes t.disc
 
--- the mark of a FIFO that overran stores nothing; a break stores 00; any other character stores its byte
-abbrev pub stored : Flag → ℕ → List ℕ
-stored Normal byte = byte ∷ []
-stored Break byte = 0 ∷ []
-stored Parity byte = byte ∷ []
-stored Frame byte = byte ∷ []
-stored Overrun byte = []
+abbrev pub with_port : Terminal → DiscOnPort → Terminal
+with_port t port = record t { disc = port.disc; output = port.output; tally = port.tally }
 
-abbrev pub counted : Flag → Counts → Counts
-counted Normal n = n
-counted Break n = record n { breaks = n.breaks + 1 }
-counted Parity n = record n { parity = n.parity + 1 }
-counted Frame n = record n { frame = n.frame + 1 }
-counted Overrun n = record n { mark = n.mark + 1 }
+-- the terminal after a character, at the tick of now
+abbrev pub after_character : Terminal → Flagged → Terminal
+after_character t c =
+    record (with_port t (after_character_of t.modes t.tick c t.disc t.output t.tally)) { taken = t.taken + 1 }
 
--- the terminal after a character was received
-abbrev pub received : Terminal → Flagged → Terminal
-received t c = record t { unread = t.unread ++ stored c.flag c.byte; counts = counted c.flag t.counts; taken = t.taken + 1 }
-
--- after these were, one after the other
-abbrev pub received_all : Terminal → List Flagged → Terminal
-received_all t [] = t
-received_all t (c ∷ cs) = received_all (received t c) cs
+-- after these, one after the other
+abbrev pub after_characters : Terminal → List Flagged → Terminal
+after_characters t [] = t
+after_characters t (c ∷ cs) = after_characters (after_character t c) cs
 
 -- each of these is accepted in its turn
 abbrev pub AcceptsAll : Terminal → List Flagged → Type 0
 AcceptsAll t [] = Unit {0}
-AcceptsAll t (c ∷ cs) = IsTrue (accepts t) × AcceptsAll (received t c) cs
+AcceptsAll t (c ∷ cs) = IsTrue (accepts t) × AcceptsAll (after_character t c) cs
+
+-- the rule for ixoff, with the modes and the discipline of now
+abbrev pub after_ixoff : Terminal → Terminal
+after_ixoff t = record t { output = after_ixoff_rule_of t.modes t.disc t.output }

@@ -1,11 +1,11 @@
 -- Whole journals: runs of the terminal, flush runs and calls in one generation, and the characters
 -- that a journal accounts for.
-use Rattle.std.specs.Prelude.{◌≡◌, ℕ, List, [], ◌∷◌, ◌++◌, Bool, true, false, Option, Some, IsTrue, MatchBool, ◌&&◌, ◌==◌, ◌+◌, sum}
+use Rattle.std.specs.Prelude.{◌≡◌, ℕ, List, [], ◌∷◌, ◌++◌, Bool, true, false, Option, Some, is_some, IsTrue, MatchBool, ◌&&◌, ◌==◌, ◌+◌, ◌<◌, sum}
 use Rattle.tty_base.specs.declared.characters.Flagged.{Flagged}
 use Rattle.tty_calls.specs.declared.journals.Who.{Who}
 use Rattle.tty_calls.specs.declared.journals.Who.TheVariants.{Caller, Flusher, Line, Clock, Session}
-use Rattle.tty_calls.specs.Plain.{PlainCall, PlainEvent, answered, parted, waited, flushed, ticked, line_ended, clock_ended, caller_ended, phase_ended, hung_up, PlainEntry}
-use Rattle.tty_terminal.specs.Terminals.{Terminal, opening}
+use Rattle.tty_calls.specs.Plain.{PlainCall, PlainEvent, answered, parted, waited, flushed, ticked, line_ended, clock_ended, caller_ended, phase_ended, hung_up, PlainEntry, is_caller}
+use Rattle.tty_terminal.specs.Terminals.{Terminal, opening, caller_at}
 use Rattle.tty_terminal.specs.Steps.{Allowed, after}
 
 -- the entries are steps, one after the other, and lead from the one terminal to the other
@@ -13,9 +13,9 @@ abbrev pub Leads : (ℕ → ℕ → Option PlainCall) → List ℕ → Terminal 
 Leads calls counts t [] u = u ≡ t
 Leads calls counts t (e ∷ es) u = Allowed calls counts t e × Leads calls counts (after calls t e) es u
 
--- a run: from the opening terminal
-abbrev pub IsRun : (ℕ → ℕ → Option PlainCall) → List ℕ → List PlainEntry → Terminal → Type 0
-IsRun calls counts journal t = Leads calls counts (opening (sum counts)) journal t
+-- a run: from the opening terminal, with so many callers in each phase and a flip buffer of this capacity
+abbrev pub IsRun : (ℕ → ℕ → Option PlainCall) → List ℕ → ℕ → List PlainEntry → Terminal → Type 0
+IsRun calls counts capacity journal t = Leads calls counts (opening (sum counts) capacity) journal t
 
 abbrev pub is_flush : PlainEvent → Bool
 is_flush (answered a dropped) = false
@@ -41,13 +41,6 @@ is_of_call clock_ended = false
 is_of_call caller_ended = false
 is_of_call phase_ended = false
 is_of_call (hung_up dropped) = false
-
-abbrev pub is_caller : Who → ℕ → Bool
-is_caller (Caller c) d = c == d
-is_caller Flusher d = false
-is_caller Line d = false
-is_caller Clock d = false
-is_caller Session d = false
 
 -- each piece of this flush run has this generation
 abbrev pub RunHas : ℕ → ℕ → List PlainEntry → Type 0
@@ -84,6 +77,12 @@ GoesOn (hung_up dropped) who step generation es = Unit {0}
 abbrev pub OneGeneration : List PlainEntry → Type 0
 OneGeneration [] = Unit {0}
 OneGeneration (e ∷ es) = GoesOn e.event e.who e.step e.generation es × OneGeneration es
+
+-- a call of which a part was taken, and which has not waited since, goes on in the generation of its parts
+abbrev pub GoesOnInGeneration : Terminal → PlainEntry → Type 0
+GoesOnInGeneration t e =
+    (c : ℕ) → is_of_call e.event ≡ true → is_caller e.who c ≡ true → 0 < (caller_at t c).parts → is_some (caller_at t c).waits ≡ false
+    → (caller_at t c).generation ≡ e.generation
 
 -- the characters that an event hands over or drops
 abbrev pub chars_in : PlainEvent → List Flagged
@@ -132,3 +131,11 @@ InPhases IsCaller IsCall phase (e ∷ es) =
 -- each call that the one knows the other knows too
 abbrev pub Grows : (ℕ → ℕ → Option PlainCall) → (ℕ → ℕ → Option PlainCall) → Type 0
 Grows f g = (c step : ℕ) (call : PlainCall) → f c step ≡ Some call → g c step ≡ Some call
+
+-- two functions of calls agree on an entry: where it is one of a call, the call is the same
+abbrev pub AgreesAt : (ℕ → ℕ → Option PlainCall) → (ℕ → ℕ → Option PlainCall) → Who → ℕ → PlainEvent → Type 0
+AgreesAt f g who step event = (c : ℕ) → is_of_call event ≡ true → is_caller who c ≡ true → g c step ≡ f c step
+
+abbrev pub AgreesOn : (ℕ → ℕ → Option PlainCall) → (ℕ → ℕ → Option PlainCall) → List PlainEntry → Type 0
+AgreesOn f g [] = Unit {0}
+AgreesOn f g (e ∷ es) = AgreesAt f g e.who e.step e.event × AgreesOn f g es

@@ -8,9 +8,11 @@ use Rattle.tty_calls.specs.Plain.{PlainCall, handle_of, PlainAnswer, idle, Plain
 use Rattle.tty_terminal.specs.declared.callers.Bound.{Bound}
 use Rattle.tty_terminal.specs.declared.callers.CallerState.{CallerState}
 use Rattle.tty_terminal.specs.declared.callers.Piece.{Piece}
-use Rattle.tty_terminal.specs.Terminals.{Terminal, handle_at, caller_at, has_begun, live_count}
-use Rattle.tty_terminal.specs.Receiving.{accepts, received_all, AcceptsAll}
-use Rattle.tty_terminal.specs.Outcomes.{Outcome, unknown, waits, takes, gives, outcome_of, hung_by}
+use Rattle.tty_terminal.specs.Terminals.{Terminal, handle_at, caller_at, has_begun, is_over, is_resting, live_count}
+use Rattle.tty_terminal.specs.Receiving.{accepts, after_characters, AcceptsAll, after_ixoff}
+use Rattle.tty_terminal.specs.Generations.{after_hangup}
+use Rattle.tty_terminal.specs.Outcomes.{Outcome, unknown, waits, takes, gives}
+use Rattle.tty_terminal.specs.Calls.{outcome_of}
 
 abbrev pub callers_in : List ℕ → ℕ → ℕ
 callers_in counts phase = slice_index_or counts phase 0
@@ -21,16 +23,14 @@ nothing_to_flush t = (t.taken == t.sent) || ((live_count t == 0) || not (accepts
 
 -- line and clock are over, every caller of the phase is over or waits, and nothing is left to flush
 abbrev pub quiet_with : ℕ → Terminal → Bool
-quiet_with callers t =
-    t.line_over && (t.clock_over && (nat_le callers (count_by (λ s. s.over || is_some s.waits) t.callers) && nothing_to_flush t))
+quiet_with callers t = t.line_over && (t.clock_over && (nat_le callers (count_by is_resting t.callers) && nothing_to_flush t))
 
 abbrev pub quiet : List ℕ → Terminal → Bool
 quiet counts t = quiet_with (callers_in counts t.phase) t
 
 -- the same, and no caller waits
 abbrev pub may_end_with : ℕ → Terminal → Bool
-may_end_with callers t =
-    t.line_over && (t.clock_over && (nat_le callers (count_by (λ s. s.over) t.callers) && nothing_to_flush t))
+may_end_with callers t = t.line_over && (t.clock_over && (nat_le callers (count_by is_over t.callers) && nothing_to_flush t))
 
 abbrev pub may_end : List ℕ → Terminal → Bool
 may_end counts t = may_end_with (callers_in counts t.phase) t
@@ -42,10 +42,11 @@ Answers may waits a = (a ≡ idle) × (may ≡ true)
 Answers may (takes taken left) a = ⊥
 Answers may (gives answer drops left) a = a ≡ answer
 
--- how many characters an answer drops: all that were sent, as far as a look shows, where it drops any
+-- How many characters an answer drops, where it drops any: what a look at the flip buffer shows. That is no more than the
+-- buffer holds, at least what is known to be sent, and exactly that once the line is over.
 abbrev pub DropsAt : Terminal → Bool → ℕ → Type 0
 DropsAt t false n = n ≡ 0
-DropsAt t true n = (t.sent - t.taken ≤ n) × (IsTrue t.line_over → n ≡ t.sent - t.taken)
+DropsAt t true n = (t.sent - t.taken ≤ n) × (n ≤ t.capacity) × (IsTrue t.line_over → n ≡ t.sent - t.taken)
 
 abbrev pub Drops : Terminal → Outcome → ℕ → Type 0
 Drops t unknown n = n ≡ 0
@@ -59,17 +60,25 @@ MustWait waits = Unit {0}
 MustWait (takes taken left) = ⊥
 MustWait (gives answer drops left) = ⊥
 
+-- the same as a test
+abbrev pub is_wait : Outcome → Bool
+is_wait unknown = false
+is_wait waits = true
+is_wait (takes taken left) = false
+is_wait (gives answer drops left) = false
+
 abbrev pub TakesPart : Outcome → ℕ → Type 0
 TakesPart unknown n = ⊥
 TakesPart waits n = ⊥
 TakesPart (takes taken left) n = n ≡ taken
 TakesPart (gives answer drops left) n = ⊥
 
+-- what an outcome leaves of a terminal; the rule for ixoff follows each answer, and neither a part nor a wait
 abbrev pub left_by : Outcome → Terminal → Terminal
 left_by unknown t = t
 left_by waits t = t
 left_by (takes taken left) t = left
-left_by (gives answer drops left) t = left
+left_by (gives answer drops left) t = after_ixoff left
 
 -- the caller's next step, by a caller whose calls of this phase are not over
 pub record IsNext (t : Terminal) (c step part : ℕ) : Type 0 where
@@ -121,6 +130,8 @@ pub record IsLineEnd (t : Terminal) (step part n : ℕ) : Type 0 where
   pub not_over : t.line_over ≡ false
   pub taken : t.taken ≤ n
   pub sent : t.sent ≤ n
+  -- no more than the flip buffer holds beside what was taken
+  pub fits : n ≤ t.taken + t.capacity
 
 -- a caller that is between two calls. One that waits has begun a call
 pub record IsCallerEnd (t : Terminal) (c step part : ℕ) : Type 0 where
@@ -161,41 +172,51 @@ IsAllowed calls counts t who step part phase_ended = (who ≡ Session) × IsPhas
 IsAllowed calls counts t who step part (hung_up dropped) = (who ≡ Session) × IsHangup counts t step part dropped
 
 -- the call is answered: its handle, its bytes and its wait are forgotten
-abbrev pub answered_caller : CallerState → CallerState
-answered_caller s = record { next = s.next + 1; over = s.over; waits = None; parts = 0; taken = 0; generation = 0; bound = None }
+abbrev pub caller_after_answer : CallerState → CallerState
+caller_after_answer s = record { next = s.next + 1; over = s.over; waits = None; parts = 0; taken = 0; generation = 0; bound = None }
 
 abbrev pub with_caller : Terminal → ℕ → CallerState → Terminal
 with_caller t c s = record t { callers = slice_set t.callers c s }
 
-abbrev pub advanced : Terminal → ℕ → Terminal
-advanced t c = with_caller t c (answered_caller (caller_at t c))
+abbrev pub after_answer : Terminal → ℕ → Terminal
+after_answer t c = with_caller t c (caller_after_answer (caller_at t c))
 
--- the handle that a call begins with is noted at its first wait or part
-abbrev pub noted : Terminal → Option Bound → ℕ → Option Bound
-noted t None h = Some (record { h = h; handle = handle_at t h })
-noted t (Some b) h = Some b
-
-abbrev pub noted_for : Terminal → CallerState → Option PlainCall → Option Bound
-noted_for t s None = s.bound
-noted_for t s (Some call) = noted t s.bound (handle_of call)
+-- a call keeps the handle that it began with from its first wait or part on
+abbrev pub bound_at : Terminal → Option Bound → ℕ → Option Bound
+bound_at t None h = Some (record { h = h; handle = handle_at t h })
+bound_at t (Some b) h = Some b
 
 -- the caller waits from now on, with a call on this handle
-abbrev pub waiting_since : Terminal → CallerState → ℕ → CallerState
-waiting_since t s h = record s { waits = Some t.tick; bound = noted t s.bound h }
+abbrev pub caller_after_wait : Terminal → CallerState → ℕ → CallerState
+caller_after_wait t s h = record s { waits = Some t.tick; bound = bound_at t s.bound h }
 
-abbrev pub waiting_caller : Terminal → CallerState → Option PlainCall → CallerState
-waiting_caller t s None = s
-waiting_caller t s (Some call) = waiting_since t s (handle_of call)
-
-abbrev pub parted_caller : Terminal → CallerState → Option PlainCall → ℕ → CallerState
-parted_caller t s call n =
+-- a part of the caller's write on this handle was taken, of n bytes
+abbrev pub caller_after_part : Terminal → CallerState → ℕ → ℕ → CallerState
+caller_after_part t s h n =
     record s {
       waits = None;
       parts = s.parts + 1;
       taken = s.taken + n;
       generation = if s.parts == 0 then t.generation else s.generation;
-      bound = noted_for t s call;
+      bound = bound_at t s.bound h;
     }
+
+-- the terminal where the caller's call on the handle h waits from now on
+abbrev pub after_wait : Terminal → ℕ → ℕ → Terminal
+after_wait t c h = with_caller t c (caller_after_wait t (caller_at t c) h)
+
+-- where a part of the caller's write on the handle h was taken, of n bytes
+abbrev pub after_part : Terminal → ℕ → ℕ → ℕ → Terminal
+after_part t c h n = with_caller t c (caller_after_part t (caller_at t c) h n)
+
+-- where the caller's calls of the phase are over
+abbrev pub after_caller_end : Terminal → ℕ → Terminal
+after_caller_end t c = with_caller t c (record (caller_at t c) { over = true })
+
+-- the number of the handle that a call names, where the call is known
+abbrev pub handle_number : Option PlainCall → ℕ
+handle_number None = 0
+handle_number (Some call) = handle_of call
 
 -- a terminal in which so many characters were dropped
 abbrev pub with_dropped : Terminal → ℕ → Terminal
@@ -208,25 +229,25 @@ by_caller Line t f = t
 by_caller Clock t f = t
 by_caller Session t f = t
 
-abbrev pub calling_again : CallerState → CallerState
-calling_again s = record s { over = false }
+abbrev pub caller_after_phase : CallerState → CallerState
+caller_after_phase s = record s { over = false }
 
 abbrev pub next_phase : Terminal → Terminal
-next_phase t = record t { phase = t.phase + 1; line_over = false; clock_over = false; callers = map calling_again t.callers }
+next_phase t = record t { phase = t.phase + 1; line_over = false; clock_over = false; callers = map caller_after_phase t.callers }
 
 abbrev pub after_event : (ℕ → ℕ → Option PlainCall) → Terminal → Who → ℕ → ℕ → PlainEvent → Terminal
 after_event calls t who step part (answered a dropped) =
-    by_caller who t (λ c. advanced (with_dropped (left_by (outcome_of t (caller_at t c) (calls c step)) t) (length dropped)) c)
+    by_caller who t (λ c. after_answer (with_dropped (left_by (outcome_of t (caller_at t c) (calls c step)) t) (length dropped)) c)
 after_event calls t who step part (parted taken) =
-    by_caller who t (λ c. with_caller (left_by (outcome_of t (caller_at t c) (calls c step)) t) c (parted_caller t (caller_at t c) (calls c step) taken))
-after_event calls t who step part waited = by_caller who t (λ c. with_caller t c (waiting_caller t (caller_at t c) (calls c step)))
-after_event calls t who step part (flushed chars) = record (received_all t chars) { flushed = Some (record { run = step; part = part }) }
+    by_caller who t (λ c. after_part (left_by (outcome_of t (caller_at t c) (calls c step)) t) c (handle_number (calls c step)) taken)
+after_event calls t who step part waited = by_caller who t (λ c. after_wait t c (handle_number (calls c step)))
+after_event calls t who step part (flushed chars) = record (after_characters t chars) { flushed = Some (record { run = step; part = part }) }
 after_event calls t who step part ticked = record t { tick = t.tick + 1 }
 after_event calls t who step part (line_ended n) = record t { sent = n; line_over = true }
 after_event calls t who step part clock_ended = record t { clock_over = true }
-after_event calls t who step part caller_ended = by_caller who t (λ c. with_caller t c (record (caller_at t c) { over = true }))
+after_event calls t who step part caller_ended = by_caller who t (after_caller_end t)
 after_event calls t who step part phase_ended = next_phase t
-after_event calls t who step part (hung_up dropped) = hung_by t (length dropped)
+after_event calls t who step part (hung_up dropped) = with_dropped (after_hangup t) (length dropped)
 
 -- an entry may stand: its generation is that of the terminal, and its event is allowed
 abbrev pub Allowed : (ℕ → ℕ → Option PlainCall) → List ℕ → Terminal → PlainEntry → Type 0

@@ -1,25 +1,33 @@
 -- The one-thread terminal as a value.
-use Rattle.std.specs.Prelude.{◌+◌, if◌then◌else◌, ℕ, List, [], Bool, true, false, Option, None, Some, replicate, slice_index_or, count_by}
-use Rattle.tty_base.specs.declared.counters.Counts.{Counts}
-use Rattle.tty_base.specs.declared.counters.Signal.{Signal}
-use Rattle.tty_terminal.specs.declared.callers.Handle.{Handle}
+use Rattle.std.specs.Prelude.{ℕ, ◌+◌, List, Bool, true, false, ◌||◌, Option, None, Some, is_some, if◌then◌else◌, replicate, slice_index_or}
+use Rattle.tty_modes.specs.Settings.{Settings, sane_modes}
+use Rattle.flow_control.specs.Output.{Output, idle_output}
+use Rattle.flow_control.specs.declared.tally.Tally.{Tally}
+use Rattle.handle_table.specs.declared.HandleState.{HandleState}
+use Rattle.handle_table.specs.Handles as table
+use Rattle.ldisc_switch.specs.declared.kinds.Kind.TheVariants as kind
+use Rattle.ldisc_switch.specs.declared.discipline.Disc.{Disc}
+use Rattle.ldisc_switch.specs.Disciplines.{fresh_of}
+use Rattle.ldisc_switch.specs.Posted.{new_tally}
 use Rattle.tty_terminal.specs.declared.callers.Bound.{Bound}
 use Rattle.tty_terminal.specs.declared.callers.CallerState.{CallerState}
 use Rattle.tty_terminal.specs.declared.callers.Piece.{Piece}
 
 pub record Terminal : Type 0 where
-  -- the discipline, N_TTY under raw modes: what was received and not read
-  pub unread : List ℕ
-  -- the port's side of it
-  pub counts : Counts
-  pub signals : List Signal
-  pub wire : List ℕ
+  pub disc : Disc
+  pub modes : Settings
+  -- the wire, held output and its halts; and what was counted, with the signals. Room for more is no part of a terminal:
+  -- `output.spare` and `tally.signals.spare` are 0
+  pub output : Output
+  pub tally : Tally
   -- the handles by their numbers, and whether the port may be opened again
-  pub handles : List (Option Handle)
+  pub handles : table.HandleMap
   pub exclusive : Bool
   pub tick : ℕ
   -- how many discipline changes, hangups and last closes there were
   pub generation : ℕ
+  -- how many characters the flip buffer holds at most; it never changes
+  pub capacity : ℕ
   -- how many characters were taken or dropped, and how many the last line end said were sent
   pub taken : ℕ
   pub sent : ℕ
@@ -32,25 +40,23 @@ pub record Terminal : Type 0 where
   -- the latest piece of a flush run
   pub flushed : Option Piece
 
-abbrev pub no_counts : Counts
-no_counts = record { mark = 0; parity = 0; frame = 0; breaks = 0; cut = 0; echo = 0; pin = 0; pout = 0; pbad = 0; pfull = 0 }
-
 -- a caller that has made no call
 abbrev pub idle_caller : CallerState
 idle_caller = record { next = 0; over = false; waits = None; parts = 0; taken = 0; generation = 0; bound = None }
 
--- closed, with nothing received and nothing counted
-abbrev pub opening : ℕ → Terminal
-opening callers =
+-- closed, N_TTY with the default modes, with nothing received and nothing counted
+abbrev pub opening : (callers capacity : ℕ) → Terminal
+opening callers capacity =
     record {
-      unread = [];
-      counts = no_counts;
-      signals = [];
-      wire = [];
-      handles = replicate 32 None;
+      disc = fresh_of kind.Tty;
+      modes = sane_modes;
+      output = idle_output;
+      tally = new_tally;
+      handles = table.no_handles;
       exclusive = false;
       tick = 0;
       generation = 0;
+      capacity = capacity;
       taken = 0;
       sent = 0;
       phase = 0;
@@ -60,8 +66,8 @@ opening callers =
       flushed = None;
     }
 
-abbrev pub handle_at : Terminal → ℕ → Option Handle
-handle_at t h = slice_index_or t.handles h None
+abbrev pub handle_at : Terminal → ℕ → Option HandleState
+handle_at t h = table.handle_at t.handles h
 
 abbrev pub caller_at : Terminal → ℕ → CallerState
 caller_at t c = slice_index_or t.callers c idle_caller
@@ -74,21 +80,25 @@ is_bound (Some b) = true
 abbrev pub has_begun : CallerState → Bool
 has_begun s = is_bound s.bound
 
-abbrev pub bound_or : Option Bound → Option Handle → Option Handle
+abbrev pub bound_or : Option Bound → Option HandleState → Option HandleState
 bound_or None now = now
 bound_or (Some b) now = b.handle
 
 -- the handle that a call goes by: the one that it began with, or else the one of now
-abbrev pub handle_for : Terminal → CallerState → ℕ → Option Handle
+abbrev pub handle_for : Terminal → CallerState → ℕ → Option HandleState
 handle_for t s h = bound_or s.bound (handle_at t h)
-
-abbrev pub is_live : Option Handle → Bool
-is_live None = false
-is_live (Some handle) = handle.live
 
 -- how many handles are live
 abbrev pub live_count : Terminal → ℕ
-live_count t = count_by is_live t.handles
+live_count t = table.live_count t.handles
+
+-- a caller's calls of the phase are over
+abbrev pub is_over : CallerState → Bool
+is_over s = s.over
+
+-- its calls of the phase are over, or one of them waits
+abbrev pub is_resting : CallerState → Bool
+is_resting s = s.over || is_some s.waits
 
 -- how many of a caller's steps have begun
 abbrev pub begun_of : CallerState → ℕ

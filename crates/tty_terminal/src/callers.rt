@@ -1,24 +1,20 @@
-ghost use Rattle.std.specs.Prelude.{◌≡◌, ◌<◌, ◌^◌, ◌==◌, ◌||◌, map, count_by, is_some, length};
-ghost use Rattle.tty_terminal.specs.Terminals.{is_live as live_of};
-ghost use Rattle.tty_terminal.specs.Outcomes.{closed_under as closed_bound, killed_under as killed_bound, without_handle as caller_without, with_dead_handle as caller_killed, dead_handle};
-ghost use Rattle.tty_terminal.specs.Steps.{calling_again as caller_again};
+ghost use Rattle.std.specs.Prelude.{◌≡◌, ◌<◌, IfOk, length, map, count_by, is_some, replicate, slice_index_or, slice_set};
+ghost use Rattle.tty_terminal.specs.Terminals.{idle_caller, is_over, is_resting, has_begun};
+ghost use Rattle.tty_terminal.specs.Generations.{closed_handle as handle_after_close, bound_after_close, caller_after_close, bound_after_hangup, caller_after_hangup};
+ghost use Rattle.tty_terminal.specs.Steps.{caller_after_phase};
+ghost use Rattle.handle_table.specs.Handles.{handle_after_hangup};
 
-use tty_calls::Access;
-
-/// One open of the port. It is live until a hangup, and then dead until it is closed.
-#[derive(Clone, Copy, Debug, PartialEq, Eq)]
-pub struct Handle {
-    pub access: Access,
-    pub nonblock: bool,
-    pub live: bool,
-}
+use handle_table::HandleState;
+use std::alloc::Global;
+use std::marker::Model;
+use tty_base::NoMemory;
 
 /// The handle that a call began with which waits, or of which parts were taken: its number, and what
 /// became of it. `None` says that it was closed while it was live.
 #[derive(Clone, Copy, Debug, PartialEq, Eq)]
 pub struct Bound {
     pub h: u8,
-    pub handle: Option<Handle>,
+    pub handle: Option<HandleState>,
 }
 
 /// Where a caller stands.
@@ -46,76 +42,180 @@ pub struct Piece {
     pub part: u32,
 }
 
-/// Whether there is a handle, and it is live.
-pub(crate) fn is_live(handle: &Option<Handle>) -> bool
-    ensures { result ≡ live_of handle.now }
+/// A caller that has made no call.
+pub(crate) const IDLE: CallerState = CallerState {
+    next: 0,
+    over: false,
+    waits: None,
+    parts: 0,
+    taken: 0,
+    generation: 0,
+    bound: None,
+};
+
+/// The callers by their numbers. How many of them are over, rest, and have begun a call is counted
+/// as they change, so that no question walks over them.
+#[derive(Drop)]
+pub(crate) struct Callers {
+    states: Vec<CallerState>,
+    over: usize,
+    resting: usize,
+    begun: usize,
+}
+
+impl Model for Callers {
+    ghost use Rattle.std.specs.Prelude.{◌≡◌, List, count_by};
+    ghost use Rattle.tty_terminal.specs.declared.callers.CallerState.{CallerState};
+    ghost use Rattle.tty_terminal.specs.Terminals.{is_over, is_resting, has_begun};
+
+    ghost Value = { List CallerState };
+
+    ghost view = { λ c. c.states.items };
+
+    ghost invariant = { λ c. record {
+      over : c.over ≡ count_by is_over c.states.items;
+      resting : c.resting ≡ count_by is_resting c.states.items;
+      begun : c.begun ≡ count_by has_begun c.states.items;
+    } };
+}
+
+impl Callers {
+    /// So many callers that have made no call.
+    pub(crate) fn new(alloc: Global, count: usize) -> Result<Callers, NoMemory>
+        ensures { IfOk result (λ c. c ≡ replicate count idle_caller) }
+    {
+        Ok(Callers {
+            states: vec![in alloc; IDLE; count]?,
+            over: 0,
+            resting: 0,
+            begun: 0,
+        })
+    }
+
+    /// Where a caller stands.
+    pub(crate) fn get(&self, caller: u16) -> CallerState
+        requires { caller < length self.now }
+        ensures { result ≡ slice_index_or self.now caller idle_caller }
+    {
+        self.states[caller as usize]
+    }
+
+    /// A caller stands elsewhere.
+    pub(crate) fn set(&mut self, caller: u16, state: CallerState)
+        requires { caller < length self.old }
+        ensures { self.new ≡ slice_set self.old caller state }
+    {
+        let old = self.states[caller as usize];
+        self.over = self.over - usize::from(old.over) + usize::from(state.over);
+        self.resting = self.resting - usize::from(rests(&old)) + usize::from(rests(&state));
+        self.begun = self.begun - usize::from(began(&old)) + usize::from(began(&state));
+        self.states[caller as usize] = state;
+    }
+
+    /// How many callers' calls of the phase are over.
+    pub(crate) fn over(&self) -> usize
+        ensures { result ≡ count_by is_over self.now }
+    {
+        self.over
+    }
+
+    /// How many callers' calls of the phase are over, or wait.
+    pub(crate) fn resting(&self) -> usize
+        ensures { result ≡ count_by is_resting self.now }
+    {
+        self.resting
+    }
+
+    /// The handle `h` is closed under the calls that began with it, where it is live.
+    pub(crate) fn close(&mut self, h: u8)
+        ensures { self.new ≡ map (caller_after_close h) self.old }
+    {
+        if self.begun > 0 {
+            close_all(&mut self.states, h);
+        }
+    }
+
+    /// Every handle dies under the calls that began with one.
+    pub(crate) fn hang_up(&mut self)
+        ensures { self.new ≡ map caller_after_hangup self.old }
+    {
+        if self.begun > 0 {
+            hang_up_all(&mut self.states);
+        }
+    }
+
+    /// In a new phase no caller's calls are over.
+    pub(crate) fn begin_phase(&mut self)
+        ensures { self.new ≡ map caller_after_phase self.old }
+    {
+        begin_phase_of_all(&mut self.states);
+        self.over = over_count(&self.states);
+        self.resting = resting_count(&self.states);
+    }
+}
+
+/// Whether a caller's calls of the phase are over, or one of them waits.
+fn rests(caller: &CallerState) -> bool
+    ensures { result ≡ is_resting caller.now }
 {
-    match handle {
-        Some(handle) => handle.live,
+    caller.over || caller.waits.is_some()
+}
+
+/// Whether a call of the caller has begun, and is not answered.
+fn began(caller: &CallerState) -> bool
+    ensures { result ≡ has_begun caller.now }
+{
+    match caller.bound {
+        Some(_) => true,
         None => false,
     }
 }
 
-/// How many handles are live.
-pub(crate) fn live_count(handles: &[Option<Handle>]) -> usize
-    ensures { result ≡ count_by live_of handles.now }
-{
-    handles.iter().filter(|handle| is_live(handle)).count()
-}
-
-/// How many callers' calls of the phase are over.
-pub(crate) fn ended_count(callers: &[CallerState]) -> usize
-    ensures { result ≡ count_by (λ s. s.over) callers.now }
+fn over_count(callers: &[CallerState]) -> usize
+    ensures { result ≡ count_by is_over callers.now }
 {
     callers.iter().filter(|caller| caller.over).count()
 }
 
-/// How many callers' calls of the phase are over, or wait.
-pub(crate) fn resting_count(callers: &[CallerState]) -> usize
-    ensures { result ≡ count_by (λ s. s.over || is_some s.waits) callers.now }
+fn resting_count(callers: &[CallerState]) -> usize
+    ensures { result ≡ count_by is_resting callers.now }
 {
-    callers
-        .iter()
-        .filter(|caller| caller.over || caller.waits.is_some())
-        .count()
+    callers.iter().filter(|caller| rests(caller)).count()
 }
 
-fn closed_under(h: u8, bound: Option<Bound>) -> Option<Bound>
-    ensures { result ≡ closed_bound h bound }
+fn closed_handle(handle: Option<HandleState>) -> Option<HandleState>
+    ensures { result ≡ handle_after_close handle }
 {
-    match bound {
-        Some(bound) if bound.h == h && is_live(&bound.handle) => Some(Bound {
+    handle.filter(|handle| !handle.live)
+}
+
+/// The caller where the handle `h` is closed.
+fn close_under(caller: &CallerState, h: u8) -> CallerState
+    ensures { result ≡ caller_after_close h caller.now }
+{
+    let bound = match caller.bound {
+        Some(bound) if bound.h == h => Some(Bound {
             h: bound.h,
-            handle: None,
+            handle: closed_handle(bound.handle),
         }),
         other => other,
-    }
+    };
+    CallerState { bound, ..*caller }
 }
 
-/// The caller where a live handle `h` is closed.
-fn without_handle(h: u8, caller: &CallerState) -> CallerState
-    ensures { result ≡ caller_without h caller.now }
-{
-    CallerState {
-        bound: closed_under(h, caller.bound),
-        ..*caller
-    }
-}
-
-/// The handle `h` is closed under the calls that began with it, where it is live.
-pub(crate) fn close_under(callers: &mut [CallerState], h: u8)
-    ensures { callers.new ≡ map (caller_without h) callers.old }
+fn close_all(callers: &mut [CallerState], h: u8)
+    ensures { callers.new ≡ map (caller_after_close h) callers.old }
 {
     for caller in callers.iter_mut() {
-        *caller = without_handle(h, caller);
+        *caller = close_under(caller, h);
     }
 }
 
-fn dead(handle: Option<Handle>) -> Option<Handle>
-    ensures { result ≡ dead_handle handle }
+fn dead_handle(handle: Option<HandleState>) -> Option<HandleState>
+    ensures { result ≡ handle_after_hangup handle }
 {
     match handle {
-        Some(handle) => Some(Handle {
+        Some(handle) => Some(HandleState {
             live: false,
             ..handle
         }),
@@ -123,31 +223,30 @@ fn dead(handle: Option<Handle>) -> Option<Handle>
     }
 }
 
-fn killed_under(bound: Option<Bound>) -> Option<Bound>
-    ensures { result ≡ killed_bound bound }
+/// The caller where every handle dies.
+fn hang_up_under(caller: &CallerState) -> CallerState
+    ensures { result ≡ caller_after_hangup caller.now }
 {
-    match bound {
+    let bound = match caller.bound {
         Some(bound) => Some(Bound {
             h: bound.h,
-            handle: dead(bound.handle),
+            handle: dead_handle(bound.handle),
         }),
         None => None,
-    }
+    };
+    CallerState { bound, ..*caller }
 }
 
-/// The caller where every handle dies.
-fn with_dead_handle(caller: &CallerState) -> CallerState
-    ensures { result ≡ caller_killed caller.now }
+fn hang_up_all(callers: &mut [CallerState])
+    ensures { callers.new ≡ map caller_after_hangup callers.old }
 {
-    CallerState {
-        bound: killed_under(caller.bound),
-        ..*caller
+    for caller in callers.iter_mut() {
+        *caller = hang_up_under(caller);
     }
 }
 
-/// The caller in a new phase.
-fn calling_again(caller: &CallerState) -> CallerState
-    ensures { result ≡ caller_again caller.now }
+fn next_phase_of(caller: &CallerState) -> CallerState
+    ensures { result ≡ caller_after_phase caller.now }
 {
     CallerState {
         over: false,
@@ -155,29 +254,10 @@ fn calling_again(caller: &CallerState) -> CallerState
     }
 }
 
-/// Every handle dies.
-pub(crate) fn kill_handles(handles: &mut [Option<Handle>])
-    ensures { handles.new ≡ map dead_handle handles.old }
-{
-    for handle in handles.iter_mut() {
-        *handle = dead(*handle);
-    }
-}
-
-/// Every handle dies under the calls that began with one.
-pub(crate) fn kill_under(callers: &mut [CallerState])
-    ensures { callers.new ≡ map caller_killed callers.old }
+fn begin_phase_of_all(callers: &mut [CallerState])
+    ensures { callers.new ≡ map caller_after_phase callers.old }
 {
     for caller in callers.iter_mut() {
-        *caller = with_dead_handle(caller);
-    }
-}
-
-/// In a new phase no caller's calls are over.
-pub(crate) fn call_again(callers: &mut [CallerState])
-    ensures { callers.new ≡ map caller_again callers.old }
-{
-    for caller in callers.iter_mut() {
-        *caller = calling_again(caller);
+        *caller = next_phase_of(caller);
     }
 }

@@ -3,9 +3,22 @@
 #![tactic(auto)]
 
 mod callers;
+mod laws;
+mod rooms;
 mod rows;
 mod terminals;
 
-pub use callers::{Bound, CallerState, Handle, Piece};
-pub use rows::{changed_three_bytes_is_no_run, three_bytes_is_a_run};
-pub use terminals::{Met, Terminal};
+pub use callers::{Bound, CallerState, Piece};
+pub use laws::{
+    a_part_takes_some_and_leaves_some, agreeing_calls_have_the_same_runs,
+    disciplines_hear_the_flushes, entries_are_by_their_makers, entries_tell_the_marks,
+    generations_are_counted, hangup_leaves_nothing, more_calls_keep_a_run, numbers_of_a_run,
+    one_generation_goes_on, own_entries_tell, who_waits_has_begun,
+};
+pub use rooms::{Met, Room};
+pub use rows::{
+    change_drops_a_half_line, changed_three_bytes_is_no_run, exclusive_use_keeps_others_out,
+    hangup_leaves_dead_handles, idle_where_nothing_can_come, ixoff_stops_and_starts_round_a_read,
+    stopped_write_goes_on, three_bytes_is_a_run, tick_makes_a_read_ready,
+};
+pub use terminals::Terminal;

@@ -2,4 +2,3 @@ pub mod OfferedLemmas
 pub mod Windows
 pub mod Serving
 pub mod Steps
-pub mod Rows

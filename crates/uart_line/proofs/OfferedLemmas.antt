@@ -4,52 +4,46 @@ use Rattle.std.specs.List.{list_any}
 use Rattle.std.proofs.lemmas.Bool.Decides.{nat_tests}
 use Rattle.tty_base.specs.declared.characters.Flagged.{Flagged}
 use Rattle.tty_base.specs.declared.lines.Overrun.{Overrun}
-use Rattle.uart_line.specs.Offered.{Outcome, accepts, refuses, accepted, refused, IsFullAt, AreAmong, Offers, HandsOver, kept, kept_from, AreShown}
+use Rattle.uart_line.specs.Offered.{PutAnswer, accepts, refuses, accepted_list, overrun_list, IsFullAt, AreAmong, Offers, HandsOver, Adds, kept_list, kept_list_from, AreShown}
 
-accepted-append : (xs ys : List Flagged) (ps qs : List Outcome) → length ps ≡ length xs
-    → accepted (xs ++ ys) (ps ++ qs) ≡ accepted xs ps ++ accepted ys qs
-unfolding accepted
-accepted-append [] ys [] qs e = refl
-accepted-append [] ys (a ∷ ps) qs e = cc
-accepted-append (x ∷ xs) ys [] qs e = cc
-accepted-append (x ∷ xs) ys (accepts ∷ ps) qs e = ap (λ r. x ∷ r) (accepted-append xs ys ps qs (omega (arith, e)))
-accepted-append (x ∷ xs) ys (refuses _ ∷ ps) qs e = accepted-append xs ys ps qs (omega (arith, e))
+accepted_list-append : (xs ys : List Flagged) (ps qs : List PutAnswer) → length ps ≡ length xs
+    → accepted_list (xs ++ ys) (ps ++ qs) ≡ accepted_list xs ps ++ accepted_list ys qs
+unfolding accepted_list
+accepted_list-append [] ys [] qs e = refl
+accepted_list-append [] ys (a ∷ ps) qs e = cc
+accepted_list-append (x ∷ xs) ys [] qs e = cc
+accepted_list-append (x ∷ xs) ys (accepts ∷ ps) qs e = ap (λ r. x ∷ r) (accepted_list-append xs ys ps qs (omega (arith, e)))
+accepted_list-append (x ∷ xs) ys (refuses _ ∷ ps) qs e = accepted_list-append xs ys ps qs (omega (arith, e))
 
 -- how many characters were accepted
-unfoldable pub accepted_count : List Outcome → ℕ
+unfoldable pub accepted_count : List PutAnswer → ℕ
 accepted_count [] = 0
 accepted_count (accepts ∷ answers) = accepted_count answers + 1
 accepted_count (refuses _ ∷ answers) = accepted_count answers
 
-length-accepted : (xs : List Flagged) (ps : List Outcome) → length ps ≡ length xs
-    → length (accepted xs ps) ≡ accepted_count ps
-unfolding accepted accepted_count
-length-accepted [] [] e = refl
-length-accepted [] (a ∷ ps) e = omega (arith, e)
-length-accepted (x ∷ xs) [] e = omega (arith, e)
-length-accepted (x ∷ xs) (accepts ∷ ps) e = omega (arith, length-accepted xs ps (omega (arith, e)))
-length-accepted (x ∷ xs) (refuses _ ∷ ps) e = length-accepted xs ps (omega (arith, e))
+length-accepted_list : (xs : List Flagged) (ps : List PutAnswer) → length ps ≡ length xs
+    → length (accepted_list xs ps) ≡ accepted_count ps
+unfolding accepted_list accepted_count
+length-accepted_list [] [] e = refl
+length-accepted_list [] (a ∷ ps) e = omega (arith, e)
+length-accepted_list (x ∷ xs) [] e = omega (arith, e)
+length-accepted_list (x ∷ xs) (accepts ∷ ps) e = omega (arith, length-accepted_list xs ps (omega (arith, e)))
+length-accepted_list (x ∷ xs) (refuses _ ∷ ps) e = length-accepted_list xs ps (omega (arith, e))
 
-accepted_count-≤ : (ps : List Outcome) → accepted_count ps ≤ length ps
-unfolding accepted_count
-accepted_count-≤ [] = omega arith
-accepted_count-≤ (accepts ∷ ps) = omega (arith, accepted_count-≤ ps)
-accepted_count-≤ (refuses _ ∷ ps) = omega (arith, accepted_count-≤ ps)
-
-refused-append : (place sent : ℕ) (ps qs : List Outcome)
-    → refused place sent (ps ++ qs) ≡ refused place sent ps ++ refused (place + length ps) (sent + accepted_count ps) qs
-unfolding refused accepted_count
-refused-append place sent [] qs =
+overrun_list-append : (place sent : ℕ) (ps qs : List PutAnswer)
+    → overrun_list place sent (ps ++ qs) ≡ overrun_list place sent ps ++ overrun_list (place + length ps) (sent + accepted_count ps) qs
+unfolding overrun_list accepted_count
+overrun_list-append place sent [] qs =
     let p : place + 0 ≡ place = omega arith in let s : sent + 0 ≡ sent = omega arith in rw (p, s)
-refused-append place sent (accepts ∷ ps) qs =
+overrun_list-append place sent (accepts ∷ ps) qs =
     let p : place + length (accepts ∷ ps) ≡ (place + 1) + length ps = omega arith in
     let s : sent + (accepted_count ps + 1) ≡ (sent + 1) + accepted_count ps = omega arith in
-    rw (p, s) (refused-append (place + 1) (sent + 1) ps qs)
-refused-append place sent (refuses seen ∷ ps) qs =
+    rw (p, s) (overrun_list-append (place + 1) (sent + 1) ps qs)
+overrun_list-append place sent (refuses seen ∷ ps) qs =
     let p : place + length (refuses seen ∷ ps) ≡ (place + 1) + length ps = omega arith in
-    rw p (ap (λ (r : List Overrun). record { at = place; sent = sent; seen = seen } ∷ r) (refused-append (place + 1) sent ps qs))
+    rw p (ap (λ (r : List Overrun). record { at = place; sent = sent; seen = seen } ∷ r) (overrun_list-append (place + 1) sent ps qs))
 
-IsFullAt-append : (capacity sent : ℕ) (ps qs : List Outcome) → IsFullAt capacity sent ps
+IsFullAt-append : (capacity sent : ℕ) (ps qs : List PutAnswer) → IsFullAt capacity sent ps
     → IsFullAt capacity (sent + accepted_count ps) qs → IsFullAt capacity sent (ps ++ qs)
 unfolding IsFullAt accepted_count
 IsFullAt-append capacity sent [] qs h g = let s : sent + 0 ≡ sent = omega arith in rw s at g
@@ -58,14 +52,14 @@ IsFullAt-append capacity sent (accepts ∷ ps) qs h g =
     IsFullAt-append capacity (sent + 1) ps qs h (rw s at g)
 IsFullAt-append capacity sent (refuses seen ∷ ps) qs h g = (h.0, IsFullAt-append capacity sent ps qs h.1 g)
 
-AreAmong-more : (ps : List Outcome) (xs ys : List ℕ) → AreAmong ps ys → AreAmong ps (xs ++ ys)
+AreAmong-more : (ps : List PutAnswer) (xs ys : List ℕ) → AreAmong ps ys → AreAmong ps (xs ++ ys)
 unfolding AreAmong
 AreAmong-more [] xs ys h = tt
 AreAmong-more (accepts ∷ ps) xs ys h = AreAmong-more ps xs ys h
 AreAmong-more (refuses seen ∷ ps) xs ys h =
     (xs ++ h.0, h.1, ap (λ r. xs ++ r) h.2 ∙ sym (append_assoc xs h.0 (seen ∷ h.1)), h.3)
 
-AreAmong-append : (ps qs : List Outcome) (xs ys : List ℕ) → AreAmong ps xs → AreAmong qs ys → AreAmong (ps ++ qs) (xs ++ ys)
+AreAmong-append : (ps qs : List PutAnswer) (xs ys : List ℕ) → AreAmong ps xs → AreAmong qs ys → AreAmong (ps ++ qs) (xs ++ ys)
 unfolding AreAmong
 AreAmong-append [] qs xs ys h g = AreAmong-more qs xs ys g
 AreAmong-append (accepts ∷ ps) qs xs ys h g = AreAmong-append ps qs xs ys h g
@@ -76,7 +70,7 @@ AreAmong-append (refuses seen ∷ ps) qs xs ys h g =
 
 pub Offers-none : (capacity place : ℕ) (sent : List Flagged) (heads heads' more : List ℕ) (overruns : List Overrun)
     → heads' ≡ heads ++ more → Offers capacity place [] sent sent heads heads' overruns overruns
-unfolding accepted refused IsFullAt AreAmong
+unfolding accepted_list overrun_list IsFullAt AreAmong
 Offers-none capacity place sent heads heads' more overruns h = record {
   answers = [];
   loaded = more;
@@ -90,7 +84,7 @@ Offers-none capacity place sent heads heads' more overruns h = record {
 
 pub Offers-accept : (capacity place : ℕ) (c : Flagged) (sent sent' : List Flagged) (heads heads' more : List ℕ) (overruns : List Overrun)
     → heads' ≡ heads ++ more → sent' ≡ sent ++ c ∷ [] → Offers capacity place (c ∷ []) sent sent' heads heads' overruns overruns
-unfolding accepted refused IsFullAt AreAmong
+unfolding accepted_list overrun_list IsFullAt AreAmong
 Offers-accept capacity place c sent sent' heads heads' more overruns h e = record {
   answers = accepts ∷ [];
   loaded = more;
@@ -106,7 +100,7 @@ pub Offers-refuse : (capacity place count seen : ℕ) (c : Flagged) (sent sent' 
     → heads' ≡ heads ++ seen ∷ [] → sent' ≡ sent → count ≡ length sent → count ≡ seen + capacity
     → overruns' ≡ overruns ++ (record { at = place; sent = count; seen = seen }) ∷ []
     → Offers capacity place (c ∷ []) sent sent' heads heads' overruns overruns'
-unfolding accepted refused IsFullAt AreAmong
+unfolding accepted_list overrun_list IsFullAt AreAmong
 Offers-refuse capacity place count seen c sent sent' heads heads' overruns overruns' h s n f o = record {
   answers = refuses seen ∷ [];
   loaded = seen ∷ [];
@@ -124,25 +118,19 @@ pub Offers-append : (capacity place place' : ℕ) (xs ys : List Flagged) (s0 s1 
     → Offers capacity place (xs ++ ys) s0 s2 h0 h2 o0 o2
 Offers-append capacity place place' xs ys s0 s1 s2 h0 h1 h2 o0 o1 o2 e a b =
     let count : length s1 ≡ length s0 + accepted_count a.answers =
-    omega (arith, ap length a.accepts_rest, length-append s0 (accepted xs a.answers), length-accepted xs a.answers a.one_each) in
+    omega (arith, ap length a.accepts_rest, length-append s0 (accepted_list xs a.answers), length-accepted_list xs a.answers a.one_each) in
     let at : place' ≡ place + length a.answers = omega (arith, a.one_each) in
     let is_full : IsFullAt capacity (length s0 + accepted_count a.answers) b.answers = rw count at b.is_full in
     record {
       answers = a.answers ++ b.answers;
       loaded = a.loaded ++ b.loaded;
       one_each = omega (arith, length-append a.answers b.answers, length-append xs ys, a.one_each, b.one_each);
-      accepts_rest = rw (accepted-append xs ys a.answers b.answers a.one_each, ← append_assoc, ← a.accepts_rest) b.accepts_rest;
-      adds_refused = rw (refused-append, ← append_assoc, ← a.adds_refused, ← count, ← at) b.adds_refused;
+      accepts_rest = rw (accepted_list-append xs ys a.answers b.answers a.one_each, ← append_assoc, ← a.accepts_rest) b.accepts_rest;
+      adds_refused = rw (overrun_list-append, ← append_assoc, ← a.adds_refused, ← count, ← at) b.adds_refused;
       is_full = IsFullAt-append capacity (length s0) a.answers b.answers a.is_full is_full;
       loads = rw (← append_assoc, ← a.loads) b.loads;
       among_loaded = AreAmong-append a.answers b.answers a.loaded b.loaded a.among_loaded b.among_loaded;
     }
-
--- no more was accepted than was offered
-pub Offers-bound : (capacity place : ℕ) (xs : List Flagged) (s0 s1 : List Flagged) (h0 h1 : List ℕ) (o0 o1 : List Overrun)
-    → Offers capacity place xs s0 s1 h0 h1 o0 o1 → length s1 ≤ length s0 + length xs
-Offers-bound capacity place xs s0 s1 h0 h1 o0 o1 a =
-    omega (arith, ap length a.accepts_rest, length-append s0 (accepted xs a.answers), length-accepted xs a.answers a.one_each, accepted_count-≤ a.answers, a.one_each)
 
 pub HandsOver-trans : (capacity : ℕ) (a0 a1 a2 : List Flagged) (s0 s1 s2 : List Flagged) (h0 h1 h2 : List ℕ) (o0 o1 o2 : List Overrun)
     → HandsOver capacity a0 a1 s0 s1 h0 h1 o0 o1 → HandsOver capacity a1 a2 s1 s2 h1 h2 o1 o2
@@ -157,53 +145,81 @@ HandsOver-trans capacity a0 a1 a2 s0 s1 s2 h0 h1 h2 o0 o1 o2 a b =
 
 -- ---- overruns by their places
 
-none_before : (q place sent : ℕ) (ps : List Outcome) → q < place → list_any (λ o. o.at == q) (refused place sent ps) ≡ false
-unfolding refused
+none_before : (q place sent : ℕ) (ps : List PutAnswer) → q < place → list_any (λ o. o.at == q) (overrun_list place sent ps) ≡ false
+unfolding overrun_list
 none_before q place sent [] h = refl
 none_before q place sent (accepts ∷ ps) h = none_before q (place + 1) (sent + 1) ps (omega arith)
 none_before q place sent (refuses seen ∷ ps) h =
     let other : (place == q) ≡ false = grind (arith, nat_tests) in
     rw other (none_before q (place + 1) sent ps (omega arith))
 
-kept_from-skip : (place : ℕ) (cs : List Flagged) (o : Overrun) (os : List Overrun) → o.at < place
-    → kept_from place cs (o ∷ os) ≡ kept_from place cs os
-unfolding kept_from
-kept_from-skip place [] o os h = refl
-kept_from-skip place (c ∷ cs) o os h =
+kept_list_from-skip : (place : ℕ) (cs : List Flagged) (o : Overrun) (os : List Overrun) → o.at < place
+    → kept_list_from place cs (o ∷ os) ≡ kept_list_from place cs os
+unfolding kept_list_from
+kept_list_from-skip place [] o os h = refl
+kept_list_from-skip place (c ∷ cs) o os h =
     let other : (o.at == place) ≡ false = grind (arith, nat_tests) in
-    rw (other, kept_from-skip (place + 1) cs o os (omega arith)) refl
+    rw (other, kept_list_from-skip (place + 1) cs o os (omega arith)) refl
 
-kept_from-refused : (place sent : ℕ) (cs : List Flagged) (ps : List Outcome) → length ps ≡ length cs
-    → kept_from place cs (refused place sent ps) ≡ accepted cs ps
-unfolding kept_from refused accepted
-kept_from-refused place sent [] ps e = refl
-kept_from-refused place sent (c ∷ cs) [] e = absurd (omega (arith, e))
-kept_from-refused place sent (c ∷ cs) (accepts ∷ ps) e =
+kept_list_from-overrun_list : (place sent : ℕ) (cs : List Flagged) (ps : List PutAnswer) → length ps ≡ length cs
+    → kept_list_from place cs (overrun_list place sent ps) ≡ accepted_list cs ps
+unfolding kept_list_from overrun_list accepted_list
+kept_list_from-overrun_list place sent [] ps e = refl
+kept_list_from-overrun_list place sent (c ∷ cs) [] e = absurd (omega (arith, e))
+kept_list_from-overrun_list place sent (c ∷ cs) (accepts ∷ ps) e =
     rw (none_before place (place + 1) (sent + 1) ps (omega arith))
-    (ap (λ r. c ∷ r) (kept_from-refused (place + 1) (sent + 1) cs ps (omega (arith, e))))
-kept_from-refused place sent (c ∷ cs) (refuses seen ∷ ps) e =
+    (ap (λ r. c ∷ r) (kept_list_from-overrun_list (place + 1) (sent + 1) cs ps (omega (arith, e))))
+kept_list_from-overrun_list place sent (c ∷ cs) (refuses seen ∷ ps) e =
     let here : (place == place) ≡ true = grind (arith, nat_tests) in
-    rw here (kept_from-skip (place + 1) cs (record { at = place; sent = sent; seen = seen }) (refused (place + 1) sent ps) (omega arith)
-    ∙ kept_from-refused (place + 1) sent cs ps (omega (arith, e)))
+    rw here (kept_list_from-skip (place + 1) cs (record { at = place; sent = sent; seen = seen }) (overrun_list (place + 1) sent ps) (omega arith)
+    ∙ kept_list_from-overrun_list (place + 1) sent cs ps (omega (arith, e)))
 
-AreShown-refused : (capacity k floor place sent : ℕ) (ps : List Outcome) → floor ≤ place → sent + k ≡ place → IsFullAt capacity sent ps
-    → AreShown capacity k floor (refused place sent ps)
-unfolding AreShown refused IsFullAt
-AreShown-refused capacity k floor place sent [] f e h = tt
-AreShown-refused capacity k floor place sent (accepts ∷ ps) f e h =
-    AreShown-refused capacity k floor (place + 1) (sent + 1) ps (omega arith) (omega arith) h
-AreShown-refused capacity k floor place sent (refuses seen ∷ ps) f e h =
-    (f, e, h.0, AreShown-refused capacity (k + 1) (place + 1) (place + 1) sent ps (omega arith) (omega arith) h.1)
+AreShown-overrun_list : (capacity k floor place sent : ℕ) (ps : List PutAnswer) → floor ≤ place → sent + k ≡ place → IsFullAt capacity sent ps
+    → AreShown capacity k floor (overrun_list place sent ps)
+unfolding AreShown overrun_list IsFullAt
+AreShown-overrun_list capacity k floor place sent [] f e h = tt
+AreShown-overrun_list capacity k floor place sent (accepts ∷ ps) f e h =
+    AreShown-overrun_list capacity k floor (place + 1) (sent + 1) ps (omega arith) (omega arith) h
+AreShown-overrun_list capacity k floor place sent (refuses seen ∷ ps) f e h =
+    (f, e, h.0, AreShown-overrun_list capacity (k + 1) (place + 1) (place + 1) sent ps (omega arith) (omega arith) h.1)
 
 pub HandsOver-kept : (capacity : ℕ) (all sent : List Flagged) (heads : List ℕ) (overruns : List Overrun)
-    → HandsOver capacity [] all [] sent [] heads [] overruns → sent ≡ kept all overruns
+    → HandsOver capacity [] all [] sent [] heads [] overruns → sent ≡ kept_list all overruns
 HandsOver-kept capacity all sent heads overruns a =
     a.offers.accepts_rest
-    ∙ sym (kept_from-refused 0 0 a.list a.offers.answers a.offers.one_each)
-    ∙ ap (λ l. kept_from 0 l (refused 0 0 a.offers.answers)) (sym a.grows)
-    ∙ ap (kept_from 0 all) (sym a.offers.adds_refused)
+    ∙ sym (kept_list_from-overrun_list 0 0 a.list a.offers.answers a.offers.one_each)
+    ∙ ap (λ l. kept_list_from 0 l (overrun_list 0 0 a.offers.answers)) (sym a.grows)
+    ∙ ap (kept_list_from 0 all) (sym a.offers.adds_refused)
 
 pub HandsOver-shown : (capacity : ℕ) (all sent : List Flagged) (heads : List ℕ) (overruns : List Overrun)
     → HandsOver capacity [] all [] sent [] heads [] overruns → AreShown capacity 0 0 overruns
 HandsOver-shown capacity all sent heads overruns a =
-    rw a.offers.adds_refused (AreShown-refused capacity 0 0 0 0 a.offers.answers (omega arith) (omega arith) a.offers.is_full)
+    rw a.offers.adds_refused (AreShown-overrun_list capacity 0 0 0 0 a.offers.answers (omega arith) (omega arith) a.offers.is_full)
+
+-- ---- a buffer that is never full
+
+none_refused : (capacity place sent : ℕ) (cs : List Flagged) (ps : List PutAnswer) → length ps ≡ length cs
+    → IsFullAt capacity sent ps → sent + length (accepted_list cs ps) < capacity
+    → (accepted_list cs ps ≡ cs) × (overrun_list place sent ps ≡ [])
+unfolding accepted_list overrun_list IsFullAt
+none_refused capacity place sent [] [] e h room = (refl, refl)
+none_refused capacity place sent [] (p ∷ ps) e h room = absurd (omega (arith, e))
+none_refused capacity place sent (c ∷ cs) [] e h room = absurd (omega (arith, e))
+none_refused capacity place sent (c ∷ cs) (accepts ∷ ps) e h room =
+    let rest : (accepted_list cs ps ≡ cs) × (overrun_list (place + 1) (sent + 1) ps ≡ []) =
+    none_refused capacity (place + 1) (sent + 1) cs ps (omega (arith, e)) h (omega arith) in
+    (ap (λ r. c ∷ r) rest.0, rest.1)
+none_refused capacity place sent (c ∷ cs) (refuses seen ∷ ps) e h room = absurd (omega (arith, h.0))
+
+-- all that is handed over to a list stands in it, and none is an overrun
+pub HandsOver-adds : (capacity : ℕ) (all all' items items' : List Flagged) (heads heads' : List ℕ) (overruns overruns' : List Overrun)
+    → HandsOver capacity all all' items items' heads heads' overruns overruns' → length items' < capacity
+    → Adds all all' items items' × (overruns' ≡ overruns)
+HandsOver-adds capacity all all' items items' heads heads' overruns overruns' a room =
+    let o = a.offers in
+    let none : (accepted_list a.list o.answers ≡ a.list) × (overrun_list (length all) (length items) o.answers ≡ []) =
+    none_refused capacity (length all) (length items) a.list o.answers o.one_each o.is_full
+    (omega (arith, ap length o.accepts_rest, length-append items (accepted_list a.list o.answers))) in (
+      record { list = a.list; grows = a.grows; adds = o.accepts_rest ∙ ap (λ r. items ++ r) none.0 },
+      o.adds_refused ∙ ap (λ r. overruns ++ r) none.1 ∙ append-nil overruns,
+    )

@@ -1,5 +1,5 @@
 -- Turns of the interrupt handler.
-use Rattle.std.proofs.Common.{◌≡◌, ℕ, ◌+◌, ◌≤◌, Bool, false, if◌then◌else◌, List, [], ◌∷◌, ◌++◌, length, refl, sym, ◌∙◌, ap, arith, append_assoc, append-nil, length-append, Some}
+use Rattle.std.proofs.Common.{◌≡◌, ℕ, ◌+◌, Bool, false, if◌then◌else◌, List, [], ◌∷◌, ◌++◌, length, refl, sym, ◌∙◌, ap, arith, append_assoc, append-nil, length-append, Some}
 use Rattle.tty_base.specs.declared.characters.Flagged.{Flagged}
 use Rattle.uart_regs.specs.Registers.{Registers}
 use Rattle.uart_line.specs.Received.{overrun_mark}
@@ -7,7 +7,7 @@ use Rattle.uart_line.specs.LineState.{LineState}
 use Rattle.uart_line.specs.Offered.{Offers}
 use Rattle.uart_line.specs.Handler.{with_mark, reading_of, after_turn, IsReadOff, Serves}
 use Rattle.uart_line.specs.declared.Reading.{Reading}
-use Rattle.uart_line.proofs.OfferedLemmas.{Offers-none, Offers-append, Offers-bound}
+use Rattle.uart_line.proofs.OfferedLemmas.{Offers-none, Offers-append}
 
 with_mark-false : (cs : List Flagged) → with_mark false cs ≡ cs
 with_mark-false [] = refl
@@ -94,12 +94,6 @@ Serves-turn capacity capacity' l0 l1 l2 l3 list whole x s0 s1 s2 h0 h1 h2 a w re
       whole_after list whole t.0 l1.registers.fifo l3.registers.fifo x.character x.overrun l1.registers.overrun l3.registers.overrun
           overrun fifo t.2 t.1 w,
     )
-
--- no more was accepted than the handler offered
-pub sent_bound : (capacity : ℕ) (l0 l1 : LineState) (list : List Flagged) (s0 s1 : List Flagged) (h0 h1 : List ℕ)
-    → Serves capacity l0 l1 list s0 s1 h0 h1 → length s1 + l0.handed ≤ length s0 + l1.handed
-sent_bound capacity l0 l1 list s0 s1 h0 h1 a =
-    omega (arith, a.handed, Offers-bound capacity l0.handed list s0 s1 h0 h1 l0.report.overruns.items l1.report.overruns.items a.offers)
 
 -- the push that ends a run
 pub Serves-push : (capacity : ℕ) (l0 l1 l2 : LineState) (list : List Flagged) (s0 s1 s2 : List Flagged) (h0 h1 h2 more : List ℕ)

@@ -7,10 +7,11 @@ use Rattle.tty_base.specs.declared.characters.Flag.TheVariants as flag
 use Rattle.tty_base.specs.declared.characters.Flagged.{Flagged}
 use Rattle.tty_base.specs.declared.lines.LineStep.{LineStep}
 use Rattle.tty_base.specs.declared.lines.LineStep.TheVariants.{Rx, Break, Idle, Mask, Unmask, Trigger}
-use Rattle.uart_regs.specs.Registers.{Registers, IsReceiver, is_pending, is_set, is_error, front_flag, arrived}
-use Rattle.uart_line.specs.Received.{is_flagged, is_masked, trigger_of, idle_of, is_cut, given, overrun_mark, break_character, arrival}
+use Rattle.uart_regs.specs.Registers.{Registers, IsReceiver, is_pending, is_set, is_error, front_flag, after_arrival}
+use Rattle.uart_line.specs.Received.{is_flagged, is_masked, trigger_of, idle_of, is_cut, window_output, overrun_mark}
+use Rattle.tty_base.specs.Lines.{break_character, arrival}
 use Rattle.uart_line.specs.LineState.{LineState, IsWaiting, Stands}
-use Rattle.uart_line.specs.Handler.{with_mark, stepped}
+use Rattle.uart_line.specs.Handler.{with_mark, after_line_step}
 
 code_pending : (a b c : Bool)
     → not (is_set (192 + (if a then 6 else if b then 4 else if c then 12 else 1)) 0) ≡ (a || b || c)
@@ -74,11 +75,11 @@ mark_first k false c cs e =
     let few : length cs ≤ k = grind (arith, nat_tests) in ap (λ r. c ∷ r) (take_all k cs few)
 
 -- what the handler reads off is what the window gives
-pub with_mark-given : (r : Registers) (past : List LineStep) (cs : List Flagged) → IsWaiting r past cs
-    → with_mark r.overrun r.fifo ≡ given cs
-unfolding given
-with_mark-given r past [] w = rw w.fifo
-with_mark-given r past (c ∷ cs) w = rw (w.fifo, w.overrun) (mark_first 15 (nat_lt 16 (suc (length cs))) c cs refl)
+pub with_mark-window_output : (r : Registers) (past : List LineStep) (cs : List Flagged) → IsWaiting r past cs
+    → with_mark r.overrun r.fifo ≡ window_output cs
+unfolding window_output
+with_mark-window_output r past [] w = rw w.fifo
+with_mark-window_output r past (c ∷ cs) w = rw (w.fifo, w.overrun) (mark_first 15 (nat_lt 16 (suc (length cs))) c cs refl)
 
 -- ---- a step
 
@@ -102,10 +103,10 @@ none_lost n m h e = grind (arith, nat_tests)
 some_lost : (n m : ℕ) → 16 ≤ n → m ≡ n + 1 → true ≡ nat_lt 16 m
 some_lost n m h e = grind (arith, nat_tests)
 
-IsWaiting-arrived : (r : Registers) (past later : List LineStep) (cs : List Flagged) (c : Flagged)
+IsWaiting-after_arrival : (r : Registers) (past later : List LineStep) (cs : List Flagged) (c : Flagged)
     → idle_of later ≡ 0 → trigger_of later ≡ trigger_of past → IsWaiting r past cs
-    → IsWaiting (arrived r c) later (cs ++ c ∷ [])
-IsWaiting-arrived r past later cs c hi ht w = go (nat_lt (length r.fifo) 16) refl
+    → IsWaiting (after_arrival r c) later (cs ++ c ∷ [])
+IsWaiting-after_arrival r past later cs c hi ht w = go (nat_lt (length r.fifo) 16) refl
   where
     more : length (cs ++ c ∷ []) ≡ length cs + 1
     more = length-append cs (c ∷ [])
@@ -152,20 +153,20 @@ IsWaiting-later r past later cs hi ht w = rw append-nil (record {
   line_control = w.line_control;
 })
 
-pub Stands-stepped : (line : LineState) (step : LineStep) (past : List LineStep) (cs : List Flagged) → Stands line past cs
-    → Stands (stepped line step) (step ∷ past) (cs ++ arrival step)
+pub Stands-after_line_step : (line : LineState) (step : LineStep) (past : List LineStep) (cs : List Flagged) → Stands line past cs
+    → Stands (after_line_step line step) (step ∷ past) (cs ++ arrival step)
 unfolding is_masked trigger_of idle_of
-Stands-stepped line (Rx c) past cs s = record {
-  registers = IsWaiting-arrived line.registers past (Rx c ∷ past) cs c refl refl s.registers;
+Stands-after_line_step line (Rx c) past cs s = record {
+  registers = IsWaiting-after_arrival line.registers past (Rx c ∷ past) cs c refl refl s.registers;
   masked = s.masked;
   window = omega (arith, s.window, length-append cs (c ∷ []));
 }
-Stands-stepped line Break past cs s = record {
-  registers = IsWaiting-arrived line.registers past (Break ∷ past) cs break_character refl refl s.registers;
+Stands-after_line_step line Break past cs s = record {
+  registers = IsWaiting-after_arrival line.registers past (Break ∷ past) cs break_character refl refl s.registers;
   masked = s.masked;
   window = omega (arith, s.window, length-append cs (break_character ∷ []));
 }
-Stands-stepped line (Idle n) past cs s = record {
+Stands-after_line_step line (Idle n) past cs s = record {
   registers = rw append-nil (record {
     fifo = s.registers.fifo;
     overrun = s.registers.overrun;
@@ -177,17 +178,17 @@ Stands-stepped line (Idle n) past cs s = record {
   masked = s.masked;
   window = rw append-nil s.window;
 }
-Stands-stepped line Mask past cs s = record {
+Stands-after_line_step line Mask past cs s = record {
   registers = IsWaiting-later line.registers past (Mask ∷ past) cs refl refl s.registers;
   masked = refl;
   window = rw append-nil s.window;
 }
-Stands-stepped line Unmask past cs s = record {
+Stands-after_line_step line Unmask past cs s = record {
   registers = IsWaiting-later line.registers past (Unmask ∷ past) cs refl refl s.registers;
   masked = refl;
   window = rw append-nil s.window;
 }
-Stands-stepped line (Trigger t) past cs s = record {
+Stands-after_line_step line (Trigger t) past cs s = record {
   registers = rw append-nil (record {
     fifo = s.registers.fifo;
     overrun = s.registers.overrun;

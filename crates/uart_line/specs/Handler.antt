@@ -1,47 +1,42 @@
 -- The steps of a line and the turns of its interrupt handler, on what contracts see of a line.
-use Rattle.std.specs.Prelude.{◌≡◌, ℕ, ◌+◌, ◌^◌, ◌≤◌, ◌<◌, Bool, true, false, ◌||◌, ◌==◌, if◌then◌else◌, List, [], ◌∷◌, length, Option, Some, None}
+use Rattle.std.specs.Prelude.{◌≡◌, ℕ, ◌+◌, ◌^◌, ◌≤◌, ◌<◌, Bool, true, false, not, ◌&&◌, if◌then◌else◌, List, [], ◌∷◌, length, Option, Some, None}
 use Rattle.tty_base.specs.declared.characters.Flag.{Flag}
 use Rattle.tty_base.specs.declared.characters.Flag.TheVariants as flag
 use Rattle.tty_base.specs.declared.characters.Flagged.{Flagged}
 use Rattle.tty_base.specs.declared.lines.LineStep.{LineStep}
 use Rattle.tty_base.specs.declared.lines.LineStep.TheVariants.{Rx, Break, Idle, Mask, Unmask, Trigger}
-use Rattle.uart_regs.specs.Registers.{Registers, arrived, idled, bit, is_set}
-use Rattle.uart_line.specs.Received.{break_character, overrun_mark}
+use Rattle.uart_regs.specs.Registers.{Registers, after_arrival, after_idle, bit, is_set, is_pending}
+use Rattle.uart_line.specs.Received.{overrun_mark}
+use Rattle.tty_base.specs.Lines.{break_character}
 use Rattle.uart_line.specs.LineState.{LineState}
 use Rattle.uart_line.specs.Offered.{Offers}
 use Rattle.uart_line.specs.declared.Reading.{Reading}
 
--- a step that a line can take: a mark does not arrive, and a trigger is 1, 4, 8 or 14
-abbrev pub is_step : LineStep → Bool
-is_step (Rx c) = is_character c.flag
-  where
-    is_character : Flag → Bool
-    is_character flag.Overrun = false
-    is_character _ = true
-is_step (Trigger t) = t == 1 || t == 4 || t == 8 || t == 14
-is_step _ = true
-
-abbrev pub arriving : LineState → Flagged → LineState
-arriving line c = record line {
-  registers = arrived line.registers c;
+abbrev pub with_arrival : LineState → Flagged → LineState
+with_arrival line c = record line {
+  registers = after_arrival line.registers c;
   window = line.window + 1;
   report = record line.report { arrived = line.report.arrived + 1 };
 }
 
 -- the line after a step, before its handler runs
-abbrev pub stepped : LineState → LineStep → LineState
-stepped line (Rx c) = arriving line c
-stepped line Break = arriving line break_character
-stepped line (Idle n) = record line { registers = idled line.registers n }
-stepped line Mask = record line { masked = true }
-stepped line Unmask = record line { masked = false }
-stepped line (Trigger t) = record line { registers = record line.registers { trigger = t } }
+abbrev pub after_line_step : LineState → LineStep → LineState
+after_line_step line (Rx c) = with_arrival line c
+after_line_step line Break = with_arrival line break_character
+after_line_step line (Idle n) = record line { registers = after_idle line.registers n }
+after_line_step line Mask = record line { masked = true }
+after_line_step line Unmask = record line { masked = false }
+after_line_step line (Trigger t) = record line { registers = record line.registers { trigger = t } }
+
+-- the handler runs: an interrupt is pending and not held back
+abbrev pub runs_handler : LineState → Bool
+runs_handler line = is_pending line.registers && not line.masked
 
 -- ---- one turn of the handler
 
 -- the first that fits of break, parity error and framing error
-abbrev pub flag_of : ℕ → Flag
-flag_of status =
+abbrev pub flag_of_status : ℕ → Flag
+flag_of_status status =
     if is_set status 4 then flag.Break
     else if is_set status 2 then flag.Parity
     else if is_set status 3 then flag.Frame
@@ -85,7 +80,7 @@ pub record IsLine (line : LineState) : Type 0 where
   pub room : line.handed + length line.registers.fifo + bit line.registers.overrun ≤ line.report.arrived
   pub arrived : line.report.arrived ≤ line.most
   pub most : line.most < 2 ^ 32
-  pub counted : line.report.sent + length line.report.overruns.items ≡ line.handed
+  pub count : line.report.sent + length line.report.overruns.items ≡ line.handed
   pub spare : line.most ≤ length line.report.overruns.items + line.report.overruns.spare
   pub lost : line.report.fifo_lost + line.window ≤ line.report.arrived
   pub line_control : line.registers.line_control ≡ 3

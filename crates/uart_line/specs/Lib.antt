@@ -2,3 +2,4 @@ pub mod Received
 pub mod Offered
 pub mod LineState
 pub mod Handler
+pub mod Rows

@@ -4,7 +4,8 @@ use Rattle.tty_base.specs.declared.characters.Flagged.{Flagged}
 use Rattle.tty_base.specs.declared.lines.LineReport.{LineReport}
 use Rattle.tty_base.specs.declared.lines.LineStep.{LineStep}
 use Rattle.uart_regs.specs.Registers.{Registers, DEPTH}
-use Rattle.uart_line.specs.Received.{is_masked, trigger_of, idle_of, arrivals, received, lost, waiting}
+use Rattle.uart_line.specs.Received.{is_masked, trigger_of, idle_of, received_list, lost_count, waiting_list}
+use Rattle.tty_base.specs.Lines.{arrival_count}
 
 -- the receiver; whether the handler is held back; how many characters arrived since the last cut;
 -- how many were handed over; for how many arrivals there is room; and the report
@@ -45,8 +46,8 @@ pub record Stands (line : LineState) (past : List LineStep) (cs : List Flagged) 
 -- The line has done these steps: characters wait that arrived since the last cut, all before it was
 -- handed over, and the report has the numbers of the steps.
 pub record HasDone (line : LineState) (steps : List LineStep) : Type 0 where
-  pub stands : Stands line (reverse steps) (waiting steps)
-  pub arrived : line.report.arrived ≡ arrivals steps
-  pub handed : line.handed ≡ length (received steps)
-  pub lost : line.report.fifo_lost ≡ lost steps
+  pub stands : Stands line (reverse steps) (waiting_list steps)
+  pub arrived : line.report.arrived ≡ arrival_count steps
+  pub handed : line.handed ≡ length (received_list steps)
+  pub lost : line.report.fifo_lost ≡ lost_count steps
   pub sent : line.report.sent + length line.report.overruns.items ≡ line.handed

@@ -5,32 +5,32 @@ use Rattle.tty_base.specs.declared.characters.Flagged.{Flagged}
 use Rattle.tty_base.specs.declared.lines.Overrun.{Overrun}
 
 -- the answer to one character: accepted, or refused with the head that this call loaded
-pub data Outcome : Type 0 where
-  accepts : Outcome
-  refuses : ℕ → Outcome
+pub data PutAnswer : Type 0 where
+  accepts : PutAnswer
+  refuses : ℕ → PutAnswer
 
 -- the characters that were accepted
-unfoldable pub accepted : List Flagged → List Outcome → List Flagged
-accepted [] _ = []
-accepted (c ∷ cs) [] = []
-accepted (c ∷ cs) (accepts ∷ answers) = c ∷ accepted cs answers
-accepted (c ∷ cs) (refuses _ ∷ answers) = accepted cs answers
+unfoldable pub accepted_list : List Flagged → List PutAnswer → List Flagged
+accepted_list [] _ = []
+accepted_list (c ∷ cs) [] = []
+accepted_list (c ∷ cs) (accepts ∷ answers) = c ∷ accepted_list cs answers
+accepted_list (c ∷ cs) (refuses _ ∷ answers) = accepted_list cs answers
 
 -- each refusal is one overrun: its place, how many were accepted before, and the head
-unfoldable pub refused : (place sent : ℕ) → List Outcome → List Overrun
-refused place sent [] = []
-refused place sent (accepts ∷ answers) = refused (place + 1) (sent + 1) answers
-refused place sent (refuses seen ∷ answers) =
-    record { at = place; sent = sent; seen = seen } ∷ refused (place + 1) sent answers
+unfoldable pub overrun_list : (place sent : ℕ) → List PutAnswer → List Overrun
+overrun_list place sent [] = []
+overrun_list place sent (accepts ∷ answers) = overrun_list (place + 1) (sent + 1) answers
+overrun_list place sent (refuses seen ∷ answers) =
+    record { at = place; sent = sent; seen = seen } ∷ overrun_list (place + 1) sent answers
 
 -- each refusal comes at a full buffer
-unfoldable pub IsFullAt : (capacity sent : ℕ) → List Outcome → Type 0
+unfoldable pub IsFullAt : (capacity sent : ℕ) → List PutAnswer → Type 0
 IsFullAt capacity sent [] = Unit {0}
 IsFullAt capacity sent (accepts ∷ answers) = IsFullAt capacity (sent + 1) answers
 IsFullAt capacity sent (refuses seen ∷ answers) = (sent ≡ seen + capacity) × IsFullAt capacity sent answers
 
 -- the heads of the refusals are among the heads loaded, in their order
-unfoldable pub AreAmong : List Outcome → List ℕ → Type 0
+unfoldable pub AreAmong : List PutAnswer → List ℕ → Type 0
 AreAmong [] heads = Unit {0}
 AreAmong (accepts ∷ answers) heads = AreAmong answers heads
 AreAmong (refuses seen ∷ answers) heads =
@@ -42,11 +42,11 @@ pub record Offers
     (capacity place : ℕ) (list : List Flagged)
     (sent sent' : List Flagged) (heads heads' : List ℕ) (overruns overruns' : List Overrun)
     : Type 0 where
-  pub answers : List Outcome
+  pub answers : List PutAnswer
   pub loaded : List ℕ
   pub one_each : length answers ≡ length list
-  pub accepts_rest : sent' ≡ sent ++ accepted list answers
-  pub adds_refused : overruns' ≡ overruns ++ refused place (length sent) answers
+  pub accepts_rest : sent' ≡ sent ++ accepted_list list answers
+  pub adds_refused : overruns' ≡ overruns ++ overrun_list place (length sent) answers
   pub is_full : IsFullAt capacity (length sent) answers
   pub loads : heads' ≡ heads ++ loaded
   pub among_loaded : AreAmong answers loaded
@@ -60,13 +60,19 @@ pub record HandsOver
   pub grows : all' ≡ all ++ list
   pub offers : Offers capacity (length all) list sent sent' heads heads' overruns overruns'
 
--- the list without the places of the overruns, its first character at `place`
-unfoldable pub kept_from : ℕ → List Flagged → List Overrun → List Flagged
-kept_from place [] overruns = []
-kept_from place (c ∷ cs) overruns = if list_any (λ o. o.at == place) overruns then kept_from (place + 1) cs overruns else c ∷ kept_from (place + 1) cs overruns
+-- the list handed over has grown from `all` to `all'`, and the plain list `items` by the same characters
+pub record Adds (all all' items items' : List Flagged) : Type 0 where
+  pub list : List Flagged
+  pub grows : all' ≡ all ++ list
+  pub adds : items' ≡ items ++ list
 
-abbrev pub kept : List Flagged → List Overrun → List Flagged
-kept list overruns = kept_from 0 list overruns
+-- the list without the places of the overruns, its first character at `place`
+unfoldable pub kept_list_from : ℕ → List Flagged → List Overrun → List Flagged
+kept_list_from place [] overruns = []
+kept_list_from place (c ∷ cs) overruns = if list_any (λ o. o.at == place) overruns then kept_list_from (place + 1) cs overruns else c ∷ kept_list_from (place + 1) cs overruns
+
+abbrev pub kept_list : List Flagged → List Overrun → List Flagged
+kept_list list overruns = kept_list_from 0 list overruns
 
 -- the k-th of these overruns, and those after it: the places rise from `floor`, before each stand that
 -- many characters, of which k were refused, and the buffer is full

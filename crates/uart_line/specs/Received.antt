@@ -7,15 +7,12 @@ use Rattle.std.specs.Prelude.{ℕ, ◌+◌, ◌-◌, Bool, true, false, not, ◌
 use Rattle.tty_base.specs.declared.characters.Flag.{Flag}
 use Rattle.tty_base.specs.declared.characters.Flag.TheVariants as flag
 use Rattle.tty_base.specs.declared.characters.Flagged.{Flagged}
+use Rattle.tty_base.specs.Lines.{arrival}
 use Rattle.tty_base.specs.declared.lines.LineStep.{LineStep}
 use Rattle.tty_base.specs.declared.lines.LineStep.TheVariants.{Rx, Break, Idle, Mask, Unmask, Trigger}
 use Rattle.uart_regs.specs.Registers.{DEPTH}
 
 -- ---- characters
-
--- a break is one character 00
-abbrev pub break_character : Flagged
-break_character = record { byte = 0; flag = flag.Break }
 
 -- stands where the FIFO lost characters
 abbrev pub overrun_mark : Flagged
@@ -24,20 +21,6 @@ overrun_mark = record { byte = 0; flag = flag.Overrun }
 abbrev pub is_flagged : Flag → Bool
 is_flagged flag.Normal = false
 is_flagged _ = true
-
--- what arrives in a step
-abbrev pub arrival : LineStep → List Flagged
-arrival (Rx c) = c ∷ []
-arrival Break = break_character ∷ []
-arrival (Idle _) = []
-arrival Mask = []
-arrival Unmask = []
-arrival (Trigger _) = []
-
--- how many characters arrive
-abbrev pub arrivals : List LineStep → ℕ
-arrivals [] = 0
-arrivals (step ∷ steps) = length (arrival step) + arrivals steps
 
 -- ---- what the steps so far say
 
@@ -83,52 +66,52 @@ is_cut past (c ∷ cs) =
     && (is_flagged c.flag || nat_le (trigger_of past) (length (c ∷ cs)) || nat_le 4 (idle_of past))
 
 -- what waits after the steps so far: nothing after a cut
-abbrev pub uncut : List LineStep → List Flagged → List Flagged
-uncut past cs = if is_cut past cs then [] else cs
+abbrev pub uncut_window : List LineStep → List Flagged → List Flagged
+uncut_window past cs = if is_cut past cs then [] else cs
 
 -- the arrivals since the last cut before the last step
 unfoldable pub window : List LineStep → List Flagged
 window [] = []
-window (step ∷ past) = uncut past (window past) ++ arrival step
+window (step ∷ past) = uncut_window past (window past) ++ arrival step
 
 -- a window gives its first 16 characters; where it has more, a mark stands after its first
-unfoldable pub given : List Flagged → List Flagged
-given [] = []
-given (c ∷ cs) = if nat_lt DEPTH (length (c ∷ cs)) then c ∷ overrun_mark ∷ take 15 cs else c ∷ cs
+unfoldable pub window_output : List Flagged → List Flagged
+window_output [] = []
+window_output (c ∷ cs) = if nat_lt DEPTH (length (c ∷ cs)) then c ∷ overrun_mark ∷ take 15 cs else c ∷ cs
 
 -- ---- the received list
 
-unfoldable pub received_after : List LineStep → List Flagged
-received_after [] = []
-received_after (step ∷ past) =
-    received_after past
-    ++ (if is_cut (step ∷ past) (window (step ∷ past)) then given (window (step ∷ past)) else [])
+unfoldable pub received_list_after : List LineStep → List Flagged
+received_list_after [] = []
+received_list_after (step ∷ past) =
+    received_list_after past
+    ++ (if is_cut (step ∷ past) (window (step ∷ past)) then window_output (window (step ∷ past)) else [])
 
-unfoldable pub lost_after : List LineStep → ℕ
-lost_after [] = 0
-lost_after (step ∷ past) =
-    lost_after past
+unfoldable pub lost_count_after : List LineStep → ℕ
+lost_count_after [] = 0
+lost_count_after (step ∷ past) =
+    lost_count_after past
     + (if is_cut (step ∷ past) (window (step ∷ past)) then length (window (step ∷ past)) - DEPTH else 0)
 
 -- what the windows of these steps give, up to the last cut
-unfoldable pub received : List LineStep → List Flagged
-received steps = received_after (reverse steps)
+unfoldable pub received_list : List LineStep → List Flagged
+received_list steps = received_list_after (reverse steps)
 
 -- how many characters they lost
-unfoldable pub lost : List LineStep → ℕ
-lost steps = lost_after (reverse steps)
+unfoldable pub lost_count : List LineStep → ℕ
+lost_count steps = lost_count_after (reverse steps)
 
 -- what has arrived since the last cut
-unfoldable pub waiting : List LineStep → List Flagged
-waiting steps = uncut (reverse steps) (window (reverse steps))
+unfoldable pub waiting_list : List LineStep → List Flagged
+waiting_list steps = uncut_window (reverse steps) (window (reverse steps))
 
 -- ---- scripts
 
 -- a line script is closed by Unmask and four idle character times
-abbrev pub closed : List LineStep → List LineStep
-closed steps = steps ++ Unmask ∷ Idle 4 ∷ []
+abbrev pub closed_script : List LineStep → List LineStep
+closed_script steps = steps ++ Unmask ∷ Idle 4 ∷ []
 
 -- the line scripts of the phases, one after the other
 unfoldable pub script : List (List LineStep) → List LineStep
 script [] = []
-script (steps ∷ phases) = closed steps ++ script phases
+script (steps ∷ phases) = closed_script steps ++ script phases

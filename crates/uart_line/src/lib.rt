@@ -2,24 +2,25 @@
 //! over what was received.
 #![tactic(auto)]
 
-ghost use Rattle.std.specs.Prelude.{◌≡◌, ◌≢◌, ℕ, ◌+◌, ◌-◌, ◌<◌, ◌≤◌, ◌^◌, List, [], ◌∷◌, ◌++◌, length, IsTrue, IfOk, ◌&&◌, true, false, not};
+ghost use Rattle.std.specs.Prelude.{◌≡◌, ◌≢◌, ℕ, ◌+◌, ◌-◌, ◌<◌, ◌≤◌, ◌^◌, List, [], ◌∷◌, ◌++◌, length, IsTrue, IfOk, MatchBool, false};
+ghost use Rattle.std.proofs.Common.{◌⊎◌};
 ghost use Rattle.std.specs.List.{All};
 ghost use Rattle.std.specs.List.Sorted.{IsNonDecreasing};
 ghost use Rattle.tty_base.specs.declared.characters.Flagged.{Flagged};
 ghost use Rattle.tty_base.specs.declared.lines.LineStep.{LineStep};
 ghost use Rattle.tty_base.specs.declared.lines.Overrun.{Overrun};
 ghost use mathlib.Core.List.{IsPrefix};
-ghost use Rattle.uart_regs.specs.Registers.{Registers, fifo_controlled, is_set, is_pending, bit};
+ghost use Rattle.uart_regs.specs.Registers.{Registers, IsReceiver, after_fifo_control, bit};
 
 use std::alloc::Global;
 use std::marker::Model;
-use tty_base::{Flag, Flagged, LineReport, LineStep, NoMemory, Overrun, Overruns, Put};
-use uart_regs::{Reg, Uart};
-
-const FIFO_DEPTH: u32 = 16;
-
-/// The character times after which the receiver asks for service.
-const TIMEOUT: u32 = 4;
+use tty_base::{
+    Chars, Flag, Flagged, LineReport, LineStep, Moves, NoMemory, Overrun, Overruns, Put,
+};
+use uart_regs::{
+    BREAK_INTERRUPT, DATA_READY, FIFO_DEPTH, FRAMING_ERROR, OVERRUN_ERROR, PARITY_ERROR, Reg,
+    TIMEOUT, Uart, is_set,
+};
 
 /// A break is one character 00.
 const BREAK: Flagged = Flagged {
@@ -32,17 +33,6 @@ const OVERRUN_MARK: Flagged = Flagged {
     byte: 0,
     flag: Flag::Overrun,
 };
-
-// LSR
-const DATA_READY: u8 = 0;
-
-const OVERRUN_ERROR: u8 = 1;
-
-const PARITY_ERROR: u8 = 2;
-
-const FRAMING_ERROR: u8 = 3;
-
-const BREAK_INTERRUPT: u8 = 4;
 
 /// What one turn of the handler reads off the receiver.
 #[derive(Clone, Copy)]
@@ -74,11 +64,15 @@ impl Model for Line {
     ghost invariant = { λ l. IsLine (line_state l.uart l.masked l.window l.handed l.most l.report) };
 }
 
+impl Moves for Line {}
+
 impl Line {
-    ghost use Rattle.uart_line.specs.Received.{arrival, arrivals, received, waiting, closed};
+    ghost use Rattle.uart_line.specs.Received.{received_list, waiting_list, closed_script};
+    ghost use Rattle.tty_base.specs.Lines.{arrival, arrival_count};
     ghost use Rattle.uart_line.specs.LineState.{HasDone};
-    ghost use Rattle.uart_line.specs.Offered.{Offers, HandsOver};
-    ghost use Rattle.uart_line.specs.Handler.{IsLine, is_step, stepped, reading_of, after_turn, with_mark, Serves};
+    ghost use Rattle.uart_line.specs.Offered.{Offers, HandsOver, Adds};
+    ghost use Rattle.uart_line.specs.Handler.{IsLine, after_line_step, runs_handler, reading_of, after_turn, with_mark, Serves};
+    ghost use Rattle.tty_base.specs.Lines.{is_step};
 
     /// A line on which nothing has happened, with room for `most` arrivals and so for `most` overruns.
     pub fn new(alloc: Global, most: u32) -> Result<Line, NoMemory>
@@ -109,7 +103,7 @@ impl Line {
     pub fn step<P: Put>(&mut self, step: LineStep, put: &mut P)
         requires good { IsTrue (is_step step) }
         requires room { self.old.report.arrived + length (arrival step) ≤ self.old.most }
-        requires sent { length (P.sent put.old) < 2 ^ 62 }
+        requires put { self.old.most ≤ P.room put.old + self.old.handed }
 
         // The report has the numbers of the steps so far, and what waits is their uncut window.
         ensures done { (before : List LineStep) → HasDone self.old before → HasDone self.new (before ++ step ∷ []) }
@@ -118,15 +112,18 @@ impl Line {
 
         // What the step adds to the received list was offered, each character once and in order.
         ensures hands_over { (before : List LineStep) → HasDone self.old before
-            → HandsOver (P.capacity put.old) (received before) (received (before ++ step ∷ []))
+            → HandsOver (P.capacity put.old) (received_list before) (received_list (before ++ step ∷ []))
             (P.sent put.old) (P.sent put.new) (P.heads put.old) (P.heads put.new)
             self.old.report.overruns.items self.new.report.overruns.items }
         ensures visible { P.visible put.old → P.visible put.new }
+        ensures shown { MatchBool (runs_handler (after_line_step self.old step)) (P.visible put.new) (put.new ≡ put.old) }
         ensures capacity { P.capacity put.new ≡ P.capacity put.old }
+        ensures name { P.name put.new ≡ P.name put.old }
+        ensures put { self.new.most ≤ P.room put.new + self.new.handed }
         ensures rise { IsNonDecreasing (P.heads put.old) → IsNonDecreasing (P.heads put.new) }
 
         // A run of the handler leaves no interrupt pending.
-        ensures served { (is_pending self.new.registers && not self.new.masked) ≡ false }
+        ensures served { runs_handler self.new ≡ false }
     {
         let _ = &self.most;
         self.advance(step, put);
@@ -135,20 +132,23 @@ impl Line {
     /// Does these steps, then `Unmask` and four idle character times, after which nothing waits.
     pub fn run<P: Put>(&mut self, steps: &[LineStep], put: &mut P)
         requires good { All (λ step. IsTrue (is_step step)) steps.now }
-        requires room { self.old.report.arrived + arrivals steps.now ≤ self.old.most }
-        requires sent { length (P.sent put.old) < 2 ^ 62 }
+        requires room { self.old.report.arrived + arrival_count steps.now ≤ self.old.most }
+        requires put { self.old.most ≤ P.room put.old + self.old.handed }
 
-        ensures done { (before : List LineStep) → HasDone self.old before → HasDone self.new (before ++ closed steps.now) }
+        ensures done { (before : List LineStep) → HasDone self.old before → HasDone self.new (before ++ closed_script steps.now) }
         ensures room { self.new.most ≡ self.old.most }
-        ensures arrived { self.new.report.arrived ≡ self.old.report.arrived + arrivals steps.now }
-        ensures whole { (before : List LineStep) → waiting (before ++ closed steps.now) ≡ [] }
+        ensures arrived { self.new.report.arrived ≡ self.old.report.arrived + arrival_count steps.now }
+        ensures whole { (before : List LineStep) → waiting_list (before ++ closed_script steps.now) ≡ [] }
 
         ensures hands_over { (before : List LineStep) → HasDone self.old before
-            → HandsOver (P.capacity put.old) (received before) (received (before ++ closed steps.now))
+            → HandsOver (P.capacity put.old) (received_list before) (received_list (before ++ closed_script steps.now))
             (P.sent put.old) (P.sent put.new) (P.heads put.old) (P.heads put.new)
             self.old.report.overruns.items self.new.report.overruns.items }
         ensures visible { P.visible put.old → P.visible put.new }
+        ensures shown { (put.new ≡ put.old) ⊎ P.visible put.new }
         ensures capacity { P.capacity put.new ≡ P.capacity put.old }
+        ensures name { P.name put.new ≡ P.name put.old }
+        ensures put { self.new.most ≤ P.room put.new + self.new.handed }
         ensures rise { IsNonDecreasing (P.heads put.old) → IsNonDecreasing (P.heads put.new) }
     {
         let _ = &self.most;
@@ -157,6 +157,27 @@ impl Line {
         }
         self.advance(LineStep::Unmask, put);
         self.advance(LineStep::Idle(TIMEOUT), put);
+    }
+
+    /// Does these steps, then `Unmask` and four idle character times, and adds what is handed over to a
+    /// list, in room that was reserved: room for each character that has arrived or will, and was not
+    /// handed over.
+    pub fn run_into(&mut self, steps: &[LineStep], chars: &mut Chars)
+        requires good { All (λ step. IsTrue (is_step step)) steps.now }
+        requires room { self.old.report.arrived + arrival_count steps.now ≤ self.old.most }
+        requires spare { self.old.most ≤ chars.old.spare + self.old.handed }
+
+        ensures done { (before : List LineStep) → HasDone self.old before → HasDone self.new (before ++ closed_script steps.now) }
+        ensures room { self.new.most ≡ self.old.most }
+        ensures arrived { self.new.report.arrived ≡ self.old.report.arrived + arrival_count steps.now }
+        ensures whole { (before : List LineStep) → waiting_list (before ++ closed_script steps.now) ≡ [] }
+        ensures adds { (before : List LineStep) → HasDone self.old before
+            → Adds (received_list before) (received_list (before ++ closed_script steps.now)) chars.old.items chars.new.items }
+        ensures spare { self.new.most ≤ chars.new.spare + self.new.handed }
+        ensures overruns { (before : List LineStep) → HasDone self.old before
+            → self.new.report.overruns.items ≡ self.old.report.overruns.items }
+    {
+        self.run(steps, chars);
     }
 
     /// What the line has done so far.
@@ -185,50 +206,60 @@ impl Line {
     fn advance<P: Put>(&mut self, step: LineStep, put: &mut P)
         requires good { IsTrue (is_step step) }
         requires room { self.old.report.arrived + length (arrival step) ≤ self.old.most }
-        requires sent { length (P.sent put.old) + self.old.most < 2 ^ 63 + self.old.handed }
+        requires put { self.old.most ≤ P.room put.old + self.old.handed }
         ensures done { (before : List LineStep) → HasDone self.old before → HasDone self.new (before ++ step ∷ []) }
         ensures hands_over { (before : List LineStep) → HasDone self.old before
-            → HandsOver (P.capacity put.old) (received before) (received (before ++ step ∷ []))
+            → HandsOver (P.capacity put.old) (received_list before) (received_list (before ++ step ∷ []))
             (P.sent put.old) (P.sent put.new) (P.heads put.old) (P.heads put.new)
             self.old.report.overruns.items self.new.report.overruns.items }
-        ensures visible { P.visible put.old → P.visible put.new }
+        ensures shown { MatchBool (runs_handler (after_line_step self.old step)) (P.visible put.new) (put.new ≡ put.old) }
         ensures capacity { P.capacity put.new ≡ P.capacity put.old }
+        ensures name { P.name put.new ≡ P.name put.old }
+        ensures put { self.new.most ≤ P.room put.new + self.new.handed }
         ensures rise { IsNonDecreasing (P.heads put.old) → IsNonDecreasing (P.heads put.new) }
-        ensures served { (is_pending self.new.registers && not self.new.masked) ≡ false }
+        ensures served { runs_handler self.new ≡ false }
         ensures room { self.new.most ≡ self.old.most }
         ensures arrived { self.new.report.arrived ≡ self.old.report.arrived + length (arrival step) }
-        ensures bound { length (P.sent put.new) + self.old.handed ≤ length (P.sent put.old) + self.new.handed }
     {
         self.receive(step);
-        let held_back = self.masked;
-        if self.uart.pending() && !held_back {
+        if self.runs_handler() {
             self.handle(put);
         }
     }
 
+    // Whether an interrupt is pending and not held back.
+    fn runs_handler(&self) -> bool
+        ensures runs { result ≡ runs_handler self.now }
+        ensures receiver { IsReceiver self.now.registers }
+    {
+        self.uart.pending() && !self.masked
+    }
+
     // The interrupt handler.
     fn handle<P: Put>(&mut self, put: &mut P)
-        requires { length (P.sent put.old) + self.old.most < 2 ^ 63 + self.old.handed }
+        requires { self.old.most ≤ P.room put.old + self.old.handed }
         ensures serves { Serves (P.capacity put.old) self.old self.new (with_mark self.old.registers.overrun self.old.registers.fifo)
             (P.sent put.old) (P.sent put.new) (P.heads put.old) (P.heads put.new) }
         ensures fifo { self.new.registers.fifo ≡ [] }
         ensures overrun { self.new.registers.overrun ≡ false }
         ensures window { self.new.window ≡ 0 }
         ensures lost { self.new.report.fifo_lost ≡ self.old.report.fifo_lost + (self.old.window - 16) }
-        ensures counted { self.new.report.sent + length self.new.report.overruns.items ≡ self.new.handed }
+        ensures count { self.new.report.sent + length self.new.report.overruns.items ≡ self.new.handed }
         ensures visible { P.visible put.new }
         ensures capacity { P.capacity put.new ≡ P.capacity put.old }
+        ensures name { P.name put.new ≡ P.name put.old }
+        ensures put { self.new.most ≤ P.room put.new + self.new.handed }
         ensures rise { IsNonDecreasing (P.heads put.old) → IsNonDecreasing (P.heads put.new) }
     {
         self.empty(put);
-        self.report.fifo_lost += self.window.saturating_sub(FIFO_DEPTH);
+        self.report.fifo_lost += self.window.saturating_sub(FIFO_DEPTH as u32);
         self.window = 0;
         show(put);
     }
 
     // Takes all characters off the receiver and offers them.
     fn empty<P: Put>(&mut self, put: &mut P)
-        requires { length (P.sent put.old) + self.old.most < 2 ^ 63 + self.old.handed }
+        requires { self.old.most ≤ P.room put.old + self.old.handed }
         ensures serves { Serves (P.capacity put.old) self.old self.new (with_mark self.old.registers.overrun self.old.registers.fifo)
             (P.sent put.old) (P.sent put.new) (P.heads put.old) (P.heads put.new) }
         ensures fifo { self.new.registers.fifo ≡ [] }
@@ -236,6 +267,8 @@ impl Line {
         ensures window { self.new.window ≡ self.old.window }
         ensures lost { self.new.report.fifo_lost ≡ self.old.report.fifo_lost }
         ensures capacity { P.capacity put.new ≡ P.capacity put.old }
+        ensures name { P.name put.new ≡ P.name put.old }
+        ensures put { self.new.most ≤ P.room put.new + self.new.handed }
         ensures rise { IsNonDecreasing (P.heads put.old) → IsNonDecreasing (P.heads put.new) }
     {
         while let Some(reading) = self.next_reading() {
@@ -249,7 +282,7 @@ impl Line {
     // Hands over one character.
     fn offer<P: Put>(&mut self, c: Flagged, put: &mut P)
         requires room { self.old.handed + length self.old.registers.fifo + bit self.old.registers.overrun < self.old.report.arrived }
-        requires sent { length (P.sent put.old) < 2 ^ 63 }
+        requires put { 0 < P.room put.old }
         ensures same { self.new ≡ record self.old {
           handed = self.old.handed + 1;
           report = record self.old.report { sent = self.new.report.sent; overruns = self.new.report.overruns };
@@ -258,6 +291,8 @@ impl Line {
             (P.sent put.old) (P.sent put.new) (P.heads put.old) (P.heads put.new)
             self.old.report.overruns.items self.new.report.overruns.items }
         ensures capacity { P.capacity put.new ≡ P.capacity put.old }
+        ensures name { P.name put.new ≡ P.name put.old }
+        ensures put { P.room put.old ≤ P.room put.new + 1 }
         ensures rise { IsNonDecreasing (P.heads put.old) → IsNonDecreasing (P.heads put.new) }
     {
         match put.put(c) {
@@ -275,7 +310,7 @@ impl Line {
     fn receive(&mut self, step: LineStep)
         requires good { IsTrue (is_step step) }
         requires room { self.old.report.arrived + length (arrival step) ≤ self.old.most }
-        ensures { self.new ≡ stepped self.old step }
+        ensures { self.new ≡ after_line_step self.old step }
     {
         match step {
             LineStep::Rx(c) => self.arrive(c),
@@ -290,7 +325,7 @@ impl Line {
     fn arrive(&mut self, c: Flagged)
         requires no_mark { c.flag ≢ Flag.Overrun }
         requires room { self.old.report.arrived < self.old.most }
-        ensures { self.new ≡ stepped self.old (LineStep.Rx c) }
+        ensures { self.new ≡ after_line_step self.old (LineStep.Rx c) }
     {
         self.uart.arrive(c);
         self.window += 1;
@@ -325,17 +360,19 @@ fn show<P: Put>(put: &mut P)
     ensures grows { IsPrefix (P.heads put.old) (P.heads put.new) }
     ensures rise { IsNonDecreasing (P.heads put.new) }
     ensures same { P.capacity put.new ≡ P.capacity put.old }
+    ensures name { P.name put.new ≡ P.name put.old }
+    ensures room { P.room put.new ≡ P.room put.old }
 {
     put.push();
 }
 
-ghost use Rattle.uart_line.specs.Offered.{HandsOver, kept, AreShown};
+ghost use Rattle.uart_line.specs.Offered.{HandsOver, kept_list, AreShown};
 
 /// What was accepted is what was handed over without the places of the overruns. These rise, and each
 /// tells how many were accepted before it and that the buffer was full.
 pub fn overruns_are_shown()
     ensures kept { (capacity : ℕ) (all sent : List Flagged) (heads : List ℕ) (overruns : List Overrun)
-        → HandsOver capacity [] all [] sent [] heads [] overruns → sent ≡ kept all overruns }
+        → HandsOver capacity [] all [] sent [] heads [] overruns → sent ≡ kept_list all overruns }
     ensures shown { (capacity : ℕ) (all sent : List Flagged) (heads : List ℕ) (overruns : List Overrun)
         → HandsOver capacity [] all [] sent [] heads [] overruns → AreShown capacity 0 0 overruns }
 {}
@@ -347,10 +384,21 @@ pub fn runs_follow_each_other()
         → HandsOver capacity a0 a2 s0 s2 h0 h2 o0 o2 }
 {}
 
+ghost use Rattle.uart_line.specs.Received.{received_list, lost_count};
+ghost use Rattle.uart_line.specs.Rows.{masked_burst, burst_output, burst_after_idle, two_windows_output, one_window_output};
+
+/// What is handed over of twenty characters that came while the handler was masked: sixteen, with a
+/// mark after the first. Four character times cut what waits, and three do not.
+pub fn worked_scripts_are_received()
+    ensures burst { (received_list masked_burst ≡ burst_output) × (lost_count masked_burst ≡ 4) }
+    ensures four_times { (received_list (burst_after_idle 4) ≡ two_windows_output) × (lost_count (burst_after_idle 4) ≡ 0) }
+    ensures three_times { (received_list (burst_after_idle 3) ≡ one_window_output) × (lost_count (burst_after_idle 3) ≡ 3) }
+{}
+
 /// The FIFO control that sets this trigger.
 fn trigger_control(level: u8) -> u8
     requires { IsTrue (is_step (LineStep.Trigger level)) }
-    ensures { (r : Registers) → fifo_controlled r result ≡ record r { trigger = level } }
+    ensures { (r : Registers) → after_fifo_control r result ≡ record r { trigger = level } }
 {
     match level {
         1 => 0x01,
@@ -360,19 +408,12 @@ fn trigger_control(level: u8) -> u8
     }
 }
 
-/// Bit `place` of a register.
-fn is_set(value: u8, place: u8) -> bool
-    requires { place < 8 }
-    ensures { result ≡ is_set value place }
-{
-    value >> place & 1 == 1
-}
-
-ghost use Rattle.uart_line.specs.Handler.{is_step, flag_of};
+ghost use Rattle.uart_line.specs.Handler.{flag_of_status};
+ghost use Rattle.tty_base.specs.Lines.{is_step};
 
 /// The flag that a line status gives the front character.
 fn flag_of(status: u8) -> Flag
-    ensures { result ≡ flag_of status }
+    ensures { result ≡ flag_of_status status }
 {
     if is_set(status, BREAK_INTERRUPT) {
         Flag::Break

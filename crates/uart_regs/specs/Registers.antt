@@ -32,8 +32,8 @@ pub record IsReceiver (r : Registers) : Type 0 where
 
 -- as the driver sets it up: trigger 8; received data and line status interrupts; eight data bits;
 -- DTR, RTS and OUT2; 9600 baud
-abbrev pub set_up : Registers
-set_up = record {
+abbrev pub initial_registers : Registers
+initial_registers = record {
   fifo = [];
   overrun = false;
   idle = 0;
@@ -87,19 +87,19 @@ without_front [] = []
 without_front (_ ∷ cs) = cs
 
 -- with the errors of the front character cleared
-abbrev pub front_cleared : List Flagged → List Flagged
-front_cleared [] = []
-front_cleared (c ∷ cs) = record c { flag = Normal } ∷ cs
+abbrev pub with_front_cleared : List Flagged → List Flagged
+with_front_cleared [] = []
+with_front_cleared (c ∷ cs) = record c { flag = Normal } ∷ cs
 
 -- a character arrives: a full FIFO keeps its 16 characters and sets the overrun error
-abbrev pub arrived : Registers → Flagged → Registers
-arrived r c =
+abbrev pub after_arrival : Registers → Flagged → Registers
+after_arrival r c =
     if nat_lt (length r.fifo) DEPTH then record r { fifo = r.fifo ++ c ∷ []; idle = 0 }
     else record r { overrun = true; idle = 0 }
 
 -- character times pass
-abbrev pub idled : Registers → ℕ → Registers
-idled r times = record r { idle = min (r.idle + times) 4 }
+abbrev pub after_idle : Registers → ℕ → Registers
+after_idle r times = record r { idle = min (r.idle + times) 4 }
 
 -- ---- bits
 
@@ -169,8 +169,8 @@ trigger_level v =
     if is_set v 7 then (if is_set v 6 then 14 else 8) else (if is_set v 6 then 4 else 1)
 
 -- without bit 0 the write is ignored; bit 1 clears the FIFO
-abbrev pub fifo_controlled : Registers → ℕ → Registers
-fifo_controlled r v =
+abbrev pub after_fifo_control : Registers → ℕ → Registers
+after_fifo_control r v =
     if is_set v 0
     then record r { trigger = trigger_level v; fifo = if is_set v 1 then [] else r.fifo }
     else r
@@ -201,7 +201,7 @@ after_read r R1 = r
 after_read r R2 = r
 after_read r R3 = r
 after_read r R4 = r
-after_read r R5 = record r { fifo = front_cleared r.fifo; overrun = false }
+after_read r R5 = record r { fifo = with_front_cleared r.fifo; overrun = false }
 after_read r R6 = r
 after_read r R7 = r
 
@@ -210,7 +210,7 @@ abbrev pub after_write : Registers → Reg → ℕ → Registers
 after_write r R0 v = if selects_latches r then record r { divisor_low = v } else r
 after_write r R1 v =
     if selects_latches r then record r { divisor_high = v } else record r { interrupts = v % 16 }
-after_write r R2 v = fifo_controlled r v
+after_write r R2 v = after_fifo_control r v
 after_write r R3 v = record r { line_control = v }
 after_write r R4 v = record r { modem_control = v % 32 }
 after_write r R5 v = r

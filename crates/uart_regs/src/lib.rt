@@ -7,7 +7,7 @@ ghost use Rattle.tty_base.specs.declared.characters.Flag.TheVariants.{Overrun};
 
 use arrayvec::ArrayVec;
 use std::marker::Model;
-use tty_base::{Flag, Flagged};
+use tty_base::{Flag, Flagged, Moves};
 
 /// A register by its offset from the base address.
 #[derive(Clone, Copy, PartialEq, Eq, Debug)]
@@ -30,10 +30,11 @@ pub enum Reg {
     R7,
 }
 
-const FIFO_DEPTH: usize = 16;
+/// How many characters the receive FIFO keeps.
+pub const FIFO_DEPTH: usize = 16;
 
 /// The character times after which a FIFO that nobody reads asks for service.
-const TIMEOUT: u32 = 4;
+pub const TIMEOUT: u32 = 4;
 
 // IER
 const ENABLE_RECEIVED_DATA: u8 = 0;
@@ -63,20 +64,26 @@ const TRIGGER_HIGH: u8 = 7;
 // LCR
 const DIVISOR_LATCH_ACCESS: u8 = 7;
 
-// LSR
-const DATA_READY: u8 = 0x01;
+/// Line status, bit 0: a character can be read.
+pub const DATA_READY: u8 = 0;
 
-const OVERRUN_ERROR: u8 = 0x02;
+/// Line status, bit 1: the full FIFO lost a character.
+pub const OVERRUN_ERROR: u8 = 1;
 
-const PARITY_ERROR: u8 = 0x04;
+/// Line status, bit 2: the front character has a parity error.
+pub const PARITY_ERROR: u8 = 2;
 
-const FRAMING_ERROR: u8 = 0x08;
+/// Line status, bit 3: the front character has a framing error.
+pub const FRAMING_ERROR: u8 = 3;
 
-const BREAK_INTERRUPT: u8 = 0x10;
+/// Line status, bit 4: the front character is a break.
+pub const BREAK_INTERRUPT: u8 = 4;
 
+/// Line status, bits 5 and 6.
 const TRANSMITTER_EMPTY: u8 = 0x60;
 
-const ERROR_IN_FIFO: u8 = 0x80;
+/// Line status, bit 7: some character of the FIFO has an error.
+const ERROR_IN_FIFO: u8 = 7;
 
 // MSR: carrier, data set ready and clear to send
 const MODEM_STATUS: u8 = 0xb0;
@@ -128,16 +135,18 @@ impl Model for Uart {
     } };
 }
 
+impl Moves for Uart {}
+
 impl Uart {
-    ghost use Rattle.uart_regs.specs.Registers.{IsReceiver, set_up, arrived, idled, read_value, after_read, after_write};
+    ghost use Rattle.uart_regs.specs.Registers.{IsReceiver, initial_registers, after_arrival, after_idle, read_value, after_read, after_write};
     ghost use Rattle.uart_regs.specs.Registers.{is_pending, interrupt_identification, interrupt_code, line_status};
     ghost use Rattle.uart_regs.specs.Registers.{is_line_status, is_data_available, is_timeout};
-    ghost use Rattle.uart_regs.specs.Registers.{selects_latches, front_flag, has_error, fifo_controlled};
+    ghost use Rattle.uart_regs.specs.Registers.{selects_latches, front_flag, has_error, after_fifo_control};
 
     /// The receiver as the driver sets it up: FIFOs enabled with trigger 8, interrupts for received data
     /// and line status, no character.
     pub fn new() -> Uart
-        ensures { result ≡ set_up }
+        ensures { result ≡ initial_registers }
     {
         Uart {
             fifo: ArrayVec::new(),
@@ -156,7 +165,7 @@ impl Uart {
     /// A character arrives on the line. A full FIFO keeps its 16 characters and sets the overrun error.
     pub fn arrive(&mut self, c: Flagged)
         requires { c.flag ≢ Overrun }
-        ensures { self.new ≡ arrived self.old c }
+        ensures { self.new ≡ after_arrival self.old c }
     {
         if self.fifo.is_full() {
             self.overrun = true;
@@ -168,7 +177,7 @@ impl Uart {
 
     /// Lets `times` character times pass without an arrival.
     pub fn idle(&mut self, times: u32)
-        ensures { self.new ≡ idled self.old times }
+        ensures { self.new ≡ after_idle self.old times }
     {
         self.idle = self.idle.saturating_add(times).min(TIMEOUT);
     }
@@ -326,12 +335,12 @@ impl Uart {
     {
         let front = self.front_flag();
         TRANSMITTER_EMPTY
-            + masked(!self.fifo.is_empty(), DATA_READY)
-            + masked(self.overrun, OVERRUN_ERROR)
-            + masked(is_parity_error(front), PARITY_ERROR)
-            + masked(is_framing_error(front), FRAMING_ERROR)
-            + masked(is_break(front), BREAK_INTERRUPT)
-            + masked(self.has_error(), ERROR_IN_FIFO)
+            + masked(!self.fifo.is_empty(), 1 << DATA_READY)
+            + masked(self.overrun, 1 << OVERRUN_ERROR)
+            + masked(is_parity_error(front), 1 << PARITY_ERROR)
+            + masked(is_framing_error(front), 1 << FRAMING_ERROR)
+            + masked(is_break(front), 1 << BREAK_INTERRUPT)
+            + masked(self.has_error(), 1 << ERROR_IN_FIFO)
     }
 
     fn read_line_status(&mut self) -> u8
@@ -347,7 +356,7 @@ impl Uart {
     }
 
     fn control_fifo(&mut self, value: u8)
-        ensures { self.new ≡ fifo_controlled self.old value }
+        ensures { self.new ≡ after_fifo_control self.old value }
     {
         if !is_set(value, FIFO_ENABLE) {
             return;
@@ -367,7 +376,7 @@ impl Uart {
 ghost use Rattle.uart_regs.specs.Registers.{bit, is_set, is_break, is_parity_error, is_framing_error, is_error};
 
 /// Bit `place` of a register.
-fn is_set(value: u8, place: u8) -> bool
+pub fn is_set(value: u8, place: u8) -> bool
     requires { place < 8 }
     ensures { result ≡ is_set value place }
 {

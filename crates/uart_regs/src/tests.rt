@@ -13,12 +13,9 @@ fn arrive_often(uart: &mut Uart, times: u32) {
     }
 }
 
-fn moves<T: Send + Sync>(_value: &T) {}
-
 #[test]
 fn fifo_fills_and_overruns(rt: HostRuntime) -> Result<(), Fail> {
     let mut uart = Uart::new();
-    moves(&uart);
     assert_eq!(rt; uart.read(Reg::R2), 0xc1);
     arrive_often(&mut uart, 3);
     assert_eq!(rt; uart.read(Reg::R5), 0x61);

@@ -10,8 +10,8 @@ use Rattle.std.proofs.Math.Seq.{get_or-append_right}
 use Rattle.atomic_table.specs.Table.{State, Me, step, keeps, opening, Allows, Splits, Joins}
 use Rattle.word_ring.specs.declared.table.View.{View}
 use Rattle.word_ring.specs.Ends.{IsOneWithin, AreReleased}
-use Rattle.word_ring.specs.Lanes.{lane, lanes, whole}
-use Rattle.word_ring.specs.Plays.{blank, both_ends, with_head, with_written, all_pushed, with_tail, with_read, with_taken_to, LoadsHead, StoresLanes, StoresTail, LoadsTail, LoadsLanes, StoresHead, Compares, putter_of, taker_of, note_of, head_note_of, with_note, with_head_note, with_putter}
+use Rattle.word_ring.specs.Lanes.{lane, lanes, whole_words}
+use Rattle.word_ring.specs.Plays.{blank_view, both_ends, with_head, with_written, with_all_pushed, with_tail, with_read, with_taken_to, LoadsHead, StoresLanes, StoresTail, LoadsTail, LoadsLanes, StoresHead, Compares, putter_of, taker_of, note_of, head_note_of, with_note, with_head_note, with_putter}
 use Rattle.word_ring.specs.Rule.{Story, KnowsPuts, KnowsTakes, Knows, Stands, Ring, place}
 use Rattle.word_ring.proofs.Beginnings.{begins_itself, begins_through, begins_length, begins_longer, begins_take, begins_at, begins_from}
 use Rattle.word_ring.proofs.Packing.{lanes_length, lanes_at, whole_length}
@@ -69,7 +69,7 @@ loads_head n slots id me puts s r _ here _ =
     (w, keeps, tt, loaded n s r 0 id w known, (refl, refl, omega arith, omega arith, omega arith))
 
 pub stores_lanes : (n slots id : ℕ) (me : M) (at word k : ℕ) → me.0.puts ≡ true → at ≡ place me.0.capacity (length me.0.written / 4) → 1 < at → k ≤ 4
-    → IsPrefix me.0.written (whole me.0.written ++ lanes word k) → length (whole me.0.written ++ lanes word k) ≤ me.0.head + me.0.capacity
+    → IsPrefix me.0.written (whole_words me.0.written ++ lanes word k) → length (whole_words me.0.written ++ lanes word k) ≤ me.0.head + me.0.capacity
     → Allows (Ring n) slots id me at (λ _. word) (λ _. StoresLanes k (step slots at word 0 none) me word)
 stores_lanes n slots id me at word k puts at_is inner few goes_on fits s r _ here _ =
     let g : Story = r.story in
@@ -77,7 +77,7 @@ stores_lanes n slots id me at word k puts at_is inner few goes_on fits s r _ her
     let p : KnowsPuts n g id me.0 = k'.puts puts in
     let same : me.0.written ≡ g.written = p.written in
     let cap : me.0.capacity ≡ n = p.capacity in
-    let xs : List ℕ = whole me.0.written ++ lanes word k in
+    let xs : List ℕ = whole_words me.0.written ++ lanes word k in
     let g' : Story = record g { written = xs } in
     let w : View = with_written me.0 xs in
     let place_is : at ≡ place n (length g.written / 4) = at_is ∙ (λ i. place (cap i) (length (same i) / 4)) in
@@ -87,10 +87,10 @@ stores_lanes n slots id me at word k puts at_is inner few goes_on fits s r _ her
     let head = k'.head in
     let room : length xs ≤ length g.taken + n = omega arith in
     let stands : Stands n (set s.words at word) (length g.taken) xs =
-    subst (λ (z : List ℕ). Stands n (set s.words at word) (length g.taken) (whole z ++ lanes word k)) (sym same)
+    subst (λ (z : List ℕ). Stands n (set s.words at word) (length g.taken) (whole_words z ++ lanes word k)) (sym same)
     (stands_lanes n s.words (length g.taken) g.written at word k place_is (omega arith) few
-    (subst (λ (z : List ℕ). IsPrefix g.written (whole z ++ lanes word k)) same further)
-    (subst (λ (z : List ℕ). length (whole z ++ lanes word k) ≤ length g.taken + n) same room) r.stands) in
+    (subst (λ (z : List ℕ). IsPrefix g.written (whole_words z ++ lanes word k)) same further)
+    (subst (λ (z : List ℕ). length (whole_words z ++ lanes word k) ≤ length g.taken + n) same room) r.stands) in
     let known : Knows n g' id w = record {
       noted = k'.noted;
       noted_heads = k'.noted_heads;
@@ -128,7 +128,7 @@ stores_tail n slots id me x puts x_is s r _ here _ =
     let k : Knows n g id me.0 = r.each id me.0 here in
     let p : KnowsPuts n g id me.0 = k.puts puts in
     let g' : Story = record g { pushed = g.written } in
-    let w : View = all_pushed me.0 in
+    let w : View = with_all_pushed me.0 in
     let wide = r.wide in
     let more = begins_length g.pushed g.written r.pushed in
     let known : Knows n g' id w = record {
@@ -190,21 +190,21 @@ loads_tail n slots id me takes s r _ here _ =
 -- what is read of a word, as far as the tail is known
 read_on : (n : ℕ) (words : List ℕ) (head : ℕ) (read pushed written : List ℕ) (at tail : ℕ) → Stands n words head written → IsPrefix read pushed → IsPrefix pushed written
     → at ≡ place n (length read / 4) → head ≤ length read → length read < tail → tail ≤ length pushed
-    → IsPrefix (take tail (whole read ++ lanes (get_or words at 0) 4)) pushed
+    → IsPrefix (take tail (whole_words read ++ lanes (get_or words at 0) 4)) pushed
 read_on n words head read pushed written at tail stands reads pushes at_is low more known =
     let word : ℕ = get_or words at 0 in
-    let xs : List ℕ = whole read ++ lanes word 4 in
-    let front : length (whole read) ≡ length read / 4 * 4 = whole_length read in
-    let long : length xs ≡ length read / 4 * 4 + 4 = length-append (whole read) (lanes word 4) ∙ omega (arith, lanes_length word 4) in
+    let xs : List ℕ = whole_words read ++ lanes word 4 in
+    let front : length (whole_words read) ≡ length read / 4 * 4 = whole_length read in
+    let long : length xs ≡ length read / 4 * 4 + 4 = length-append (whole_words read) (lanes word 4) ∙ omega (arith, lanes_length word 4) in
     let cut = length-take tail xs in
     let all = begins_length pushed written pushes in
     begins_from (take tail xs) pushed (omega arith) (λ i lt. get_or-take tail xs i 0 (omega arith) ∙ ⊎_elim
-    (λ below. get_or-append (whole read) (lanes word 4) 0 i (omega arith) ∙ (get_or-take (length read / 4 * 4) read i 0 below ∙ begins_at read pushed reads i (omega arith)))
+    (λ below. get_or-append (whole_words read) (lanes word 4) 0 i (omega arith) ∙ (get_or-take (length read / 4 * 4) read i 0 below ∙ begins_at read pushed reads i (omega arith)))
     (λ above.
     let group : i / 4 ≡ length read / 4 = omega arith in
     let here : get_or words (place n (i / 4)) 0 ≡ word = ap (λ (q : ℕ). get_or words (place n q) 0) group ∙ ap (λ (z : ℕ). get_or words z 0) (sym at_is) in
-    let j : i - length (whole read) ≡ i % 4 = omega arith in
-    get_or-append_right (whole read) (lanes word 4) i 0 (omega arith) ∙ (lanes_at word 4 (i - length (whole read)) (omega arith) ∙ (ap (lane word) j ∙ (ap (λ (z : ℕ). lane z (i % 4)) (sym here) ∙ (stands i (omega arith) (omega arith) ∙ sym (begins_at pushed written pushes i (omega arith)))))))
+    let j : i - length (whole_words read) ≡ i % 4 = omega arith in
+    get_or-append_right (whole_words read) (lanes word 4) i 0 (omega arith) ∙ (lanes_at word 4 (i - length (whole_words read)) (omega arith) ∙ (ap (lane word) j ∙ (ap (λ (z : ℕ). lane z (i % 4)) (sym here) ∙ (stands i (omega arith) (omega arith) ∙ sym (begins_at pushed written pushes i (omega arith)))))))
     (cases_lt i (length read / 4 * 4)))
 
 pub loads_lanes : (n slots id : ℕ) (me : M) (at : ℕ) → me.0.takes ≡ true → at ≡ place me.0.capacity (length me.0.read / 4) → length me.0.read < me.0.tail
@@ -214,15 +214,15 @@ loads_lanes n slots id me at takes at_is more s r _ here _ =
     let k : Knows n g id me.0 = r.each id me.0 here in
     let t : KnowsTakes n g id me.0 = k.takes takes in
     let word : ℕ = get_or s.words at 0 in
-    let xs : List ℕ = take me.0.tail (whole me.0.read ++ lanes word 4) in
+    let xs : List ℕ = take me.0.tail (whole_words me.0.read ++ lanes word 4) in
     let w : View = with_read me.0 xs in
     let start : length me.0.taken ≤ length me.0.read = begins_length me.0.taken me.0.read t.begins in
     let taken_is : length me.0.taken ≡ length g.taken = ap length t.taken in
     let place_is : at ≡ place n (length me.0.read / 4) = at_is ∙ ap (λ (z : ℕ). place z (length me.0.read / 4)) t.capacity in
     let reads : IsPrefix xs g.pushed = read_on n s.words (length g.taken) me.0.read g.pushed g.written at me.0.tail r.stands t.read r.pushed place_is (omega arith) more k.tail in
-    let front : length (whole me.0.read) ≡ length me.0.read / 4 * 4 = whole_length me.0.read in
-    let long : length (whole me.0.read ++ lanes word 4) ≡ length me.0.read / 4 * 4 + 4 = length-append (whole me.0.read) (lanes word 4) ∙ omega (arith, lanes_length word 4) in
-    let cut = length-take me.0.tail (whole me.0.read ++ lanes word 4) in
+    let front : length (whole_words me.0.read) ≡ length me.0.read / 4 * 4 = whole_length me.0.read in
+    let long : length (whole_words me.0.read ++ lanes word 4) ≡ length me.0.read / 4 * 4 + 4 = length-append (whole_words me.0.read) (lanes word 4) ∙ omega (arith, lanes_length word 4) in
+    let cut = length-take me.0.tail (whole_words me.0.read ++ lanes word 4) in
     let longer : IsPrefix me.0.read xs = begins_longer me.0.read xs g.pushed t.read reads (omega arith) in
     let known : Knows n g id w = record {
       noted = k.noted;
@@ -232,7 +232,8 @@ loads_lanes n slots id me at takes at_is more s r _ here _ =
       puts = λ is. (let p = k.puts is in record { at = p.at; capacity = p.capacity; written = p.written; pushed = p.pushed; heads = p.heads });
       takes = λ _. record { at = t.at; capacity = t.capacity; taken = t.taken; released = t.released; begins = begins_through me.0.taken me.0.read xs t.begins longer; read = reads; known = omega arith };
     } in
-    (w, keeps, tt, loaded n s r at id w known, (refl, refl, longer))
+    let pushed : me.0.puts ≡ true → IsPrefix xs me.0.pushed = λ is. subst (λ (z : List ℕ). IsPrefix xs z) (sym (k.puts is).pushed) reads in
+    (w, keeps, tt, loaded n s r at id w known, (refl, refl, longer, pushed))
 
 pub stores_head : (n slots id : ℕ) (me : M) (x : ℕ) → me.0.takes ≡ true → length me.0.taken ≤ x → x ≤ length me.0.read → Allows (Ring n) slots id me 0 (λ _. x) (λ _. StoresHead (step slots 0 x 0 none) me x)
 stores_head n slots id me x takes low high s r _ here _ =
@@ -387,7 +388,7 @@ parts n id v puts takes s r here =
     (λ q. absurd (apart (q.at ∙ sym t.at))) old in
     viewed n s r g' (views ++ taker_of v ∷ []) refl refl refl refl (each_end n g' views (taker_of v) (each_set n g g' s.views id (putter_of v) r.each left on) right)
 
-pub meets : (n id other : ℕ) (v w : View) → Joins (Ring n) id v other w (with_note v w) blank
+pub meets : (n id other : ℕ) (v w : View) → Joins (Ring n) id v other w (with_note v w) blank_view
 meets n id other v w s r here apart there =
     let g : Story = r.story in
     let k : Knows n g id v = r.each id v here in
@@ -402,9 +403,9 @@ meets n id other v w s r here apart there =
       puts = λ is. (let p = k.puts is in record { at = p.at; capacity = p.capacity; written = p.written; pushed = p.pushed; heads = p.heads });
       takes = λ is. (let t = k.takes is in let bound = t.known in record { at = t.at; capacity = t.capacity; taken = t.taken; released = t.released; begins = t.begins; read = t.read; known = omega arith });
     } in
-    viewed n s r g (set (set s.views id (with_note v w)) other blank) refl refl refl refl (each_join n g g s.views id other (with_note v w) r.each known (λ seat u a b old. old))
+    viewed n s r g (set (set s.views id (with_note v w)) other blank_view) refl refl refl refl (each_join n g g s.views id other (with_note v w) r.each known (λ seat u a b old. old))
 
-pub meets_head : (n id other : ℕ) (v w : View) → Joins (Ring n) id v other w (with_head_note v w) blank
+pub meets_head : (n id other : ℕ) (v w : View) → Joins (Ring n) id v other w (with_head_note v w) blank_view
 meets_head n id other v w s r here apart there =
     let g : Story = r.story in
     let k : Knows n g id v = r.each id v here in
@@ -419,9 +420,9 @@ meets_head n id other v w s r here apart there =
       puts = λ is. (let p = k.puts is in record { at = p.at; capacity = p.capacity; written = p.written; pushed = p.pushed; heads = p.heads });
       takes = λ is. (let t = k.takes is in record { at = t.at; capacity = t.capacity; taken = t.taken; released = t.released; begins = t.begins; read = t.read; known = t.known });
     } in
-    viewed n s r g (set (set s.views id (with_head_note v w)) other blank) refl refl refl refl (each_join n g g s.views id other (with_head_note v w) r.each known (λ seat u a b old. old))
+    viewed n s r g (set (set s.views id (with_head_note v w)) other blank_view) refl refl refl refl (each_join n g g s.views id other (with_head_note v w) r.each known (λ seat u a b old. old))
 
-pub ends : (n id other : ℕ) (v w : View) → v.takes ≡ true → w.puts ≡ true → Joins (Ring n) id v other w (with_putter v w) blank
+pub ends : (n id other : ℕ) (v w : View) → v.takes ≡ true → w.puts ≡ true → Joins (Ring n) id v other w (with_putter v w) blank_view
 ends n id other v w takes puts s r here apart there =
     let g : Story = r.story in
     let k : Knows n g id v = r.each id v here in
@@ -444,7 +445,7 @@ ends n id other v w takes puts s r here apart there =
     let on : (seat : ℕ) (u : View) → seat ≢ id → seat ≢ other → Knows n g seat u → Knows n g' seat u = λ seat u a b old. knows_on n g g' seat u on_
     (λ q. absurd (b (q.at ∙ sym p.at)))
     (λ q. record { at = q.at; capacity = q.capacity; taken = q.taken; released = q.released; begins = q.begins; read = q.read; known = q.known }) old in
-    viewed n s r g' (set (set s.views id (with_putter v w)) other blank) refl refl refl refl (each_join n g g' s.views id other (with_putter v w) r.each known on)
+    viewed n s r g' (set (set s.views id (with_putter v w)) other blank_view) refl refl refl refl (each_join n g g' s.views id other (with_putter v w) r.each known on)
 
 -- a new ring
 pub begins : (n : ℕ) → Ring n (opening (replicate (n / 4 + 4) 0) [] (both_ends n))

@@ -3,7 +3,7 @@ use Rattle.std.proofs.Common.{◌≡◌, ℕ, zero, suc, ◌+◌, ◌*◌, ◌/�
 use Rattle.std.proofs.lemmas.Bool.{cases_lt}
 use Rattle.std.proofs.Math.ListN.{get_or-append}
 use Rattle.std.proofs.Math.Seq.{get_or-append_seam}
-use Rattle.word_ring.specs.Lanes.{lane, lanes, whole}
+use Rattle.word_ring.specs.Lanes.{lane, lanes, whole_words}
 
 pub lay_zero : (x : ℕ) → x < 65536 → lanes x 1 ≡ x ∷ []
 unfolding lane
@@ -48,5 +48,5 @@ lanes_at w (suc k) j h = ⊎_elim
     (cases_lt j k)
 
 -- how much of a list fills whole words
-pub whole_length : (xs : List ℕ) → length (whole xs) ≡ length xs / 4 * 4
+pub whole_length : (xs : List ℕ) → length (whole_words xs) ≡ length xs / 4 * 4
 whole_length xs = length-take (length xs / 4 * 4) xs ∙ omega arith

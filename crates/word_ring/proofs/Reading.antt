@@ -7,7 +7,7 @@ use Rattle.std.proofs.lemmas.List.{get_or-take, get_or-drop, drop-append-le}
 use Rattle.std.proofs.Math.ListN.{get_or-append}
 use Rattle.std.proofs.Math.Numerals.{add-one}
 use Rattle.std.proofs.Math.Seq.{get_or-append_right}
-use Rattle.word_ring.specs.Lanes.{lane, lanes, whole}
+use Rattle.word_ring.specs.Lanes.{lane, lanes, whole_words}
 use Rattle.word_ring.proofs.Beginnings.{begins_at}
 use Rattle.word_ring.proofs.LastWord.{long_is}
 use Rattle.word_ring.proofs.Packing.{lanes_length, lanes_at, whole_length}
@@ -18,22 +18,22 @@ drop_lanes word from l le = ap (λ k. drop from (lanes word k)) (add-one l) ∙ 
 
 -- of the words so far and one more, as far as the tail
 abbrev pub shown_of : ℕ → List ℕ → ℕ → List ℕ
-shown_of tail read word = take tail (whole read ++ lanes word 4)
+shown_of tail read word = take tail (whole_words read ++ lanes word 4)
 
 pub shown_length : (tail : ℕ) (read : List ℕ) (word more : ℕ) → more ≤ 4 - length read % 4 → length read + more ≤ tail → length read + more ≤ length (shown_of tail read word)
-shown_length tail read word more few fits = let long = long_is read word 4 in let cut = length-take tail (whole read ++ lanes word 4) in omega arith
+shown_length tail read word more few fits = let long = long_is read word 4 in let cut = length-take tail (whole_words read ++ lanes word 4) in omega arith
 
 pub shown_whole : (tail : ℕ) (read : List ℕ) (word : ℕ) → length read + (4 - length read % 4) < tail → length (shown_of tail read word) ≡ length read + (4 - length read % 4)
-shown_whole tail read word fits = let long = long_is read word 4 in let cut = length-take tail (whole read ++ lanes word 4) in omega arith
+shown_whole tail read word fits = let long = long_is read word 4 in let cut = length-take tail (whole_words read ++ lanes word 4) in omega arith
 
 -- the next lanes of the word follow what was read
 pub shown_next : (tail : ℕ) (read : List ℕ) (word more : ℕ) → IsPrefix read (shown_of tail read word) → more ≤ 4 - length read % 4 → length read + more ≤ tail
     → take (length read + more) (shown_of tail read word) ≡ read ++ drop (length read % 4) (lanes word (length read % 4 + more))
 shown_next tail read word more begins few fits =
     let new : List ℕ = shown_of tail read word in
-    let all : List ℕ = whole read ++ lanes word 4 in
+    let all : List ℕ = whole_words read ++ lanes word 4 in
     let next : List ℕ = drop (length read % 4) (lanes word (length read % 4 + more)) in
-    let front : length (whole read) ≡ length read / 4 * 4 = whole_length read in
+    let front : length (whole_words read) ≡ length read / 4 * 4 = whole_length read in
     let long : length all ≡ length read / 4 * 4 + 4 = long_is read word 4 in
     let enough : length read + more ≤ length new = shown_length tail read word more few fits in
     let cut : length (take (length read + more) new) ≡ length read + more = length-take (length read + more) new ∙ omega arith in
@@ -42,10 +42,10 @@ shown_next tail read word more begins few fits =
     same_number_lists (take (length read + more) new) (read ++ next) (cut ∙ sym both) (λ i lt. get_or-take (length read + more) new i 0 (omega arith) ∙ ⊎_elim
     (λ below. sym (begins_at read new begins i below) ∙ sym (get_or-append read next 0 i below))
     (λ above.
-    let j : i - length (whole read) ≡ length read % 4 + (i - length read) = omega arith in
+    let j : i - length (whole_words read) ≡ length read % 4 + (i - length read) = omega arith in
     get_or-take tail all i 0 (omega arith)
-    ∙ (get_or-append_right (whole read) (lanes word 4) i 0 (omega arith)
-    ∙ (lanes_at word 4 (i - length (whole read)) (omega arith)
+    ∙ (get_or-append_right (whole_words read) (lanes word 4) i 0 (omega arith)
+    ∙ (lanes_at word 4 (i - length (whole_words read)) (omega arith)
     ∙ (ap (lane word) j
     ∙ (sym (lanes_at word (length read % 4 + more) (length read % 4 + (i - length read)) (omega arith))
     ∙ (sym (get_or-drop (length read % 4) (lanes word (length read % 4 + more)) (i - length read) 0)

@@ -7,7 +7,7 @@ use lib.ListN.{get_elem?}
 use Rattle.atomic_table.proofs.Lists.{at_set}
 use Rattle.word_ring.specs.declared.table.View.{View}
 use Rattle.word_ring.specs.Ends.{AreReleased}
-use Rattle.word_ring.specs.Plays.{blank}
+use Rattle.word_ring.specs.Plays.{blank_view}
 use Rattle.word_ring.specs.Rule.{Story, KnowsPuts, KnowsTakes, Knows}
 use Rattle.word_ring.proofs.Beginnings.{begins_through, begins_length}
 
@@ -35,7 +35,7 @@ knows_on n g g' seat v on puts takes k = record {
   takes = λ is. takes (k.takes is);
 }
 
-pub knows_nothing : (n : ℕ) (g : Story) (seat : ℕ) → Knows n g seat blank
+pub knows_nothing : (n : ℕ) (g : Story) (seat : ℕ) → Knows n g seat blank_view
 knows_nothing n g seat = record {
   noted = (g.pushed, refl);
   noted_heads = λ k d lt. absurd (omega arith);
@@ -69,11 +69,11 @@ known_before n g views id other u w each apart at = ⊎_elim (λ hit. absurd (ap
 
 -- one seat took in what another knew, which knows nothing then
 pub each_join : (n : ℕ) (g g' : Story) (views : List View) (id other : ℕ) (w : View) → Each n g views → Knows n g' id w
-    → ((seat : ℕ) (v : View) → seat ≢ id → seat ≢ other → Knows n g seat v → Knows n g' seat v) → Each n g' (set (set views id w) other blank)
+    → ((seat : ℕ) (v : View) → seat ≢ id → seat ≢ other → Knows n g seat v → Knows n g' seat v) → Each n g' (set (set views id w) other blank_view)
 each_join n g g' views id other w each known on seat v at = ⊎_elim
     (λ hit. subst (λ (z : View). Knows n g' seat z) hit.1 (knows_nothing n g' seat))
     (λ miss. ⊎_elim
     (λ hit. subst (λ (z : ℕ × View). Knows n g' z.0 z.1) (λ i. (sym hit.0 i, hit.1 i)) known)
     (λ old. on seat v old.0 miss.0 (each seat v old.1))
     (at_set views id seat w v miss.1))
-    (at_set (set views id w) other seat blank v at)
+    (at_set (set views id w) other seat blank_view v at)

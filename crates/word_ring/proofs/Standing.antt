@@ -4,7 +4,7 @@ use mathlib.Core.List.{IsPrefix}
 use Rattle.atomic_table.proofs.Lists.{one_turn}
 use Rattle.std.proofs.lemmas.Bool.{cases_lt}
 use Rattle.std.proofs.Math.Seq.{get_or-append_right}
-use Rattle.word_ring.specs.Lanes.{lane, lanes, whole}
+use Rattle.word_ring.specs.Lanes.{lane, lanes, whole_words}
 use Rattle.word_ring.specs.Rule.{Stands, place}
 use Rattle.word_ring.proofs.Beginnings.{begins_at}
 use Rattle.word_ring.proofs.Packing.{lanes_length, lanes_at, whole_length}
@@ -26,20 +26,20 @@ stands_above n words head head' written le stands i low high = stands i (omega a
 
 -- the last word is stored, with its first lanes
 pub stands_lanes : (n : ℕ) (words : List ℕ) (head : ℕ) (written : List ℕ) (at word k : ℕ) → at ≡ place n (length written / 4) → at < length words → k ≤ 4
-    → IsPrefix written (whole written ++ lanes word k) → length (whole written ++ lanes word k) ≤ head + n
-    → Stands n words head written → Stands n (set words at word) head (whole written ++ lanes word k)
+    → IsPrefix written (whole_words written ++ lanes word k) → length (whole_words written ++ lanes word k) ≤ head + n
+    → Stands n words head written → Stands n (set words at word) head (whole_words written ++ lanes word k)
 stands_lanes n words head written at word k at_is inside few goes_on fits stands i low high =
-    let front : length (whole written) ≡ length written / 4 * 4 = whole_length written in
-    let long : length (whole written ++ lanes word k) ≡ length written / 4 * 4 + k = length-append (whole written) (lanes word k) ∙ omega (arith, lanes_length word k) in
+    let front : length (whole_words written) ≡ length written / 4 * 4 = whole_length written in
+    let long : length (whole_words written ++ lanes word k) ≡ length written / 4 * 4 + k = length-append (whole_words written) (lanes word k) ∙ omega (arith, lanes_length word k) in
     ⊎_elim
     (λ lt.
     let other : place n (i / 4) ≢ at = λ e. apart n (i / 4) (length written / 4) (omega arith) (omega arith) (e ∙ at_is) in
-    ap (λ z. lane z (i % 4)) (get_or-set_other words at (place n (i / 4)) word 0 other) ∙ (stands i low (omega arith) ∙ begins_at written (whole written ++ lanes word k) goes_on i (omega arith)))
+    ap (λ z. lane z (i % 4)) (get_or-set_other words at (place n (i / 4)) word 0 other) ∙ (stands i low (omega arith) ∙ begins_at written (whole_words written ++ lanes word k) goes_on i (omega arith)))
     (λ ge.
     let group : i / 4 ≡ length written / 4 = omega arith in
     let here : place n (i / 4) ≡ at = ap (place n) group ∙ sym at_is in
     let found : get_or (set words at word) (place n (i / 4)) 0 ≡ word = ap (λ z. get_or (set words at word) z 0) here ∙ get_or-set_same words at word 0 inside in
-    let j : i % 4 ≡ i - length (whole written) = omega arith in
-    let laid = get_or-append_right (whole written) (lanes word k) i 0 (omega arith) ∙ lanes_at word k (i - length (whole written)) (omega arith) in
+    let j : i % 4 ≡ i - length (whole_words written) = omega arith in
+    let laid = get_or-append_right (whole_words written) (lanes word k) i 0 (omega arith) ∙ lanes_at word k (i - length (whole_words written)) (omega arith) in
     ap (λ z. lane z (i % 4)) found ∙ (ap (lane word) j ∙ sym laid))
     (cases_lt i (length written / 4 * 4))

@@ -29,8 +29,10 @@ pub record TakerState (A : Type 0) : Type 0 where
   pub tails : List ℕ
   -- no later tail is lower
   pub floor : ℕ
-  -- the other end is finished, so that each later tail is `floor`
+  -- the other end was taken over
   pub ended : Bool
+  -- then all that was put, the oldest first
+  pub sent : List A
 
 -- What a putter's note tells the taker.
 pub record NoteState (A : Type 0) : Type 0 where

@@ -11,5 +11,5 @@ lanes word zero = []
 lanes word (suc l) = lanes word l ++ lane word l ∷ []
 
 -- the part of a list that fills whole words
-abbrev pub whole : List ℕ → List ℕ
-whole xs = take (length xs / 4 * 4) xs
+abbrev pub whole_words : List ℕ → List ℕ
+whole_words xs = take (length xs / 4 * 4) xs

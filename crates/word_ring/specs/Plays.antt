@@ -4,18 +4,18 @@ use mathlib.Core.List.{IsPrefix}
 use Rattle.atomic_table.specs.Table.{Me, Step}
 use Rattle.word_ring.specs.declared.table.View.{View}
 use Rattle.word_ring.specs.Ends.{IsOneWithin, AreReleased}
-use Rattle.word_ring.specs.Lanes.{lanes, whole}
+use Rattle.word_ring.specs.Lanes.{lanes, whole_words}
 
 abbrev Mine : Type 0
 Mine = Me (Unit {0}) View
 
 -- a seat that knows nothing
-abbrev pub blank : View
-blank = record { puts = false; takes = false; capacity = 0; written = []; pushed = []; heads = []; taken = []; read = []; released = []; tails = []; noted = []; noted_heads = []; head = 0; tail = 0 }
+abbrev pub blank_view : View
+blank_view = record { puts = false; takes = false; capacity = 0; written = []; pushed = []; heads = []; taken = []; read = []; released = []; tails = []; noted = []; noted_heads = []; head = 0; tail = 0 }
 
 -- the seat of both ends of a new ring
 abbrev pub both_ends : ℕ → View
-both_ends n = record blank { puts = true; takes = true; capacity = n }
+both_ends n = record blank_view { puts = true; takes = true; capacity = n }
 
 abbrev pub with_head : View → ℕ → View
 with_head v n = record v { heads = v.heads ++ n ∷ []; head = n }
@@ -23,8 +23,8 @@ with_head v n = record v { heads = v.heads ++ n ∷ []; head = n }
 abbrev pub with_written : View → List ℕ → View
 with_written v xs = record v { written = xs }
 
-abbrev pub all_pushed : View → View
-all_pushed v = record v { pushed = v.written }
+abbrev pub with_all_pushed : View → View
+with_all_pushed v = record v { pushed = v.written }
 
 abbrev pub with_tail : View → ℕ → View
 with_tail v n = record v { tails = v.tails ++ n ∷ []; tail = n }
@@ -41,17 +41,17 @@ LoadsHead s m n m' = (m'.0 ≡ with_head m.0 n) × (m'.1 ≡ m.1) × (m.0.head �
 
 -- the word is stored with so many lanes
 abbrev pub StoresLanes : ℕ → Step (Unit {0}) → Mine → ℕ → Mine → Type 0
-StoresLanes k s m n m' = (m'.0 ≡ with_written m.0 (whole m.0.written ++ lanes n k)) × (m'.1 ≡ m.1)
+StoresLanes k s m n m' = (m'.0 ≡ with_written m.0 (whole_words m.0.written ++ lanes n k)) × (m'.1 ≡ m.1)
 
 abbrev pub StoresTail : Step (Unit {0}) → Mine → ℕ → Mine → Type 0
-StoresTail s m n m' = (m'.0 ≡ all_pushed m.0) × (m'.1 ≡ m.1)
+StoresTail s m n m' = (m'.0 ≡ with_all_pushed m.0) × (m'.1 ≡ m.1)
 
 abbrev pub LoadsTail : Step (Unit {0}) → Mine → ℕ → Mine → Type 0
 LoadsTail s m n m' = (m'.0 ≡ with_tail m.0 n) × (m'.1 ≡ m.1) × (m.0.tail ≤ n) × (length m.0.taken ≤ n) × (n ≤ length m.0.taken + m.0.capacity) × (m.0.puts ≡ true → n ≡ length m.0.pushed)
 
--- of the word all lanes below the known tail are read
+-- of the word all lanes below the known tail are read, and these were pushed
 abbrev pub LoadsLanes : Step (Unit {0}) → Mine → ℕ → Mine → Type 0
-LoadsLanes s m n m' = (m'.0 ≡ with_read m.0 (take m.0.tail (whole m.0.read ++ lanes n 4))) × (m'.1 ≡ m.1) × IsPrefix m.0.read m'.0.read
+LoadsLanes s m n m' = (m'.0 ≡ with_read m.0 (take m.0.tail (whole_words m.0.read ++ lanes n 4))) × (m'.1 ≡ m.1) × IsPrefix m.0.read m'.0.read × (m.0.puts ≡ true → IsPrefix m'.0.read m.0.pushed)
 
 abbrev pub StoresHead : Step (Unit {0}) → Mine → ℕ → Mine → Type 0
 StoresHead s m n m' = (m'.0 ≡ with_taken_to m.0 n) × (m'.1 ≡ m.1)
@@ -73,11 +73,11 @@ taker_of v = record v { puts = false }
 
 -- a note of what the putter knows
 abbrev pub note_of : View → View
-note_of v = record blank { noted = v.pushed; noted_heads = v.heads; tail = length v.pushed }
+note_of v = record blank_view { noted = v.pushed; noted_heads = v.heads; tail = length v.pushed }
 
 -- a note of how much the taker took
 abbrev pub head_note_of : View → View
-head_note_of v = record blank { head = length v.taken }
+head_note_of v = record blank_view { head = length v.taken }
 
 abbrev pub with_note : View → View → View
 with_note v w = record v { noted = w.noted; noted_heads = w.noted_heads; tail = max v.tail w.tail }

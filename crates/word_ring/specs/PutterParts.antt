@@ -7,11 +7,11 @@ use Rattle.word_ring.specs.declared.putter.Note.TheInside.{Inside as NoteInside}
 use Rattle.word_ring.specs.declared.putter.Putter.TheInside.{Inside}
 use Rattle.word_ring.specs.declared.table.View.{View}
 use Rattle.word_ring.specs.Ends.{PutterState, NoteState}
-use Rattle.word_ring.specs.Lanes.{lanes, whole}
+use Rattle.word_ring.specs.Lanes.{lanes, whole_words}
 
 -- the numbers of the words before the last, and those in its lanes
 abbrev pub sent_of : ℕ → ℕ → View → List ℕ
-sent_of sent word v = whole v.written ++ lanes word (sent % 4)
+sent_of sent word v = whole_words v.written ++ lanes word (sent % 4)
 
 abbrev pub putter_state : Inside → PutterState ℕ
 putter_state p = record {

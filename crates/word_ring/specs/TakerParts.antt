@@ -1,6 +1,7 @@
 -- What a taker and its note have, and how contracts see them.
 use Rattle.std.specs.Prelude.{◌≡◌, ℕ, ◌+◌, ◌/◌, ◌≤◌, true, [], length}
 use Rattle.std.specs.Arc.{arc_value}
+use mathlib.Core.List.{IsPrefix}
 use Rattle.word_ring.specs.declared.table.View.{View}
 use Rattle.word_ring.specs.declared.taker.HeadNote.TheInside.{Inside as HeadNoteInside}
 use Rattle.word_ring.specs.declared.taker.Taker.TheInside.{Inside}
@@ -15,6 +16,7 @@ taker_state t = record {
   tails = t.seat.me.0.tails;
   floor = t.seat.me.0.tail;
   ended = t.seat.me.0.puts;
+  sent = t.seat.me.0.pushed;
 }
 
 -- what a taker's seat knows fits its numbers
@@ -25,6 +27,7 @@ pub record IsTaking (capacity taken : ℕ) (v : View) : Type 0 where
   pub read : v.read ≡ v.taken
   -- with the putter taken over, all that was put is known
   pub ended : v.puts ≡ true → v.tail ≡ length v.pushed
+  pub begins : v.puts ≡ true → IsPrefix v.taken v.pushed
 
 pub record IsTaker (t : Inside) : Type 0 where
   pub table : t.seat.table_id ≡ (arc_value t.board).shared.table_id

@@ -12,7 +12,7 @@ mod steps;
 mod table;
 mod taker;
 
-pub use new::ring;
+pub use new::{names_tell_rings, ring};
 pub use putter::{Note, Putter};
 pub use taker::{HeadNote, Taker};
 

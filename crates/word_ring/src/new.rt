@@ -12,7 +12,7 @@ use tty_base::NoMemory;
 pub fn ring(alloc: Global, n: usize) -> Result<(Putter, Taker), NoMemory>
     requires { (0 < n) × (n ≤ 65536) }
     ensures putter { IfOk result (λ e. e.0 ≡ record { ring = e.1.ring; capacity = n; sent = []; pushed = []; heads = []; floor = 0 }) }
-    ensures taker { IfOk result (λ e. e.1 ≡ record { ring = e.1.ring; capacity = n; taken = []; released = []; tails = []; floor = 0; ended = false }) }
+    ensures taker { IfOk result (λ e. e.1 ≡ record { ring = e.1.ring; capacity = n; taken = []; released = []; tails = []; floor = 0; ended = false; sent = [] }) }
 {
     let capacity = n as u64;
     let words = vec![in alloc; 0u64; n / 4 + 4]?;
@@ -35,3 +35,10 @@ pub fn ring(alloc: Global, n: usize) -> Result<(Putter, Taker), NoMemory>
     };
     Ok((putter, taker))
 }
+
+ghost use Rattle.word_ring.specs.Names.{NamesTellRings};
+
+/// Rings of one name are one ring.
+pub fn names_tell_rings()
+    ensures { NamesTellRings }
+{}

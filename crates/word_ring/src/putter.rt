@@ -10,7 +10,7 @@ use crate::taker::HeadNote;
 use std::alloc::Global;
 use std::marker::Model;
 use std::sync::Arc;
-use tty_base::Full;
+use tty_base::{Full, Moves};
 
 /// The end that puts numbers in.
 #[derive(Drop)]
@@ -54,6 +54,10 @@ impl Model for Note {
 
     ghost invariant = { IsNote };
 }
+
+impl Moves for Putter {}
+
+impl Moves for Note {}
 
 impl Putter {
     /// How many numbers were put.

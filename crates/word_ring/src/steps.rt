@@ -2,7 +2,7 @@
 ghost use Rattle.std.specs.Prelude.{◌≡◌, ℕ, ◌+◌, ◌-◌, ◌/◌, ◌^◌, ◌<◌, ◌≤◌, true, List, ◌++◌, length, take};
 ghost use mathlib.Core.List.{IsPrefix};
 ghost use Rattle.arrayvec.specs.ArrayVec.{array_vec_len};
-ghost use Rattle.word_ring.specs.Lanes.{lanes, whole};
+ghost use Rattle.word_ring.specs.Lanes.{lanes, whole_words};
 ghost use Rattle.word_ring.specs.Plays.{with_written, with_read};
 ghost use Rattle.word_ring.specs.Rule.{place};
 
@@ -25,10 +25,10 @@ pub(crate) fn store_lanes(steps: &Steps, seat: &mut Place, at: usize, word: u64,
     requires words { (1 < at) × (at < steps.now.table_id.words) }
     requires at { at ≡ place seat.old.me.0.capacity (length seat.old.me.0.written / 4) }
     requires count { count ≤ 4 }
-    requires begins { IsPrefix seat.old.me.0.written (whole seat.old.me.0.written ++ lanes word count) }
-    requires fits { length (whole seat.old.me.0.written ++ lanes word count) ≤ seat.old.me.0.head + seat.old.me.0.capacity }
+    requires begins { IsPrefix seat.old.me.0.written (whole_words seat.old.me.0.written ++ lanes word count) }
+    requires fits { length (whole_words seat.old.me.0.written ++ lanes word count) ≤ seat.old.me.0.head + seat.old.me.0.capacity }
     ensures same { (seat.new.table_id ≡ seat.old.table_id) × (seat.new.id ≡ seat.old.id) × (seat.new.me.1 ≡ seat.old.me.1) }
-    ensures stored { seat.new.me.0 ≡ with_written seat.old.me.0 (whole seat.old.me.0.written ++ lanes word count) }
+    ensures stored { seat.new.me.0 ≡ with_written seat.old.me.0 (whole_words seat.old.me.0.written ++ lanes word count) }
 {
     match count {
         0 => {}
@@ -52,10 +52,12 @@ pub(crate) fn read(
     requires words { (steps.now.table_id.words ≡ capacity / 4 + 4) × (capacity ≤ 65536) × (seat.old.me.0.capacity ≡ capacity) }
     requires start { (from ≡ length seat.old.me.0.taken) × (seat.old.me.0.read ≡ seat.old.me.0.taken) }
     requires shown { from + count ≤ seat.old.me.0.tail }
+    requires ended { seat.old.me.0.puts ≡ true → IsPrefix seat.old.me.0.read seat.old.me.0.pushed }
     requires range { from + count < 2 ^ 64 }
     requires room { array_vec_len out.old + count ≤ 64 }
     ensures same { (seat.new.table_id ≡ seat.old.table_id) × (seat.new.id ≡ seat.old.id) × (seat.new.me.1 ≡ seat.old.me.1) × (seat.new.me.0 ≡ with_read seat.old.me.0 seat.new.me.0.read) }
     ensures reads { (xs : List ℕ) × (length xs ≡ count) × (out.new.items ≡ out.old.items ++ xs) × (take (from + count) seat.new.me.0.read ≡ seat.old.me.0.taken ++ xs) × (from + count ≤ length seat.new.me.0.read) }
+    ensures ended { seat.old.me.0.puts ≡ true → IsPrefix seat.new.me.0.read seat.old.me.0.pushed }
 {
     let mut done = 0;
     while done < count {

@@ -1,7 +1,7 @@
 //! The table that both ends of a ring share: its words, what each seat knows, and what a step tells.
 //! Word 0 is the head, how many numbers were taken; word 1 the tail, how many were pushed; the
 //! words from 2 on have the numbers, four to a word, each at its count.
-ghost use Rattle.word_ring.specs.Plays.{LoadsHead, StoresLanes, StoresTail, LoadsTail, LoadsLanes, StoresHead, Compares, blank, putter_of, taker_of, note_of, head_note_of, with_note, with_head_note, with_putter};
+ghost use Rattle.word_ring.specs.Plays.{LoadsHead, StoresLanes, StoresTail, LoadsTail, LoadsLanes, StoresHead, Compares, blank_view, putter_of, taker_of, note_of, head_note_of, with_note, with_head_note, with_putter};
 
 use atomic_table::{Join, Play, Seat, Shared, Split, Table, TableRule};
 use std::alloc::Global;
@@ -123,7 +123,7 @@ impl Split<View> for Noted {
 impl Join<View> for Noted {
     ghost both = { with_note };
 
-    ghost spent = { blank };
+    ghost spent = { blank_view };
 }
 
 /// A note of the taker.
@@ -138,7 +138,7 @@ impl Split<View> for HeadNoted {
 impl Join<View> for HeadNoted {
     ghost both = { with_head_note };
 
-    ghost spent = { blank };
+    ghost spent = { blank_view };
 }
 
 /// The taker takes over the putter's seat.
@@ -147,5 +147,5 @@ pub(crate) struct Ended;
 impl Join<View> for Ended {
     ghost both = { with_putter };
 
-    ghost spent = { blank };
+    ghost spent = { blank_view };
 }

@@ -13,6 +13,7 @@ use arrayvec::ArrayVec;
 use std::alloc::Global;
 use std::marker::Model;
 use std::sync::Arc;
+use tty_base::Moves;
 
 /// The end that takes numbers out.
 #[derive(Drop)]
@@ -54,10 +55,15 @@ impl Model for HeadNote {
     ghost invariant = { IsHeadNote };
 }
 
+impl Moves for Taker {}
+
+impl Moves for HeadNote {}
+
 impl Taker {
     /// How many numbers were taken.
     pub fn taken(&self) -> u64
-        ensures { result ≡ length self.now.taken }
+        ensures count { result ≡ length self.now.taken }
+        ensures begins { self.now.ended ≡ true → IsPrefix self.now.taken self.now.sent }
     {
         self.taken
     }
@@ -92,7 +98,8 @@ impl Taker {
         ensures count { length self.old.taken + result ≡ self.new.floor }
         ensures most { result ≤ self.old.capacity }
         ensures rises { self.old.floor ≤ self.new.floor }
-        ensures ended { self.old.ended ≡ true → self.new.floor ≡ self.old.floor }
+        ensures ended { self.old.ended ≡ true → self.new.floor ≡ length self.old.sent }
+        ensures begins { self.old.ended ≡ true → IsPrefix self.old.taken self.old.sent }
     {
         let tail = self.board.shared.load::<LoadTail>(&mut self.seat, TAIL);
         (tail - self.taken) as usize
@@ -105,7 +112,9 @@ impl Taker {
         ensures moves { (xs : List ℕ) × (length xs ≡ result) × (out.new.items ≡ out.old.items ++ xs) × (self.new ≡ with_taken (with_shown self.old self.new.floor) xs) }
         ensures count { (length self.old.taken ≤ self.new.floor) × (result ≡ min most (self.new.floor - length self.old.taken)) }
         ensures rises { self.old.floor ≤ self.new.floor }
-        ensures ended { self.old.ended ≡ true → self.new.floor ≡ self.old.floor }
+        ensures most { self.new.floor ≤ length self.old.taken + self.old.capacity }
+        ensures ended { self.old.ended ≡ true → self.new.floor ≡ length self.old.sent }
+        ensures begins { self.old.ended ≡ true → IsPrefix self.new.taken self.old.sent }
     {
         let tail = self.board.shared.load::<LoadTail>(&mut self.seat, TAIL);
         let count = (tail - self.taken).min(most as u64);
@@ -127,11 +136,12 @@ impl Taker {
         count as usize
     }
 
-    /// Takes over the putter, which first pushes, and answers how many numbers were put.
+    /// Takes over the putter, which first pushes, and answers how many numbers were put. From then on
+    /// each tail counts these.
     pub fn finish(&mut self, putter: Putter) -> u64
         requires { putter.ring ≡ self.old.ring }
         ensures sent { result ≡ length putter.sent }
-        ensures same { self.new ≡ record self.old { floor = length putter.sent; ended = true } }
+        ensures same { self.new ≡ record self.old { floor = length putter.sent; ended = true; sent = putter.sent } }
         ensures compared { IsPrefix self.old.taken putter.sent }
         ensures heads { AreReleased self.old.released putter.heads }
         ensures floor { self.old.floor ≤ length putter.sent }

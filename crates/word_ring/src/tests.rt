@@ -92,9 +92,6 @@ fn two_threads_pass_numbers_in_order(rt: HostRuntime) -> Result<(), Fail> {
     Ok(())
 }
 
-// Takes what may move to another thread.
-fn moves<T: Send>(_item: &T) {}
-
 #[test]
 fn ring_of_two(rt: HostRuntime) -> Result<(), Fail> {
     let (mut putter, mut taker) = ring(rt.alloc(), 2)?;
@@ -119,11 +116,9 @@ fn notes_and_the_end(rt: HostRuntime) -> Result<(), Fail> {
     assert!(rt; putter.put(1).is_ok());
     assert!(rt; putter.put(2).is_ok());
     let note = putter.note();
-    moves(&note);
     taker.meet(note);
     assert_eq!(rt; taker.take(1, &mut out), 1);
     let head = taker.note();
-    moves(&head);
     putter.meet(head);
     assert_eq!(rt; (putter.sent(), taker.taken()), (2, 1));
     assert_eq!(rt; taker.finish(putter), 2);

@@ -1,10 +1,10 @@
 use Rattle.std.proofs.Common.{◌≡◌, ◌+◌, ◌*◌, ◌-◌, ◌≤◌, length, take, drop}
-use Rattle.n_tty.specs.Editing.{erased_echo}
+use Rattle.n_tty.specs.Editing.{echo_of_gone}
 use Rattle.n_tty.proofs.erasing.erased_len.Given as goal
 
 abbrev pub invariant-loop-i : goal.invariant-loop-i
 invariant-loop-i l = record {
-  len : l.count + length (erased_echo l.modes l.kind l.start (take l.i l.edit) (drop l.i l.edit))
-      ≡ length (erased_echo l.modes l.kind l.start (take l.from l.edit) (drop l.from l.edit));
+  len : l.count + length (echo_of_gone l.modes l.kind l.start (take l.i l.edit) (drop l.i l.edit))
+      ≡ length (echo_of_gone l.modes l.kind l.start (take l.from l.edit) (drop l.from l.edit));
   most : l.count ≤ 8 * (l.i - l.from);
 }

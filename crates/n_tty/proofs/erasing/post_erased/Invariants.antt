@@ -1,6 +1,6 @@
 use Rattle.std.proofs.Common.{◌≡◌, ◌+◌, ◌-◌, ◌*◌, ◌≤◌, true, length, take, drop}
-use Rattle.flow_control.specs.Output.{has_room, sent}
-use Rattle.n_tty.specs.Editing.{erased_echo}
+use Rattle.flow_control.specs.Output.{has_room, after_send}
+use Rattle.n_tty.specs.Editing.{echo_of_gone}
 use Rattle.n_tty.specs.Posting.{column_past_text}
 use Rattle.n_tty.proofs.erasing.post_erased.Given as goal
 
@@ -9,13 +9,12 @@ abbrev pub invariant-loop-i : goal.invariant-loop-i
 invariant-loop-i l = record {
   from : l.from ≤ l.i;
   within : l.i ≤ length l.edit;
-  column : column_past_text l.modes l.out (erased_echo l.modes l.kind l.start (take l.from l.edit) (drop l.from (take l.i l.edit)))
-      ≡ column_past_text l.modes l.fn.out (erased_echo l.modes l.kind l.start (take l.from l.edit) (drop l.from l.edit));
-  wire : sent l.wire (erased_echo l.modes l.kind l.start (take l.from l.edit) (drop l.from (take l.i l.edit)))
-      ≡ sent l.fn.wire (erased_echo l.modes l.kind l.start (take l.from l.edit) (drop l.from l.edit));
-  room : has_room l.wire (erased_echo l.modes l.kind l.start (take l.from l.edit) (drop l.from (take l.i l.edit))) ≡ true;
+  column : column_past_text l.modes l.out (echo_of_gone l.modes l.kind l.start (take l.from l.edit) (drop l.from (take l.i l.edit)))
+      ≡ column_past_text l.modes l.fn.out (echo_of_gone l.modes l.kind l.start (take l.from l.edit) (drop l.from l.edit));
+  wire : after_send l.wire (echo_of_gone l.modes l.kind l.start (take l.from l.edit) (drop l.from (take l.i l.edit)))
+      ≡ after_send l.fn.wire (echo_of_gone l.modes l.kind l.start (take l.from l.edit) (drop l.from l.edit));
+  room : has_room l.wire (echo_of_gone l.modes l.kind l.start (take l.from l.edit) (drop l.from (take l.i l.edit))) ≡ true;
   spare : 8 * (l.i - l.from) ≤ l.wire.spare;
-  spent : l.fn.wire.spare ≤ l.wire.spare + 8 * (length l.edit - l.i);
   bound : l.out ≤ l.fn.out + 64 * (length l.edit - l.i);
 }
 

@@ -1,5 +1,5 @@
 use Rattle.std.proofs.Common.{is_some, ap, ◌∙◌, subst, zero-add}
-use Rattle.port_cell.specs.Seats.{AllFresh}
+use Rattle.port_cell.specs.Seats.{AllNew}
 use Rattle.port_cell.proofs.Ends.{fresh_front}
 use Rattle.port_cell.proofs.tests.last.Goals as goal
 
@@ -7,7 +7,7 @@ pub returns-clause-seat : goal.returns-clause-seat
 returns-clause-seat c =
     let z = c.args.cell.now.table.shared.table_id in
     let log = c.args.cell.now.table.shared.key.value.value in
-    let fresh = (fresh_front z log.name log.entries.items 0 c.pop.new.self.items c.in-Some.seat (subst (λ ss. AllFresh z log.name log.entries.items 0 ss) c.in-Some.ensures.items c.requires.0)).1 in
+    let fresh = (fresh_front z log.name log.entries.items 0 c.pop.new.self.items c.in-Some.seat (subst (λ ss. AllNew z log.name log.entries.items 0 ss) c.in-Some.ensures.items c.requires.0)).1 in
     let me = fresh.1.1 in (
       record {
         table = fresh.0;
@@ -23,4 +23,4 @@ pub returns-clause-others : goal.returns-clause-others
 returns-clause-others c =
     let z = c.args.cell.now.table.shared.table_id in
     let log = c.args.cell.now.table.shared.key.value.value in
-    (fresh_front z log.name log.entries.items 0 c.pop.new.self.items c.in-Some.seat (subst (λ ss. AllFresh z log.name log.entries.items 0 ss) c.in-Some.ensures.items c.requires.0)).0
+    (fresh_front z log.name log.entries.items 0 c.pop.new.self.items c.in-Some.seat (subst (λ ss. AllNew z log.name log.entries.items 0 ss) c.in-Some.ensures.items c.requires.0)).0

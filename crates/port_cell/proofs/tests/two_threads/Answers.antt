@@ -1,4 +1,4 @@
-use Rattle.std.proofs.Common.{◌≡◌, [], ◌∷◌, rules, sym, subst, arith}
+use Rattle.std.proofs.Common.{◌≡◌, [], ◌∷◌, rules, sym, subst}
 use Rattle.port_cell.specs.Seats.{HasAll}
 use Rattle.port_cell.proofs.Ends.{has_two}
 use Rattle.port_cell.proofs.tests.two_threads.Goals as goal
@@ -9,4 +9,4 @@ close-log-requires-clause-all g c =
     let a = c.both-first.result.0 in
     let b = c.both-first.result.1 in
     let items : c.in_ok-all.all.items ≡ a ∷ b ∷ [] = first_of (cc, search rules) in
-    (omega arith, subst (λ n. HasAll n c.in_ok-all.all.items) (sym seats) (has_two c.in_ok-all.all.items a b items c.both-first.ensures.first.1 c.both-first.ensures.second.1))
+    subst (λ n. HasAll n c.in_ok-all.all.items) (sym seats) (has_two c.in_ok-all.all.items a b items c.both-first.ensures.first.1 c.both-first.ensures.second.1)

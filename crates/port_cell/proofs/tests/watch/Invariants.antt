@@ -1,5 +1,6 @@
-use Rattle.port_cell.specs.Seats.{IsDone}
+use Rattle.port_cell.specs.Seats.{IsFree}
+use Rattle.port_cell.specs.Cells.{identity_of}
 use Rattle.port_cell.proofs.tests.watch.Given as goal
 
 abbrev pub invariant-loop : goal.invariant-loop
-invariant-loop g l = IsDone l.cell.table.shared.table_id l.seat
+invariant-loop g l = IsFree (identity_of l.cell) l.seat

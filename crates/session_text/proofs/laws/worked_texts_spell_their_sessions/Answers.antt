@@ -1,32 +1,34 @@
-use Rattle.std.proofs.Common.{◌≡◌, Some, None, refl, sym, ◌∙◌}
-use Rattle.std.specs.Prelude.{option_map}
+use Rattle.std.proofs.Common.{◌≡◌, Ok, refl}
 use Rattle.hex.specs.Hex.{decode_pairs}
-use Rattle.tty_calls.specs.Sessions.{PlainSession}
-use Rattle.session_text.specs.Grammar.{Spells}
-use Rattle.session_text.specs.Items.{items_of}
-use Rattle.session_text.specs.Drafts.{session_in, session_with}
-use Rattle.session_text.specs.Rows.{three_bytes_text, three_bytes_session, empty_text, empty_session, cut_text}
-use Rattle.session_text.proofs.Spelled.{given_is_spelled, spelled_is_read}
+use Rattle.tty_modes.specs.Reading.{word_of}
+use Rattle.session_text.specs.Reading.{session_in}
+use Rattle.session_text.specs.Rows.{three_bytes_text, three_bytes_session, empty_text, empty_session, items_text, items_session, calls_text, calls_session}
+use Rattle.session_text.proofs.Spelled.{read_spells}
 use Rattle.session_text.proofs.laws.worked_texts_spell_their_sessions.Goals as goal
 
-three_bytes_read : option_map session_with (session_in (items_of three_bytes_text)) ≡ Some three_bytes_session
-unfolding decode_pairs
+three_bytes_read : session_in three_bytes_text ≡ Ok three_bytes_session
+unfolding decode_pairs word_of
 three_bytes_read = refl
 
-empty_read : option_map session_with (session_in (items_of empty_text)) ≡ Some empty_session
+empty_read : session_in empty_text ≡ Ok empty_session
 empty_read = refl
 
-cut_refused : option_map session_with (session_in (items_of cut_text)) ≡ None
-cut_refused = refl
+items_read : session_in items_text ≡ Ok items_session
+unfolding decode_pairs
+items_read = refl
 
-cut_spells_none : (session : PlainSession) → Spells cut_text session → ⊥
-cut_spells_none session h = let read = spelled_is_read cut_text session h in cc (sym cut_refused ∙ read)
+calls_read : session_in calls_text ≡ Ok calls_session
+unfolding decode_pairs word_of
+calls_read = refl
 
 pub returns-clause-three_bytes : goal.returns-clause-three_bytes
-returns-clause-three_bytes c = given_is_spelled three_bytes_text three_bytes_session three_bytes_read
+returns-clause-three_bytes c = read_spells three_bytes_text three_bytes_session three_bytes_read
 
 pub returns-clause-empty : goal.returns-clause-empty
-returns-clause-empty c = given_is_spelled empty_text empty_session empty_read
+returns-clause-empty c = read_spells empty_text empty_session empty_read
 
-pub returns-clause-cut : goal.returns-clause-cut
-returns-clause-cut c = cut_spells_none
+pub returns-clause-items : goal.returns-clause-items
+returns-clause-items c = read_spells items_text items_session items_read
+
+pub returns-clause-calls : goal.returns-clause-calls
+returns-clause-calls c = read_spells calls_text calls_session calls_read

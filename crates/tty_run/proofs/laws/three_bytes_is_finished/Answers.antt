@@ -1,4 +1,4 @@
-use Rattle.tty_terminal.proofs.ThreeBytes.{is_a_run}
+use Rattle.first_terminal.proofs.ThreeBytes.{is_a_run}
 use Rattle.tty_run.proofs.Finished.{three_bytes_on_the_way, three_bytes_finished}
 use Rattle.tty_run.proofs.laws.three_bytes_is_finished.Goals as goal
 

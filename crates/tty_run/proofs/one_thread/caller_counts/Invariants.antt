@@ -1,5 +1,5 @@
 use Rattle.std.proofs.Common.{◌≡◌, length, map, take}
-use Rattle.tty_calls.specs.Sessions.{phase_of, scripts_on}
+use Rattle.first_calls.specs.Sessions.{phase_of, scripts_on}
 use Rattle.tty_run.proofs.one_thread.caller_counts.Given as goal
 
 abbrev pub invariant-loop-phase : goal.invariant-loop-phase

@@ -1,6 +1,6 @@
 use Rattle.std.proofs.Common.{subst}
-use Rattle.port_core.specs.declared.ports.Flushed.{Flushed}
-use Rattle.port_core.specs.Tries.{Flushes}
+use Rattle.first_port.specs.declared.ports.Flushed.{Flushed}
+use Rattle.first_port.specs.Tries.{Flushes}
 use Rattle.tty_run.proofs.Flushing.{flushing_begins, flushing_goes_on}
 use Rattle.tty_run.proofs.one_thread.flush_run.Goals as goal
 

@@ -1,7 +1,7 @@
 use Rattle.std.proofs.Common.{◌≡◌, ◌∙◌, List, length, map, ap, refl, subst, arith}
-use Rattle.tty_calls.specs.declared.sessions.Phase.{Phase}
-use Rattle.tty_calls.specs.declared.answers.Denied.{Denied}
-use Rattle.tty_calls.specs.Sessions.{session_of, phase_of, scripts_on, counts_on}
+use Rattle.first_calls.specs.declared.sessions.Phase.{Phase}
+use Rattle.first_calls.specs.declared.answers.Denied.{Denied}
+use Rattle.first_calls.specs.Sessions.{session_of, phase_of, scripts_on, counts_on}
 use Rattle.tty_run.specs.Playing.{texts, StopsAt}
 use Rattle.tty_run.proofs.OnePhase.{starts, plays_full, plays_whole}
 use Rattle.tty_run.proofs.Phases.{rests_at}

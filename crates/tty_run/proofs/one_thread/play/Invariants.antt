@@ -1,4 +1,4 @@
-use Rattle.tty_calls.specs.Sessions.{session_of}
+use Rattle.first_calls.specs.Sessions.{session_of}
 use Rattle.tty_run.proofs.one_thread.play.Given as goal
 
 abbrev pub ghost-play_phases : goal.ghost-play_phases

@@ -1,5 +1,5 @@
 use Rattle.std.proofs.Common.{◌∙◌}
-use Rattle.tty_calls.specs.Plain.{call_of}
+use Rattle.first_calls.specs.Plain.{call_of}
 use Rattle.tty_run.proofs.Stages.{ready_after, settled, then_called, no_wait, answer_added, attempt_keeps}
 use Rattle.tty_run.proofs.one_thread.play_call.Goals as goal
 

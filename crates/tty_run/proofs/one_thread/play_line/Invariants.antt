@@ -1,6 +1,6 @@
 use Rattle.std.proofs.Common.{◌≡◌, ◌<◌, ◌++◌, take}
 use Rattle.std.specs.Prelude.{flat_map}
-use Rattle.uart_line.specs.Received.{arrival}
+use Rattle.tty_base.specs.Lines.{arrival}
 use Rattle.tty_run.specs.Stages.{Rests, Stays}
 use Rattle.tty_run.specs.Playing.{AddsFlushes, Counted}
 use Rattle.tty_run.proofs.one_thread.play_line.Given as goal

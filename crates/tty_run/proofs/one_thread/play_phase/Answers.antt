@@ -1,6 +1,6 @@
 use Rattle.std.proofs.Common.{◌≡◌, ◌+◌, ℕ, length, sym, ◌∙◌, ap, subst, arith}
 use Rattle.std.specs.Prelude.{slice_index_or}
-use Rattle.uart_line.specs.Received.{received}
+use Rattle.uart_line.specs.Received.{received_list}
 use Rattle.tty_run.specs.Legal.{caller_part, script_of_first}
 use Rattle.tty_run.specs.Playing.{LineOver, CastIs, texts}
 use Rattle.tty_run.proofs.Phases.{casts_after_line}
@@ -46,7 +46,7 @@ close_phase-requires g c =
     let came = given_now g.plain k c.args.port.now.given c.play_line.new.port.given c.as_slice-steps.result.now phase.within phase.fits before.given c.in_ok-next.ensures.given line in
     let over = subst (λ (n : ℕ). LineOver g.plain c.play_callers.new.port (caller_part 0 g.plain n)) (sym called.phase) c.in_ok-next-2.ensures.over in
     let callers = callers_over g.plain c.play_callers.new.port k 0 c.as_slice-2.result.now phase.within over.follows same (scripts_are g.plain k c.args.phase.now c.as_slice-2.result.now phase c.as_slice-2.ensures) called.over in
-    let received_now = sent_now g.plain c.play_callers.new.port.terminal.phase c.play_callers.new.port.given (c.in_ok-next-2.ensures.given ∙ came ∙ ap (λ n. received (script_of_first 0 g.plain (n + 1))) (sym same)) in
+    let received_now = sent_now g.plain c.play_callers.new.port.terminal.phase c.play_callers.new.port.given (c.in_ok-next-2.ensures.given ∙ came ∙ ap (λ n. received_list (script_of_first 0 g.plain (n + 1))) (sym same)) in
     (c.in_ok-next-2.ensures.ok.0, (called.clock ∙ lined.clock ∙ before.begins.clock, (called.line ∙ lined.line, (called.sends lined.sent, (callers, (over, (received_now, (ticks_none g.plain c.play_callers.new.port.terminal.phase c.args.phase.now phase_now, phase_now.within))))))))
 
 pub returns-clause-before : goal.returns-clause-before

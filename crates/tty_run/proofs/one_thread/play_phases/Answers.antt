@@ -1,6 +1,6 @@
 use Rattle.std.proofs.Common.{◌≡◌, length, ap, arith}
 use Rattle.tty_run.specs.Playing.{texts}
-use Rattle.tty_calls.specs.Sessions.{PlainSession}
+use Rattle.first_calls.specs.Sessions.{PlainSession}
 use Rattle.tty_run.proofs.Sizes.{length_of_phases}
 use Rattle.tty_run.proofs.OnePhase.{played_all}
 use Rattle.tty_run.proofs.one_thread.play_phases.Goals as goal

@@ -1,7 +1,7 @@
 use Rattle.std.proofs.Common.{◌≡◌, ◌+◌, ◌<◌, List, length, map, sym, ◌∙◌, ap, arith}
-use Rattle.tty_calls.specs.Plain.{call_of}
-use Rattle.tty_calls.specs.Sessions.{script_of}
-use Rattle.tty_calls.specs.declared.calls.Call.{Call}
+use Rattle.first_calls.specs.Plain.{call_of}
+use Rattle.first_calls.specs.Sessions.{script_of}
+use Rattle.first_calls.specs.declared.calls.Call.{Call}
 use Rattle.tty_run.specs.Legal.{first_step}
 use Rattle.tty_run.specs.Playing.{texts}
 use Rattle.tty_run.proofs.Phases.{casts_ready}

@@ -1,5 +1,5 @@
 use Rattle.std.proofs.Common.{◌≡◌, ◌++◌, ◌∷◌, [], ap, ◌∙◌}
-use Rattle.tty_calls.specs.Sessions.{session_of}
+use Rattle.first_calls.specs.Sessions.{session_of}
 use Rattle.tty_run.proofs.Outcomes.{ending_works}
 use Rattle.tty_run.proofs.top.run_session.Goals as goal
 

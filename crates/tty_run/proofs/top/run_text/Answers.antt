@@ -1,6 +1,6 @@
 use Rattle.std.proofs.Common.{refl, sym, ap, subst, ◌∙◌, Err}
-use Rattle.tty_calls.specs.Sessions.{session_of}
-use Rattle.session_text.proofs.Fitting.{spelled_fits}
+use Rattle.first_calls.specs.Sessions.{session_of}
+use Rattle.first_text.proofs.Fitting.{spelled_fits}
 use Rattle.tty_run.specs.declared.top.Work.{Work}
 use Rattle.tty_run.specs.Works.{IsTextWork}
 use Rattle.tty_run.proofs.top.run_text.Goals as goal

@@ -1,5 +1,5 @@
 use Rattle.std.proofs.Common.{ap, sym, subst, ◌∙◌, List}
-use Rattle.tty_calls.specs.declared.journals.PortRun.{PortRun}
+use Rattle.first_calls.specs.declared.journals.PortRun.{PortRun}
 use Rattle.std.proofs.lemmas.Bool.{false≢true}
 use Rattle.tty_run.specs.declared.top.Ending.{Ending}
 use Rattle.tty_run.specs.Endings.{texts_of, text_of}

@@ -1,4 +1,4 @@
-use Rattle.std.proofs.Common.{◌≡◌, List, ◌++◌, length}
+use Rattle.std.proofs.Common.{◌≡◌, ◌+◌, ◌≤◌, List, ◌++◌, length}
 use Rattle.std.specs.List.Sorted.{IsNonDecreasing}
 use Rattle.tty_base.specs.declared.characters.Flagged.{Flagged}
 use Rattle.uart_line.specs.Handler.{with_mark, Serves}
@@ -14,6 +14,8 @@ invariant-loop-reading g l = record {
   window : l.self.window ≡ l.initial.self.window;
   lost : l.self.report.fifo_lost ≡ l.initial.self.report.fifo_lost;
   capacity : g.P.Put.capacity l.put ≡ g.P.Put.capacity l.initial.put;
+  name : g.P.Put.name l.put ≡ g.P.Put.name l.initial.put;
+  room : l.self.most ≤ g.P.Put.room l.put + l.self.handed;
   rise : IsNonDecreasing (g.P.Put.heads l.initial.put) → IsNonDecreasing (g.P.Put.heads l.put);
 }
 

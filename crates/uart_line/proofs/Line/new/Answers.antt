@@ -1,10 +1,10 @@
 use Rattle.std.proofs.Common.{◌≡◌, [], length, refl, ap, ◌∙◌, arith}
-use Rattle.uart_regs.specs.Registers.{Registers, set_up}
-use Rattle.uart_line.specs.Received.{is_masked, trigger_of, idle_of, received, received_after, lost, lost_after, waiting, window, is_cut}
+use Rattle.uart_regs.specs.Registers.{Registers, initial_registers}
+use Rattle.uart_line.specs.Received.{is_masked, trigger_of, idle_of, received_list, received_list_after, lost_count, lost_count_after, waiting_list, window, is_cut}
 use Rattle.uart_line.specs.LineState.{IsWaiting}
 use Rattle.uart_line.proofs.Line.new.Goals as goal
 
-waits_for_none : (r : Registers) → r ≡ set_up → IsWaiting r [] []
+waits_for_none : (r : Registers) → r ≡ initial_registers → IsWaiting r [] []
 unfolding trigger_of idle_of
 waits_for_none r e = rw e (record {
   fifo = refl;
@@ -16,7 +16,7 @@ waits_for_none r e = rw e (record {
 })
 
 pub returns-clause-done : goal.returns-clause-done
-unfolding is_masked trigger_of idle_of received received_after lost lost_after waiting window is_cut
+unfolding is_masked trigger_of idle_of received_list received_list_after lost_count lost_count_after waiting_list window is_cut
 returns-clause-done c = record {
   stands = record { registers = waits_for_none c.new.result c.new.ensures; masked = refl; window = refl };
   arrived = refl;

@@ -22,6 +22,7 @@ loop-done-init c =
       bound = omega arith;
       reads = ([], refl, sym (append-nil c.args.out.now.items), ap (λ (k : ℕ). take k v.read) all ∙ (take-length v.read ∙ (start.1 ∙ sym (append-nil v.taken))), omega arith);
       len = omega arith;
+      ended = c.requires.ended;
       next = λ _. omega arith;
     }
 
@@ -81,6 +82,7 @@ loop-done-preserved c =
         omega arith,
       );
       len = (let added = c.add_lanes.ensures.len in let before = c.loop-done.invariant.len in omega arith);
+      ended = λ is. subst (λ (z : List ℕ). IsPrefix u.read z) (ap (λ w. w.pushed) same.3) (c.load-word.ensures.2.3 (ap (λ w. w.puts) same.3 ∙ is));
       next = λ lt. (let whole = shown_whole v.tail v.read c.load-word.result (omega arith) in omega arith);
     }
 

@@ -1,6 +1,6 @@
 use Rattle.std.proofs.Common.{rules, arith, subst, ◌≡◌, ℕ, ◌≤◌, ◌+◌, ◌++◌, length}
 use mathlib.Core.List.{IsPrefix}
-use Rattle.word_ring.specs.Lanes.{lanes, whole}
+use Rattle.word_ring.specs.Lanes.{lanes, whole_words}
 use Rattle.word_ring.proofs.Keeps.{stores_lanes}
 use Rattle.word_ring.proofs.steps.store_lanes.Goals as goal
 
@@ -9,8 +9,8 @@ store-requires c = let v = c.args.seat.now.me.0 in (
   search rules,
   search rules,
   stores_lanes _ _ _ _ _ c.args.word 1 c.requires.seat.1 c.requires.at c.requires.words.0 (omega arith)
-      (subst (λ (k : ℕ). IsPrefix v.written (whole v.written ++ lanes c.args.word k)) c.in-1.is c.requires.begins)
-      (subst (λ (k : ℕ). length (whole v.written ++ lanes c.args.word k) ≤ v.head + v.capacity) c.in-1.is c.requires.fits),
+      (subst (λ (k : ℕ). IsPrefix v.written (whole_words v.written ++ lanes c.args.word k)) c.in-1.is c.requires.begins)
+      (subst (λ (k : ℕ). length (whole_words v.written ++ lanes c.args.word k) ≤ v.head + v.capacity) c.in-1.is c.requires.fits),
 )
 
 pub store-requires-in-2 : goal.store-requires-in-2
@@ -18,8 +18,8 @@ store-requires-in-2 c = let v = c.args.seat.now.me.0 in (
   search rules,
   search rules,
   stores_lanes _ _ _ _ _ c.args.word 2 c.requires.seat.1 c.requires.at c.requires.words.0 (omega arith)
-      (subst (λ (k : ℕ). IsPrefix v.written (whole v.written ++ lanes c.args.word k)) c.in-2.is c.requires.begins)
-      (subst (λ (k : ℕ). length (whole v.written ++ lanes c.args.word k) ≤ v.head + v.capacity) c.in-2.is c.requires.fits),
+      (subst (λ (k : ℕ). IsPrefix v.written (whole_words v.written ++ lanes c.args.word k)) c.in-2.is c.requires.begins)
+      (subst (λ (k : ℕ). length (whole_words v.written ++ lanes c.args.word k) ≤ v.head + v.capacity) c.in-2.is c.requires.fits),
 )
 
 pub store-requires-in-3 : goal.store-requires-in-3
@@ -27,8 +27,8 @@ store-requires-in-3 c = let v = c.args.seat.now.me.0 in (
   search rules,
   search rules,
   stores_lanes _ _ _ _ _ c.args.word 3 c.requires.seat.1 c.requires.at c.requires.words.0 (omega arith)
-      (subst (λ (k : ℕ). IsPrefix v.written (whole v.written ++ lanes c.args.word k)) c.in-3.is c.requires.begins)
-      (subst (λ (k : ℕ). length (whole v.written ++ lanes c.args.word k) ≤ v.head + v.capacity) c.in-3.is c.requires.fits),
+      (subst (λ (k : ℕ). IsPrefix v.written (whole_words v.written ++ lanes c.args.word k)) c.in-3.is c.requires.begins)
+      (subst (λ (k : ℕ). length (whole_words v.written ++ lanes c.args.word k) ≤ v.head + v.capacity) c.in-3.is c.requires.fits),
 )
 
 pub store-requires-in_default : goal.store-requires-in_default
@@ -36,6 +36,6 @@ store-requires-in_default c = let v = c.args.seat.now.me.0 in let is : c.args.co
   search rules,
   search rules,
   stores_lanes _ _ _ _ _ c.args.word 4 c.requires.seat.1 c.requires.at c.requires.words.0 (omega arith)
-      (subst (λ (k : ℕ). IsPrefix v.written (whole v.written ++ lanes c.args.word k)) is c.requires.begins)
-      (subst (λ (k : ℕ). length (whole v.written ++ lanes c.args.word k) ≤ v.head + v.capacity) is c.requires.fits),
+      (subst (λ (k : ℕ). IsPrefix v.written (whole_words v.written ++ lanes c.args.word k)) is c.requires.begins)
+      (subst (λ (k : ℕ). length (whole_words v.written ++ lanes c.args.word k) ≤ v.head + v.capacity) is c.requires.fits),
 )

@@ -1,10 +1,12 @@
-use Rattle.std.proofs.Common.{rules, arith, ap, sym, subst, ◌∙◌, ◌≡◌, ℕ, List, [], ◌∷◌, ◌++◌, map, length, append_assoc, length-append}
+use Rattle.std.proofs.Common.{rules, arith, ap, sym, subst, ◌∙◌, ◌≡◌, ◌≤◌, ℕ, List, [], ◌∷◌, ◌++◌, map, length, append_assoc, length-append}
 use mathlib.Core.List.{IsPrefix, map-append}
 use Rattle.std.proofs.lemmas.List.{length-map}
 use Rattle.word_ring.specs.Ends.{TakerState, with_shown}
 use Rattle.word_ring.proofs.Beginnings.{begins_more, begins_through}
-use Rattle.flip_buffer.specs.Packed.{char_of}
-use Rattle.flip_buffer.proofs.Characters.{Took, took}
+use Rattle.flip_buffer.specs.Packed.{char_of, out_state}
+use Rattle.tty_base.specs.declared.characters.Flagged.{Flagged}
+use Rattle.flip_buffer.specs.Drops.{Releases}
+use Rattle.flip_buffer.proofs.Characters.{Took, took, chars_begin, releases_more, releases_characters}
 use Rattle.flip_buffer.proofs.output.FlipOut.drop_all.Goals as goal
 
 pub loop-left-preserved : goal.loop-left-preserved
@@ -28,6 +30,10 @@ loop-left-preserved c =
     let known = held.known in
     let taken_long = ap length t.taken ∙ length-append old.taken ys in
     let spare = ap (λ s. s.spare) added in
+    let first = length-map c.look.new.self.taken char_of in
+    let now = length-map old.taken char_of in
+    let both = ap length before.4 ∙ length-append (map char_of c.look.new.self.taken) xs in
+    let grown : length c.look.new.self.taken ≤ length old.taken = omega arith in
     record {
       moves = (
         xs ++ map char_of ys,
@@ -38,10 +44,11 @@ loop-left-preserved c =
       );
       known = omega (arith, moves.1);
       tails = subst (λ (z : List ℕ). IsPrefix c.look.new.self.tails z) (sym t.tails) (begins_through c.look.new.self.tails old.tails (old.tails ++ new.floor ∷ []) held.tails (begins_more old.tails (new.floor ∷ [])));
-      released = begins_through c.look.new.self.released old.released new.released held.released t.released;
+      released = subst (λ (z : TakerState ℕ). Releases c.look.new.self z) (sym moves.3) (releases_more c.look.new.self old new.floor ys grown held.released);
       rises = (let a = held.rises in omega arith);
-      still = λ is. c.take-count.ensures.ended (held.same.2 ∙ is) ∙ held.still is;
-      same = (t.ring ∙ held.same.0, t.capacity ∙ held.same.1, t.ended ∙ held.same.2, held.same.3);
+      still = λ is. c.take-count.ensures.ended (held.same.2 ∙ is) ∙ ap length held.same.3;
+      begins = λ is. subst (λ (z : List ℕ). IsPrefix new.taken z) held.same.3 (c.take-count.ensures.begins (held.same.2 ∙ is));
+      same = (t.ring ∙ held.same.0, t.capacity ∙ held.same.1, t.ended ∙ held.same.2, t.sent ∙ held.same.3, held.same.4);
     }
 
 pub returns-clause-shown : goal.returns-clause-shown
@@ -52,14 +59,35 @@ returns-clause-shown c =
     let tails = ap (λ s. s.tails) c.look.ensures.same ∙ ap (λ (z : List ℕ). z ++ floor ∷ []) (ap (λ s. s.tails) c.self.view_is) in
     let least = ap (λ s. s.floor) c.self.view_is in
     let taken = sym (length-map old.taken char_of) ∙ ap (λ s. length s.taken) c.self.view_is in
+    let sent = sym (length-map old.sent char_of) ∙ ap (λ s. length s.sent) c.self.view_is in
+    let capacity = ap (λ s. s.capacity) c.self.view_is in
     let count = c.look.ensures.count in
+    let most = c.look.ensures.most in
     let rises = c.look.ensures.rises in
     let shown = c.min-shown.ensures in (
       floor,
-      subst (λ (z : List ℕ). IsPrefix z c.loop-left.self-inside.taker.tails) tails held.tails,
+      record {
+        looked = subst (λ (z : List ℕ). IsPrefix z c.loop-left.self-inside.taker.tails) tails held.tails;
+        rises = omega arith;
+        floor = held.rises;
+        least = omega arith;
+        most = omega arith;
+        ended = λ is. c.look.ensures.ended (ap (λ s. s.ended) c.self.view_is ∙ is) ∙ sent;
+      },
       omega arith,
-      held.rises,
-      omega arith,
-      omega arith,
-      λ is. c.look.ensures.ended (ap (λ s. s.ended) c.self.view_is ∙ is) ∙ ap (λ s. s.floor) c.self.view_is,
     )
+
+pub returns-clause-released : goal.returns-clause-released
+returns-clause-released c =
+    let held = c.loop-left.invariant.released in
+    let now = c.loop-left.self-inside.taker in
+    let looked : Releases (with_shown c.self.inside.taker c.look.new.self.floor) now = subst (λ (z : TakerState ℕ). Releases z now) c.look.ensures.same held in
+    let whole : Releases c.self.inside.taker now = record { heads = looked.heads; adds = looked.adds; above = looked.above; below = looked.below } in
+    subst (λ (z : TakerState Flagged). Releases z (out_state now)) c.self.view_is (releases_characters c.self.inside.taker now whole)
+
+pub returns-clause-begins : goal.returns-clause-begins
+returns-clause-begins c = λ is.
+    let looked = c.look.ensures.same in
+    let ended = ap (λ s. s.ended) looked ∙ (ap (λ s. s.ended) c.self.view_is ∙ is) in
+    let sent = ap (λ s. map char_of s.sent) looked ∙ ap (λ s. s.sent) c.self.view_is in
+    subst (λ (z : List Flagged). IsPrefix (map char_of c.loop-left.self-inside.taker.taken) z) sent (chars_begin _ _ (c.loop-left.invariant.begins ended))

@@ -1,8 +1,8 @@
-use Rattle.std.proofs.Common.{◌≡◌, ◌-◌, ℕ, cond, Bool, true, false, List, ◌++◌, length, take, drop, sym, ap, subst, ◌∙◌, refl, arith, length-take}
+use Rattle.std.proofs.Common.{◌≡◌, ◌-◌, ℕ, cond, Bool, true, false, List, ◌++◌, length, take, drop, sym, ap, subst, ◌∙◌, refl, arith}
 use Rattle.line_store.specs.declared.circle.Place.{Place}
 use mir.Val.{bool_byte}
 use Rattle.line_store.specs.Places.{items_of, place_bytes, run_of}
-use Rattle.line_store.specs.Unread.{first_piece, line_of, after_line, read_size, IsStore}
+use Rattle.line_store.specs.Unread.{line_of, after_line, read_size, IsStore}
 use Rattle.tty_base.specs.Contents.{Contents}
 use Rattle.line_store.specs.declared.circle.Run.{Run}
 use Rattle.line_store.proofs.PlaceLemmas as places
@@ -33,7 +33,7 @@ copy_front-requires-clause-room c =
     let s = c.self.inside in
     let run : c.run-run.result ≡ run_of (read_size c.args.n) s.circle = c.run-run.ensures ∙ ap (λ most. run_of most s.circle) c.min.ensures in
     let bytes = ap (λ (r : Run). r.bytes) run in
-    omega (arith, c.requires.room, places.length-line_of (read_size c.args.n) s.circle, length-take (read_size c.args.n) (first_piece (items_of s.circle)))
+    omega (arith, bytes, places.length-line_of (read_size c.args.n) s.circle, ap (λ items. length (line_of (read_size c.args.n) items)) c.self.view_is, c.requires.room)
 
 pub skip-requires : goal.skip-requires
 skip-requires c =

@@ -23,6 +23,11 @@ copy_front-requires-clause-each c =
     let no_ends : end_count (items_of ps) ≡ 0 = ap end_count c.self.view_is ∙ c.requires.plain in
     ap length (places.raw_bytes ps n no_ends) ∙ omega (arith, length-take n (bytes_of (items_of ps)))
 
+pub copy_front-requires-clause-room : goal.copy_front-requires-clause-room
+copy_front-requires-clause-room c =
+    let view = ap (λ items. length (bytes_of items)) c.self.view_is in
+    omega (arith, length-take (read_size c.args.n) (bytes_of c.args.self.now), view, c.self.invariant.bytes_count, c.requires.room)
+
 pub skip-requires : goal.skip-requires
 skip-requires c =
     let ps = c.self.inside.circle in

@@ -1,10 +1,10 @@
 use Rattle.n_slip.specs.Discipline.{Slip}
 use Rattle.n_slip.specs.History.{HasSeen}
-use Rattle.n_slip.proofs.Happenings.{HasSeen-flushed}
+use Rattle.n_slip.proofs.Happenings.{HasSeen-flush}
 use Rattle.n_slip.proofs.discipline.NSlip.flush_in.Goals as goal
 
 pub returns-clause-seen : goal.returns-clause-seen
 returns-clause-seen c events h =
-    let slip : Slip = record { begun = c.self.inside.decoder.begun; waiting = c.self.inside.queue } in
+    let slip : Slip = record { piece = c.self.inside.decoder.piece; packets = c.self.inside.queue } in
     let seen : HasSeen slip events = rw c.self.view_is h in
-    rw c.clear.ensures (HasSeen-flushed slip events seen)
+    rw c.clear.ensures (HasSeen-flush slip events seen)

@@ -1,4 +1,4 @@
-use Rattle.std.proofs.Common.{◌<◌, ◌∷◌, [], ◌++◌, length, sym, ap, ◌∙◌, arith}
+use Rattle.std.proofs.Common.{◌<◌, length, ap, arith}
 use Rattle.n_slip.proofs.Packets.{length-packets_of, bytes_bound, packets_of-push, Holds-push}
 use Rattle.n_slip.proofs.queue.Queue.push.Goals as goal
 

@@ -5,6 +5,5 @@ use Rattle.n_tty.proofs.tests.Line.type_in.Given as goal
 abbrev pub invariant-loop-byte : goal.invariant-loop-byte
 invariant-loop-byte l = record {
   fits : FitsModes l.self.modes l.self.tty;
-  past : l.self.tty.last ≤ 0;
   column : l.self.tty.column ≤ l.fn.self.tty.column + l.byte-index * 2 ^ 22;
 }

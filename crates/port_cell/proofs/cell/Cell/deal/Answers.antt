@@ -1,6 +1,6 @@
 use Rattle.std.proofs.Common.{◌≡◌, ℕ, ◌+◌, [], length, rules, is_some, sym, ap, ◌∙◌, subst, arith}
-use Rattle.port_cell.specs.Views.{dealt}
-use Rattle.port_cell.specs.Seats.{IsFresh, AllFresh}
+use Rattle.port_cell.specs.Views.{next_view}
+use Rattle.port_cell.specs.Seats.{IsNew, AllNew}
 use Rattle.port_cell.proofs.Ends.{splits, fresh_push}
 use Rattle.port_cell.proofs.cell.Cell.deal.Goals as goal
 
@@ -21,14 +21,14 @@ seats-preserved g c =
     let z = c.args.self.now.table.shared.table_id in
     let i = c.seats.invariant in
     let number : c.seats.counter ≡ 1 + length c.seats.others.items = omega arith in
-    let new : IsFresh z name list c.seats.counter c.split_seat.result =
-    (search rules, (0, c.split_seat.ensures.4 ∙ ap (λ m. (dealt m.0, [])) i.first)) in
+    let new : IsNew z name list c.seats.counter c.split_seat.result =
+    (search rules, (0, c.split_seat.ensures.4 ∙ ap (λ m. (next_view m.0, [])) i.first)) in
     record {
       table = search rules;
       first = search rules;
       size = ap (λ n. n + 1) (c.in_ok-push.ensures.len ∙ i.size);
-      others = subst (λ ss. AllFresh z name list 1 ss) (sym c.in_ok-push.ensures.items)
-          (fresh_push z name list 1 c.seats.others.items c.split_seat.result i.others (subst (λ (n : ℕ). IsFresh z name list n c.split_seat.result) number new));
+      others = subst (λ ss. AllNew z name list 1 ss) (sym c.in_ok-push.ensures.items)
+          (fresh_push z name list 1 c.seats.others.items c.split_seat.result i.others (subst (λ (n : ℕ). IsNew z name list n c.split_seat.result) number new));
     }
 
 pub returns : goal.returns
@@ -38,6 +38,6 @@ returns g c =
     let list = g.V.Kept.list value in
     let z = c.args.self.now.table.shared.table_id in
     let i = c.seats.invariant in
-    let first : IsFresh z name list 0 c.seats.first = (search rules, (c.seats.counter, i.first)) in
+    let first : IsNew z name list 0 c.seats.first = (search rules, (c.seats.counter, i.first)) in
     let items = c.in_ok-insert.ensures.items in
-    (search rules, subst (λ ss. AllFresh z name list 0 ss) (sym items) (first, i.others))
+    (search rules, subst (λ ss. AllNew z name list 0 ss) (sym items) (first, i.others))

@@ -1,5 +1,5 @@
 use Rattle.std.proofs.Common.{rules, is_some, sym, ap, ◌∙◌}
-use Rattle.port_cell.specs.Views.{counts}
+use Rattle.port_cell.specs.Views.{user_part}
 use Rattle.port_cell.specs.Seats.{in_hand}
 use Rattle.port_cell.proofs.Counting.{enters}
 use Rattle.port_cell.proofs.cell.Cell.enter.Goals as goal
@@ -17,4 +17,4 @@ withdraw-requires-clause-seat g c =
 
 pub withdraw-requires-clause-counted : goal.withdraw-requires-clause-counted
 withdraw-requires-clause-counted g c =
-    let now = c.fetch_add-word.ensures.2.1 (c.is_changing.ensures.0 c.if-is_changing.true) in ap (λ m. counts m.0.user) now
+    let now = c.fetch_add-word.ensures.2.1 (c.is_changing.ensures.0 c.if-is_changing.true) in ap (λ m. user_part m.0.user) now

@@ -1,12 +1,13 @@
 use Rattle.std.proofs.Common.{◌≡◌, ◌+◌, ◌++◌, vec_len}
 use Rattle.port_cell.specs.Views.{total, installs_of}
-use Rattle.port_cell.specs.Seats.{IsDone, EachSeat, PartOf}
+use Rattle.port_cell.specs.Seats.{IsFree, EachSeat}
+use Rattle.port_cell.specs.Joining.{PartOf}
 use Rattle.port_cell.proofs.cell.Cell.gather.Given as goal
 
 abbrev pub invariant-loop-other : goal.invariant-loop-other
 invariant-loop-other g l = record {
-  done : IsDone l.self.table.shared.table_id l.last;
-  seats : EachSeat (IsDone l.self.table.shared.table_id) l.seats.items;
+  done : IsFree l.self.table.shared.table_id l.last;
+  seats : EachSeat (IsFree l.self.table.shared.table_id) l.seats.items;
   first : PartOf l.last.me.0 l.fn.last;
   installs : installs_of l.last.me.0 + total (λ s. installs_of s.me.0) l.seats.items ≡ installs_of l.fn.last.me.0 + total (λ s. installs_of s.me.0) l.fn.seats.items;
   parts : (taken : _) × (l.fn.seats.items ≡ l.seats.items ++ taken) × EachSeat (PartOf l.last.me.0) taken;

@@ -1,81 +1,201 @@
-use Rattle.std.proofs.Common.{◌≡◌, [], ◌∷◌, ◌++◌, Bool, ◌&&◌, is_some, ◌<◌, length, map, sym, ◌∙◌, subst, ap, arith}
-use Rattle.tty_calls.specs.Plain.{PlainCall, PlainEntry, call_of, answer_of, answered, entries_of}
+use Rattle.std.proofs.Common.{◌≡◌, ℕ, List, [], ◌∷◌, ◌++◌, Bool, false, Some, ◌+◌, ◌<◌, ◌≤◌, length, map, refl, sym, ◌∙◌, ap, subst, arith, append-nil}
 use Rattle.tty_calls.specs.declared.journals.Who.TheVariants.{Caller}
+use Rattle.tty_calls.specs.Plain.{PlainEntry, answered, parted, handle_of, call_of, answer_of, entry_of, entries_of}
+use Rattle.ldisc_switch.specs.Disciplines.{column_in}
 use Rattle.tty_terminal.specs.Terminals.{Terminal, caller_at, has_begun}
-use Rattle.tty_terminal.specs.Outcomes.{outcome}
-use Rattle.tty_terminal.specs.Steps.{quiet, advanced}
-use Rattle.port_core.specs.Ports.{PortValue, IsReady, Attempts, done_by, kept_with}
-use Rattle.port_core.specs.Kept.{kept_of}
-use Rattle.port_core.specs.Inside.{value_of}
-use Rattle.port_core.proofs.Entries.{entries_added, port_bounded, known_caller}
-use Rattle.port_core.proofs.Calls.{call_entry, after_call, made, begun_is, answer_goes_on, answers_met, answer_fits, left_known, left_next}
+use Rattle.tty_terminal.specs.Calls.{outcome}
+use Rattle.tty_terminal.specs.Meeting.{drops_of}
+use Rattle.tty_terminal.specs.Steps.{after_answer, after_part, with_dropped, left_by}
+use Rattle.port_core.specs.declared.entries.KeptCall.{KeptCall}
+use Rattle.port_core.specs.Kept.{kept_of, IsCopyOf, kept_after, places_after}
+use Rattle.port_core.specs.Ports.{PortValue, kept_with, caller_entry}
+use Rattle.port_core.specs.Attempts.{IsReady, AnswersCall, TakesPartOf}
+use Rattle.port_core.specs.Inside.{value_of, KeepsPlaces}
+use Rattle.port_core.proofs.GoingOn.{made, entries_added, known_caller, port_bounded}
+use Rattle.port_core.proofs.Calls.{kept_is, begun_is, answers_met, parts_met, none_dropped, with_none_dropped}
+use Rattle.port_core.proofs.Answering.{IsTried, after_call, answers_call, takes_part_of}
+use Rattle.tty_calls.specs.Plain.{PlainCall}
+use Rattle.tty_terminal.specs.declared.rooms.Met.TheVariants as met
+use Rattle.tty_terminal.specs.Outcomes.{Outcome}
+use Rattle.tty_terminal.specs.Meeting.{Meets, byte_count}
+use Rattle.tty_terminal.proofs.Effects.{Leaves, outcome_keeps}
+use Rattle.tty_terminal.proofs.WaitLaws.{run_part_count, part_more}
+use Rattle.port_core.specs.Ports.{call_in}
+use Rattle.port_core.proofs.Fitting.{answer_fits}
+use Rattle.port_core.proofs.Handing.{when_false}
 use Rattle.port_core.proofs.ports.Port.answer.Goals as goal
 
+-- what a call leaves of the terminal
+leaves_of : (t u w : Terminal) (d : ℕ) (call : PlainCall) → u ≡ t → w ≡ left_by (outcome u (caller_at u d) call) u → Leaves t w
+leaves_of t u w d call same left = subst (λ (x : Terminal). Leaves x w) same (subst (λ (x : Terminal). Leaves u x) (sym left) (outcome_keeps u (caller_at u d) (Some call)).left)
+
 pub caller-state-requires : goal.caller-state-requires
-caller-state-requires c = known_caller (value_of c.self.inside) c.args.self.now c.args.caller c.self.view_is c.self.invariant c.requires.ready.known
+caller-state-requires c = known_caller (value_of c.self.inside) c.args.self.now c.args.caller c.self.view_is c.self.invariant.port c.requires.ready.known
 
 pub meet-requires-clause-known : goal.meet-requires-clause-known
-meet-requires-clause-known c = known_caller (value_of c.self.inside) c.args.self.now c.args.caller c.self.view_is c.self.invariant c.requires.ready.known
+meet-requires-clause-known c = subst (λ (t : Terminal). c.args.caller < length t.callers) (sym c.prepare.ensures.terminal) (known_caller (value_of c.self.inside) c.args.self.now c.args.caller c.self.view_is c.self.invariant.port c.requires.ready.known)
 
 pub meet-requires-clause-few : goal.meet-requires-clause-few
-meet-requires-clause-few c = omega (arith, (port_bounded (value_of c.self.inside) c.self.invariant).generation)
+meet-requires-clause-few c = omega (arith, (port_bounded (value_of c.self.inside) c.self.invariant.port).generation, ap (λ (t : Terminal). t.generation) c.prepare.ensures.terminal)
 
 pub advance-requires-clause-known : goal.advance-requires-clause-known
 advance-requires-clause-known c =
-    left_known c.self.inside.terminal c.meet.new.self c.args.caller c.args.caller (call_of c.args.call.now) c.meet.ensures.left
-    (known_caller (value_of c.self.inside) c.args.self.now c.args.caller c.self.view_is c.self.invariant c.requires.ready.known)
+    let w : Leaves c.self.inside.terminal.terminal c.meet.new.self.terminal = leaves_of c.self.inside.terminal.terminal c.prepare.new.terminal.terminal c.meet.new.self.terminal c.args.caller (call_of c.args.call.now) c.prepare.ensures.terminal c.meet.ensures.left in
+    subst (λ n. c.args.caller < n) (sym w.callers) (known_caller (value_of c.self.inside) c.args.self.now c.args.caller c.self.view_is c.self.invariant.port c.requires.ready.known)
+
+pub note_part-requires-clause-known : goal.note_part-requires-clause-known
+note_part-requires-clause-known c =
+    let w : Leaves c.self.inside.terminal.terminal c.meet.new.self.terminal = leaves_of c.self.inside.terminal.terminal c.prepare.new.terminal.terminal c.meet.new.self.terminal c.args.caller (call_of c.args.call.now) c.prepare.ensures.terminal c.meet.ensures.left in
+    subst (λ n. c.args.caller < n) (sym w.callers) (known_caller (value_of c.self.inside) c.args.self.now c.args.caller c.self.view_is c.self.invariant.port c.requires.ready.known)
 
 pub advance-requires-clause-few : goal.advance-requires-clause-few
 advance-requires-clause-few c =
-    omega (arith, left_next c.self.inside.terminal c.meet.new.self c.args.caller (call_of c.args.call.now) c.meet.ensures.left, (port_bounded (value_of c.self.inside) c.self.invariant).next c.args.caller)
+    let w : Leaves c.self.inside.terminal.terminal c.meet.new.self.terminal = leaves_of c.self.inside.terminal.terminal c.prepare.new.terminal.terminal c.meet.new.self.terminal c.args.caller (call_of c.args.call.now) c.prepare.ensures.terminal c.meet.ensures.left in
+    omega (arith, (w.caller c.args.caller).next, (port_bounded (value_of c.self.inside) c.self.invariant.port).next c.args.caller)
 
 pub copy_into-requires-clause-fits : goal.copy_into-requires-clause-fits
 copy_into-requires-clause-fits c =
-    let fits = (answer_fits c.self.inside.terminal (caller_at c.self.inside.terminal c.args.caller) (call_of c.args.call.now)).fits c.in-Gives.answer c.in-Gives.ensures.met in
-    omega (arith, fits, c.in_ok-copy.ensures.fits, c.room_for-room.ensures)
+    omega (arith, (answer_fits c.prepare.new.terminal.terminal (caller_at c.prepare.new.terminal.terminal c.args.caller) (call_of c.args.call.now)).fits c.in-Gives.answer c.in-Gives.ensures.met, c.in_ok-made.ensures.fits)
 
-pub invariant_of-self-2 : goal.invariant_of-self-2
-invariant_of-self-2 c =
+pub note_part-requires-clause-parts : goal.note_part-requires-clause-parts
+note_part-requires-clause-parts c =
+    let w : Leaves c.self.inside.terminal.terminal c.meet.new.self.terminal = leaves_of c.self.inside.terminal.terminal c.prepare.new.terminal.terminal c.meet.new.self.terminal c.args.caller (call_of c.args.call.now) c.prepare.ensures.terminal c.meet.ensures.left in
     let v : PortValue = value_of c.self.inside in
-    let t : Terminal = v.terminal in
-    let call : PlainCall = call_of c.args.call.now in
-    let ready : IsReady v c.args.caller c.args.step call = subst (λ (w : PortValue). IsReady w c.args.caller c.args.step call) (sym c.self.view_is) c.requires.ready in
-    let few : length v.journal < v.limit = subst (λ (w : PortValue). length w.journal < w.limit) (sym c.self.view_is) c.requires.open.0 in
-    let e : PlainEntry = call_entry v c.args.caller c.args.step (answered (answer_of c.in-Gives.answer) []) in
-    let entry : record { who = Caller c.args.caller; step = c.args.step; part = c.caller-state.result.parts; generation = c.generation-generation.result; event = answered (answer_of c.copy_into.result) c.new.result.items } ≡ e =
-    cc (ap (λ s. s.parts) c.caller-state.ensures, c.generation-generation.ensures, c.copy_into.ensures, ap (λ b. b.items) c.new.ensures) in
-    let js : entries_of c.add.new.self.items ≡ v.journal ++ e ∷ [] =
-    entries_added c.self.inside.journal.items c.reserve_entry.new.journal.items _ c.add.new.self.items c.in_ok-reserve_entry.ensures.items (ap (λ b. b.items) c.add.ensures)
-    ∙ ap (λ (x : PlainEntry). v.journal ++ x ∷ []) entry in
-    let begun : c.is_some-begun.result ≡ has_begun (caller_at t c.args.caller) = begun_is t c.args.caller c.caller-state.result c.is_some-begun.result c.caller-state.ensures c.is_some-begun.ensures in
-    let ks : map kept_of c.keep_call.new.kept.items ≡ kept_with (has_begun (caller_at t c.args.caller)) v.kept c.args.caller c.args.step call =
-    c.in_ok-keep_call.ensures.kept ∙ ap (λ (b : Bool). kept_with b v.kept c.args.caller c.args.step call) begun in
-    let starved : c.keep_call.new.starved ≡ v.starved = c.in_ok-keep_call.ensures.ok ∙ (c.in_ok-reserve_entry.ensures.ok ∙ (c.in_ok-copy.ensures.ok ∙ c.in_ok-given.ensures.ok)) in
-    let now : PortValue = value_of (record c.self.inside { terminal = c.advance.new.self; journal = c.add.new.self; kept = c.keep_call.new.kept; starved = c.keep_call.new.starved }) in
-    let is : now ≡ after_call v c.args.caller c.args.step call (answered (answer_of c.in-Gives.answer) []) (advanced c.meet.new.self c.args.caller) = made v c.advance.new.self (advanced c.meet.new.self c.args.caller) _ _ _ _ c.keep_call.new.starved c.advance.ensures js ks starved in
-    let goes = answer_goes_on v now c.args.caller c.args.step call (answer_of c.in-Gives.answer) c.meet.new.self c.self.invariant few ready
-    (answers_met (is_some (caller_at t c.args.caller).waits && quiet v.counts t) (outcome t (caller_at t c.args.caller) call) c.in-Gives.answer c.in-Gives.ensures.met) c.meet.ensures.left is in
-    goes.0
+    omega (arith, (w.caller c.args.caller).parts, run_part_count (call_in v.kept) v.counts v.flip.capacity v.journal v.terminal c.self.invariant.port.run c.args.caller, c.self.invariant.port.few, c.self.invariant.port.limit)
 
-pub returns-clause-tried : goal.returns-clause-tried
-returns-clause-tried c =
+pub note_part-requires-clause-bytes : goal.note_part-requires-clause-bytes
+note_part-requires-clause-bytes c =
+    let w : Leaves c.self.inside.terminal.terminal c.meet.new.self.terminal = leaves_of c.self.inside.terminal.terminal c.prepare.new.terminal.terminal c.meet.new.self.terminal c.args.caller (call_of c.args.call.now) c.prepare.ensures.terminal c.meet.ensures.left in
+    let u : Terminal = c.prepare.new.terminal.terminal in
+    let more : (caller_at u c.args.caller).taken + c.in-Takes.count < byte_count (call_of c.args.call.now) = part_more u (caller_at u c.args.caller) (call_of c.args.call.now) c.in-Takes.count (parts_met _ _ c.in-Takes.ensures.met) in
+    omega (arith, (w.caller c.args.caller).taken, more, ap (λ (t : Terminal). (caller_at t c.args.caller).taken) c.prepare.ensures.terminal, c.requires.ready.bytes)
+
+pub invariant_of-self-in-Gives : goal.invariant_of-self-in-Gives
+invariant_of-self-in-Gives c =
     let v : PortValue = value_of c.self.inside in
-    let t : Terminal = v.terminal in
-    let call : PlainCall = call_of c.args.call.now in
-    let ready : IsReady v c.args.caller c.args.step call = subst (λ (w : PortValue). IsReady w c.args.caller c.args.step call) (sym c.self.view_is) c.requires.ready in
+    let d = c.args.caller in
+    let step = c.args.step in
+    let call = call_of c.args.call.now in
+    let ks : List KeptCall = c.self.inside.kept.items in
+    let places : List ℕ = c.self.inside.places.items in
+    let ready : IsReady v d step call = subst (λ (w : PortValue). IsReady w d step call) (sym c.self.view_is) c.requires.ready in
     let few : length v.journal < v.limit = subst (λ (w : PortValue). length w.journal < w.limit) (sym c.self.view_is) c.requires.open.0 in
-    let e : PlainEntry = call_entry v c.args.caller c.args.step (answered (answer_of c.in-Gives.answer) []) in
-    let entry : record { who = Caller c.args.caller; step = c.args.step; part = c.caller-state.result.parts; generation = c.generation-generation.result; event = answered (answer_of c.copy_into.result) c.new.result.items } ≡ e =
-    cc (ap (λ s. s.parts) c.caller-state.ensures, c.generation-generation.ensures, c.copy_into.ensures, ap (λ b. b.items) c.new.ensures) in
-    let js : entries_of c.add.new.self.items ≡ v.journal ++ e ∷ [] =
-    entries_added c.self.inside.journal.items c.reserve_entry.new.journal.items _ c.add.new.self.items c.in_ok-reserve_entry.ensures.items (ap (λ b. b.items) c.add.ensures)
-    ∙ ap (λ (x : PlainEntry). v.journal ++ x ∷ []) entry in
-    let begun : c.is_some-begun.result ≡ has_begun (caller_at t c.args.caller) = begun_is t c.args.caller c.caller-state.result c.is_some-begun.result c.caller-state.ensures c.is_some-begun.ensures in
-    let ks : map kept_of c.keep_call.new.kept.items ≡ kept_with (has_begun (caller_at t c.args.caller)) v.kept c.args.caller c.args.step call =
-    c.in_ok-keep_call.ensures.kept ∙ ap (λ (b : Bool). kept_with b v.kept c.args.caller c.args.step call) begun in
-    let starved : c.keep_call.new.starved ≡ v.starved = c.in_ok-keep_call.ensures.ok ∙ (c.in_ok-reserve_entry.ensures.ok ∙ (c.in_ok-copy.ensures.ok ∙ c.in_ok-given.ensures.ok)) in
-    let now : PortValue = value_of (record c.self.inside { terminal = c.advance.new.self; journal = c.add.new.self; kept = c.keep_call.new.kept; starved = c.keep_call.new.starved }) in
-    let is : now ≡ after_call v c.args.caller c.args.step call (answered (answer_of c.in-Gives.answer) []) (advanced c.meet.new.self c.args.caller) = made v c.advance.new.self (advanced c.meet.new.self c.args.caller) _ _ _ _ c.keep_call.new.starved c.advance.ensures js ks starved in
-    let goes = answer_goes_on v now c.args.caller c.args.step call (answer_of c.in-Gives.answer) c.meet.new.self c.self.invariant few ready
-    (answers_met (is_some (caller_at t c.args.caller).waits && quiet v.counts t) (outcome t (caller_at t c.args.caller) call) c.in-Gives.answer c.in-Gives.ensures.met) c.meet.ensures.left is in
-    subst (λ (w : PortValue). Attempts w now c.args.caller c.args.step call (done_by (answer_of c.in-Gives.answer))) c.self.view_is goes.1
+    let begun : c.is_some-begun.result ≡ has_begun (caller_at v.terminal d) = begun_is v.terminal d c.caller-state.result c.is_some-begun.result c.caller-state.ensures c.is_some-begun.ensures in
+    let copied : IsCopyOf (has_begun (caller_at v.terminal d)) call c.in_ok-made.made.copy = subst (λ (b : Bool). IsCopyOf b call c.in_ok-made.made.copy) begun c.in_ok-made.ensures.kept in
+    let tried : IsTried v ks places d step call c.in_ok-made.made.copy = record { keeps = c.self.invariant; kept = refl; few = few; ready = ready; copied = copied } in
+    let o = outcome v.terminal (caller_at v.terminal d) call in
+    let same_o : outcome c.prepare.new.terminal.terminal (caller_at c.prepare.new.terminal.terminal d) call ≡ o = ap (λ (t : Terminal). outcome t (caller_at t d) call) c.prepare.ensures.terminal in
+    let left : c.meet.new.self.terminal ≡ left_by o v.terminal = c.meet.ensures.left ∙ ap (λ (t : Terminal). left_by (outcome t (caller_at t d) call) t) c.prepare.ensures.terminal in
+    let column : column_in c.meet.new.self.terminal.disc ≤ column_in v.terminal.disc + 4096 = subst (λ (t : Terminal). column_in c.meet.new.self.terminal.disc ≤ column_in t.disc + 4096) c.prepare.ensures.terminal c.meet.ensures.column in
+    let keeps : drops_of o ≡ false = subst (λ (w : PortValue). drops_of (outcome w.terminal (caller_at w.terminal d) call) ≡ false) (sym c.self.view_is) c.requires.keeps in
+    let e : PlainEntry = caller_entry v d (answered (answer_of c.in-Gives.answer) []) in
+    let entry : entry_of c.entry_of_call-entry.result ≡ e = ap entry_of c.entry_of_call-entry.ensures ∙ (λ i. record { who = Caller d; step = ready.next i; part = (c.caller-state.ensures i).parts; generation = c.generation-generation.ensures i; event = answered (c.copy_into.ensures i) (c.new.ensures i).items }) in
+    let js : entries_of c.add_entry_of_call.new.journal.items ≡ v.journal ++ e ∷ [] = entries_added c.self.inside.journal.items c.reserve_entry.new.journal.items c.entry_of_call-entry.result c.add_entry_of_call.new.journal.items c.in_ok-reserve_entry.ensures.items c.add_entry_of_call.ensures.journal ∙ ap (λ (x : PlainEntry). v.journal ++ x ∷ []) entry in
+    let at_step : c.entry_of_call-entry.result.step ≡ step = ap (λ x. x.step) c.entry_of_call-entry.ensures in
+    let kept_now : c.add_entry_of_call.new.kept.items ≡ kept_after ks d step c.in_ok-made.made.copy = c.add_entry_of_call.ensures.kept ∙ (λ i. kept_after (c.in_ok-made.ensures.items i) d (at_step i) c.in_ok-made.made.copy) in
+    let places_now : c.add_entry_of_call.new.places.items ≡ places_after places ks d c.in_ok-made.made.copy = c.add_entry_of_call.ensures.places ∙ ap (λ (xs : List KeptCall). places_after places xs d c.in_ok-made.made.copy) c.in_ok-made.ensures.items in
+    let kept_plain : map kept_of c.add_entry_of_call.new.kept.items ≡ kept_with (has_begun (caller_at v.terminal d)) v.kept d step call = ap (λ (xs : List KeptCall). map kept_of xs) kept_now ∙ kept_is (has_begun (caller_at v.terminal d)) ks d step call c.in_ok-made.made.copy copied in
+    let now : PortValue = record v { terminal = c.advance.new.self.terminal; journal = entries_of c.add_entry_of_call.new.journal.items; kept = map kept_of c.add_entry_of_call.new.kept.items; starved = c.prepare.new.starved; flip = v.flip } in
+    let goes : c.advance.new.self.terminal ≡ after_answer (with_dropped c.meet.new.self.terminal 0) d = ap (λ r. r.terminal) c.advance.ensures ∙ ap (λ (w : Terminal). after_answer w d) (sym (with_none_dropped c.meet.new.self.terminal)) in
+    let same : now ≡ after_call v d step call (after_answer (with_dropped c.meet.new.self.terminal 0) d) v.flip e = made v _ (after_answer (with_dropped c.meet.new.self.terminal 0) d) _ (v.journal ++ e ∷ []) _ (kept_with (has_begun (caller_at v.terminal d)) v.kept d step call) _ v.flip v.flip goes js kept_plain (c.in_ok-made.ensures.ok ∙ c.in_ok-reserve_entry.ensures.ok) refl in
+    let both = answers_call v now ks places d step call c.in_ok-made.made.copy (answer_of c.in-Gives.answer) [] c.meet.new.self.terminal v.flip tried
+    (answers_met _ o c.in-Gives.answer (subst (λ (x : Outcome). Meets x (met.Gives c.in-Gives.answer)) same_o c.in-Gives.ensures.met)) (none_dropped v.terminal o keeps)
+    (when_false (drops_of o) _ _ keeps (refl, refl)) (sym (append-nil v.flip.taken)) (omega arith) refl c.self.invariant.port.sent left column same in
+    subst (λ (z : List KeptCall × List ℕ). KeepsPlaces now z.0 z.1) (λ i. (sym kept_now i, sym places_now i)) both.0
+
+pub returns-in-Gives-clause-tried : goal.returns-in-Gives-clause-tried
+returns-in-Gives-clause-tried c =
+    let v : PortValue = value_of c.self.inside in
+    let d = c.args.caller in
+    let step = c.args.step in
+    let call = call_of c.args.call.now in
+    let ks : List KeptCall = c.self.inside.kept.items in
+    let places : List ℕ = c.self.inside.places.items in
+    let ready : IsReady v d step call = subst (λ (w : PortValue). IsReady w d step call) (sym c.self.view_is) c.requires.ready in
+    let few : length v.journal < v.limit = subst (λ (w : PortValue). length w.journal < w.limit) (sym c.self.view_is) c.requires.open.0 in
+    let begun : c.is_some-begun.result ≡ has_begun (caller_at v.terminal d) = begun_is v.terminal d c.caller-state.result c.is_some-begun.result c.caller-state.ensures c.is_some-begun.ensures in
+    let copied : IsCopyOf (has_begun (caller_at v.terminal d)) call c.in_ok-made.made.copy = subst (λ (b : Bool). IsCopyOf b call c.in_ok-made.made.copy) begun c.in_ok-made.ensures.kept in
+    let tried : IsTried v ks places d step call c.in_ok-made.made.copy = record { keeps = c.self.invariant; kept = refl; few = few; ready = ready; copied = copied } in
+    let o = outcome v.terminal (caller_at v.terminal d) call in
+    let same_o : outcome c.prepare.new.terminal.terminal (caller_at c.prepare.new.terminal.terminal d) call ≡ o = ap (λ (t : Terminal). outcome t (caller_at t d) call) c.prepare.ensures.terminal in
+    let left : c.meet.new.self.terminal ≡ left_by o v.terminal = c.meet.ensures.left ∙ ap (λ (t : Terminal). left_by (outcome t (caller_at t d) call) t) c.prepare.ensures.terminal in
+    let column : column_in c.meet.new.self.terminal.disc ≤ column_in v.terminal.disc + 4096 = subst (λ (t : Terminal). column_in c.meet.new.self.terminal.disc ≤ column_in t.disc + 4096) c.prepare.ensures.terminal c.meet.ensures.column in
+    let keeps : drops_of o ≡ false = subst (λ (w : PortValue). drops_of (outcome w.terminal (caller_at w.terminal d) call) ≡ false) (sym c.self.view_is) c.requires.keeps in
+    let e : PlainEntry = caller_entry v d (answered (answer_of c.in-Gives.answer) []) in
+    let entry : entry_of c.entry_of_call-entry.result ≡ e = ap entry_of c.entry_of_call-entry.ensures ∙ (λ i. record { who = Caller d; step = ready.next i; part = (c.caller-state.ensures i).parts; generation = c.generation-generation.ensures i; event = answered (c.copy_into.ensures i) (c.new.ensures i).items }) in
+    let js : entries_of c.add_entry_of_call.new.journal.items ≡ v.journal ++ e ∷ [] = entries_added c.self.inside.journal.items c.reserve_entry.new.journal.items c.entry_of_call-entry.result c.add_entry_of_call.new.journal.items c.in_ok-reserve_entry.ensures.items c.add_entry_of_call.ensures.journal ∙ ap (λ (x : PlainEntry). v.journal ++ x ∷ []) entry in
+    let at_step : c.entry_of_call-entry.result.step ≡ step = ap (λ x. x.step) c.entry_of_call-entry.ensures in
+    let kept_now : c.add_entry_of_call.new.kept.items ≡ kept_after ks d step c.in_ok-made.made.copy = c.add_entry_of_call.ensures.kept ∙ (λ i. kept_after (c.in_ok-made.ensures.items i) d (at_step i) c.in_ok-made.made.copy) in
+    let places_now : c.add_entry_of_call.new.places.items ≡ places_after places ks d c.in_ok-made.made.copy = c.add_entry_of_call.ensures.places ∙ ap (λ (xs : List KeptCall). places_after places xs d c.in_ok-made.made.copy) c.in_ok-made.ensures.items in
+    let kept_plain : map kept_of c.add_entry_of_call.new.kept.items ≡ kept_with (has_begun (caller_at v.terminal d)) v.kept d step call = ap (λ (xs : List KeptCall). map kept_of xs) kept_now ∙ kept_is (has_begun (caller_at v.terminal d)) ks d step call c.in_ok-made.made.copy copied in
+    let now : PortValue = record v { terminal = c.advance.new.self.terminal; journal = entries_of c.add_entry_of_call.new.journal.items; kept = map kept_of c.add_entry_of_call.new.kept.items; starved = c.prepare.new.starved; flip = v.flip } in
+    let goes : c.advance.new.self.terminal ≡ after_answer (with_dropped c.meet.new.self.terminal 0) d = ap (λ r. r.terminal) c.advance.ensures ∙ ap (λ (w : Terminal). after_answer w d) (sym (with_none_dropped c.meet.new.self.terminal)) in
+    let same : now ≡ after_call v d step call (after_answer (with_dropped c.meet.new.self.terminal 0) d) v.flip e = made v _ (after_answer (with_dropped c.meet.new.self.terminal 0) d) _ (v.journal ++ e ∷ []) _ (kept_with (has_begun (caller_at v.terminal d)) v.kept d step call) _ v.flip v.flip goes js kept_plain (c.in_ok-made.ensures.ok ∙ c.in_ok-reserve_entry.ensures.ok) refl in
+    let both = answers_call v now ks places d step call c.in_ok-made.made.copy (answer_of c.in-Gives.answer) [] c.meet.new.self.terminal v.flip tried
+    (answers_met _ o c.in-Gives.answer (subst (λ (x : Outcome). Meets x (met.Gives c.in-Gives.answer)) same_o c.in-Gives.ensures.met)) (none_dropped v.terminal o keeps)
+    (when_false (drops_of o) _ _ keeps (refl, refl)) (sym (append-nil v.flip.taken)) (omega arith) refl c.self.invariant.port.sent left column same in
+    subst (λ (w : PortValue). AnswersCall w now d step call (answer_of c.in-Gives.answer)) c.self.view_is both.1
+
+pub invariant_of-self-in-Takes-1 : goal.invariant_of-self-in-Takes-1
+invariant_of-self-in-Takes-1 c =
+    let v : PortValue = value_of c.self.inside in
+    let d = c.args.caller in
+    let step = c.args.step in
+    let call = call_of c.args.call.now in
+    let ks : List KeptCall = c.self.inside.kept.items in
+    let places : List ℕ = c.self.inside.places.items in
+    let ready : IsReady v d step call = subst (λ (w : PortValue). IsReady w d step call) (sym c.self.view_is) c.requires.ready in
+    let few : length v.journal < v.limit = subst (λ (w : PortValue). length w.journal < w.limit) (sym c.self.view_is) c.requires.open.0 in
+    let begun : c.is_some-begun.result ≡ has_begun (caller_at v.terminal d) = begun_is v.terminal d c.caller-state.result c.is_some-begun.result c.caller-state.ensures c.is_some-begun.ensures in
+    let copied : IsCopyOf (has_begun (caller_at v.terminal d)) call c.in_ok-made.made.copy = subst (λ (b : Bool). IsCopyOf b call c.in_ok-made.made.copy) begun c.in_ok-made.ensures.kept in
+    let tried : IsTried v ks places d step call c.in_ok-made.made.copy = record { keeps = c.self.invariant; kept = refl; few = few; ready = ready; copied = copied } in
+    let o = outcome v.terminal (caller_at v.terminal d) call in
+    let same_o : outcome c.prepare.new.terminal.terminal (caller_at c.prepare.new.terminal.terminal d) call ≡ o = ap (λ (t : Terminal). outcome t (caller_at t d) call) c.prepare.ensures.terminal in
+    let left : c.meet.new.self.terminal ≡ left_by o v.terminal = c.meet.ensures.left ∙ ap (λ (t : Terminal). left_by (outcome t (caller_at t d) call) t) c.prepare.ensures.terminal in
+    let column : column_in c.meet.new.self.terminal.disc ≤ column_in v.terminal.disc + 4096 = subst (λ (t : Terminal). column_in c.meet.new.self.terminal.disc ≤ column_in t.disc + 4096) c.prepare.ensures.terminal c.meet.ensures.column in
+    let keeps : drops_of o ≡ false = subst (λ (w : PortValue). drops_of (outcome w.terminal (caller_at w.terminal d) call) ≡ false) (sym c.self.view_is) c.requires.keeps in
+    let e : PlainEntry = caller_entry v d (parted c.in-Takes.count) in
+    let entry : entry_of c.entry_of_call-entry-in-Takes.result ≡ e = ap entry_of c.entry_of_call-entry-in-Takes.ensures ∙ (λ i. record { who = Caller d; step = ready.next i; part = (c.caller-state.ensures i).parts; generation = c.generation-generation.ensures i; event = parted c.in-Takes.count }) in
+    let js : entries_of c.add_entry_of_call-in-Takes.new.journal.items ≡ v.journal ++ e ∷ [] = entries_added c.self.inside.journal.items c.reserve_entry.new.journal.items c.entry_of_call-entry-in-Takes.result c.add_entry_of_call-in-Takes.new.journal.items c.in_ok-reserve_entry.ensures.items c.add_entry_of_call-in-Takes.ensures.journal ∙ ap (λ (x : PlainEntry). v.journal ++ x ∷ []) entry in
+    let at_step : c.entry_of_call-entry-in-Takes.result.step ≡ step = ap (λ x. x.step) c.entry_of_call-entry-in-Takes.ensures in
+    let kept_now : c.add_entry_of_call-in-Takes.new.kept.items ≡ kept_after ks d step c.in_ok-made.made.copy = c.add_entry_of_call-in-Takes.ensures.kept ∙ (λ i. kept_after (c.in_ok-made.ensures.items i) d (at_step i) c.in_ok-made.made.copy) in
+    let places_now : c.add_entry_of_call-in-Takes.new.places.items ≡ places_after places ks d c.in_ok-made.made.copy = c.add_entry_of_call-in-Takes.ensures.places ∙ ap (λ (xs : List KeptCall). places_after places xs d c.in_ok-made.made.copy) c.in_ok-made.ensures.items in
+    let kept_plain : map kept_of c.add_entry_of_call-in-Takes.new.kept.items ≡ kept_with (has_begun (caller_at v.terminal d)) v.kept d step call = ap (λ (xs : List KeptCall). map kept_of xs) kept_now ∙ kept_is (has_begun (caller_at v.terminal d)) ks d step call c.in_ok-made.made.copy copied in
+    let now : PortValue = record v { terminal = c.note_part.new.self.terminal; journal = entries_of c.add_entry_of_call-in-Takes.new.journal.items; kept = map kept_of c.add_entry_of_call-in-Takes.new.kept.items; starved = c.prepare.new.starved; flip = v.flip } in
+    let goes : c.note_part.new.self.terminal ≡ after_part c.meet.new.self.terminal d (handle_of call) c.in-Takes.count = ap (λ r. r.terminal) c.note_part.ensures ∙ ap (λ (h : ℕ). after_part c.meet.new.self.terminal d h c.in-Takes.count) c.handle.ensures in
+    let same : now ≡ after_call v d step call (after_part c.meet.new.self.terminal d (handle_of call) c.in-Takes.count) v.flip e = made v _ (after_part c.meet.new.self.terminal d (handle_of call) c.in-Takes.count) _ (v.journal ++ e ∷ []) _ (kept_with (has_begun (caller_at v.terminal d)) v.kept d step call) _ v.flip v.flip goes js kept_plain (c.in_ok-made.ensures.ok ∙ c.in_ok-reserve_entry.ensures.ok) refl in
+    let both = takes_part_of v now ks places d step call c.in_ok-made.made.copy c.in-Takes.count c.meet.new.self.terminal tried
+    (parts_met o c.in-Takes.count (subst (λ (x : Outcome). Meets x (met.Takes c.in-Takes.count)) same_o c.in-Takes.ensures.met)) left column same in
+    subst (λ (z : List KeptCall × List ℕ). KeepsPlaces now z.0 z.1) (λ i. (sym kept_now i, sym places_now i)) both.0
+
+pub returns-in-Takes-clause-tried : goal.returns-in-Takes-clause-tried
+returns-in-Takes-clause-tried c =
+    let v : PortValue = value_of c.self.inside in
+    let d = c.args.caller in
+    let step = c.args.step in
+    let call = call_of c.args.call.now in
+    let ks : List KeptCall = c.self.inside.kept.items in
+    let places : List ℕ = c.self.inside.places.items in
+    let ready : IsReady v d step call = subst (λ (w : PortValue). IsReady w d step call) (sym c.self.view_is) c.requires.ready in
+    let few : length v.journal < v.limit = subst (λ (w : PortValue). length w.journal < w.limit) (sym c.self.view_is) c.requires.open.0 in
+    let begun : c.is_some-begun.result ≡ has_begun (caller_at v.terminal d) = begun_is v.terminal d c.caller-state.result c.is_some-begun.result c.caller-state.ensures c.is_some-begun.ensures in
+    let copied : IsCopyOf (has_begun (caller_at v.terminal d)) call c.in_ok-made.made.copy = subst (λ (b : Bool). IsCopyOf b call c.in_ok-made.made.copy) begun c.in_ok-made.ensures.kept in
+    let tried : IsTried v ks places d step call c.in_ok-made.made.copy = record { keeps = c.self.invariant; kept = refl; few = few; ready = ready; copied = copied } in
+    let o = outcome v.terminal (caller_at v.terminal d) call in
+    let same_o : outcome c.prepare.new.terminal.terminal (caller_at c.prepare.new.terminal.terminal d) call ≡ o = ap (λ (t : Terminal). outcome t (caller_at t d) call) c.prepare.ensures.terminal in
+    let left : c.meet.new.self.terminal ≡ left_by o v.terminal = c.meet.ensures.left ∙ ap (λ (t : Terminal). left_by (outcome t (caller_at t d) call) t) c.prepare.ensures.terminal in
+    let column : column_in c.meet.new.self.terminal.disc ≤ column_in v.terminal.disc + 4096 = subst (λ (t : Terminal). column_in c.meet.new.self.terminal.disc ≤ column_in t.disc + 4096) c.prepare.ensures.terminal c.meet.ensures.column in
+    let keeps : drops_of o ≡ false = subst (λ (w : PortValue). drops_of (outcome w.terminal (caller_at w.terminal d) call) ≡ false) (sym c.self.view_is) c.requires.keeps in
+    let e : PlainEntry = caller_entry v d (parted c.in-Takes.count) in
+    let entry : entry_of c.entry_of_call-entry-in-Takes.result ≡ e = ap entry_of c.entry_of_call-entry-in-Takes.ensures ∙ (λ i. record { who = Caller d; step = ready.next i; part = (c.caller-state.ensures i).parts; generation = c.generation-generation.ensures i; event = parted c.in-Takes.count }) in
+    let js : entries_of c.add_entry_of_call-in-Takes.new.journal.items ≡ v.journal ++ e ∷ [] = entries_added c.self.inside.journal.items c.reserve_entry.new.journal.items c.entry_of_call-entry-in-Takes.result c.add_entry_of_call-in-Takes.new.journal.items c.in_ok-reserve_entry.ensures.items c.add_entry_of_call-in-Takes.ensures.journal ∙ ap (λ (x : PlainEntry). v.journal ++ x ∷ []) entry in
+    let at_step : c.entry_of_call-entry-in-Takes.result.step ≡ step = ap (λ x. x.step) c.entry_of_call-entry-in-Takes.ensures in
+    let kept_now : c.add_entry_of_call-in-Takes.new.kept.items ≡ kept_after ks d step c.in_ok-made.made.copy = c.add_entry_of_call-in-Takes.ensures.kept ∙ (λ i. kept_after (c.in_ok-made.ensures.items i) d (at_step i) c.in_ok-made.made.copy) in
+    let places_now : c.add_entry_of_call-in-Takes.new.places.items ≡ places_after places ks d c.in_ok-made.made.copy = c.add_entry_of_call-in-Takes.ensures.places ∙ ap (λ (xs : List KeptCall). places_after places xs d c.in_ok-made.made.copy) c.in_ok-made.ensures.items in
+    let kept_plain : map kept_of c.add_entry_of_call-in-Takes.new.kept.items ≡ kept_with (has_begun (caller_at v.terminal d)) v.kept d step call = ap (λ (xs : List KeptCall). map kept_of xs) kept_now ∙ kept_is (has_begun (caller_at v.terminal d)) ks d step call c.in_ok-made.made.copy copied in
+    let now : PortValue = record v { terminal = c.note_part.new.self.terminal; journal = entries_of c.add_entry_of_call-in-Takes.new.journal.items; kept = map kept_of c.add_entry_of_call-in-Takes.new.kept.items; starved = c.prepare.new.starved; flip = v.flip } in
+    let goes : c.note_part.new.self.terminal ≡ after_part c.meet.new.self.terminal d (handle_of call) c.in-Takes.count = ap (λ r. r.terminal) c.note_part.ensures ∙ ap (λ (h : ℕ). after_part c.meet.new.self.terminal d h c.in-Takes.count) c.handle.ensures in
+    let same : now ≡ after_call v d step call (after_part c.meet.new.self.terminal d (handle_of call) c.in-Takes.count) v.flip e = made v _ (after_part c.meet.new.self.terminal d (handle_of call) c.in-Takes.count) _ (v.journal ++ e ∷ []) _ (kept_with (has_begun (caller_at v.terminal d)) v.kept d step call) _ v.flip v.flip goes js kept_plain (c.in_ok-made.ensures.ok ∙ c.in_ok-reserve_entry.ensures.ok) refl in
+    let both = takes_part_of v now ks places d step call c.in_ok-made.made.copy c.in-Takes.count c.meet.new.self.terminal tried
+    (parts_met o c.in-Takes.count (subst (λ (x : Outcome). Meets x (met.Takes c.in-Takes.count)) same_o c.in-Takes.ensures.met)) left column same in
+    subst (λ (w : PortValue). TakesPartOf w now d step call) c.self.view_is both.1

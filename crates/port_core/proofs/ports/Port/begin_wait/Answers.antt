@@ -1,66 +1,77 @@
-use Rattle.std.proofs.Common.{◌≡◌, ℕ, [], ◌∷◌, ◌++◌, Bool, None, ◌<◌, length, map, sym, ◌∙◌, subst, ap}
-use Rattle.tty_calls.specs.Plain.{PlainCall, PlainEntry, call_of, handle_of, waited, entries_of}
+use Rattle.std.proofs.Common.{◌≡◌, ℕ, List, [], ◌∷◌, ◌++◌, Bool, None, ◌<◌, length, map, refl, sym, ◌∙◌, ap, subst}
 use Rattle.tty_calls.specs.declared.journals.Who.TheVariants.{Caller}
-use Rattle.tty_terminal.specs.Terminals.{Terminal, caller_at, has_begun}
-use Rattle.tty_terminal.specs.Outcomes.{outcome}
-use Rattle.tty_terminal.specs.Steps.{MustWait, with_caller, waiting_since}
-use Rattle.port_core.specs.Ports.{PortValue, IsReady, Attempts, must_wait, kept_with}
-use Rattle.port_core.specs.Kept.{kept_of}
-use Rattle.port_core.specs.Inside.{value_of}
-use Rattle.port_core.proofs.Entries.{entries_added, known_caller}
-use Rattle.port_core.proofs.Calls.{call_entry, after_call, made, begun_is, wait_goes_on}
+use Rattle.tty_calls.specs.Plain.{PlainEntry, waited, handle_of, call_of, entry_of, entries_of}
+use Rattle.tty_terminal.specs.Terminals.{caller_at, has_begun}
+use Rattle.tty_terminal.specs.Calls.{outcome}
+use Rattle.tty_terminal.specs.Steps.{MustWait, after_wait}
+use Rattle.port_core.specs.declared.entries.KeptCall.{KeptCall}
+use Rattle.port_core.specs.Kept.{kept_of, IsCopyOf, kept_after, places_after}
+use Rattle.port_core.specs.Ports.{PortValue, kept_with, caller_entry}
+use Rattle.port_core.specs.Attempts.{IsReady, MustGoOnWaiting}
+use Rattle.port_core.specs.Inside.{value_of, KeepsPlaces}
+use Rattle.port_core.proofs.GoingOn.{made, entries_added, known_caller}
+use Rattle.port_core.proofs.Calls.{kept_is, begun_is}
+use Rattle.port_core.proofs.Answering.{IsTried, after_call, begins_to_wait}
 use Rattle.port_core.proofs.ports.Port.begin_wait.Goals as goal
 
 pub caller-state-requires : goal.caller-state-requires
-caller-state-requires c = known_caller (value_of c.self.inside) c.args.self.now c.args.caller c.self.view_is c.self.invariant c.requires.ready.known
+caller-state-requires c = known_caller (value_of c.self.inside) c.args.self.now c.args.caller c.self.view_is c.self.invariant.port c.requires.ready.known
 
 pub wait-requires-clause-known : goal.wait-requires-clause-known
-wait-requires-clause-known c = known_caller (value_of c.self.inside) c.args.self.now c.args.caller c.self.view_is c.self.invariant c.requires.ready.known
+wait-requires-clause-known c = known_caller (value_of c.self.inside) c.args.self.now c.args.caller c.self.view_is c.self.invariant.port c.requires.ready.known
 
 pub invariant_of-self-2 : goal.invariant_of-self-2
 invariant_of-self-2 c =
     let v : PortValue = value_of c.self.inside in
-    let t : Terminal = v.terminal in
-    let call : PlainCall = call_of c.args.call.now in
-    let ready : IsReady v c.args.caller c.args.step call = subst (λ (w : PortValue). IsReady w c.args.caller c.args.step call) (sym c.self.view_is) c.requires.ready in
+    let d = c.args.caller in
+    let step = c.args.step in
+    let call = call_of c.args.call.now in
+    let ks : List KeptCall = c.self.inside.kept.items in
+    let places : List ℕ = c.self.inside.places.items in
+    let ready : IsReady v d step call = subst (λ (w : PortValue). IsReady w d step call) (sym c.self.view_is) c.requires.ready in
     let few : length v.journal < v.limit = subst (λ (w : PortValue). length w.journal < w.limit) (sym c.self.view_is) c.requires.open.0 in
-    let e : PlainEntry = call_entry v c.args.caller c.args.step waited in
-    let entry : record { who = Caller c.args.caller; step = c.args.step; part = c.caller-state.result.parts; generation = c.generation-generation.result; event = waited } ≡ e =
-    cc (ap (λ s. s.parts) c.caller-state.ensures, c.generation-generation.ensures) in
-    let js : entries_of c.add.new.self.items ≡ v.journal ++ e ∷ [] =
-    entries_added c.self.inside.journal.items c.reserve_entry.new.journal.items _ c.add.new.self.items c.in_ok-reserve_entry.ensures.items (ap (λ b. b.items) c.add.ensures)
-    ∙ ap (λ (x : PlainEntry). v.journal ++ x ∷ []) entry in
-    let begun : c.is_some-begun.result ≡ has_begun (caller_at t c.args.caller) = begun_is t c.args.caller c.caller-state.result c.is_some-begun.result c.caller-state.ensures c.is_some-begun.ensures in
-    let ks : map kept_of c.keep_call.new.kept.items ≡ kept_with (has_begun (caller_at t c.args.caller)) v.kept c.args.caller c.args.step call =
-    c.in_ok-keep_call.ensures.kept ∙ ap (λ (b : Bool). kept_with b v.kept c.args.caller c.args.step call) begun in
-    let starved : c.keep_call.new.starved ≡ v.starved = c.in_ok-keep_call.ensures.ok ∙ c.in_ok-reserve_entry.ensures.ok in
-    let now : PortValue = value_of (record c.self.inside { terminal = c.wait.new.self; journal = c.add.new.self; kept = c.keep_call.new.kept; starved = c.keep_call.new.starved }) in
-    let is : now ≡ after_call v c.args.caller c.args.step call waited (with_caller t c.args.caller (waiting_since t (caller_at t c.args.caller) (handle_of call))) = made v c.wait.new.self (with_caller t c.args.caller (waiting_since t (caller_at t c.args.caller) (handle_of call))) _ _ _ _ c.keep_call.new.starved (c.wait.ensures ∙ ap (λ (h : ℕ). with_caller t c.args.caller (waiting_since t (caller_at t c.args.caller) h)) c.handle.ensures) js ks starved in
-    let must : MustWait (outcome t (caller_at t c.args.caller) call) = subst (λ (w : PortValue). MustWait (outcome w.terminal (caller_at w.terminal c.args.caller) call)) (sym c.self.view_is) c.requires.must in
-    let first : (caller_at t c.args.caller).waits ≡ None = subst (λ (w : PortValue). (caller_at w.terminal c.args.caller).waits ≡ None) (sym c.self.view_is) c.requires.first in
-    let goes = wait_goes_on v now c.args.caller c.args.step call c.self.invariant few ready must first is in
-    goes.0
+    let begun : c.is_some-begun.result ≡ has_begun (caller_at v.terminal d) = begun_is v.terminal d c.caller-state.result c.is_some-begun.result c.caller-state.ensures c.is_some-begun.ensures in
+    let copied : IsCopyOf (has_begun (caller_at v.terminal d)) call c.in_ok-copy.copy = subst (λ (b : Bool). IsCopyOf b call c.in_ok-copy.copy) begun c.in_ok-copy.ensures.copy in
+    let tried : IsTried v ks places d step call c.in_ok-copy.copy = record { keeps = c.self.invariant; kept = refl; few = few; ready = ready; copied = copied } in
+    let e : PlainEntry = caller_entry v d waited in
+    let entry : entry_of c.entry_of_call-entry.result ≡ e = ap entry_of c.entry_of_call-entry.ensures ∙ (λ i. record { who = Caller d; step = ready.next i; part = (c.caller-state.ensures i).parts; generation = c.generation-generation.ensures i; event = waited }) in
+    let js : entries_of c.add_entry_of_call.new.journal.items ≡ v.journal ++ e ∷ [] = entries_added c.self.inside.journal.items c.reserve_entry.new.journal.items c.entry_of_call-entry.result c.add_entry_of_call.new.journal.items c.in_ok-reserve_entry.ensures.items c.add_entry_of_call.ensures.journal ∙ ap (λ (x : PlainEntry). v.journal ++ x ∷ []) entry in
+    let at_step : c.entry_of_call-entry.result.step ≡ step = ap (λ x. x.step) c.entry_of_call-entry.ensures in
+    let kept_now : c.add_entry_of_call.new.kept.items ≡ kept_after ks d step c.in_ok-copy.copy = c.add_entry_of_call.ensures.kept ∙ (λ i. kept_after (c.in_ok-copy.ensures.items i) d (at_step i) c.in_ok-copy.copy) in
+    let places_now : c.add_entry_of_call.new.places.items ≡ places_after places ks d c.in_ok-copy.copy = c.add_entry_of_call.ensures.places ∙ ap (λ (xs : List KeptCall). places_after places xs d c.in_ok-copy.copy) c.in_ok-copy.ensures.items in
+    let kept_plain : map kept_of c.add_entry_of_call.new.kept.items ≡ kept_with (has_begun (caller_at v.terminal d)) v.kept d step call = ap (λ (xs : List KeptCall). map kept_of xs) kept_now ∙ kept_is (has_begun (caller_at v.terminal d)) ks d step call c.in_ok-copy.copy copied in
+    let left : c.wait.new.self.terminal ≡ after_wait v.terminal d (handle_of call) = ap (λ r. r.terminal) c.wait.ensures ∙ ap (λ (h : ℕ). after_wait v.terminal d h) c.handle.ensures in
+    let now : PortValue = record v { terminal = c.wait.new.self.terminal; journal = entries_of c.add_entry_of_call.new.journal.items; kept = map kept_of c.add_entry_of_call.new.kept.items; starved = c.copy_unless_begun.new.starved; flip = v.flip } in
+    let same : now ≡ after_call v d step call (after_wait v.terminal d (handle_of call)) v.flip e = made v _ (after_wait v.terminal d (handle_of call)) _ (v.journal ++ e ∷ []) _ (kept_with (has_begun (caller_at v.terminal d)) v.kept d step call) _ v.flip v.flip left js kept_plain (c.in_ok-copy.ensures.ok ∙ c.in_ok-reserve_entry.ensures.ok) refl in
+    let must : MustWait (outcome v.terminal (caller_at v.terminal d) call) = subst (λ (w : PortValue). MustWait (outcome w.terminal (caller_at w.terminal d) call)) (sym c.self.view_is) c.requires.must in
+    let first : (caller_at v.terminal d).waits ≡ None = subst (λ (w : PortValue). (caller_at w.terminal d).waits ≡ None) (sym c.self.view_is) c.requires.first in
+    let both = begins_to_wait v now ks places d step call c.in_ok-copy.copy tried must first same in
+    subst (λ (z : List KeptCall × List ℕ). KeepsPlaces now z.0 z.1) (λ i. (sym kept_now i, sym places_now i)) both.0
 
 pub returns-clause-tried : goal.returns-clause-tried
 returns-clause-tried c =
     let v : PortValue = value_of c.self.inside in
-    let t : Terminal = v.terminal in
-    let call : PlainCall = call_of c.args.call.now in
-    let ready : IsReady v c.args.caller c.args.step call = subst (λ (w : PortValue). IsReady w c.args.caller c.args.step call) (sym c.self.view_is) c.requires.ready in
+    let d = c.args.caller in
+    let step = c.args.step in
+    let call = call_of c.args.call.now in
+    let ks : List KeptCall = c.self.inside.kept.items in
+    let places : List ℕ = c.self.inside.places.items in
+    let ready : IsReady v d step call = subst (λ (w : PortValue). IsReady w d step call) (sym c.self.view_is) c.requires.ready in
     let few : length v.journal < v.limit = subst (λ (w : PortValue). length w.journal < w.limit) (sym c.self.view_is) c.requires.open.0 in
-    let e : PlainEntry = call_entry v c.args.caller c.args.step waited in
-    let entry : record { who = Caller c.args.caller; step = c.args.step; part = c.caller-state.result.parts; generation = c.generation-generation.result; event = waited } ≡ e =
-    cc (ap (λ s. s.parts) c.caller-state.ensures, c.generation-generation.ensures) in
-    let js : entries_of c.add.new.self.items ≡ v.journal ++ e ∷ [] =
-    entries_added c.self.inside.journal.items c.reserve_entry.new.journal.items _ c.add.new.self.items c.in_ok-reserve_entry.ensures.items (ap (λ b. b.items) c.add.ensures)
-    ∙ ap (λ (x : PlainEntry). v.journal ++ x ∷ []) entry in
-    let begun : c.is_some-begun.result ≡ has_begun (caller_at t c.args.caller) = begun_is t c.args.caller c.caller-state.result c.is_some-begun.result c.caller-state.ensures c.is_some-begun.ensures in
-    let ks : map kept_of c.keep_call.new.kept.items ≡ kept_with (has_begun (caller_at t c.args.caller)) v.kept c.args.caller c.args.step call =
-    c.in_ok-keep_call.ensures.kept ∙ ap (λ (b : Bool). kept_with b v.kept c.args.caller c.args.step call) begun in
-    let starved : c.keep_call.new.starved ≡ v.starved = c.in_ok-keep_call.ensures.ok ∙ c.in_ok-reserve_entry.ensures.ok in
-    let now : PortValue = value_of (record c.self.inside { terminal = c.wait.new.self; journal = c.add.new.self; kept = c.keep_call.new.kept; starved = c.keep_call.new.starved }) in
-    let is : now ≡ after_call v c.args.caller c.args.step call waited (with_caller t c.args.caller (waiting_since t (caller_at t c.args.caller) (handle_of call))) = made v c.wait.new.self (with_caller t c.args.caller (waiting_since t (caller_at t c.args.caller) (handle_of call))) _ _ _ _ c.keep_call.new.starved (c.wait.ensures ∙ ap (λ (h : ℕ). with_caller t c.args.caller (waiting_since t (caller_at t c.args.caller) h)) c.handle.ensures) js ks starved in
-    let must : MustWait (outcome t (caller_at t c.args.caller) call) = subst (λ (w : PortValue). MustWait (outcome w.terminal (caller_at w.terminal c.args.caller) call)) (sym c.self.view_is) c.requires.must in
-    let first : (caller_at t c.args.caller).waits ≡ None = subst (λ (w : PortValue). (caller_at w.terminal c.args.caller).waits ≡ None) (sym c.self.view_is) c.requires.first in
-    let goes = wait_goes_on v now c.args.caller c.args.step call c.self.invariant few ready must first is in
-    subst (λ (w : PortValue). Attempts w now c.args.caller c.args.step call must_wait) c.self.view_is goes.1
+    let begun : c.is_some-begun.result ≡ has_begun (caller_at v.terminal d) = begun_is v.terminal d c.caller-state.result c.is_some-begun.result c.caller-state.ensures c.is_some-begun.ensures in
+    let copied : IsCopyOf (has_begun (caller_at v.terminal d)) call c.in_ok-copy.copy = subst (λ (b : Bool). IsCopyOf b call c.in_ok-copy.copy) begun c.in_ok-copy.ensures.copy in
+    let tried : IsTried v ks places d step call c.in_ok-copy.copy = record { keeps = c.self.invariant; kept = refl; few = few; ready = ready; copied = copied } in
+    let e : PlainEntry = caller_entry v d waited in
+    let entry : entry_of c.entry_of_call-entry.result ≡ e = ap entry_of c.entry_of_call-entry.ensures ∙ (λ i. record { who = Caller d; step = ready.next i; part = (c.caller-state.ensures i).parts; generation = c.generation-generation.ensures i; event = waited }) in
+    let js : entries_of c.add_entry_of_call.new.journal.items ≡ v.journal ++ e ∷ [] = entries_added c.self.inside.journal.items c.reserve_entry.new.journal.items c.entry_of_call-entry.result c.add_entry_of_call.new.journal.items c.in_ok-reserve_entry.ensures.items c.add_entry_of_call.ensures.journal ∙ ap (λ (x : PlainEntry). v.journal ++ x ∷ []) entry in
+    let at_step : c.entry_of_call-entry.result.step ≡ step = ap (λ x. x.step) c.entry_of_call-entry.ensures in
+    let kept_now : c.add_entry_of_call.new.kept.items ≡ kept_after ks d step c.in_ok-copy.copy = c.add_entry_of_call.ensures.kept ∙ (λ i. kept_after (c.in_ok-copy.ensures.items i) d (at_step i) c.in_ok-copy.copy) in
+    let places_now : c.add_entry_of_call.new.places.items ≡ places_after places ks d c.in_ok-copy.copy = c.add_entry_of_call.ensures.places ∙ ap (λ (xs : List KeptCall). places_after places xs d c.in_ok-copy.copy) c.in_ok-copy.ensures.items in
+    let kept_plain : map kept_of c.add_entry_of_call.new.kept.items ≡ kept_with (has_begun (caller_at v.terminal d)) v.kept d step call = ap (λ (xs : List KeptCall). map kept_of xs) kept_now ∙ kept_is (has_begun (caller_at v.terminal d)) ks d step call c.in_ok-copy.copy copied in
+    let left : c.wait.new.self.terminal ≡ after_wait v.terminal d (handle_of call) = ap (λ r. r.terminal) c.wait.ensures ∙ ap (λ (h : ℕ). after_wait v.terminal d h) c.handle.ensures in
+    let now : PortValue = record v { terminal = c.wait.new.self.terminal; journal = entries_of c.add_entry_of_call.new.journal.items; kept = map kept_of c.add_entry_of_call.new.kept.items; starved = c.copy_unless_begun.new.starved; flip = v.flip } in
+    let same : now ≡ after_call v d step call (after_wait v.terminal d (handle_of call)) v.flip e = made v _ (after_wait v.terminal d (handle_of call)) _ (v.journal ++ e ∷ []) _ (kept_with (has_begun (caller_at v.terminal d)) v.kept d step call) _ v.flip v.flip left js kept_plain (c.in_ok-copy.ensures.ok ∙ c.in_ok-reserve_entry.ensures.ok) refl in
+    let must : MustWait (outcome v.terminal (caller_at v.terminal d) call) = subst (λ (w : PortValue). MustWait (outcome w.terminal (caller_at w.terminal d) call)) (sym c.self.view_is) c.requires.must in
+    let first : (caller_at v.terminal d).waits ≡ None = subst (λ (w : PortValue). (caller_at w.terminal d).waits ≡ None) (sym c.self.view_is) c.requires.first in
+    let both = begins_to_wait v now ks places d step call c.in_ok-copy.copy tried must first same in
+    subst (λ (w : PortValue). MustGoOnWaiting w now d step call) c.self.view_is both.1

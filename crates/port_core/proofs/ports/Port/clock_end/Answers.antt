@@ -1,9 +1,10 @@
 use Rattle.std.proofs.Common.{◌≡◌, [], ◌∷◌, ◌++◌, ◌<◌, length, refl, sym, subst, ap, false}
 use Rattle.tty_calls.specs.Plain.{PlainEntry, clock_ended, entries_of}
 use Rattle.tty_calls.specs.declared.journals.Who.TheVariants.{Clock}
-use Rattle.port_core.specs.Ports.{PortValue, with_entry}
+use Rattle.tty_terminal.specs.Steps.{after}
+use Rattle.port_core.specs.Ports.{PortValue, with_entry, call_in}
 use Rattle.port_core.specs.Inside.{value_of}
-use Rattle.port_core.proofs.Entries.{plainly, entries_added}
+use Rattle.port_core.proofs.GoingOn.{still, made, entries_added}
 use Rattle.port_core.proofs.ports.Port.clock_end.Goals as goal
 
 pub invariant_of-self-2 : goal.invariant_of-self-2
@@ -13,5 +14,8 @@ invariant_of-self-2 c =
     let over : v.terminal.clock_over ≡ false = subst (λ (w : PortValue). w.terminal.clock_over ≡ false) (sym c.self.view_is) c.requires in
     let e : PlainEntry = record { who = Clock; step = c.phase.result; part = 0; generation = c.generation.result; event = clock_ended } in
     let js : entries_of c.add.new.self.items ≡ v.journal ++ e ∷ [] = entries_added c.self.inside.journal.items c.reserve_entry.new.journal.items _ c.add.new.self.items c.in_ok-reserve_entry.ensures.items (ap (λ b. b.items) c.add.ensures) in
-    let same : with_entry v e ≡ value_of (record c.self.inside { terminal = c.end_clock.new.self; journal = c.add.new.self; starved = c.reserve_entry.new.starved }) = cc (c.in_ok-reserve_entry.ensures.ok) in
-    plainly v (value_of (record c.self.inside { terminal = c.end_clock.new.self; journal = c.add.new.self; starved = c.reserve_entry.new.starved })) e c.self.invariant few (c.generation.ensures, (refl, record { phase = record { at_step = c.phase.ensures; at_part = refl }; not_over = over })) refl c.self.invariant.sent refl same
+    let now : PortValue = record v { terminal = c.end_clock.new.self.terminal; journal = entries_of c.add.new.self.items; starved = c.reserve_entry.new.starved; flip = v.flip } in
+    let same : now ≡ record (with_entry v e) { flip = v.flip } = made v _ (after (call_in v.kept) v.terminal e) _ (v.journal ++ e ∷ []) v.kept v.kept _ v.flip v.flip (ap (λ r. r.terminal) c.end_clock.ensures) js refl c.in_ok-reserve_entry.ensures.ok refl in
+    still v now c.self.inside.kept.items c.self.inside.places.items v.flip e c.self.invariant few
+    (c.generation.ensures, (refl, record { phase = record { at_step = c.phase.ensures; at_part = refl }; not_over = over }))
+    refl refl c.self.invariant.port.sent refl refl refl refl same

@@ -1,37 +1,85 @@
-use Rattle.std.proofs.Common.{◌≡◌, ℕ, List, [], ◌∷◌, ◌++◌, ◌<◌, length, drop, sym, ◌∙◌, subst, ap, rules, arith}
+use Rattle.std.proofs.Common.{◌≡◌, ℕ, List, [], ◌∷◌, ◌++◌, ◌<◌, length, refl, sym, ◌∙◌, subst, ap, rules, arith, length-append}
 use Rattle.tty_base.specs.declared.characters.Flagged.{Flagged}
 use Rattle.tty_calls.specs.Plain.{PlainEntry, hung_up, entries_of}
 use Rattle.tty_calls.specs.declared.journals.Who.TheVariants.{Session}
-use Rattle.tty_terminal.specs.Outcomes.{hung_by}
-use Rattle.port_core.specs.Ports.{PortValue, with_entry, hangup_entry}
+use Rattle.tty_terminal.specs.Generations.{after_hangup}
+use Rattle.tty_terminal.specs.Steps.{after, with_dropped}
+use Rattle.port_core.specs.Phases.{HangsUp}
+use Rattle.port_core.specs.Ports.{PortValue, with_entry, call_in, hangup_entry}
 use Rattle.port_core.specs.Inside.{value_of}
-use Rattle.port_core.proofs.Entries.{entries_added, port_bounded}
-use Rattle.port_core.proofs.Handing.{hangup_goes_on, made_hangup}
+use Rattle.port_core.proofs.GoingOn.{made, entries_added, port_bounded, port_taken, port_within, port_few}
+use Rattle.port_core.proofs.Ending.{hangs_up}
 use Rattle.port_core.proofs.ports.Port.last_hangup.Goals as goal
 
+pub drop_rest-requires-clause-within : goal.drop_rest-requires-clause-within
+drop_rest-requires-clause-within c =
+    let v : PortValue = value_of c.self.inside in
+    let sent : v.terminal.sent ≡ length c.args.putter.sent = subst (λ (w : PortValue). w.terminal.sent ≡ length c.args.putter.sent) (sym c.self.view_is) c.requires.sent in
+    omega (arith, port_within v c.self.invariant.port, sent)
+
 pub hang_up-requires-clause-few : goal.hang_up-requires-clause-few
-hang_up-requires-clause-few c = omega (arith, (port_bounded (value_of c.self.inside) c.self.invariant).generation)
+hang_up-requires-clause-few c = omega (arith, (port_bounded (value_of c.self.inside) c.self.invariant.port).generation)
+
+pub drop_characters-requires : goal.drop_characters-requires
+drop_characters-requires c =
+    let v : PortValue = value_of c.self.inside in
+    let sent : v.terminal.sent ≡ length c.args.putter.sent = subst (λ (w : PortValue). w.terminal.sent ≡ length c.args.putter.sent) (sym c.self.view_is) c.requires.sent in
+    let hung = ap (λ r. r.terminal.taken) c.hang_up.ensures in
+    let dropped = c.len.ensures ∙ ap length c.trimmed-dropped.ensures in
+    let whole = ap length (sym c.drop_rest.ensures.all ∙ c.drop_rest.ensures.taken) ∙ length-append v.flip.taken c.drop_rest.new.dropped.items in
+    omega (arith, port_within v c.self.invariant.port, sent, hung, dropped, whole, port_taken v c.self.invariant.port, port_few v c.self.invariant.port, c.self.invariant.port.capacity)
 
 pub overflow_cast-len : goal.overflow_cast-len
 overflow_cast-len c =
     let v : PortValue = value_of c.self.inside in
     let after : v.terminal.phase ≡ length v.counts = subst (λ (w : PortValue). w.terminal.phase ≡ length w.counts) (sym c.self.view_is) c.requires.after in
-    let small : c.len-2.result < 4194305 = omega (arith, (port_bounded v c.self.invariant).phase, after, c.len-2.ensures) in
+    let small : c.len-2.result < 4194305 = omega (arith, (port_bounded v c.self.invariant.port).phase, after, c.len-2.ensures) in
     search rules
 
 pub invariant_of-self-2 : goal.invariant_of-self-2
 invariant_of-self-2 c =
     let v : PortValue = value_of c.self.inside in
     let few : length v.journal < v.limit = subst (λ (w : PortValue). length w.journal < w.limit) (sym c.self.view_is) c.in_ok-gate.ensures.open.0 in
+    let p = c.args.putter in
+    let f = c.drop_rest.new.flip in
     let at_end : v.terminal.phase ≡ length v.counts = subst (λ (w : PortValue). w.terminal.phase ≡ length w.counts) (sym c.self.view_is) c.requires.after in
-    let sent : v.terminal.sent ≡ length v.given = subst (λ (w : PortValue). w.terminal.sent ≡ length w.given) (sym c.self.view_is) c.requires.sent in
-    let after : drop c.taken-taken.result c.as_slice.result.now ≡ drop v.terminal.taken v.given = cc (c.taken-taken.ensures, c.as_slice.ensures) in
-    let rest : c.in_ok-dropped.dropped.items ≡ drop v.terminal.taken v.given = c.in_ok-dropped.ensures.chars ∙ c.rest_of-rest.ensures ∙ after in
-    let e : PlainEntry = hangup_entry v in
-    let entry : record { who = Session; step = c.len-2.result; part = 0; generation = c.generation-generation.result; event = hung_up c.in_ok-dropped.dropped.items } ≡ e = made_hangup v c.len-2.result c.generation-generation.result c.in_ok-dropped.dropped.items (omega (arith, c.len-2.ensures)) c.generation-generation.ensures rest in
+    let sent : v.terminal.sent ≡ length p.sent = subst (λ (w : PortValue). w.terminal.sent ≡ length p.sent) (sym c.self.view_is) c.requires.sent in
+    let dropped : List Flagged = c.trimmed-dropped.result.items in
+    let exact : dropped ≡ c.drop_rest.new.dropped.items = c.trimmed-dropped.ensures in
+    let taken : f.taken ≡ v.flip.taken ++ dropped = c.drop_rest.ensures.taken ∙ ap (λ (cs : List Flagged). v.flip.taken ++ cs) (sym exact) in
+    let e : PlainEntry = hangup_entry v dropped in
+    let step : c.len-2.result ≡ length v.counts = omega (arith, c.len-2.ensures) in
+    let entry : record { who = Session; step = c.len-2.result; part = 0; generation = c.generation-generation.result; event = hung_up dropped } ≡ e = λ i. record { who = Session; step = step i; part = 0; generation = c.generation-generation.ensures i; event = hung_up dropped } in
     let js : entries_of c.add.new.self.items ≡ v.journal ++ e ∷ [] = entries_added c.self.inside.journal.items c.reserve_entry.new.journal.items _ c.add.new.self.items c.in_ok-reserve_entry.ensures.items (ap (λ b. b.items) c.add.ensures) ∙ ap (λ (x : PlainEntry). v.journal ++ x ∷ []) entry in
-    let now : PortValue = value_of (record c.self.inside { terminal = c.hang_up.new.self; journal = c.add.new.self; starved = c.reserve_entry.new.starved }) in
-    let size : c.len.result ≡ length (drop v.terminal.taken v.given) = c.len.ensures ∙ ap (λ (xs : List Flagged). length xs) rest in
-    let hung : c.hang_up.new.self ≡ hung_by v.terminal (length (drop v.terminal.taken v.given)) = c.hang_up.ensures ∙ ap (λ (n : ℕ). hung_by v.terminal n) size in
-    let same : with_entry v e ≡ now = cc (c.in_ok-reserve_entry.ensures.ok, c.in_ok-dropped.ensures.ok, hung) in
-    hangup_goes_on v now c.self.invariant few at_end sent same
+    let left : c.drop_characters.new.self.terminal ≡ after (call_in v.kept) v.terminal e =
+    ap (λ r. r.terminal) c.drop_characters.ensures ∙ ((λ i. with_dropped (c.hang_up.ensures i).terminal c.len.result) ∙ ap (λ (n : ℕ). with_dropped (after_hangup v.terminal) n) c.len.ensures) in
+    let starved = c.in_ok-rest.ensures.ok ∙ c.in_ok-reserve_entry.ensures.ok in
+    let now : PortValue = record v { terminal = c.drop_characters.new.self.terminal; journal = entries_of c.add.new.self.items; starved = c.room_for_chars.new.starved; flip = f } in
+    let same : now ≡ record (with_entry v e) { flip = f } = made v _ (after (call_in v.kept) v.terminal e) _ (v.journal ++ e ∷ []) v.kept v.kept _ f f left js refl starved refl in
+    let told = c.drop_rest.ensures in
+    let both = hangs_up v now c.self.inside.kept.items c.self.inside.places.items p f dropped c.self.invariant few at_end sent taken told.all told.heads told.floor told.same.0 told.same.1 told.same.2 same in
+    both.0
+
+pub returns-clause-ok : goal.returns-clause-ok
+returns-clause-ok c =
+    let v : PortValue = value_of c.self.inside in
+    let few : length v.journal < v.limit = subst (λ (w : PortValue). length w.journal < w.limit) (sym c.self.view_is) c.in_ok-gate.ensures.open.0 in
+    let p = c.args.putter in
+    let f = c.drop_rest.new.flip in
+    let at_end : v.terminal.phase ≡ length v.counts = subst (λ (w : PortValue). w.terminal.phase ≡ length w.counts) (sym c.self.view_is) c.requires.after in
+    let sent : v.terminal.sent ≡ length p.sent = subst (λ (w : PortValue). w.terminal.sent ≡ length p.sent) (sym c.self.view_is) c.requires.sent in
+    let dropped : List Flagged = c.trimmed-dropped.result.items in
+    let exact : dropped ≡ c.drop_rest.new.dropped.items = c.trimmed-dropped.ensures in
+    let taken : f.taken ≡ v.flip.taken ++ dropped = c.drop_rest.ensures.taken ∙ ap (λ (cs : List Flagged). v.flip.taken ++ cs) (sym exact) in
+    let e : PlainEntry = hangup_entry v dropped in
+    let step : c.len-2.result ≡ length v.counts = omega (arith, c.len-2.ensures) in
+    let entry : record { who = Session; step = c.len-2.result; part = 0; generation = c.generation-generation.result; event = hung_up dropped } ≡ e = λ i. record { who = Session; step = step i; part = 0; generation = c.generation-generation.ensures i; event = hung_up dropped } in
+    let js : entries_of c.add.new.self.items ≡ v.journal ++ e ∷ [] = entries_added c.self.inside.journal.items c.reserve_entry.new.journal.items _ c.add.new.self.items c.in_ok-reserve_entry.ensures.items (ap (λ b. b.items) c.add.ensures) ∙ ap (λ (x : PlainEntry). v.journal ++ x ∷ []) entry in
+    let left : c.drop_characters.new.self.terminal ≡ after (call_in v.kept) v.terminal e =
+    ap (λ r. r.terminal) c.drop_characters.ensures ∙ ((λ i. with_dropped (c.hang_up.ensures i).terminal c.len.result) ∙ ap (λ (n : ℕ). with_dropped (after_hangup v.terminal) n) c.len.ensures) in
+    let starved = c.in_ok-rest.ensures.ok ∙ c.in_ok-reserve_entry.ensures.ok in
+    let now : PortValue = record v { terminal = c.drop_characters.new.self.terminal; journal = entries_of c.add.new.self.items; starved = c.room_for_chars.new.starved; flip = f } in
+    let same : now ≡ record (with_entry v e) { flip = f } = made v _ (after (call_in v.kept) v.terminal e) _ (v.journal ++ e ∷ []) v.kept v.kept _ f f left js refl starved refl in
+    let told = c.drop_rest.ensures in
+    let both = hangs_up v now c.self.inside.kept.items c.self.inside.places.items p f dropped c.self.invariant few at_end sent taken told.all told.heads told.floor told.same.0 told.same.1 told.same.2 same in
+    subst (λ (w : PortValue). HangsUp w now p) c.self.view_is both.1

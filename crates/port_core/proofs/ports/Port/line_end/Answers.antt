@@ -1,18 +1,46 @@
-use Rattle.std.proofs.Common.{◌≡◌, [], ◌∷◌, ◌++◌, ◌<◌, length, refl, sym, subst, ap, false, arith}
+use Rattle.std.proofs.Common.{◌≡◌, ℕ, [], ◌∷◌, ◌++◌, ◌<◌, ◌≤◌, length, refl, sym, ◌∙◌, subst, ap, true, false}
 use Rattle.tty_calls.specs.Plain.{PlainEntry, line_ended, entries_of}
 use Rattle.tty_calls.specs.declared.journals.Who.TheVariants.{Line}
-use Rattle.port_core.specs.Ports.{PortValue, with_entry}
+use Rattle.tty_terminal.specs.Steps.{after}
+use Rattle.port_core.specs.Phases.{EndsLine}
+use Rattle.port_core.specs.Ports.{PortValue, with_entry, call_in, phase_entry}
 use Rattle.port_core.specs.Inside.{value_of}
-use Rattle.port_core.proofs.Entries.{plainly, entries_added}
+use Rattle.port_core.proofs.GoingOn.{made, entries_added}
+use Rattle.port_core.proofs.Ending.{line_ends}
 use Rattle.port_core.proofs.ports.Port.line_end.Goals as goal
 
 pub invariant_of-self-2 : goal.invariant_of-self-2
 invariant_of-self-2 c =
     let v : PortValue = value_of c.self.inside in
     let few : length v.journal < v.limit = subst (λ (w : PortValue). length w.journal < w.limit) (sym c.self.view_is) c.in_ok-gate.ensures.open.0 in
-    let over : v.terminal.line_over ≡ false = subst (λ (w : PortValue). w.terminal.line_over ≡ false) (sym c.self.view_is) c.requires in
-    let all : c.len-sent.result ≡ length v.given = c.len-sent.ensures in
-    let e : PlainEntry = record { who = Line; step = c.phase.result; part = 0; generation = c.generation.result; event = line_ended c.len-sent.result } in
-    let js : entries_of c.add.new.self.items ≡ v.journal ++ e ∷ [] = entries_added c.self.inside.journal.items c.reserve_entry.new.journal.items _ c.add.new.self.items c.in_ok-reserve_entry.ensures.items (ap (λ b. b.items) c.add.ensures) in
-    let same : with_entry v e ≡ value_of (record c.self.inside { terminal = c.end_line.new.self; journal = c.add.new.self; starved = c.reserve_entry.new.starved }) = cc (c.in_ok-reserve_entry.ensures.ok) in
-    plainly v (value_of (record c.self.inside { terminal = c.end_line.new.self; journal = c.add.new.self; starved = c.reserve_entry.new.starved })) e c.self.invariant few (c.generation.ensures, (refl, record { phase = record { at_step = c.phase.ensures; at_part = refl }; not_over = over; taken = omega (arith, c.self.invariant.taken, all); sent = omega (arith, c.self.invariant.sent, all) })) refl (omega (arith, all)) refl same
+    let p = c.args.putter.now in
+    let told = c.tell_each_other.ensures in
+    let over : v.terminal.line_over ≡ false = subst (λ (w : PortValue). w.terminal.line_over ≡ false) (sym c.self.view_is) c.requires.not_over in
+    let least : v.terminal.sent ≤ length p.sent = subst (λ (w : PortValue). w.terminal.sent ≤ length p.sent) (sym c.self.view_is) c.requires.sent in
+    let sent : c.sent-sent.result ≡ length p.sent = c.sent-sent.ensures ∙ ap (λ q. length q.sent) told.meets.putter in
+    let e : PlainEntry = phase_entry v Line (line_ended (length p.sent)) in
+    let entry : record { who = Line; step = c.phase.result; part = 0; generation = c.generation.result; event = line_ended c.sent-sent.result } ≡ e = λ i. record { who = Line; step = c.phase.ensures i; part = 0; generation = c.generation.ensures i; event = line_ended (sent i) } in
+    let js : entries_of c.add.new.self.items ≡ v.journal ++ e ∷ [] = entries_added c.self.inside.journal.items c.reserve_entry.new.journal.items _ c.add.new.self.items c.in_ok-reserve_entry.ensures.items (ap (λ b. b.items) c.add.ensures) ∙ ap (λ (x : PlainEntry). v.journal ++ x ∷ []) entry in
+    let left : c.end_line.new.self.terminal ≡ after (call_in v.kept) v.terminal e = ap (λ r. r.terminal) c.end_line.ensures ∙ ap (λ (n : ℕ). record v.terminal { sent = n; line_over = true }) sent in
+    let now : PortValue = record v { terminal = c.end_line.new.self.terminal; journal = entries_of c.add.new.self.items; starved = c.reserve_entry.new.starved; flip = c.look.new.self } in
+    let same : now ≡ record (with_entry v e) { flip = c.look.new.self } = made v _ (after (call_in v.kept) v.terminal e) _ (v.journal ++ e ∷ []) v.kept v.kept _ c.look.new.self c.look.new.self left js refl c.in_ok-reserve_entry.ensures.ok refl in
+    let both = line_ends v now c.self.inside.kept.items c.self.inside.places.items p c.tell_each_other.new.putter c.tell_each_other.new.flip c.look.new.self c.look.result c.self.invariant few over least told.flip told.meets c.look.ensures.same c.look.ensures.count c.look.ensures.most c.look.ensures.rises same in
+    both.0
+
+pub returns-clause-ok : goal.returns-clause-ok
+returns-clause-ok c =
+    let v : PortValue = value_of c.self.inside in
+    let few : length v.journal < v.limit = subst (λ (w : PortValue). length w.journal < w.limit) (sym c.self.view_is) c.in_ok-gate.ensures.open.0 in
+    let p = c.args.putter.now in
+    let told = c.tell_each_other.ensures in
+    let over : v.terminal.line_over ≡ false = subst (λ (w : PortValue). w.terminal.line_over ≡ false) (sym c.self.view_is) c.requires.not_over in
+    let least : v.terminal.sent ≤ length p.sent = subst (λ (w : PortValue). w.terminal.sent ≤ length p.sent) (sym c.self.view_is) c.requires.sent in
+    let sent : c.sent-sent.result ≡ length p.sent = c.sent-sent.ensures ∙ ap (λ q. length q.sent) told.meets.putter in
+    let e : PlainEntry = phase_entry v Line (line_ended (length p.sent)) in
+    let entry : record { who = Line; step = c.phase.result; part = 0; generation = c.generation.result; event = line_ended c.sent-sent.result } ≡ e = λ i. record { who = Line; step = c.phase.ensures i; part = 0; generation = c.generation.ensures i; event = line_ended (sent i) } in
+    let js : entries_of c.add.new.self.items ≡ v.journal ++ e ∷ [] = entries_added c.self.inside.journal.items c.reserve_entry.new.journal.items _ c.add.new.self.items c.in_ok-reserve_entry.ensures.items (ap (λ b. b.items) c.add.ensures) ∙ ap (λ (x : PlainEntry). v.journal ++ x ∷ []) entry in
+    let left : c.end_line.new.self.terminal ≡ after (call_in v.kept) v.terminal e = ap (λ r. r.terminal) c.end_line.ensures ∙ ap (λ (n : ℕ). record v.terminal { sent = n; line_over = true }) sent in
+    let now : PortValue = record v { terminal = c.end_line.new.self.terminal; journal = entries_of c.add.new.self.items; starved = c.reserve_entry.new.starved; flip = c.look.new.self } in
+    let same : now ≡ record (with_entry v e) { flip = c.look.new.self } = made v _ (after (call_in v.kept) v.terminal e) _ (v.journal ++ e ∷ []) v.kept v.kept _ c.look.new.self c.look.new.self left js refl c.in_ok-reserve_entry.ensures.ok refl in
+    let both = line_ends v now c.self.inside.kept.items c.self.inside.places.items p c.tell_each_other.new.putter c.tell_each_other.new.flip c.look.new.self c.look.result c.self.invariant few over least told.flip told.meets c.look.ensures.same c.look.ensures.count c.look.ensures.most c.look.ensures.rises same in
+    subst (λ (w : PortValue). EndsLine w now p c.tell_each_other.new.putter) c.self.view_is both.1

@@ -1,8 +1,8 @@
 use Rattle.std.proofs.Common.{◌≡◌, ◌∙◌, ◌≤◌, ℕ, Bool, List, length, true, false, ap, sym, arith}
 use Rattle.std.proofs.Math.ListN.{set}
 use Rattle.tty_modes.specs.Bits.{flags_of}
-use Rattle.tty_modes.specs.Settings.{Settings, set_at, raw_places}
-use Rattle.tty_modes.specs.Word.{changed}
+use Rattle.tty_modes.specs.Settings.{Settings, with_flags_at, raw_places}
+use Rattle.tty_modes.specs.Word.{after_word}
 use Rattle.tty_modes.specs.declared.words.Word.{Word}
 use Rattle.tty_modes.specs.declared.words.Word.TheVariants.{On, Off, Raw}
 use Rattle.tty_modes.proofs.FlagBits.{flags_of-set, flags_of-clear, flags_of-raw, set_fits, clear_fits, set-past, length-flags_of}
@@ -12,10 +12,10 @@ use Rattle.tty_modes.proofs.settings.Modes.apply.Goals as goal
 flags_changed : (before : List Bool) (characters : List ℕ) (modes : Settings) (word given : Word) (after : Settings)
     → (let old : Settings = record { flags = before; characters = characters } in old ≡ modes)
     → given ≡ word
-    → (let old : Settings = record { flags = before; characters = characters } in after ≡ changed old word)
-    → after ≡ changed modes given
+    → (let old : Settings = record { flags = before; characters = characters } in after ≡ after_word old word)
+    → after ≡ after_word modes given
 flags_changed before characters modes word given after view is step =
-    step ∙ ap (λ m. changed m word) view ∙ ap (changed modes) (sym is)
+    step ∙ ap (λ m. after_word m word) view ∙ ap (after_word modes) (sym is)
 
 pub invariant_of-self : goal.invariant_of-self
 invariant_of-self c =
@@ -56,7 +56,7 @@ returns-else-flag-lt-FLAG_COUNT-2 c =
 
 pub returns-in-Raw : goal.returns-in-Raw
 returns-in-Raw c =
-    let is : flags_of 29 c.remove-in-Raw.new.self.0 ≡ set_at false raw_places (flags_of 29 c.self.inside.bits.0) =
+    let is : flags_of 29 c.remove-in-Raw.new.self.0 ≡ with_flags_at false raw_places (flags_of 29 c.self.inside.bits.0) =
     rw (c.remove-in-Raw.ensures tt) (flags_of-raw c.self.inside.bits.0) in
     flags_changed _ c.self.inside.characters _ Raw _ _ c.self.view_is c.in-Raw.is
     (ap (λ flags. record { flags = flags; characters = c.self.inside.characters }) is)

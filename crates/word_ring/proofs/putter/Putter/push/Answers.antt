@@ -2,7 +2,7 @@ use Rattle.std.proofs.Common.{rules, sym, ap, subst, ◌∙◌, ◌/◌, length,
 use Rattle.std.specs.List.Sorted.{IsNonDecreasing}
 use Rattle.word_ring.specs.declared.table.View.{View}
 use Rattle.word_ring.specs.Ends.{PutterState}
-use Rattle.word_ring.specs.Plays.{all_pushed}
+use Rattle.word_ring.specs.Plays.{with_all_pushed}
 use Rattle.word_ring.specs.PutterParts.{IsPutting, sent_of}
 use Rattle.word_ring.specs.Rule.{place}
 use Rattle.word_ring.proofs.Keeps.{stores_tail}
@@ -26,7 +26,7 @@ store-requires c =
 pub invariant_of-self : goal.invariant_of-self
 invariant_of-self c =
     let p = c.self.invariant.putting in
-    let now = c.store.ensures.2.0 ∙ ap all_pushed c.store_lanes.ensures.stored in
+    let now = c.store.ensures.2.0 ∙ ap with_all_pushed c.store_lanes.ensures.stored in
     record {
       table = search rules;
       key = search rules;
@@ -39,7 +39,7 @@ invariant_of-self c =
 pub returns-clause-same : goal.returns-clause-same
 returns-clause-same c =
     let p = c.self.invariant.putting in
-    let now = c.store.ensures.2.0 ∙ ap all_pushed c.store_lanes.ensures.stored in
+    let now = c.store.ensures.2.0 ∙ ap with_all_pushed c.store_lanes.ensures.stored in
     let same = ap (sent_of c.self.inside.sent c.self.inside.word) now ∙ pushed_same _ _ _ _ p in
     let ring = c.store.ensures.0 ∙ c.store_lanes.ensures.same.0 in
     (λ i. record { ring = ring i; capacity = c.self.inside.capacity; sent = same i; pushed = ap (λ v. v.pushed) now i; heads = ap (λ v. v.heads) now i; floor = ap (λ v. v.head) now i })
@@ -48,5 +48,5 @@ returns-clause-same c =
 pub returns-clause-rise : goal.returns-clause-rise
 returns-clause-rise c =
     let p = c.self.invariant.putting in
-    let now = c.store.ensures.2.0 ∙ ap all_pushed c.store_lanes.ensures.stored in
+    let now = c.store.ensures.2.0 ∙ ap with_all_pushed c.store_lanes.ensures.stored in
     subst (λ (v : View). IsNonDecreasing v.heads) (sym now) p.rise

@@ -1,7 +1,7 @@
 use Rattle.std.proofs.Common.{rules, arith, sym, ap, subst, ◌∙◌, ◌+◌, ◌/◌, ◌≤◌, ◌++◌, length, ℕ}
 use Rattle.std.specs.List.Sorted.{IsNonDecreasing}
 use Rattle.word_ring.specs.declared.table.View.{View}
-use Rattle.word_ring.specs.Lanes.{lanes, whole}
+use Rattle.word_ring.specs.Lanes.{lanes, whole_words}
 use Rattle.word_ring.specs.Plays.{with_written}
 use Rattle.word_ring.specs.PutterParts.{IsPutting}
 use Rattle.word_ring.specs.Rule.{place}
@@ -71,7 +71,7 @@ store_lanes-requires-clause-fits c =
     let p = filled c in
     let head = ap (λ v. v.head) c.load-seen.ensures.2.0 in
     let fits = p.fits in
-    subst (λ (k : ℕ). length (whole c.load-seen.new.seat.me.0.written ++ lanes c.with_lane-self-inside.result 4) ≤ c.load-seen.new.seat.me.0.head + k) (sym p.room)
+    subst (λ (k : ℕ). length (whole_words c.load-seen.new.seat.me.0.written ++ lanes c.with_lane-self-inside.result 4) ≤ c.load-seen.new.seat.me.0.head + k) (sym p.room)
     (full_fits _ _ _ _ p c.with_lane-self-inside.result c.args.x c.with_lane-self-inside.ensures (omega arith) c.if-sent-lt3.false)
 
 pub invariant_of-self-2 : goal.invariant_of-self-2
@@ -92,4 +92,4 @@ invariant_of-self-2 c =
 pub returns-clause-rise : goal.returns-clause-rise
 returns-clause-rise c =
     let p = after_load _ _ _ _ c.self.invariant.putting c.load-seen.result c.load-seen.ensures.2.2 in
-    subst (λ (v : View). IsNonDecreasing v.heads) (sym (c.store_lanes.ensures.stored ∙ ap (λ v. with_written v (whole c.load-seen.new.seat.me.0.written ++ lanes c.with_lane-self-inside.result 4)) c.load-seen.ensures.2.0)) p.rise
+    subst (λ (v : View). IsNonDecreasing v.heads) (sym (c.store_lanes.ensures.stored ∙ ap (λ v. with_written v (whole_words c.load-seen.new.seat.me.0.written ++ lanes c.with_lane-self-inside.result 4)) c.load-seen.ensures.2.0)) p.rise

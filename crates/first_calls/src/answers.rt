@@ -1,0 +1,71 @@
+ghost use Rattle.std.specs.Prelude.{◌≡◌, ◌≤◌, [], IfOk, length};
+ghost use Rattle.first_calls.specs.Plain.{answer_of, bytes_in};
+
+use std::alloc::Global;
+use tty_base::{Buffer, Bytes, Counts, Errno, NoMemory, Signal};
+
+/// What a call is answered.
+#[derive(Debug, Drop)]
+pub enum Answer {
+    /// The call did what it is for.
+    Done,
+    /// The bytes that a read gives. None are the end of file.
+    Got(Bytes),
+    /// The call was refused (errno(3)).
+    Refused(Errno),
+    /// The call waited, and nothing could come any more that it waited for.
+    Idle,
+}
+
+impl Answer {
+    /// An equal answer, with memory of its own.
+    pub fn copy(&self, alloc: Global) -> Result<Answer, NoMemory>
+        ensures { IfOk result (λ copy. answer_of copy ≡ answer_of self.now) }
+    {
+        match self {
+            Answer::Done => Ok(Answer::Done),
+            Answer::Got(bytes) => Ok(Answer::Got(bytes.copy(alloc)?)),
+            Answer::Refused(errno) => Ok(Answer::Refused(*errno)),
+            Answer::Idle => Ok(Answer::Idle),
+        }
+    }
+
+    /// An equal answer, in room that was reserved for its bytes. It takes no memory.
+    pub fn copy_into(&self, mut room: Bytes) -> Answer
+        requires empty { room.items ≡ [] }
+        requires fits { length (bytes_in (answer_of self.now)) ≤ room.spare }
+        ensures { answer_of result ≡ answer_of self.now }
+    {
+        match self {
+            Answer::Done => Answer::Done,
+            Answer::Got(bytes) => {
+                room.append(bytes.as_slice());
+                Answer::Got(room)
+            }
+            Answer::Refused(errno) => Answer::Refused(*errno),
+            Answer::Idle => Answer::Idle,
+        }
+    }
+}
+
+/// Why a port made no entry.
+#[derive(Clone, Copy, Debug, PartialEq, Eq)]
+pub enum Denied {
+    /// No memory was left. The port makes no further entry.
+    NoMemory,
+    /// The journal has as many entries as it may have.
+    Full,
+}
+
+/// What is left of a port at its end.
+#[derive(Debug, Drop)]
+pub struct PortEnd {
+    /// What was counted.
+    pub counts: Counts,
+    /// The signals, in the order raised.
+    pub signals: Buffer<Signal>,
+    /// How many discipline changes, hangups and last closes there were.
+    pub generation: u32,
+    /// The bytes that went to the wire.
+    pub wire: Bytes,
+}

@@ -1,0 +1,61 @@
+use super::answers::Answer;
+use tty_base::{Buffer, Chars, LineReport};
+
+/// Who made an entry. A caller's number is the place of its name in the order in which names first
+/// occur for the port.
+#[derive(Clone, Copy, Debug, PartialEq, Eq)]
+pub enum Who {
+    Caller(u16),
+    Flusher,
+    Line,
+    Clock,
+    Session,
+}
+
+/// What one entry of a journal says.
+#[derive(Debug, Drop)]
+pub enum Event {
+    /// A call was answered, and these characters of the flip buffer were dropped with it.
+    Answer(Answer, Chars),
+    /// A write took so many bytes, and is not over.
+    Part(u32),
+    /// A call must wait.
+    Wait,
+    /// These characters went from the flip buffer to the line discipline.
+    Flush(Chars),
+    /// A tenth of a second passed.
+    Tick,
+    /// The line of the phase is over, and so many characters were sent so far.
+    LineEnd(u64),
+    /// The clock of the phase is over.
+    ClockEnd,
+    /// The caller's calls of the phase are over.
+    CallerEnd,
+    /// The phase is over.
+    PhaseEnd,
+    /// The session hangs the port up, and these characters are dropped.
+    Hangup(Chars),
+}
+
+/// An entry of a port's journal: one atomic event.
+#[derive(Debug, Drop)]
+pub struct Entry {
+    pub who: Who,
+    /// The caller's step, the number of the flush run, or the phase.
+    pub step: u32,
+    /// How many parts of the call, or pieces of the flush run, came before.
+    pub part: u32,
+    /// How many discipline changes, hangups and last closes came before.
+    pub generation: u32,
+    pub event: Event,
+}
+
+/// What happened on a port, in order.
+pub type Journal = Buffer<Entry>;
+
+/// One port's journal, and what its line did.
+#[derive(Debug, Drop)]
+pub struct PortRun {
+    pub journal: Journal,
+    pub line: LineReport,
+}

@@ -1,0 +1,31 @@
+use super::calls::Call;
+use arrayvec::ArrayString;
+use tty_base::{Buffer, LineStep};
+
+/// One caller's calls in a phase.
+#[derive(Debug, Drop)]
+pub struct Script {
+    pub port: u8,
+    /// A letter a to z, and up to 15 letters, digits or `_`.
+    pub name: ArrayString<16>,
+    pub calls: Buffer<Call>,
+}
+
+/// A part of the session whose work ends before the next phase begins. `lines` and `ticks` have one
+/// item for each port.
+#[derive(Debug, Drop)]
+pub struct Phase {
+    pub lines: Buffer<Buffer<LineStep>>,
+    pub ticks: Buffer<u32>,
+    pub callers: Buffer<Script>,
+}
+
+/// What is to be played: for each port and phase the line's steps, the clock's ticks and the callers'
+/// calls. `flips` has the capacity of each port's flip buffer.
+#[derive(Debug, Drop)]
+pub struct Session {
+    pub version: u8,
+    pub ports: u8,
+    pub flips: Buffer<u32>,
+    pub phases: Buffer<Phase>,
+}

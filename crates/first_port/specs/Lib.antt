@@ -1,0 +1,5 @@
+pub mod Inside
+pub mod Kept
+pub mod Own
+pub mod Ports
+pub mod Tries

@@ -1,0 +1,5 @@
+mod Answering
+mod Casting
+mod Joined
+mod Numbering
+mod Putting

@@ -1,0 +1,48 @@
+ghost use Rattle.std.specs.Prelude.{◌≡◌, ℕ, IfOk};
+ghost use Rattle.first_calls.specs.Plain.{entry_of, entries_of};
+ghost use Rattle.first_print.specs.Report.{answer_in, answer_by};
+ghost use Rattle.first_print.specs.Printing.{found, told};
+
+use first_calls::{Answer, Entry, Event, Who};
+use std::alloc::Global;
+use std::collections::HashMap;
+use tty_base::NoMemory;
+
+/// A step of a caller: the caller's number, and the number of the step.
+#[derive(Clone, Copy, PartialEq, Eq, Hash)]
+pub(crate) struct Turn {
+    pub(crate) caller: usize,
+    pub(crate) step: usize,
+}
+
+/// The answers of a journal by caller and step.
+pub(crate) fn answers_of(
+    alloc: Global,
+    entries: &[Entry],
+) -> Result<HashMap<Turn, &Answer>, NoMemory>
+    ensures { IfOk result (λ answers. (c step : ℕ) → found answers c step ≡ answer_in (entries_of entries.now) c step) }
+{
+    let mut answers = HashMap::new(alloc);
+    for entry in entries {
+        if let Some((turn, answer)) = answer_of(entry) {
+            answers.insert(turn, answer)?;
+        }
+    }
+    Ok(answers)
+}
+
+/// What an entry answers, and to which step.
+fn answer_of(entry: &Entry) -> Option<(Turn, &Answer)>
+    ensures { (c step : ℕ) → told result c step ≡ answer_by (entry_of entry.now) c step }
+{
+    match (entry.who, &entry.event) {
+        (Who::Caller(caller), Event::Answer(answer, _)) => {
+            let turn = Turn {
+                caller: usize::from(caller),
+                step: entry.step as usize,
+            };
+            Some((turn, answer))
+        }
+        _ => None,
+    }
+}

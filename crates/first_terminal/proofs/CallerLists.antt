@@ -1,0 +1,61 @@
+-- A list of callers after one of them, or each, has changed.
+use Rattle.std.proofs.Common.{◌≡◌, ℕ, zero, suc, ◌+◌, ◌≤◌, List, [], ◌∷◌, Bool, true, false, Option, None, Some, if◌then◌else◌, map, set, get_or, replicate, refl, arith}
+use Rattle.first_terminal.specs.declared.callers.Bound.{Bound}
+use Rattle.first_terminal.specs.declared.callers.CallerState.{CallerState}
+use Rattle.first_terminal.specs.Terminals.{idle_caller, is_bound, begun_of}
+use Rattle.first_terminal.specs.Outcomes.{closed_under, without_handle, killed_under, with_dead_handle}
+
+-- one caller changes, and each other one stays
+pub set_relates : (R : CallerState → CallerState → Type 0) → ((s : CallerState) → R s s) → (cs : List CallerState) (c : ℕ) (s : CallerState) (d : ℕ) → R (get_or cs c idle_caller) s → R (get_or cs d idle_caller) (get_or (set cs c s) d idle_caller)
+set_relates R same [] c s d h = same idle_caller
+set_relates R same (x ∷ xs) zero s zero h = h
+set_relates R same (x ∷ xs) zero s (suc d) h = same (get_or xs d idle_caller)
+set_relates R same (x ∷ xs) (suc c) s zero h = same x
+set_relates R same (x ∷ xs) (suc c) s (suc d) h = set_relates R same xs c s d h
+
+-- each caller changes
+pub map_relates : (R : CallerState → CallerState → Type 0) (g : CallerState → CallerState) → R idle_caller idle_caller → ((s : CallerState) → R s (g s)) → (cs : List CallerState) (d : ℕ) → R (get_or cs d idle_caller) (get_or (map g cs) d idle_caller)
+map_relates R g idle each [] d = idle
+map_relates R g idle each (x ∷ xs) zero = each x
+map_relates R g idle each (x ∷ xs) (suc d) = map_relates R g idle each xs d
+
+pub all_idle : (n c : ℕ) → get_or (replicate n idle_caller) c idle_caller ≡ idle_caller
+all_idle zero c = refl
+all_idle (suc n) zero = refl
+all_idle (suc n) (suc c) = all_idle n c
+
+-- the caller has its next step and is at the same call
+pub record Stays (s u : CallerState) : Type 0 where
+  pub next : u.next ≡ s.next
+  pub begun : begun_of u ≡ begun_of s
+
+pub stays : (s : CallerState) → Stays s s
+stays s = record { next = refl; begun = refl }
+
+closed_is_bound : (h : ℕ) (b : Option Bound) → is_bound (closed_under h b) ≡ is_bound b
+closed_is_bound h None = refl
+closed_is_bound h (Some b) = refl
+
+killed_is_bound : (b : Option Bound) → is_bound (killed_under b) ≡ is_bound b
+killed_is_bound None = refl
+killed_is_bound (Some b) = refl
+
+pub without_stays : (h : ℕ) (s : CallerState) → Stays s (without_handle h s)
+without_stays h s = record { next = refl; begun = rw (closed_is_bound h s.bound) refl }
+
+pub dead_stays : (s : CallerState) → Stays s (with_dead_handle s)
+dead_stays s = record { next = refl; begun = rw (killed_is_bound s.bound) refl }
+
+most_of : (b : Bool) (n : ℕ) → (if b then n + 1 else n) ≤ n + 1
+most_of true n = omega arith
+most_of false n = omega arith
+
+least_of : (b : Bool) (n : ℕ) → n ≤ (if b then n + 1 else n)
+least_of true n = omega arith
+least_of false n = omega arith
+
+pub begun_most : (s : CallerState) → begun_of s ≤ s.next + 1
+begun_most s = most_of (is_bound s.bound) s.next
+
+pub begun_least : (s : CallerState) → s.next ≤ begun_of s
+begun_least s = least_of (is_bound s.bound) s.next

@@ -1,0 +1,134 @@
+-- Whole journals: runs of the terminal, flush runs and calls in one generation, and the characters
+-- that a journal accounts for.
+use Rattle.std.specs.Prelude.{◌≡◌, ℕ, List, [], ◌∷◌, ◌++◌, Bool, true, false, Option, Some, IsTrue, MatchBool, ◌&&◌, ◌==◌, ◌+◌, sum}
+use Rattle.tty_base.specs.declared.characters.Flagged.{Flagged}
+use Rattle.first_calls.specs.declared.journals.Who.{Who}
+use Rattle.first_calls.specs.declared.journals.Who.TheVariants.{Caller, Flusher, Line, Clock, Session}
+use Rattle.first_calls.specs.Plain.{PlainCall, PlainEvent, answered, parted, waited, flushed, ticked, line_ended, clock_ended, caller_ended, phase_ended, hung_up, PlainEntry}
+use Rattle.first_terminal.specs.Terminals.{Terminal, opening}
+use Rattle.first_terminal.specs.Steps.{Allowed, after}
+
+-- the entries are steps, one after the other, and lead from the one terminal to the other
+abbrev pub Leads : (ℕ → ℕ → Option PlainCall) → List ℕ → Terminal → List PlainEntry → Terminal → Type 0
+Leads calls counts t [] u = u ≡ t
+Leads calls counts t (e ∷ es) u = Allowed calls counts t e × Leads calls counts (after calls t e) es u
+
+-- a run: from the opening terminal
+abbrev pub IsRun : (ℕ → ℕ → Option PlainCall) → List ℕ → List PlainEntry → Terminal → Type 0
+IsRun calls counts journal t = Leads calls counts (opening (sum counts)) journal t
+
+abbrev pub is_flush : PlainEvent → Bool
+is_flush (answered a dropped) = false
+is_flush (parted taken) = false
+is_flush waited = false
+is_flush (flushed chars) = true
+is_flush ticked = false
+is_flush (line_ended n) = false
+is_flush clock_ended = false
+is_flush caller_ended = false
+is_flush phase_ended = false
+is_flush (hung_up dropped) = false
+
+-- an entry of a call: its answer, a part of it, or its wait
+abbrev pub is_of_call : PlainEvent → Bool
+is_of_call (answered a dropped) = true
+is_of_call (parted taken) = true
+is_of_call waited = true
+is_of_call (flushed chars) = false
+is_of_call ticked = false
+is_of_call (line_ended n) = false
+is_of_call clock_ended = false
+is_of_call caller_ended = false
+is_of_call phase_ended = false
+is_of_call (hung_up dropped) = false
+
+abbrev pub is_caller : Who → ℕ → Bool
+is_caller (Caller c) d = c == d
+is_caller Flusher d = false
+is_caller Line d = false
+is_caller Clock d = false
+is_caller Session d = false
+
+-- each piece of this flush run has this generation
+abbrev pub RunHas : ℕ → ℕ → List PlainEntry → Type 0
+RunHas run generation [] = Unit {0}
+RunHas run generation (e ∷ es) = (IsTrue (is_flush e.event && (e.step == run)) → e.generation ≡ generation) × RunHas run generation es
+
+-- the next entry of this caller's call has this generation
+abbrev pub NextHas : ℕ → ℕ → ℕ → List PlainEntry → Type 0
+NextHas c step generation [] = Unit {0}
+NextHas c step generation (e ∷ es) =
+    MatchBool (is_of_call e.event && is_caller e.who c && (e.step == step)) (e.generation ≡ generation) (NextHas c step generation es)
+
+abbrev pub CallGoesOn : Who → ℕ → ℕ → List PlainEntry → Type 0
+CallGoesOn (Caller c) step generation es = NextHas c step generation es
+CallGoesOn Flusher step generation es = Unit {0}
+CallGoesOn Line step generation es = Unit {0}
+CallGoesOn Clock step generation es = Unit {0}
+CallGoesOn Session step generation es = Unit {0}
+
+-- what follows an entry in its generation: a call that did not wait, and the other pieces of a flush run
+abbrev pub GoesOn : PlainEvent → Who → ℕ → ℕ → List PlainEntry → Type 0
+GoesOn (answered a dropped) who step generation es = CallGoesOn who step generation es
+GoesOn (parted taken) who step generation es = CallGoesOn who step generation es
+GoesOn waited who step generation es = Unit {0}
+GoesOn (flushed chars) who step generation es = RunHas step generation es
+GoesOn ticked who step generation es = Unit {0}
+GoesOn (line_ended n) who step generation es = Unit {0}
+GoesOn clock_ended who step generation es = Unit {0}
+GoesOn caller_ended who step generation es = Unit {0}
+GoesOn phase_ended who step generation es = Unit {0}
+GoesOn (hung_up dropped) who step generation es = Unit {0}
+
+-- each flush run, and each call between its waits, lies in one generation
+abbrev pub OneGeneration : List PlainEntry → Type 0
+OneGeneration [] = Unit {0}
+OneGeneration (e ∷ es) = GoesOn e.event e.who e.step e.generation es × OneGeneration es
+
+-- the characters that an event hands over or drops
+abbrev pub chars_in : PlainEvent → List Flagged
+chars_in (answered a dropped) = dropped
+chars_in (parted taken) = []
+chars_in waited = []
+chars_in (flushed chars) = chars
+chars_in ticked = []
+chars_in (line_ended n) = []
+chars_in clock_ended = []
+chars_in caller_ended = []
+chars_in phase_ended = []
+chars_in (hung_up dropped) = dropped
+
+-- the characters of a journal, in the order of its entries
+abbrev pub chars_of : List PlainEntry → List Flagged
+chars_of [] = []
+chars_of (e ∷ es) = chars_in e.event ++ chars_of es
+
+-- In a run of a session each entry of a caller is by a caller of its phase, and each entry of a call
+-- of a call of that phase.
+abbrev pub InPhase : (ℕ → ℕ → Type 0) → (ℕ → ℕ → ℕ → Type 0) → ℕ → Who → ℕ → Bool → Type 0
+InPhase IsCaller IsCall phase (Caller c) step call = IsCaller phase c × (IsTrue call → IsCall phase c step)
+InPhase IsCaller IsCall phase Flusher step call = Unit {0}
+InPhase IsCaller IsCall phase Line step call = Unit {0}
+InPhase IsCaller IsCall phase Clock step call = Unit {0}
+InPhase IsCaller IsCall phase Session step call = Unit {0}
+
+abbrev pub phase_after : PlainEvent → ℕ → ℕ
+phase_after (answered a dropped) phase = phase
+phase_after (parted taken) phase = phase
+phase_after waited phase = phase
+phase_after (flushed chars) phase = phase
+phase_after ticked phase = phase
+phase_after (line_ended n) phase = phase
+phase_after clock_ended phase = phase
+phase_after caller_ended phase = phase
+phase_after phase_ended phase = phase + 1
+phase_after (hung_up dropped) phase = phase
+
+abbrev pub InPhases : (ℕ → ℕ → Type 0) → (ℕ → ℕ → ℕ → Type 0) → ℕ → List PlainEntry → Type 0
+InPhases IsCaller IsCall phase [] = Unit {0}
+InPhases IsCaller IsCall phase (e ∷ es) =
+    InPhase IsCaller IsCall phase e.who e.step (is_of_call e.event) × InPhases IsCaller IsCall (phase_after e.event phase) es
+
+-- each call that the one knows the other knows too
+abbrev pub Grows : (ℕ → ℕ → Option PlainCall) → (ℕ → ℕ → Option PlainCall) → Type 0
+Grows f g = (c step : ℕ) (call : PlainCall) → f c step ≡ Some call → g c step ≡ Some call

@@ -1,0 +1,240 @@
+-- The step of the terminal: when an entry may stand, and what it does. Calls are found by their
+-- caller and step; `counts` has the number of callers of each phase.
+use Rattle.std.specs.Prelude.{◌≡◌, ℕ, List, Bool, IsTrue, true, false, ◌&&◌, ◌||◌, not, Option, None, Some, is_some, ◌==◌, nat_le, ◌+◌, ◌-◌, ◌<◌, ◌≤◌, if◌then◌else◌, length, map, count_by, slice_index_or, slice_set}
+use Rattle.tty_base.specs.declared.characters.Flagged.{Flagged}
+use Rattle.first_calls.specs.declared.journals.Who.{Who}
+use Rattle.first_calls.specs.declared.journals.Who.TheVariants.{Caller, Flusher, Line, Clock, Session}
+use Rattle.first_calls.specs.Plain.{PlainCall, handle_of, PlainAnswer, idle, PlainEvent, answered, parted, waited, flushed, ticked, line_ended, clock_ended, caller_ended, phase_ended, hung_up, PlainEntry}
+use Rattle.first_terminal.specs.declared.callers.Bound.{Bound}
+use Rattle.first_terminal.specs.declared.callers.CallerState.{CallerState}
+use Rattle.first_terminal.specs.declared.callers.Piece.{Piece}
+use Rattle.first_terminal.specs.Terminals.{Terminal, handle_at, caller_at, has_begun, live_count}
+use Rattle.first_terminal.specs.Receiving.{accepts, received_all, AcceptsAll}
+use Rattle.first_terminal.specs.Outcomes.{Outcome, unknown, waits, takes, gives, outcome_of, hung_by}
+
+abbrev pub callers_in : List ℕ → ℕ → ℕ
+callers_in counts phase = slice_index_or counts phase 0
+
+-- no character is left that could be flushed
+abbrev pub nothing_to_flush : Terminal → Bool
+nothing_to_flush t = (t.taken == t.sent) || ((live_count t == 0) || not (accepts t))
+
+-- line and clock are over, every caller of the phase is over or waits, and nothing is left to flush
+abbrev pub quiet_with : ℕ → Terminal → Bool
+quiet_with callers t =
+    t.line_over && (t.clock_over && (nat_le callers (count_by (λ s. s.over || is_some s.waits) t.callers) && nothing_to_flush t))
+
+abbrev pub quiet : List ℕ → Terminal → Bool
+quiet counts t = quiet_with (callers_in counts t.phase) t
+
+-- the same, and no caller waits
+abbrev pub may_end_with : ℕ → Terminal → Bool
+may_end_with callers t =
+    t.line_over && (t.clock_over && (nat_le callers (count_by (λ s. s.over) t.callers) && nothing_to_flush t))
+
+abbrev pub may_end : List ℕ → Terminal → Bool
+may_end counts t = may_end_with (callers_in counts t.phase) t
+
+-- the answer is that of the outcome, or idle where the call must wait and may be told so
+abbrev pub Answers : Bool → Outcome → PlainAnswer → Type 0
+Answers may unknown a = ⊥
+Answers may waits a = (a ≡ idle) × (may ≡ true)
+Answers may (takes taken left) a = ⊥
+Answers may (gives answer drops left) a = a ≡ answer
+
+-- how many characters an answer drops: all that were sent, as far as a look shows, where it drops any
+abbrev pub DropsAt : Terminal → Bool → ℕ → Type 0
+DropsAt t false n = n ≡ 0
+DropsAt t true n = (t.sent - t.taken ≤ n) × (IsTrue t.line_over → n ≡ t.sent - t.taken)
+
+abbrev pub Drops : Terminal → Outcome → ℕ → Type 0
+Drops t unknown n = n ≡ 0
+Drops t waits n = n ≡ 0
+Drops t (takes taken left) n = n ≡ 0
+Drops t (gives answer drops left) n = DropsAt t drops n
+
+abbrev pub MustWait : Outcome → Type 0
+MustWait unknown = ⊥
+MustWait waits = Unit {0}
+MustWait (takes taken left) = ⊥
+MustWait (gives answer drops left) = ⊥
+
+abbrev pub TakesPart : Outcome → ℕ → Type 0
+TakesPart unknown n = ⊥
+TakesPart waits n = ⊥
+TakesPart (takes taken left) n = n ≡ taken
+TakesPart (gives answer drops left) n = ⊥
+
+abbrev pub left_by : Outcome → Terminal → Terminal
+left_by unknown t = t
+left_by waits t = t
+left_by (takes taken left) t = left
+left_by (gives answer drops left) t = left
+
+-- the caller's next step, by a caller whose calls of this phase are not over
+pub record IsNext (t : Terminal) (c step part : ℕ) : Type 0 where
+  pub known : c < length t.callers
+  pub at_step : step ≡ (caller_at t c).next
+  pub at_part : part ≡ (caller_at t c).parts
+  pub not_over : (caller_at t c).over ≡ false
+
+pub record IsAnswer (calls : ℕ → ℕ → Option PlainCall) (counts : List ℕ) (t : Terminal) (c step part : ℕ) (a : PlainAnswer) (dropped : List Flagged) : Type 0 where
+  pub next : IsNext t c step part
+  pub answer : Answers (is_some (caller_at t c).waits && quiet counts t) (outcome_of t (caller_at t c) (calls c step)) a
+  pub drops : Drops t (outcome_of t (caller_at t c) (calls c step)) (length dropped)
+
+pub record IsPart (calls : ℕ → ℕ → Option PlainCall) (t : Terminal) (c step part taken : ℕ) : Type 0 where
+  pub next : IsNext t c step part
+  pub takes : TakesPart (outcome_of t (caller_at t c) (calls c step)) taken
+
+-- the call must wait, and does not wait yet
+pub record IsWait (calls : ℕ → ℕ → Option PlainCall) (t : Terminal) (c step part : ℕ) : Type 0 where
+  pub next : IsNext t c step part
+  pub first : (caller_at t c).waits ≡ None
+  pub must : MustWait (outcome_of t (caller_at t c) (calls c step))
+
+-- the next piece of the latest flush run, or the first of the next one
+abbrev pub follows : Option Piece → ℕ → ℕ → Bool
+follows None run part = (run == 0) && (part == 0)
+follows (Some p) run part = ((run == p.run) && (part == p.part + 1)) || ((run == p.run + 1) && (part == 0))
+
+pub record IsFlush (t : Terminal) (run part : ℕ) (chars : List Flagged) : Type 0 where
+  pub live : 0 < live_count t
+  pub some : 0 < length chars
+  pub few : length chars ≤ 64
+  pub accepted : AcceptsAll t chars
+  pub numbered : IsTrue (follows t.flushed run part)
+  -- after the line's end no more than what was sent
+  pub sent : IsTrue t.line_over → t.taken + length chars ≤ t.sent
+
+-- of the phase that runs, and the one entry of its kind
+pub record IsOfPhase (t : Terminal) (step part : ℕ) : Type 0 where
+  pub at_step : step ≡ t.phase
+  pub at_part : part ≡ 0
+
+pub record IsTick (t : Terminal) (step part : ℕ) : Type 0 where
+  pub phase : IsOfPhase t step part
+  pub not_over : t.clock_over ≡ false
+
+pub record IsLineEnd (t : Terminal) (step part n : ℕ) : Type 0 where
+  pub phase : IsOfPhase t step part
+  pub not_over : t.line_over ≡ false
+  pub taken : t.taken ≤ n
+  pub sent : t.sent ≤ n
+
+-- a caller that is between two calls. One that waits has begun a call
+pub record IsCallerEnd (t : Terminal) (c step part : ℕ) : Type 0 where
+  pub known : c < length t.callers
+  pub at_step : step ≡ (caller_at t c).next
+  pub at_part : part ≡ 0
+  pub not_over : (caller_at t c).over ≡ false
+  pub between : has_begun (caller_at t c) ≡ false
+
+pub record IsPhaseEnd (counts : List ℕ) (t : Terminal) (step part : ℕ) : Type 0 where
+  pub phase : IsOfPhase t step part
+  pub may : may_end counts t ≡ true
+
+-- the session's, after the last phase
+pub record IsHangup (counts : List ℕ) (t : Terminal) (step part : ℕ) (dropped : List Flagged) : Type 0 where
+  pub after : length counts ≤ t.phase
+  pub at_step : step ≡ length counts
+  pub at_part : part ≡ 0
+  pub all : length dropped ≡ t.sent - t.taken
+
+abbrev pub ByCaller : Who → (ℕ → Type 0) → Type 0
+ByCaller (Caller c) P = P c
+ByCaller Flusher P = ⊥
+ByCaller Line P = ⊥
+ByCaller Clock P = ⊥
+ByCaller Session P = ⊥
+
+abbrev pub IsAllowed : (ℕ → ℕ → Option PlainCall) → List ℕ → Terminal → Who → ℕ → ℕ → PlainEvent → Type 0
+IsAllowed calls counts t who step part (answered a dropped) = ByCaller who (λ c. IsAnswer calls counts t c step part a dropped)
+IsAllowed calls counts t who step part (parted taken) = ByCaller who (λ c. IsPart calls t c step part taken)
+IsAllowed calls counts t who step part waited = ByCaller who (λ c. IsWait calls t c step part)
+IsAllowed calls counts t who step part (flushed chars) = (who ≡ Flusher) × IsFlush t step part chars
+IsAllowed calls counts t who step part ticked = (who ≡ Clock) × IsTick t step part
+IsAllowed calls counts t who step part (line_ended n) = (who ≡ Line) × IsLineEnd t step part n
+IsAllowed calls counts t who step part clock_ended = (who ≡ Clock) × IsTick t step part
+IsAllowed calls counts t who step part caller_ended = ByCaller who (λ c. IsCallerEnd t c step part)
+IsAllowed calls counts t who step part phase_ended = (who ≡ Session) × IsPhaseEnd counts t step part
+IsAllowed calls counts t who step part (hung_up dropped) = (who ≡ Session) × IsHangup counts t step part dropped
+
+-- the call is answered: its handle, its bytes and its wait are forgotten
+abbrev pub answered_caller : CallerState → CallerState
+answered_caller s = record { next = s.next + 1; over = s.over; waits = None; parts = 0; taken = 0; generation = 0; bound = None }
+
+abbrev pub with_caller : Terminal → ℕ → CallerState → Terminal
+with_caller t c s = record t { callers = slice_set t.callers c s }
+
+abbrev pub advanced : Terminal → ℕ → Terminal
+advanced t c = with_caller t c (answered_caller (caller_at t c))
+
+-- the handle that a call begins with is noted at its first wait or part
+abbrev pub noted : Terminal → Option Bound → ℕ → Option Bound
+noted t None h = Some (record { h = h; handle = handle_at t h })
+noted t (Some b) h = Some b
+
+abbrev pub noted_for : Terminal → CallerState → Option PlainCall → Option Bound
+noted_for t s None = s.bound
+noted_for t s (Some call) = noted t s.bound (handle_of call)
+
+-- the caller waits from now on, with a call on this handle
+abbrev pub waiting_since : Terminal → CallerState → ℕ → CallerState
+waiting_since t s h = record s { waits = Some t.tick; bound = noted t s.bound h }
+
+abbrev pub waiting_caller : Terminal → CallerState → Option PlainCall → CallerState
+waiting_caller t s None = s
+waiting_caller t s (Some call) = waiting_since t s (handle_of call)
+
+abbrev pub parted_caller : Terminal → CallerState → Option PlainCall → ℕ → CallerState
+parted_caller t s call n =
+    record s {
+      waits = None;
+      parts = s.parts + 1;
+      taken = s.taken + n;
+      generation = if s.parts == 0 then t.generation else s.generation;
+      bound = noted_for t s call;
+    }
+
+-- a terminal in which so many characters were dropped
+abbrev pub with_dropped : Terminal → ℕ → Terminal
+with_dropped t n = record t { taken = t.taken + n }
+
+abbrev pub by_caller : Who → Terminal → (ℕ → Terminal) → Terminal
+by_caller (Caller c) t f = f c
+by_caller Flusher t f = t
+by_caller Line t f = t
+by_caller Clock t f = t
+by_caller Session t f = t
+
+abbrev pub calling_again : CallerState → CallerState
+calling_again s = record s { over = false }
+
+abbrev pub next_phase : Terminal → Terminal
+next_phase t = record t { phase = t.phase + 1; line_over = false; clock_over = false; callers = map calling_again t.callers }
+
+abbrev pub after_event : (ℕ → ℕ → Option PlainCall) → Terminal → Who → ℕ → ℕ → PlainEvent → Terminal
+after_event calls t who step part (answered a dropped) =
+    by_caller who t (λ c. advanced (with_dropped (left_by (outcome_of t (caller_at t c) (calls c step)) t) (length dropped)) c)
+after_event calls t who step part (parted taken) =
+    by_caller who t (λ c. with_caller (left_by (outcome_of t (caller_at t c) (calls c step)) t) c (parted_caller t (caller_at t c) (calls c step) taken))
+after_event calls t who step part waited = by_caller who t (λ c. with_caller t c (waiting_caller t (caller_at t c) (calls c step)))
+after_event calls t who step part (flushed chars) = record (received_all t chars) { flushed = Some (record { run = step; part = part }) }
+after_event calls t who step part ticked = record t { tick = t.tick + 1 }
+after_event calls t who step part (line_ended n) = record t { sent = n; line_over = true }
+after_event calls t who step part clock_ended = record t { clock_over = true }
+after_event calls t who step part caller_ended = by_caller who t (λ c. with_caller t c (record (caller_at t c) { over = true }))
+after_event calls t who step part phase_ended = next_phase t
+after_event calls t who step part (hung_up dropped) = hung_by t (length dropped)
+
+-- an entry may stand: its generation is that of the terminal, and its event is allowed
+abbrev pub Allowed : (ℕ → ℕ → Option PlainCall) → List ℕ → Terminal → PlainEntry → Type 0
+Allowed calls counts t e = (e.generation ≡ t.generation) × IsAllowed calls counts t e.who e.step e.part e.event
+
+abbrev pub after : (ℕ → ℕ → Option PlainCall) → Terminal → PlainEntry → Terminal
+after calls t e = after_event calls t e.who e.step e.part e.event
+
+-- a step of the terminal
+abbrev pub Step : (ℕ → ℕ → Option PlainCall) → List ℕ → Terminal → PlainEntry → Terminal → Type 0
+Step calls counts t e u = Allowed calls counts t e × (u ≡ after calls t e)

@@ -1,0 +1,4 @@
+pub mod PhaseLemmas
+pub mod FineLemmas
+pub mod VerdictLemmas
+pub mod MarkLemmas

@@ -1,0 +1,84 @@
+-- What can be said of the runs of a session: that all are legal, which port has the first wrong entry, or which is the first that
+-- is not legal although no entry is wrong.
+use Rattle.std.specs.Prelude.{◌≡◌, ℕ, ◌<◌, List, [], ◌∷◌, ◌++◌, Option, None, Some, length, slice_get, sum}
+use Rattle.tty_calls.specs.declared.journals.PortRun.{PortRun}
+use Rattle.tty_calls.specs.Plain.{PlainEntry, entries_of}
+use Rattle.tty_calls.specs.Sessions.{PlainSession, call_at, counts_on}
+use Rattle.tty_terminal.specs.Terminals.{Terminal, opening}
+use Rattle.tty_terminal.specs.Steps.{Allowed, after}
+use Rattle.tty_terminal.specs.Runs.{OneGeneration}
+use Rattle.journal_check.specs.Legal.{flip_on, IsInPhase, IsLegalOn}
+use Rattle.journal_check.specs.declared.verdicts.Verdict.{Verdict}
+use Rattle.journal_check.specs.declared.verdicts.Verdict.TheVariants.{Legal, Wrong, Account}
+
+-- An entry is fine after these entries, which lead to this terminal: it is a step of the terminal, it leaves each flush run and
+-- each call between its waits in one generation, and it is of its phase. It is wrong where one of these fails.
+pub record IsFine (p : ℕ) (session : PlainSession) (before : List PlainEntry) (t : Terminal) (e : PlainEntry) : Type 0 where
+  pub step : Allowed (call_at p session) (counts_on p session) t e
+  pub one : OneGeneration (before ++ e ∷ [])
+  pub in_phase : IsInPhase p session t.phase e.who e.step e.event
+
+-- each of these entries is fine after those before it, and they lead from the one terminal to the other
+abbrev pub AreFine : ℕ → PlainSession → List PlainEntry → Terminal → List PlainEntry → Terminal → Type 0
+AreFine p session before t [] u = u ≡ t
+AreFine p session before t (e ∷ es) u =
+    IsFine p session before t e × AreFine p session (before ++ e ∷ []) (after (call_at p session) t e) es u
+
+abbrev pub opening_of : ℕ → PlainSession → Terminal
+opening_of p session = opening (sum (counts_on p session)) (flip_on p session)
+
+-- these entries are fine from the first on, and lead to this terminal
+abbrev pub AreFineTo : ℕ → PlainSession → List PlainEntry → Terminal → Type 0
+AreFineTo p session journal u = AreFine p session [] (opening_of p session) journal u
+
+-- no entry of a journal is wrong
+abbrev pub HasNoWrong : ℕ → PlainSession → List PlainEntry → Type 0
+HasNoWrong p session journal = (u : Terminal) × AreFineTo p session journal u
+
+-- the entry at this place, counted from 0, is wrong, and none before it
+pub record IsFirstWrong (p : ℕ) (session : PlainSession) (journal : List PlainEntry) (n : ℕ) : Type 0 where
+  pub before : List PlainEntry
+  pub entry : PlainEntry
+  pub rest : List PlainEntry
+  pub parts : journal ≡ before ++ entry ∷ rest
+  pub place : length before ≡ n
+  pub terminal : Terminal
+  pub fine : AreFineTo p session before terminal
+  pub wrong : ¬ (IsFine p session before terminal entry)
+
+-- ---- all ports of a session
+
+-- a fact of the run of a port; a port that has none has it
+abbrev pub OfRun : List PortRun → ℕ → (PortRun → Type 0) → Type 0
+OfRun runs p P = (run : PortRun) → slice_get runs p ≡ Some run → P run
+
+abbrev pub IsLegalAt : PlainSession → List PortRun → ℕ → Type 0
+IsLegalAt session runs p = OfRun runs p (IsLegalOn p session)
+
+abbrev pub HasNoWrongAt : PlainSession → List PortRun → ℕ → Type 0
+HasNoWrongAt session runs p = OfRun runs p (λ run. HasNoWrong p session (entries_of run.journal.items))
+
+-- each port's run is legal
+pub record AreLegal (session : PlainSession) (runs : List PortRun) : Type 0 where
+  pub each : (p : ℕ) → IsLegalAt session runs p
+
+-- the port with the first wrong entry, and that entry's place
+pub record FirstIsWrong (session : PlainSession) (runs : List PortRun) (p n : ℕ) : Type 0 where
+  pub run : PortRun
+  pub is_run : slice_get runs p ≡ Some run
+  pub before : (q : ℕ) → q < p → HasNoWrongAt session runs q
+  pub wrong : IsFirstWrong p session (entries_of run.journal.items) n
+
+-- no entry is wrong, and this port's run is the first that is not legal
+pub record FirstIsNotLegal (session : PlainSession) (runs : List PortRun) (p : ℕ) : Type 0 where
+  pub run : PortRun
+  pub is_run : slice_get runs p ≡ Some run
+  pub no_wrong : (q : ℕ) → HasNoWrongAt session runs q
+  pub before : (q : ℕ) → q < p → IsLegalAt session runs q
+  pub not_legal : ¬ (IsLegalOn p session run)
+
+-- what a verdict says of a session's runs
+abbrev pub Fits : PlainSession → List PortRun → Verdict → Type 0
+Fits session runs Legal = AreLegal session runs
+Fits session runs (Wrong port entry) = FirstIsWrong session runs port entry
+Fits session runs (Account port) = FirstIsNotLegal session runs port

@@ -1,0 +1,11 @@
+//! What it is for the journals of a session to be legal runs, and what can be said of them.
+#![tactic(auto)]
+
+mod laws;
+mod verdicts;
+
+pub use laws::{
+    a_legal_run_has_no_wrong_entry, an_accounted_run_without_wrong_entries_is_legal,
+    at_most_one_verdict_fits, the_ends_of_a_phase_tell_its_part,
+};
+pub use verdicts::Verdict;

@@ -1,0 +1,113 @@
+-- Characters that are taken out of the flip buffer.
+use Rattle.std.proofs.Common.{◌≡◌, ℕ, suc, ◌≤◌, List, [], ◌∷◌, ◌++◌, length, refl, sym, ◌∙◌, ap, subst, arith, append_assoc, append-nil, inl, inr}
+use mathlib.Core.List.{IsPrefix}
+use Rattle.std.specs.List.{All}
+use Rattle.std.specs.List.Sorted.{IsNonDecreasing}
+use Rattle.tty_base.specs.declared.characters.Flagged.{Flagged}
+use Rattle.word_ring.specs.Ends.{PutterState, TakerState, IsOneWithin, with_loaded, with_shown, with_taken}
+use Rattle.word_ring.proofs.Beginnings.{begins_itself, begins_more, begins_through, begins_whole}
+use Rattle.flip_buffer.specs.Drops.{LooksAt, Releases}
+use Rattle.port_core.specs.Flips.{TakesOut, MeetsTaker}
+
+pub nothing_out : (f : TakerState Flagged) → TakesOut f f []
+nothing_out f =
+    record {
+      ring = refl;
+      capacity = refl;
+      taken = sym (append-nil f.taken);
+      floor = omega arith;
+      tails = begins_itself f.tails;
+      released = begins_itself f.released;
+      ended = refl;
+      sent = refl;
+    }
+
+-- a take, which looks first
+pub takes_out_of : (f : TakerState Flagged) (floor : ℕ) (xs : List Flagged) → f.floor ≤ floor → TakesOut f (with_taken (with_shown f floor) xs) xs
+takes_out_of f floor [] rises =
+    record {
+      ring = refl;
+      capacity = refl;
+      taken = sym (append-nil f.taken);
+      floor = rises;
+      tails = begins_more f.tails (floor ∷ []);
+      released = begins_itself f.released;
+      ended = refl;
+      sent = refl;
+    }
+takes_out_of f floor (x ∷ xs) rises =
+    record {
+      ring = refl;
+      capacity = refl;
+      taken = refl;
+      floor = rises;
+      tails = begins_more f.tails (floor ∷ []);
+      released = begins_more f.released (length (f.taken ++ x ∷ xs) ∷ []);
+      ended = refl;
+      sent = refl;
+    }
+
+pub takes_out_more : (f g h : TakerState Flagged) (xs ys : List Flagged) → TakesOut f g xs → TakesOut g h ys → TakesOut f h (xs ++ ys)
+takes_out_more f g h xs ys a b =
+    record {
+      ring = b.ring ∙ a.ring;
+      capacity = b.capacity ∙ a.capacity;
+      taken = b.taken ∙ ap (λ (z : List Flagged). z ++ ys) a.taken ∙ append_assoc f.taken xs ys;
+      floor = omega (arith, a.floor, b.floor);
+      tails = begins_through f.tails g.tails h.tails a.tails b.tails;
+      released = begins_through f.released g.released h.released a.released b.released;
+      ended = b.ended ∙ a.ended;
+      sent = b.sent ∙ a.sent;
+    }
+
+-- a look, and then what it counted is taken
+pub looks_first : (f g h : TakerState Flagged) (xs : List Flagged) → g ≡ with_shown f g.floor → f.floor ≤ g.floor → TakesOut g h xs → TakesOut f h xs
+looks_first f g h xs same rises a =
+    let looked : TakesOut f (with_shown f g.floor) [] = takes_out_of f g.floor [] rises in
+    takes_out_more f g h [] xs (subst (λ (z : TakerState Flagged). TakesOut f z []) (sym same) looked) a
+
+-- one call that looks and takes all that it shows
+pub looks_and_takes : (f g : TakerState Flagged) (tail : ℕ) (xs : List Flagged) → LooksAt f g tail → Releases f g → g.ring ≡ f.ring → g.capacity ≡ f.capacity → g.ended ≡ f.ended → g.sent ≡ f.sent → g.taken ≡ f.taken ++ xs → TakesOut f g xs
+looks_and_takes f g tail xs looks releases ring capacity ended sent taken =
+    record {
+      ring = ring;
+      capacity = capacity;
+      taken = taken;
+      floor = omega (arith, looks.rises, looks.floor);
+      tails = begins_through f.tails (f.tails ++ tail ∷ []) g.tails (begins_more f.tails (tail ∷ [])) looks.looked;
+      released = (releases.heads, sym releases.adds);
+      ended = ended;
+      sent = sent;
+    }
+
+-- of two lists of which one begins the other the one that is no longer begins the other
+pub shorter_begins : (xs ys : List Flagged) → IsOneWithin xs ys → length xs ≤ length ys → IsPrefix xs ys
+shorter_begins xs ys one le =
+    elim one [
+      | inl p ↦ p
+      | inr q ↦ subst (λ (z : List Flagged). IsPrefix xs z) (sym (begins_whole ys xs q le)) (begins_itself xs)
+    ]
+
+-- what holds of each item holds of the last
+last_holds : (P : ℕ → Type 0) (xs : List ℕ) (x : ℕ) → All P (xs ++ x ∷ []) → P x
+last_holds P [] x all = all 0 x (omega arith)
+last_holds P (y ∷ ys) x all = last_holds P ys x (λ k d lt. all (suc k) d (omega arith))
+
+-- both ends told each other what they know
+pub ends_meet : (f : TakerState Flagged) (p0 p1 p2 p3 : PutterState Flagged) (pushed : List Flagged) (heads : List ℕ) → p1 ≡ record p0 { pushed = p0.sent } → p2 ≡ with_loaded p1 p2.floor → p3 ≡ record p2 { pushed = p2.sent }
+    → p1.floor ≤ p2.floor → length f.taken ≤ p2.floor → p2.floor ≤ length p1.pushed → IsNonDecreasing p3.heads → pushed ≡ p2.sent → heads ≡ p2.heads → IsOneWithin f.taken pushed → All (λ h. h ≤ length f.taken) heads → MeetsTaker f p0 p3
+ends_meet f p0 p1 p2 p3 pushed heads push met note rises least most rise pushed_is heads_are one below =
+    let p2_is : p2 ≡ with_loaded (record p0 { pushed = p0.sent }) p2.floor = met ∙ ap (λ (p : PutterState Flagged). with_loaded p p2.floor) push in
+    let heads_now : heads ≡ p0.heads ++ p2.floor ∷ [] = heads_are ∙ ap (λ (p : PutterState Flagged). p.heads) p2_is in
+    let high : p2.floor ≤ length f.taken = last_holds (λ h. h ≤ length f.taken) p0.heads p2.floor (subst (λ (hs : List ℕ). All (λ h. h ≤ length f.taken) hs) heads_now below) in
+    let floor_is : p2.floor ≡ length f.taken = omega arith in
+    let p3_is : p3 ≡ with_loaded (record p0 { pushed = p0.sent }) p2.floor = note ∙ ap (λ (p : PutterState Flagged). record p { pushed = p.sent }) p2_is in
+    let sent_is : pushed ≡ p0.sent = pushed_is ∙ ap (λ (p : PutterState Flagged). p.sent) p2_is in
+    let within : length f.taken ≤ length p0.sent = omega (arith, ap (λ (p : PutterState Flagged). length p.pushed) push) in
+    record {
+      putter = p3_is ∙ ap (λ (n : ℕ). with_loaded (record p0 { pushed = p0.sent }) n) floor_is;
+      begins = shorter_begins f.taken p0.sent (subst (λ (z : List Flagged). IsOneWithin f.taken z) sent_is one) within;
+      heads = subst (λ (hs : List ℕ). All (λ h. h ≤ length f.taken) hs) (heads_now ∙ sym (ap (λ (p : PutterState Flagged). p.heads) p3_is)) below;
+      rise = rise;
+      rises = omega (arith, ap (λ (p : PutterState Flagged). p.floor) push);
+    }

@@ -1,0 +1,152 @@
+use Rattle.std.specs.Prelude.{MatchBool}
+use Rattle.std.proofs.Common.{◌≡◌, ℕ, List, [], ◌∷◌, ◌++◌, Bool, true, false, Some, ◌+◌, ◌-◌, min, if◌then◌else◌, ◌<◌, ◌≤◌, length, map, refl, sym, ◌∙◌, ap, subst, arith}
+use Rattle.tty_base.specs.declared.characters.Flagged.{Flagged}
+use Rattle.tty_calls.specs.declared.journals.Who.TheVariants.{Caller}
+use Rattle.tty_calls.specs.Plain.{PlainEntry, answered, call_of, answer_of, entry_of, entries_of}
+use Rattle.ldisc_switch.specs.Disciplines.{column_in}
+use Rattle.tty_terminal.specs.Terminals.{Terminal, caller_at, has_begun}
+use Rattle.tty_terminal.specs.Calls.{outcome}
+use Rattle.tty_terminal.specs.Meeting.{drops_of}
+use Rattle.tty_terminal.specs.Steps.{after_answer, with_dropped, left_by}
+use Rattle.port_core.specs.declared.entries.KeptCall.{KeptCall}
+use Rattle.port_core.specs.Kept.{kept_of, IsCopyOf, kept_after, places_after}
+use Rattle.port_core.specs.Flips.{DropsShown}
+use Rattle.port_core.specs.Ports.{PortValue, kept_with, caller_entry}
+use Rattle.port_core.specs.Attempts.{IsReady, AnswersCall}
+use Rattle.port_core.specs.Inside.{value_of, KeepsPlaces}
+use Rattle.port_core.proofs.GoingOn.{made, entries_added, known_caller, port_bounded, port_taken, port_capacity, port_within, port_few}
+use Rattle.port_core.proofs.Calls.{kept_is, begun_is, answers_met, some_dropped}
+use Rattle.port_core.proofs.Answering.{IsTried, after_call, answers_call}
+use Rattle.tty_calls.specs.Plain.{PlainCall}
+use Rattle.tty_terminal.specs.declared.rooms.Met.TheVariants as met
+use Rattle.tty_terminal.specs.Outcomes.{Outcome}
+use Rattle.tty_terminal.specs.Meeting.{Meets}
+use Rattle.tty_terminal.proofs.Effects.{Leaves, outcome_keeps}
+use Rattle.port_core.proofs.Fitting.{answer_fits}
+use Rattle.std.proofs.lemmas.Bool.{false≢true}
+use Rattle.word_ring.specs.Ends.{TakerState}
+use Rattle.port_core.specs.Ports.{IsPort}
+use Rattle.port_core.proofs.ports.Port.answer_dropping.Goals as goal
+
+-- what a call leaves of the terminal
+leaves_of : (t u w : Terminal) (d : ℕ) (call : PlainCall) → u ≡ t → w ≡ left_by (outcome u (caller_at u d) call) u → Leaves t w
+leaves_of t u w d call same left = subst (λ (x : Terminal). Leaves x w) same (subst (λ (x : Terminal). Leaves u x) (sym left) (outcome_keeps u (caller_at u d) (Some call)).left)
+
+when_true : (b : Bool) (X Y : Type 0) → b ≡ true → X → MatchBool b X Y
+when_true true X Y h x = x
+when_true false X Y h x = absurd (false≢true h)
+
+shown_few : (over : Bool) (tail taken sent n : ℕ) → n ≡ (if over then min (tail - taken) (sent - taken) else tail - taken) → n ≤ tail - taken
+shown_few true tail taken sent n is = omega arith
+shown_few false tail taken sent n is = omega arith
+
+drops_few : (v : PortValue) (f : TakerState Flagged) (chars : List Flagged) → IsPort v → DropsShown v.terminal v.flip f chars → length chars ≤ 65536
+drops_few v f chars p shown = omega (arith, shown_few v.terminal.line_over shown.tail v.terminal.taken v.terminal.sent (length chars) shown.all, shown.looks.most, port_taken v p, p.capacity)
+
+pub caller-state-requires : goal.caller-state-requires
+caller-state-requires c = known_caller (value_of c.self.inside) c.args.self.now c.args.caller c.self.view_is c.self.invariant.port c.requires.ready.known
+
+pub drop_shown-requires-clause-taken : goal.drop_shown-requires-clause-taken
+drop_shown-requires-clause-taken c = ap (λ (t : Terminal). t.taken) c.prepare.ensures.terminal ∙ port_taken (value_of c.self.inside) c.self.invariant.port
+
+pub drop_shown-requires-clause-within : goal.drop_shown-requires-clause-within
+drop_shown-requires-clause-within c = subst (λ (t : Terminal). t.sent ≤ t.taken + c.self.inside.flip.capacity) (sym c.prepare.ensures.terminal) (omega (arith, port_within (value_of c.self.inside) c.self.invariant.port, port_taken (value_of c.self.inside) c.self.invariant.port))
+
+pub meet-requires-clause-known : goal.meet-requires-clause-known
+meet-requires-clause-known c = subst (λ (t : Terminal). c.args.caller < length t.callers) (sym c.prepare.ensures.terminal) (known_caller (value_of c.self.inside) c.args.self.now c.args.caller c.self.view_is c.self.invariant.port c.requires.ready.known)
+
+pub meet-requires-clause-few : goal.meet-requires-clause-few
+meet-requires-clause-few c = omega (arith, (port_bounded (value_of c.self.inside) c.self.invariant.port).generation, ap (λ (t : Terminal). t.generation) c.prepare.ensures.terminal)
+
+pub drop_characters-requires : goal.drop_characters-requires
+drop_characters-requires c =
+    let w : Leaves c.self.inside.terminal.terminal c.meet.new.self.terminal = leaves_of c.self.inside.terminal.terminal c.prepare.new.terminal.terminal c.meet.new.self.terminal c.args.caller (call_of c.args.call.now) c.prepare.ensures.terminal c.meet.ensures.left in
+    let v : PortValue = value_of c.self.inside in
+    let shown : DropsShown v.terminal v.flip c.drop_shown.new.flip c.trimmed-dropped.result.items = subst (λ (t : Terminal). DropsShown t v.flip c.drop_shown.new.flip c.trimmed-dropped.result.items) c.prepare.ensures.terminal (subst (λ (chars : List Flagged). DropsShown c.prepare.new.terminal.terminal v.flip c.drop_shown.new.flip chars) (sym c.trimmed-dropped.ensures) c.drop_shown.ensures) in
+    omega (arith, w.taken, drops_few v c.drop_shown.new.flip c.trimmed-dropped.result.items c.self.invariant.port shown, port_few v c.self.invariant.port, port_taken v c.self.invariant.port, c.len-count.ensures)
+
+pub advance-requires-clause-known : goal.advance-requires-clause-known
+advance-requires-clause-known c =
+    let w : Leaves c.self.inside.terminal.terminal c.meet.new.self.terminal = leaves_of c.self.inside.terminal.terminal c.prepare.new.terminal.terminal c.meet.new.self.terminal c.args.caller (call_of c.args.call.now) c.prepare.ensures.terminal c.meet.ensures.left in
+    subst (λ (t : Terminal). c.args.caller < length t.callers) (sym (ap (λ r. r.terminal) c.drop_characters.ensures)) (subst (λ n. c.args.caller < n) (sym w.callers) (known_caller (value_of c.self.inside) c.args.self.now c.args.caller c.self.view_is c.self.invariant.port c.requires.ready.known))
+
+pub advance-requires-clause-few : goal.advance-requires-clause-few
+advance-requires-clause-few c =
+    let w : Leaves c.self.inside.terminal.terminal c.meet.new.self.terminal = leaves_of c.self.inside.terminal.terminal c.prepare.new.terminal.terminal c.meet.new.self.terminal c.args.caller (call_of c.args.call.now) c.prepare.ensures.terminal c.meet.ensures.left in
+    omega (arith, ap (λ (t : Terminal). (caller_at t c.args.caller).next) (ap (λ r. r.terminal) c.drop_characters.ensures), (w.caller c.args.caller).next, (port_bounded (value_of c.self.inside) c.self.invariant.port).next c.args.caller)
+
+pub copy_into-requires-clause-fits : goal.copy_into-requires-clause-fits
+copy_into-requires-clause-fits c =
+    omega (arith, (answer_fits c.prepare.new.terminal.terminal (caller_at c.prepare.new.terminal.terminal c.args.caller) (call_of c.args.call.now)).fits c.in-Gives.answer c.in-Gives.ensures.met, c.in_ok-made.ensures.fits)
+
+pub invariant_of-self-2 : goal.invariant_of-self-2
+invariant_of-self-2 c =
+    let v : PortValue = value_of c.self.inside in
+    let shown : DropsShown v.terminal v.flip c.drop_shown.new.flip c.trimmed-dropped.result.items = subst (λ (t : Terminal). DropsShown t v.flip c.drop_shown.new.flip c.trimmed-dropped.result.items) c.prepare.ensures.terminal (subst (λ (chars : List Flagged). DropsShown c.prepare.new.terminal.terminal v.flip c.drop_shown.new.flip chars) (sym c.trimmed-dropped.ensures) c.drop_shown.ensures) in
+    let d = c.args.caller in
+    let step = c.args.step in
+    let call = call_of c.args.call.now in
+    let ks : List KeptCall = c.self.inside.kept.items in
+    let places : List ℕ = c.self.inside.places.items in
+    let ready : IsReady v d step call = subst (λ (w : PortValue). IsReady w d step call) (sym c.self.view_is) c.requires.ready in
+    let few : length v.journal < v.limit = subst (λ (w : PortValue). length w.journal < w.limit) (sym c.self.view_is) c.requires.open.0 in
+    let begun : c.is_some-begun.result ≡ has_begun (caller_at v.terminal d) = begun_is v.terminal d c.caller-state.result c.is_some-begun.result c.caller-state.ensures c.is_some-begun.ensures in
+    let copied : IsCopyOf (has_begun (caller_at v.terminal d)) call c.in_ok-made.made.copy = subst (λ (b : Bool). IsCopyOf b call c.in_ok-made.made.copy) begun c.in_ok-made.ensures.kept in
+    let tried : IsTried v ks places d step call c.in_ok-made.made.copy = record { keeps = c.self.invariant; kept = refl; few = few; ready = ready; copied = copied } in
+    let o = outcome v.terminal (caller_at v.terminal d) call in
+    let same_o : outcome c.prepare.new.terminal.terminal (caller_at c.prepare.new.terminal.terminal d) call ≡ o = ap (λ (t : Terminal). outcome t (caller_at t d) call) c.prepare.ensures.terminal in
+    let left : c.meet.new.self.terminal ≡ left_by o v.terminal = c.meet.ensures.left ∙ ap (λ (t : Terminal). left_by (outcome t (caller_at t d) call) t) c.prepare.ensures.terminal in
+    let column : column_in c.meet.new.self.terminal.disc ≤ column_in v.terminal.disc + 4096 = subst (λ (t : Terminal). column_in c.meet.new.self.terminal.disc ≤ column_in t.disc + 4096) c.prepare.ensures.terminal c.meet.ensures.column in
+    let drops : drops_of o ≡ true = subst (λ (w : PortValue). drops_of (outcome w.terminal (caller_at w.terminal d) call) ≡ true) (sym c.self.view_is) c.requires.drops in
+    let e : PlainEntry = caller_entry v d (answered (answer_of c.in-Gives.answer) c.trimmed-dropped.result.items) in
+    let entry : entry_of c.entry_of_call-entry.result ≡ e = ap entry_of c.entry_of_call-entry.ensures ∙ (λ i. record { who = Caller d; step = ready.next i; part = (c.caller-state.ensures i).parts; generation = c.generation-generation.ensures i; event = answered (c.copy_into.ensures i) c.trimmed-dropped.result.items }) in
+    let js : entries_of c.add_entry_of_call.new.journal.items ≡ v.journal ++ e ∷ [] = entries_added c.self.inside.journal.items c.reserve_entry.new.journal.items c.entry_of_call-entry.result c.add_entry_of_call.new.journal.items c.in_ok-reserve_entry.ensures.items c.add_entry_of_call.ensures.journal ∙ ap (λ (x : PlainEntry). v.journal ++ x ∷ []) entry in
+    let at_step : c.entry_of_call-entry.result.step ≡ step = ap (λ x. x.step) c.entry_of_call-entry.ensures in
+    let kept_now : c.add_entry_of_call.new.kept.items ≡ kept_after ks d step c.in_ok-made.made.copy = c.add_entry_of_call.ensures.kept ∙ (λ i. kept_after (c.in_ok-made.ensures.items i) d (at_step i) c.in_ok-made.made.copy) in
+    let places_now : c.add_entry_of_call.new.places.items ≡ places_after places ks d c.in_ok-made.made.copy = c.add_entry_of_call.ensures.places ∙ ap (λ (xs : List KeptCall). places_after places xs d c.in_ok-made.made.copy) c.in_ok-made.ensures.items in
+    let kept_plain : map kept_of c.add_entry_of_call.new.kept.items ≡ kept_with (has_begun (caller_at v.terminal d)) v.kept d step call = ap (λ (xs : List KeptCall). map kept_of xs) kept_now ∙ kept_is (has_begun (caller_at v.terminal d)) ks d step call c.in_ok-made.made.copy copied in
+    let now : PortValue = record v { terminal = c.advance.new.self.terminal; journal = entries_of c.add_entry_of_call.new.journal.items; kept = map kept_of c.add_entry_of_call.new.kept.items; starved = c.prepare.new.starved; flip = c.drop_shown.new.flip } in
+    let goes : c.advance.new.self.terminal ≡ after_answer (with_dropped c.meet.new.self.terminal (length c.trimmed-dropped.result.items)) d = ap (λ r. r.terminal) c.advance.ensures ∙ ap (λ (w : Terminal). after_answer w d) (ap (λ r. r.terminal) c.drop_characters.ensures ∙ ap (λ n. with_dropped c.meet.new.self.terminal n) c.len-count.ensures) in
+    let same : now ≡ after_call v d step call (after_answer (with_dropped c.meet.new.self.terminal (length c.trimmed-dropped.result.items)) d) c.drop_shown.new.flip e = made v _ (after_answer (with_dropped c.meet.new.self.terminal (length c.trimmed-dropped.result.items)) d) _ (v.journal ++ e ∷ []) _ (kept_with (has_begun (caller_at v.terminal d)) v.kept d step call) _ c.drop_shown.new.flip c.drop_shown.new.flip goes js kept_plain (c.in_ok-made.ensures.ok ∙ c.in_ok-shown.ensures.ok ∙ c.in_ok-reserve_entry.ensures.ok) refl in
+    let least : v.terminal.sent ≤ shown.tail = omega (arith, c.self.invariant.port.sent, shown.looks.rises) in
+    let most : shown.tail ≤ v.terminal.taken + v.terminal.capacity = omega (arith, shown.looks.most, port_taken v c.self.invariant.port, port_capacity v c.self.invariant.port) in
+    let both = answers_call v now ks places d step call c.in_ok-made.made.copy (answer_of c.in-Gives.answer) c.trimmed-dropped.result.items c.meet.new.self.terminal c.drop_shown.new.flip tried
+    (answers_met _ o c.in-Gives.answer (subst (λ (x : Outcome). Meets x (met.Gives c.in-Gives.answer)) same_o c.in-Gives.ensures.met)) (some_dropped v.terminal o shown.tail (length c.trimmed-dropped.result.items) drops least most shown.all)
+    (when_true (drops_of o) _ _ drops shown) shown.takes_out.taken (drops_few v c.drop_shown.new.flip c.trimmed-dropped.result.items c.self.invariant.port shown) shown.takes_out.capacity (omega (arith, least, shown.looks.floor)) left column same in
+    subst (λ (z : List KeptCall × List ℕ). KeepsPlaces now z.0 z.1) (λ i. (sym kept_now i, sym places_now i)) both.0
+
+pub returns-clause-tried : goal.returns-clause-tried
+returns-clause-tried c =
+    let v : PortValue = value_of c.self.inside in
+    let shown : DropsShown v.terminal v.flip c.drop_shown.new.flip c.trimmed-dropped.result.items = subst (λ (t : Terminal). DropsShown t v.flip c.drop_shown.new.flip c.trimmed-dropped.result.items) c.prepare.ensures.terminal (subst (λ (chars : List Flagged). DropsShown c.prepare.new.terminal.terminal v.flip c.drop_shown.new.flip chars) (sym c.trimmed-dropped.ensures) c.drop_shown.ensures) in
+    let d = c.args.caller in
+    let step = c.args.step in
+    let call = call_of c.args.call.now in
+    let ks : List KeptCall = c.self.inside.kept.items in
+    let places : List ℕ = c.self.inside.places.items in
+    let ready : IsReady v d step call = subst (λ (w : PortValue). IsReady w d step call) (sym c.self.view_is) c.requires.ready in
+    let few : length v.journal < v.limit = subst (λ (w : PortValue). length w.journal < w.limit) (sym c.self.view_is) c.requires.open.0 in
+    let begun : c.is_some-begun.result ≡ has_begun (caller_at v.terminal d) = begun_is v.terminal d c.caller-state.result c.is_some-begun.result c.caller-state.ensures c.is_some-begun.ensures in
+    let copied : IsCopyOf (has_begun (caller_at v.terminal d)) call c.in_ok-made.made.copy = subst (λ (b : Bool). IsCopyOf b call c.in_ok-made.made.copy) begun c.in_ok-made.ensures.kept in
+    let tried : IsTried v ks places d step call c.in_ok-made.made.copy = record { keeps = c.self.invariant; kept = refl; few = few; ready = ready; copied = copied } in
+    let o = outcome v.terminal (caller_at v.terminal d) call in
+    let same_o : outcome c.prepare.new.terminal.terminal (caller_at c.prepare.new.terminal.terminal d) call ≡ o = ap (λ (t : Terminal). outcome t (caller_at t d) call) c.prepare.ensures.terminal in
+    let left : c.meet.new.self.terminal ≡ left_by o v.terminal = c.meet.ensures.left ∙ ap (λ (t : Terminal). left_by (outcome t (caller_at t d) call) t) c.prepare.ensures.terminal in
+    let column : column_in c.meet.new.self.terminal.disc ≤ column_in v.terminal.disc + 4096 = subst (λ (t : Terminal). column_in c.meet.new.self.terminal.disc ≤ column_in t.disc + 4096) c.prepare.ensures.terminal c.meet.ensures.column in
+    let drops : drops_of o ≡ true = subst (λ (w : PortValue). drops_of (outcome w.terminal (caller_at w.terminal d) call) ≡ true) (sym c.self.view_is) c.requires.drops in
+    let e : PlainEntry = caller_entry v d (answered (answer_of c.in-Gives.answer) c.trimmed-dropped.result.items) in
+    let entry : entry_of c.entry_of_call-entry.result ≡ e = ap entry_of c.entry_of_call-entry.ensures ∙ (λ i. record { who = Caller d; step = ready.next i; part = (c.caller-state.ensures i).parts; generation = c.generation-generation.ensures i; event = answered (c.copy_into.ensures i) c.trimmed-dropped.result.items }) in
+    let js : entries_of c.add_entry_of_call.new.journal.items ≡ v.journal ++ e ∷ [] = entries_added c.self.inside.journal.items c.reserve_entry.new.journal.items c.entry_of_call-entry.result c.add_entry_of_call.new.journal.items c.in_ok-reserve_entry.ensures.items c.add_entry_of_call.ensures.journal ∙ ap (λ (x : PlainEntry). v.journal ++ x ∷ []) entry in
+    let at_step : c.entry_of_call-entry.result.step ≡ step = ap (λ x. x.step) c.entry_of_call-entry.ensures in
+    let kept_now : c.add_entry_of_call.new.kept.items ≡ kept_after ks d step c.in_ok-made.made.copy = c.add_entry_of_call.ensures.kept ∙ (λ i. kept_after (c.in_ok-made.ensures.items i) d (at_step i) c.in_ok-made.made.copy) in
+    let places_now : c.add_entry_of_call.new.places.items ≡ places_after places ks d c.in_ok-made.made.copy = c.add_entry_of_call.ensures.places ∙ ap (λ (xs : List KeptCall). places_after places xs d c.in_ok-made.made.copy) c.in_ok-made.ensures.items in
+    let kept_plain : map kept_of c.add_entry_of_call.new.kept.items ≡ kept_with (has_begun (caller_at v.terminal d)) v.kept d step call = ap (λ (xs : List KeptCall). map kept_of xs) kept_now ∙ kept_is (has_begun (caller_at v.terminal d)) ks d step call c.in_ok-made.made.copy copied in
+    let now : PortValue = record v { terminal = c.advance.new.self.terminal; journal = entries_of c.add_entry_of_call.new.journal.items; kept = map kept_of c.add_entry_of_call.new.kept.items; starved = c.prepare.new.starved; flip = c.drop_shown.new.flip } in
+    let goes : c.advance.new.self.terminal ≡ after_answer (with_dropped c.meet.new.self.terminal (length c.trimmed-dropped.result.items)) d = ap (λ r. r.terminal) c.advance.ensures ∙ ap (λ (w : Terminal). after_answer w d) (ap (λ r. r.terminal) c.drop_characters.ensures ∙ ap (λ n. with_dropped c.meet.new.self.terminal n) c.len-count.ensures) in
+    let same : now ≡ after_call v d step call (after_answer (with_dropped c.meet.new.self.terminal (length c.trimmed-dropped.result.items)) d) c.drop_shown.new.flip e = made v _ (after_answer (with_dropped c.meet.new.self.terminal (length c.trimmed-dropped.result.items)) d) _ (v.journal ++ e ∷ []) _ (kept_with (has_begun (caller_at v.terminal d)) v.kept d step call) _ c.drop_shown.new.flip c.drop_shown.new.flip goes js kept_plain (c.in_ok-made.ensures.ok ∙ c.in_ok-shown.ensures.ok ∙ c.in_ok-reserve_entry.ensures.ok) refl in
+    let least : v.terminal.sent ≤ shown.tail = omega (arith, c.self.invariant.port.sent, shown.looks.rises) in
+    let most : shown.tail ≤ v.terminal.taken + v.terminal.capacity = omega (arith, shown.looks.most, port_taken v c.self.invariant.port, port_capacity v c.self.invariant.port) in
+    let both = answers_call v now ks places d step call c.in_ok-made.made.copy (answer_of c.in-Gives.answer) c.trimmed-dropped.result.items c.meet.new.self.terminal c.drop_shown.new.flip tried
+    (answers_met _ o c.in-Gives.answer (subst (λ (x : Outcome). Meets x (met.Gives c.in-Gives.answer)) same_o c.in-Gives.ensures.met)) (some_dropped v.terminal o shown.tail (length c.trimmed-dropped.result.items) drops least most shown.all)
+    (when_true (drops_of o) _ _ drops shown) shown.takes_out.taken (drops_few v c.drop_shown.new.flip c.trimmed-dropped.result.items c.self.invariant.port shown) shown.takes_out.capacity (omega (arith, least, shown.looks.floor)) left column same in
+    subst (λ (w : PortValue). AnswersCall w now d step call (answer_of c.in-Gives.answer)) c.self.view_is both.1

@@ -1,0 +1,116 @@
+//! The flip buffer of a port, as the port's calls use it.
+
+ghost use Rattle.std.specs.Prelude.{◌≡◌, ℕ, ◌+◌, ◌-◌, ◌*◌, ◌^◌, ◌≤◌, ◌<◌, [], ◌∷◌, ◌++◌, true, false, length};
+ghost use Rattle.word_ring.specs.Ends.{AreReleased, with_shown};
+ghost use Rattle.flip_buffer.specs.Drops.{LooksAt};
+ghost use Rattle.ldisc_switch.specs.Disciplines.{column_in};
+ghost use Rattle.tty_terminal.specs.Receiving.{accepts, after_characters, AcceptsAll};
+ghost use Rattle.tty_terminal.specs.Meeting.{room_for_characters};
+ghost use Rattle.port_core.specs.Flips.{shown_count, TakesOut, DropsShown, after_meeting, MeetsTaker};
+
+use arrayvec::ArrayVec;
+use flip_buffer::{FlipIn, FlipOut};
+use tty_base::{Chars, Flagged, Put};
+use tty_terminal::Terminal;
+
+/// Both ends are told what the other knows: all that was put is pushed, and both know it; and the
+/// putter knows what was taken.
+pub(crate) fn tell_each_other(flip: &mut FlipOut, putter: &mut FlipIn)
+    requires { putter.old.ring ≡ flip.old.ring }
+    ensures flip { flip.new ≡ after_meeting flip.old putter.old }
+    ensures meets { MeetsTaker flip.old putter.old putter.new }
+{
+    putter.push();
+    putter.meet(flip.note());
+    flip.meet(putter.note());
+}
+
+/// How many characters one look shows; once the line is over, none past those that it sent.
+pub(crate) fn look_at(flip: &mut FlipOut, terminal: &Terminal) -> usize
+    requires { terminal.now.terminal.taken ≡ length flip.old.taken }
+    ensures same { flip.new ≡ with_shown flip.old flip.new.floor }
+    ensures looks { LooksAt flip.old flip.new flip.new.floor }
+    ensures count { result ≡ shown_count terminal.now.terminal flip.new.floor }
+    ensures there { length flip.old.taken + result ≤ flip.new.floor }
+{
+    let count = flip.look();
+    if terminal.line_is_over() {
+        count.min(terminal.sent().saturating_sub(terminal.taken()) as usize)
+    } else {
+        count
+    }
+}
+
+/// Takes characters out one by one, at most so many and as long as the discipline accepts, hands them
+/// over, and lists them in room that was reserved.
+pub(crate) fn hand_over(
+    terminal: &mut Terminal,
+    flip: &mut FlipOut,
+    count: usize,
+    chars: &mut Chars,
+)
+    requires few { count ≤ 64 }
+    requires empty { chars.old.items ≡ [] }
+    requires spare { count ≤ chars.old.spare }
+    requires there { length flip.old.taken + count ≤ flip.old.floor }
+    requires taken { terminal.old.terminal.taken + count < 2 ^ 63 }
+    requires wire { room_for_characters terminal.old.terminal count ≤ terminal.old.wire_room }
+    requires signals { count ≤ terminal.old.signal_room }
+    requires column { column_in terminal.old.terminal.disc + 2 ^ 22 * count < 2 ^ 62 }
+    ensures takes_out { TakesOut flip.old flip.new chars.new.items }
+    ensures within { length chars.new.items ≤ count }
+    ensures received { terminal.new.terminal ≡ after_characters terminal.old.terminal chars.new.items }
+    ensures accepted { AcceptsAll terminal.old.terminal chars.new.items }
+    ensures stops { length chars.new.items < count → accepts terminal.new.terminal ≡ false }
+    ensures column { column_in terminal.new.terminal.disc ≤ column_in terminal.old.terminal.disc + 2 ^ 22 * count }
+{
+    let mut left = count;
+    while left > 0 && terminal.accepts() {
+        let c = next_of(flip);
+        terminal.receive(c);
+        chars.add(c);
+        left -= 1;
+    }
+}
+
+/// Takes out the next character, which is known to be there.
+fn next_of(flip: &mut FlipOut) -> Flagged
+    requires { length flip.old.taken < flip.old.floor }
+    ensures { TakesOut flip.old flip.new (result ∷ []) }
+{
+    let mut next = ArrayVec::new();
+    flip.take(1, &mut next);
+    next.as_slice()[0]
+}
+
+/// Takes out all that one look shows, and lists it in room that was reserved.
+pub(crate) fn drop_shown(terminal: &Terminal, flip: &mut FlipOut, dropped: &mut Chars)
+    requires taken { terminal.now.terminal.taken ≡ length flip.old.taken }
+    requires within { terminal.now.terminal.sent ≤ terminal.now.terminal.taken + flip.old.capacity }
+    requires empty { dropped.old.items ≡ [] }
+    requires spare { flip.old.capacity ≤ dropped.old.spare }
+    ensures { DropsShown terminal.now.terminal flip.old flip.new dropped.new.items }
+{
+    let most = if terminal.line_is_over() {
+        terminal.sent().saturating_sub(terminal.taken()) as usize
+    } else {
+        flip.capacity()
+    };
+    flip.drop_all(most, dropped);
+}
+
+/// Takes over the putter, takes out all that it put, and lists it in room that was reserved.
+pub(crate) fn drop_rest(flip: &mut FlipOut, putter: FlipIn, dropped: &mut Chars)
+    requires ring { putter.ring ≡ flip.old.ring }
+    requires within { length putter.sent ≤ length flip.old.taken + flip.old.capacity }
+    requires empty { dropped.old.items ≡ [] }
+    requires spare { flip.old.capacity ≤ dropped.old.spare }
+    ensures taken { flip.new.taken ≡ flip.old.taken ++ dropped.new.items }
+    ensures all { flip.new.taken ≡ putter.sent }
+    ensures heads { AreReleased flip.new.released putter.heads }
+    ensures floor { flip.new.floor ≡ length putter.sent }
+    ensures same { (flip.new.ring ≡ flip.old.ring) × (flip.new.capacity ≡ flip.old.capacity) × (flip.new.ended ≡ true) }
+{
+    flip.end(putter);
+    flip.drop_all(flip.capacity(), dropped);
+}

@@ -1,0 +1,21 @@
+use Rattle.std.proofs.Common.{◌≡◌, ◌+◌, List, [], ◌∷◌, ◌++◌, sym, ap, subst, ◌∙◌, arith}
+use Rattle.tty_base.specs.declared.lines.LineStep.{LineStep}
+use Rattle.session_gen.specs.Draws.{rx, high_byte}
+use Rattle.session_gen.proofs.DrawLemmas.{IsBegun, IsBegun-none, IsBegun-more}
+use Rattle.session_gen.proofs.draws.draw_line.Goals as goal
+
+pub loop-init : goal.loop-init
+loop-init c =
+    let items : c.reserve.new.self.items ≡ [] = c.in_ok-reserve.ensures.items ∙ ap (λ b. b.items) c.new-line.ensures in (
+      omega (arith, c.in_ok-reserve.ensures.ok),
+      λ seed first e. subst (λ (xs : List LineStep). IsBegun seed first 0 c.args.number.now xs) (sym items) (IsBegun-none seed first c.args.number.now e),
+    )
+
+pub loop-preserved : goal.loop-preserved
+loop-preserved c =
+    let items : c.add.new.self.items ≡ c.loop.line.items ++ rx (high_byte c.draw.new.number) ∷ [] =
+    ap (λ b. b.items) c.add.ensures ∙ ap (λ byte. c.loop.line.items ++ rx byte ∷ []) c.draw.ensures.byte in (
+      omega (arith, c.loop.invariant.0, ap (λ b. b.spare) c.add.ensures),
+      λ seed first e. subst (λ (xs : List LineStep). IsBegun seed first (c.loop.counter + 1) c.draw.new.number xs) (sym items)
+          (IsBegun-more seed first c.loop.counter c.loop.number c.draw.new.number c.loop.line.items (c.loop.invariant.1 seed first e) c.draw.ensures.after),
+    )

@@ -1,0 +1,8 @@
+use Rattle.std.proofs.Common.{◌≡◌, ◌++◌, drop, string_bytes}
+use Rattle.tty_calls.specs.Sessions.{session_of}
+use Rattle.session_print.specs.Report.{calls_from}
+use Rattle.session_print.proofs.texts.put_all_calls.Given as goal
+
+abbrev pub invariant-loop-port : goal.invariant-loop-port
+invariant-loop-port l =
+    string_bytes l.text ++ calls_from l.port (session_of l.session) (drop l.port l.runs) ≡ string_bytes l.initial.text ++ calls_from 0 (session_of l.session) l.runs

@@ -1,0 +1,34 @@
+ghost use Rattle.std.specs.Prelude.{◌≡◌, ◌++◌, ◌<◌, ◌∷◌, [], OnOk, slice_index_or, string_bytes};
+ghost use Rattle.hex.specs.Hex.{encode_lower};
+ghost use Rattle.session_print.specs.Printing.{digit_texts};
+
+use std::alloc::AllocError;
+
+const DIGITS: [&str; 16] = [
+    "0", "1", "2", "3", "4", "5", "6", "7", "8", "9", "a", "b", "c", "d", "e", "f",
+];
+
+/// Adds bytes in hexadecimal.
+pub(crate) fn put_hex(text: &mut String, bytes: &[u8]) -> Result<(), AllocError>
+    ensures { OnOk result (string_bytes text.new ≡ string_bytes text.old ++ encode_lower bytes.now) }
+{
+    for byte in bytes {
+        put_byte(text, *byte)?;
+    }
+    Ok(())
+}
+
+/// Adds a byte in hexadecimal.
+pub(crate) fn put_byte(text: &mut String, byte: u8) -> Result<(), AllocError>
+    ensures { OnOk result (string_bytes text.new ≡ string_bytes text.old ++ encode_lower (byte ∷ [])) }
+{
+    text.push_str(digit(byte / 16))?;
+    text.push_str(digit(byte % 16))
+}
+
+fn digit(value: u8) -> &'static str
+    requires { value < 16 }
+    ensures { result.now ≡ slice_index_or digit_texts value [] }
+{
+    DIGITS[value as usize]
+}

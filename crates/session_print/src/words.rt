@@ -1,0 +1,110 @@
+ghost use Rattle.std.specs.Prelude.{◌≡◌, ◌++◌, OnOk, string_bytes};
+ghost use Rattle.tty_calls.specs.Plain.{call_of, answer_of};
+ghost use Rattle.session_print.specs.Words.{verb_of as verb_in, errno_name as name_of_errno, signal_name as name_of_signal, counts_text, got_text, answer_text};
+
+use super::digits::put_hex;
+use super::modes::put_modes;
+use std::alloc::AllocError;
+use tty_base::{Counts, Errno, Signal};
+use tty_calls::{Answer, Call};
+
+/// Adds the text of an answer.
+pub(crate) fn put_answer(text: &mut String, answer: &Answer) -> Result<(), AllocError>
+    ensures { OnOk result (string_bytes text.new ≡ string_bytes text.old ++ answer_text (answer_of answer.now)) }
+{
+    match answer {
+        Answer::Done => text.push_str("ok"),
+        Answer::Count(taken) => write!(text, "{taken}"),
+        Answer::Got(bytes) => put_got(text, bytes.as_slice()),
+        Answer::Number(number) => write!(text, "{number}"),
+        Answer::ModesAre(modes) => put_modes(text, modes),
+        Answer::CountsAre(counts) => put_counts(text, counts),
+        Answer::Refused(errno) => text.push_str(errno_name(*errno)),
+        Answer::Idle => text.push_str("idle"),
+    }
+}
+
+/// Adds how many bytes there are, and the bytes in hexadecimal.
+fn put_got(text: &mut String, bytes: &[u8]) -> Result<(), AllocError>
+    ensures { OnOk result (string_bytes text.new ≡ string_bytes text.old ++ got_text bytes.now) }
+{
+    if bytes.is_empty() {
+        return text.push_str("0");
+    }
+    let count = bytes.len();
+    write!(text, "{count} ")?;
+    put_hex(text, bytes)
+}
+
+/// Adds the ten counts by their names.
+pub(crate) fn put_counts(text: &mut String, counts: &Counts) -> Result<(), AllocError>
+    ensures { OnOk result (string_bytes text.new ≡ string_bytes text.old ++ counts_text counts.now) }
+{
+    let Counts {
+        mark,
+        parity,
+        frame,
+        breaks,
+        cut,
+        echo,
+        pin,
+        pout,
+        pbad,
+        pfull,
+    } = *counts;
+    write!(
+        text,
+        "mark={mark} parity={parity} frame={frame} break={breaks} cut={cut} echo={echo} pin={pin} pout={pout} pbad={pbad} pfull={pfull}"
+    )
+}
+
+pub(crate) fn verb_of(call: &Call) -> &'static str
+    ensures { result.now ≡ verb_in (call_of call.now) }
+{
+    match call {
+        Call::Open { .. } => "open",
+        Call::Close { .. } => "close",
+        Call::Read { .. } => "read",
+        Call::Write { .. } => "write",
+        Call::GetModes { .. } => "getm",
+        Call::SetModes { .. } => "modes",
+        Call::GetDisc { .. } => "getd",
+        Call::SetDisc { .. } => "setd",
+        Call::Flush { .. } => "flush",
+        Call::Xonc { .. } => "xonc",
+        Call::Inq { .. } => "inq",
+        Call::Outq { .. } => "outq",
+        Call::Excl { .. } => "excl",
+        Call::Nxcl { .. } => "nxcl",
+        Call::Drain { .. } => "drain",
+        Call::Counts { .. } => "counts",
+        Call::Vhangup { .. } => "vhangup",
+        Call::SendPacket { .. } => "send",
+        Call::TakePacket { .. } => "take",
+    }
+}
+
+fn errno_name(errno: Errno) -> &'static str
+    ensures { result.now ≡ name_of_errno errno }
+{
+    match errno {
+        Errno::EBADF => "EBADF",
+        Errno::EEXIST => "EEXIST",
+        Errno::EBUSY => "EBUSY",
+        Errno::EAGAIN => "EAGAIN",
+        Errno::EIO => "EIO",
+        Errno::EINVAL => "EINVAL",
+        Errno::ENOTTY => "ENOTTY",
+        Errno::EMSGSIZE => "EMSGSIZE",
+    }
+}
+
+pub(crate) fn signal_name(signal: Signal) -> &'static str
+    ensures { result.now ≡ name_of_signal signal }
+{
+    match signal {
+        Signal::Int => "INT",
+        Signal::Quit => "QUIT",
+        Signal::Susp => "SUSP",
+    }
+}

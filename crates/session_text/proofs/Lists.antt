@@ -1,0 +1,51 @@
+-- Lists of what the reader keeps, seen as plain data.
+use Rattle.std.proofs.Common.{◌≡◌, ℕ, ◌+◌, ◌-◌, ◌<◌, Bool, List, [], ◌∷◌, ◌++◌, ◌||◌, length, map, refl, ap, sym, ◌∙◌, arith, get_or, set, zero, suc}
+use Rattle.std.specs.List.{list_any}
+use Rattle.tty_calls.specs.Plain.{PlainCall}
+use Rattle.tty_calls.specs.Sessions.{PlainScript, script_of}
+use Rattle.tty_calls.specs.declared.sessions.Script.{Script}
+use Rattle.std.proofs.lemmas.List.{map-append, map-set, get_or-map}
+use Rattle.tty_base.specs.declared.buffers.Buffer.{Buffer}
+use Rattle.tty_calls.specs.declared.calls.Call.{Call}
+use Rattle.tty_calls.specs.Plain.{call_of}
+use Rattle.session_text.specs.declared.stands.Key.{Key}
+use Rattle.session_text.specs.Drafts.{with_call}
+use Rattle.session_text.specs.Stands.{same_key}
+use Rattle.session_text.specs.Views.{key_of}
+
+pub list_any-map : {X Y : Type 0} (p : Y → Bool) (f : X → Y) (xs : List X) → list_any p (map f xs) ≡ list_any (λ x. p (f x)) xs
+list_any-map p f [] = refl
+list_any-map p f (x ∷ xs) = ap (λ b. p (f x) || b) (list_any-map p f xs)
+
+-- the last caller has a call more
+pub call_added : (call : PlainCall) (scripts : List Script) (d script : Script) (last : ℕ) → last + 1 ≡ length scripts
+    → script_of script ≡ record (script_of (get_or scripts last d)) { calls = (script_of (get_or scripts last d)).calls ++ call ∷ [] }
+    → map script_of (set scripts last script) ≡ with_call call (map script_of scripts)
+call_added call [] d script last n e = absurd (omega (arith, n))
+call_added call (first ∷ []) d script zero n e = ap (λ (s : PlainScript). s ∷ []) e
+call_added call (first ∷ []) d script (suc last) n e = absurd (omega (arith, n))
+call_added call (first ∷ other ∷ scripts) d script zero n e = absurd (omega (arith, n))
+call_added call (first ∷ other ∷ scripts) d script (suc last) n e = ap (λ (xs : List PlainScript). script_of first ∷ xs) (call_added call (other ∷ scripts) d script last (omega (arith, n)) e)
+
+-- .. as its script is written
+pub call_pushed : (call : Call) (scripts : List Script) (d : Script) (calls : Buffer Call) (held : List Call) → 0 < length scripts → calls.items ≡ held ++ call ∷ [] → held ≡ (get_or scripts (length scripts - 1) d).calls.items
+    → map script_of (set scripts (length scripts - 1) (record (get_or scripts (length scripts - 1) d) { calls = calls })) ≡ with_call (call_of call) (map script_of scripts)
+call_pushed call scripts d calls held some more same =
+    let last = get_or scripts (length scripts - 1) d in
+    let all : map call_of calls.items ≡ map call_of last.calls.items ++ call_of call ∷ [] =
+    ap (map call_of) more ∙ map-append call_of held (call ∷ []) ∙ ap (λ (xs : List Call). map call_of xs ++ call_of call ∷ []) same in
+    call_added (call_of call) scripts d (record last { calls = calls }) (length scripts - 1) (omega (arith, some))
+    (ap (λ (cs : List PlainCall). record (script_of last) { calls = cs }) all)
+
+-- a port's line goes on
+pub line_added : {X Y : Type 0} (f : X → List Y) (lines : List X) (port : ℕ) (d line : X) (steps : List Y) → port < length lines → f line ≡ f (get_or lines port d) ++ steps
+    → map f (set lines port line) ≡ set (map f lines) port (get_or (map f lines) port [] ++ steps)
+line_added {X} {Y} f lines port d line steps within e =
+    map-set f lines port line ∙ ap (set (map f lines) port) (e ∙ ap (λ (xs : List Y). xs ++ steps) (sym (get_or-map f lines port d [] within)))
+
+-- a caller is looked for by its name and port
+pub key_found : (b : Bool) (keys slice : List Key) (name word : List ℕ) (port number : ℕ) → b ≡ list_any (λ key. same_key name port (key_of key)) slice → slice ≡ keys → name ≡ word → port ≡ number
+    → b ≡ list_any (same_key word number) (map key_of keys)
+key_found b keys slice name word port number h e₁ e₂ e₃ =
+    h ∙ ap (list_any (λ key. same_key name port (key_of key))) e₁ ∙ ap (λ (n : List ℕ). list_any (λ key. same_key n port (key_of key)) keys) e₂
+    ∙ ap (λ (p : ℕ). list_any (λ key. same_key word p (key_of key)) keys) e₃ ∙ sym (list_any-map (same_key word number) key_of keys)

@@ -1,0 +1,215 @@
+ghost use Rattle.std.specs.Prelude.{◌≡◌, ◌/◌, nat_le, is_some, length};
+ghost use Rattle.text_lines.specs.Lines.{words_of};
+ghost use Rattle.session_text.specs.Kinds.{may_have, line_may_have, call_may_have, kind_at, line_kind, call_kind, fault_of, fault_from, word_fault, limit_fault, hex_fault, is_trigger};
+
+use super::faults::Reason;
+use super::verbs::{CallVerb, LineVerb, Verb};
+use super::words::{access_of, act_of, is_nonblock, mode_of, queue_of, when_of};
+use text_lines::{is_hex, is_name, is_number, number_of, split_word};
+
+/// What an argument may be.
+#[derive(Clone, Copy, Debug, PartialEq, Eq)]
+pub(crate) enum Kind {
+    Name,
+    /// A number below the number of ports.
+    Port,
+    Number { least: u64, most: u64 },
+    /// 1, 4, 8 or 14.
+    Trigger,
+    /// At most so many bytes in hexadecimal digits.
+    Hex { most: u64 },
+    Access,
+    Nonblock,
+    When,
+    Queue,
+    Act,
+    Mode,
+}
+
+/// Whether an item may have so many arguments.
+pub(crate) fn may_have(verb: Verb, count: usize) -> bool
+    ensures { result ≡ may_have verb count }
+{
+    match verb {
+        Verb::Phase | Verb::End => count == 0,
+        Verb::Session | Verb::Ports | Verb::Line | Verb::Clock | Verb::Tick => count == 1,
+        Verb::Flip | Verb::Caller => count == 2,
+        Verb::Step(verb) => line_may_have(verb, count),
+        Verb::Call(verb) => call_may_have(verb, count),
+    }
+}
+
+fn line_may_have(verb: LineVerb, count: usize) -> bool
+    ensures { result ≡ line_may_have verb count }
+{
+    match verb {
+        LineVerb::Break | LineVerb::Mask | LineVerb::Unmask => count == 0,
+        _ => count == 1,
+    }
+}
+
+fn call_may_have(verb: CallVerb, count: usize) -> bool
+    ensures { result ≡ call_may_have verb count }
+{
+    match verb {
+        CallVerb::Open => count == 2 || count == 3,
+        CallVerb::SetModes => count >= 3,
+        CallVerb::Read | CallVerb::Write | CallVerb::SetDisc => count == 2,
+        CallVerb::Flush | CallVerb::Xonc | CallVerb::Send => count == 2,
+        _ => count == 1,
+    }
+}
+
+/// The kind of an item's argument at a place, counted from 0. Of an item without arguments any kind
+/// may be said.
+pub(crate) fn kind_at(verb: Verb, place: usize) -> Kind
+    ensures { result ≡ kind_at verb place }
+{
+    match verb {
+        Verb::Phase | Verb::End => Kind::Name,
+        Verb::Session => Kind::Number { least: 1, most: 2 },
+        Verb::Ports => Kind::Number { least: 1, most: 8 },
+        Verb::Flip if place == 0 => Kind::Port,
+        Verb::Flip => Kind::Number {
+            least: 64,
+            most: 65_536,
+        },
+        Verb::Line | Verb::Clock => Kind::Port,
+        Verb::Caller if place == 0 => Kind::Name,
+        Verb::Caller => Kind::Port,
+        Verb::Tick => Kind::Number {
+            least: 1,
+            most: 65_536,
+        },
+        Verb::Step(verb) => line_kind(verb),
+        Verb::Call(_) if place == 0 => Kind::Number { least: 0, most: 31 },
+        Verb::Call(verb) => call_kind(verb, place),
+    }
+}
+
+fn line_kind(verb: LineVerb) -> Kind
+    ensures { result ≡ line_kind verb }
+{
+    match verb {
+        LineVerb::Rx | LineVerb::Rxp | LineVerb::Rxf => Kind::Hex { most: 262_144 },
+        LineVerb::Break | LineVerb::Mask | LineVerb::Unmask => Kind::Name,
+        LineVerb::Idle => Kind::Number {
+            least: 1,
+            most: 1_000,
+        },
+        LineVerb::Trigger => Kind::Trigger,
+    }
+}
+
+/// The kind of an argument after the handle.
+fn call_kind(verb: CallVerb, place: usize) -> Kind
+    ensures { result ≡ call_kind verb place }
+{
+    match verb {
+        CallVerb::Open if place == 1 => Kind::Access,
+        CallVerb::Open => Kind::Nonblock,
+        CallVerb::Read => Kind::Number {
+            least: 1,
+            most: 65_536,
+        },
+        CallVerb::Write | CallVerb::Send => Kind::Hex { most: 65_536 },
+        CallVerb::SetModes if place == 1 => Kind::When,
+        CallVerb::SetModes => Kind::Mode,
+        CallVerb::SetDisc => Kind::Number {
+            least: 0,
+            most: 4_294_967_295,
+        },
+        CallVerb::Flush => Kind::Queue,
+        CallVerb::Xonc => Kind::Act,
+        _ => Kind::Name,
+    }
+}
+
+/// What is wrong with the first wrong argument, if one is.
+pub(crate) fn fault_in(ports: u8, verb: Verb, arguments: &[u8]) -> Option<Reason>
+    ensures { result ≡ fault_from ports verb 0 (words_of arguments.now) }
+{
+    let mut rest = arguments;
+    let mut place = 0;
+    while let Some((word, after)) = split_word(rest) {
+        if let Some(reason) = fault_of(ports, kind_at(verb, place), word) {
+            return Some(reason);
+        }
+        rest = after;
+        place += 1;
+    }
+    None
+}
+
+fn fault_of(ports: u8, kind: Kind, word: &[u8]) -> Option<Reason>
+    ensures { result ≡ fault_of ports kind word.now }
+{
+    match kind {
+        Kind::Name => word_fault(is_name(word)),
+        Kind::Port => port_fault(ports, word),
+        Kind::Number { least, most } => range_fault(least, most, word),
+        Kind::Trigger => trigger_fault(word),
+        Kind::Hex { most } => hex_fault(word, most),
+        Kind::Access => word_fault(access_of(word).is_some()),
+        Kind::Nonblock => word_fault(is_nonblock(word)),
+        Kind::When => word_fault(when_of(word).is_some()),
+        Kind::Queue => word_fault(queue_of(word).is_some()),
+        Kind::Act => word_fault(act_of(word).is_some()),
+        Kind::Mode => word_fault(mode_of(word).is_some()),
+    }
+}
+
+fn word_fault(fits: bool) -> Option<Reason>
+    ensures { result ≡ word_fault fits }
+{
+    if fits { None } else { Some(Reason::Word) }
+}
+
+fn limit_fault(fits: bool) -> Option<Reason>
+    ensures { result ≡ limit_fault fits }
+{
+    if fits { None } else { Some(Reason::Limit) }
+}
+
+fn port_fault(ports: u8, word: &[u8]) -> Option<Reason>
+    ensures { result ≡ fault_of ports Kind.Port word.now }
+{
+    if !is_number(word) {
+        return Some(Reason::Number);
+    }
+    limit_fault(number_of(word) < u64::from(ports))
+}
+
+fn range_fault(least: u64, most: u64, word: &[u8]) -> Option<Reason>
+    ensures { result ≡ fault_of 0 (Kind.Number least most) word.now }
+{
+    if !is_number(word) {
+        return Some(Reason::Number);
+    }
+    let number = number_of(word);
+    limit_fault(least <= number && number <= most)
+}
+
+fn trigger_fault(word: &[u8]) -> Option<Reason>
+    ensures { result ≡ fault_of 0 Kind.Trigger word.now }
+{
+    if !is_number(word) {
+        return Some(Reason::Number);
+    }
+    limit_fault(is_trigger(number_of(word)))
+}
+
+fn is_trigger(number: u64) -> bool
+    ensures { result ≡ is_trigger number }
+{
+    number == 1 || number == 4 || number == 8 || number == 14
+}
+
+fn hex_fault(word: &[u8], most: u64) -> Option<Reason>
+    ensures { result ≡ hex_fault word.now most }
+{
+    if !is_hex(word) {
+        return Some(Reason::Hex);
+    }
+    limit_fault(word.len() as u64 / 2 <= most)
+}

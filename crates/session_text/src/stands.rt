@@ -1,0 +1,404 @@
+ghost use Rattle.std.specs.Prelude.{◌≡◌, ◌-◌, ◌∷◌, ◌++◌, [], Some, OnOk, IsTrue, map, slice_set, slice_index, length};
+ghost use Rattle.std.specs.List.{list_any};
+ghost use Rattle.text_lines.specs.Lines.{words_of};
+ghost use Rattle.session_text.specs.Stands.{first_stand, may_stand, in_phase, holds, same_key, has_stood, callers_on, arrivals, has_many, is_over, is_good, late_fault, item_fault, verdict_on, verb_verdict, first_verdict, left_after, stand_after};
+ghost use Rattle.session_text.specs.Views.{stand_of, key_of};
+
+use super::faults::Reason;
+use super::kinds::{fault_in, may_have};
+use super::verbs::{CallVerb, LineVerb, Verb, verb_of};
+use arrayvec::ArrayString;
+use std::alloc::Global;
+use text_lines::{count_words, name_of, number_at, word_at};
+use tty_base::{Buffer, NoMemory};
+
+const PHASES: u64 = 64;
+
+const STEPS: u64 = 65_536;
+
+const CHARACTERS: u64 = 262_144;
+
+const TICKS: u64 = 65_536;
+
+const CALLERS: usize = 16;
+
+/// Which items may come next.
+#[derive(Clone, Copy, Debug, PartialEq, Eq)]
+pub(crate) enum Place {
+    /// Before the first item.
+    Start,
+    /// After the header.
+    Head,
+    /// After `ports`, and before the first phase.
+    Before,
+    /// In a phase, before its first block.
+    Phase,
+    /// In a line block.
+    Line,
+    /// In a clock block.
+    Clock,
+    /// In a caller's block.
+    Caller,
+    /// After `end`.
+    Ended,
+}
+
+/// A caller of the open phase.
+#[derive(Debug, Drop)]
+pub(crate) struct Key {
+    name: ArrayString<16>,
+    port: u64,
+}
+
+/// Where the reader of a text stands.
+#[derive(Debug, Drop)]
+pub(crate) struct Stand {
+    place: Place,
+    version: u8,
+    ports: u8,
+    /// The ports that had their `flip`.
+    flips: Buffer<u64>,
+    /// The ports that had their line block, and their clock block, in the open phase.
+    lines: Buffer<u64>,
+    clocks: Buffer<u64>,
+    /// The callers of the open phase.
+    callers: Buffer<Key>,
+    /// The port of the open block.
+    port: u64,
+    /// How many phases and steps may still come, and for each port characters and ticks.
+    phases_left: u64,
+    steps_left: u64,
+    characters_left: [u64; 8],
+    ticks_left: [u64; 8],
+}
+
+impl Stand {
+    /// Before the first item.
+    pub(crate) fn new(alloc: Global) -> Stand
+        ensures { stand_of result ≡ first_stand }
+    {
+        Stand {
+            place: Place::Start,
+            version: 0,
+            ports: 0,
+            flips: Buffer::new(alloc),
+            lines: Buffer::new(alloc),
+            clocks: Buffer::new(alloc),
+            callers: Buffer::new(alloc),
+            port: 0,
+            phases_left: PHASES,
+            steps_left: STEPS,
+            characters_left: [CHARACTERS; 8],
+            ticks_left: [TICKS; 8],
+        }
+    }
+
+    pub(crate) fn place(&self) -> Place
+        ensures { result ≡ self.now.place }
+    {
+        self.place
+    }
+
+    pub(crate) fn version(&self) -> u8
+        ensures { result ≡ self.now.version }
+    {
+        self.version
+    }
+
+    pub(crate) fn ports(&self) -> u8
+        ensures { result ≡ self.now.ports }
+    {
+        self.ports
+    }
+
+    /// The port of the open block.
+    pub(crate) fn port(&self) -> u64
+        ensures { result ≡ self.now.port }
+    {
+        self.port
+    }
+
+    /// The verb of a line, from its first word and its arguments, or why the line is wrong.
+    pub(crate) fn judge(&self, word: &[u8], arguments: &[u8]) -> Result<Verb, Reason>
+        ensures { result ≡ verdict_on (stand_of self.now) word.now (words_of arguments.now) }
+    {
+        if matches!(self.place, Place::Start) {
+            return self.judge_first(word, arguments);
+        }
+        match verb_of(self.version, word) {
+            None => Err(Reason::Word),
+            Some(verb) => self.judge_item(verb, arguments),
+        }
+    }
+
+    /// The first item has to be the header.
+    fn judge_first(&self, word: &[u8], arguments: &[u8]) -> Result<Verb, Reason>
+        ensures { result ≡ first_verdict (stand_of self.now) word.now (words_of arguments.now) }
+    {
+        if word == b"tty-session".as_slice() && is_good(self.ports, Verb::Session, arguments) {
+            Ok(Verb::Session)
+        } else {
+            Err(Reason::Header)
+        }
+    }
+
+    fn judge_item(&self, verb: Verb, arguments: &[u8]) -> Result<Verb, Reason>
+        ensures { result ≡ verb_verdict (stand_of self.now) (Some verb) (words_of arguments.now) }
+    {
+        match self.item_fault(verb, arguments) {
+            None => Ok(verb),
+            Some(reason) => Err(reason),
+        }
+    }
+
+    fn item_fault(&self, verb: Verb, arguments: &[u8]) -> Option<Reason>
+        ensures { result ≡ item_fault (stand_of self.now) verb (words_of arguments.now) }
+    {
+        if !may_stand(verb, self.place) {
+            return Some(Reason::Order);
+        }
+        if !may_have(verb, count_words(arguments)) {
+            return Some(Reason::Word);
+        }
+        match fault_in(self.ports, verb, arguments) {
+            Some(reason) => Some(reason),
+            None => self.late_fault(verb, arguments),
+        }
+    }
+
+    fn late_fault(&self, verb: Verb, arguments: &[u8]) -> Option<Reason>
+        ensures { result ≡ late_fault (stand_of self.now) verb (words_of arguments.now) }
+    {
+        if self.has_stood(verb, arguments) {
+            return Some(Reason::Order);
+        }
+        if self.is_over(verb, arguments) {
+            return Some(Reason::Limit);
+        }
+        None
+    }
+
+    /// Whether an item that may stand once has stood.
+    fn has_stood(&self, verb: Verb, arguments: &[u8]) -> bool
+        ensures { result ≡ has_stood (stand_of self.now) verb (words_of arguments.now) }
+    {
+        match verb {
+            Verb::Flip => holds(self.flips.as_slice(), number_at(arguments, 0)),
+            Verb::Line => holds(self.lines.as_slice(), number_at(arguments, 0)),
+            Verb::Clock => holds(self.clocks.as_slice(), number_at(arguments, 0)),
+            Verb::Caller => {
+                let name = word_at(arguments, 0);
+                has_key(self.callers.as_slice(), name, number_at(arguments, 1))
+            }
+            _ => false,
+        }
+    }
+
+    /// Whether an item passes a total.
+    fn is_over(&self, verb: Verb, arguments: &[u8]) -> bool
+        ensures { result ≡ is_over (stand_of self.now) verb (words_of arguments.now) }
+    {
+        match verb {
+            Verb::Phase => self.phases_left == 0,
+            Verb::Caller => {
+                callers_on(number_at(arguments, 1), self.callers.as_slice()) >= CALLERS
+            }
+            Verb::Step(step) => {
+                self.steps_left == 0
+                    || left_on(&self.characters_left, self.port) < arrivals(step, arguments)
+            }
+            Verb::Tick => {
+                self.steps_left == 0
+                    || left_on(&self.ticks_left, self.port) < number_at(arguments, 0)
+            }
+            Verb::Call(call) => self.steps_left == 0 || has_many(call, count_words(arguments)),
+            _ => false,
+        }
+    }
+
+    /// Goes on by an item that is not wrong.
+    pub(crate) fn take(
+        &mut self,
+        alloc: Global,
+        verb: Verb,
+        arguments: &[u8],
+    ) -> Result<(), NoMemory>
+        requires { IsTrue (is_good self.old.ports verb (words_of arguments.now)) }
+        ensures { OnOk result (stand_of self.new ≡ stand_after (stand_of self.old) verb (words_of arguments.now)) }
+    {
+        match verb {
+            Verb::Session => {
+                self.version = number_at(arguments, 0) as u8;
+                self.place = Place::Head;
+            }
+            Verb::Ports => {
+                self.ports = number_at(arguments, 0) as u8;
+                self.place = Place::Before;
+            }
+            Verb::Flip => add_port(&mut self.flips, number_at(arguments, 0))?,
+            Verb::Phase => self.open_phase(alloc),
+            Verb::Line => self.open_line(number_at(arguments, 0))?,
+            Verb::Clock => self.open_clock(number_at(arguments, 0))?,
+            Verb::Caller => self.open_caller(arguments)?,
+            Verb::Step(step) => self.step(arrivals(step, arguments)),
+            Verb::Tick => self.tick(number_at(arguments, 0)),
+            Verb::Call(_) => self.steps_left = self.steps_left.saturating_sub(1),
+            Verb::End => self.place = Place::Ended,
+        }
+        Ok(())
+    }
+
+    fn open_phase(&mut self, alloc: Global)
+        ensures { stand_of self.new ≡ stand_after (stand_of self.old) Verb.Phase [] }
+    {
+        self.place = Place::Phase;
+        self.lines = Buffer::new(alloc);
+        self.clocks = Buffer::new(alloc);
+        self.callers = Buffer::new(alloc);
+        self.phases_left = self.phases_left.saturating_sub(1);
+    }
+
+    fn open_line(&mut self, port: u64) -> Result<(), NoMemory>
+        ensures { OnOk result (stand_of self.new ≡ record (stand_of self.old) { place = Place.Line; lines = (stand_of self.old).lines ++ port ∷ []; port = port }) }
+    {
+        add_port(&mut self.lines, port)?;
+        self.place = Place::Line;
+        self.port = port;
+        Ok(())
+    }
+
+    fn open_clock(&mut self, port: u64) -> Result<(), NoMemory>
+        ensures { OnOk result (stand_of self.new ≡ record (stand_of self.old) { place = Place.Clock; clocks = (stand_of self.old).clocks ++ port ∷ []; port = port }) }
+    {
+        add_port(&mut self.clocks, port)?;
+        self.place = Place::Clock;
+        self.port = port;
+        Ok(())
+    }
+
+    fn open_caller(&mut self, arguments: &[u8]) -> Result<(), NoMemory>
+        requires { IsTrue (is_good self.old.ports Verb.Caller (words_of arguments.now)) }
+        ensures { OnOk result (stand_of self.new ≡ stand_after (stand_of self.old) Verb.Caller (words_of arguments.now)) }
+    {
+        let port = number_at(arguments, 1);
+        let name = name_of(word_at(arguments, 0));
+        self.callers.reserve(1)?;
+        self.callers.add(Key { name, port });
+        self.place = Place::Caller;
+        self.port = port;
+        Ok(())
+    }
+
+    fn step(&mut self, count: u64)
+        ensures { stand_of self.new ≡ record (stand_of self.old) { steps_left = (stand_of self.old).steps_left - 1; characters_left = left_after (stand_of self.old).characters_left (stand_of self.old).port count } }
+    {
+        self.steps_left = self.steps_left.saturating_sub(1);
+        spend(&mut self.characters_left, self.port, count);
+    }
+
+    fn tick(&mut self, count: u64)
+        ensures { stand_of self.new ≡ record (stand_of self.old) { steps_left = (stand_of self.old).steps_left - 1; ticks_left = left_after (stand_of self.old).ticks_left (stand_of self.old).port count } }
+    {
+        self.steps_left = self.steps_left.saturating_sub(1);
+        spend(&mut self.ticks_left, self.port, count);
+    }
+}
+
+fn is_good(ports: u8, verb: Verb, arguments: &[u8]) -> bool
+    ensures { result ≡ is_good ports verb (words_of arguments.now) }
+{
+    may_have(verb, count_words(arguments)) && fault_in(ports, verb, arguments).is_none()
+}
+
+/// Whether an item may stand at a place. The header stands before the first place alone.
+fn may_stand(verb: Verb, place: Place) -> bool
+    ensures { result ≡ may_stand verb place }
+{
+    match verb {
+        Verb::Session => false,
+        Verb::Ports => matches!(place, Place::Head),
+        Verb::Flip => matches!(place, Place::Before),
+        Verb::Phase | Verb::End => matches!(place, Place::Before) || in_phase(place),
+        Verb::Line | Verb::Clock | Verb::Caller => in_phase(place),
+        Verb::Tick => matches!(place, Place::Clock),
+        Verb::Step(_) => matches!(place, Place::Line),
+        Verb::Call(_) => matches!(place, Place::Caller),
+    }
+}
+
+fn in_phase(place: Place) -> bool
+    ensures { result ≡ in_phase place }
+{
+    matches!(
+        place,
+        Place::Phase | Place::Line | Place::Clock | Place::Caller
+    )
+}
+
+fn holds(ports: &[u64], port: u64) -> bool
+    ensures { result ≡ holds ports.now port }
+{
+    ports.iter().any(|other| *other == port)
+}
+
+fn has_key(keys: &[Key], name: &[u8], port: u64) -> bool
+    ensures { result ≡ list_any (λ key. same_key name.now port (key_of key)) keys.now }
+{
+    keys.iter().any(|key| is_key(key, name, port))
+}
+
+fn is_key(key: &Key, name: &[u8], port: u64) -> bool
+    ensures { result ≡ same_key name.now port (key_of key.now) }
+{
+    key.port == port && key.name.as_bytes() == name
+}
+
+fn callers_on(port: u64, keys: &[Key]) -> usize
+    ensures { result ≡ callers_on port (map key_of keys.now) }
+{
+    keys.iter().filter(|key| key.port == port).count()
+}
+
+/// How many characters a line's item lets arrive.
+fn arrivals(verb: LineVerb, arguments: &[u8]) -> u64
+    ensures { result ≡ arrivals verb (words_of arguments.now) }
+{
+    match verb {
+        LineVerb::Rx | LineVerb::Rxp | LineVerb::Rxf => word_at(arguments, 0).len() as u64 / 2,
+        LineVerb::Break => 1,
+        _ => 0,
+    }
+}
+
+/// Whether these are the arguments of more than 64 mode words.
+fn has_many(verb: CallVerb, count: usize) -> bool
+    ensures { result ≡ has_many verb count }
+{
+    match verb {
+        CallVerb::SetModes => count > 66,
+        _ => false,
+    }
+}
+
+fn left_on(left: &[u64], port: u64) -> u64
+    ensures { result ≡ slice_index left.now port }
+{
+    left.get(port as usize).copied().unwrap_or(0)
+}
+
+fn spend(left: &mut [u64], port: u64, count: u64)
+    ensures { left.new ≡ left_after left.old port count }
+{
+    let place = port as usize;
+    if place < left.len() {
+        left[place] = left[place].saturating_sub(count);
+    }
+}
+
+fn add_port(ports: &mut Buffer<u64>, port: u64) -> Result<(), NoMemory>
+    ensures { OnOk result (ports.new.items ≡ ports.old.items ++ port ∷ []) }
+{
+    ports.reserve(1)?;
+    ports.add(port);
+    Ok(())
+}

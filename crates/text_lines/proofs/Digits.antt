@@ -1,0 +1,47 @@
+-- Hexadecimal digits and names, as the library's calls see them.
+use Rattle.std.proofs.Common.{nat_le, leb-true, ◌≤◌, ◌≡◌, ℕ, ◌<◌, ◌%◌, ◌==◌, ◌&&◌, Bool, true, false, cond, List, [], ◌∷◌, length, Some, None, Ok, Err, refl, sym, ap, ◌∙◌, arith, eq-eqb}
+use Rattle.std.specs.List.{list_all}
+use Rattle.std.specs.Prelude.{Result}
+use Rattle.std.specs.Result.{result_unwrap_or}
+use Rattle.std.specs.Str.{IsAscii, IsUtf8}
+use Rattle.std.proofs.lemmas.Bool.{eqb-true, and_parts}
+use Rattle.std.proofs.lemmas.Str.{IsUtf8-from_ascii}
+use Rattle.std.proofs.lemmas.Str.Ascii.{IsAscii-nil, IsAscii-cons}
+use Rattle.std.proofs.lemmas.List.Sums.{AllPass-from_list_all, list_all-from_AllPass}
+use Rattle.hex.specs.Hex.{decode_of, is_hex_digit}
+use Rattle.hex.specs.declared.error.FromHexError.{FromHexError}
+use Rattle.hex.proofs.HexLemmas.{decode_of-ok, decode_of-digits}
+use Rattle.text_lines.specs.Values.{is_digit, begins_number, is_number, bytes_of, begins_name, is_name, is_name_byte}
+
+-- what decodes gives its bytes, and what does not gives none
+pub bytes_decoded : (digits bytes : List ℕ) → decode_of digits ≡ Ok bytes → bytes ≡ bytes_of digits
+bytes_decoded digits bytes e = sym (ap (λ (r : Result (List ℕ) FromHexError). result_unwrap_or r []) e)
+
+pub bytes_refused : (digits : List ℕ) (e : FromHexError) → decode_of digits ≡ Err e → [] ≡ bytes_of digits
+bytes_refused digits e refused = sym (ap (λ (r : Result (List ℕ) FromHexError). result_unwrap_or r []) refused)
+
+-- ---- names
+
+name_byte_small : (byte : ℕ) → is_name_byte byte ≡ true → byte < 128
+name_byte_small byte h = grind (arith)
+
+names_ascii : (name : List ℕ) → list_all is_name_byte name ≡ true → IsAscii name
+names_ascii [] h = IsAscii-nil
+names_ascii (byte ∷ bytes) h =
+    let parts = and_parts (is_name_byte byte) (list_all is_name_byte bytes) h in
+    IsAscii-cons byte bytes (name_byte_small byte parts.0) (names_ascii bytes parts.1)
+
+pub name_is_text : (name : List ℕ) → is_name name ≡ true → IsUtf8 name
+name_is_text name h =
+    let both = and_parts (begins_name name && list_all is_name_byte name) (nat_le (length name) 16) h in
+    let all = and_parts (begins_name name) (list_all is_name_byte name) both.0 in
+    IsUtf8-from_ascii name (names_ascii name all.1)
+
+-- ---- numbers
+
+pub number_parts : (digits : List ℕ) → is_number digits ≡ true → (length digits ≤ 10) × (list_all is_digit digits ≡ true)
+number_parts [] h = cc
+number_parts (digit ∷ digits) h =
+    let both = and_parts (begins_number (digit ∷ digits) && nat_le (length (digit ∷ digits)) 10) (list_all is_digit (digit ∷ digits)) h in
+    let first = and_parts (begins_number (digit ∷ digits)) (nat_le (length (digit ∷ digits)) 10) both.0 in
+    (leb-true (length (digit ∷ digits)) 10 first.1, both.1)

@@ -1,0 +1,94 @@
+ghost use Rattle.std.specs.Prelude.{◌≡◌, ◌<◌, [], ◌∷◌, position, not, length, slice_index_or, MatchOption};
+ghost use Rattle.text_lines.specs.Lines.{is_newline, is_blank, first_is, lines_of, words_of};
+
+/// The first line of a text, and what follows it; `None` where the text is empty.
+pub fn split_line(text: &[u8]) -> Option<(&[u8], &[u8])>
+    ensures lines { MatchOption result (lines_of text.now ≡ []) (λ parts. lines_of text.now ≡ parts.0.now ∷ lines_of parts.1.now) }
+    ensures shorter { MatchOption result (text.now ≡ []) (λ parts. length parts.1.now < length text.now) }
+{
+    if text.is_empty() {
+        return None;
+    }
+    match newline_in(text) {
+        Some(at) => Some((&text[..at], &text[at + 1..])),
+        None => Some((text, &text[text.len()..])),
+    }
+}
+
+fn newline_in(text: &[u8]) -> Option<usize>
+    ensures { result ≡ position is_newline text.now }
+{
+    text.iter().position(|byte| *byte == b'\n')
+}
+
+fn is_blank(byte: u8) -> bool
+    ensures { result ≡ is_blank byte }
+{
+    byte == b' ' || byte == b'\t' || byte == b'\r'
+}
+
+fn blank_in(line: &[u8]) -> Option<usize>
+    ensures { result ≡ position is_blank line.now }
+{
+    line.iter().position(|byte| is_blank(*byte))
+}
+
+fn word_in(line: &[u8]) -> Option<usize>
+    ensures { result ≡ position (λ byte. not (is_blank byte)) line.now }
+{
+    line.iter().position(|byte| !is_blank(*byte))
+}
+
+/// The first word of a line, and what follows it; `None` where the line has no word.
+pub fn split_word(line: &[u8]) -> Option<(&[u8], &[u8])>
+    ensures words { MatchOption result (words_of line.now ≡ []) (λ parts. words_of line.now ≡ parts.0.now ∷ words_of parts.1.now) }
+    ensures shorter { MatchOption result (words_of line.now ≡ []) (λ parts. length parts.1.now < length line.now) }
+{
+    match word_in(line) {
+        None => None,
+        Some(start) => {
+            let begun = &line[start..];
+            match blank_in(begun) {
+                Some(at) => Some((&begun[..at], &begun[at + 1..])),
+                None => Some((begun, &begun[begun.len()..])),
+            }
+        }
+    }
+}
+
+/// How many words a line has.
+pub fn count_words(line: &[u8]) -> usize
+    ensures { result ≡ length (words_of line.now) }
+{
+    let mut count = 0;
+    let mut rest = line;
+    while let Some((_, after)) = split_word(rest) {
+        rest = after;
+        count += 1;
+    }
+    count
+}
+
+/// The word at a place of a line, counted from 0, and no bytes past the last word.
+pub fn word_at(line: &[u8], place: usize) -> &[u8]
+    ensures { result.now ≡ slice_index_or (words_of line.now) place [] }
+{
+    let mut rest = line;
+    for _ in 0..place {
+        match split_word(rest) {
+            Some((_, after)) => rest = after,
+            None => return &[],
+        }
+    }
+    match split_word(rest) {
+        Some((word, _)) => word,
+        None => &[],
+    }
+}
+
+/// Whether a word begins with `#`.
+pub fn is_comment(word: &[u8]) -> bool
+    ensures { result ≡ first_is 35 word.now }
+{
+    word.first() == Some(&b'#')
+}

@@ -1,0 +1,265 @@
+//! What a call would meet, and the room that it needs.
+
+ghost use Rattle.std.specs.Prelude.{◌≡◌, ◌↔◌, ℕ, ◌<◌, ◌^◌, IsTrue, IfOk, length};
+ghost use Rattle.tty_calls.specs.Plain.{handle_of, call_of};
+ghost use Rattle.ldisc_switch.specs.Disciplines.{column_in};
+ghost use Rattle.handle_table.specs.Handles.{is_live as is_live_handle};
+ghost use Rattle.tty_terminal.specs.Meeting.{spelled_packet as packet_of_call};
+
+use super::Terminal;
+use super::acting::{may_read, may_write, rest_of};
+use crate::callers::CallerState;
+use crate::rooms::Room;
+use handle_table::HandleState;
+use ldisc_switch::{Disc, Kind, fresh};
+use slip_frames::{SlipFault, encode};
+use std::alloc::Global;
+use tty_base::{Bytes, NoMemory};
+use tty_calls::{Call, Queue, When};
+
+/// The packet that a call sends, as it is spelled, unless it is too long.
+fn spelled_packet(alloc: Global, call: &Call) -> Result<Bytes, NoMemory>
+    ensures { IfOk result (λ bytes. bytes.items ≡ packet_of_call (call_of call.now)) }
+{
+    match call {
+        Call::SendPacket { h: _, bytes } => match encode(alloc, bytes.as_slice()) {
+            Ok(encoded) => Ok(encoded),
+            Err(SlipFault::TooLong) => Ok(Bytes::new(alloc)),
+            Err(SlipFault::NoMemory) => Err(NoMemory),
+        },
+        _ => Ok(Bytes::new(alloc)),
+    }
+}
+
+/// Whether there is a handle, and it is live.
+fn is_live(handle: Option<HandleState>) -> bool
+    ensures { result ≡ is_live_handle handle }
+{
+    match handle {
+        Some(handle) => handle.live,
+        None => false,
+    }
+}
+
+impl Terminal {
+    ghost use Rattle.tty_terminal.specs.Terminals.{caller_at};
+    ghost use Rattle.tty_terminal.specs.Opening.{is_last_live};
+    ghost use Rattle.tty_terminal.specs.Transfers.{is_outlived, reading_outcome, writing_outcome};
+    ghost use Rattle.tty_terminal.specs.Switching.{number_of};
+    ghost use Rattle.tty_terminal.specs.Calls.{outcome, input_count};
+    ghost use Rattle.tty_terminal.specs.Steps.{MustWait, is_wait};
+    ghost use Rattle.tty_terminal.specs.Meeting.{room_for, fresh_kind, drops_of, IsRoomFor};
+    ghost use Rattle.tty_terminal.specs.Questions.{must_drain, rest_waits, call_waits, call_drops};
+
+    /// The number of the discipline that is installed (linux/tty.h).
+    pub(super) fn disc_number(&self) -> u32
+        ensures { result ≡ number_of self.now.terminal.disc }
+    {
+        match self.disc.kind() {
+            Kind::Tty => 0,
+            Kind::Slip => 1,
+        }
+    }
+
+    /// How many bytes can be read; under N_SLIP those of the first packet.
+    pub(super) fn input_count(&self) -> u32
+        ensures { result ≡ input_count self.now.terminal.modes self.now.terminal.disc }
+    {
+        match &self.disc {
+            Disc::Tty(tty) => tty.inq(&self.modes),
+            Disc::Slip(slip) => slip.first_len() as u32,
+        }
+    }
+
+    /// How many bytes are held.
+    pub(super) fn held_count(&self) -> u32
+        ensures { result ≡ length self.now.terminal.output.held }
+    {
+        self.wire.held() as u32
+    }
+
+    /// The room that the answer to a call needs.
+    pub fn room_for(&self, call: &Call) -> usize
+        ensures { result ≡ room_for self.now.terminal (call_of call.now) }
+    {
+        match call {
+            Call::Read { h: _, n } => match &self.disc {
+                Disc::Tty(tty) => tty.read_len(*n, &self.modes) as usize,
+                Disc::Slip(_) => 0,
+            },
+            Call::TakePacket { h: _ } => match &self.disc {
+                Disc::Tty(_) => 0,
+                Disc::Slip(slip) => slip.first_len(),
+            },
+            _ => 0,
+        }
+    }
+
+    /// Whether a handle is live, and the only one that is.
+    fn is_last_live(&self, handle: HandleState) -> bool
+        ensures { result ≡ is_last_live self.now.terminal handle }
+    {
+        handle.live && self.handles.live() == 1
+    }
+
+    /// The kind of the fresh discipline that a call installs.
+    fn fresh_kind(&self, call: &Call) -> Option<Kind>
+        ensures { result ≡ fresh_kind self.now.terminal (call_of call.now) }
+    {
+        match call {
+            Call::Close { h } => match self.handles.state(*h) {
+                Some(handle) if self.is_last_live(handle) => Some(Kind::Tty),
+                _ => None,
+            },
+            Call::SetDisc { h: _, number } => {
+                if self.disc_number() == *number {
+                    None
+                } else {
+                    Kind::of(*number)
+                }
+            }
+            Call::Vhangup { h: _ } => Some(Kind::Tty),
+            _ => None,
+        }
+    }
+
+    /// What a call needs beside the terminal. It is made before the call, which then takes no memory.
+    pub fn make_room(&self, alloc: Global, call: &Call) -> Result<Room, NoMemory>
+        ensures { IfOk result (λ room. IsRoomFor self.now.terminal (call_of call.now) room) }
+    {
+        let mut bytes = Bytes::new(alloc);
+        bytes.reserve(self.room_for(call))?;
+        let fresh = match self.fresh_kind(call) {
+            Some(kind) => Some(fresh(alloc, kind)?),
+            None => None,
+        };
+        let encoded = spelled_packet(alloc, call)?;
+        Ok(Room {
+            bytes,
+            fresh,
+            encoded,
+        })
+    }
+
+    /// Whether parts of the caller's write were taken in a generation that has ended.
+    pub(super) fn is_outlived(&self, state: &CallerState) -> bool
+        ensures { result ≡ is_outlived self.now.terminal state.now }
+    {
+        state.parts > 0 && state.generation != self.generation
+    }
+
+    fn read_must_wait(&self, caller: u16, handle: Option<HandleState>, n: u32) -> bool
+        requires { caller < length self.now.terminal.callers }
+        ensures { result ≡ is_wait (reading_outcome self.now.terminal (caller_at self.now.terminal caller) n handle) }
+    {
+        let Some(handle) = handle else {
+            return false;
+        };
+        if !may_read(handle.access) || !handle.live || handle.nonblock {
+            return false;
+        }
+        let since = self.callers.get(caller).waits.unwrap_or(self.tick);
+        match &self.disc {
+            Disc::Tty(tty) => !tty.ready(n, &self.modes, false, since, self.tick),
+            Disc::Slip(_) => false,
+        }
+    }
+
+    fn write_must_wait(&self, caller: u16, handle: Option<HandleState>, bytes: &[u8]) -> bool
+        requires known { caller < length self.now.terminal.callers }
+        requires column { column_in self.now.terminal.disc < 2 ^ 62 }
+        ensures { result ≡ is_wait (writing_outcome self.now.terminal (caller_at self.now.terminal caller) bytes.now handle) }
+    {
+        let Some(handle) = handle else {
+            return false;
+        };
+        if !may_write(handle.access) || !handle.live || handle.nonblock {
+            return false;
+        }
+        let state = self.callers.get(caller);
+        if self.is_outlived(&state) {
+            return false;
+        }
+        self.rest_must_wait(rest_of(bytes, state.taken))
+    }
+
+    /// Whether a blocking write must wait of which these bytes are left.
+    fn rest_must_wait(&self, rest: &[u8]) -> bool
+        requires { column_in self.now.terminal.disc < 2 ^ 62 }
+        ensures { result ≡ rest_waits self.now.terminal rest.now self.now.terminal.disc }
+    {
+        match &self.disc {
+            Disc::Tty(tty) => {
+                if rest.is_empty() {
+                    return false;
+                }
+                !tty.can_write(rest, &self.modes, &self.wire)
+            }
+            Disc::Slip(_) => false,
+        }
+    }
+
+    fn must_drain(&self, handle: Option<HandleState>) -> bool
+        ensures { result ≡ must_drain self.now.terminal handle }
+    {
+        is_live(handle) && self.wire.held() > 0
+    }
+
+    /// Whether a call of a caller must wait.
+    pub fn must_wait(&self, caller: u16, call: &Call) -> bool
+        requires known { caller < length self.now.terminal.callers }
+        requires number { handle_of (call_of call.now) < 32 }
+        requires column { column_in self.now.terminal.disc < 2 ^ 62 }
+        ensures value { result ≡ is_wait (outcome self.now.terminal (caller_at self.now.terminal caller) (call_of call.now)) }
+        ensures fact { IsTrue result ↔ MustWait (outcome self.now.terminal (caller_at self.now.terminal caller) (call_of call.now)) }
+    {
+        self.waits_by_call(caller, call)
+    }
+
+    fn waits_by_call(&self, caller: u16, call: &Call) -> bool
+        requires known { caller < length self.now.terminal.callers }
+        requires number { handle_of (call_of call.now) < 32 }
+        requires column { column_in self.now.terminal.disc < 2 ^ 62 }
+        ensures { result ≡ call_waits self.now.terminal (caller_at self.now.terminal caller) (call_of call.now) }
+    {
+        let handle = self.handle_for(caller, call.handle());
+        match call {
+            Call::Read { h: _, n } => self.read_must_wait(caller, handle, *n),
+            Call::Write { h: _, bytes } => self.write_must_wait(caller, handle, bytes.as_slice()),
+            Call::SetModes {
+                h: _,
+                when,
+                words: _,
+            } => { *when != When::Now && self.must_drain(handle) }
+            Call::Drain { h: _ } => self.must_drain(handle),
+            _ => false,
+        }
+    }
+
+    /// Whether what waits in the flip buffer is dropped with the answer to a call.
+    pub fn drops(&self, caller: u16, call: &Call) -> bool
+        requires known { caller < length self.now.terminal.callers }
+        requires number { handle_of (call_of call.now) < 32 }
+        ensures { result ≡ drops_of (outcome self.now.terminal (caller_at self.now.terminal caller) (call_of call.now)) }
+    {
+        self.drops_by_call(caller, call)
+    }
+
+    fn drops_by_call(&self, caller: u16, call: &Call) -> bool
+        requires known { caller < length self.now.terminal.callers }
+        requires number { handle_of (call_of call.now) < 32 }
+        ensures { result ≡ call_drops self.now.terminal (caller_at self.now.terminal caller) (call_of call.now) }
+    {
+        let handle = self.handle_for(caller, call.handle());
+        match call {
+            Call::Flush { h: _, queue } => is_live(handle) && *queue != Queue::Output,
+            Call::SetModes {
+                h: _,
+                when,
+                words: _,
+            } => { is_live(handle) && *when == When::Flush && self.wire.held() == 0 }
+            Call::Vhangup { h: _ } => is_live(handle),
+            _ => false,
+        }
+    }
+}
