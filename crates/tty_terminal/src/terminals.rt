@@ -87,7 +87,7 @@ impl Terminal {
     }
 
     /// Makes room for so many further bytes on the wire, and for so many signals. Room that is there
-    /// is not made again. `NoMemory` leaves the terminal as it was.
+    /// is not made again. `NoMemory` leaves the terminal as it was, but for room.
     pub fn reserve(&mut self, bytes: usize, signals: usize) -> Result<(), NoMemory>
         ensures same { self.new.terminal ≡ self.old.terminal }
         ensures wire { OnOk result (bytes ≤ self.new.wire_room) }
