@@ -2,7 +2,7 @@ ghost use Rattle.std.specs.Prelude.{◌≡◌, ◌≤◌, [], IfOk, length};
 ghost use Rattle.tty_calls.specs.Plain.{answer_of, bytes_in};
 
 use std::alloc::Global;
-use tty_base::{Buffer, Bytes, Counts, Errno, NoMemory, Signal};
+use tty_base::{Buffer, Bytes, Counts, Errno, Moves, NoMemory, Signal};
 use tty_modes::Modes;
 
 /// What a call is answered.
@@ -25,6 +25,8 @@ pub enum Answer {
     /// The call waited, and nothing could come any more that it waited for.
     Idle,
 }
+
+impl Moves for Answer {}
 
 impl Answer {
     /// An equal answer, with memory of its own.
@@ -85,3 +87,5 @@ pub struct PortEnd {
     /// The bytes that went to the wire.
     pub wire: Bytes,
 }
+
+impl Moves for PortEnd {}

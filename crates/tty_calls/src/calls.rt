@@ -2,7 +2,7 @@ ghost use Rattle.std.specs.Prelude.{◌≡◌, IfOk};
 ghost use Rattle.tty_calls.specs.Plain.{call_of, handle_of, changes};
 
 use std::alloc::Global;
-use tty_base::{Buffer, Bytes, NoMemory};
+use tty_base::{Buffer, Bytes, Moves, NoMemory};
 use tty_modes::Word;
 
 /// What a handle may be used for (open(2), access mode).
@@ -140,6 +140,8 @@ pub enum Call {
         h: u8,
     },
 }
+
+impl Moves for Call {}
 
 impl Call {
     /// The number of the handle that the call names.

@@ -2,7 +2,7 @@ ghost use Rattle.std.specs.Prelude.{◌≡◌};
 ghost use Rattle.tty_calls.specs.Plain.{is_caller};
 
 use super::answers::Answer;
-use tty_base::{Buffer, Chars, LineReport};
+use tty_base::{Buffer, Chars, LineReport, Moves};
 
 /// Who made an entry. A caller's number is the place of its name in the order in which names first
 /// occur for the port.
@@ -65,6 +65,8 @@ pub struct Entry {
     pub event: Event,
 }
 
+impl Moves for Entry {}
+
 /// What happened on a port, in order.
 pub type Journal = Buffer<Entry>;
 
@@ -74,3 +76,5 @@ pub struct PortRun {
     pub journal: Journal,
     pub line: LineReport,
 }
+
+impl Moves for PortRun {}

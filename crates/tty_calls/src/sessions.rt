@@ -1,6 +1,6 @@
 use super::calls::Call;
 use arrayvec::ArrayString;
-use tty_base::{Buffer, LineStep};
+use tty_base::{Buffer, LineStep, Moves};
 
 /// One caller's calls in a phase.
 #[derive(Debug, Drop)]
@@ -29,3 +29,5 @@ pub struct Session {
     pub flips: Buffer<u32>,
     pub phases: Buffer<Phase>,
 }
+
+impl Moves for Session {}
