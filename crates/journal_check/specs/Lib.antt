@@ -1,3 +1,4 @@
 pub mod Legal
 pub mod Phases
+pub mod Short
 pub mod Verdicts

@@ -1,0 +1,204 @@
+-- One more phase was played.
+use Rattle.std.proofs.Common.{◌≡◌, ◌⊎◌, inl, inr, ℕ, ◌+◌, ◌<◌, ◌≤◌, List, [], ◌∷◌, ◌++◌, Option, length, drop, refl, sym, ◌∙◌, ap, subst, arith, append-nil, append_assoc, add-zero}
+use Rattle.std.specs.Prelude.{All}
+use Rattle.std.proofs.lemmas.List.{drop_more}
+use Rattle.std.proofs.lemmas.List.Elements.{All-head, All-tail, All-append, All-weaker}
+use Rattle.std.proofs.lemmas.Grind.{flat_map-append}
+use Rattle.tty_base.specs.declared.lines.Overrun.{Overrun}
+use Rattle.tty_calls.specs.Plain.{PlainCall, PlainEvent, PlainEntry, line_ended, phase_ended}
+use Rattle.tty_calls.specs.Sessions.{PlainPhase, PlainSession, ticks_on, call_at, counts_on}
+use Rattle.tty_terminal.specs.Terminals.{Terminal}
+use Rattle.tty_terminal.specs.Steps.{after}
+use Rattle.tty_terminal.specs.Runs.{Leads, chars_of}
+use Rattle.journal_check.specs.Legal.{phase_at, received_before, session_events, session_events_in, line_ends_in, before_phase, before_line_end, IsOfPhase, IsSeen, AreSeen, IsPhasePart, IsFinishedFrom, IsFinished}
+use Rattle.journal_check.specs.Short.{tick_count_in}
+use Rattle.journal_check.specs.Phases.{BeginsPhase, CompletesPhase}
+use Rattle.journal_check.proofs.PhaseLemmas.{phase-after}
+use Rattle.journal_check.proofs.MarkLemmas.{phase_part}
+use Rattle.one_thread.specs.Order.{SeesAll, AllSeeAll}
+use Rattle.one_thread.specs.Roles.{Scene}
+use Rattle.one_thread.specs.Stages.{AreAtFirst}
+use Rattle.one_thread.specs.Lines.{SeesIn}
+use Rattle.one_thread.specs.Phases.{phase_count, IsUpTo, HasFewTicks, HavePlayed}
+use Rattle.one_thread.proofs.JournalLemmas.{up_before, up_line, up_count, up_ticks, up_more, line_part, first_of_phase, more_chars, ticks_between, other_ticks, ticks_both, end_adds_none, phase_is}
+use Rattle.one_thread.proofs.ReceivedLemmas.{received_within, received_rises, one_phase_of}
+
+-- ---- the numbers of ticks
+
+same_or_not : (j k : ℕ) → (k ≡ j) ⊎ (k ≡ j → ⊥)
+same_or_not j k = grind arith
+
+pub few_ticks : (s : Scene) (k : ℕ) (journal part : List PlainEntry) (t u : Terminal) → IsUpTo k journal → HasFewTicks s journal → Leads (call_at s.port s.session) (counts_on s.port s.session) t part u → session_events_in part ≡ []
+    → u.tick ≤ t.tick + ticks_on s.port (phase_at s.session k) → HasFewTicks s (journal ++ part)
+few_ticks s k journal part t u up few leads inside most j =
+    let both : tick_count_in j 0 (journal ++ part) ≡ tick_count_in j 0 journal + tick_count_in j k part =
+    ticks_both j 0 journal part ∙ ap (λ n. tick_count_in j 0 journal + tick_count_in j n part) (add-zero (phase_count journal) ∙ up_count k journal up) in
+    elim (same_or_not j k) [
+      | inl same ↦
+          let none = up_ticks j k journal up (omega (arith, same)) in
+          let between = ticks_between (call_at s.port s.session) (counts_on s.port s.session) k t part u leads inside in
+          let here : tick_count_in j k part ≡ tick_count_in k k part = ap (λ n. tick_count_in n k part) (sym same) in
+          let bound : ticks_on s.port (phase_at s.session k) ≡ ticks_on s.port (phase_at s.session j) = ap (λ n. ticks_on s.port (phase_at s.session n)) same in
+          omega (arith, both, none, between, here, bound, most)
+      | inr other ↦
+          let none = other_ticks j k part inside other in
+          let before = few j in
+          omega (arith, both, none, before)
+    ]
+
+pub few_ticks_end : (s : Scene) (journal part : List PlainEntry) (last : PlainEntry) → last.event ≡ phase_ended → HasFewTicks s (journal ++ part) → HasFewTicks s (journal ++ (part ++ last ∷ []))
+few_ticks_end s journal part last ends few j =
+    let same : tick_count_in j 0 (journal ++ (part ++ last ∷ [])) ≡ tick_count_in j 0 (journal ++ part) = ap (tick_count_in j 0) (sym (append_assoc journal part (last ∷ []))) ∙ end_adds_none j 0 (journal ++ part) last ends in
+    let before = few j in
+    omega (arith, same, before)
+
+-- ---- overruns that are seen
+
+-- after the journal up to phase k come these flushes, the end of the line, and what is later
+seen_one : (s : Scene) (k : ℕ) (journal flushes : List PlainEntry) (last : PlainEntry) (n : ℕ) (later : List PlainEntry) (o : Overrun) → IsUpTo k journal → line_ends_in flushes ≡ [] → last.event ≡ line_ended n
+    → SeesIn s k (length (chars_of (journal ++ flushes))) o → IsSeen s.port s.session (journal ++ (flushes ++ last ∷ later)) o
+seen_one s k journal flushes last n later o up none ends sees =
+    let rest : List PlainEntry = flushes ++ last ∷ later in
+    let of_phase : IsOfPhase s.port s.session k o = (sees.from, sees.below) in
+    let whole = received_within s.port s.session (k + 1) in
+    record {
+      at_character = omega (arith, sees.below, whole);
+      from_before = λ j here. from_is j (one_phase_of s.port s.session j k o of_phase here);
+      by_line_end = λ j here. by_is j (one_phase_of s.port s.session j k o of_phase here);
+    }
+  where
+    from_is : (j : ℕ) → j ≡ k → length (chars_of (before_phase j (journal ++ (flushes ++ last ∷ later)))) ≤ o.seen
+    from_is j same =
+        let begins : before_phase j (journal ++ (flushes ++ last ∷ later)) ≡ journal =
+        ap (λ i. before_phase i (journal ++ (flushes ++ last ∷ later))) (same ∙ sym (add-zero k)) ∙ up_before k 0 journal (flushes ++ last ∷ later) up
+        ∙ ap (λ (x : List PlainEntry). journal ++ x) (first_of_phase (flushes ++ last ∷ later)) ∙ append-nil journal in
+        let count = ap (λ (x : List PlainEntry). length (chars_of x)) begins in
+        let more = more_chars journal flushes in
+        let seen = sees.sees in
+        omega (arith, count, more, seen)
+
+    by_is : (j : ℕ) → j ≡ k → o.seen ≤ length (chars_of (before_line_end j (journal ++ (flushes ++ last ∷ later))))
+    by_is j same =
+        let by_line : before_line_end j (journal ++ (flushes ++ last ∷ later)) ≡ journal ++ flushes =
+        ap (λ i. before_line_end i (journal ++ (flushes ++ last ∷ later))) (same ∙ sym (add-zero k)) ∙ up_line k 0 journal (flushes ++ last ∷ later) up
+        ∙ ap (λ (x : List PlainEntry). journal ++ x) (line_part flushes last n later none ends) in
+        let count = ap (λ (x : List PlainEntry). length (chars_of x)) by_line in
+        let seen = sees.sees in
+        omega (arith, count, seen)
+
+sees_all_one : (s : Scene) (k : ℕ) (journal flushes : List PlainEntry) (last : PlainEntry) (n : ℕ) (later : List PlainEntry) (o : Overrun) → IsUpTo k journal → line_ends_in flushes ≡ [] → last.event ≡ line_ended n
+    → SeesIn s k (length (chars_of (journal ++ flushes))) o → SeesAll s.port s.session (journal ++ (flushes ++ last ∷ later)) o
+sees_all_one s k journal flushes last n later o up none ends sees j from below =
+    let same : j ≡ k = one_phase_of s.port s.session j k o (sees.from, sees.below) (from, below) in
+    let by_line : before_line_end j (journal ++ (flushes ++ last ∷ later)) ≡ journal ++ flushes =
+    ap (λ i. before_line_end i (journal ++ (flushes ++ last ∷ later))) (same ∙ sym (add-zero k)) ∙ up_line k 0 journal (flushes ++ last ∷ later) up
+    ∙ ap (λ (x : List PlainEntry). journal ++ x) (line_part flushes last n later none ends) in
+    sees.sees ∙ ap (λ (x : List PlainEntry). length (chars_of x)) (sym by_line)
+
+seen_more : (p : ℕ) (session : PlainSession) (journal : List PlainEntry) (overruns added : List Overrun) → AreSeen p session journal overruns → AreSeen p session journal added → AreSeen p session journal (overruns ++ added)
+seen_more p session journal [] added h k = k
+seen_more p session journal (o ∷ os) added h k = (h.0, seen_more p session journal os added h.1 k)
+
+see_all_more : (p : ℕ) (session : PlainSession) (journal : List PlainEntry) (overruns added : List Overrun) → AllSeeAll p session journal overruns → AllSeeAll p session journal added → AllSeeAll p session journal (overruns ++ added)
+see_all_more p session journal [] added h k = k
+see_all_more p session journal (o ∷ os) added h k = (h.0, see_all_more p session journal os added h.1 k)
+
+seen_added : (s : Scene) (k : ℕ) (journal flushes : List PlainEntry) (last : PlainEntry) (n : ℕ) (later : List PlainEntry) (added : List Overrun) → IsUpTo k journal → line_ends_in flushes ≡ [] → last.event ≡ line_ended n
+    → All (SeesIn s k (length (chars_of (journal ++ flushes)))) added → AreSeen s.port s.session (journal ++ (flushes ++ last ∷ later)) added
+seen_added s k journal flushes last n later [] up none ends sees = tt
+seen_added s k journal flushes last n later (o ∷ os) up none ends sees =
+    let P : Overrun → Type 0 = SeesIn s k (length (chars_of (journal ++ flushes))) in
+    (seen_one s k journal flushes last n later o up none ends (All-head P o os sees), seen_added s k journal flushes last n later os up none ends (All-tail P o os sees))
+
+see_all_added : (s : Scene) (k : ℕ) (journal flushes : List PlainEntry) (last : PlainEntry) (n : ℕ) (later : List PlainEntry) (added : List Overrun) → IsUpTo k journal → line_ends_in flushes ≡ [] → last.event ≡ line_ended n
+    → All (SeesIn s k (length (chars_of (journal ++ flushes)))) added → AllSeeAll s.port s.session (journal ++ (flushes ++ last ∷ later)) added
+see_all_added s k journal flushes last n later [] up none ends sees = tt
+see_all_added s k journal flushes last n later (o ∷ os) up none ends sees =
+    let P : Overrun → Type 0 = SeesIn s k (length (chars_of (journal ++ flushes))) in
+    (sees_all_one s k journal flushes last n later o up none ends (All-head P o os sees), see_all_added s k journal flushes last n later os up none ends (All-tail P o os sees))
+
+-- ---- the terminal in a phase
+
+pub phase_stays : (calls : ℕ → ℕ → Option PlainCall) (counts : List ℕ) (t : Terminal) (part : List PlainEntry) (u : Terminal) → Leads calls counts t part u → u.phase ≡ phase_count part + t.phase
+phase_stays calls counts t [] u h = ap (λ (v : Terminal). v.phase) h ∙ omega arith
+phase_stays calls counts t (e ∷ es) u h =
+    let rest = phase_stays calls counts (after calls t e) es u h.1 in
+    let one = phase-after calls counts t e h.0 in
+    let counted = phase_is e.event t.phase in
+    omega (arith, rest, one, counted)
+
+-- where the phase's line and what comes after it led, from the beginning of phase k
+pub record PlaysPhase (s : Scene) (k : ℕ) (t : Terminal) (journal flushes : List PlainEntry) (ends_line : PlainEntry) (sent : ℕ) (part : List PlainEntry) (last : PlainEntry) (u : Terminal) : Type 0 where
+  pub within : k < length s.session.phases
+  pub begins : BeginsPhase t
+  pub first : AreAtFirst s k t
+  pub inside : session_events_in flushes ≡ []
+  pub none : line_ends_in flushes ≡ []
+  pub line : ends_line.event ≡ line_ended sent
+  pub leads : Leads (call_at s.port s.session) (counts_on s.port s.session) t ((flushes ++ ends_line ∷ []) ++ part) u
+  pub later : session_events_in part ≡ []
+  pub ends : last.event ≡ phase_ended
+  pub tick : u.tick ≡ t.tick + ticks_on s.port (phase_at s.session k)
+
+abbrev pub whole_part : List PlainEntry → PlainEntry → List PlainEntry → List PlainEntry
+whole_part flushes ends_line part = (flushes ++ ends_line ∷ []) ++ part
+
+pub line_inside : (flushes : List PlainEntry) (ends_line : PlainEntry) (n : ℕ) (part : List PlainEntry) → session_events_in flushes ≡ [] → ends_line.event ≡ line_ended n → session_events_in part ≡ [] → session_events_in (whole_part flushes ends_line part) ≡ []
+line_inside flushes ends_line n part inside ends later =
+    flat_map-append (λ (e : PlainEntry). session_events e.event) (flushes ++ ends_line ∷ []) part
+    ∙ ap (λ (x : List PlainEvent). x ++ session_events_in part) (flat_map-append (λ (e : PlainEntry). session_events e.event) flushes (ends_line ∷ []))
+    ∙ ap (λ (x : List PlainEvent). (x ++ (session_events ends_line.event ++ [])) ++ session_events_in part) inside
+    ∙ ap (λ (event : PlainEvent). (session_events event ++ []) ++ session_events_in part) ends ∙ later
+
+split_part : (flushes : List PlainEntry) (ends_line : PlainEntry) (part rest : List PlainEntry) → whole_part flushes ends_line part ++ rest ≡ flushes ++ ends_line ∷ (part ++ rest)
+split_part flushes ends_line part rest = append_assoc (flushes ++ ends_line ∷ []) part rest ∙ append_assoc flushes (ends_line ∷ []) (part ++ rest)
+
+-- the journal after the phase, and what follows it
+after_whole : (journal flushes : List PlainEntry) (ends_line : PlainEntry) (part : List PlainEntry) (last : PlainEntry) (rest : List PlainEntry)
+    → (journal ++ (whole_part flushes ends_line part ++ last ∷ [])) ++ rest ≡ journal ++ (flushes ++ ends_line ∷ (part ++ last ∷ rest))
+after_whole journal flushes ends_line part last rest =
+    append_assoc journal (whole_part flushes ends_line part ++ last ∷ []) rest
+    ∙ ap (λ (x : List PlainEntry). journal ++ x) (append_assoc (whole_part flushes ends_line part) (last ∷ []) rest ∙ split_part flushes ends_line part (last ∷ rest))
+
+one_finished : (s : Scene) (overruns : List Overrun) (k : ℕ) (part : List PlainEntry) (last : PlainEntry) (rest : List PlainEntry) → k < length s.session.phases → IsPhasePart s.port s.session overruns k part → last.event ≡ phase_ended
+    → IsFinishedFrom s.port s.session overruns (k + 1) (drop (k + 1) s.session.phases) rest → IsFinishedFrom s.port s.session overruns k (drop k s.session.phases) (part ++ last ∷ rest)
+one_finished s overruns k part last rest within is_part ends goes_on =
+    subst (λ (phases : List PlainPhase). IsFinishedFrom s.port s.session overruns k phases (part ++ last ∷ rest)) (sym (drop_more s.session.phases k (record { lines = []; ticks = []; callers = [] }) within))
+    (record { part = part; last = last; rest = rest; parts = refl; is_part = is_part; ends = ends; goes_on = goes_on })
+
+-- the phase's part, whatever overruns come later
+pub played_more : (s : Scene) (k : ℕ) (t : Terminal) (journal flushes : List PlainEntry) (ends_line : PlainEntry) (sent : ℕ) (part : List PlainEntry) (last : PlainEntry) (u : Terminal) (overruns added : List Overrun)
+    → HavePlayed s k journal overruns → PlaysPhase s k t journal flushes ends_line sent part last u
+    → ((more : List Overrun) → All (λ o. received_before s.port s.session (k + 1) ≤ o.at) more → CompletesPhase s.port s.session ((overruns ++ added) ++ more) k t u)
+    → All (SeesIn s k (length (chars_of (journal ++ flushes)))) added
+    → HavePlayed s (k + 1) (journal ++ (whole_part flushes ends_line part ++ last ∷ [])) (overruns ++ added)
+played_more s k t journal flushes ends_line sent part last u overruns added before plays completes sees =
+    let whole : List PlainEntry = whole_part flushes ends_line part in
+    let inside : session_events_in whole ≡ [] = line_inside flushes ends_line sent part plays.inside plays.line plays.later in
+    record {
+      up_to = up_more k journal whole last before.up_to inside plays.ends;
+      ticks = few_ticks_end s journal whole last plays.ends (few_ticks s k journal whole t u before.up_to before.ticks plays.leads inside (omega (arith, plays.tick)));
+      finished = λ more rest later goes_on.
+          let final : List Overrun = (overruns ++ added) ++ more in
+          let is_part : IsPhasePart s.port s.session final k whole = phase_part s.port s.session final k t whole u plays.leads inside plays.begins (completes more later) in
+          let from : IsFinishedFrom s.port s.session final k (drop k s.session.phases) (whole ++ last ∷ rest) = one_finished s final k whole last rest plays.within is_part plays.ends goes_on in
+          subst (λ (x : List PlainEntry). IsFinished s.port s.session final x) (sym (append_assoc journal (whole ++ last ∷ []) rest ∙ ap (λ (x : List PlainEntry). journal ++ x) (append_assoc whole (last ∷ []) rest)))
+          (subst (λ (os : List Overrun). IsFinished s.port s.session os (journal ++ (whole ++ last ∷ rest))) (sym (append_assoc overruns added more))
+          (before.finished (added ++ more) (whole ++ last ∷ rest) (all_later more later)
+          (subst (λ (os : List Overrun). IsFinishedFrom s.port s.session os k (drop k s.session.phases) (whole ++ last ∷ rest)) (append_assoc overruns added more) from)));
+      seen = λ rest.
+          subst (λ (x : List PlainEntry). AreSeen s.port s.session x (overruns ++ added)) (sym (after_whole journal flushes ends_line part last rest))
+          (seen_more s.port s.session (journal ++ (flushes ++ ends_line ∷ (part ++ last ∷ rest))) overruns added (before.seen (flushes ++ ends_line ∷ (part ++ last ∷ rest)))
+          (seen_added s k journal flushes ends_line sent (part ++ last ∷ rest) added before.up_to plays.none plays.line sees));
+      see_all = λ rest.
+          subst (λ (x : List PlainEntry). AllSeeAll s.port s.session x (overruns ++ added)) (sym (after_whole journal flushes ends_line part last rest))
+          (see_all_more s.port s.session (journal ++ (flushes ++ ends_line ∷ (part ++ last ∷ rest))) overruns added (before.see_all (flushes ++ ends_line ∷ (part ++ last ∷ rest)))
+          (see_all_added s k journal flushes ends_line sent (part ++ last ∷ rest) added before.up_to plays.none plays.line sees));
+    }
+  where
+    all_later : (more : List Overrun) → All (λ o. received_before s.port s.session (k + 1) ≤ o.at) more → All (λ o. received_before s.port s.session k ≤ o.at) (added ++ more)
+    all_later more later =
+        let rises = received_rises s.port s.session k (k + 1) (omega arith) in
+        All-append (λ o. received_before s.port s.session k ≤ o.at) added more
+        (All-weaker (SeesIn s k (length (chars_of (journal ++ flushes)))) (λ o. received_before s.port s.session k ≤ o.at) (λ o h. h.from) added sees)
+        (All-weaker (λ o. received_before s.port s.session (k + 1) ≤ o.at) (λ o. received_before s.port s.session k ≤ o.at) (λ o h. omega (arith, rises, h)) more later)

@@ -1,0 +1,378 @@
+-- A port from its opening to its end.
+use Rattle.std.proofs.Common.{◌≡◌, ◌⊎◌, inl, inr, ℕ, zero, suc, ◌+◌, ◌<◌, ◌≤◌, Bool, true, false, ◌&&◌, ◌==◌, if◌then◌else◌, List, [], ◌∷◌, ◌++◌, Option, None, Some, length, map, drop, replicate, refl, sym, ◌∙◌, ap, subst, arith, append-nil, append_assoc, length-append, add-zero}
+use Rattle.std.specs.Prelude.{IsTrue, slice_get, slice_index_or, nat_le, sum}
+use Rattle.std.proofs.lemmas.Bool.{false≢true, le-leb}
+use Rattle.std.proofs.lemmas.List.{drop_all}
+use Rattle.std.proofs.lemmas.List.Elements.{All-nil}
+use mathlib.Core.List.{IsPrefix}
+use Rattle.tty_base.specs.declared.characters.Flagged.{Flagged}
+use Rattle.tty_base.specs.declared.lines.LineStep.{LineStep}
+use Rattle.tty_base.specs.declared.lines.Overrun.{Overrun}
+use Rattle.tty_base.specs.declared.lines.LineReport.{LineReport}
+use Rattle.word_ring.specs.Ends.{PutterState, TakerState}
+use Rattle.uart_line.specs.LineState.{LineState, HasDone}
+use Rattle.tty_base.specs.Lines.{arrival_count}
+use Rattle.uart_line.specs.Received.{received_list_after, received_list, lost_count, script}
+use Rattle.uart_line.specs.Offered.{HandsOver, AreShown, kept_list}
+use Rattle.uart_line.proofs.OfferedLemmas.{HandsOver-kept, HandsOver-shown}
+use Rattle.uart_line.proofs.Steps.{HandsOver-none}
+use Rattle.tty_calls.specs.declared.answers.PortEnd.{PortEnd}
+use Rattle.tty_calls.specs.declared.journals.PortRun.{PortRun}
+use Rattle.tty_calls.specs.declared.journals.Who.{Who}
+use Rattle.tty_calls.specs.declared.journals.Who.TheVariants.{Session}
+use Rattle.tty_calls.specs.Plain.{PlainCall, PlainEvent, PlainEntry, hung_up, entry_of, entries_of}
+use Rattle.tty_calls.specs.Sessions.{PlainPhase, PlainSession, call_at, counts_on, ticks_on, scripts_on, calls_of}
+use Rattle.tty_calls.specs.Limits.{character_count}
+use Rattle.tty_terminal.specs.Terminals.{Terminal, opening}
+use Rattle.tty_terminal.specs.Steps.{after}
+use Rattle.tty_terminal.specs.Runs.{Leads, IsRun, is_flush, chars_of, phase_after}
+use Rattle.tty_terminal.proofs.CallerLists.{all_idle}
+use Rattle.tty_terminal.proofs.Grown.{leads_grown}
+use Rattle.journal_check.specs.Legal.{phase_at, first_step, name_at, script_on, script_of_first, received_before, IsInPhase, AreInPhases, IsFinishedFrom, IsFinished, AreSeen, flip_on, IsOnTheWay, IsAccounted}
+use Rattle.journal_check.specs.Short.{is_tick, tick_count_in, after_phases}
+use Rattle.port_core.specs.Ports.{PortValue, IsPort, call_in, hangup_entry}
+use Rattle.port_core.specs.Phases.{HangsUp}
+use Rattle.one_thread.specs.Order.{Place, first_place, next_place, place_after, turn, IsInTurn, AreInTurn, IsPieceOf, AllSeeAll}
+use Rattle.one_thread.specs.Roles.{Scene, names_in, AreFirstSteps}
+use Rattle.one_thread.specs.Stages.{place_of, caller_at_rest, IsOfScene}
+use Rattle.one_thread.specs.Lines.{HasPut, IsAtPhase}
+use Rattle.one_thread.specs.Played.{IsPlayedOn, ArePlayed}
+use Rattle.one_thread.specs.Phases.{phase_count, HasFewTicks, HavePlayed, IsFullRun, IsLeftOf, AreFirstPlayed}
+use Rattle.one_thread.proofs.JournalLemmas.{one_if, all_phases_after, up_after, ticks_both}
+use Rattle.one_thread.proofs.ReceivedLemmas.{script_whole, kept_front, overruns_within, all_counted, list_grows}
+
+length_map : {X Y : Type 0} (f : X → Y) (xs : List X) → length (map f xs) ≡ length xs
+length_map f [] = refl
+length_map f (x ∷ xs) = ap (λ n. suc n) (length_map f xs)
+
+-- ---- journals that lead to a terminal
+
+leads_place : (calls : ℕ → ℕ → Option PlainCall) (counts : List ℕ) (s : Place) (es : List PlainEntry) (u : Terminal) → Leads calls counts s.terminal es u → (place_after calls s es).terminal ≡ u
+leads_place calls counts s [] u h = sym h
+leads_place calls counts s (e ∷ es) u h = leads_place calls counts (next_place calls s e) es u h.1
+
+-- the run of a scene
+run_of_scene : (s : Scene) (v : PortValue) → IsOfScene s v → IsRun (call_at s.port s.session) v.counts v.flip.capacity v.journal v.terminal → IsRun (call_at s.port s.session) (counts_on s.port s.session) (flip_on s.port s.session) v.journal v.terminal
+run_of_scene s v of_scene run =
+    subst (λ (counts : List ℕ). IsRun (call_at s.port s.session) counts (flip_on s.port s.session) v.journal v.terminal) of_scene.counts
+    (subst (λ n. IsRun (call_at s.port s.session) v.counts n v.journal v.terminal) of_scene.capacity run)
+
+place_terminal : (s : Scene) (v : PortValue) → IsOfScene s v → IsPort v → (place_of s v.journal).terminal ≡ v.terminal
+place_terminal s v of_scene port =
+    let grown = leads_grown (call_in v.kept) (call_at s.port s.session) v.counts (opening (sum v.counts) v.flip.capacity) v.journal v.terminal of_scene.known port.run in
+    leads_place (call_at s.port s.session) (counts_on s.port s.session) (first_place s.port s.session) v.journal v.terminal (run_of_scene s v of_scene grown)
+
+-- ---- the last entry
+
+turns_more : (p : ℕ) (session : PlainSession) (s : Place) (es : List PlainEntry) (e : PlainEntry) → AreInTurn p session s es → IsInTurn p session (place_after (call_at p session) s es) e → AreInTurn p session s (es ++ e ∷ [])
+turns_more p session s [] e h k = (k, tt)
+turns_more p session s (x ∷ xs) e h k = (h.0, turns_more p session (next_place (call_at p session) s x) xs e h.1 k)
+
+phases_more : (p : ℕ) (session : PlainSession) (k : ℕ) (es : List PlainEntry) (e : PlainEntry) → e.who ≡ Session → AreInPhases p session k es → AreInPhases p session k (es ++ e ∷ [])
+phases_more p session k [] e who h = (subst (λ (w : Who). IsInPhase p session k w e.step e.event) (sym who) tt, tt)
+phases_more p session k (x ∷ xs) e who h = (h.0, phases_more p session (phase_after x.event k) xs e who h.1)
+
+if_true : {X : Type 0} (b : Bool) (x y : X) → b ≡ true → (if b then x else y) ≡ x
+if_true true x y h = refl
+if_true false x y h = absurd (false≢true h)
+
+session_turn : (p : ℕ) (session : PlainSession) (s : Place) → length session.phases ≤ s.terminal.phase → turn p session s ≡ Session
+session_turn p session s past = if_true (nat_le (length session.phases) s.terminal.phase) Session _ (le-leb (length session.phases) s.terminal.phase past)
+
+hangup_ticks : (s : Scene) (journal : List PlainEntry) (e : PlainEntry) (dropped : List Flagged) → e.event ≡ hung_up dropped → HasFewTicks s journal → HasFewTicks s (journal ++ e ∷ [])
+hangup_ticks s journal e dropped ends few j =
+    let both = ticks_both j 0 journal (e ∷ []) in
+    let none : tick_count_in j (phase_count journal + 0) (e ∷ []) ≡ 0 = ap (λ (event : PlainEvent). one_if (is_tick event && ((phase_count journal + 0) == j)) + 0) ends in
+    let before = few j in
+    omega (arith, both, none, before)
+
+-- ---- what is left
+
+few_entries : (v : PortValue) (line : LineState) (run : PortRun) (end : PortEnd) → IsLeftOf v line run end → v.limit ≡ 4194304 → length run.journal.items ≤ 4194304
+few_entries v line run end left limit =
+    let count = length_map entry_of run.journal.items in
+    let same = ap (λ (es : List PlainEntry). length es) left.journal in
+    let few = left.port.few in
+    omega (arith, count, same, few, limit)
+
+on_the_way : (s : Scene) (v : PortValue) (line : LineState) (run : PortRun) (end : PortEnd) → IsOfScene s v → IsLeftOf v line run end → IsOnTheWay s.port s.session (entries_of run.journal.items) v.terminal
+on_the_way s v line run end of_scene left =
+    subst (λ (es : List PlainEntry). IsOnTheWay s.port s.session es v.terminal) (sym left.journal)
+    (record { steps = run_of_scene s v of_scene (left.run_of (call_at s.port s.session) of_scene.known); in_phases = of_scene.in_phases; one = left.port.one })
+
+-- ---- a full journal
+
+prefix_more : {X : Type 0} (xs ys zs ws : List X) → IsPrefix xs ys → zs ≡ ys ++ ws → IsPrefix xs zs
+prefix_more xs ys zs ws h e = (h.0 ++ ws, sym (append_assoc xs h.0 ws) ∙ ap (λ l. l ++ ws) h.1 ∙ sym e)
+
+-- what was taken begins what the line keeps of all that it hands over
+begins_kept : (s : Scene) (v : PortValue) (putter : PutterState Flagged) (line : LineState) (done left : List LineStep) → HasPut v putter line done → script_on s.port s.session ≡ done ++ left → IsPrefix v.flip.taken putter.sent
+    → IsPrefix v.flip.taken (kept_list (received_list (script_on s.port s.session)) line.report.overruns.items)
+begins_kept s v putter line done left put is begins =
+    let all : List Flagged = received_list done in
+    let overruns : List Overrun = line.report.overruns.items in
+    let grown = list_grows done left in
+    let kept : putter.sent ≡ kept_list all overruns = HandsOver-kept v.flip.capacity all putter.sent putter.heads overruns put.hands_over in
+    let whole : kept_list (received_list (script_on s.port s.session)) overruns ≡ kept_list all overruns ++ grown.more =
+    ap (λ (steps : List LineStep). kept_list (received_list steps) overruns) is ∙ ap (λ (cs : List Flagged). kept_list cs overruns) grown.grows
+    ∙ kept_front all grown.more overruns (overruns_within v.flip.capacity all putter.sent putter.heads overruns put.hands_over) in
+    prefix_more v.flip.taken (kept_list all overruns) (kept_list (received_list (script_on s.port s.session)) overruns) grown.more (subst (λ (cs : List Flagged). IsPrefix v.flip.taken cs) kept begins) whole
+
+pub full_played : (s : Scene) (v : PortValue) (flip : TakerState Flagged) (putter : PutterState Flagged) (line : LineState) (run : PortRun) (end : PortEnd)
+    → IsFullRun s v putter line → IsPrefix v.flip.taken putter.sent → flip.taken ≡ v.flip.taken → flip.capacity ≡ v.flip.capacity → IsLeftOf (record v { flip = flip }) line run end → IsPlayedOn s.port s.session run end
+full_played s v flip putter line run end full begins taken capacity left =
+    let of_scene : IsOfScene s (record v { flip = flip }) = record {
+      counts = full.of_scene.counts;
+      capacity = capacity ∙ full.of_scene.capacity;
+      limit = full.of_scene.limit;
+      known = full.of_scene.known;
+      in_phases = full.of_scene.in_phases;
+      turns = full.of_scene.turns;
+    } in
+    let way = on_the_way s (record v { flip = flip }) line run end of_scene left in
+    let count : length run.journal.items ≡ 4194304 = sym (length_map entry_of run.journal.items) ∙ ap (λ (es : List PlainEntry). length es) left.journal ∙ full.full in
+    let chars : chars_of (entries_of run.journal.items) ≡ v.flip.taken = ap chars_of left.journal ∙ left.port.chars ∙ taken in
+    let overruns : run.line.overruns.items ≡ line.report.overruns.items = ap (λ (r : LineReport). r.overruns.items) left.report in
+    record {
+      terminal = v.terminal;
+      at_end = left.at_end;
+      few = few_entries (record v { flip = flip }) line run end left full.of_scene.limit;
+      short = record {
+        on_the_way = way;
+        ticks = λ k. subst (λ (es : List PlainEntry). tick_count_in k 0 es ≤ ticks_on s.port (phase_at s.session k)) (sym left.journal) (full.ticks k);
+        last = inl (ap (after_phases (length s.session.phases)) left.journal ∙ full.last);
+        chars = subst (λ (cs : List Flagged). IsPrefix cs (kept_list (received_list (script_on s.port s.session)) run.line.overruns.items)) (sym chars)
+            (subst (λ (os : List Overrun). IsPrefix v.flip.taken (kept_list (received_list (script_on s.port s.session)) os)) (sym overruns)
+            (begins_kept s v putter line full.done full.left full.has_put full.script_is begins));
+      };
+      legal = λ other. absurd (other count);
+      in_order = λ other. absurd (other count);
+    }
+
+-- the journal of a port that was played to its last phase is full
+pub full_at_end : (s : Scene) (v : PortValue) (putter : PutterState Flagged) (line : LineState) (run : ℕ) → IsAtPhase s (length s.session.phases) v putter line run → HavePlayed s (length s.session.phases) v.journal line.report.overruns.items
+    → length v.journal ≡ v.limit → IsFullRun s v putter line
+full_at_end s v putter line run at_end played full = record {
+  of_scene = at_end.of_scene;
+  full = full ∙ at_end.of_scene.limit;
+  ticks = played.ticks;
+  last = all_phases_after (length s.session.phases) v.journal played.up_to;
+  done = script_of_first s.port s.session (length s.session.phases);
+  left = [];
+  script_is = sym (script_whole s.port s.session) ∙ sym (append-nil (script_of_first s.port s.session (length s.session.phases)));
+  has_put = at_end.has_put;
+}
+
+-- ---- hung up
+
+is_past_all : (n m : ℕ) → n ≡ m → m ≤ n
+is_past_all n m h = omega (arith, h)
+
+hangup_of_scene : (s : Scene) (v : PortValue) (flip : TakerState Flagged) (e : PlainEntry) (dropped : List Flagged) (terminal : Terminal) → IsOfScene s v → IsPort v → v.terminal.phase ≡ length s.session.phases → e.who ≡ Session → e.event ≡ hung_up dropped
+    → flip.capacity ≡ v.flip.capacity → IsOfScene s (record v { terminal = terminal; journal = v.journal ++ e ∷ []; flip = flip })
+hangup_of_scene s v flip e dropped terminal of_scene port past who event capacity =
+    let there = place_terminal s v of_scene port in
+    let phase : length s.session.phases ≤ (place_of s v.journal).terminal.phase = is_past_all (place_of s v.journal).terminal.phase (length s.session.phases) (ap (λ (t : Terminal). t.phase) there ∙ past) in
+    record {
+      counts = of_scene.counts;
+      capacity = capacity ∙ of_scene.capacity;
+      limit = of_scene.limit;
+      known = of_scene.known;
+      in_phases = phases_more s.port s.session 0 v.journal e who of_scene.in_phases;
+      turns = turns_more s.port s.session (first_place s.port s.session) v.journal e of_scene.turns
+          (record { by_turn = who ∙ sym (session_turn s.port s.session (place_of s v.journal) phase); piece = subst (λ (x : PlainEvent). IsPieceOf s.port s.session (place_of s v.journal) e.part x) (sym event) tt });
+    }
+
+-- the journal of a port that was hung up is finished
+hung_finished : (s : Scene) (journal : List PlainEntry) (overruns : List Overrun) (e : PlainEntry) (dropped : List Flagged) → HavePlayed s (length s.session.phases) journal overruns → e.event ≡ hung_up dropped → IsFinished s.port s.session overruns (journal ++ e ∷ [])
+hung_finished s journal overruns e dropped played event =
+    let n : ℕ = length s.session.phases in
+    let hangs : IsFinishedFrom s.port s.session (overruns ++ []) n (drop n s.session.phases) (e ∷ []) =
+    subst (λ (phases : List PlainPhase). IsFinishedFrom s.port s.session (overruns ++ []) n phases (e ∷ [])) (sym (drop_all n s.session.phases (omega arith))) (record { entry = e; dropped = dropped; alone = refl; is_hangup = event }) in
+    subst (λ (os : List Overrun). IsFinished s.port s.session os (journal ++ e ∷ [])) (append-nil overruns)
+    (played.finished [] (e ∷ []) (All-nil (λ (o : Overrun). received_before s.port s.session n ≤ o.at)) hangs)
+
+-- the numbers of the line's report
+sent_is : (n : ℕ) (sent : List Flagged) (overruns : List Overrun) (handed : ℕ) (all : List Flagged) → n + length overruns ≡ handed → handed ≡ length all → length sent + length overruns ≡ length all → n ≡ length sent
+sent_is n sent overruns handed all h k e = omega (arith, h, k, e)
+
+hung_account : (s : Scene) (v w : PortValue) (putter : PutterState Flagged) (line : LineState) (run : PortRun) (end : PortEnd) (run0 : ℕ) (e : PlainEntry) (dropped : List Flagged)
+    → IsAtPhase s (length s.session.phases) v putter line run0 → HavePlayed s (length s.session.phases) v.journal line.report.overruns.items
+    → w.journal ≡ v.journal ++ e ∷ [] → e.event ≡ hung_up dropped → w.flip.taken ≡ putter.sent → IsLeftOf w line run end → IsAccounted s.port s.session run
+hung_account s v w putter line run end run0 e dropped at_end played journal event all left =
+    let n : ℕ = length s.session.phases in
+    let entries : entries_of run.journal.items ≡ v.journal ++ e ∷ [] = left.journal ∙ journal in
+    let overruns : run.line.overruns.items ≡ line.report.overruns.items = ap (λ (r : LineReport). r.overruns.items) left.report in
+    let put = at_end.has_put in
+    let handed : List Flagged = received_list (script_of_first s.port s.session n) in
+    let whole : handed ≡ received_list (script_on s.port s.session) = ap received_list (script_whole s.port s.session) in
+    let kept : putter.sent ≡ kept_list handed line.report.overruns.items = HandsOver-kept v.flip.capacity handed putter.sent putter.heads line.report.overruns.items put.hands_over in
+    let kept_all : putter.sent ≡ kept_list (received_list (script_on s.port s.session)) run.line.overruns.items =
+    kept ∙ ap (λ (cs : List Flagged). kept_list cs line.report.overruns.items) whole ∙ ap (λ (os : List Overrun). kept_list (received_list (script_on s.port s.session)) os) (sym overruns) in
+    let shown = HandsOver-shown v.flip.capacity handed putter.sent putter.heads line.report.overruns.items put.hands_over in
+    let count = all_counted v.flip.capacity handed putter.sent putter.heads line.report.overruns.items put.hands_over in
+    record {
+      finished = subst (λ (es : List PlainEntry). IsFinished s.port s.session run.line.overruns.items es) (sym entries)
+          (subst (λ (os : List Overrun). IsFinished s.port s.session os (v.journal ++ e ∷ [])) (sym overruns) (hung_finished s v.journal line.report.overruns.items e dropped played event));
+      chars = ap chars_of left.journal ∙ left.port.chars ∙ all ∙ kept_all;
+      shown = subst (λ (os : List Overrun). AreShown (flip_on s.port s.session) 0 0 os) (sym overruns) (subst (λ c. AreShown c 0 0 line.report.overruns.items) at_end.of_scene.capacity shown);
+      seen = subst (λ (es : List PlainEntry). AreSeen s.port s.session es run.line.overruns.items) (sym entries)
+          (subst (λ (os : List Overrun). AreSeen s.port s.session (v.journal ++ e ∷ []) os) (sym overruns) (played.seen (e ∷ [])));
+      arrived = ap (λ (r : LineReport). r.arrived) left.report ∙ put.done.arrived ∙ ap arrival_count (script_whole s.port s.session);
+      fifo_lost = ap (λ (r : LineReport). r.fifo_lost) left.report ∙ put.done.lost ∙ ap lost_count (script_whole s.port s.session);
+      sent = ap (λ (r : LineReport). r.sent) left.report ∙ sent_is line.report.sent putter.sent line.report.overruns.items line.handed handed put.done.sent put.done.handed count ∙ ap (λ (cs : List Flagged). length cs) kept_all;
+    }
+
+prefix_same : {X : Type 0} (xs ys : List X) → xs ≡ ys → IsPrefix xs ys
+prefix_same xs ys e = ([], append-nil xs ∙ e)
+
+pub hung_played : (s : Scene) (v : PortValue) (flip : TakerState Flagged) (putter now : PutterState Flagged) (w : PortValue) (line : LineState) (run : PortRun) (end : PortEnd) (run0 : ℕ)
+    → IsAtPhase s (length s.session.phases) v putter line run0 → HavePlayed s (length s.session.phases) v.journal line.report.overruns.items → IsPort v → flip.capacity ≡ v.flip.capacity → now.sent ≡ putter.sent
+    → HangsUp (record v { flip = flip }) w now → IsLeftOf w line run end → IsPlayedOn s.port s.session run end
+hung_played s v flip putter now w line run end run0 at_end played port capacity same hang left =
+    let n : ℕ = length s.session.phases in
+    let e : PlainEntry = hangup_entry (record v { flip = flip }) hang.dropped in
+    let terminal : Terminal = after (call_in v.kept) v.terminal e in
+    let journal : w.journal ≡ v.journal ++ e ∷ [] = ap (λ (x : PortValue). x.journal) hang.appends.appended in
+    let of_scene : IsOfScene s w = subst (IsOfScene s) (sym hang.appends.appended) (hangup_of_scene s v w.flip e hang.dropped terminal at_end.of_scene port at_end.phase refl refl (hang.capacity ∙ capacity)) in
+    let account = hung_account s v w putter line run end run0 e hang.dropped at_end played journal refl (hang.all ∙ same) left in
+    let way = on_the_way s w line run end of_scene left in
+    let entries : entries_of run.journal.items ≡ v.journal ++ e ∷ [] = left.journal ∙ journal in
+    let overruns : run.line.overruns.items ≡ line.report.overruns.items = ap (λ (r : LineReport). r.overruns.items) left.report in
+    let after_all : after_phases n (v.journal ++ e ∷ []) ≡ e ∷ [] = ap (λ j. after_phases j (v.journal ++ e ∷ [])) (sym (add-zero n)) ∙ up_after n 0 v.journal (e ∷ []) played.up_to in
+    record {
+      terminal = w.terminal;
+      at_end = left.at_end;
+      few = few_entries w line run end left of_scene.limit;
+      short = record {
+        on_the_way = way;
+        ticks = λ k. subst (λ (es : List PlainEntry). tick_count_in k 0 es ≤ ticks_on s.port (phase_at s.session k)) (sym entries) (hangup_ticks s v.journal e hang.dropped refl played.ticks k);
+        last = inr (record { entry = e; dropped = hang.dropped; alone = ap (after_phases n) entries ∙ after_all; is_hangup = refl });
+        chars = prefix_same (chars_of (entries_of run.journal.items)) (kept_list (received_list (script_on s.port s.session)) run.line.overruns.items) account.chars;
+      };
+      legal = λ other. record { on_the_way = way; account = account };
+      in_order = λ other. record {
+        turns = subst (λ (es : List PlainEntry). AreInTurn s.port s.session (first_place s.port s.session) es) (sym left.journal) of_scene.turns;
+        seen = subst (λ (es : List PlainEntry). AllSeeAll s.port s.session es run.line.overruns.items) (sym entries)
+            (subst (λ (os : List Overrun). AllSeeAll s.port s.session (v.journal ++ e ∷ []) os) (sym overruns) (played.see_all (e ∷ [])));
+      };
+    }
+
+-- ---- the beginning
+
+names_none : (o : Option (List ℕ)) → length (calls_of [] o) ≡ 0
+names_none None = refl
+names_none (Some name) = refl
+
+pub first_none : (p : ℕ) (session : PlainSession) (c : ℕ) → first_step p session 0 c ≡ 0
+first_none p session c = names_none (name_at p session c)
+
+abbrev pub zeros : ℕ → List ℕ
+zeros n = replicate n 0
+
+no_steps : (n c : ℕ) → slice_index_or (zeros n) c 0 ≡ 0
+no_steps zero c = refl
+no_steps (suc n) zero = refl
+no_steps (suc n) (suc c) = no_steps n c
+
+script_none : (p : ℕ) (session : PlainSession) → script_of_first p session 0 ≡ []
+unfolding script
+script_none p session = refl
+
+received_none : received_list [] ≡ []
+unfolding received_list received_list_after
+received_none = refl
+
+length_replicate : (n : ℕ) → length (zeros n) ≡ n
+length_replicate zero = refl
+length_replicate (suc n) = ap (λ j. suc j) (length_replicate n)
+
+-- a port that was opened for the scene
+pub opened_at : (s : Scene) (counts : List ℕ) (flip : TakerState Flagged) (putter : PutterState Flagged) (line : LineState)
+    → counts ≡ counts_on s.port s.session → flip.capacity ≡ flip_on s.port s.session → 64 ≤ flip.capacity → putter.ring ≡ flip.ring → putter.capacity ≡ flip.capacity → putter.sent ≡ [] → putter.heads ≡ []
+    → HasDone line [] → line.most ≡ character_count s.port s.session.phases → line.most ≤ 262144 → line.report.overruns.items ≡ []
+    → IsAtPhase s 0 (record { terminal = opening (sum counts) flip.capacity; journal = []; kept = []; counts = counts; limit = 4194304; starved = false; flip = flip }) putter line 0
+opened_at s counts flip putter line is capacity room ring same none heads done most few_most no_overruns = record {
+  of_scene = record { counts = is; capacity = capacity; limit = refl; known = λ c step call h. absurd (cc); in_phases = tt; turns = tt };
+  phase = refl;
+  line_over = refl;
+  clock_over = refl;
+  callers = λ c. all_idle (sum counts) c ∙ ap caller_at_rest (sym (first_none s.port s.session c));
+  begins_run = record { follows = refl; below = All-nil (λ (e : PlainEntry). IsTrue (is_flush e.event) → e.step < 0); few = omega arith };
+  rest = refl;
+  cuts = refl;
+  some_room = room;
+  sent = ap (λ (cs : List Flagged). length cs) (sym none);
+  has_put = record {
+    ring = ring;
+    capacity = same;
+    done = subst (HasDone line) (sym (script_none s.port s.session)) done;
+    hands_over = hands;
+    room = omega (arith, ap (λ (cs : List Flagged). length cs) none, few_most);
+  };
+  most = most;
+}
+  where
+    hands : HandsOver flip.capacity [] (received_list (script_of_first s.port s.session 0)) [] putter.sent [] putter.heads [] line.report.overruns.items
+    hands =
+        subst (λ (all : List Flagged). HandsOver flip.capacity [] all [] putter.sent [] putter.heads [] line.report.overruns.items) (sym (ap received_list (script_none s.port s.session) ∙ received_none))
+        (subst (λ (cs : List Flagged). HandsOver flip.capacity [] [] [] cs [] putter.heads [] line.report.overruns.items) (sym none)
+        (subst (λ (hs : List ℕ). HandsOver flip.capacity [] [] [] [] [] hs [] line.report.overruns.items) (sym heads)
+        (subst (λ (os : List Overrun). HandsOver flip.capacity [] [] [] [] [] [] [] os) (sym no_overruns) (HandsOver-none flip.capacity [] [] [] []))))
+
+pub nothing_played : (s : Scene) → HavePlayed s 0 [] []
+nothing_played s = record {
+  up_to = inl (refl, refl);
+  ticks = λ j. omega arith;
+  finished = λ more rest later goes_on. goes_on;
+  seen = λ rest. tt;
+  see_all = λ rest. tt;
+}
+
+pub no_first_steps : (s : Scene) (n : ℕ) → n ≡ length (names_in s) → AreFirstSteps s 0 (zeros n)
+no_first_steps s n h = record { count = length_replicate n ∙ h; each = λ c. no_steps n c ∙ sym (first_none s.port s.session c) }
+
+-- a port that has come to the end of its phases can be hung up
+pub phases_over : (s : Scene) (v : PortValue) (putter : PutterState Flagged) (line : LineState) (run : ℕ) → IsAtPhase s (length s.session.phases) v putter line run → v.terminal.phase ≡ length v.counts
+phases_over s v putter line run h = h.phase ∙ sym (ap (λ (xs : List ℕ). length xs) h.of_scene.counts ∙ length_map (λ phase. length (scripts_on s.port phase)) s.session.phases)
+
+-- ---- port after port
+
+last_or : {X : Type 0} (xs : List X) (y : X) (i : ℕ) (x : X) → slice_get (xs ++ y ∷ []) i ≡ Some x → (slice_get xs i ≡ Some x) ⊎ ((i ≡ length xs) × (Some y ≡ Some x))
+last_or [] y zero x h = inr (refl, h)
+last_or [] y (suc i) x h = absurd (cc)
+last_or (z ∷ xs) y zero x h = inl h
+last_or (z ∷ xs) y (suc i) x h = elim (last_or xs y i x h) [ inl p ↦ inl p | inr p ↦ inr (ap (λ n. suc n) p.0, p.1) ]
+
+get_none : {X : Type 0} (xs : List X) (i : ℕ) (x : X) → length xs ≤ i → slice_get xs i ≡ Some x → ⊥
+get_none [] i x h k = cc
+get_none (y ∷ xs) zero x h k = absurd (omega (arith, h))
+get_none (y ∷ xs) (suc i) x h k = get_none xs i x (omega (arith, h)) k
+
+abbrev or_else : {X : Type 0} → X → Option X → X
+or_else d None = d
+or_else d (Some x) = x
+
+some_is : {X : Type 0} (x y : X) → Some x ≡ Some y → x ≡ y
+some_is x y h = ap (or_else x) h
+
+pub one_more_played : (session : PlainSession) (n : ℕ) (runs : List PortRun) (ends : List PortEnd) (run : PortRun) (end : PortEnd) → AreFirstPlayed session n runs ends → IsPlayedOn n session run end → AreFirstPlayed session (n + 1) (runs ++ run ∷ []) (ends ++ end ∷ [])
+one_more_played session n runs ends run end before now = record {
+  runs_of = length-append runs (run ∷ []) ∙ ap (λ m. m + 1) before.runs_of;
+  ends_of = length-append ends (end ∷ []) ∙ ap (λ m. m + 1) before.ends_of;
+  each = λ p r e at_run at_end. one_of p r e (last_or runs run p r at_run) (last_or ends end p e at_end);
+}
+  where
+    one_of : (p : ℕ) (r : PortRun) (e : PortEnd) → (slice_get runs p ≡ Some r) ⊎ ((p ≡ length runs) × (Some run ≡ Some r)) → (slice_get ends p ≡ Some e) ⊎ ((p ≡ length ends) × (Some end ≡ Some e)) → IsPlayedOn p session r e
+    one_of p r e (inl a) (inl b) = before.each p r e a b
+    one_of p r e (inl a) (inr b) = absurd (get_none runs p r (omega (arith, before.runs_of, before.ends_of, b.0)) a)
+    one_of p r e (inr a) (inl b) = absurd (get_none ends p e (omega (arith, before.runs_of, before.ends_of, a.0)) b)
+    one_of p r e (inr a) (inr b) =
+        subst (λ m. IsPlayedOn m session r e) (sym (a.0 ∙ before.runs_of))
+        (subst (λ (x : PortRun). IsPlayedOn n session x e) (some_is run r a.1) (subst (λ (x : PortEnd). IsPlayedOn n session run x) (some_is end e b.1) now))
+
+pub none_played : (session : PlainSession) → AreFirstPlayed session 0 [] []
+none_played session = record { runs_of = refl; ends_of = refl; each = λ p r e at_run at_end. absurd (get_none [] p r (omega arith) at_run) }
+
+pub all_played : (session : PlainSession) (n : ℕ) (runs : List PortRun) (ends : List PortEnd) → AreFirstPlayed session n runs ends → n ≡ session.ports → ArePlayed session runs ends
+all_played session n runs ends played all = record { runs_of_all = played.runs_of ∙ all; ends_of_all = played.ends_of ∙ all; each = played.each }

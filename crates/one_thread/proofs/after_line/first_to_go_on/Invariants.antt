@@ -1,0 +1,9 @@
+use Rattle.std.proofs.Common.{◌≡◌, drop}
+use Rattle.tty_calls.specs.declared.journals.Who.{Who}
+use Rattle.port_core.specs.Ports.{call_in}
+use Rattle.one_thread.specs.Order.{first_of, can_go_on}
+use Rattle.one_thread.specs.Turns.{role_numbers}
+use Rattle.one_thread.proofs.after_line.first_to_go_on.Given as goal
+
+abbrev pub invariant-loop-place : goal.invariant-loop-place
+invariant-loop-place l = (other : Who) → first_of (can_go_on (call_in l.port.kept) l.port.terminal) (role_numbers l.roles) other ≡ first_of (can_go_on (call_in l.port.kept) l.port.terminal) (role_numbers (drop l.place l.roles)) other

@@ -1,0 +1,69 @@
+use Rattle.std.proofs.Common.{◌∙◌, sym, subst}
+use Rattle.std.proofs.lemmas.Bool.{false≢true}
+use Rattle.std.proofs.lemmas.Result.{err_from_is_err_and}
+use Rattle.one_thread.specs.Turns.{role_numbers, IsTurn}
+use Rattle.one_thread.specs.declared.after_line.Turn.{Turn}
+use Rattle.one_thread.specs.declared.after_line.Turn.TheVariants as turn
+use Rattle.one_thread.proofs.AfterLine.{begins, goes_on_playing, all_known, nothing_left, may_end_of, ends_of, stops_of}
+use Rattle.one_thread.proofs.after_line.play_after_line.Goals.{in-End, in_default}
+use Rattle.one_thread.proofs.after_line.play_after_line.Goals as goal
+
+pub turn_of-next-requires-clause-known : goal.turn_of-next-requires-clause-known
+turn_of-next-requires-clause-known g c =
+    all_known g.scene c.args.scripts.now c.args.roles.now c.args.port.now _
+    (begins g.scene c.args.scripts.now c.args.roles.now c.args.port.now c.args.ticks c.args.run c.requires.0 c.requires.1.0 c.journal-journal.ensures.port).plays
+
+pub loop-next-init : goal.loop-next-init
+loop-next-init g c =
+    record {
+      playing = begins g.scene c.args.scripts.now c.args.roles.now c.args.port.now c.args.ticks c.args.run c.requires.0 c.requires.1.0 c.journal-journal.ensures.port;
+      turn = c.turn_of-next.ensures;
+    }
+
+pub returns-in_err-stand-clause-err : goal.returns-in_err-stand-clause-err
+returns-in_err-stand-clause-err g c =
+    let p = err_from_is_err_and c.from_residual.result c.from_residual.ensures.1 in
+    rw (p.1, p.2)
+    (stops_of g.scene c.args.scripts.now c.args.roles.now c.args.port.now c.loop-next.port c.play_turn.new.port c.args.ticks c.loop-next.stand _ c.loop-next.invariant.playing c.in_err-stand.ensures.err c.requires.1.1.0)
+
+pub turn_of-next-requires-in-loop-next-clause-known : goal.turn_of-next-requires-in-loop-next-clause-known
+turn_of-next-requires-in-loop-next-clause-known g c =
+    all_known g.scene c.args.scripts.now c.args.roles.now c.play_turn.new.port c.in_ok-stand.stand c.in_ok-stand.ensures.ok.plays
+
+pub turn_of-next-requires-in-loop-next-clause-place : goal.turn_of-next-requires-in-loop-next-clause-place
+turn_of-next-requires-in-loop-next-clause-place g c = λ i is. (c.in_ok-stand.ensures.ok.plays.callers.goes_on i is).0
+
+pub loop-next-preserved : goal.loop-next-preserved
+loop-next-preserved g c =
+    record {
+      playing =
+          goes_on_playing g.scene c.args.scripts.now c.args.roles.now c.args.port.now c.loop-next.port c.play_turn.new.port c.args.ticks c.loop-next.stand c.in_ok-stand.stand c.loop-next.invariant.playing c.in_ok-stand.ensures.ok;
+      turn = c.turn_of-next-in-loop-next.ensures;
+    }
+
+pub phase_end-requires-clause-may : goal.phase_end-requires-clause-may
+phase_end-requires-clause-may g c =
+    let playing = c.loop-next.invariant.playing in
+    let at_end : IsTurn c.loop-next.port (role_numbers c.args.roles.now) c.loop-next.stand.going turn.End =
+    elim c.match-matches.branch [
+      | in-End w ↦ subst (λ (n : Turn). IsTurn c.loop-next.port (role_numbers c.args.roles.now) c.loop-next.stand.going n) w.in-End.is c.loop-next.invariant.turn
+      | in_default w ↦ absurd (false≢true (sym w.matches-is ∙ c.if-not-matches.false))
+    ] in
+    may_end_of g.scene c.args.scripts.now c.args.roles.now c.loop-next.port c.loop-next.stand playing.plays (nothing_left c.loop-next.port c.args.roles.now c.loop-next.stand.going at_end)
+
+pub returns-in_err-phase_end-clause-err : goal.returns-in_err-phase_end-clause-err
+returns-in_err-phase_end-clause-err g c =
+    let p = err_from_is_err_and c.from_residual-in_err-phase_end.result c.from_residual-in_err-phase_end.ensures.1 in
+    rw (p.1, p.2)
+    (stops_of g.scene c.args.scripts.now c.args.roles.now c.args.port.now c.loop-next.port c.phase_end.new.self c.args.ticks c.loop-next.stand _ c.loop-next.invariant.playing c.in_err-phase_end.ensures.err c.requires.1.1.0)
+
+pub returns-clause-ok : goal.returns-clause-ok
+returns-clause-ok g c =
+    let playing = c.loop-next.invariant.playing in
+    let at_end : IsTurn c.loop-next.port (role_numbers c.args.roles.now) c.loop-next.stand.going turn.End =
+    elim c.match-matches.branch [
+      | in-End w ↦ subst (λ (n : Turn). IsTurn c.loop-next.port (role_numbers c.args.roles.now) c.loop-next.stand.going n) w.in-End.is c.loop-next.invariant.turn
+      | in_default w ↦ absurd (false≢true (sym w.matches-is ∙ c.if-not-matches.false))
+    ] in
+    ends_of g.scene c.args.scripts.now c.args.roles.now c.args.port.now c.loop-next.port c.phase_end.new.self c.args.putter.now c.phase_end.new.putter c.args.ticks c.loop-next.stand c.rest.result playing at_end c.in_ok-phase_end.ensures.ok
+    c.requires.1.1.0 c.rest.ensures

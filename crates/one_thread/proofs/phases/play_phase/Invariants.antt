@@ -1,0 +1,4 @@
+use Rattle.one_thread.proofs.phases.play_phase.Given as goal
+
+abbrev pub ghost-play_parts : goal.ghost-play_parts
+ghost-play_parts g a = g.scene

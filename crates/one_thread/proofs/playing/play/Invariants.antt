@@ -1,0 +1,11 @@
+use Rattle.std.proofs.Common.{◌≤◌, ◌+◌}
+use Rattle.tty_calls.specs.Sessions.{session_of}
+use Rattle.one_thread.specs.Phases.{AreFirstPlayed}
+use Rattle.one_thread.proofs.playing.play.Given as goal
+
+abbrev pub invariant-loop-number : goal.invariant-loop-number
+invariant-loop-number l = record {
+  room_for_runs : l.ports ≤ l.runs.spare + l.number;
+  room_for_ends : l.ports ≤ l.ends.spare + l.number;
+  played : AreFirstPlayed (session_of l.session) l.number l.runs.items l.ends.items;
+}

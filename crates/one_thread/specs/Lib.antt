@@ -1,0 +1,10 @@
+pub mod Casting
+pub mod LineInside
+pub mod Lines
+pub mod Order
+pub mod Phases
+pub mod Played
+pub mod Roles
+pub mod Rows
+pub mod Stages
+pub mod Turns

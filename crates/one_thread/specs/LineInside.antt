@@ -1,0 +1,118 @@
+-- What holds between two steps of the line of a phase.
+use Rattle.std.specs.Prelude.{◌≡◌, ◌⊎◌, ◌≤◌, ◌<◌, ◌+◌, ℕ, List, [], ◌∷◌, ◌++◌, true, false, All, length, reverse}
+use Rattle.std.specs.List.Sorted.{IsNonDecreasing}
+use mathlib.Core.List.{IsPrefix}
+use Rattle.tty_base.specs.declared.characters.Flagged.{Flagged}
+use Rattle.tty_base.specs.declared.lines.LineStep.{LineStep}
+use Rattle.tty_base.specs.declared.lines.Overrun.{Overrun}
+use Rattle.tty_base.specs.Lines.{arrival_count}
+use Rattle.word_ring.specs.Ends.{PutterState}
+use Rattle.uart_line.specs.LineState.{LineState}
+use Rattle.uart_line.specs.Received.{received_list, closed_script}
+use Rattle.tty_calls.specs.declared.answers.Denied.{Denied}
+use Rattle.tty_calls.specs.Plain.{PlainEntry}
+use Rattle.tty_calls.specs.Sessions.{line_on, call_at, counts_on}
+use Rattle.tty_terminal.specs.Runs.{Leads}
+use Rattle.journal_check.specs.Legal.{phase_at, script_of_first, session_events_in, line_ends_in, received_before}
+use Rattle.port_core.specs.declared.ports.flushing.Flushed.{Flushed}
+use Rattle.port_core.specs.declared.ports.flushing.Flushed.TheVariants.{Took, Nothing}
+use Rattle.port_core.specs.Flips.{MeetsTaker, after_meeting}
+use Rattle.port_core.specs.Flushes.{Flushes}
+use Rattle.port_core.specs.Ports.{PortValue, IsPort, Denies, is_stuck}
+use Rattle.one_thread.specs.Order.{cuts_after}
+use Rattle.one_thread.specs.Roles.{Scene}
+use Rattle.one_thread.specs.Stages.{IsOfScene, AreAtFirst, BeginsRun, place_of}
+use Rattle.one_thread.specs.Lines.{HasPut}
+
+-- where the line of a phase began: the scene and the phase, and the port and the line as they were then
+pub record LineStart : Type 0 where
+  pub scene : Scene
+  pub phase : ℕ
+  pub port : PortValue
+  pub line : LineState
+
+-- the line's steps in the phases before, and in this one
+abbrev pub steps_before : LineStart → List LineStep
+steps_before b = script_of_first b.scene.port b.scene.session b.phase
+
+abbrev pub steps_of : LineStart → List LineStep
+steps_of b = closed_script (line_on b.scene.port (phase_at b.scene.session b.phase))
+
+-- The line has done these steps of the phase, and nothing but flushes stands in the journal since it began.
+pub record IsInLine (b : LineStart) (v : PortValue) (putter : PutterState Flagged) (line : LineState) (steps : List LineStep) : Type 0 where
+  pub of_scene : IsOfScene b.scene v
+  pub within : b.phase < length b.scene.session.phases
+  pub phase : v.terminal.phase ≡ b.phase
+  pub line_over : v.terminal.line_over ≡ false
+  pub clock_over : v.terminal.clock_over ≡ false
+  pub callers : AreAtFirst b.scene b.phase v.terminal
+  pub flushes : List PlainEntry
+  pub added : v.journal ≡ b.port.journal ++ flushes
+  pub leads : Leads (call_at b.scene.port b.scene.session) (counts_on b.scene.port b.scene.session) b.port.terminal flushes v.terminal
+  pub inside : session_events_in flushes ≡ []
+  pub no_end : line_ends_in flushes ≡ []
+  pub tick : v.terminal.tick ≡ b.port.terminal.tick
+  pub sent : v.terminal.sent ≤ length putter.sent
+  pub ring : v.flip.ring ≡ b.port.flip.ring
+  pub capacity : v.flip.capacity ≡ b.port.flip.capacity
+  pub some_room : 64 ≤ v.flip.capacity
+  pub has_put : HasPut v putter line (steps_before b ++ steps)
+  pub most : line.most ≡ b.line.most
+  pub arrived : line.report.arrived ≡ b.line.report.arrived + arrival_count steps
+
+-- a head that was loaded is the number taken, and no later one is lower
+pub record KnowsTaken (taken : ℕ) (heads : List ℕ) : Type 0 where
+  pub before : List ℕ
+  pub later : List ℕ
+  pub parts : heads ≡ before ++ taken ∷ later
+  pub rise : IsNonDecreasing heads
+
+-- an overrun between these two places, which has seen at least so many characters taken
+pub record SeesFrom (low high taken : ℕ) (o : Overrun) : Type 0 where
+  pub from : low ≤ o.at
+  pub below : o.at < high
+  pub sees : taken ≤ o.seen
+
+-- all that was put is taken, each cut of the steps was flushed, and none of their characters was refused
+pub record IsCaughtUp (b : LineStart) (v : PortValue) (putter : PutterState Flagged) (steps : List LineStep) (overruns : List Overrun) : Type 0 where
+  pub all : v.flip.taken ≡ putter.sent
+  pub cuts : (place_of b.scene v.journal).cuts ≡ length (cuts_after (reverse (steps_before b)) steps)
+  pub none : overruns ≡ []
+
+pub record IsBetweenSteps (b : LineStart) (v : PortValue) (putter : PutterState Flagged) (line : LineState) (steps : List LineStep) (run : ℕ) : Type 0 where
+  pub in_line : IsInLine b v putter line steps
+  pub begins_run : BeginsRun run v
+  pub knows : KnowsTaken (length v.flip.taken) putter.heads
+  pub begins : IsPrefix v.flip.taken putter.sent
+  -- the overruns of this line so far
+  pub overruns : List Overrun
+  pub more_overruns : line.report.overruns.items ≡ b.line.report.overruns.items ++ overruns
+  pub floor : received_before b.scene.port b.scene.session b.phase ≤ length (received_list (steps_before b ++ steps))
+  pub seen : All (SeesFrom (received_before b.scene.port b.scene.session b.phase) (length (received_list (steps_before b ++ steps))) (length v.flip.taken)) overruns
+  -- the port takes all at each cut; or it is closed to input, and takes no more up to the line's end
+  pub open_or_stuck : IsCaughtUp b v putter steps overruns ⊎ (is_stuck v.terminal ≡ true)
+
+-- ---- the flush at a cut
+
+-- the number of the flush run after one that came to this
+abbrev pub run_after : ℕ → Flushed → ℕ
+run_after run (Took n) = run + 1
+run_after run Nothing = run
+
+-- both ends met, one piece was asked for, and both ends met again
+pub record FlushesCut (old new : PortValue) (putter now : PutterState Flagged) (run most next : ℕ) : Type 0 where
+  pub port : IsPort old
+  pub taken : old.terminal.taken ≡ length old.flip.taken
+  pub met : PutterState Flagged
+  pub meets : MeetsTaker old.flip putter met
+  pub left : PortValue
+  pub flushed : Flushed
+  pub flushes : Flushes (record old { flip = after_meeting old.flip putter }) left run 0 most flushed
+  pub next_is : next ≡ run_after run flushed
+  pub new_is : new ≡ record left { flip = after_meeting left.flip met }
+  pub meets_again : MeetsTaker left.flip met now
+
+-- both ends met, and the piece was denied
+pub record DeniesCut (d : Denied) (old new : PortValue) (putter now : PutterState Flagged) : Type 0 where
+  pub meets : MeetsTaker old.flip putter now
+  pub denies : Denies d (record old { flip = after_meeting old.flip putter }) new

@@ -1,0 +1,91 @@
+-- How far the playing of a port has come, phase by phase.
+use Rattle.std.specs.Prelude.{◌≡◌, ◌⊎◌, ◌≤◌, ◌+◌, ℕ, List, [], ◌∷◌, ◌++◌, All, if◌then◌else◌, Option, Some, length, drop, slice_get}
+use Rattle.tty_base.specs.declared.characters.Flagged.{Flagged}
+use Rattle.tty_base.specs.declared.lines.LineStep.{LineStep}
+use Rattle.tty_base.specs.declared.lines.Overrun.{Overrun}
+use Rattle.word_ring.specs.Ends.{PutterState}
+use Rattle.uart_line.specs.LineState.{LineState}
+use Rattle.tty_calls.specs.declared.answers.PortEnd.{PortEnd}
+use Rattle.tty_calls.specs.declared.journals.PortRun.{PortRun}
+use Rattle.tty_calls.specs.declared.answers.Denied.{Denied}
+use Rattle.tty_calls.specs.declared.answers.Denied.TheVariants.{NoMemory, Full}
+use Rattle.tty_calls.specs.Plain.{PlainCall, PlainEntry, phase_ended, entries_of}
+use Rattle.tty_calls.specs.Sessions.{PlainSession, ticks_on}
+use Rattle.journal_check.specs.Legal.{phase_at, script_on, received_before, is_phase_end, IsFinishedFrom, IsFinished, AreSeen}
+use Rattle.journal_check.specs.Short.{tick_count_in, after_phases}
+use Rattle.tty_terminal.specs.Runs.{IsRun, Grows}
+use Rattle.port_core.specs.Ports.{PortValue, IsPort, call_in}
+use Rattle.one_thread.specs.Played.{IsEndOf, IsPlayedOn}
+use Rattle.one_thread.specs.declared.phases.Station.{Station}
+use Rattle.one_thread.specs.Order.{AllSeeAll}
+use Rattle.one_thread.specs.Roles.{Scene, AreFirstSteps}
+use Rattle.one_thread.specs.Stages.{IsOfScene}
+use Rattle.one_thread.specs.Lines.{HasPut, IsAtPhase}
+
+-- how many phases end in a journal
+abbrev pub phase_count : List PlainEntry → ℕ
+phase_count [] = 0
+phase_count (e ∷ es) = (if is_phase_end e.event then 1 else 0) + phase_count es
+
+-- a journal up to the beginning of phase k: the last entry is the end of the phase before, where there is one
+pub record ComesTo (k : ℕ) (before : List PlainEntry) (last : PlainEntry) (journal : List PlainEntry) : Type 0 where
+  pub parts : journal ≡ before ++ last ∷ []
+  pub ends : last.event ≡ phase_ended
+  pub count : phase_count before + 1 ≡ k
+
+abbrev pub IsUpTo : ℕ → List PlainEntry → Type 0
+IsUpTo k journal = ((k ≡ 0) × (journal ≡ [])) ⊎ ((before : List PlainEntry) × (last : PlainEntry) × ComesTo k before last journal)
+
+-- no phase has more ticks than the session says
+abbrev pub HasFewTicks : Scene → List PlainEntry → Type 0
+HasFewTicks s journal = (j : ℕ) → tick_count_in j 0 journal ≤ ticks_on s.port (phase_at s.session j)
+
+-- The phases before phase k were played: whatever follows of journal and overruns, their entries are finished parts, and their
+-- overruns are seen, each with all that was taken before its line's end.
+pub record HavePlayed (s : Scene) (k : ℕ) (journal : List PlainEntry) (overruns : List Overrun) : Type 0 where
+  pub up_to : IsUpTo k journal
+  pub ticks : HasFewTicks s journal
+  pub finished : (more : List Overrun) (rest : List PlainEntry) → All (λ o. received_before s.port s.session k ≤ o.at) more
+      → IsFinishedFrom s.port s.session (overruns ++ more) k (drop k s.session.phases) rest → IsFinished s.port s.session (overruns ++ more) (journal ++ rest)
+  pub seen : (rest : List PlainEntry) → AreSeen s.port s.session (journal ++ rest) overruns
+  pub see_all : (rest : List PlainEntry) → AllSeeAll s.port s.session (journal ++ rest) overruns
+
+-- a port, the putting end of its flip buffer, its line, and the next steps of its callers at the beginning of phase k
+pub record IsBeforePhase (s : Scene) (k : ℕ) (station : Station) (run : ℕ) : Type 0 where
+  pub at_phase : IsAtPhase s k station.port station.putter station.line run
+  pub steps : AreFirstSteps s k station.steps.items
+  pub played : HavePlayed s k station.port.journal station.line.report.overruns.items
+
+-- a journal that is full: a run of the session as far as it went
+pub record IsFullRun (s : Scene) (v : PortValue) (putter : PutterState Flagged) (line : LineState) : Type 0 where
+  pub of_scene : IsOfScene s v
+  pub full : length v.journal ≡ 4194304
+  pub ticks : HasFewTicks s v.journal
+  pub last : after_phases (length s.session.phases) v.journal ≡ []
+  -- the line has done these of its steps
+  pub done : List LineStep
+  pub left : List LineStep
+  pub script_is : script_on s.port s.session ≡ done ++ left
+  pub has_put : HasPut v putter line done
+
+-- memory was wanting, or the journal is full
+abbrev pub StopsFull : Denied → Scene → PortValue → PutterState Flagged → LineState → Type 0
+StopsFull NoMemory s v putter line = Unit {0}
+StopsFull Full s v putter line = IsFullRun s v putter line
+
+abbrev pub IsStopped : Denied → Scene → Station → Type 0
+IsStopped d s station = StopsFull d s station.port station.putter station.line
+
+-- what is left of a port and its line
+pub record IsLeftOf (v : PortValue) (line : LineState) (run : PortRun) (end : PortEnd) : Type 0 where
+  pub port : IsPort v
+  pub journal : entries_of run.journal.items ≡ v.journal
+  pub run_of : (calls : ℕ → ℕ → Option PlainCall) → Grows (call_in v.kept) calls → IsRun calls v.counts v.flip.capacity v.journal v.terminal
+  pub at_end : IsEndOf v.terminal end
+  pub report : run.line ≡ line.report
+
+-- the first ports of the session were played
+pub record AreFirstPlayed (session : PlainSession) (count : ℕ) (runs : List PortRun) (ends : List PortEnd) : Type 0 where
+  pub runs_of : length runs ≡ count
+  pub ends_of : length ends ≡ count
+  pub each : (p : ℕ) (run : PortRun) (end : PortEnd) → slice_get runs p ≡ Some run → slice_get ends p ≡ Some end → IsPlayedOn p session run end

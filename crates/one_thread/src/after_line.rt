@@ -1,0 +1,287 @@
+//! What comes after the line of a phase: flushes, callers and clock, up to the end of the phase.
+
+ghost use Rattle.std.specs.Prelude.{◌≡◌, ◌≢◌, ℕ, ◌≤◌, ◌<◌, ◌^◌, ◌-◌, ◌+◌, All, Some, None, IfOk, IfErr, IsTrue, MatchOption, OnErr, OnOk, length, map, slice_get, sum};
+ghost use Rattle.tty_calls.specs.Plain.{call_of};
+ghost use Rattle.tty_calls.specs.Sessions.{ticks_on};
+ghost use Rattle.tty_terminal.specs.Steps.{after};
+ghost use Rattle.port_core.specs.Attempts.{tried_of};
+ghost use Rattle.port_core.specs.Ports.{call_in, Denies, IsOpen};
+ghost use Rattle.journal_check.specs.Legal.{phase_at};
+ghost use Rattle.one_thread.specs.Order.{can_go_on, is_waiting};
+ghost use Rattle.one_thread.specs.Roles.{Scene, calls_in, role_in, AreRolesOf};
+ghost use Rattle.one_thread.specs.Stages.{IsAfterLine, EndsAfterLine, StopsAfterLine};
+ghost use Rattle.one_thread.specs.Turns.{role_numbers, IsFirst, IsTurn, IsNextCall, Plays, PlaysOn, next_run, going_after};
+ghost use Rattle.one_thread.specs.declared.after_line.Turn.TheVariants as turn;
+
+use crate::roles::Role;
+use flip_buffer::FlipIn;
+use port_core::{Flushed, Port, Tried};
+use tty_calls::{Call, Denied, Script};
+
+/// The most characters of a piece of a flush run.
+const PIECE: u32 = 64;
+
+/// Where the player stands: the next piece of a flush run, the ticks that are left, and the place of
+/// the caller whose write goes on.
+#[derive(Clone, Copy, Debug)]
+pub(crate) struct Stand {
+    run: u32,
+    part: u32,
+    ticks: u32,
+    going: Option<usize>,
+}
+
+/// What is done next: a piece of a flush run, a call of the caller at a place, a tick or the end of the
+/// clock, or the end of the phase.
+#[derive(Clone, Copy, Debug)]
+pub(crate) enum Turn {
+    Flush,
+    Call(usize),
+    Pass,
+    End,
+}
+
+/// Whether a caller is not over, and does not wait or need not wait any more.
+fn goes_on(port: &Port, role: &Role) -> bool
+    requires { role.now.number < sum port.now.counts }
+    ensures { result ≡ can_go_on (call_in port.now.kept) port.now.terminal role.now.number }
+{
+    !port.caller(role.number).over && !port.must_wait(role.number)
+}
+
+/// The place of the first caller that can go on.
+fn first_to_go_on(port: &Port, roles: &[Role]) -> Option<usize>
+    requires { All (λ r. r.number < sum port.now.counts) roles.now }
+    ensures { IsFirst (can_go_on (call_in port.now.kept) port.now.terminal) (role_numbers roles.now) result }
+{
+    for (place, role) in roles.iter().enumerate() {
+        if goes_on(port, role) {
+            return Some(place);
+        }
+    }
+    None
+}
+
+/// The place of the first caller that waits.
+fn first_to_wait(port: &Port, roles: &[Role]) -> Option<usize>
+    requires { All (λ r. r.number < sum port.now.counts) roles.now }
+    ensures { IsFirst (is_waiting port.now.terminal) (role_numbers roles.now) result }
+{
+    for (place, role) in roles.iter().enumerate() {
+        if port.caller(role.number).waits.is_some() {
+            return Some(place);
+        }
+    }
+    None
+}
+
+/// Whose turn it is.
+fn turn_of(port: &Port, roles: &[Role], going: Option<usize>) -> Turn
+    requires known { All (λ r. r.number < sum port.now.counts) roles.now }
+    requires place { (i : ℕ) → going ≡ Some i → i < length roles.now }
+    ensures { IsTurn port.now (role_numbers roles.now) going result }
+{
+    if let Some(place) = going {
+        return Turn::Call(place);
+    }
+    if !port.has_nothing_to_flush() {
+        return Turn::Flush;
+    }
+    if let Some(place) = first_to_go_on(port, roles) {
+        return Turn::Call(place);
+    }
+    if !port.clock_is_over() {
+        return Turn::Pass;
+    }
+    match first_to_wait(port, roles) {
+        Some(place) => Turn::Call(place),
+        None => Turn::End,
+    }
+}
+
+/// The call of a caller's step, where the phase has one more.
+fn next_call<'a>(role: &Role, scripts: &'a [Script], step: u32) -> Option<&'a Call>
+    requires { role.now.first ≤ step }
+    ensures { MatchOption result (slice_get (calls_in (slice_get scripts.now role.now.place)) (step - role.now.first) ≡ None) (λ call. slice_get (calls_in (slice_get scripts.now role.now.place)) (step - role.now.first) ≡ Some (call_of call.now)) }
+{
+    let script = scripts.get(role.place)?;
+    script.calls.as_slice().get((step - role.first) as usize)
+}
+
+/// After an entry that is no flush: the next flush begins a run, and no write goes on.
+fn rest(stand: Stand) -> Stand
+    requires { next_run stand.run stand.part < 2 ^ 32 }
+    ensures { result ≡ record { run = next_run stand.run stand.part; part = 0; ticks = stand.ticks; going = None } }
+{
+    let run = if stand.part == 0 {
+        stand.run
+    } else {
+        stand.run + 1
+    };
+    Stand {
+        run,
+        part: 0,
+        ticks: stand.ticks,
+        going: None,
+    }
+}
+
+/// The next piece of a flush run, of as many characters as can be.
+fn flush(port: &mut Port, roles: &[Role], scripts: &[Script], stand: Stand) -> Result<Stand, Denied>
+    ghost scene: { Scene }
+    requires plays { Plays scene scripts.now roles.now port.old stand }
+    requires turn { IsTurn port.old (role_numbers roles.now) stand.going turn.Flush }
+    ensures open { OnOk result (IsOpen port.old) }
+    ensures ok { IfOk result (λ now. PlaysOn scene scripts.now roles.now port.old port.new stand now) }
+    ensures err { IfErr result (λ d. Denies d port.old port.new) }
+{
+    let _journal = port.journal();
+    match port.flush_piece(stand.run, stand.part, PIECE)? {
+        Flushed::Took(_) => Ok(Stand {
+            part: stand.part + 1,
+            ..stand
+        }),
+        Flushed::Nothing => unreachable!(),
+    }
+}
+
+/// A tick, or the end of the clock where none is left.
+fn pass(port: &mut Port, roles: &[Role], scripts: &[Script], stand: Stand) -> Result<Stand, Denied>
+    ghost scene: { Scene }
+    requires plays { Plays scene scripts.now roles.now port.old stand }
+    requires turn { IsTurn port.old (role_numbers roles.now) stand.going turn.Pass }
+    ensures open { OnOk result (IsOpen port.old) }
+    ensures ok { IfOk result (λ now. PlaysOn scene scripts.now roles.now port.old port.new stand now) }
+    ensures err { IfErr result (λ d. Denies d port.old port.new) }
+{
+    if stand.ticks == 0 {
+        port.clock_end()?;
+        return Ok(rest(stand));
+    }
+    port.tick()?;
+    Ok(Stand {
+        ticks: stand.ticks - 1,
+        ..rest(stand)
+    })
+}
+
+/// The place of a caller whose write goes on after an attempt.
+fn goes_on_at(place: usize, tried: Tried) -> Option<usize>
+    ensures { result ≡ going_after place (tried_of tried) }
+{
+    match tried {
+        Tried::Part => Some(place),
+        Tried::Done(_) => None,
+        Tried::MustWait => None,
+    }
+}
+
+/// A caller tries its next call.
+fn try_call(
+    port: &mut Port,
+    roles: &[Role],
+    scripts: &[Script],
+    place: usize,
+    call: &Call,
+    stand: Stand,
+) -> Result<Stand, Denied>
+    ghost scene: { Scene }
+    requires plays { Plays scene scripts.now roles.now port.old stand }
+    requires turn { IsTurn port.old (role_numbers roles.now) stand.going (turn.Call place) }
+    requires call { IsNextCall scripts.now roles.now port.old place (call_of call.now) }
+    ensures open { OnOk result (IsOpen port.old) }
+    ensures ok { IfOk result (λ now. PlaysOn scene scripts.now roles.now port.old port.new stand now) }
+    ensures err { IfErr result (λ d. Denies d port.old port.new) }
+{
+    let caller = roles[place].number;
+    let step = port.caller(caller).next;
+    let tried = port.attempt(caller, step, call)?;
+    Ok(Stand {
+        going: goes_on_at(place, tried),
+        ..rest(stand)
+    })
+}
+
+/// The call of a caller goes on, or its calls of the phase are over.
+fn go_on(
+    port: &mut Port,
+    roles: &[Role],
+    scripts: &[Script],
+    place: usize,
+    stand: Stand,
+) -> Result<Stand, Denied>
+    ghost scene: { Scene }
+    requires plays { Plays scene scripts.now roles.now port.old stand }
+    requires turn { IsTurn port.old (role_numbers roles.now) stand.going (turn.Call place) }
+    ensures open { OnOk result (IsOpen port.old) }
+    ensures ok { IfOk result (λ now. PlaysOn scene scripts.now roles.now port.old port.new stand now) }
+    ensures err { IfErr result (λ d. Denies d port.old port.new) }
+{
+    let role = &roles[place];
+    let step = port.caller(role.number).next;
+    match next_call(role, scripts, step) {
+        Some(call) => try_call(port, roles, scripts, place, call, stand),
+        None => {
+            port.caller_end(role.number)?;
+            Ok(rest(stand))
+        }
+    }
+}
+
+/// One entry, by whose turn it is.
+fn play_turn(
+    port: &mut Port,
+    roles: &[Role],
+    scripts: &[Script],
+    next: Turn,
+    stand: Stand,
+) -> Result<Stand, Denied>
+    ghost scene: { Scene }
+    requires plays { Plays scene scripts.now roles.now port.old stand }
+    requires turn { IsTurn port.old (role_numbers roles.now) stand.going next }
+    requires goes_on { next ≢ turn.End }
+    ensures open { OnOk result (IsOpen port.old) }
+    ensures ok { IfOk result (λ now. PlaysOn scene scripts.now roles.now port.old port.new stand now) }
+    ensures err { IfErr result (λ d. Denies d port.old port.new) }
+{
+    match next {
+        Turn::Flush => flush(port, roles, scripts, stand),
+        Turn::Call(place) => go_on(port, roles, scripts, place, stand),
+        Turn::Pass => pass(port, roles, scripts, stand),
+        Turn::End => unreachable!(),
+    }
+}
+
+/// What comes after the line of a phase. It gives the number of the next flush run.
+pub(crate) fn play_after_line(
+    port: &mut Port,
+    putter: &mut FlipIn,
+    roles: &[Role],
+    scripts: &[Script],
+    ticks: u32,
+    run: u32,
+) -> Result<u32, Denied>
+    ghost scene: { Scene }
+    requires after { IsAfterLine scene port.old run }
+    requires roles { AreRolesOf scene port.old.terminal.phase (map (role_in scripts.now) roles.now) }
+    requires ticks { ticks ≡ ticks_on scene.port (phase_at scene.session port.old.terminal.phase) }
+    requires ring { putter.old.ring ≡ port.old.flip.ring }
+    ensures ok { IfOk result (λ next. EndsAfterLine scene port.old port.new putter.old putter.new next) }
+    ensures err { IfErr result (λ d. StopsAfterLine scene port.old port.new d) }
+    ensures putter { OnErr result (putter.new ≡ putter.old) }
+{
+    let _journal = port.journal();
+    let mut stand = Stand {
+        run,
+        part: 0,
+        ticks,
+        going: None,
+    };
+    let mut next = turn_of(port, roles, stand.going);
+    while !matches!(next, Turn::End) {
+        stand = play_turn(port, roles, scripts, next, stand)?;
+        next = turn_of(port, roles, stand.going);
+    }
+    port.phase_end(putter)?;
+    Ok(rest(stand).run)
+}

@@ -1,0 +1,16 @@
+//! A session played on one thread, in the order of one thread.
+#![tactic(auto)]
+
+mod after_line;
+mod line;
+mod phases;
+mod playing;
+mod ports;
+mod roles;
+mod rows;
+
+pub use playing::{Played, play};
+pub use rows::{
+    moved_three_bytes_are_not_in_order, moved_waiters_are_not_in_order, three_bytes_are_in_order,
+    waiters_are_told_in_order,
+};

@@ -1,0 +1,169 @@
+//! A port of a session, from its opening to its hangup.
+
+ghost use Rattle.std.specs.Prelude.{◌≡◌, ◌<◌, ◌≤◌, ℕ, IfOk, IfErr, length};
+ghost use Rattle.tty_base.specs.Lines.{arrival, arrival_count};
+ghost use Rattle.tty_calls.specs.Limits.{IsWithinLimits, character_count};
+ghost use Rattle.tty_calls.specs.Sessions.{session_of};
+ghost use Rattle.one_thread.specs.Roles.{Scene, scene_of, names_in};
+ghost use Rattle.one_thread.specs.Phases.{IsBeforePhase, IsStopped, IsFullRun, IsLeftOf};
+ghost use Rattle.one_thread.specs.Played.{IsPlayedOn};
+
+use crate::phases::{Station, play_phase, steps_of};
+use crate::roles::counts_of;
+use flip_buffer::flip;
+use port_core::Port;
+use std::alloc::Global;
+use tty_base::{LineStep, NoMemory};
+use tty_calls::{Denied, Names, PortEnd, PortRun, Session};
+use uart_line::Line;
+
+/// How many entries a port's journal may have.
+const JOURNAL: u32 = 4_194_304;
+
+/// How many characters arrive in a step.
+fn arrivals_of(step: LineStep) -> u32
+    ensures { result ≡ length (arrival step) }
+{
+    match step {
+        LineStep::Rx(_) | LineStep::Break => 1,
+        LineStep::Idle(_) | LineStep::Mask | LineStep::Unmask | LineStep::Trigger(_) => 0,
+    }
+}
+
+/// How many characters arrive in these steps.
+fn arrivals_in(steps: &[LineStep]) -> u32
+    requires { arrival_count steps.now ≤ 262144 }
+    ensures { result ≡ arrival_count steps.now }
+{
+    let mut count = 0;
+    for step in steps {
+        count += arrivals_of(*step);
+    }
+    count
+}
+
+/// How many characters arrive on a port.
+fn characters_on(session: &Session, number: usize) -> u32
+    requires within { IsWithinLimits (session_of session.now) }
+    requires port { number < (session_of session.now).ports }
+    ensures { result ≡ character_count number (session_of session.now).phases }
+{
+    let mut count = 0;
+    for k in 0..session.phases.len() {
+        count += arrivals_in(steps_of(session, number, k));
+    }
+    count
+}
+
+/// A port at the beginning of its session.
+fn opened(
+    alloc: Global,
+    session: &Session,
+    number: usize,
+    names: &Names,
+) -> Result<Station, NoMemory>
+    requires within { IsWithinLimits (session_of session.now) }
+    requires port { number < (session_of session.now).ports }
+    requires names { names.now ≡ names_in (scene_of number session.now) }
+    ensures { IfOk result (λ station. IsBeforePhase (scene_of number session.now) 0 station 0) }
+{
+    let capacity = session.flips.as_slice()[number] as usize;
+    let (putter, taker) = flip(alloc, capacity)?;
+    let counts = counts_of(alloc, session, number)?;
+    Ok(Station {
+        port: Port::new(alloc, counts.as_slice(), JOURNAL, taker)?,
+        putter,
+        line: Line::new(alloc, characters_on(session, number))?,
+        steps: vec![in alloc; 0; names.len()]?,
+    })
+}
+
+/// Plays the phases of a port, one after the other. Answers the number of the next flush run.
+fn play_phases(
+    alloc: Global,
+    session: &Session,
+    number: usize,
+    names: &Names,
+    station: &mut Station,
+) -> Result<u32, Denied>
+    requires within { IsWithinLimits (session_of session.now) }
+    requires port { number < (session_of session.now).ports }
+    requires names { names.now ≡ names_in (scene_of number session.now) }
+    requires before { IsBeforePhase (scene_of number session.now) 0 station.old 0 }
+    ensures ok { IfOk result (λ next. IsBeforePhase (scene_of number session.now) (length (session_of session.now).phases) station.new next) }
+    ensures err { IfErr result (λ d. IsStopped d (scene_of number session.now) station.new) }
+{
+    let mut run = 0;
+    for k in 0..session.phases.len() {
+        run = play_phase(alloc, session, number, k, names, station, run)?;
+    }
+    Ok(run)
+}
+
+/// What is left of a port at its end.
+fn left_of(port: Port, line: Line) -> (PortRun, PortEnd)
+    ensures { IsLeftOf port line result.0 result.1 }
+{
+    let (journal, end) = port.into_journal();
+    let run = PortRun {
+        journal,
+        line: line.into_report(),
+    };
+    (run, end)
+}
+
+/// A port whose journal is full, as far as it went.
+fn stopped(station: Station) -> (PortRun, PortEnd)
+    requires { station.putter.ring ≡ station.port.flip.ring }
+    ensures { (s : Scene) → IsFullRun s station.port station.putter station.line → IsPlayedOn s.port s.session result.0 result.1 }
+{
+    let Station {
+        mut port,
+        mut putter,
+        line,
+        steps: _,
+    } = station;
+    port.meet(&mut putter);
+    left_of(port, line)
+}
+
+/// A port whose phases were played, hung up.
+fn hung_up(station: Station) -> Result<(PortRun, PortEnd), NoMemory>
+    requires after { station.port.terminal.phase ≡ length station.port.counts }
+    requires ring { station.putter.ring ≡ station.port.flip.ring }
+    requires sent { station.port.terminal.sent ≡ length station.putter.sent }
+    ensures { (s : Scene) (run : ℕ) → IsBeforePhase s (length s.session.phases) station run → IfOk result (λ played. IsPlayedOn s.port s.session played.0 played.1) }
+{
+    let Station {
+        mut port,
+        mut putter,
+        line,
+        steps: _,
+    } = station;
+    let _journal = port.journal();
+    port.meet(&mut putter);
+    match port.last_hangup(putter) {
+        Ok(()) => Ok(left_of(port, line)),
+        Err(Denied::Full) => Ok(left_of(port, line)),
+        Err(Denied::NoMemory) => Err(NoMemory),
+    }
+}
+
+/// Plays a port of a session.
+pub(crate) fn play_port(
+    alloc: Global,
+    session: &Session,
+    number: usize,
+) -> Result<(PortRun, PortEnd), NoMemory>
+    requires within { IsWithinLimits (session_of session.now) }
+    requires port { number < (session_of session.now).ports }
+    ensures { IfOk result (λ played. IsPlayedOn number (session_of session.now) played.0 played.1) }
+{
+    let names = Names::on_port(alloc, session, number)?;
+    let mut station = opened(alloc, session, number, &names)?;
+    match play_phases(alloc, session, number, &names, &mut station) {
+        Ok(_) => hung_up(station),
+        Err(Denied::Full) => Ok(stopped(station)),
+        Err(Denied::NoMemory) => Err(NoMemory),
+    }
+}
