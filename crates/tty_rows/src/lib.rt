@@ -2,4 +2,20 @@
 #![tactic(auto)]
 
 #[cfg(test)]
-mod first_path;
+mod editing;
+#[cfg(test)]
+mod journals;
+#[cfg(test)]
+mod output;
+#[cfg(test)]
+mod overruns;
+#[cfg(test)]
+mod receiving;
+#[cfg(test)]
+mod refusals;
+#[cfg(test)]
+mod rows;
+#[cfg(test)]
+mod switching;
+#[cfg(test)]
+mod waiting;

@@ -1,24 +1,21 @@
 -- In a finished journal each call is answered once.
-use Rattle.std.proofs.Common.{◌≡◌, ⊎_elim, ℕ, zero, suc, ◌+◌, ◌<◌, ◌≤◌, Bool, true, false, ◌&&◌, ◌||◌, ◌==◌, if◌then◌else◌, cond, List, [], ◌∷◌, ◌++◌, Option, None, Some, length, refl, sym, ap, ◌∙◌, arith, eqb-true, eq-eqb, length-append}
-use Rattle.std.specs.Prelude.{option_to_list}
+use Rattle.std.proofs.Common.{◌≡◌, ⊎_elim, ℕ, zero, suc, ◌+◌, ◌<◌, ◌≤◌, Bool, true, false, ◌&&◌, ◌||◌, ◌==◌, if◌then◌else◌, cond, List, [], ◌∷◌, ◌++◌, Option, None, Some, length, refl, sym, ap, ◌∙◌, arith, eqb-true, eq-eqb, length-append, append-nil, append_assoc, take}
+use Rattle.std.specs.Prelude.{option_to_list, flat_map}
 use Rattle.std.specs.Str.{bytes_eq}
 use Rattle.std.specs.List.{list_any}
 use Rattle.std.specs.Option.{option_or}
 use Rattle.std.proofs.lemmas.Bool.{false≢true, cases_lt}
-use Rattle.std.proofs.lemmas.List.{take_all}
+use Rattle.std.proofs.lemmas.List.{take_all, take_more}
+use Rattle.std.proofs.lemmas.Grind.{flat_map-append}
 use Rattle.std.proofs.lemmas.Option.{slice_get_within}
-use Rattle.first_calls.specs.declared.journals.Who.{Who}
-use Rattle.first_calls.specs.declared.journals.Who.TheVariants.{Caller, Flusher, Line, Clock, Session}
-use Rattle.first_calls.specs.declared.journals.PortRun.{PortRun}
-use Rattle.first_calls.specs.Plain.{PlainCall, PlainAnswer, PlainEvent, answered, parted, waited, flushed, ticked, line_ended, clock_ended, caller_ended, phase_ended, hung_up, PlainEntry, entries_of}
-use Rattle.first_calls.specs.Sessions.{PlainScript, PlainPhase, PlainSession, scripts_on, scripts_over, calls_of, call_at}
-use Rattle.first_terminal.specs.Terminals.{Terminal}
-use Rattle.first_terminal.specs.Runs.{is_caller}
-use Rattle.first_print.specs.Report.{is_by, answer_of_event, answer_by, answer_in}
-use Rattle.tty_run.specs.Legal.{phase_at, name_at, has_script, first_step, steps_in, CallerMark, answers, caller_ends, caller_marks, caller_marks_in, answers_from, caller_part, IsLegal}
+use Rattle.tty_calls.specs.declared.journals.PortRun.{PortRun}
+use Rattle.tty_calls.specs.Plain.{PlainCall, PlainAnswer, PlainEvent, answered, parted, waited, flushed, ticked, line_ended, clock_ended, caller_ended, phase_ended, hung_up, PlainEntry, entries_of, is_caller}
+use Rattle.tty_calls.specs.Sessions.{PlainScript, PlainPhase, PlainSession, scripts_on, scripts_over, calls_of, call_at}
+use Rattle.tty_terminal.specs.Terminals.{Terminal}
+use Rattle.session_print.specs.Report.{answer_of_event, answer_by, answer_in}
+use Rattle.tty_base.specs.declared.lines.Overrun.{Overrun}
+use Rattle.journal_check.specs.Legal.{phase_at, name_at, has_script, first_step, steps_in, CallerMark, answers, caller_ends, caller_marks, caller_marks_in, answers_from, caller_part, IsFinishedFrom, IsLegal}
 use Rattle.tty_run.specs.Outcome.{answers_to, IsAnsweredOnce}
-use Rattle.tty_run.proofs.Names.{first_next}
-use Rattle.tty_run.proofs.Finished.{marks_from, finished_callers}
 
 -- how often a step is answered
 abbrev chosen : Bool → ℕ
@@ -37,13 +34,6 @@ count_append x [] ns = omega arith
 count_append x (m ∷ ms) ns = let more = count_append x ms ns in omega (arith, more)
 
 -- ---- answers and marks of an entry
-
-same_who : (w : Who) (c : ℕ) → is_by w c ≡ is_caller w c
-same_who (Caller n) c = refl
-same_who Flusher c = refl
-same_who Line c = refl
-same_who Clock c = refl
-same_who Session c = refl
 
 abbrev no_answer : Option PlainAnswer
 no_answer = None
@@ -73,9 +63,7 @@ answers_counted : (c x : ℕ) (es : List PlainEntry) → length (answers_to es c
 answers_counted c x [] = refl
 answers_counted c x (e ∷ es) =
     let own : List CallerMark = if is_caller e.who c then caller_marks e.event e.step else [] in
-    let here : length (option_to_list (answer_by e c x)) ≡ count x own =
-    ap (λ b. length (option_to_list (if b && (e.step == x) then answer_of_event e.event else None))) (same_who e.who c) ∙ marked (is_caller e.who c) e.event e.step x
-    in
+    let here : length (option_to_list (answer_by e c x)) ≡ count x own = marked (is_caller e.who c) e.event e.step x in
     omega (arith, length-append (option_to_list (answer_by e c x)) (answers_to es c x), here, answers_counted c x es, count_append x own (caller_marks_in c es))
 
 -- ---- how often the marks of a session answer a step
@@ -130,33 +118,75 @@ part_either : (b : Bool) (x a n : ℕ) → (b ≡ false → n ≡ 0) → count x
 part_either true x a n h = count_append x (answers_from a n) (caller_ends ∷ []) ∙ omega arith
 part_either false x a n h = ap (λ m. count x (answers_from a m)) (sym (h refl))
 
-part_counted : (s : PlainSession) (k c x : ℕ) → count x (caller_part 0 s k c) ≡ count x (answers_from (first_step 0 s k c) (steps_in 0 s k c))
-part_counted s k c x =
-    part_either (has_script (scripts_on 0 (phase_at s k)) (name_at 0 s c)) x (first_step 0 s k c) (steps_in 0 s k c) (no_script (scripts_on 0 (phase_at s k)) (name_at 0 s c))
+-- ---- the marks of a finished journal
 
--- the phases from phase k on do not answer an earlier step
-earlier : (s : PlainSession) (c x k : ℕ) (phases : List PlainPhase) → k + length phases ≡ length s.phases → x < first_step 0 s k c → count x (marks_from 0 s c k phases) ≡ 0
-earlier s c x k [] all h = refl
-earlier s c x k (phase ∷ phases) all h =
-    let next = first_next s k c (omega (arith, all)) in
-    let later = earlier s c x (k + 1) phases (omega (arith, all)) (omega (arith, next, h)) in
-    omega (arith, count_append x (caller_part 0 s k c) (marks_from 0 s c (k + 1) phases), part_counted s k c x, before_all (first_step 0 s k c) (steps_in 0 s k c) x h, later)
+calls_append : (xs ys : List PlainScript) (name : Option (List ℕ)) → calls_of (xs ++ ys) name ≡ calls_of xs name ++ calls_of ys name
+calls_append xs ys None = refl
+calls_append xs ys (Some name) = flat_map-append (λ s. if bytes_eq s.name name then s.calls else []) xs ys
+
+-- the scripts of the phases before this one, and of this one
+over_next : (p : ℕ) (s : PlainSession) (k : ℕ) → k < length s.phases → scripts_over p (take (k + 1) s.phases) ≡ scripts_over p (take k s.phases) ++ scripts_on p (phase_at s k)
+over_next p s k h =
+    ap (scripts_over p) (take_more s.phases k (record { lines = []; ticks = []; callers = [] }) h)
+    ∙ flat_map-append (scripts_on p) (take k s.phases) (phase_at s k ∷ [])
+    ∙ ap (λ (x : List PlainScript). scripts_over p (take k s.phases) ++ x) (append-nil (scripts_on p (phase_at s k)))
+
+first_next : (p : ℕ) (s : PlainSession) (k c : ℕ) → k < length s.phases → first_step p s (k + 1) c ≡ first_step p s k c + steps_in p s k c
+first_next p s k c h =
+    ap (λ (x : List PlainScript). length (calls_of x (name_at p s c))) (over_next p s k h)
+    ∙ ap (λ (x : List PlainCall). length x) (calls_append (scripts_over p (take k s.phases)) (scripts_on p (phase_at s k)) (name_at p s c))
+    ∙ length-append (calls_of (scripts_over p (take k s.phases)) (name_at p s c)) (calls_of (scripts_on p (phase_at s k)) (name_at p s c))
+
+-- the parts of a journal, for one kind of entry
+split_of : {X : Type 0} (f : PlainEntry → List X) (part : List PlainEntry) (last : PlainEntry) (rest : List PlainEntry) (own : List X) (later : List X) → flat_map f part ++ f last ≡ own → flat_map f rest ≡ later → flat_map f (part ++ last ∷ rest) ≡ own ++ later
+split_of f part last rest own later here there =
+    flat_map-append f part (last ∷ rest) ∙ sym (append_assoc (flat_map f part) (f last) (flat_map f rest)) ∙ ap (λ x. x ++ flat_map f rest) here ∙ ap (λ x. own ++ x) there
+
+abbrev marks_from : ℕ → PlainSession → ℕ → ℕ → List PlainPhase → List CallerMark
+marks_from p s c k [] = []
+marks_from p s c k (phase ∷ phases) = caller_part p s k c ++ marks_from p s c (k + 1) phases
+
+none_marked : (b : Bool) (event : PlainEvent) (step : ℕ) → caller_marks event step ≡ [] → (if b then caller_marks event step else []) ≡ []
+none_marked true event step h = h
+none_marked false event step h = refl
+
+finished_callers : (p : ℕ) (s : PlainSession) (overruns : List Overrun) (c k : ℕ) (phases : List PlainPhase) (journal : List PlainEntry) → IsFinishedFrom p s overruns k phases journal → caller_marks_in c journal ≡ marks_from p s c k phases
+finished_callers p s overruns c k [] journal h =
+    ap (caller_marks_in c) h.alone ∙ ap (λ x. x ++ []) (none_marked (is_caller h.entry.who c) h.entry.event h.entry.step (ap (λ x. caller_marks x h.entry.step) h.is_hangup))
+finished_callers p s overruns c k (phase ∷ phases) journal h =
+    let own : List CallerMark = caller_part p s k c in
+    ap (caller_marks_in c) h.parts ∙ split_of (λ e. if is_caller e.who c then caller_marks e.event e.step else []) h.part h.last h.rest own (marks_from p s c (k + 1) phases)
+    (ap (λ x. x ++ (if is_caller h.last.who c then caller_marks h.last.event h.last.step else [])) (h.is_part.callers c)
+    ∙ ap (λ x. own ++ x) (none_marked (is_caller h.last.who c) h.last.event h.last.step (ap (λ x. caller_marks x h.last.step) h.ends)) ∙ append-nil own)
+    (finished_callers p s overruns c (k + 1) phases h.rest h.goes_on)
+
+part_counted : (p : ℕ) (s : PlainSession) (k c x : ℕ) → count x (caller_part p s k c) ≡ count x (answers_from (first_step p s k c) (steps_in p s k c))
+part_counted p s k c x =
+    part_either (has_script (scripts_on p (phase_at s k)) (name_at p s c)) x (first_step p s k c) (steps_in p s k c) (no_script (scripts_on p (phase_at s k)) (name_at p s c))
+
+-- the phases from phase k on do not answer an earlier p step
+earlier : (p : ℕ) (s : PlainSession) (c x k : ℕ) (phases : List PlainPhase) → k + length phases ≡ length s.phases → x < first_step p s k c → count x (marks_from p s c k phases) ≡ 0
+earlier p s c x k [] all h = refl
+earlier p s c x k (phase ∷ phases) all h =
+    let next = first_next p s k c (omega (arith, all)) in
+    let later = earlier p s c x (k + 1) phases (omega (arith, all)) (omega (arith, next, h)) in
+    omega (arith, count_append x (caller_part p s k c) (marks_from p s c (k + 1) phases), part_counted p s k c x, before_all (first_step p s k c) (steps_in p s k c) x h, later)
 
 -- and they answer each of their own once
-theirs : (s : PlainSession) (c x k : ℕ) (phases : List PlainPhase) → k + length phases ≡ length s.phases → first_step 0 s k c ≤ x → x < first_step 0 s (length s.phases) c → count x (marks_from 0 s c k phases) ≡ 1
-theirs s c x k [] all low high =
+theirs : (p : ℕ) (s : PlainSession) (c x k : ℕ) (phases : List PlainPhase) → k + length phases ≡ length s.phases → first_step p s k c ≤ x → x < first_step p s (length s.phases) c → count x (marks_from p s c k phases) ≡ 1
+theirs p s c x k [] all low high =
     let here : k ≡ length s.phases = omega (arith, all) in
-    absurd (omega (arith, low, high, ap (λ n. first_step 0 s n c) here))
-theirs s c x k (phase ∷ phases) all low high =
-    let first : ℕ = first_step 0 s k c in
-    let steps : ℕ = steps_in 0 s k c in
-    let next : first_step 0 s (k + 1) c ≡ first + steps = first_next s k c (omega (arith, all)) in
-    let whole = count_append x (caller_part 0 s k c) (marks_from 0 s c (k + 1) phases) in
-    let part = part_counted s k c x in
+    absurd (omega (arith, low, high, ap (λ n. first_step p s n c) here))
+theirs p s c x k (phase ∷ phases) all low high =
+    let first : ℕ = first_step p s k c in
+    let steps : ℕ = steps_in p s k c in
+    let next : first_step p s (k + 1) c ≡ first + steps = first_next p s k c (omega (arith, all)) in
+    let whole = count_append x (caller_part p s k c) (marks_from p s c (k + 1) phases) in
+    let part = part_counted p s k c x in
     let rest : k + 1 + length phases ≡ length s.phases = omega (arith, all) in
     ⊎_elim
-    (λ (own : x < first + steps). omega (arith, whole, part, among_them first steps x low own, earlier s c x (k + 1) phases rest (omega (arith, next, own))))
-    (λ (later : first + steps ≤ x). omega (arith, whole, part, after_all first steps x later, theirs s c x (k + 1) phases rest (omega (arith, next, later)) high))
+    (λ (own : x < first + steps). omega (arith, whole, part, among_them first steps x low own, earlier p s c x (k + 1) phases rest (omega (arith, next, own))))
+    (λ (later : first + steps ≤ x). omega (arith, whole, part, after_all first steps x later, theirs p s c x (k + 1) phases rest (omega (arith, next, later)) high))
     (cases_lt x (first + steps))
 
 -- ---- one answer
@@ -191,21 +221,21 @@ once es c x [] is one = absurd (omega (arith, one))
 once es c x (a ∷ []) is one = record { answer = a; once = is; printed = one_answer_in es c x a is }
 once es c x (a ∷ b ∷ more) is one = absurd (omega (arith, one))
 
-pub answered_once : (session : PlainSession) (run : PortRun) (t : Terminal) → IsLegal 0 session run t → (c step : ℕ) (call : PlainCall) → call_at 0 session c step ≡ Some call → IsAnsweredOnce (entries_of run.journal.items) c step
-answered_once session run t h c step call is =
+pub answered_once : (p : ℕ) (session : PlainSession) (run : PortRun) (t : Terminal) → IsLegal p session run t → (c step : ℕ) (call : PlainCall) → call_at p session c step ≡ Some call → IsAnsweredOnce (entries_of run.journal.items) c step
+answered_once p session run t h c step call is =
     let es : List PlainEntry = entries_of run.journal.items in
-    let all : first_step 0 session (length session.phases) c ≡ length (calls_of (scripts_over 0 session.phases) (name_at 0 session c)) =
-    ap (λ phases. length (calls_of (scripts_over 0 phases) (name_at 0 session c))) (take_all (length session.phases) session.phases (omega arith))
+    let all : first_step p session (length session.phases) c ≡ length (calls_of (scripts_over p session.phases) (name_at p session c)) =
+    ap (λ phases. length (calls_of (scripts_over p phases) (name_at p session c))) (take_all (length session.phases) session.phases (omega arith))
     in
-    let below : step < first_step 0 session (length session.phases) c = omega (arith, all, slice_get_within (calls_of (scripts_over 0 session.phases) (name_at 0 session c)) step call is) in
-    let marks = finished_callers 0 session run.line.overruns.items c 0 session.phases es h.finished in
+    let below : step < first_step p session (length session.phases) c = omega (arith, all, slice_get_within (calls_of (scripts_over p session.phases) (name_at p session c)) step call is) in
+    let marks = finished_callers p session run.line.overruns.items c 0 session.phases es h.account.finished in
     let one : length (answers_to es c step) ≡ 1 =
-    answers_counted c step es ∙ ap (count step) marks ∙ theirs session c step 0 session.phases (omega arith) (omega (arith, none_before session c)) below
+    answers_counted c step es ∙ ap (count step) marks ∙ theirs p session c step 0 session.phases (omega arith) (omega (arith, none_before p session c)) below
     in
     once es c step (answers_to es c step) refl one
   where
-    none_before : (s : PlainSession) (c : ℕ) → first_step 0 s 0 c ≡ 0
-    none_before s c = first_none (name_at 0 s c)
+    none_before : (p : ℕ) (s : PlainSession) (c : ℕ) → first_step p s 0 c ≡ 0
+    none_before p s c = first_none (name_at p s c)
       where
         first_none : (name : Option (List ℕ)) → length (calls_of [] name) ≡ 0
         first_none None = refl

@@ -1,15 +1,3 @@
-mod Acts
 mod Answered
-mod Calling
-mod Finished
-mod Flushing
-mod Moved
-mod Names
-mod OnePhase
 mod Outcomes
-mod Parts
-mod Phases
-mod Received
-mod RunOne
-mod Sizes
-mod Stages
+mod Words

@@ -1,19 +1,40 @@
 -- How a call of the program ends: its words, its status, and the line that it gives.
-use Rattle.std.specs.Prelude.{◌≡◌, ◌≢◌, ◌≤◌, map, ℕ, List, [], ◌∷◌, ◌++◌, Option, Some, codes, IfSome, ◌==◌, if◌then◌else◌}
+use Rattle.std.specs.Prelude.{◌≡◌, ◌≢◌, ◌≤◌, ◌⊎◌, map, ℕ, List, [], ◌∷◌, ◌++◌, Bool, true, false, Option, Some, codes, decimal, IfSome, ◌==◌, if◌then◌else◌}
 use denote.Ref.{Bor}
 use Rattle.tty_base.specs.Outside.{Rose, TookCount}
+use Rattle.session_text.specs.declared.faults.Reason.{Reason}
+use Rattle.session_text.specs.declared.faults.Reason.TheVariants.{Header, Word, Number, Hex, Order, Limit}
+use Rattle.session_text.specs.declared.faults.BadLine.{BadLine}
+use Rattle.session_print.specs.Lines.{newline}
 use Rattle.tty_run.specs.declared.top.Ending.{Ending}
 use Rattle.tty_run.specs.declared.top.Ending.TheVariants.{Done, BadSession, BadWords, ReadFault, TooLong, JournalFull}
 
--- the words `run --one`
-abbrev pub IsRunOne : List (List ℕ) → Type 0
-IsRunOne words = words ≡ codes "run" ∷ codes "--one" ∷ []
+-- the words that ask for a session to be played on one thread, with its journals or without them
+abbrev pub Ask : Bool → List (List ℕ) → Type 0
+Ask false words = words ≡ codes "run" ∷ codes "--one" ∷ []
+Ask true words =
+    (words ≡ codes "run" ∷ codes "--one" ∷ codes "--journal" ∷ []) ⊎ (words ≡ codes "run" ∷ codes "--journal" ∷ codes "--one" ∷ [])
 
--- the line of a status that refuses
+-- words of the program
+abbrev pub AreKnown : List (List ℕ) → Type 0
+AreKnown words = (journals : Bool) × Ask journals words
+
+abbrev pub reason_name : Reason → List ℕ
+reason_name Header = codes "header"
+reason_name Word = codes "word"
+reason_name Number = codes "number"
+reason_name Hex = codes "hex"
+reason_name Order = codes "order"
+reason_name Limit = codes "limit"
+
+-- the line that tells the first wrong line of a text
+abbrev pub bad_session_line : BadLine → List ℕ
+bad_session_line bad = codes "bad session line " ++ (decimal bad.line ++ (codes ": " ++ (reason_name bad.reason ++ newline)))
+
+-- the line of a status that refuses without having read a session
 abbrev pub line_of : ℕ → List ℕ
 line_of status =
-    if status == 1 then codes "bad session\n"
-    else if status == 2 then codes "bad words\n"
+    if status == 2 then codes "bad words\n"
     else if status == 3 then codes "read fault\n"
     else if status == 6 then codes "session too long\n"
     else if status == 8 then codes "journal full\n"
@@ -31,21 +52,22 @@ texts_of words = map (λ word. word.now) words
 abbrev pub Adds : List ℕ → Option (List ℕ) → Type 0
 Adds before given = (more : List ℕ) × (given ≡ Some (before ++ more))
 
--- what a sink was given at a status: at 0 a text, at 4 the front of one, else the line of the status
+-- What a sink was given at a status: at 0 a text, at 1 the line of a text that was refused, at 4 the front of what was to be given,
+-- else the line of the status.
 abbrev pub IsTold : ℕ → List ℕ → Option (List ℕ) → Type 0
-IsTold status before given = Adds before given × (status ≢ 0 → status ≢ 4 → given ≡ Some (before ++ line_of status))
+IsTold status before given = Adds before given × (status ≢ 0 → status ≢ 1 → status ≢ 4 → given ≡ Some (before ++ line_of status))
 
 abbrev pub status_of : Ending → ℕ
-status_of (Done report) = 0
-status_of BadSession = 1
+status_of (Done text) = 0
+status_of (BadSession line) = 1
 status_of BadWords = 2
 status_of ReadFault = 3
 status_of TooLong = 6
 status_of JournalFull = 8
 
 abbrev pub text_of : Ending → List ℕ
-text_of (Done report) = report.items
-text_of BadSession = line_of 1
+text_of (Done text) = text.items
+text_of (BadSession line) = line.items
 text_of BadWords = line_of 2
 text_of ReadFault = line_of 3
 text_of TooLong = line_of 6
@@ -57,8 +79,8 @@ IsShort before now = IfSome before (λ bytes. TookCount 4194305 bytes now → �
 
 -- what an ending says of the source that was read: its faults and the bytes left, before and now
 abbrev pub IsOfSource : Ending → ℕ → ℕ → Option (List ℕ) → Option (List ℕ) → Type 0
-IsOfSource (Done report) faults now left rest = IsShort left rest
-IsOfSource BadSession faults now left rest = IsShort left rest
+IsOfSource (Done text) faults now left rest = IsShort left rest
+IsOfSource (BadSession line) faults now left rest = IsShort left rest
 IsOfSource BadWords faults now left rest = ⊥
 IsOfSource ReadFault faults now left rest = Rose faults now × IsShort left rest
 IsOfSource TooLong faults now left rest = IfSome left (λ bytes. TookCount 4194305 bytes rest)

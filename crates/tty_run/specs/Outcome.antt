@@ -1,49 +1,76 @@
--- What a call of the program came to: the session that was read, its run, and the text that was given.
-use Rattle.std.specs.Prelude.{◌≡◌, ◌≢◌, ◌⊎◌, ℕ, List, [], ◌∷◌, ◌++◌, Option, Some, length, flat_map, option_to_list, IfSome, MatchBool, ◌==◌}
+-- What a call of the program came to: the session that was read, its runs, and the text that was given.
+use Rattle.std.specs.Prelude.{◌≡◌, ◌≢◌, ◌⊎◌, ◌≤◌, ℕ, List, [], ◌∷◌, ◌++◌, Bool, true, false, Option, Some, length, flat_map, option_to_list, slice_get, IfSome, MatchBool, ◌==◌}
+use Rattle.std.specs.List.{list_any}
 use Rattle.tty_base.specs.Outside.{Rose, TookCount, GivesFront}
-use Rattle.first_calls.specs.declared.journals.PortRun.{PortRun}
-use Rattle.first_calls.specs.Plain.{PlainAnswer, PlainEntry, entries_of}
-use Rattle.first_calls.specs.Sessions.{PlainSession}
-use Rattle.first_terminal.specs.Terminals.{Terminal}
-use Rattle.first_text.specs.Grammar.{Spells}
-use Rattle.first_print.specs.Ends.{PlainEnd}
-use Rattle.first_print.specs.Report.{answer_by, answer_in, report_text}
-use Rattle.tty_run.specs.Endings.{IsRunOne, line_of}
-use Rattle.tty_run.specs.Legal.{IsLegal, IsOnTheWay}
+use Rattle.tty_calls.specs.declared.journals.PortRun.{PortRun}
+use Rattle.tty_calls.specs.Plain.{PlainAnswer, PlainEntry, entries_of}
+use Rattle.tty_calls.specs.Sessions.{PlainSession}
+use Rattle.tty_terminal.specs.Terminals.{Terminal}
+use Rattle.session_text.specs.declared.faults.BadLine.{BadLine}
+use Rattle.session_text.specs.Refusals.{refusal}
+use Rattle.session_text.specs.Grammar.{Spells}
+use Rattle.session_print.specs.Ends.{PlainEnd}
+use Rattle.session_print.specs.Report.{answer_by, answer_in, play_text}
+use Rattle.journal_check.specs.Legal.{IsLegal}
+use Rattle.journal_check.specs.Short.{IsCutShort}
+use Rattle.one_thread.specs.Order.{IsInOneOrder}
+use Rattle.tty_run.specs.Endings.{Ask, AreKnown, line_of, bad_session_line}
 
 -- what a report says of the end of a terminal
 abbrev pub end_at : Terminal → PlainEnd
-end_at t = record { counts = t.counts; signals = t.signals; generation = t.generation; wire = t.wire }
+end_at t = record { counts = t.tally.counts; signals = t.tally.signals.items; generation = t.generation; wire = t.output.wire }
 
--- The run of the only port is legal, and leaves room in its journal; the text is the report of the
--- session, of this run, and of the terminal to which its journal leads.
-pub record IsReported (session : PlainSession) (runs : List PortRun) (text : List ℕ) : Type 0 where
-  pub run : PortRun
+-- some journal has as many entries as a journal can have
+abbrev pub has_full_journal : List PortRun → Bool
+has_full_journal runs = list_any (λ run. length run.journal.items == 4194304) runs
+
+-- The run of a port is legal and in the order of one thread, and this is the end of the terminal to which it leads.
+pub record IsWhole (p : ℕ) (session : PlainSession) (run : PortRun) (end : PlainEnd) : Type 0 where
   pub terminal : Terminal
-  pub only : runs ≡ run ∷ []
-  pub legal : IsLegal 0 session run terminal
-  pub room : length run.journal.items ≢ 4194304
-  pub told : text ≡ report_text session run (end_at terminal)
+  pub at_end : end ≡ end_at terminal
+  pub legal : IsLegal p session run terminal
+  pub in_order : IsInOneOrder p session (entries_of run.journal.items) run.line.overruns.items
 
--- The journal of the only port is full, and is a run of the session as far as it went.
-pub record IsCutShort (session : PlainSession) (runs : List PortRun) : Type 0 where
-  pub run : PortRun
+-- The runs are those of the session's ports, one of each, each of them whole and none with a full journal. The text is that of the
+-- session, of these runs, and of their ends.
+pub record IsReported (journals : Bool) (session : PlainSession) (runs : List PortRun) (text : List ℕ) : Type 0 where
+  pub ends : List PlainEnd
+  pub runs_of_all : length runs ≡ session.ports
+  pub ends_of_all : length ends ≡ session.ports
+  pub each : (p : ℕ) (run : PortRun) (end : PlainEnd) → slice_get runs p ≡ Some run → slice_get ends p ≡ Some end → IsWhole p session run end
+  pub room : has_full_journal runs ≡ false
+  pub told : text ≡ play_text journals session runs ends
+
+-- The run of a port as far as it went; where its journal is not full it is whole.
+pub record IsPartly (p : ℕ) (session : PlainSession) (run : PortRun) : Type 0 where
   pub terminal : Terminal
-  pub only : runs ≡ run ∷ []
-  pub full : length run.journal.items ≡ 4194304
-  pub on_the_way : IsOnTheWay 0 session (entries_of run.journal.items) terminal
+  pub short : IsCutShort p session run terminal
+  pub few : length run.journal.items ≤ 4194304
+  pub whole : length run.journal.items ≢ 4194304 → IsWhole p session run (end_at terminal)
 
--- A session was played: the text that was read, which is all that the source had left, spells it.
+-- The runs are those of the session's ports, one of each, as far as they went, and some journal is full.
+pub record AreCutShort (session : PlainSession) (runs : List PortRun) : Type 0 where
+  pub runs_of_all : length runs ≡ session.ports
+  pub each : (p : ℕ) (run : PortRun) → slice_get runs p ≡ Some run → IsPartly p session run
+  pub full : has_full_journal runs ≡ true
+
+-- a text that was read is all that the source had left, where it tells
+abbrev pub IsAllOf : Option (List ℕ) → List ℕ → Type 0
+IsAllOf left read = IfSome left (λ bytes. read ≡ bytes)
+
+-- A session was played: the text that was read spells it.
 pub record IsPlayed (left : Option (List ℕ)) (EndsBy : PlainSession → Type 0) : Type 0 where
   pub read : List ℕ
   pub session : PlainSession
-  pub whole : IfSome left (λ bytes. read ≡ bytes)
+  pub whole : IsAllOf left read
   pub spelled : Spells read session
   pub ends : EndsBy session
 
--- where the source tells its bytes, they spell no session
-abbrev pub SpellsNone : Option (List ℕ) → Type 0
-SpellsNone left = IfSome left (λ bytes. (session : PlainSession) → Spells bytes session → ⊥)
+-- The text that was read spells no session, and this is its first wrong line.
+pub record IsRefused (left : Option (List ℕ)) (bad : BadLine) : Type 0 where
+  pub read : List ℕ
+  pub whole : IsAllOf left read
+  pub refused : refusal read ≡ Some bad
 
 -- where the sink tells what it was given, it was given this text, or a front of it
 abbrev pub WasGiven : Option (List ℕ) → Option (List ℕ) → List ℕ → Type 0
@@ -52,31 +79,45 @@ WasGiven before now text = IfSome before (λ bytes. now ≡ Some (bytes ++ text)
 abbrev pub WasGivenFront : Option (List ℕ) → Option (List ℕ) → List ℕ → Type 0
 WasGivenFront before now text = IfSome before (λ bytes. GivesFront bytes text now)
 
--- the cause of a status that refuses: the words, the faults of the source, and what it has left, before and now
+-- A text that was refused was told as that.
+pub record IsToldRefused (left before now : Option (List ℕ)) : Type 0 where
+  pub bad : BadLine
+  pub refused : IsRefused left bad
+  pub given : WasGiven before now (bad_session_line bad)
+
+-- A session was played, and its text given, with its journals where the words ask for them.
+pub record IsDone (words : List (List ℕ)) (left before now : Option (List ℕ)) (runs : List PortRun) : Type 0 where
+  pub journals : Bool
+  pub text : List ℕ
+  pub asked : Ask journals words
+  pub played : IsPlayed left (λ session. IsReported journals session runs text)
+  pub given : WasGiven before now text
+
+-- the cause of a status that refuses before a session is read: the words, the faults of the source, and what it has left, before and
+-- now
 abbrev pub Cause : List (List ℕ) → ℕ → ℕ → Option (List ℕ) → Option (List ℕ) → ℕ → Type 0
 Cause words faults now left rest status =
-    MatchBool (status == 1) (SpellsNone left) (
-    MatchBool (status == 2) (IsRunOne words → ⊥) (
+    MatchBool (status == 2) (AreKnown words → ⊥) (
     MatchBool (status == 3) (Rose faults now) (MatchBool (status == 6) (IfSome left (λ bytes. TookCount 4194305 bytes rest)) ⊥)
     )
-    )
 
--- A text could not be given whole: the line of a status that has its cause; the report of a run; or the
--- line of a full journal.
+-- A text could not be given whole: the line of a status that has its cause; the line of a text that was refused; the text of a
+-- session that was played; or the line of a full journal.
 pub data IsBroken (words : List (List ℕ)) (faults faults' : ℕ) (left rest before now : Option (List ℕ)) (runs : List PortRun) : Type 0 where
   breaks_line : (status : ℕ) → Cause words faults faults' left rest status → runs ≡ [] → WasGivenFront before now (line_of status) → IsBroken words faults faults' left rest before now runs
-  breaks_report : (text : List ℕ) → IsPlayed left (λ session. IsReported session runs text) → WasGivenFront before now text → IsBroken words faults faults' left rest before now runs
-  breaks_full : IsPlayed left (λ session. IsCutShort session runs) → WasGivenFront before now (line_of 8) → IsBroken words faults faults' left rest before now runs
+  breaks_refusal : (bad : BadLine) → IsRefused left bad → runs ≡ [] → WasGivenFront before now (bad_session_line bad) → IsBroken words faults faults' left rest before now runs
+  breaks_text : (journals : Bool) (text : List ℕ) → Ask journals words → IsPlayed left (λ session. IsReported journals session runs text) → WasGivenFront before now text → IsBroken words faults faults' left rest before now runs
+  breaks_full : IsPlayed left (λ session. AreCutShort session runs) → WasGivenFront before now (line_of 8) → IsBroken words faults faults' left rest before now runs
 
--- no journal is full
-abbrev pub LeaveRoom : List PortRun → Type 0
-LeaveRoom [] = Unit {0}
-LeaveRoom (run ∷ runs) = (length run.journal.items ≢ 4194304) × LeaveRoom runs
+-- the status, unless the text could not be given or memory was wanting
+abbrev pub IsStatusOr : ℕ → ℕ → Type 0
+IsStatusOr wanted status = (status ≡ wanted) ⊎ ((status ≡ 4) ⊎ (status ≡ 5))
 
--- a text that spells a session is played, and one that spells none is refused, unless memory was wanting
+-- A text that spells a session is played, and a full journal told; one that is refused is told as that.
 pub record Completes (bytes : List ℕ) (status : ℕ) (runs : List PortRun) : Type 0 where
-  pub played : (session : PlainSession) → Spells bytes session → LeaveRoom runs → (status ≡ 0) ⊎ (status ≡ 5)
-  pub refused : ((session : PlainSession) → Spells bytes session → ⊥) → (status ≡ 1) ⊎ (status ≡ 5)
+  pub played : (session : PlainSession) → Spells bytes session → has_full_journal runs ≡ false → IsStatusOr 0 status
+  pub full : (session : PlainSession) → Spells bytes session → has_full_journal runs ≡ true → IsStatusOr 8 status
+  pub refused : (bad : BadLine) → refusal bytes ≡ Some bad → IsStatusOr 1 status
 
 -- all answers of a journal to a caller's step
 abbrev pub answers_to : List PlainEntry → ℕ → ℕ → List PlainAnswer

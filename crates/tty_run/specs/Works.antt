@@ -1,48 +1,55 @@
 -- What the work on a session came to, by its ending and its runs: for private functions alone.
-use Rattle.std.specs.Prelude.{◌≡◌, ◌≢◌, ℕ, List, [], Option, length}
-use Rattle.first_calls.specs.declared.journals.PortRun.{PortRun}
-use Rattle.first_calls.specs.Sessions.{PlainSession}
-use Rattle.first_text.specs.Grammar.{Spells}
-use Rattle.first_print.specs.Ends.{end_of}
-use Rattle.first_print.specs.Report.{report_text}
-use Rattle.tty_run.specs.declared.one_thread.Played.{Played}
+use Rattle.std.specs.Prelude.{◌≡◌, ℕ, List, [], Bool, true, false, Option, Some, map}
+use Rattle.tty_calls.specs.declared.journals.PortRun.{PortRun}
+use Rattle.tty_calls.specs.Sessions.{PlainSession}
+use Rattle.session_text.specs.declared.faults.BadLine.{BadLine}
+use Rattle.session_text.specs.Refusals.{refusal}
+use Rattle.session_text.specs.Grammar.{Spells}
+use Rattle.session_print.specs.Ends.{end_of}
+use Rattle.session_print.specs.Report.{play_text}
+use Rattle.one_thread.specs.declared.playing.Played.{Played}
 use Rattle.tty_run.specs.declared.top.Ending.{Ending}
 use Rattle.tty_run.specs.declared.top.Ending.TheVariants.{Done, BadSession, BadWords, ReadFault, TooLong, JournalFull}
-use Rattle.tty_run.specs.Outcome.{IsReported, IsCutShort, IsPlayed, SpellsNone}
+use Rattle.tty_run.specs.Endings.{bad_session_line}
+use Rattle.tty_run.specs.Outcome.{IsReported, AreCutShort, IsPlayed, IsRefused, has_full_journal}
 
 -- of what was played
-abbrev pub IsEndingOf : PlainSession → Played → Ending → Type 0
-IsEndingOf session played (Done report) =
-    (length played.run.journal.items ≢ 4194304) × (report.items ≡ report_text session played.run (end_of played.end))
-IsEndingOf session played BadSession = ⊥
-IsEndingOf session played BadWords = ⊥
-IsEndingOf session played ReadFault = ⊥
-IsEndingOf session played TooLong = ⊥
-IsEndingOf session played JournalFull = length played.run.journal.items ≡ 4194304
+abbrev pub IsEndingOf : Bool → PlainSession → Played → Ending → Type 0
+IsEndingOf journals session played (Done text) =
+    (has_full_journal played.runs.items ≡ false) × (text.items ≡ play_text journals session played.runs.items (map end_of played.ends.items))
+IsEndingOf journals session played (BadSession line) = ⊥
+IsEndingOf journals session played BadWords = ⊥
+IsEndingOf journals session played ReadFault = ⊥
+IsEndingOf journals session played TooLong = ⊥
+IsEndingOf journals session played JournalFull = has_full_journal played.runs.items ≡ true
 
 -- of a session
-abbrev pub IsSessionWork : PlainSession → Ending → List PortRun → Type 0
-IsSessionWork session (Done report) runs = IsReported session runs report.items
-IsSessionWork session BadSession runs = ⊥
-IsSessionWork session BadWords runs = ⊥
-IsSessionWork session ReadFault runs = ⊥
-IsSessionWork session TooLong runs = ⊥
-IsSessionWork session JournalFull runs = IsCutShort session runs
+abbrev pub IsSessionWork : Bool → PlainSession → Ending → List PortRun → Type 0
+IsSessionWork journals session (Done text) runs = IsReported journals session runs text.items
+IsSessionWork journals session (BadSession line) runs = ⊥
+IsSessionWork journals session BadWords runs = ⊥
+IsSessionWork journals session ReadFault runs = ⊥
+IsSessionWork journals session TooLong runs = ⊥
+IsSessionWork journals session JournalFull runs = AreCutShort session runs
+
+-- a text's first wrong line, told by this line
+abbrev pub IsLineOf : List ℕ → List ℕ → Type 0
+IsLineOf text line = (bad : BadLine) × (refusal text ≡ Some bad) × (line ≡ bad_session_line bad)
 
 -- of a text
-abbrev pub IsTextWork : List ℕ → Ending → List PortRun → Type 0
-IsTextWork text (Done report) runs = (session : PlainSession) × Spells text session × IsReported session runs report.items
-IsTextWork text BadSession runs = (runs ≡ []) × ((session : PlainSession) → Spells text session → ⊥)
-IsTextWork text BadWords runs = ⊥
-IsTextWork text ReadFault runs = ⊥
-IsTextWork text TooLong runs = ⊥
-IsTextWork text JournalFull runs = (session : PlainSession) × Spells text session × IsCutShort session runs
+abbrev pub IsTextWork : Bool → List ℕ → Ending → List PortRun → Type 0
+IsTextWork journals text (Done report) runs = (session : PlainSession) × Spells text session × IsReported journals session runs report.items
+IsTextWork journals text (BadSession line) runs = (runs ≡ []) × IsLineOf text line.items
+IsTextWork journals text BadWords runs = ⊥
+IsTextWork journals text ReadFault runs = ⊥
+IsTextWork journals text TooLong runs = ⊥
+IsTextWork journals text JournalFull runs = (session : PlainSession) × Spells text session × AreCutShort session runs
 
 -- of all that a source had left
-abbrev pub IsWork : Option (List ℕ) → Ending → List PortRun → Type 0
-IsWork left (Done report) runs = IsPlayed left (λ session. IsReported session runs report.items)
-IsWork left BadSession runs = (runs ≡ []) × SpellsNone left
-IsWork left BadWords runs = runs ≡ []
-IsWork left ReadFault runs = runs ≡ []
-IsWork left TooLong runs = runs ≡ []
-IsWork left JournalFull runs = IsPlayed left (λ session. IsCutShort session runs)
+abbrev pub IsWork : Bool → Option (List ℕ) → Ending → List PortRun → Type 0
+IsWork journals left (Done report) runs = IsPlayed left (λ session. IsReported journals session runs report.items)
+IsWork journals left (BadSession line) runs = (runs ≡ []) × ((bad : BadLine) × IsRefused left bad × (line.items ≡ bad_session_line bad))
+IsWork journals left BadWords runs = runs ≡ []
+IsWork journals left ReadFault runs = runs ≡ []
+IsWork journals left TooLong runs = runs ≡ []
+IsWork journals left JournalFull runs = IsPlayed left (λ session. AreCutShort session runs)

@@ -1,4 +1,0 @@
-pub mod Calls
-pub mod Entries
-pub mod Handing
-pub mod Standing

@@ -1,5 +1,0 @@
-mod Answering
-mod Casting
-mod Joined
-mod Numbering
-mod Putting

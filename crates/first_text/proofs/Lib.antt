@@ -1,7 +1,0 @@
-mod Digits
-pub mod Fitting
-mod Reading
-pub mod Spelled
-mod Splits
-mod Tails
-mod Taken

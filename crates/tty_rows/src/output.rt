@@ -1,0 +1,274 @@
+//! Output processing, flow control and held output.
+
+use super::rows::{Row, plays};
+use std::test::Fail;
+
+/// With opost TABs are blanks under tab3, and NL is CR NL under onlcr.
+const TABS_AND_NEWLINES: Row = Row {
+    session: "tty-session 1
+ports 1
+phase
+caller a 0
+open 0 rw nonblock
+modes 0 now raw opost onlcr tab3
+phase
+caller a 0
+write 0 6109620a0d
+end
+",
+    report: "0.a.0 open ok
+0.a.1 modes ok
+0.a.2 write 5
+port 0 line arrived=0 lost=0 sent=0 overrun=0
+port 0 input taken=0 dropped=0
+port 0 counts mark=0 parity=0 frame=0 break=0 cut=0 echo=0 pin=0 pout=0 pbad=0 pfull=0
+port 0 signals -
+port 0 generation 1
+port 0 wire 6120202020202020620d0a0d
+done
+",
+};
+
+/// CR at column 0 is nothing under onocr, and NL under ocrnl.
+const CARRIAGE_RETURNS: Row = Row {
+    session: "tty-session 1
+ports 1
+phase
+caller a 0
+open 0 rw nonblock
+modes 0 now raw opost onocr ocrnl
+phase
+caller a 0
+write 0 0d610d
+end
+",
+    report: "0.a.0 open ok
+0.a.1 modes ok
+0.a.2 write 3
+port 0 line arrived=0 lost=0 sent=0 overrun=0
+port 0 input taken=0 dropped=0
+port 0 counts mark=0 parity=0 frame=0 break=0 cut=0 echo=0 pin=0 pout=0 pbad=0 pfull=0
+port 0 signals -
+port 0 generation 1
+port 0 wire 610a
+done
+",
+};
+
+/// With iutf8 a character of two bytes has one column.
+const UTF8_COLUMN: Row = Row {
+    session: "tty-session 1
+ports 2
+phase
+caller a 0
+open 0 rw nonblock
+modes 0 now iutf8 tab3
+caller a 1
+open 0 rw nonblock
+modes 0 now tab3
+phase
+caller a 0
+write 0 c3a90962
+caller a 1
+write 0 c3a90962
+end
+",
+    report: "0.a.0 open ok
+0.a.1 modes ok
+0.a.2 write 4
+1.a.0 open ok
+1.a.1 modes ok
+1.a.2 write 4
+port 0 line arrived=0 lost=0 sent=0 overrun=0
+port 0 input taken=0 dropped=0
+port 0 counts mark=0 parity=0 frame=0 break=0 cut=0 echo=0 pin=0 pout=0 pbad=0 pfull=0
+port 0 signals -
+port 0 generation 1
+port 0 wire c3a92020202020202062
+port 1 line arrived=0 lost=0 sent=0 overrun=0
+port 1 input taken=0 dropped=0
+port 1 counts mark=0 parity=0 frame=0 break=0 cut=0 echo=0 pin=0 pout=0 pbad=0 pfull=0
+port 1 signals -
+port 1 generation 1
+port 1 wire c3a920202020202062
+done
+",
+};
+
+/// A halted port holds 4,096 bytes, and START sends them.
+const HELD_OUTPUT: Row = Row {
+    session: "tty-session 1
+ports 1
+phase
+caller a 0
+open 0 rw nonblock
+phase
+line 0
+rx 13
+caller a 0
+write 0 [61*5000]
+write 0 62
+outq 0
+phase
+line 0
+rx 11
+caller a 0
+outq 0
+end
+",
+    report: "0.a.0 open ok
+0.a.1 write 4096
+0.a.2 write EAGAIN
+0.a.3 outq 4096
+0.a.4 outq 0
+port 0 line arrived=2 lost=0 sent=2 overrun=0
+port 0 input taken=2 dropped=0
+port 0 counts mark=0 parity=0 frame=0 break=0 cut=0 echo=0 pin=0 pout=0 pbad=0 pfull=0
+port 0 signals -
+port 0 generation 1
+port 0 wire [61*4096]
+done
+",
+};
+
+/// STOP holds what is written, and under ixany any character sends it.
+const STOP_AND_ANY_CHARACTER: Row = Row {
+    session: "# STOP comes before a byte is written, so the byte is held. With ixany the next character,
+# which is read as any other, lets it go out.
+tty-session 1
+ports 1
+phase
+caller a 0
+open 0 rw nonblock
+modes 0 now raw ixon ixany
+phase
+line 0
+rx 13
+caller a 0
+write 0 61
+outq 0
+phase
+line 0
+rx 78
+caller a 0
+outq 0
+read 0 8
+end
+",
+    report: "0.a.0 open ok
+0.a.1 modes ok
+0.a.2 write 1
+0.a.3 outq 1
+0.a.4 outq 0
+0.a.5 read 1 78
+port 0 line arrived=2 lost=0 sent=2 overrun=0
+port 0 input taken=2 dropped=0
+port 0 counts mark=0 parity=0 frame=0 break=0 cut=0 echo=0 pin=0 pout=0 pbad=0 pfull=0
+port 0 signals -
+port 0 generation 1
+port 0 wire 61
+done
+",
+};
+
+/// Under ixoff STOP is sent at 4,000 unread bytes, and START when 128 are left.
+const STOP_IS_SENT: Row = Row {
+    session: "tty-session 1
+ports 1
+phase
+caller a 0
+open 0 rw nonblock
+modes 0 now raw ixoff
+phase
+line 0
+rx [61*4000]
+caller a 0
+inq 0
+read 0 3872
+end
+",
+    report: "0.a.0 open ok
+0.a.1 modes ok
+0.a.2 inq 4000
+0.a.3 read 3872 [61*3872]
+port 0 line arrived=4000 lost=0 sent=4000 overrun=0
+port 0 input taken=4000 dropped=0
+port 0 counts mark=0 parity=0 frame=0 break=0 cut=0 echo=0 pin=0 pout=0 pbad=0 pfull=0
+port 0 signals -
+port 0 generation 1
+port 0 wire 1311
+done
+",
+};
+
+/// Twenty calls of one caller, each with its answer.
+const SMALL_CALLS: Row = Row {
+    session: "tty-session 1
+ports 1
+phase
+caller a 0
+open 0 rw
+getm 0
+excl 0
+open 1 r
+nxcl 0
+open 1 r
+write 1 61
+close 5
+inq 0
+xonc 0 ooff
+write 0 6162
+outq 0
+drain 0
+xonc 0 oon
+drain 0
+xonc 0 ioff
+flush 0 both
+counts 0
+send 0 61
+take 0
+end
+",
+    report: "0.a.0 open ok
+0.a.1 getm icrnl ixon opost onlcr isig icanon echo echoe echok echoke echoctl iexten intr=3 quit=28 erase=127 kill=21 eof=4 time=0 min=1 start=17 stop=19 susp=26 eol=0 reprint=18 werase=23 lnext=22 eol2=0
+0.a.2 excl ok
+0.a.3 open EBUSY
+0.a.4 nxcl ok
+0.a.5 open ok
+0.a.6 write EBADF
+0.a.7 close EBADF
+0.a.8 inq 0
+0.a.9 xonc ok
+0.a.10 write 2
+0.a.11 outq 2
+0.a.12 drain idle
+0.a.13 xonc ok
+0.a.14 drain ok
+0.a.15 xonc ok
+0.a.16 flush ok
+0.a.17 counts mark=0 parity=0 frame=0 break=0 cut=0 echo=0 pin=0 pout=0 pbad=0 pfull=0
+0.a.18 send ENOTTY
+0.a.19 take ENOTTY
+port 0 line arrived=0 lost=0 sent=0 overrun=0
+port 0 input taken=0 dropped=0
+port 0 counts mark=0 parity=0 frame=0 break=0 cut=0 echo=0 pin=0 pout=0 pbad=0 pfull=0
+port 0 signals -
+port 0 generation 1
+port 0 wire 616213
+done
+",
+};
+
+#[test]
+fn output_is_processed_and_held(rt: HostRuntime) -> Result<(), Fail> {
+    let rows = [
+        TABS_AND_NEWLINES,
+        CARRIAGE_RETURNS,
+        UTF8_COLUMN,
+        HELD_OUTPUT,
+        STOP_AND_ANY_CHARACTER,
+        STOP_IS_SENT,
+        SMALL_CALLS,
+    ];
+    plays(&rt, rt.alloc(), &["run", "--one"], &rows)
+}

@@ -1,0 +1,167 @@
+//! Words, texts, sources and sinks that end a call of the program early.
+
+use std::alloc::{AllocError, Global};
+use std::process::Abort;
+use std::test::Fail;
+use tty_base::{Bytes, MemSink, MemSource};
+use tty_run::{Ran, tty_run};
+
+const ONE: [&str; 2] = ["run", "--one"];
+
+const THREE_BYTES: &str = "tty-session 1
+ports 1
+phase
+caller a 0
+open 0 rw nonblock
+modes 0 now raw
+phase
+line 0
+rx 68690a
+caller a 0
+read 0 64
+close 0
+end
+";
+
+const REPORT: &str = "0.a.0 open ok
+0.a.1 modes ok
+0.a.2 read 3 68690a
+0.a.3 close ok
+port 0 line arrived=3 lost=0 sent=3 overrun=0
+port 0 input taken=3 dropped=0
+port 0 counts mark=0 parity=0 frame=0 break=0 cut=0 echo=0 pin=0 pout=0 pbad=0 pfull=0
+port 0 signals -
+port 0 generation 2
+port 0 wire -
+done
+";
+
+/// How many bytes a source or a sink moves at most in one call.
+const PIECE: usize = 8;
+
+/// How many bytes a sink takes in all: more than any text here has.
+const ROOM: usize = 65_536;
+
+/// The longest text that is read.
+const LONGEST: usize = 4_194_304;
+
+fn source_of(alloc: Global, text: &[u8], fails: Vec<u32>) -> Result<MemSource, AllocError> {
+    let bytes = Bytes::from_vec(text.to_vec(alloc)?);
+    Ok(MemSource::new(bytes, PIECE, fails))
+}
+
+/// These words are told as bad words.
+fn are_bad(rt: &impl Abort, alloc: Global, words: &[&str]) -> Result<(), Fail> {
+    let mut source = source_of(alloc, THREE_BYTES.as_bytes(), Vec::new(alloc))?;
+    let mut sink = MemSink::new(alloc, PIECE, ROOM, Vec::new(alloc))?;
+    let Ran { status, .. } = tty_run(alloc, words, &mut source, &mut sink);
+    assert_eq!(rt; status, 2);
+    assert_eq!(rt; sink.given(), b"bad words\n".as_slice());
+    Ok(())
+}
+
+#[test]
+fn other_words_are_bad(rt: HostRuntime) -> Result<(), Fail> {
+    let alloc = rt.alloc();
+    are_bad(&rt, alloc, &[])?;
+    are_bad(&rt, alloc, &["run", "--two"])?;
+    are_bad(&rt, alloc, &["run", "--one", "--one"])?;
+    are_bad(&rt, alloc, &["run", "--journal", "--journal"])?;
+    are_bad(&rt, alloc, &["gen", "07"])
+}
+
+#[test]
+fn the_first_wrong_line_is_told(rt: HostRuntime) -> Result<(), Fail> {
+    let alloc = rt.alloc();
+    for (text, told) in [
+        ("", "bad session line 1: order\n"),
+        ("tty-session 3\n", "bad session line 1: header\n"),
+        (
+            "tty-session 1\nports 1\nphase\nline 0\nrx 686",
+            "bad session line 5: hex\n",
+        ),
+        (
+            "tty-session 1\nports 1\nphase\ncaller a 0\nread 0 01\n",
+            "bad session line 5: number\n",
+        ),
+        (
+            "tty-session 1\nports 1\nflip 0 64\n",
+            "bad session line 3: word\n",
+        ),
+        (
+            "tty-session 2\nports 1\nflip 0 63\n",
+            "bad session line 3: limit\n",
+        ),
+        (
+            "tty-session 2\nports 1\nflip 1 64\n",
+            "bad session line 3: limit\n",
+        ),
+        (
+            "tty-session 2\nports 1\nflip 0 64\nflip 0 64\n",
+            "bad session line 4: order\n",
+        ),
+    ] {
+        let mut source = source_of(alloc, text.as_bytes(), Vec::new(alloc))?;
+        let mut sink = MemSink::new(alloc, PIECE, ROOM, Vec::new(alloc))?;
+        let Ran { status, .. } = tty_run(alloc, &ONE, &mut source, &mut sink);
+        assert_eq!(rt; status, 1, "at {text:?}");
+        assert_eq!(rt; sink.given(), told.as_bytes());
+    }
+    Ok(())
+}
+
+#[test]
+fn one_byte_more_than_the_longest_text_is_too_long(rt: HostRuntime) -> Result<(), Fail> {
+    let alloc = rt.alloc();
+    for (more, ended, told) in [
+        (0, 1, "bad session line 2: order\n"),
+        (1, 6, "session too long\n"),
+    ] {
+        let comment = vec![in alloc; b'#'; LONGEST + more]?;
+        let mut source = MemSource::new(Bytes::from_vec(comment), LONGEST, Vec::new(alloc));
+        let mut sink = MemSink::new(alloc, PIECE, ROOM, Vec::new(alloc))?;
+        let Ran { status, .. } = tty_run(alloc, &ONE, &mut source, &mut sink);
+        assert_eq!(rt; status, ended);
+        assert_eq!(rt; sink.given(), told.as_bytes());
+    }
+    Ok(())
+}
+
+#[test]
+fn a_source_that_fails_is_told_at_each_read(rt: HostRuntime) -> Result<(), Fail> {
+    let alloc = rt.alloc();
+    for read in 0..=THREE_BYTES.len() / PIECE {
+        let fails = vec![in alloc; read as u32]?;
+        let mut source = source_of(alloc, THREE_BYTES.as_bytes(), fails)?;
+        let mut sink = MemSink::new(alloc, PIECE, ROOM, Vec::new(alloc))?;
+        let Ran { status, .. } = tty_run(alloc, &ONE, &mut source, &mut sink);
+        assert_eq!(rt; status, 3, "at read {read}");
+        assert_eq!(rt; sink.given(), b"read fault\n".as_slice());
+    }
+    Ok(())
+}
+
+#[test]
+fn a_sink_that_fails_has_the_front_of_the_report(rt: HostRuntime) -> Result<(), Fail> {
+    let alloc = rt.alloc();
+    for write in 0..REPORT.len() / PIECE {
+        let mut source = source_of(alloc, THREE_BYTES.as_bytes(), Vec::new(alloc))?;
+        let fails = vec![in alloc; write as u32]?;
+        let mut sink = MemSink::new(alloc, PIECE, ROOM, fails)?;
+        let Ran { status, .. } = tty_run(alloc, &ONE, &mut source, &mut sink);
+        assert_eq!(rt; status, 4, "at write {write}");
+        let front = REPORT.as_bytes().get(..write * PIECE);
+        assert!(rt; front == Some(sink.given()), "at write {write}");
+    }
+    for room in 0..REPORT.len() {
+        let mut source = source_of(alloc, THREE_BYTES.as_bytes(), Vec::new(alloc))?;
+        let mut sink = MemSink::new(alloc, PIECE, room, Vec::new(alloc))?;
+        let Ran { status, .. } = tty_run(alloc, &ONE, &mut source, &mut sink);
+        assert_eq!(rt; status, 4, "with room for {room}");
+        assert!(rt;
+            REPORT.as_bytes().get(..room) == Some(sink.given()),
+            "with room for {room}"
+        );
+    }
+    Ok(())
+}
