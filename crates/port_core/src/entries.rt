@@ -4,7 +4,7 @@
 ghost use Rattle.std.specs.Prelude.{◌≡◌, ◌≤◌, ◌<◌, [], ◌∷◌, ◌++◌, true, false, IfOk, IfErr, OnOk, IsSome, vec_len};
 ghost use Rattle.tty_calls.specs.declared.journals.Who.TheVariants.{Caller};
 ghost use Rattle.tty_calls.specs.Plain.{call_of};
-ghost use Rattle.tty_terminal.specs.Meeting.{IsRoomFor, room_for};
+ghost use Rattle.tty_terminal.specs.Meeting.{IsRoomFor, room_for, room_for_call};
 ghost use Rattle.port_core.specs.Kept.{IsCopyOf, kept_after, places_after};
 
 use std::alloc::Global;
@@ -137,7 +137,7 @@ fn copy_to_keep(alloc: Global, kept: &mut Buffer<KeptCall>, call: &Call) -> Resu
 fn room_for_call(alloc: Global, terminal: &mut Terminal, call: &Call) -> Result<Room, NoMemory>
     ensures same { terminal.new.terminal ≡ terminal.old.terminal }
     ensures room { IfOk result (λ room. IsRoomFor terminal.new.terminal (call_of call.now) room) }
-    ensures wire { OnOk result (4097 ≤ terminal.new.wire_room) }
+    ensures wire { OnOk result (room_for_call ≤ terminal.new.wire_room) }
 {
     terminal.reserve(ROOM_FOR_CALL, 0)?;
     terminal.make_room(alloc, call)
@@ -153,7 +153,7 @@ pub(crate) fn prepare(
     call: &Call,
 ) -> Result<Prepared, Denied>
     ensures terminal { terminal.new.terminal ≡ terminal.old.terminal }
-    ensures wire { OnOk result (4097 ≤ terminal.new.wire_room) }
+    ensures wire { OnOk result (room_for_call ≤ terminal.new.wire_room) }
     ensures items { kept.new.items ≡ kept.old.items }
     ensures kept { IfOk result (λ p. IsCopyOf begun (call_of call.now) p.copy) }
     ensures spare { OnOk result (begun ≡ false → 0 < kept.new.spare) }

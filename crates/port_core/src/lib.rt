@@ -10,3 +10,6 @@ mod ports;
 pub use ports::Port;
 pub use ports::attempting::Tried;
 pub use ports::flushing::Flushed;
+
+#[cfg(test)]
+mod tests;

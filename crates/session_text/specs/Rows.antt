@@ -40,6 +40,9 @@ refused_rows =
     refused_at 2 Number (codes "tty-session 1\nports one\n") ∷
     refused_at 2 Order (codes "tty-session 1\nphase\n") ∷
     refused_at 3 Order (codes "tty-session 1\nports 1\nports 1\n") ∷
+    refused_at 2 Number (codes "tty-session 1\nports 01\n") ∷
+    refused_at 2 Word (codes "tty-session 1\nports 1 2\n") ∷
+    refused_at 2 Word (codes "tty-session 1\nports,1\n") ∷
     -- the place is tested by the first word alone, and before the number of words
     refused_at 4 Order (codes "tty-session 1\nports 1\nphase\nrx 61\n") ∷
     refused_at 4 Order (codes "tty-session 1\nports 1\nphase\nrx\n") ∷
@@ -47,12 +50,19 @@ refused_rows =
     refused_at 3 Order (codes "tty-session 1\nports 1\ntty-session 9\n") ∷
     refused_at 3 Word (codes "tty-session 1\nports 1\nend x\n") ∷
     refused_at 5 Word (codes "tty-session 1\nports 1\nphase\nline 0\nrxx 61\n") ∷
+    refused_at 5 Order (codes "tty-session 1\nports 1\nphase\nline 0\ntick 1\n") ∷
+    refused_at 5 Order (codes "tty-session 1\nports 1\nphase\ncaller a 0\nbreak\n") ∷
+    refused_at 3 Word (codes "tty-session 1\nports 1\nphase 1\n") ∷
     -- the end
     refused_at 5 Order (codes "tty-session 1\nports 1\nphase\nend\nphase\n") ∷
     refused_at 5 Order (codes "tty-session 1\nports 1\nphase\nend\nread 0 1\n") ∷
     refused_at 5 Word (codes "tty-session 1\nports 1\nphase\nend\nfoo\n") ∷
     refused_at 5 Order (codes "tty-session 1\nports 1\nphase\ncaller a 0\n") ∷
     refused_at 5 Order (codes "tty-session 1\nports 1\nphase\n# not yet\n") ∷
+    refused_at 4 Order (codes "tty-session 1\nports 1\nphase") ∷
+    refused_at 2 Order (codes "tty-session 1\nend\n") ∷
+    refused_at 4 Word (codes "tty-session 1\nports 1\nend\nflip 0 64\n") ∷
+    refused_at 4 Order (codes "tty-session 2\nports 1\nend\nflip 0 64\n") ∷
     -- a line block
     refused_at 4 Limit (codes "tty-session 1\nports 1\nphase\nline 1\n") ∷
     refused_at 5 Order (codes "tty-session 1\nports 1\nphase\nline 0\nline 0\n") ∷
@@ -61,6 +71,7 @@ refused_rows =
     refused_at 5 Limit (codes "tty-session 1\nports 1\nphase\nline 0\nidle 0\n") ∷
     refused_at 5 Limit (codes "tty-session 1\nports 1\nphase\nline 0\ntrigger 2\n") ∷
     refused_at 5 Limit (codes "tty-session 1\nports 1\nphase\nline 0\ntrigger 0\n") ∷
+    refused_at 5 Number (codes "tty-session 1\nports 1\nphase\nline 0\ntrigger 01\n") ∷
     refused_at 5 Word (codes "tty-session 1\nports 1\nphase\nline 0\nbreak 1\n") ∷
     refused_at 5 Hex (codes "tty-session 1\nports 1\nphase\nline 0\nrx 686") ∷
     refused_at 5 Hex (codes "tty-session 1\nports 1\nphase\nline 0\nrxp 6g\n") ∷
@@ -77,6 +88,7 @@ refused_rows =
     refused_at 4 Limit (codes "tty-session 1\nports 1\nphase\ncaller a 9\n") ∷
     refused_at 4 Word (codes "tty-session 1\nports 1\nphase\ncaller a\n") ∷
     refused_at 4 Word (codes "tty-session 1\nports 1\nphase\ncaller a2345678901234567 0\n") ∷
+    refused_at 4 Word (codes "tty-session 1\nports 1\nphase\ncaller 1a 0\n") ∷
     refused_at 5 Order (codes "tty-session 1\nports 1\nphase\ncaller a 0\ncaller a 0\n") ∷
     -- arguments, one by one
     refused_at 5 Number (codes "tty-session 1\nports 1\nphase\ncaller a 0\nread 0 01\n") ∷
@@ -94,6 +106,9 @@ refused_rows =
     refused_at 5 Number (codes "tty-session 1\nports 1\nphase\ncaller a 0\nsetd 0 10000000000\n") ∷
     refused_at 5 Word (codes "tty-session 1\nports 1\nphase\ncaller a 0\nflush 0 all\n") ∷
     refused_at 5 Word (codes "tty-session 1\nports 1\nphase\ncaller a 0\nxonc 0 off\n") ∷
+    refused_at 5 Word (codes "tty-session 1\nports 1\nphase\ncaller a 0\nclose 0 0\n") ∷
+    refused_at 5 Hex (codes "tty-session 1\nports 1\nphase\ncaller a 0\nsend 0 0x41\n") ∷
+    refused_at 5 Word (codes "tty-session 1\nports 1\nphase\ncaller a 0\nhangup 0\n") ∷
     -- mode words
     refused_at 5 Word (codes "tty-session 1\nports 1\nphase\ncaller a 0\nmodes 0 now\n") ∷
     refused_at 5 Word (codes "tty-session 1\nports 1\nphase\ncaller a 0\nmodes 0 later\n") ∷

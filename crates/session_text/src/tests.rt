@@ -193,18 +193,38 @@ fn sixteen_callers_of_a_port_are_good(rt: HostRuntime) -> Result<(), Fail> {
 }
 
 #[test]
-fn sixty_five_mode_words_with_a_wrong_last_one_are_a_wrong_word(
+fn a_wrong_argument_is_told_before_a_limit_that_its_line_passes(
     rt: HostRuntime,
 ) -> Result<(), Fail> {
-    let begin = b"tty-session 1\nports 1\nphase\ncaller a 0\nmodes 0 now".as_slice();
-    let text = repeated(rt.alloc(), begin, b" echo", 64, b" eco\nend\n")?;
-    assert_eq!(rt;
-        parse(rt.alloc(), text.as_slice()).err(),
-        Some(TextFault::Bad(BadLine {
-            line: 5,
-            reason: Reason::Word
-        }))
-    );
+    for (begin, piece, times, end, reason) in [
+        (
+            b"modes 0 now".as_slice(),
+            b" echo".as_slice(),
+            64,
+            b" eco\nend\n".as_slice(),
+            Reason::Word,
+        ),
+        (
+            b"write 0 ".as_slice(),
+            b"61".as_slice(),
+            65_537,
+            b"6\nend\n".as_slice(),
+            Reason::Hex,
+        ),
+    ] {
+        let text = repeated(
+            rt.alloc(),
+            b"tty-session 1\nports 1\nphase\ncaller a 0\n",
+            begin,
+            1,
+            b"",
+        )?;
+        let text = repeated(rt.alloc(), text.as_slice(), piece, times, end)?;
+        assert_eq!(rt;
+            parse(rt.alloc(), text.as_slice()).err(),
+            Some(TextFault::Bad(BadLine { line: 5, reason }))
+        );
+    }
     Ok(())
 }
 
