@@ -16,6 +16,8 @@ pub mod LineSteps
 pub mod LineCuts
 pub mod LineEnds
 pub mod LineLoop
+pub mod TheEntry
+pub mod OneJournal
 pub mod NameLemmas
 pub mod RoleLemmas
 pub mod CastLemmas

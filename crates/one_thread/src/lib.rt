@@ -2,6 +2,7 @@
 #![tactic(auto)]
 
 mod after_line;
+mod laws;
 mod line;
 mod phases;
 mod playing;
@@ -9,6 +10,7 @@ mod ports;
 mod roles;
 mod rows;
 
+pub use laws::a_session_has_one_journal;
 pub use playing::{Played, play};
 pub use rows::{
     moved_three_bytes_are_not_in_order, moved_waiters_are_not_in_order, three_bytes_are_in_order,

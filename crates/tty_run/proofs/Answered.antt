@@ -1,11 +1,11 @@
 -- In a finished journal each call is answered once.
-use Rattle.std.proofs.Common.{◌≡◌, ⊎_elim, ℕ, zero, suc, ◌+◌, ◌<◌, ◌≤◌, Bool, true, false, ◌&&◌, ◌||◌, ◌==◌, if◌then◌else◌, cond, List, [], ◌∷◌, ◌++◌, Option, None, Some, length, refl, sym, ap, ◌∙◌, arith, eqb-true, eq-eqb, length-append, append-nil, append_assoc, take}
+use Rattle.std.proofs.Common.{◌≡◌, ⊎_elim, ℕ, zero, suc, ◌+◌, ◌<◌, ◌≤◌, Bool, true, false, ◌&&◌, ◌||◌, ◌==◌, if◌then◌else◌, cond, List, [], ◌∷◌, ◌++◌, Option, None, Some, length, refl, sym, ap, ◌∙◌, arith, eqb-true, eq-eqb, length-append, append-nil, append_assoc}
 use Rattle.std.specs.Prelude.{option_to_list, flat_map}
 use Rattle.std.specs.Str.{bytes_eq}
 use Rattle.std.specs.List.{list_any}
 use Rattle.std.specs.Option.{option_or}
 use Rattle.std.proofs.lemmas.Bool.{false≢true, cases_lt}
-use Rattle.std.proofs.lemmas.List.{take_all, take_more}
+use Rattle.std.proofs.lemmas.List.{take_all}
 use Rattle.std.proofs.lemmas.Grind.{flat_map-append}
 use Rattle.std.proofs.lemmas.Option.{slice_get_within}
 use Rattle.tty_calls.specs.declared.journals.PortRun.{PortRun}
@@ -15,6 +15,7 @@ use Rattle.tty_terminal.specs.Terminals.{Terminal}
 use Rattle.session_print.specs.Report.{answer_of_event, answer_by, answer_in}
 use Rattle.tty_base.specs.declared.lines.Overrun.{Overrun}
 use Rattle.journal_check.specs.Legal.{phase_at, name_at, has_script, first_step, steps_in, CallerMark, answers, caller_ends, caller_marks, caller_marks_in, answers_from, caller_part, IsFinishedFrom, IsLegal}
+use Rattle.one_thread.proofs.Starting.{first_next}
 use Rattle.tty_run.specs.Outcome.{answers_to, IsAnsweredOnce}
 
 -- how often a step is answered
@@ -119,23 +120,6 @@ part_either true x a n h = count_append x (answers_from a n) (caller_ends ∷ []
 part_either false x a n h = ap (λ m. count x (answers_from a m)) (sym (h refl))
 
 -- ---- the marks of a finished journal
-
-calls_append : (xs ys : List PlainScript) (name : Option (List ℕ)) → calls_of (xs ++ ys) name ≡ calls_of xs name ++ calls_of ys name
-calls_append xs ys None = refl
-calls_append xs ys (Some name) = flat_map-append (λ s. if bytes_eq s.name name then s.calls else []) xs ys
-
--- the scripts of the phases before this one, and of this one
-over_next : (p : ℕ) (s : PlainSession) (k : ℕ) → k < length s.phases → scripts_over p (take (k + 1) s.phases) ≡ scripts_over p (take k s.phases) ++ scripts_on p (phase_at s k)
-over_next p s k h =
-    ap (scripts_over p) (take_more s.phases k (record { lines = []; ticks = []; callers = [] }) h)
-    ∙ flat_map-append (scripts_on p) (take k s.phases) (phase_at s k ∷ [])
-    ∙ ap (λ (x : List PlainScript). scripts_over p (take k s.phases) ++ x) (append-nil (scripts_on p (phase_at s k)))
-
-first_next : (p : ℕ) (s : PlainSession) (k c : ℕ) → k < length s.phases → first_step p s (k + 1) c ≡ first_step p s k c + steps_in p s k c
-first_next p s k c h =
-    ap (λ (x : List PlainScript). length (calls_of x (name_at p s c))) (over_next p s k h)
-    ∙ ap (λ (x : List PlainCall). length x) (calls_append (scripts_over p (take k s.phases)) (scripts_on p (phase_at s k)) (name_at p s c))
-    ∙ length-append (calls_of (scripts_over p (take k s.phases)) (name_at p s c)) (calls_of (scripts_on p (phase_at s k)) (name_at p s c))
 
 -- the parts of a journal, for one kind of entry
 split_of : {X : Type 0} (f : PlainEntry → List X) (part : List PlainEntry) (last : PlainEntry) (rest : List PlainEntry) (own : List X) (later : List X) → flat_map f part ++ f last ≡ own → flat_map f rest ≡ later → flat_map f (part ++ last ∷ rest) ≡ own ++ later
