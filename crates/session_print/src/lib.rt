@@ -14,7 +14,7 @@ mod words;
 
 pub use journals::journal_text;
 pub use laws::each_call_has_its_line;
-pub use texts::{play_text, report};
+pub use texts::{answer_text, play_text, report};
 
 #[cfg(test)]
 mod tests;

@@ -1,14 +1,17 @@
 ghost use Rattle.std.specs.Prelude.{◌≡◌, ◌++◌, IfOk, OnOk, map, string_bytes};
+ghost use Rattle.tty_calls.specs.Plain.{answer_of};
 ghost use Rattle.tty_calls.specs.Sessions.{session_of};
 ghost use Rattle.session_print.specs.Ends.{end_of};
 ghost use Rattle.session_print.specs.Report.{report_text, play_text as text_of_play, calls_from, ports_from};
+ghost use Rattle.session_print.specs.Words.{answer_text as text_of_answer};
 
 use super::calls::put_calls;
 use super::journals::put_journals;
 use super::ports::put_port;
+use super::words::put_answer;
 use std::alloc::Global;
 use tty_base::{Bytes, NoMemory};
-use tty_calls::{PortEnd, PortRun, Session};
+use tty_calls::{Answer, PortEnd, PortRun, Session};
 
 /// The report of a session: each call with its answer, then what became of each port. There is one
 /// run, and one end, for each port.
@@ -40,6 +43,15 @@ pub fn play_text(
         put_journals(alloc, &mut text, session, runs)?;
     }
     text.push_str("done\n")?;
+    Ok(Bytes::from_vec(text.into_bytes()))
+}
+
+/// The text of an answer, as it stands in a report and in a journal.
+pub fn answer_text(alloc: Global, answer: &Answer) -> Result<Bytes, NoMemory>
+    ensures { IfOk result (λ text. text.items ≡ text_of_answer (answer_of answer.now)) }
+{
+    let mut text = String::new(alloc);
+    put_answer(&mut text, answer)?;
     Ok(Bytes::from_vec(text.into_bytes()))
 }
 

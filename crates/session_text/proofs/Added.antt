@@ -1,6 +1,6 @@
 -- What items add to the open phase, one after the other.
-use Rattle.std.proofs.Common.{◌≡◌, ℕ, ◌+◌, List, [], ◌∷◌, ◌++◌, length, refl, ap, sym, ◌∙◌, arith, get_or, set, append_assoc, append-nil, ◌<◌, ◌≤◌, ◌⊎◌, inl, inr, subst, zero, suc, Bool, true, false, nat_lt, ltb-true, ltb-false}
-use Rattle.std.specs.Prelude.{flat_map, sum_by, slice_index, slice_index_or, slice_set}
+use Rattle.std.proofs.Common.{◌≡◌, ℕ, ◌+◌, List, [], ◌∷◌, ◌++◌, length, refl, ap, sym, ◌∙◌, arith, get_or, set, append_assoc, append-nil, ◌<◌, ◌≤◌, ◌⊎◌, inl, inr, zero, suc, true, false, nat_lt, ltb-true, ltb-false}
+use Rattle.std.specs.Prelude.{flat_map, sum_by}
 use Rattle.std.proofs.lemmas.List.{get_or-set_same, set-get_or, set-set}
 use Rattle.std.proofs.lemmas.List.Sums.{sum_by-cons}
 use Rattle.tty_base.specs.declared.lines.LineStep.{LineStep}
@@ -9,7 +9,7 @@ use Rattle.tty_calls.specs.Sessions.{PlainScript, PlainPhase}
 use Rattle.session_text.specs.declared.verbs.Verb.TheVariants.{Tick}
 use Rattle.session_text.specs.declared.stands.Place.{Place}
 use Rattle.session_text.specs.declared.stands.Place.TheVariants as place
-use Rattle.session_text.specs.Meaning.{with_steps, with_ticks, with_script}
+use Rattle.session_text.specs.Meaning.{with_steps, with_ticks}
 use Rattle.session_text.specs.Drafts.{with_call}
 use Rattle.session_text.specs.Grammar.{Item, steps_by, ticks_by, calls_by}
 

@@ -1,11 +1,11 @@
 -- What good arguments are: numbers in their ranges, names, and the verbs that were judged.
-use Rattle.std.proofs.Common.{◌≡◌, ◌≢◌, ℕ, ◌+◌, ◌<◌, ◌≤◌, ◌==◌, ◌&&◌, nat_le, nat_lt, Bool, true, false, cond, List, [], ◌∷◌, length, Option, Some, None, Result, Ok, Err, refl, ap, sym, subst, ◌∙◌, arith, zero, suc, leb-true, ltb-true}
-use Rattle.std.specs.Prelude.{is_none, slice_index_or}
+use Rattle.std.proofs.Common.{◌≡◌, ℕ, ◌+◌, ◌<◌, ◌≤◌, ◌&&◌, nat_le, nat_lt, Bool, true, false, cond, List, [], ◌∷◌, length, Option, Some, None, Result, Ok, Err, refl, ap, subst, arith, zero, suc, leb-true, ltb-true}
+use Rattle.std.specs.Prelude.{is_none}
 use Rattle.std.specs.Option.{option_or}
 use Rattle.std.specs.Str.{bytes_eq}
 use Rattle.std.specs.Prelude.{codes}
 use Rattle.std.proofs.lemmas.Bool.{and_parts}
-use Rattle.text_lines.specs.Values.{is_number, number_of, is_name, word_at, number_at}
+use Rattle.text_lines.specs.Values.{is_number, number_of, word_at, number_at}
 use Rattle.session_text.specs.declared.faults.Reason.{Reason}
 use Rattle.session_text.specs.declared.faults.Reason.TheVariants as reason
 use Rattle.session_text.specs.declared.kinds.Kind.{Kind}
@@ -15,7 +15,7 @@ use Rattle.session_text.specs.declared.verbs.Verb.TheVariants.{Session}
 use Rattle.session_text.specs.declared.stands.Place.{Place}
 use Rattle.session_text.specs.declared.stands.Place.TheVariants as place
 use Rattle.session_text.specs.Verbs.{verb_of}
-use Rattle.session_text.specs.Kinds.{may_have, kind_at, fault_of, fault_from, number_fault, limit_fault, word_fault}
+use Rattle.session_text.specs.Kinds.{may_have, kind_at, fault_of, fault_from, limit_fault, word_fault}
 use Rattle.session_text.specs.Stands.{PlainStand, may_stand, is_good, late_fault, item_fault, unless, verdict_on, verdict_at, first_verdict, verb_verdict}
 
 pub left_none : {X : Type 0} (a b : Option X) → option_or a b ≡ None → a ≡ None

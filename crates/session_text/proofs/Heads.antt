@@ -1,10 +1,9 @@
 -- The items before the first phase: the header, `ports`, and each `flip`.
-use Rattle.std.proofs.Common.{◌≡◌, ◌≢◌, ℕ, ◌+◌, ◌<◌, ◌≤◌, ◌==◌, ◌||◌, ◌&&◌, nat_lt, Bool, true, false, cond, List, [], ◌∷◌, ◌++◌, length, replicate, Option, Some, None, Result, Ok, Err, refl, ap, sym, subst, ◌∙◌, append_assoc, arith, zero, suc, ltb-true, ltb-false, inl, inr, ◌⊎◌}
-use Rattle.std.specs.Prelude.{flat_map, sum_by, map, fold, slice_index, slice_set, codes}
+use Rattle.std.proofs.Common.{◌≡◌, ℕ, ◌+◌, ◌<◌, ◌≤◌, ◌==◌, nat_lt, Bool, true, false, cond, List, [], ◌∷◌, ◌++◌, length, replicate, Some, None, refl, ap, sym, subst, ◌∙◌, arith, zero, suc, ltb-true, ltb-false, inl, inr, ◌⊎◌}
+use Rattle.std.specs.Prelude.{flat_map, sum_by, map, fold, slice_index}
 use Rattle.std.specs.List.{AllByRecursion}
-use Rattle.std.proofs.lemmas.Bool.{and_parts, eqb-true}
+use Rattle.std.proofs.lemmas.Bool.{eqb-true}
 use Rattle.std.proofs.lemmas.List.Sums.{sum_by-cons}
-use Rattle.tty_calls.specs.Sessions.{PlainPhase, PlainSession}
 use Rattle.text_lines.specs.Values.{is_number, number_of, word_at, number_at}
 use Rattle.session_text.specs.declared.faults.Reason.TheVariants as reason
 use Rattle.session_text.specs.declared.kinds.Kind.TheVariants as kind
@@ -13,16 +12,16 @@ use Rattle.session_text.specs.declared.verbs.Verb.TheVariants.{Session, Ports, F
 use Rattle.session_text.specs.declared.stands.Place.{Place}
 use Rattle.session_text.specs.declared.stands.Place.TheVariants as place
 use Rattle.session_text.specs.Verbs.{verb_of, verb_text}
-use Rattle.session_text.specs.Kinds.{may_have, kind_at, fault_of, limit_fault}
-use Rattle.session_text.specs.Stands.{PlainStand, first_stand, verdict_on, stand_after, is_good, may_stand, is_ended}
+use Rattle.session_text.specs.Kinds.{kind_at, fault_of, limit_fault}
+use Rattle.session_text.specs.Stands.{PlainStand, first_stand, stand_after, is_good, may_stand, is_ended}
 use Rattle.session_text.specs.Meaning.{empty_phase}
-use Rattle.session_text.specs.Drafts.{PlainDraft, first_draft, draft_after, session_with}
-use Rattle.session_text.specs.Grammar.{Item, Block, Written, flip_item, phase_item, phase_items, end_item, session_items, with_flip, phase_meaning, session_meaning, version_of, ports_of, opens_block, IsGood, IsGoodFlip, IsGoodBlock, IsGoodPhase, Once, port_in, port_of, steps_count, arrivals_by, ticks_by, block_characters, characters_count, block_ticks, ticks_count}
-use Rattle.session_text.proofs.Bounds.{on_port, none_on}
+use Rattle.session_text.specs.Drafts.{first_draft}
+use Rattle.session_text.specs.Grammar.{Item, Block, Written, flip_item, phase_item, phase_items, end_item, session_items, with_flip, phase_meaning, session_meaning, ports_of, opens_block, IsGood, IsGoodFlip, IsGoodBlock, IsGoodPhase, Once, port_in, port_of, steps_count, arrivals_by, ticks_by, block_characters, characters_count, block_ticks, ticks_count}
+use Rattle.session_text.proofs.Bounds.{none_on}
 use Rattle.session_text.proofs.Rests.{Fits, Rest, rest_items, phase_after}
 use Rattle.session_text.proofs.Judged.{is_start, good_fits, fits_good, header_found, header_good, flip_version}
 use Rattle.session_text.proofs.Fits.{good_parts, no_fault_at, good_number, limit_none}
-use Rattle.session_text.proofs.Runs.{Run, session_read, item_with, run_follows, ended_run, phase_follows, end_follows, PhasesFollow, Taken, takes_all, phase_items_more}
+use Rattle.session_text.proofs.Runs.{Run, session_read, item_with, run_follows, ended_run, phase_follows, end_follows, PhasesFollow, takes_all, phase_items_more}
 
 abbrev pub first_port : List (List ℕ) → ℕ
 first_port arguments = number_at arguments 0

@@ -1,6 +1,6 @@
 -- What is judged good where the reader stands, each way.
 use Rattle.std.proofs.Common.{◌≡◌, ◌⊎◌, inl, inr, ℕ, ◌==◌, ◌&&◌, Bool, true, false, cond, List, [], ◌∷◌, length, Option, Some, None, Result, Ok, Err, refl, ap, sym, subst, ◌∙◌}
-use Rattle.std.specs.Prelude.{is_none, option_map, codes}
+use Rattle.std.specs.Prelude.{option_map, codes}
 use Rattle.std.specs.Option.{option_or}
 use Rattle.std.specs.Str.{bytes_eq}
 use Rattle.std.proofs.lemmas.Bool.{and_parts}
@@ -9,7 +9,7 @@ use Rattle.text_lines.specs.Values.{choice_of}
 use Rattle.session_text.specs.declared.faults.Reason.{Reason}
 use Rattle.session_text.specs.declared.faults.Reason.TheVariants as reason
 use Rattle.session_text.specs.declared.verbs.Verb.{Verb}
-use Rattle.session_text.specs.declared.verbs.Verb.TheVariants.{Session, Ports, Flip, Phase, Line, Clock, Caller, Tick, End, Step, Call}
+use Rattle.session_text.specs.declared.verbs.Verb.TheVariants.{Session, Flip, Step, Call}
 use Rattle.session_text.specs.declared.verbs.LineVerb.{LineVerb}
 use Rattle.session_text.specs.declared.verbs.LineVerb.TheVariants.{Rx, Rxp, Rxf, Break, Mask, Unmask, Idle, Trigger}
 use Rattle.session_text.specs.declared.verbs.CallVerb.{CallVerb}
@@ -18,8 +18,8 @@ use Rattle.session_text.specs.declared.stands.Place.{Place}
 use Rattle.session_text.specs.declared.stands.Place.TheVariants as place
 use Rattle.session_text.specs.Verbs.{verb_of, verb_text, block_verbs, line_verbs, call_verbs, line_text, call_text, block_verb_of, line_verb_of, call_verb_of}
 use Rattle.session_text.specs.Kinds.{may_have, fault_from}
-use Rattle.session_text.specs.Stands.{PlainStand, may_stand, is_good, has_stood, is_over, item_fault, late_fault, unless, verdict_on, verdict_at, first_verdict, verb_verdict, in_phase, is_before}
-use Rattle.session_text.proofs.Bounds.{Passes, passes_from, verdict_passes}
+use Rattle.session_text.specs.Stands.{PlainStand, may_stand, is_good, has_stood, is_over, item_fault, unless, verdict_on, verdict_at, first_verdict, verb_verdict, in_phase}
+use Rattle.session_text.proofs.Bounds.{passes_from, verdict_passes}
 use Rattle.session_text.proofs.Fits.{item_good, good_parts, judged_verb_good}
 use Rattle.session_text.proofs.Rests.{Fits}
 

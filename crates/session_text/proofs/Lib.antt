@@ -1,6 +1,7 @@
 mod Added
 mod Bounds
 mod Fits
+pub mod Fronts
 mod Heads
 mod Judged
 mod Lists

@@ -1,21 +1,19 @@
 -- What may follow where the reader stands in a phase: the rest of the open block, further blocks, further
 -- phases, and the end.
-use Rattle.std.proofs.Common.{◌≡◌, ◌≢◌, ℕ, ◌+◌, ◌-◌, ◌<◌, ◌≤◌, ◌==◌, ◌||◌, ◌&&◌, nat_le, nat_lt, Bool, true, false, cond, List, [], ◌∷◌, ◌++◌, length, Option, Some, None, Result, Ok, Err, refl, ap, sym, subst, ◌∙◌, arith, zero, suc, leb-true, ltb-true, ltb-false, inl, inr}
+use Rattle.std.proofs.Common.{◌≡◌, ℕ, ◌+◌, ◌<◌, ◌≤◌, ◌==◌, ◌||◌, nat_le, nat_lt, Bool, true, false, List, [], ◌∷◌, ◌++◌, length, refl, ap, sym, subst, arith, leb-true, ltb-false}
 use Rattle.std.proofs.lemmas.Bool.{leb-false}
-use Rattle.std.specs.Prelude.{slice_index, flat_map, sum_by, map, IsTrue}
-use Rattle.std.specs.List.{AllByRecursion, list_any}
-use Rattle.std.proofs.lemmas.Bool.{and_parts}
+use Rattle.std.specs.Prelude.{slice_index, flat_map, sum_by}
+use Rattle.std.specs.List.{AllByRecursion}
 use Rattle.std.proofs.lemmas.List.Sums.{sum_by-cons}
-use Rattle.text_lines.specs.Values.{number_at, word_at}
+use Rattle.text_lines.specs.Values.{number_at}
 use Rattle.session_text.specs.declared.verbs.Verb.{Verb}
-use Rattle.session_text.specs.declared.verbs.Verb.TheVariants.{Session, Ports, Flip, Phase, Line, Clock, Caller, Tick, End, Step, Call}
+use Rattle.session_text.specs.declared.verbs.Verb.TheVariants.{Session, Phase, Line, Clock, Caller, Tick, Step, Call}
 use Rattle.session_text.specs.declared.verbs.LineVerb.{LineVerb}
 use Rattle.session_text.specs.declared.verbs.CallVerb.{CallVerb}
 use Rattle.session_text.specs.declared.stands.Place.{Place}
 use Rattle.session_text.specs.declared.stands.Place.TheVariants as place
-use Rattle.session_text.specs.Verbs.{verb_of, verb_text}
-use Rattle.session_text.specs.Stands.{PlainKey, PlainStand, key_in, holds, same_key, callers_on, arrivals, has_many, is_good, may_stand, has_stood, is_over, in_phase, is_before, is_head, is_line, is_clock, is_caller, is_ended, left_after, stand_after}
-use Rattle.session_text.specs.Grammar.{Item, Block, block_items, phase_item, phase_items, end_item, is_inside, opens_block, has_many_modes, IsGoodItem, IsGoodBlock, IsGoodPhase, Once, CallersFit, line_ports, clock_ports, caller_keys, port_of, steps_count, arrivals_by, ticks_by, block_characters, characters_count, block_ticks, ticks_count}
+use Rattle.session_text.specs.Stands.{PlainStand, callers_on, arrivals, has_many, is_good, may_stand, has_stood, is_over, in_phase, is_before, is_line, is_clock, is_caller, stand_after}
+use Rattle.session_text.specs.Grammar.{Item, Block, block_items, phase_items, end_item, is_inside, IsGoodItem, IsGoodBlock, IsGoodPhase, Once, CallersFit, line_ports, clock_ports, caller_keys, port_of, steps_count, arrivals_by, ticks_by, block_characters, characters_count, block_ticks, ticks_count}
 use Rattle.session_text.proofs.Bounds.{or_parts, or_neither, above_zero, is_above_zero, le-ltb-false, on_port, none_on, spent_more, spent_less, spent_fits}
 
 -- an item passes the tests of where the reader stands

@@ -1,10 +1,9 @@
 -- Items that are taken one after the other, from where the reader stands to the end, are the rest of a good
 -- session; and such a rest is taken, and read as what it means.
-use Rattle.std.proofs.Common.{◌≡◌, ℕ, ◌==◌, ◌||◌, ◌&&◌, Bool, true, false, List, [], ◌∷◌, ◌++◌, length, Option, Some, None, Result, Ok, Err, refl, ap, sym, subst, ◌∙◌, append_assoc, arith}
-use Rattle.std.specs.Prelude.{flat_map, sum_by, map, fold}
+use Rattle.std.proofs.Common.{◌≡◌, ℕ, ◌==◌, ◌||◌, Bool, true, false, List, [], ◌∷◌, ◌++◌, length, Some, Ok, refl, ap, sym, subst, ◌∙◌, append_assoc, arith}
+use Rattle.std.specs.Prelude.{flat_map, map, fold}
 use Rattle.std.specs.List.{AllByRecursion}
-use Rattle.std.proofs.lemmas.Bool.{and_parts, eqb-true}
-use Rattle.tty_base.specs.declared.lines.LineStep.{LineStep}
+use Rattle.std.proofs.lemmas.Bool.{eqb-true}
 use Rattle.tty_calls.specs.Plain.{PlainCall}
 use Rattle.tty_calls.specs.Sessions.{PlainScript, PlainPhase, PlainSession}
 use Rattle.text_lines.specs.Values.{number_at, word_at}
@@ -14,12 +13,11 @@ use Rattle.session_text.specs.declared.verbs.LineVerb.{LineVerb}
 use Rattle.session_text.specs.declared.verbs.CallVerb.{CallVerb}
 use Rattle.session_text.specs.declared.stands.Place.{Place}
 use Rattle.session_text.specs.declared.stands.Place.TheVariants as place
-use Rattle.session_text.specs.Verbs.{verb_of, verb_text}
-use Rattle.session_text.specs.Kinds.{may_have, fault_from}
+use Rattle.session_text.specs.Verbs.{verb_text}
 use Rattle.session_text.specs.Stands.{PlainStand, verdict_on, stand_after, in_phase, is_before, is_head, is_ended, is_line, is_clock, is_caller, may_stand, is_good}
 use Rattle.session_text.specs.Meaning.{steps_in, call_in, empty_phase, with_steps, with_ticks, with_script}
 use Rattle.session_text.specs.Drafts.{PlainDraft, draft_after, session_with, with_call}
-use Rattle.session_text.specs.Grammar.{Item, Block, block_items, phase_item, phase_items, end_item, steps_by, ticks_by, calls_by, with_block, phase_meaning, is_inside, opens_block, IsGoodItem}
+use Rattle.session_text.specs.Grammar.{Item, Block, block_items, phase_item, phase_items, end_item, steps_by, calls_by, with_block, phase_meaning, is_inside, opens_block, IsGoodItem}
 use Rattle.session_text.proofs.Rests.{Fits, opening_at, Rest, rest_items, block_with, step_before, step_after, tick_before, tick_after, call_before, call_after, line_before, line_after, clock_before, clock_after, caller_before, caller_after, phase_before, phase_after, end_before, line_is, clock_is, caller_is}
 use Rattle.session_text.proofs.Judged.{is_start, good_fits, fits_good, line_verb_read, call_verb_read, past_in_phase}
 use Rattle.session_text.proofs.Fits.{good_parts}

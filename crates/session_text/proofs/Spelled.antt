@@ -12,11 +12,11 @@ use Rattle.session_text.specs.declared.faults.TextFault.{TextFault}
 use Rattle.session_text.specs.declared.faults.TextFault.TheVariants.{Bad, NoMemory}
 use Rattle.session_text.specs.declared.verbs.Verb.{Verb}
 use Rattle.session_text.specs.Verbs.{verb_text}
-use Rattle.session_text.specs.Stands.{PlainStand, is_ended, verdict_on, stand_after}
+use Rattle.session_text.specs.Stands.{is_ended, verdict_on, stand_after}
 use Rattle.session_text.specs.Drafts.{draft_after, session_with}
-use Rattle.session_text.specs.Refusals.{next_line, stand_from, stand_after_line, or_later, refusal_from, refusal, lines_in}
-use Rattle.session_text.specs.Reading.{PlainReading, first_reading, reading_after_item, reading_after_line, session_at_end, then_read, session_from, session_in, Gives}
-use Rattle.session_text.specs.Grammar.{Item, item_words, session_items, session_meaning, Spells}
+use Rattle.session_text.specs.Refusals.{next_line, stand_from, or_later, refusal_from, refusal, lines_in}
+use Rattle.session_text.specs.Reading.{PlainReading, first_reading, reading_after_item, then_read, session_from, session_in, Gives}
+use Rattle.session_text.specs.Grammar.{Item, item_words, session_items, Spells}
 use Rattle.session_text.proofs.Judged.{word_found}
 use Rattle.session_text.proofs.Runs.{Run, session_read, item_with}
 use Rattle.session_text.proofs.Heads.{run_written, written_taken}

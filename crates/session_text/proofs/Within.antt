@@ -1,26 +1,25 @@
 -- A session that a text spells keeps the limits of every session.
-use Rattle.std.proofs.Common.{◌≡◌, ◌≢◌, ◌⊎◌, inl, inr, ℕ, ◌+◌, ◌-◌, ◌*◌, ◌/◌, ◌%◌, ◌<◌, ◌≤◌, ◌==◌, ◌||◌, ◌&&◌, nat_le, nat_lt, Bool, true, false, cond, List, [], ◌∷◌, ◌++◌, length, map, replicate, Option, Some, None, Result, Ok, Err, refl, ap, sym, subst, ◌∙◌, append_assoc, append-nil, arith, zero, suc, leb-true, ltb-true, ltb-false, get_or, set, eq-eqb}
-use Rattle.std.specs.Prelude.{All, IsTrue, flat_map, sum_by, count_by, filter, fold, slice_index, unwrap_or}
+use Rattle.std.proofs.Common.{◌≡◌, ◌≢◌, ◌⊎◌, inl, inr, ℕ, ◌+◌, ◌/◌, ◌<◌, ◌≤◌, ◌==◌, ◌||◌, ◌&&◌, nat_le, nat_lt, Bool, true, false, cond, List, [], ◌∷◌, ◌++◌, length, map, replicate, Some, None, Result, Ok, Err, refl, ap, sym, subst, ◌∙◌, append_assoc, append-nil, arith, zero, suc, leb-true, ltb-true, ltb-false, get_or, set, eq-eqb}
+use Rattle.std.specs.Prelude.{All, IsTrue, flat_map, sum_by, filter, fold, slice_index}
 use Rattle.std.specs.List.{AllByRecursion, list_any}
 use Rattle.std.specs.Result.{result_unwrap_or}
 use Rattle.std.specs.Str.{bytes_eq}
-use Rattle.std.proofs.lemmas.Bool.{and_parts, eqb-true, cases_eq}
+use Rattle.std.proofs.lemmas.Bool.{and_parts, eqb-true}
 use Rattle.std.proofs.lemmas.Slice.Eq.{bytes_eq-Decides}
 use Rattle.std.proofs.lemmas.List.{length-append, length-replicate, length-set, length-map, get_or-set_same, get_or-set_other, map-append}
-use Rattle.std.proofs.lemmas.List.Elements.{All-replicate, All-append, All-nil, All-cons, All-map, All-set}
+use Rattle.std.proofs.lemmas.List.Elements.{All-replicate, All-append, All-nil, All-cons, All-set}
 use Rattle.std.proofs.lemmas.List.Sums.{sum_by-cons, sum_by-append}
 use Rattle.hex.specs.declared.error.FromHexError.{FromHexError}
 use Rattle.hex.specs.Hex.{decode_of}
 use Rattle.hex.proofs.HexLemmas.{decode_of-ok}
-use Rattle.tty_base.specs.Lines.{arrival, arrival_count, is_step}
+use Rattle.tty_base.specs.Lines.{arrival_count, is_step}
 use Rattle.tty_base.specs.declared.characters.Flag.{Flag}
 use Rattle.tty_base.specs.declared.characters.Flag.TheVariants as flag
 use Rattle.tty_base.specs.declared.lines.LineStep.{LineStep}
-use Rattle.tty_calls.specs.Plain.{PlainCall, handle_of}
-use Rattle.tty_calls.specs.Sessions.{PlainScript, PlainPhase, PlainSession, line_on, ticks_on, scripts_on, names_of, with_name}
+use Rattle.tty_calls.specs.Plain.{handle_of}
+use Rattle.tty_calls.specs.Sessions.{PlainScript, PlainPhase, PlainSession, line_on, ticks_on, with_name}
 use Rattle.tty_calls.specs.Limits.{byte_count, IsCallWithin, IsScriptWithin, IsPhaseWithin, call_count, character_count, tick_count, IsWithinLimits}
 use Rattle.text_lines.specs.Values.{is_number, number_of, is_hex, bytes_of, word_at, number_at}
-use Rattle.session_text.specs.declared.faults.Reason.{Reason}
 use Rattle.session_text.specs.declared.faults.Reason.TheVariants as reason
 use Rattle.session_text.specs.declared.kinds.Kind.{Kind}
 use Rattle.session_text.specs.declared.kinds.Kind.TheVariants as kind
@@ -31,12 +30,12 @@ use Rattle.session_text.specs.declared.verbs.LineVerb.TheVariants.{Rx, Rxp, Rxf,
 use Rattle.session_text.specs.declared.verbs.CallVerb.{CallVerb}
 use Rattle.session_text.specs.declared.verbs.CallVerb.TheVariants as call
 use Rattle.session_text.specs.Kinds.{kind_at, fault_of, limit_fault, is_trigger}
-use Rattle.session_text.specs.Stands.{PlainKey, key_in, same_key, callers_on, arrivals, is_good}
-use Rattle.session_text.specs.Meaning.{rx_step, characters, steps_in, bare_call, call_on, call_in, empty_phase}
-use Rattle.session_text.specs.Grammar.{Item, Block, Written, steps_by, ticks_by, calls_by, arrivals_by, with_block, phase_meaning, with_flip, session_meaning, version_of, ports_of, is_inside, opens_block, IsGoodItem, IsGoodBlock, IsGoodPhase, IsGoodFlip, IsGood, CallersFit, caller_key, caller_keys, port_of, steps_count, block_characters, characters_count, block_ticks, ticks_count, Spells}
-use Rattle.session_text.proofs.Bounds.{on_port, none_on}
+use Rattle.session_text.specs.Stands.{PlainKey, same_key, callers_on, arrivals, is_good}
+use Rattle.session_text.specs.Meaning.{rx_step, steps_in, call_on, call_in, empty_phase}
+use Rattle.session_text.specs.Grammar.{Item, Block, Written, steps_by, ticks_by, calls_by, arrivals_by, with_block, phase_meaning, with_flip, session_meaning, version_of, ports_of, opens_block, IsGoodItem, IsGoodBlock, IsGoodPhase, IsGoodFlip, IsGood, CallersFit, caller_key, caller_keys, steps_count, block_characters, characters_count, block_ticks, ticks_count, Spells}
+use Rattle.session_text.proofs.Bounds.{on_port}
 use Rattle.session_text.proofs.Fits.{good_parts, no_fault_at, good_number, limit_none}
-use Rattle.session_text.proofs.Heads.{block_port_below, ports_few}
+use Rattle.session_text.proofs.Heads.{block_port_below}
 
 -- ---- numbers and HEX of good arguments
 

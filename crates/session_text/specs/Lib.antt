@@ -1,4 +1,5 @@
 pub mod Drafts
+pub mod Fronts
 pub mod Grammar
 pub mod Kinds
 pub mod Meaning

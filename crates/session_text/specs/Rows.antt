@@ -1,5 +1,5 @@
 -- Worked texts: what is refused, and what is spelled.
-use Rattle.std.specs.Prelude.{ℕ, true, false, List, [], ◌∷◌, codes, Option, None, Some, ◌++◌}
+use Rattle.std.specs.Prelude.{ℕ, true, false, List, [], ◌∷◌, codes, ◌++◌}
 use Rattle.tty_base.specs.declared.characters.Flag.{Flag}
 use Rattle.tty_base.specs.declared.characters.Flag.TheVariants.{Normal, Parity, Frame}
 use Rattle.tty_base.specs.declared.lines.LineStep.{LineStep}

@@ -21,7 +21,7 @@ pub use laws::{
     a_text_is_refused_exactly_where_it_spells_no_session, spelled_sessions_are_within_limits,
     spells_one_session, worked_texts_are_refused_at_their_lines, worked_texts_spell_their_sessions,
 };
-pub use reader::{Reader, parse};
+pub use reader::{Reader, parse, parse_front};
 
 #[cfg(test)]
 mod tests;

@@ -1,5 +1,6 @@
 ghost use Rattle.std.specs.Prelude.{◌≡◌, ◌⊎◌, Some, IfOk};
-ghost use Rattle.session_text.specs.Refusals.{refusal};
+ghost use Rattle.session_text.specs.Fronts.{front_in};
+ghost use Rattle.session_text.specs.Refusals.{refusal, lines_in};
 ghost use Rattle.session_text.specs.Grammar.{Spells};
 ghost use Rattle.tty_calls.specs.Sessions.{session_of as session_view};
 ghost use Rattle.text_lines.specs.Lines.{words_of};
@@ -112,4 +113,30 @@ fn read_session(alloc: Global, text: &[u8]) -> Result<Session, TextFault>
         number = number.saturating_add(1);
     }
     reader.finish(number)
+}
+
+/// The session that the front of a text spells, up to its `end`; the number of the line after that, and
+/// what follows.
+pub fn parse_front(alloc: Global, text: &[u8]) -> Result<(Session, u32, &[u8]), TextFault>
+    ensures { Gives (λ front. record { session = session_view front.0; line = front.1; rest = lines_in front.2.now }) result (front_in text.now) }
+{
+    let mut reader = Reader::new(alloc);
+    let mut rest = text;
+    let mut number = 1u32;
+    while !reader.is_ended() {
+        match split_line(rest) {
+            None => {
+                return Err(TextFault::Bad(BadLine {
+                    line: number,
+                    reason: Reason::Order,
+                }));
+            }
+            Some((line, after)) => {
+                reader.read_line(alloc, number, line)?;
+                rest = after;
+                number = number.saturating_add(1);
+            }
+        }
+    }
+    Ok((reader.finish(number)?, number, rest))
 }

@@ -1,4 +1,4 @@
-use Rattle.std.proofs.Common.{refl, arith, true, sym, ◌≡◌, subst}
+use Rattle.std.proofs.Common.{refl, arith, true, ◌≡◌, subst}
 use Rattle.text_lines.specs.Lines.{words_of}
 use Rattle.session_text.specs.declared.verbs.Verb.{Verb}
 use Rattle.session_text.specs.declared.verbs.Verb.TheVariants.{Caller}

@@ -1,4 +1,4 @@
-use Rattle.std.proofs.Common.{sym, ◌∙◌}
+use Rattle.std.proofs.Common.{sym}
 use Rattle.text_lines.specs.Lines.{words_of}
 use Rattle.session_text.specs.Views.{stand_of}
 use Rattle.session_text.proofs.Fits.{judged_good}

@@ -1,0 +1,13 @@
+pub mod Answers
+pub mod Building
+pub mod Callers
+pub mod Characters
+pub mod Entries
+pub mod Fields
+pub mod Grammar
+pub mod Journals
+pub mod Reading
+pub mod Results
+pub mod Rows
+pub mod Runs
+pub mod Views
