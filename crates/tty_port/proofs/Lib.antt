@@ -1,0 +1,11 @@
+pub mod Histories
+pub mod Keeping
+pub mod Attempting
+pub mod Entering
+pub mod Turning
+pub mod Outcomes
+pub mod Seating
+pub mod CallTurns
+pub mod CallSteps
+pub mod FlushSteps
+pub mod PhaseLaws

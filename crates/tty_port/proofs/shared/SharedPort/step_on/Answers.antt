@@ -1,0 +1,18 @@
+use Rattle.std.proofs.Common.{rules}
+use Rattle.tty_calls.specs.Plain.{call_of}
+use Rattle.port_core.specs.Attempts.{must_wait}
+use Rattle.port_cell.specs.Word.{generation_in}
+use Rattle.port_cell.specs.Knowledge.{last_word}
+use Rattle.tty_port.specs.Going.{Turns}
+use Rattle.tty_port.proofs.CallSteps.{knows_same, rests}
+use Rattle.tty_port.proofs.Outcomes.{at_ok}
+use Rattle.tty_port.proofs.shared.SharedPort.step_on.Goals as goal
+
+pub returns-in-Ok-MustWait-clause-none : goal.returns-in-Ok-MustWait-clause-none
+returns-in-Ok-MustWait-clause-none g c =
+    let old = c.args.seat.now in
+    let mid = c.attempt.new.seat in
+    let new = c.rest.new.seat in
+    let call = call_of c.args.call.now in
+    let t : Turns c.args.caller c.args.step call (generation_in (last_word old)) old mid must_wait = at_ok c.attempt.result c.in-Ok-MustWait.field-0 _ _ c.in-Ok-MustWait.is c.in-Ok-MustWait.field-0-is c.attempt.ensures.tried in
+    rests c.args.caller c.args.step call old mid new (knows_same mid new c.rest.ensures.turn c.rest.ensures.seat.number) t

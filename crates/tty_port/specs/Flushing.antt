@@ -1,0 +1,71 @@
+-- What a flush run comes to, as the flusher's seat knows it.
+use Rattle.std.specs.Prelude.{◌≡◌, ℕ, ◌+◌, ◌<◌, ◌≤◌, List, [], ◌∷◌, ◌++◌, Bool, true, false, IsTrue, Option, None, ◌==◌, if◌then◌else◌, length}
+use Rattle.tty_base.specs.declared.characters.Flagged.{Flagged}
+use Rattle.tty_calls.specs.declared.journals.Who.TheVariants.{Flusher}
+use Rattle.tty_calls.specs.Plain.{flushed}
+use Rattle.tty_terminal.specs.Terminals.{Terminal}
+use Rattle.tty_terminal.specs.Steps.{follows, nothing_to_flush}
+use Rattle.tty_terminal.specs.Runs.{RunHas}
+use Rattle.port_core.specs.Ports.{is_stuck}
+use Rattle.port_core.specs.declared.ports.flushing.Flushed.{Flushed}
+use Rattle.port_core.specs.declared.ports.flushing.Flushed.TheVariants as outcome
+use Rattle.port_cell.specs.declared.kept.Stamped.{Stamped}
+use Rattle.port_cell.specs.Entries.{generation_of, Begins}
+use Rattle.port_cell.specs.Word.{generation_in, changing_in}
+use Rattle.port_cell.specs.Knowledge.{list_seen, own_entries, last_word, step_count, install_count}
+use Rattle.tty_port.specs.Inside.{Name, EntryWithCall}
+use Rattle.tty_port.specs.Seen.{entries_in, marks_at, chars_at, next_run, terminal_at}
+use Rattle.tty_port.specs.Adding.{Adds}
+use Rattle.tty_port.specs.Calls.{PortSeat}
+
+-- a piece of a flush run, by the flusher with the seat m
+pub record IsPiece (m run part generation : ℕ) (x : Stamped EntryWithCall) : Type 0 where
+  pub seat : x.seat ≡ m
+  pub who : x.what.entry.who ≡ Flusher
+  pub at_step : x.what.entry.step ≡ run
+  pub at_part : x.what.entry.part ≡ part
+  pub at_generation : x.what.entry.generation ≡ generation
+  pub chars : List Flagged
+  pub some : 0 < length chars
+  pub few : length chars ≤ 64
+  pub happened : x.what.entry.event ≡ flushed chars
+  pub keeps : x.what.call ≡ None
+
+-- pieces of one run in one generation, numbered from this part on
+abbrev pub ArePieces : (m run generation part : ℕ) → List (Stamped EntryWithCall) → Type 0
+ArePieces m run generation part [] = Unit {0}
+ArePieces m run generation part (x ∷ xs) = IsPiece m run part generation x × ArePieces m run generation (part + 1) xs
+
+-- No handle is live, the discipline does not accept, or at least what is known to be sent is taken; once the line is over nothing
+-- is left to flush.
+pub record HasNothingLeft (t : Terminal) : Type 0 where
+  pub caught_up : is_stuck t ≡ false → t.sent ≤ t.taken
+  pub idle : IsTrue t.line_over → nothing_to_flush t ≡ true
+
+-- the number of the next run, after one that handed over n characters: a run of none makes no entry
+abbrev pub run_past : (run n : ℕ) → ℕ
+run_past run n = if n == 0 then run else run + 1
+
+-- a run of n characters, under one reference, whose generation is that of each piece
+pub record FlushesRun (m run n : ℕ) (old new : PortSeat) : Type 0 where
+  pub begins : Begins (list_seen old) (list_seen new)
+  pub made : List (Stamped EntryWithCall)
+  pub adds : own_entries new ≡ own_entries old ++ made
+  pub pieces : ArePieces m run (generation_in (last_word new)) 0 made
+  pub count : n ≡ length (chars_at made)
+  pub next : next_run (list_seen new) ≡ run_past run n
+  pub stepped : step_count old < step_count new
+  pub found : changing_in (last_word new) ≡ 0
+  pub installed : install_count new ≡ install_count old
+
+-- where a run goes on
+pub record GoesOnAt (run part generation : ℕ) (xs : List (Stamped EntryWithCall)) : Type 0 where
+  pub numbered : IsTrue (follows (marks_at xs).latest run part)
+  pub one : 0 < part → RunHas run generation (entries_in xs)
+
+-- what a piece came to
+abbrev pub Hands : (name : Name) (run part : ℕ) (old new : List (Stamped EntryWithCall)) → Flushed → Type 0
+Hands name run part old new (outcome.Took n) =
+    Adds (λ x. IsPiece name.callers run part (generation_of old) x × (n ≡ length (chars_at (x ∷ [])))) old new
+    × GoesOnAt run (part + 1) (generation_of old) new × (next_run new ≡ run + 1) × (length new ≤ 4194304)
+Hands name run part old new outcome.Nothing = (new ≡ old) × HasNothingLeft (terminal_at name old)

@@ -1,0 +1,10 @@
+pub mod Inside
+pub mod Histories
+pub mod Seen
+pub mod Placed
+pub mod Adding
+pub mod Calls
+pub mod Flushing
+pub mod Lines
+pub mod Going
+pub mod Shared

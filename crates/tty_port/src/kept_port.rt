@@ -1,0 +1,171 @@
+//! The port in the cell, and what one turn does with it.
+
+ghost use Rattle.std.specs.Prelude.{◌≡◌, ◌+◌, ◌<◌, ◌≤◌, ◌^◌, true, false, IfOk, IfErr, OnOk, OnErr, IsTrue, length, sum};
+ghost use Rattle.tty_calls.specs.Plain.{call_of, handle_of, changes, ticked, clock_ended, caller_ended};
+ghost use Rattle.tty_calls.specs.declared.journals.Who.TheVariants.{Caller, Clock};
+ghost use Rattle.tty_terminal.specs.Steps.{may_end};
+ghost use Rattle.tty_terminal.specs.Meeting.{byte_count};
+ghost use Rattle.port_core.specs.Attempts.{tried_of, Raises, IsAtOnce};
+ghost use Rattle.port_cell.specs.Entries.{generation_of, AddsBy};
+ghost use Rattle.tty_port.specs.Histories.{history_of, name_of};
+ghost use Rattle.tty_port.specs.Seen.{standing_at, marks_at, next_run, terminal_at, IsBetween};
+ghost use Rattle.tty_port.specs.Placed.{IsHistoryOf};
+ghost use Rattle.tty_port.specs.Adding.{Adds, IsEntry, IsFull, IsUnderWay, Tries};
+ghost use Rattle.tty_port.specs.Flushing.{GoesOnAt, Hands};
+ghost use Rattle.tty_port.specs.Lines.{EndsLine};
+
+use crate::names::{HistoryEntry, PortName};
+use flip_buffer::FlipIn;
+use port_cell::Kept;
+use port_core::{Flushed, Port, Tried};
+use tty_calls::{Call, Denied};
+
+/// A port that is shared, and how many callers have seats.
+#[derive(Drop)]
+pub struct KeptPort {
+    pub(crate) port: Port,
+    pub(crate) callers: u32,
+}
+
+impl Kept for KeptPort {
+    type Name = PortName;
+
+    type Entry = HistoryEntry;
+
+    ghost use Rattle.tty_port.specs.Histories.{history_of, name_of};
+
+    ghost name = { name_of };
+
+    ghost list = { history_of };
+
+    fn count(&self) -> u64 {
+        self.port.journal().len() as u64
+    }
+
+    fn generation(&self) -> u32 {
+        let _journal = self.port.journal();
+        self.port.generation()
+    }
+}
+
+/// The most characters of a piece of a flush run.
+const PIECE: u32 = 64;
+
+impl KeptPort {
+    /// How many entries the journal has.
+    pub(crate) fn entry_count(&self) -> u64
+        ensures count { result ≡ length (history_of self.now) }
+        ensures history { IsHistoryOf self.now.callers self.now.port (history_of self.now) }
+    {
+        self.port.journal().len() as u64
+    }
+
+    /// Tries a call of a caller.
+    pub(crate) fn attempt(&mut self, caller: u16, step: u32, call: &Call) -> Result<Tried, Denied>
+        requires known { caller < sum (name_of self.old).counts }
+        requires number { handle_of (call_of call.now) < 32 }
+        requires bytes { byte_count (call_of call.now) < 2 ^ 32 }
+        requires ready { IsUnderWay caller step (call_of call.now) (generation_of (history_of self.old)) (history_of self.old) }
+        ensures name { name_of self.new ≡ name_of self.old }
+        ensures tried { IfOk result (λ tried. Tries caller step (call_of call.now) (history_of self.old) (history_of self.new) (tried_of tried)) }
+        ensures same { OnErr result (history_of self.new ≡ history_of self.old) }
+        ensures full { IfErr result (λ d. IsFull (name_of self.new) d (history_of self.new)) }
+        ensures at_once { changes (call_of call.now) ≡ true → IfOk result (λ tried. IsAtOnce (tried_of tried)) }
+        ensures by { AddsBy caller (history_of self.old) (history_of self.new) }
+        ensures generation { Raises (changes (call_of call.now)) (generation_of (history_of self.old)) (generation_of (history_of self.new)) }
+        ensures few { generation_of (history_of self.new) ≤ 4194304 }
+    {
+        let _journal = self.port.journal();
+        self.port.own_entries_tell();
+        let tried = self.port.attempt(caller, step, call);
+        let _journal = self.port.journal();
+        self.port.generation();
+        tried
+    }
+
+    /// Hands over a piece of a flush run, of at most 64 characters.
+    pub(crate) fn flush_piece(&mut self, run: u32, part: u32) -> Result<Flushed, Denied>
+        requires { GoesOnAt run part (generation_of (history_of self.old)) (history_of self.old) }
+        ensures name { name_of self.new ≡ name_of self.old }
+        ensures flushed { IfOk result (λ flushed. Hands (name_of self.old) run part (history_of self.old) (history_of self.new) flushed) }
+        ensures same { OnErr result (history_of self.new ≡ history_of self.old) }
+        ensures full { IfErr result (λ d. IsFull (name_of self.new) d (history_of self.new)) }
+        ensures by { AddsBy (name_of self.old).callers (history_of self.old) (history_of self.new) }
+        ensures few { next_run (history_of self.new) ≤ 4194304 }
+        ensures generation { generation_of (history_of self.new) ≡ generation_of (history_of self.old) }
+    {
+        let _journal = self.port.journal();
+        let flushed = self.port.flush_piece(run, part, PIECE);
+        let _journal = self.port.journal();
+        flushed
+    }
+
+    /// A tenth of a second passed.
+    pub(crate) fn tick(&mut self) -> Result<(), Denied>
+        requires { (marks_at (history_of self.old)).clock_over ≡ false }
+        ensures name { name_of self.new ≡ name_of self.old }
+        ensures ok { OnOk result (Adds (IsEntry ((name_of self.old).callers + 2) Clock (marks_at (history_of self.old)).phase ticked) (history_of self.old) (history_of self.new)) }
+        ensures same { OnErr result (history_of self.new ≡ history_of self.old) }
+        ensures full { IfErr result (λ d. IsFull (name_of self.new) d (history_of self.new)) }
+        ensures by { AddsBy ((name_of self.old).callers + 2) (history_of self.old) (history_of self.new) }
+        ensures generation { generation_of (history_of self.new) ≡ generation_of (history_of self.old) }
+    {
+        let _journal = self.port.journal();
+        self.port.tick()
+    }
+
+    /// The clock of the phase is over.
+    pub(crate) fn clock_end(&mut self) -> Result<(), Denied>
+        requires { (marks_at (history_of self.old)).clock_over ≡ false }
+        ensures name { name_of self.new ≡ name_of self.old }
+        ensures ok { OnOk result (Adds (IsEntry ((name_of self.old).callers + 2) Clock (marks_at (history_of self.old)).phase clock_ended) (history_of self.old) (history_of self.new)) }
+        ensures same { OnErr result (history_of self.new ≡ history_of self.old) }
+        ensures full { IfErr result (λ d. IsFull (name_of self.new) d (history_of self.new)) }
+        ensures by { AddsBy ((name_of self.old).callers + 2) (history_of self.old) (history_of self.new) }
+        ensures generation { generation_of (history_of self.new) ≡ generation_of (history_of self.old) }
+    {
+        let _journal = self.port.journal();
+        self.port.clock_end()
+    }
+
+    /// The line of the phase is over: all that its putter put was sent.
+    pub(crate) fn line_end(&mut self, putter: &mut FlipIn) -> Result<(), Denied>
+        requires not_over { (marks_at (history_of self.old)).line_over ≡ false }
+        requires ring { putter.old.ring ≡ (name_of self.old).ring }
+        requires sent { (marks_at (history_of self.old)).sent ≤ length putter.old.sent }
+        ensures name { name_of self.new ≡ name_of self.old }
+        ensures ok { OnOk result (Adds (EndsLine ((name_of self.old).callers + 1) putter.old putter.new (history_of self.old)) (history_of self.old) (history_of self.new)) }
+        ensures putter { OnErr result (putter.new ≡ putter.old) }
+        ensures same { OnErr result (history_of self.new ≡ history_of self.old) }
+        ensures full { IfErr result (λ d. IsFull (name_of self.new) d (history_of self.new)) }
+        ensures by { AddsBy ((name_of self.old).callers + 1) (history_of self.old) (history_of self.new) }
+        ensures generation { generation_of (history_of self.new) ≡ generation_of (history_of self.old) }
+    {
+        let _journal = self.port.journal();
+        self.port.line_end(putter)
+    }
+
+    /// The calls of a caller in the phase that runs are over.
+    pub(crate) fn caller_end(&mut self, caller: u16) -> Result<(), Denied>
+        requires known { caller < sum (name_of self.old).counts }
+        requires between { IsBetween caller (standing_at caller (history_of self.old)).next (history_of self.old) }
+        ensures name { name_of self.new ≡ name_of self.old }
+        ensures ok { OnOk result (Adds (IsEntry caller (Caller caller) (standing_at caller (history_of self.old)).next caller_ended) (history_of self.old) (history_of self.new)) }
+        ensures same { OnErr result (history_of self.new ≡ history_of self.old) }
+        ensures full { IfErr result (λ d. IsFull (name_of self.new) d (history_of self.new)) }
+        ensures by { AddsBy caller (history_of self.old) (history_of self.new) }
+        ensures generation { generation_of (history_of self.new) ≡ generation_of (history_of self.old) }
+    {
+        let _journal = self.port.journal();
+        self.port.own_entries_tell();
+        self.port.caller_end(caller)
+    }
+
+    /// Whether the phase that runs may end.
+    pub(crate) fn may_end(&self) -> bool
+        ensures { result ≡ may_end (name_of self.now).counts (terminal_at (name_of self.now) (history_of self.now)) }
+    {
+        let _journal = self.port.journal();
+        self.port.may_end()
+    }
+}

@@ -1,0 +1,148 @@
+//! One turn with the port.
+
+ghost use Rattle.std.specs.Prelude.{◌≡◌, ◌+◌, ◌<◌, ◌≤◌, true, false, Some, IfErr, OnOk, OnErr, length, sum};
+ghost use Rattle.tty_calls.specs.Plain.{ticked, clock_ended, caller_ended};
+ghost use Rattle.tty_calls.specs.declared.journals.Who.TheVariants.{Caller, Clock};
+ghost use Rattle.tty_terminal.specs.Steps.{may_end};
+ghost use Rattle.port_cell.specs.Entries.{generation_of, AddsBy};
+ghost use Rattle.port_cell.specs.Knowledge.{number_of, name_of, list_seen, has_turn, is_raised};
+ghost use Rattle.port_cell.specs.Seats.{IsSeat, IsSameSeat, KeepsUse};
+ghost use Rattle.port_cell.specs.Lent.{value_in};
+ghost use Rattle.tty_port.specs.Histories.{history_of, name_of as port_name};
+ghost use Rattle.tty_port.specs.Seen.{standing_at, marks_at, terminal_at, IsBetween};
+ghost use Rattle.tty_port.specs.Adding.{IsEntry, IsFull};
+ghost use Rattle.tty_port.specs.Lines.{MakesOne, MakesNone, EndsLine};
+ghost use Rattle.tty_port.specs.Shared.{IsHere, name_of_port, table_of};
+
+use crate::kept_port::KeptPort;
+use crate::shared::{Seat, SharedPort};
+use flip_buffer::FlipIn;
+use port_cell::Turn;
+use std::sync::Wait;
+use tty_calls::Denied;
+
+impl SharedPort {
+    /// Notes what this turn added to so many entries, where that is anything, and gives the turn back.
+    pub(crate) fn end_turn(&self, seat: &mut Seat, mut turn: Turn<KeptPort>, found: u64)
+        requires seat { IsSeat (table_of self.now) seat.old }
+        requires turn { has_turn seat.old ≡ true }
+        requires lowered { is_raised seat.old ≡ false }
+        requires found { found ≡ length (list_seen seat.old) }
+        requires name { name_of seat.old ≡ Some (port_name (value_in turn)) }
+        requires list { AddsBy (number_of seat.old) (list_seen seat.old) (history_of (value_in turn)) }
+        requires generation { generation_of (history_of (value_in turn)) ≡ generation_of (list_seen seat.old) }
+        ensures seat { IsSeat (table_of self.now) seat.new }
+        ensures same { IsSameSeat seat.old seat.new }
+        ensures references { KeepsUse seat.old seat.new }
+        ensures turn { has_turn seat.new ≡ false }
+        ensures lowered { is_raised seat.new ≡ false }
+        ensures list { list_seen seat.new ≡ history_of (value_in turn) }
+    {
+        if turn.value().entry_count() != found {
+            self.cell.note(seat, &mut turn);
+        }
+        self.cell.give(seat, turn);
+    }
+
+    /// A tenth of a second passed.
+    pub fn tick<R: Wait>(&self, rt: &R, seat: &mut Seat) -> Result<(), Denied>
+        requires seat { IsHere self.now ((name_of_port self.now).callers + 2) seat.old }
+        requires not_over { (marks_at (list_seen seat.old)).clock_over ≡ false }
+        ensures seat { IsHere self.now ((name_of_port self.now).callers + 2) seat.new }
+        ensures references { KeepsUse seat.old seat.new }
+        ensures ok { OnOk result (MakesOne (λ before. IsEntry ((name_of_port self.now).callers + 2) Clock (marks_at before).phase ticked) seat.old seat.new) }
+        ensures err { OnErr result (MakesNone seat.old seat.new) }
+        ensures full { IfErr result (λ d. IsFull (name_of_port self.now) d (list_seen seat.new)) }
+    {
+        let mut turn = self.cell.turn(rt, seat);
+        let found = turn.value().entry_count();
+        let result = turn.value().tick();
+        self.end_turn(seat, turn, found);
+        result
+    }
+
+    /// The clock of the phase is over.
+    pub fn clock_end<R: Wait>(&self, rt: &R, seat: &mut Seat) -> Result<(), Denied>
+        requires seat { IsHere self.now ((name_of_port self.now).callers + 2) seat.old }
+        requires not_over { (marks_at (list_seen seat.old)).clock_over ≡ false }
+        ensures seat { IsHere self.now ((name_of_port self.now).callers + 2) seat.new }
+        ensures references { KeepsUse seat.old seat.new }
+        ensures ok { OnOk result (MakesOne (λ before. IsEntry ((name_of_port self.now).callers + 2) Clock (marks_at before).phase clock_ended) seat.old seat.new) }
+        ensures err { OnErr result (MakesNone seat.old seat.new) }
+        ensures full { IfErr result (λ d. IsFull (name_of_port self.now) d (list_seen seat.new)) }
+    {
+        let mut turn = self.cell.turn(rt, seat);
+        let found = turn.value().entry_count();
+        let result = turn.value().clock_end();
+        self.end_turn(seat, turn, found);
+        result
+    }
+
+    /// The line of the phase is over: all that its putter put was sent. Both ends of the flip buffer
+    /// meet.
+    pub fn line_end<R: Wait>(
+        &self,
+        rt: &R,
+        seat: &mut Seat,
+        putter: &mut FlipIn,
+    ) -> Result<(), Denied>
+        requires seat { IsHere self.now ((name_of_port self.now).callers + 1) seat.old }
+        requires not_over { (marks_at (list_seen seat.old)).line_over ≡ false }
+        requires ring { putter.old.ring ≡ (name_of_port self.now).ring }
+        requires sent { (marks_at (list_seen seat.old)).sent ≤ length putter.old.sent }
+        ensures seat { IsHere self.now ((name_of_port self.now).callers + 1) seat.new }
+        ensures references { KeepsUse seat.old seat.new }
+        ensures ok { OnOk result (MakesOne (EndsLine ((name_of_port self.now).callers + 1) putter.old putter.new) seat.old seat.new) }
+        ensures putter { OnErr result (putter.new ≡ putter.old) }
+        ensures err { OnErr result (MakesNone seat.old seat.new) }
+        ensures full { IfErr result (λ d. IsFull (name_of_port self.now) d (list_seen seat.new)) }
+    {
+        let mut turn = self.cell.turn(rt, seat);
+        let found = turn.value().entry_count();
+        let result = turn.value().line_end(putter);
+        self.end_turn(seat, turn, found);
+        result
+    }
+
+    /// The calls of a caller in the phase that runs are over. It is a caller of this phase.
+    pub fn caller_end<R: Wait>(&self, rt: &R, seat: &mut Seat, caller: u16) -> Result<(), Denied>
+        requires seat { IsHere self.now caller seat.old }
+        requires known { caller < sum (name_of_port self.now).counts }
+        requires between { IsBetween caller (standing_at caller (list_seen seat.old)).next (list_seen seat.old) }
+        ensures seat { IsHere self.now caller seat.new }
+        ensures references { KeepsUse seat.old seat.new }
+        ensures ok { OnOk result (MakesOne (λ before. IsEntry caller (Caller caller) (standing_at caller (list_seen seat.old)).next caller_ended) seat.old seat.new) }
+        ensures err { OnErr result (MakesNone seat.old seat.new) }
+        ensures full { IfErr result (λ d. IsFull (name_of_port self.now) d (list_seen seat.new)) }
+    {
+        let mut turn = self.cell.turn(rt, seat);
+        let found = turn.value().entry_count();
+        let result = turn.value().caller_end(caller);
+        self.end_turn(seat, turn, found);
+        result
+    }
+
+    /// Whether the phase that runs may end: line, clock and all its callers are over, and nothing is
+    /// left to flush.
+    pub fn ended<R: Wait>(&self, rt: &R, seat: &mut Seat) -> bool
+        requires { IsHere self.now (number_of seat.old) seat.old }
+        ensures seat { IsHere self.now (number_of seat.old) seat.new }
+        ensures references { KeepsUse seat.old seat.new }
+        ensures kept { MakesNone seat.old seat.new }
+        ensures ended { result ≡ may_end (name_of_port self.now).counts (terminal_at (name_of_port self.now) (list_seen seat.new)) }
+    {
+        let mut turn = self.cell.turn(rt, seat);
+        let ended = turn.value().may_end();
+        self.cell.give(seat, turn);
+        ended
+    }
+
+    /// Waits until something may have happened. It comes back without that too, since what a line
+    /// pushes is no step of the port.
+    pub fn pause<R: Wait>(&self, rt: &R, seat: &mut Seat)
+        requires { IsHere self.now (number_of seat.old) seat.old }
+        ensures { seat.new ≡ seat.old }
+    {
+        self.cell.park(rt, seat);
+    }
+}
