@@ -1,5 +1,5 @@
 -- Entries that are fine one by one are a run in its phases and in one generation, and the other way round.
-use Rattle.std.proofs.Common.{◌≡◌, ℕ, Bool, true, false, List, [], ◌∷◌, ◌++◌, Option, refl, sym, subst, append_assoc, IsTrue}
+use Rattle.std.proofs.Common.{◌≡◌, ℕ, Bool, true, false, List, [], ◌∷◌, ◌++◌, sym, subst, append_assoc}
 use Rattle.std.specs.Prelude.{MatchBool, ◌&&◌, ◌==◌}
 use Rattle.std.proofs.lemmas.List.{append-nil}
 use Rattle.tty_calls.specs.declared.journals.Who.{Who}
@@ -8,9 +8,9 @@ use Rattle.tty_calls.specs.Plain.{PlainEvent, answered, parted, waited, flushed,
 use Rattle.tty_calls.specs.Sessions.{PlainSession, call_at, counts_on}
 use Rattle.tty_terminal.specs.Terminals.{Terminal}
 use Rattle.tty_terminal.specs.Steps.{after}
-use Rattle.tty_terminal.specs.Runs.{Leads, is_of_call, RunHas, NextHas, CallGoesOn, GoesOn, OneGeneration, phase_after}
+use Rattle.tty_terminal.specs.Runs.{Leads, is_of_call, RunHas, NextHas, CallGoesOn, GoesOn, OneGeneration}
 use Rattle.journal_check.specs.Legal.{AreInPhases}
-use Rattle.journal_check.specs.Verdicts.{IsFine, AreFine}
+use Rattle.journal_check.specs.Verdicts.{AreFine}
 use Rattle.journal_check.proofs.PhaseLemmas.{phase-after}
 
 -- ---- a front of a journal in one generation is in one generation

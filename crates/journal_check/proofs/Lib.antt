@@ -2,3 +2,16 @@ pub mod PhaseLemmas
 pub mod FineLemmas
 pub mod VerdictLemmas
 pub mod MarkLemmas
+pub mod Tried
+pub mod NameLemmas
+pub mod TurnLemmas
+pub mod GenerationLemmas
+pub mod ReplayLemmas
+pub mod JudgingLemmas
+pub mod AccountLemmas
+pub mod ReceiptLemmas
+pub mod OverLemmas
+pub mod FinishLemmas
+pub mod WalkLemmas
+pub mod SeenLemmas
+pub mod CheckLemmas

@@ -1,18 +1,15 @@
 -- What the entries of a phase say of its line, its clock and its callers, read off the terminals before and after them.
-use Rattle.std.proofs.Common.{◌≡◌, ◌≤◌, ℕ, ◌+◌, ◌-◌, suc, Bool, true, false, cond, List, [], ◌∷◌, ◌++◌, replicate, Option, refl, sym, ap, subst, ◌∙◌, arith, add-one}
-use Rattle.std.specs.Prelude.{flat_map}
-use Rattle.std.specs.List.{range_with_len}
+use Rattle.std.proofs.Common.{◌≡◌, ◌≤◌, ℕ, ◌+◌, ◌-◌, suc, Bool, true, false, cond, List, [], ◌∷◌, ◌++◌, Option, refl, sym, ap, subst, ◌∙◌, arith}
 use Rattle.std.proofs.lemmas.Bool.{false≢true, eqb-true}
-use Rattle.tty_base.specs.declared.characters.Flagged.{Flagged}
 use Rattle.tty_base.specs.declared.lines.Overrun.{Overrun}
 use Rattle.tty_calls.specs.declared.journals.Who.{Who}
 use Rattle.tty_calls.specs.declared.journals.Who.TheVariants.{Caller, Flusher, Line, Clock, Session}
 use Rattle.tty_calls.specs.Plain.{PlainCall, PlainEvent, answered, parted, waited, flushed, ticked, line_ended, clock_ended, caller_ended, phase_ended, hung_up, PlainEntry, is_caller}
 use Rattle.tty_calls.specs.Sessions.{PlainSession, scripts_on, call_at, counts_on}
 use Rattle.tty_terminal.specs.Terminals.{Terminal, caller_at}
-use Rattle.tty_terminal.specs.Steps.{ByCaller, IsAllowed, Allowed, after}
+use Rattle.tty_terminal.specs.Steps.{ByCaller, IsAllowed, after}
 use Rattle.tty_terminal.specs.Runs.{Leads}
-use Rattle.tty_terminal.specs.Standing.{Standing, standing_of, standing_after_own, standing_after_other, standing_after}
+use Rattle.tty_terminal.specs.Standing.{Standing, standing_of, standing_after_own, standing_after_other}
 use Rattle.journal_check.specs.Phases.{BeginsPhase, HasPlayed, CompletesPhase}
 use Rattle.tty_terminal.specs.Marks.{Marks, marks_of, marks_after}
 use Rattle.tty_terminal.proofs.MarkLaws.{step_marks}
@@ -32,7 +29,7 @@ none_rest (x ∷ xs) ys e = cc
 -- ---- the line
 
 -- the line's ends among entries, between its state before them and after them
-abbrev LineOf : (over : Bool) (sent : ℕ) (over' : Bool) (sent' : ℕ) → List ℕ → Type 0
+abbrev pub LineOf : (over : Bool) (sent : ℕ) (over' : Bool) (sent' : ℕ) → List ℕ → Type 0
 LineOf true sent over' sent' ends = (ends ≡ []) × (over' ≡ true) × (sent' ≡ sent)
 LineOf false sent over' sent' ends = ends ≡ cond over' (sent' ∷ []) []
 
@@ -93,7 +90,7 @@ line_marks calls counts t (e ∷ es) u leads inside =
 
 -- ---- the clock
 
-abbrev ClockOf : (over : Bool) (tick : ℕ) (over' : Bool) (tick' : ℕ) → List ClockMark → Type 0
+abbrev pub ClockOf : (over : Bool) (tick : ℕ) (over' : Bool) (tick' : ℕ) → List ClockMark → Type 0
 ClockOf true tick over' tick' marks = (marks ≡ []) × (over' ≡ true) × (tick' ≡ tick)
 ClockOf false tick over' tick' marks = (tick ≤ tick') × (marks ≡ ticks_of (tick' - tick) ++ cond over' (clock_ends ∷ []) [])
 

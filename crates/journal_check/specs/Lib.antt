@@ -1,4 +1,12 @@
+pub mod Accounts
+pub mod Findings
+pub mod Finishing
 pub mod Legal
 pub mod Phases
+pub mod Receipts
+pub mod Replaying
+pub mod Scripts
+pub mod Seen
 pub mod Short
+pub mod Trying
 pub mod Verdicts

@@ -1,6 +1,6 @@
 -- What can be said of the runs of a session: that all are legal, which port has the first wrong entry, or which is the first that
 -- is not legal although no entry is wrong.
-use Rattle.std.specs.Prelude.{◌≡◌, ℕ, ◌<◌, List, [], ◌∷◌, ◌++◌, Option, None, Some, length, slice_get, sum}
+use Rattle.std.specs.Prelude.{◌≡◌, ℕ, ◌<◌, List, [], ◌∷◌, ◌++◌, Some, length, slice_get, sum}
 use Rattle.tty_calls.specs.declared.journals.PortRun.{PortRun}
 use Rattle.tty_calls.specs.Plain.{PlainEntry, entries_of}
 use Rattle.tty_calls.specs.Sessions.{PlainSession, call_at, counts_on}

@@ -1,9 +1,24 @@
-//! What it is for the journals of a session to be legal runs, and what can be said of them.
+//! What it is for the journals of a session to be legal runs, what can be said of them, and the judge that
+//! says it.
 #![tactic(auto)]
 
+mod account;
+mod answers;
+mod characters;
+mod checking;
+mod entries;
+mod finishing;
+mod judging;
 mod laws;
+mod lines;
+mod overruns;
+mod replay;
+mod seen;
+mod steps;
+mod turns;
 mod verdicts;
 
+pub use checking::check;
 pub use laws::{
     a_legal_run_has_no_wrong_entry, an_accounted_run_without_wrong_entries_is_legal,
     at_most_one_verdict_fits, the_ends_of_a_phase_tell_its_part,

@@ -1,0 +1,179 @@
+-- A port's journal from its first entry on.
+use Rattle.std.proofs.Common.{◌≡◌, ℕ, suc, ◌+◌, ◌*◌, ◌^◌, ◌<◌, ◌≤◌, ◌==◌, Bool, true, false, MatchBool, List, [], ◌∷◌, ◌++◌, Option, None, Some, length, take, drop, map, get_or, replicate, refl, sym, ◌∙◌, ap, subst, arith, drop-cons}
+use Rattle.std.specs.Prelude.{sum, filter}
+use Rattle.std.proofs.lemmas.Bool.{false≢true}
+use Rattle.std.proofs.lemmas.List.{get_or-map, get_or-replicate, length-replicate, length-map, length-take-le, take-append-drop, take_all, map_more}
+use Rattle.std.proofs.lemmas.List.Elements.{All-get_or}
+use Rattle.tty_base.specs.Contents.{Contents}
+use Rattle.tty_base.specs.declared.lines.LineStep.{LineStep}
+use Rattle.tty_calls.specs.declared.sessions.Script.{Script}
+use Rattle.tty_calls.specs.declared.sessions.Phase.{Phase}
+use Rattle.tty_calls.specs.declared.sessions.Session.{Session}
+use Rattle.tty_calls.specs.declared.journals.Entry.{Entry}
+use Rattle.tty_calls.specs.declared.journals.Who.{Who}
+use Rattle.tty_calls.specs.declared.journals.Who.TheVariants as who
+use Rattle.tty_calls.specs.Plain.{PlainCall, PlainEvent, answered, parted, waited, flushed, ticked, line_ended, clock_ended, caller_ended, phase_ended, hung_up, PlainEntry, entry_of, entries_of}
+use Rattle.tty_calls.specs.Sessions.{PlainSession, script_of, phase_of, session_of, scripts_on, scripts_over, calls_of, call_at, counts_on}
+use Rattle.tty_calls.specs.Limits.{IsPhaseWithin, IsWithinLimits}
+use Rattle.tty_terminal.specs.Terminals.{Terminal, opening}
+use Rattle.tty_terminal.specs.Outcomes.{Outcome, unknown, waits, takes, gives}
+use Rattle.tty_terminal.specs.Calls.{outcome_of}
+use Rattle.tty_terminal.specs.Steps.{Drops, IsAllowed, after}
+use Rattle.tty_terminal.specs.Terminals.{caller_at}
+use Rattle.tty_terminal.specs.Runs.{Leads, chars_in}
+use Rattle.tty_terminal.proofs.StepLaws.{step_does, Within}
+use Rattle.tty_terminal.proofs.Runs.{run_bounded, run_capacity, run_within}
+use Rattle.tty_terminal.proofs.WaitLaws.{run_part_count}
+use Rattle.journal_check.specs.declared.turns.Turn.{Turn}
+use Rattle.journal_check.specs.declared.replay.Replay.{Replay}
+use Rattle.journal_check.specs.Legal.{flip_on}
+use Rattle.journal_check.specs.Verdicts.{IsFine, AreFineTo, HasNoWrong, IsFirstWrong}
+use Rattle.journal_check.specs.Scripts.{no_turn, IsIdle, AreIdle}
+use Rattle.journal_check.specs.Replaying.{IsReady, Follows}
+use Rattle.journal_check.proofs.NameLemmas.{names_few, length_over}
+use Rattle.journal_check.proofs.ReplayLemmas.{follows_leads}
+
+-- ---- the first turns
+
+no_calls_yet : (name : Option (List ℕ)) → length (calls_of [] name) ≡ 0
+no_calls_yet None = refl
+no_calls_yet (Some name) = refl
+
+pub first_idle : (p : ℕ) (session : PlainSession) (callers : ℕ) (turns : List Turn) → callers ≡ sum (counts_on p session) → turns ≡ replicate callers no_turn → AreIdle p session 0 turns
+first_idle p session callers turns count is =
+    subst (AreIdle p session 0) (sym is) (record {
+      many = omega (arith, names_few (scripts_over p session.phases) [], length_over p session.phases, length-replicate callers no_turn);
+      each = λ c within. (let here : get_or (replicate callers no_turn) c no_turn ≡ no_turn = get_or-replicate callers c no_turn no_turn (omega (arith, within, length-replicate callers no_turn)) in
+          subst (IsIdle p session 0 c) (sym here) (record { begun = omega arith; first = sym (no_calls_yet _) }));
+    })
+
+-- a phase has at most 16 callers
+pub few_scripts : (p : ℕ) (session : Session) (i : ℕ) (phase : Phase) → IsWithinLimits (session_of session) → i < length session.phases.items → phase ≡ get_or session.phases.items i phase → length (scripts_on p (phase_of phase)) ≤ 16
+few_scripts p session i phase limits lt is =
+    let here : get_or (map phase_of session.phases.items) i (phase_of phase) ≡ phase_of phase = get_or-map phase_of session.phases.items i phase (phase_of phase) lt ∙ ap phase_of (sym is) in
+    let within : IsPhaseWithin session.ports (phase_of phase) =
+    subst (IsPhaseWithin session.ports) here (All-get_or (IsPhaseWithin session.ports) (map phase_of session.phases.items) i (phase_of phase) (omega (arith, lt, length-map session.phases.items phase_of)) limits.phases) in
+    within.few_callers p
+
+-- a phase has a line for each port
+pub many_lines : (session : Session) (i : ℕ) (phase : Phase) → IsWithinLimits (session_of session) → i < length session.phases.items → phase ≡ get_or session.phases.items i phase → length phase.lines.items ≡ session.ports
+many_lines session i phase limits lt is =
+    let here : get_or (map phase_of session.phases.items) i (phase_of phase) ≡ phase_of phase = get_or-map phase_of session.phases.items i phase (phase_of phase) lt ∙ ap phase_of (sym is) in
+    let within : IsPhaseWithin session.ports (phase_of phase) =
+    subst (IsPhaseWithin session.ports) here (All-get_or (IsPhaseWithin session.ports) (map phase_of session.phases.items) i (phase_of phase) (omega (arith, lt, length-map session.phases.items phase_of)) limits.phases) in
+    sym (length-map phase.lines.items (λ (steps : Contents LineStep). steps.items)) ∙ within.lines
+
+-- ---- how many characters an entry has
+
+drops_few : (t : Terminal) (o : Outcome) (n : ℕ) → t.capacity ≤ 65536 → Drops t o n → n ≤ 65536
+drops_few t unknown n capacity h = omega (arith, h)
+drops_few t waits n capacity h = omega (arith, h)
+drops_few t (takes taken left) n capacity h = omega (arith, h)
+drops_few t (gives answer false left) n capacity h = omega (arith, h)
+drops_few t (gives answer true left) n capacity h = omega (arith, h.1, capacity)
+
+chars_few : (f : ℕ → ℕ → Option PlainCall) (counts : List ℕ) (t : Terminal) (who : Who) (step part : ℕ) (event : PlainEvent) → t.capacity ≤ 65536 → Within t → IsAllowed f counts t who step part event → length (chars_in event) ≤ 65536
+chars_few f counts t (who.Caller c) step part (answered a dropped) capacity within h = drops_few t (outcome_of t (caller_at t c) (f c step)) (length dropped) capacity h.drops
+chars_few f counts t who.Flusher step part (answered a dropped) capacity within h = absurd h
+chars_few f counts t who.Line step part (answered a dropped) capacity within h = absurd h
+chars_few f counts t who.Clock step part (answered a dropped) capacity within h = absurd h
+chars_few f counts t who.Session step part (answered a dropped) capacity within h = absurd h
+chars_few f counts t by step part (parted n) capacity within h = omega arith
+chars_few f counts t by step part waited capacity within h = omega arith
+chars_few f counts t by step part (flushed chars) capacity within h = omega (arith, h.1.few)
+chars_few f counts t by step part ticked capacity within h = omega arith
+chars_few f counts t by step part (line_ended n) capacity within h = omega arith
+chars_few f counts t by step part clock_ended capacity within h = omega arith
+chars_few f counts t by step part caller_ended capacity within h = omega arith
+chars_few f counts t by step part phase_ended capacity within h = omega arith
+chars_few f counts t by step part (hung_up dropped) capacity within h = omega (arith, h.1.all, within, capacity)
+
+taken_few : (f : ℕ → ℕ → Option PlainCall) (counts : List ℕ) (t : Terminal) (es : List PlainEntry) (u : Terminal) → Leads f counts t es u → t.capacity ≤ 65536 → Within t → u.taken ≤ t.taken + 65536 * length es
+taken_few f counts t [] u h capacity within = omega (arith, ap (λ (v : Terminal). v.taken) h)
+taken_few f counts t (e ∷ es) u h capacity within =
+    let does = step_does f counts t e h.0 in
+    let few = chars_few f counts t e.who e.step e.part e.event capacity within h.0.1 in
+    omega (arith, taken_few f counts (after f t e) es u h.1 (omega (arith, does.capacity, capacity)) (does.within within), does.taken, few)
+
+few_flip : (p : ℕ) (session : PlainSession) → IsWithinLimits session → p < session.ports → flip_on p session ≤ 65536
+few_flip p session limits lt = All-get_or (λ n. n ≤ 65536) session.flips p 0 (omega (arith, limits.flips, lt)) limits.few_flip
+
+-- ---- what a replay needs
+
+pub ready : (p : ℕ) (session : PlainSession) (before : List PlainEntry) (r : Replay) → IsWithinLimits session → p < session.ports → length before < 2 ^ 31 → Follows p session before r → IsReady p session r
+ready p session before r limits port few h =
+    let f = call_at p session in
+    let counts = counts_on p session in
+    let t = r.terminal.terminal in
+    let leads = follows_leads p session before r h in
+    let bounded = run_bounded f counts (flip_on p session) before t leads in
+    let capacity = run_capacity f counts (flip_on p session) before t leads in
+    let flip = few_flip p session limits port in
+    let taken = taken_few f counts (opening (sum counts) (flip_on p session)) before t leads flip (omega arith) in
+    record {
+      limits = limits;
+      small = record {
+        tick = omega (arith, bounded.tick, few);
+        generation = omega (arith, bounded.generation, few);
+        phase = omega (arith, bounded.phase, few);
+        taken = omega (arith, taken, few);
+        capacity = omega (arith, capacity, flip);
+        within = run_within f counts (flip_on p session) before t leads;
+        next = λ c. omega (arith, bounded.next c, few);
+        parts = λ c. omega (arith, run_part_count f counts (flip_on p session) before t leads c, few);
+        column = omega (arith, h.column, few);
+      };
+      turns = h.turns;
+      names = h.names;
+      counts = h.counts;
+      many = h.many;
+    }
+
+-- ---- the loop over the entries
+
+pub entries_more : (entries : List Entry) (i : ℕ) (entry : Entry) → i < length entries → entry ≡ get_or entries i entry → entries_of (take i entries) ++ entry_of entry ∷ [] ≡ entries_of (take (i + 1) entries)
+entries_more entries i entry lt is =
+    ap (λ (e : Entry). entries_of (take i entries) ++ entry_of e ∷ []) is ∙ sym (map_more entry_of entries i entry lt)
+
+map_append : (xs ys : List Entry) → entries_of (xs ++ ys) ≡ entries_of xs ++ entries_of ys
+map_append [] ys = refl
+map_append (x ∷ xs) ys = ap (λ (es : List PlainEntry). entry_of x ∷ es) (map_append xs ys)
+
+entries_split : (entries : List Entry) (i : ℕ) (entry : Entry) → i < length entries → entry ≡ get_or entries i entry → entries_of entries ≡ entries_of (take i entries) ++ entry_of entry ∷ entries_of (drop (suc i) entries)
+entries_split entries i entry lt is =
+    ap entries_of (sym (take-append-drop i entries))
+    ∙ map_append (take i entries) (drop i entries)
+    ∙ ap (λ (es : List Entry). entries_of (take i entries) ++ entries_of es) (drop-cons entries i entry lt)
+    ∙ ap (λ (e : Entry). entries_of (take i entries) ++ entry_of e ∷ entries_of (drop (suc i) entries)) (sym is)
+
+pub few_before : (entries : List Entry) (i : ℕ) → i < length entries → length (entries_of (take i entries)) ≡ i
+few_before entries i lt = length-map (take i entries) entry_of ∙ length-take-le i entries (omega arith)
+
+pub goes_through : (p : ℕ) (session : PlainSession) (entries : List Entry) (i : ℕ) (entry : Entry) (r after : Replay) (b : Bool) → i < length entries → entry ≡ get_or entries i entry → b ≡ true
+    → MatchBool b (IsFine p session (entries_of (take i entries)) r.terminal.terminal (entry_of entry) × Follows p session (entries_of (take i entries) ++ entry_of entry ∷ []) after) (IsFine p session (entries_of (take i entries)) r.terminal.terminal (entry_of entry) → ⊥)
+    → Follows p session (entries_of (take (i + 1) entries)) after
+goes_through p session entries i entry r after true lt is fine h = subst (λ (es : List PlainEntry). Follows p session es after) (entries_more entries i entry lt is) h.1
+goes_through p session entries i entry r after false lt is fine h = absurd (false≢true fine)
+
+pub is_wrong : (p : ℕ) (session : PlainSession) (entries : List Entry) (i : ℕ) (entry : Entry) (r after : Replay) (b : Bool) → i < length entries → entry ≡ get_or entries i entry → b ≡ false → Follows p session (entries_of (take i entries)) r
+    → MatchBool b (IsFine p session (entries_of (take i entries)) r.terminal.terminal (entry_of entry) × Follows p session (entries_of (take i entries) ++ entry_of entry ∷ []) after) (IsFine p session (entries_of (take i entries)) r.terminal.terminal (entry_of entry) → ⊥)
+    → IsFirstWrong p session (entries_of entries) i
+is_wrong p session entries i entry r after true lt is wrong follows h = absurd (false≢true (sym wrong))
+is_wrong p session entries i entry r after false lt is wrong follows h = record {
+  before = entries_of (take i entries);
+  entry = entry_of entry;
+  rest = entries_of (drop (suc i) entries);
+  parts = entries_split entries i entry lt is;
+  place = few_before entries i lt;
+  terminal = r.terminal.terminal;
+  fine = follows.fine;
+  wrong = h;
+}
+
+pub none_wrong : (p : ℕ) (session : PlainSession) (entries : List Entry) (i : ℕ) (r : Replay) → length entries ≤ i → Follows p session (entries_of (take i entries)) r → HasNoWrong p session (entries_of entries)
+none_wrong p session entries i r all follows =
+    (r.terminal.terminal, subst (λ (es : List Entry). AreFineTo p session (entries_of es) r.terminal.terminal) (take_all i entries all) follows.fine)
+
+pub few_scripts_of : (p : ℕ) (phase : Phase) (scripts : List Script) (count : ℕ) → scripts ≡ phase.callers.items → count ≡ length (filter (λ s. s.port == p) (map script_of scripts)) → length (scripts_on p (phase_of phase)) ≤ 16 → count < 256
+few_scripts_of p phase scripts count are is few =
+    omega (arith, is, ap (λ (xs : List Script). length (filter (λ s. s.port == p) (map script_of xs))) are, few)

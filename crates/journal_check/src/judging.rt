@@ -1,0 +1,131 @@
+//! The judge of one port's journal.
+
+ghost use Rattle.std.specs.Prelude.{◌≡◌, ◌==◌, [], ◌<◌, ◌≤◌, ◌^◌, MatchOption, IfOk, length, map, filter, sum};
+ghost use Rattle.tty_calls.specs.Plain.{entries_of};
+ghost use Rattle.tty_calls.specs.Sessions.{script_of, session_of, scripts_over, names_of, counts_on};
+ghost use Rattle.tty_calls.specs.Limits.{IsWithinLimits};
+ghost use Rattle.journal_check.specs.Verdicts.{HasNoWrong, IsFirstWrong};
+ghost use Rattle.journal_check.specs.Scripts.{AreTurns};
+ghost use Rattle.journal_check.specs.Replaying.{Follows};
+
+use crate::replay::{Replay, begin_phase, judge};
+use crate::turns::{NO_TURN, Turn};
+use std::alloc::Global;
+use tty_base::NoMemory;
+use tty_calls::{Entry, Names, Script, Session};
+use tty_terminal::Terminal;
+
+/// The most entries of a journal that is judged. A longer one is want of memory.
+const MOST_ENTRIES: usize = 0x7fff_ffff;
+
+/// How many of these scripts are of a port.
+fn count_of(scripts: &[Script], port: usize) -> usize
+    ensures { result ≡ length (filter (λ s. s.port == port) (map script_of scripts.now)) }
+{
+    let mut count = 0;
+    for script in scripts {
+        if usize::from(script.port) == port {
+            count += 1;
+        }
+    }
+    count
+}
+
+/// How many callers a port has in each phase.
+fn counts_in(alloc: Global, session: &Session, port: usize) -> Result<Vec<u8>, NoMemory>
+    requires { IsWithinLimits (session_of session.now) }
+    ensures { IfOk result (λ counts. counts.items ≡ counts_on port (session_of session.now)) }
+{
+    let mut counts = Vec::new(alloc);
+    for phase in session.phases.as_slice() {
+        counts.push(count_of(phase.callers.as_slice(), port) as u8)?;
+    }
+    Ok(counts)
+}
+
+/// The sum of these numbers.
+fn total(counts: &[u8]) -> usize
+    requires { length counts.now ≤ 64 }
+    ensures { result ≡ sum counts.now }
+{
+    counts.iter().map(|count| *count as usize).sum()
+}
+
+/// Each caller's turn in the first phase.
+fn first_turns(
+    alloc: Global,
+    names: &Names,
+    session: &Session,
+    port: usize,
+    callers: usize,
+) -> Result<Vec<Turn>, NoMemory>
+    requires names { names.now ≡ names_of (scripts_over port (session_of session.now).phases) }
+    requires callers { callers ≡ sum (counts_on port (session_of session.now)) }
+    requires limits { IsWithinLimits (session_of session.now) }
+    ensures turns { IfOk result (λ turns. AreTurns port (session_of session.now) 0 turns.items) }
+    ensures many { IfOk result (λ turns. length turns.items ≡ callers) }
+{
+    let mut turns = vec![in alloc; NO_TURN; callers]?;
+    begin_phase(turns.as_mut_slice(), names, session, port, 0);
+    Ok(turns)
+}
+
+/// The replay of a port of a session, before its first entry.
+fn begin(alloc: Global, session: &Session, port: usize) -> Result<Replay, NoMemory>
+    requires port { port < (session_of session.now).ports }
+    requires limits { IsWithinLimits (session_of session.now) }
+    ensures { IfOk result (λ replay. Follows port (session_of session.now) [] replay) }
+{
+    let names = Names::on_port(alloc, session, port)?;
+    let counts = counts_in(alloc, session, port)?;
+    let callers = total(counts.as_slice());
+    let turns = first_turns(alloc, &names, session, port, callers)?;
+    let capacity = session.flips.as_slice()[port];
+    Ok(Replay {
+        terminal: Terminal::new(alloc, callers, capacity)?,
+        turns,
+        names,
+        counts,
+        latest: 0,
+    })
+}
+
+/// The place of the first of these entries that is wrong, counted from 0, where none came before.
+fn first_wrong_of(
+    alloc: Global,
+    replay: &mut Replay,
+    session: &Session,
+    port: usize,
+    entries: &[Entry],
+) -> Result<Option<u32>, NoMemory>
+    requires port { port < (session_of session.now).ports }
+    requires limits { IsWithinLimits (session_of session.now) }
+    requires few { length entries.now < 2 ^ 31 }
+    requires first { Follows port (session_of session.now) [] replay.old }
+    ensures { IfOk result (λ found. MatchOption found (HasNoWrong port (session_of session.now) (entries_of entries.now)) (λ place. IsFirstWrong port (session_of session.now) (entries_of entries.now) place)) }
+{
+    for (place, entry) in entries.iter().enumerate() {
+        if !judge(alloc, replay, session, port, entry)? {
+            return Ok(Some(place as u32));
+        }
+    }
+    Ok(None)
+}
+
+/// The place of the first wrong entry of a journal, counted from 0.
+pub(crate) fn first_wrong(
+    alloc: Global,
+    session: &Session,
+    port: usize,
+    entries: &[Entry],
+) -> Result<Option<u32>, NoMemory>
+    requires port { port < (session_of session.now).ports }
+    requires limits { IsWithinLimits (session_of session.now) }
+    ensures { IfOk result (λ found. MatchOption found (HasNoWrong port (session_of session.now) (entries_of entries.now)) (λ place. IsFirstWrong port (session_of session.now) (entries_of entries.now) place)) }
+{
+    if entries.len() > MOST_ENTRIES {
+        return Err(NoMemory);
+    }
+    let mut replay = begin(alloc, session, port)?;
+    first_wrong_of(alloc, &mut replay, session, port, entries)
+}

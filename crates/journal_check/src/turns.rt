@@ -1,0 +1,133 @@
+//! Which calls each caller has in a phase.
+
+ghost use Rattle.std.specs.Prelude.{◌≡◌, ◌↔◌, ℕ, ◌+◌, ◌≤◌, ◌<◌, ◌^◌, Some, IsTrue, length, map, slice_index_or};
+ghost use Rattle.tty_calls.specs.Plain.{call_of, event_of, is_caller};
+ghost use Rattle.tty_calls.specs.Sessions.{PlainSession, script_of, session_of, scripts_over, names_of, number_in, call_at};
+ghost use Rattle.tty_calls.specs.Limits.{IsWithinLimits};
+ghost use Rattle.tty_terminal.specs.Runs.{is_of_call};
+ghost use Rattle.journal_check.specs.Legal.{phase_at, is_caller_end, IsInPhase};
+ghost use Rattle.journal_check.specs.Scripts.{no_turn, opened, AreSmallTurns, AreTurns, AreIdle, IsOpen};
+
+use tty_calls::{Call, Entry, Event, Names, Script, Session, Who};
+
+/// The latest phase in which a caller has a script, and its calls there.
+#[derive(Clone, Copy)]
+pub(crate) struct Turn {
+    /// The number of that phase, counted from 1.
+    pub(crate) begun: u32,
+    /// The caller's first step there, and how many calls it has there.
+    pub(crate) first: usize,
+    pub(crate) steps: usize,
+    /// The place of its script there.
+    pub(crate) script: usize,
+}
+
+/// A caller that has had no script.
+pub(crate) const NO_TURN: Turn = Turn {
+    begun: 0,
+    first: 0,
+    steps: 0,
+    script: 0,
+};
+
+/// The scripts of a phase.
+fn scripts_of(session: &Session, phase: u32) -> &[Script]
+    requires { phase < length (session_of session.now).phases }
+    ensures { map script_of result.now ≡ (phase_at (session_of session.now) phase).callers }
+{
+    session.phases.as_slice()[phase as usize].callers.as_slice()
+}
+
+/// The caller of a script has its turn.
+fn open_script(turns: &mut [Turn], names: &Names, phase: u32, place: usize, script: &Script)
+    requires many { length names.now ≤ length turns.old }
+    requires phase { phase < 2 ^ 31 }
+    requires small { AreSmallTurns turns.old }
+    ensures { turns.new ≡ opened turns.old (number_in names.now script.now.name.bytes) phase (length script.now.calls.items) place }
+{
+    if let Some(caller) = names.number(&script.name) {
+        let turn = turns[caller];
+        turns[caller] = Turn {
+            begun: phase + 1,
+            first: turn.first + turn.steps,
+            steps: script.calls.len(),
+            script: place,
+        };
+    }
+}
+
+/// The callers of a phase have their turns.
+pub(crate) fn open_phase(
+    turns: &mut [Turn],
+    names: &Names,
+    session: &Session,
+    port: usize,
+    phase: u32,
+)
+    requires names { names.now ≡ names_of (scripts_over port (session_of session.now).phases) }
+    requires many { length names.now ≤ length turns.old }
+    requires phase { phase < length (session_of session.now).phases }
+    requires limits { IsWithinLimits (session_of session.now) }
+    requires idle { AreIdle port (session_of session.now) phase turns.old }
+    ensures turns { AreTurns port (session_of session.now) phase turns.new }
+{
+    let scripts = scripts_of(session, phase);
+    for (place, script) in scripts.iter().enumerate() {
+        if usize::from(script.port) == port {
+            open_script(turns, names, phase, place, script);
+        }
+    }
+}
+
+/// Whether a caller's entry is of its part of the phase: of one of its calls there, or its end after
+/// all of them.
+pub(crate) fn is_in_phase(turns: &[Turn], phase: u32, entry: &Entry) -> bool
+    requires { phase < 2 ^ 31 }
+    ensures { (p : ℕ) (session : PlainSession) → IsWithinLimits session → AreTurns p session phase turns.now
+        → (IsTrue result ↔ IsInPhase p session phase entry.now.who entry.now.step (event_of entry.now.event)) }
+{
+    let Who::Caller(caller) = entry.who else {
+        return true;
+    };
+    let Some(turn) = turns.get(caller as usize) else {
+        return false;
+    };
+    turn.begun == phase + 1 && is_in_turn(turn, entry.step as usize, &entry.event)
+}
+
+/// Whether an entry of this step may be of a turn.
+fn is_in_turn(turn: &Turn, step: usize, event: &Event) -> bool
+    ensures calls { IsTrue result → IsTrue (is_of_call (event_of event.now)) → (turn.now.first ≤ step) × (step < turn.now.first + turn.now.steps) }
+    ensures end { IsTrue result → IsTrue (is_caller_end (event_of event.now)) → turn.now.first + turn.now.steps ≤ step }
+    ensures may { (IsTrue (is_of_call (event_of event.now)) → (turn.now.first ≤ step) × (step < turn.now.first + turn.now.steps))
+        → (IsTrue (is_caller_end (event_of event.now)) → turn.now.first + turn.now.steps ≤ step) → IsTrue result }
+{
+    match event {
+        Event::Answer(_, _) | Event::Part(_) | Event::Wait => {
+            step >= turn.first && step - turn.first < turn.steps
+        }
+        Event::CallerEnd => step >= turn.first && step - turn.first >= turn.steps,
+        _ => true,
+    }
+}
+
+/// The call of a caller's step.
+pub(crate) fn call_in<'a>(
+    session: &'a Session,
+    port: usize,
+    phase: u32,
+    caller: u16,
+    turn: Turn,
+    step: u32,
+) -> &'a Call
+    requires phase { phase < length (session_of session.now).phases }
+    requires limits { IsWithinLimits (session_of session.now) }
+    requires open { IsOpen port (session_of session.now) phase caller turn }
+    requires first { turn.first ≤ step }
+    requires within { step < turn.first + turn.steps }
+    ensures { call_at port (session_of session.now) caller step ≡ Some (call_of result.now) }
+{
+    let _ = (port, caller);
+    let script = &scripts_of(session, phase)[turn.script];
+    &script.calls.as_slice()[step as usize - turn.first]
+}
