@@ -6,3 +6,9 @@ mod Truths
 mod Walks
 mod Whole
 mod Spelled
+mod Splitting
+mod Answering
+mod AnsweringModes
+mod PrintedEntries
+mod PrintedTexts
+mod EntryLines

@@ -80,13 +80,13 @@ zero_or n false e small fits =
     let some = above_zero n e in
     number_from (decimal n) (decimal_nonempty n fits) (begins (decimal n) (decimal_nonempty n fits) (first_decimal n some fits)) (length-decimal-le 10 n (omega arith) small fits) (digits_of n fits)
 
-pub number_is : (n : ℕ) → n < 10 ^ 10 → is_number (decimal n) ≡ true
-number_is n small = zero_or n (n == 0) refl small (omega (arith, small))
+pub decimal_is_number : (n : ℕ) → n < 10 ^ 10 → is_number (decimal n) ≡ true
+decimal_is_number n small = zero_or n (n == 0) refl small (omega (arith, small))
 
 pub word_read : (n : ℕ) → n ≤ most → number_of_word (decimal n) ≡ Ok n
 word_read n small =
     let value = value_of n (omega (arith, small)) in
-    let e = number_is n (omega (arith, small)) in
+    let e = decimal_is_number n (omega (arith, small)) in
     ap (λ b. let read : Read ℕ = cond b (cond (nat_le (number_of (decimal n)) 4294967295) (Ok (number_of (decimal n))) (Err Limit)) (Err Number) in read) e
     ∙ ap (λ m. let read : Read ℕ = cond (nat_le m 4294967295) (Ok m) (Err Limit) in read) value
     ∙ ap (λ b. let read : Read ℕ = cond b (Ok n) (Err Limit) in read) (le-leb n 4294967295 small)

@@ -39,7 +39,7 @@ name_at_place names name c e = is_same name (get_or names c []) (position-Some (
 abbrev pub OwnNames : List (List ℕ) → Type 0
 OwnNames names = (c : ℕ) → c < length names → (k : ℕ) → k < c → bytes_eq (get_or names c []) (get_or names k []) ≡ false
 
-own_number : (names : List (List ℕ)) → OwnNames names → (c : ℕ) → c < length names → number_in names (get_or names c []) ≡ Some c
+pub own_number : (names : List (List ℕ)) → OwnNames names → (c : ℕ) → c < length names → number_in names (get_or names c []) ≡ Some c
 own_number names own c within =
     let name = get_or names c [] in
     let first : position_or_len (bytes_eq name) names ≡ c = position_or_len_is (bytes_eq name) names c [] (omega arith) (λ k below. own c within k below) (λ _. same_is name name refl) in

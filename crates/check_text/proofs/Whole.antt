@@ -20,7 +20,7 @@ use Rattle.check_text.proofs.Walks.{then_reads, reads, at, one_line, entries_rea
 abbrev Line : Type 0
 Line = List (List ℕ)
 
-regroup : (entries overruns rest : List Line) (heading numbers : Line) → (entries ++ heading ∷ (overruns ++ numbers ∷ [])) ++ rest ≡ entries ++ heading ∷ (overruns ++ numbers ∷ rest)
+pub regroup : (entries overruns rest : List Line) (heading numbers : Line) → (entries ++ heading ∷ (overruns ++ numbers ∷ [])) ++ rest ≡ entries ++ heading ∷ (overruns ++ numbers ∷ rest)
 regroup entries overruns rest heading numbers =
     append_assoc entries (heading ∷ (overruns ++ numbers ∷ [])) rest ∙ ap (λ (ls : List Line). entries ++ heading ∷ ls) (append_assoc overruns (numbers ∷ []) rest)
 

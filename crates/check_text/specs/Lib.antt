@@ -6,6 +6,7 @@ pub mod Entries
 pub mod Fields
 pub mod Grammar
 pub mod Journals
+pub mod Printed
 pub mod Reading
 pub mod Results
 pub mod Rows

@@ -13,8 +13,9 @@ mod laws;
 mod reader;
 
 pub use laws::{
-    a_text_is_refused_exactly_where_it_spells_no_runs, spells_one_session_and_its_runs,
-    worked_texts_are_refused_at_their_lines,
+    a_text_is_refused_exactly_where_it_spells_no_runs, answers_are_read_by_their_calls,
+    entries_are_read_as_they_are_printed, printed_journals_are_read_back,
+    spells_one_session_and_its_runs, worked_texts_are_refused_at_their_lines,
 };
 pub use reader::parse_check;
 
