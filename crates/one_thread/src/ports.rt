@@ -56,7 +56,7 @@ fn characters_on(session: &Session, number: usize) -> u32
 }
 
 /// A port at the beginning of its session.
-fn opened(
+fn open_port(
     alloc: Global,
     session: &Session,
     number: usize,
@@ -113,7 +113,7 @@ fn left_of(port: Port, line: Line) -> (PortRun, PortEnd)
 }
 
 /// A port whose journal is full, as far as it went.
-fn stopped(station: Station) -> (PortRun, PortEnd)
+fn stop(station: Station) -> (PortRun, PortEnd)
     requires { station.putter.ring ≡ station.port.flip.ring }
     ensures { (s : Scene) → IsFullRun s station.port station.putter station.line → IsPlayedOn s.port s.session result.0 result.1 }
 {
@@ -128,7 +128,7 @@ fn stopped(station: Station) -> (PortRun, PortEnd)
 }
 
 /// A port whose phases were played, hung up.
-fn hung_up(station: Station) -> Result<(PortRun, PortEnd), NoMemory>
+fn hang_up(station: Station) -> Result<(PortRun, PortEnd), NoMemory>
     requires after { station.port.terminal.phase ≡ length station.port.counts }
     requires ring { station.putter.ring ≡ station.port.flip.ring }
     requires sent { station.port.terminal.sent ≡ length station.putter.sent }
@@ -160,10 +160,10 @@ pub(crate) fn play_port(
     ensures { IfOk result (λ played. IsPlayedOn number (session_of session.now) played.0 played.1) }
 {
     let names = Names::on_port(alloc, session, number)?;
-    let mut station = opened(alloc, session, number, &names)?;
+    let mut station = open_port(alloc, session, number, &names)?;
     match play_phases(alloc, session, number, &names, &mut station) {
-        Ok(_) => hung_up(station),
-        Err(Denied::Full) => Ok(stopped(station)),
+        Ok(_) => hang_up(station),
+        Err(Denied::Full) => Ok(stop(station)),
         Err(Denied::NoMemory) => Err(NoMemory),
     }
 }

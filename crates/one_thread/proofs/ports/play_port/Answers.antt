@@ -6,20 +6,20 @@ use Rattle.one_thread.specs.Phases.{IsStopped}
 use Rattle.one_thread.proofs.PortLemmas.{phases_over}
 use Rattle.one_thread.proofs.ports.play_port.Goals as goal
 
-pub hung_up-requires-clause-after : goal.hung_up-requires-clause-after
-hung_up-requires-clause-after c =
+pub hang_up-requires-clause-after : goal.hang_up-requires-clause-after
+hang_up-requires-clause-after c =
     let v = c.play_phases.new.station in
     phases_over (scene_of c.args.number c.args.session.now) v.port v.putter v.line c.in-Ok.field-0 c.in-Ok.ensures.ok.at_phase
 
-pub stopped-requires : goal.stopped-requires
-stopped-requires c =
+pub stop-requires : goal.stop-requires
+stop-requires c =
     let full : IsStopped Full (scene_of c.args.number c.args.session.now) c.play_phases.new.station = subst (λ (d : Denied). IsStopped d (scene_of c.args.number c.args.session.now) c.play_phases.new.station) c.in-Err-Full.field-0-is c.in-Err-Full.ensures.err in
     full.has_put.ring
 
 pub returns-in-Ok : goal.returns-in-Ok
-returns-in-Ok c = c.hung_up.ensures (scene_of c.args.number c.args.session.now) c.in-Ok.field-0 c.in-Ok.ensures.ok
+returns-in-Ok c = c.hang_up.ensures (scene_of c.args.number c.args.session.now) c.in-Ok.field-0 c.in-Ok.ensures.ok
 
 pub returns-in-Err-Full : goal.returns-in-Err-Full
 returns-in-Err-Full c =
     let full : IsStopped Full (scene_of c.args.number c.args.session.now) c.play_phases.new.station = subst (λ (d : Denied). IsStopped d (scene_of c.args.number c.args.session.now) c.play_phases.new.station) c.in-Err-Full.field-0-is c.in-Err-Full.ensures.err in
-    c.stopped.ensures (scene_of c.args.number c.args.session.now) full
+    c.stop.ensures (scene_of c.args.number c.args.session.now) full

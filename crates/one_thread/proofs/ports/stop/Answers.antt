@@ -3,7 +3,7 @@ use Rattle.port_core.specs.Ports.{PortValue}
 use Rattle.port_core.specs.Flips.{after_meeting}
 use Rattle.one_thread.specs.Phases.{IsLeftOf}
 use Rattle.one_thread.proofs.PortLemmas.{full_played}
-use Rattle.one_thread.proofs.ports.stopped.Goals as goal
+use Rattle.one_thread.proofs.ports.stop.Goals as goal
 
 pub returns : goal.returns
 returns c s full =

@@ -6,7 +6,7 @@ use Rattle.port_core.specs.Phases.{HangsUp}
 use Rattle.port_core.specs.Flips.{after_meeting}
 use Rattle.one_thread.specs.Phases.{IsLeftOf}
 use Rattle.one_thread.proofs.PortLemmas.{full_played, full_at_end, hung_played}
-use Rattle.one_thread.proofs.ports.hung_up.Goals as goal
+use Rattle.one_thread.proofs.ports.hang_up.Goals as goal
 
 pub returns-in-Ok : goal.returns-in-Ok
 returns-in-Ok c s run before =

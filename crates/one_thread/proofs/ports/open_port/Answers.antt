@@ -13,7 +13,7 @@ use Rattle.one_thread.specs.Roles.{scene_of, names_in, AreFirstSteps}
 use Rattle.one_thread.specs.Lines.{IsAtPhase}
 use Rattle.one_thread.specs.Phases.{HavePlayed}
 use Rattle.one_thread.proofs.PortLemmas.{opened_at, nothing_played, no_first_steps, zeros}
-use Rattle.one_thread.proofs.ports.opened.Goals as goal
+use Rattle.one_thread.proofs.ports.open_port.Goals as goal
 
 pub returns : goal.returns
 returns c =
