@@ -2,12 +2,11 @@
 use Rattle.std.proofs.Common.{◌≡◌, ◌≢◌, ℕ, zero, suc, ◌+◌, ◌<◌, ◌≤◌, Bool, true, false, ◌==◌, cond, List, [], ◌∷◌, ◌++◌, Some, length, take, drop, map, refl, sym, ◌∙◌, ap, subst, arith, length-append}
 use Rattle.std.specs.Prelude.{slice_get, slice_index_or, All}
 use Rattle.std.proofs.lemmas.Bool.{eq-eqb, ne_eqb}
-use Rattle.std.proofs.lemmas.List.{take_more, take-append-drop, map-append, append-nil}
+use Rattle.std.proofs.lemmas.List.{take_more, take-append-drop, map-append, append-nil, length-map}
 use Rattle.std.proofs.lemmas.List.Elements.{All-head, All-tail, filter-append}
 use Rattle.tty_calls.specs.declared.sessions.Script.{Script}
 use Rattle.tty_calls.specs.declared.sessions.Phase.{Phase}
 use Rattle.tty_calls.specs.declared.sessions.Session.{Session}
-use Rattle.tty_base.specs.declared.lines.LineStep.{LineStep}
 use Rattle.tty_calls.specs.Limits.{IsPhaseWithin, IsWithinLimits}
 use Rattle.tty_calls.specs.Sessions.{PlainScript, PlainPhase, script_of, phase_of, session_of, scripts_on, number_in}
 use Rattle.one_thread.specs.declared.roles.Role.{Role}
@@ -123,14 +122,10 @@ own_scripts_at port [] k d h = absurd (omega (arith, h))
 own_scripts_at port (x ∷ xs) zero d h = refl
 own_scripts_at port (x ∷ xs) (suc k) d h = own_scripts_at port xs k d (omega (arith, h))
 
-map_length : (phases : List Phase) → length (map phase_of phases) ≡ length phases
-map_length [] = refl
-map_length (x ∷ xs) = ap (λ n. suc n) (map_length xs)
-
 pub scripts_are : (session : Session) (k : ℕ) (phases : List Phase) (scripts : List Script) (d : Phase) → k < length (map phase_of session.phases.items) → phases ≡ session.phases.items → scripts ≡ (slice_index_or phases k d).callers.items → scripts ≡ scripts_at session k
 scripts_are session k phases scripts d within same is =
     let count = ap (λ (xs : List Phase). length xs) same in
-    let below : k < length phases = omega (arith, within, map_length session.phases.items, count) in
+    let below : k < length phases = omega (arith, within, length-map session.phases.items phase_of, count) in
     is ∙ sym (scripts_found phases k d below) ∙ ap (λ (xs : List Phase). scripts_in (slice_get xs k)) same
 
 pub all_at_index : {X Y : Type 0} (P : Y → Type 0) (f : X → Y) (xs : List X) (i : ℕ) (d : X) → i < length xs → All P (map f xs) → P (f (slice_index_or xs i d))
@@ -143,12 +138,8 @@ all_at_index P f (x ∷ xs) (suc i) d within h = all_at_index P f xs i d (omega 
 pub phase_in : (session : Session) (k : ℕ) (phases : List Phase) (d : Phase) → IsWithinLimits (session_of session) → k < length (map phase_of session.phases.items) → phases ≡ session.phases.items → IsPhaseWithin session.ports (phase_of (slice_index_or phases k d))
 phase_in session k phases d limits within same =
     let count = ap (λ (xs : List Phase). length xs) same in
-    let below : k < length phases = omega (arith, within, map_length session.phases.items, count) in
+    let below : k < length phases = omega (arith, within, length-map session.phases.items phase_of, count) in
     all_at_index (IsPhaseWithin session.ports) phase_of phases k d below (subst (λ (xs : List Phase). All (IsPhaseWithin session.ports) (map phase_of xs)) (sym same) limits.phases)
 
-items_length : {X : Type 0} (f : X → List LineStep) (xs : List X) → length (map f xs) ≡ length xs
-items_length f [] = refl
-items_length f (x ∷ xs) = ap (λ n. suc n) (items_length f xs)
-
 pub line_count : (ports : ℕ) (phase : Phase) → IsPhaseWithin ports (phase_of phase) → length phase.lines.items ≡ ports
-line_count ports phase h = sym (items_length (λ steps. steps.items) phase.lines.items) ∙ h.lines
+line_count ports phase h = sym (length-map phase.lines.items (λ steps. steps.items)) ∙ h.lines

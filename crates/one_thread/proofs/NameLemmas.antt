@@ -4,6 +4,7 @@ use Rattle.std.specs.Prelude.{slice_get, slice_index_or, fold}
 use Rattle.std.specs.List.{list_any, position_from}
 use Rattle.std.specs.Str.{bytes_eq}
 use Rattle.std.proofs.lemmas.Bool.{false≢true}
+use Rattle.std.proofs.lemmas.List.{length-map}
 use Rattle.std.proofs.lemmas.List.Folds.{list_any-append}
 use Rattle.std.proofs.lemmas.List.Quantifiers.{position-Some}
 use Rattle.std.proofs.lemmas.Iterator.Adapters.{position_from-zero}
@@ -211,13 +212,9 @@ are_new (s ∷ ss) ns h =
     let same : length (fold (λ names s. with_name names s.name) (ns ++ s.name ∷ []) ss) ≡ length ns + (length ss + 1) = subst (λ (xs : List (List ℕ)). length (fold (λ names s. with_name names s.name) xs ss) ≡ length ns + (length ss + 1)) grown total in
     new_first ns s ss new (are_new ss (ns ++ s.name ∷ []) (same ∙ omega (arith, length-append ns (s.name ∷ []))))
 
-length_map : {X Y : Type 0} (f : X → Y) (xs : List X) → length (map f xs) ≡ length xs
-length_map f [] = refl
-length_map f (x ∷ xs) = ap (λ n. suc n) (length_map f xs)
-
 pub own_names : (scripts : List PlainScript) → names_of scripts ≡ map (λ s. s.name) scripts → HaveOwnNames scripts
 own_names scripts h =
-    let count : length (names_of scripts) ≡ length scripts = ap (λ (x : List (List ℕ)). length x) h ∙ length_map (λ (s : PlainScript). s.name) scripts in
+    let count : length (names_of scripts) ≡ length scripts = ap (λ (x : List (List ℕ)). length x) h ∙ length-map scripts (λ (s : PlainScript). s.name) in
     (are_new scripts [] (count ∙ omega arith)).own
 
 -- then the calls under the name of one of them are its own

@@ -1,8 +1,8 @@
 -- A port from its opening to its end.
-use Rattle.std.proofs.Common.{◌≡◌, ◌⊎◌, inl, inr, ℕ, zero, suc, ◌+◌, ◌<◌, ◌≤◌, Bool, true, false, ◌&&◌, ◌==◌, if◌then◌else◌, List, [], ◌∷◌, ◌++◌, Option, None, Some, length, map, drop, replicate, refl, sym, ◌∙◌, ap, subst, arith, append-nil, append_assoc, length-append, add-zero}
+use Rattle.std.proofs.Common.{◌≡◌, ◌⊎◌, inl, inr, ℕ, zero, suc, ◌+◌, ◌<◌, ◌≤◌, Bool, true, false, ◌&&◌, ◌==◌, if◌then◌else◌, List, [], ◌∷◌, ◌++◌, Option, None, Some, length, drop, replicate, refl, sym, ◌∙◌, ap, subst, arith, append-nil, append_assoc, length-append, add-zero}
 use Rattle.std.specs.Prelude.{IsTrue, slice_get, slice_index_or, nat_le, sum}
 use Rattle.std.proofs.lemmas.Bool.{false≢true, le-leb}
-use Rattle.std.proofs.lemmas.List.{drop_all}
+use Rattle.std.proofs.lemmas.List.{drop_all, length-map, length-replicate}
 use Rattle.std.proofs.lemmas.List.Elements.{All-nil}
 use mathlib.Core.List.{IsPrefix}
 use Rattle.tty_base.specs.declared.characters.Flagged.{Flagged}
@@ -20,36 +20,29 @@ use Rattle.tty_calls.specs.declared.answers.PortEnd.{PortEnd}
 use Rattle.tty_calls.specs.declared.journals.PortRun.{PortRun}
 use Rattle.tty_calls.specs.declared.journals.Who.{Who}
 use Rattle.tty_calls.specs.declared.journals.Who.TheVariants.{Session}
-use Rattle.tty_calls.specs.Plain.{PlainCall, PlainEvent, PlainEntry, hung_up, entry_of, entries_of}
+use Rattle.tty_calls.specs.Plain.{PlainEvent, PlainEntry, hung_up, entry_of, entries_of}
 use Rattle.tty_calls.specs.Sessions.{PlainPhase, PlainSession, call_at, counts_on, ticks_on, scripts_on, calls_of}
 use Rattle.tty_calls.specs.Limits.{character_count}
 use Rattle.tty_terminal.specs.Terminals.{Terminal, opening}
 use Rattle.tty_terminal.specs.Steps.{after}
-use Rattle.tty_terminal.specs.Runs.{Leads, IsRun, is_flush, chars_of, phase_after}
+use Rattle.tty_terminal.specs.Runs.{IsRun, is_flush, chars_of, phase_after}
 use Rattle.tty_terminal.proofs.CallerLists.{all_idle}
 use Rattle.tty_terminal.proofs.Grown.{leads_grown}
 use Rattle.journal_check.specs.Legal.{phase_at, first_step, name_at, script_on, script_of_first, received_before, IsInPhase, AreInPhases, IsFinishedFrom, IsFinished, AreSeen, flip_on, IsOnTheWay, IsAccounted}
 use Rattle.journal_check.specs.Short.{is_tick, tick_count_in, after_phases}
 use Rattle.port_core.specs.Ports.{PortValue, IsPort, call_in, hangup_entry}
 use Rattle.port_core.specs.Phases.{HangsUp}
-use Rattle.one_thread.specs.Order.{Place, first_place, next_place, place_after, turn, IsInTurn, AreInTurn, IsPieceOf, AllSeeAll}
+use Rattle.one_thread.specs.Order.{Place, first_place, turn, AreInTurn, IsPieceOf, AllSeeAll}
 use Rattle.one_thread.specs.Roles.{Scene, names_in, AreFirstSteps}
 use Rattle.one_thread.specs.Stages.{place_of, caller_at_rest, IsOfScene}
 use Rattle.one_thread.specs.Lines.{HasPut, IsAtPhase}
 use Rattle.one_thread.specs.Played.{IsPlayedOn, ArePlayed}
 use Rattle.one_thread.specs.Phases.{phase_count, HasFewTicks, HavePlayed, IsFullRun, IsLeftOf, AreFirstPlayed}
+use Rattle.one_thread.proofs.Places.{leads_place, turns_more}
 use Rattle.one_thread.proofs.JournalLemmas.{one_if, all_phases_after, up_after, ticks_both}
 use Rattle.one_thread.proofs.ReceivedLemmas.{script_whole, kept_front, overruns_within, all_counted, list_grows}
 
-length_map : {X Y : Type 0} (f : X → Y) (xs : List X) → length (map f xs) ≡ length xs
-length_map f [] = refl
-length_map f (x ∷ xs) = ap (λ n. suc n) (length_map f xs)
-
 -- ---- journals that lead to a terminal
-
-leads_place : (calls : ℕ → ℕ → Option PlainCall) (counts : List ℕ) (s : Place) (es : List PlainEntry) (u : Terminal) → Leads calls counts s.terminal es u → (place_after calls s es).terminal ≡ u
-leads_place calls counts s [] u h = sym h
-leads_place calls counts s (e ∷ es) u h = leads_place calls counts (next_place calls s e) es u h.1
 
 -- the run of a scene
 run_of_scene : (s : Scene) (v : PortValue) → IsOfScene s v → IsRun (call_at s.port s.session) v.counts v.flip.capacity v.journal v.terminal → IsRun (call_at s.port s.session) (counts_on s.port s.session) (flip_on s.port s.session) v.journal v.terminal
@@ -60,13 +53,9 @@ run_of_scene s v of_scene run =
 place_terminal : (s : Scene) (v : PortValue) → IsOfScene s v → IsPort v → (place_of s v.journal).terminal ≡ v.terminal
 place_terminal s v of_scene port =
     let grown = leads_grown (call_in v.kept) (call_at s.port s.session) v.counts (opening (sum v.counts) v.flip.capacity) v.journal v.terminal of_scene.known port.run in
-    leads_place (call_at s.port s.session) (counts_on s.port s.session) (first_place s.port s.session) v.journal v.terminal (run_of_scene s v of_scene grown)
+    leads_place (call_at s.port s.session) (counts_on s.port s.session) (first_place s.port s.session) (first_place s.port s.session).terminal v.journal v.terminal refl (run_of_scene s v of_scene grown)
 
 -- ---- the last entry
-
-turns_more : (p : ℕ) (session : PlainSession) (s : Place) (es : List PlainEntry) (e : PlainEntry) → AreInTurn p session s es → IsInTurn p session (place_after (call_at p session) s es) e → AreInTurn p session s (es ++ e ∷ [])
-turns_more p session s [] e h k = (k, tt)
-turns_more p session s (x ∷ xs) e h k = (h.0, turns_more p session (next_place (call_at p session) s x) xs e h.1 k)
 
 phases_more : (p : ℕ) (session : PlainSession) (k : ℕ) (es : List PlainEntry) (e : PlainEntry) → e.who ≡ Session → AreInPhases p session k es → AreInPhases p session k (es ++ e ∷ [])
 phases_more p session k [] e who h = (subst (λ (w : Who). IsInPhase p session k w e.step e.event) (sym who) tt, tt)
@@ -90,7 +79,7 @@ hangup_ticks s journal e dropped ends few j =
 
 few_entries : (v : PortValue) (line : LineState) (run : PortRun) (end : PortEnd) → IsLeftOf v line run end → v.limit ≡ 4194304 → length run.journal.items ≤ 4194304
 few_entries v line run end left limit =
-    let count = length_map entry_of run.journal.items in
+    let count = length-map run.journal.items entry_of in
     let same = ap (λ (es : List PlainEntry). length es) left.journal in
     let few = left.port.few in
     omega (arith, count, same, few, limit)
@@ -130,7 +119,7 @@ full_played s v flip putter line run end full begins taken capacity left =
       turns = full.of_scene.turns;
     } in
     let way = on_the_way s (record v { flip = flip }) line run end of_scene left in
-    let count : length run.journal.items ≡ 4194304 = sym (length_map entry_of run.journal.items) ∙ ap (λ (es : List PlainEntry). length es) left.journal ∙ full.full in
+    let count : length run.journal.items ≡ 4194304 = sym (length-map run.journal.items entry_of) ∙ ap (λ (es : List PlainEntry). length es) left.journal ∙ full.full in
     let chars : chars_of (entries_of run.journal.items) ≡ v.flip.taken = ap chars_of left.journal ∙ left.port.chars ∙ taken in
     let overruns : run.line.overruns.items ≡ line.report.overruns.items = ap (λ (r : LineReport). r.overruns.items) left.report in
     record {
@@ -283,10 +272,6 @@ received_none : received_list [] ≡ []
 unfolding received_list received_list_after
 received_none = refl
 
-length_replicate : (n : ℕ) → length (zeros n) ≡ n
-length_replicate zero = refl
-length_replicate (suc n) = ap (λ j. suc j) (length_replicate n)
-
 -- a port that was opened for the scene
 pub opened_at : (s : Scene) (counts : List ℕ) (flip : TakerState Flagged) (putter : PutterState Flagged) (line : LineState)
     → counts ≡ counts_on s.port s.session → flip.capacity ≡ flip_on s.port s.session → 64 ≤ flip.capacity → putter.ring ≡ flip.ring → putter.capacity ≡ flip.capacity → putter.sent ≡ [] → putter.heads ≡ []
@@ -330,11 +315,11 @@ nothing_played s = record {
 }
 
 pub no_first_steps : (s : Scene) (n : ℕ) → n ≡ length (names_in s) → AreFirstSteps s 0 (zeros n)
-no_first_steps s n h = record { count = length_replicate n ∙ h; each = λ c. no_steps n c ∙ sym (first_none s.port s.session c) }
+no_first_steps s n h = record { count = length-replicate n 0 ∙ h; each = λ c. no_steps n c ∙ sym (first_none s.port s.session c) }
 
 -- a port that has come to the end of its phases can be hung up
 pub phases_over : (s : Scene) (v : PortValue) (putter : PutterState Flagged) (line : LineState) (run : ℕ) → IsAtPhase s (length s.session.phases) v putter line run → v.terminal.phase ≡ length v.counts
-phases_over s v putter line run h = h.phase ∙ sym (ap (λ (xs : List ℕ). length xs) h.of_scene.counts ∙ length_map (λ phase. length (scripts_on s.port phase)) s.session.phases)
+phases_over s v putter line run h = h.phase ∙ sym (ap (λ (xs : List ℕ). length xs) h.of_scene.counts ∙ length-map s.session.phases (λ phase. length (scripts_on s.port phase)))
 
 -- ---- port after port
 

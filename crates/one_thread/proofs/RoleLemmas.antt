@@ -3,7 +3,7 @@ use Rattle.std.proofs.Common.{◌≡◌, ◌≢◌, ◌⊎◌, inl, inr, ℕ, ze
 use Rattle.std.specs.Prelude.{slice_get, slice_index_or, slice_set, All, AllPairs, Contains, IsSome, filter, flat_map, sum, sum_by, option_to_list}
 use Rattle.std.specs.Str.{bytes_eq}
 use Rattle.std.proofs.lemmas.Bool.{false≢true}
-use Rattle.std.proofs.lemmas.List.{take_more, take-append-drop}
+use Rattle.std.proofs.lemmas.List.{take_more, take-append-drop, length-map, length-set, get_or-set_same, get_or-set_other}
 use Rattle.std.proofs.lemmas.List.Concat.{length-flat_map}
 use Rattle.std.proofs.lemmas.List.Elements.{All-weaker, All-contains_itself, All-map, All-get_or, All-tail, All-head, All-contains, All-filter, All-nil, All-cons, Contains-append_right}
 use Rattle.std.proofs.lemmas.List.Folds.{list_any-append}
@@ -225,15 +225,11 @@ roles_are s k steps roles cast is =
       numbers = numbers_are (names_in s) steps scripts numbered_all;
       each = All-map (IsRoleOf s k) (role_for (names_in s) steps) scripts (All-weaker (Contains scripts) (λ x. IsRoleOf s k (role_for (names_in s) steps x)) (λ x there. role_is s k steps x cast there) scripts (All-contains_itself scripts));
       own_numbers = subst (AllPairs (λ c d. c ≢ d)) (map_numbers (names_in s) steps scripts) (own_all (names_in s) scripts numbered_all (own_names scripts (phase.own_names s.port)));
-      count = length_map (role_for (names_in s) steps) scripts ∙ sym (callers_count s.port s.session k cast.within);
+      count = length-map scripts (role_for (names_in s) steps) ∙ sym (callers_count s.port s.session k cast.within);
       all = λ c h. let named = by_name scripts (name_at s.port s.session c) h in
           subst (λ (ns : List ℕ). Contains ns c) (map_numbers (names_in s) steps scripts)
           (caller_among (names_in s) scripts named.0 c (number_at (scripts_over s.port s.session.phases) named.0 c named.1) named.2);
     })
-  where
-    length_map : {X Y : Type 0} (f : X → Y) (xs : List X) → length (map f xs) ≡ length xs
-    length_map f [] = refl
-    length_map f (x ∷ xs) = ap (λ n. suc n) (length_map f xs)
 
 -- ---- how many callers and calls there are
 
@@ -295,46 +291,22 @@ roles_found s k steps names scripts roles limits within first named own is =
 abbrev step_of : List ℕ → ℕ → ℕ
 step_of steps c = slice_index_or steps c 0
 
-set_step : (steps : List ℕ) (n m c : ℕ) → n < length steps → (step_of (slice_set steps n m) c ≡ m) ⊎ (step_of (slice_set steps n m) c ≡ step_of steps c)
-set_step [] n m c h = absurd (omega (arith, h))
-set_step (x ∷ xs) zero m zero h = inl refl
-set_step (x ∷ xs) zero m (suc c) h = inr refl
-set_step (x ∷ xs) (suc n) m zero h = inr refl
-set_step (x ∷ xs) (suc n) m (suc c) h = set_step xs n m c (omega (arith, h))
-
-length_set : (steps : List ℕ) (n m : ℕ) → length (slice_set steps n m) ≡ length steps
-length_set [] n m = refl
-length_set (x ∷ xs) zero m = refl
-length_set (x ∷ xs) (suc n) m = ap (λ j. suc j) (length_set xs n m)
-
-set_same : (steps : List ℕ) (n m : ℕ) → n < length steps → step_of (slice_set steps n m) n ≡ m
-set_same [] n m h = absurd (omega (arith, h))
-set_same (x ∷ xs) zero m h = refl
-set_same (x ∷ xs) (suc n) m h = set_same xs n m (omega (arith, h))
-
 -- a role whose step after its calls is that of the next phase
 record MovesOn (s : Scene) (k : ℕ) (count : ℕ) (r : PlainRole) : Type 0 where
   below : r.number < count
   moves : r.first + length r.calls ≡ first_step s.port s.session (k + 1) r.number
-
-set_other : (steps : List ℕ) (n m c : ℕ) → (n ≡ c → ⊥) → step_of (slice_set steps n m) c ≡ step_of steps c
-set_other [] n m c h = refl
-set_other (x ∷ xs) zero m zero h = absurd (h refl)
-set_other (x ∷ xs) zero m (suc c) h = refl
-set_other (x ∷ xs) (suc n) m zero h = refl
-set_other (x ∷ xs) (suc n) m (suc c) h = set_other xs n m c (λ e. h (ap (λ j. suc j) e))
 
 same_or_not : (n c : ℕ) → (n ≡ c) ⊎ (n ≡ c → ⊥)
 same_or_not n c = grind arith
 
 stays_moved : (s : Scene) (k c : ℕ) (r : PlainRole) (steps : List ℕ) → MovesOn s k (length steps) r → step_of steps c ≡ first_step s.port s.session (k + 1) c → step_of (slice_set steps r.number (r.first + length r.calls)) c ≡ first_step s.port s.session (k + 1) c
 stays_moved s k c r steps moves there = elim (same_or_not r.number c) [
-  | inl same ↦ ap (step_of (slice_set steps r.number (r.first + length r.calls))) (sym same) ∙ set_same steps r.number (r.first + length r.calls) moves.below ∙ moves.moves ∙ ap (first_step s.port s.session (k + 1)) same
-  | inr other ↦ set_other steps r.number (r.first + length r.calls) c other ∙ there
+  | inl same ↦ ap (step_of (slice_set steps r.number (r.first + length r.calls))) (sym same) ∙ get_or-set_same steps r.number (r.first + length r.calls) 0 moves.below ∙ moves.moves ∙ ap (first_step s.port s.session (k + 1)) same
+  | inr other ↦ get_or-set_other steps r.number c (r.first + length r.calls) 0 (λ e. other (sym e)) ∙ there
 ]
 
 same_count : (s : Scene) (k : ℕ) (steps : List ℕ) (n m : ℕ) (rs : List PlainRole) → All (MovesOn s k (length steps)) rs → All (MovesOn s k (length (slice_set steps n m))) rs
-same_count s k steps n m rs h = subst (λ j. All (MovesOn s k j) rs) (sym (length_set steps n m)) h
+same_count s k steps n m rs h = subst (λ j. All (MovesOn s k j) rs) (sym (length-set steps n m)) h
 
 all_moved : (s : Scene) (k c : ℕ) (rs : List PlainRole) (steps : List ℕ) → All (MovesOn s k (length steps)) rs → step_of steps c ≡ first_step s.port s.session (k + 1) c → step_of (steps_after rs steps) c ≡ first_step s.port s.session (k + 1) c
 all_moved s k c [] steps h there = there
@@ -353,13 +325,13 @@ one_moved s k c (r ∷ rs) steps h there =
     let rest = same_count s k steps r.number (r.first + length r.calls) rs (All-tail (MovesOn s k (length steps)) r rs h) in
     elim (is_first_or r rs c there) [
       | inl same ↦ all_moved s k c rs (slice_set steps r.number (r.first + length r.calls)) rest
-          (ap (step_of (slice_set steps r.number (r.first + length r.calls))) (sym same) ∙ set_same steps r.number (r.first + length r.calls) first.below ∙ first.moves ∙ ap (first_step s.port s.session (k + 1)) same)
+          (ap (step_of (slice_set steps r.number (r.first + length r.calls))) (sym same) ∙ get_or-set_same steps r.number (r.first + length r.calls) 0 first.below ∙ first.moves ∙ ap (first_step s.port s.session (k + 1)) same)
       | inr later ↦ one_moved s k c rs (slice_set steps r.number (r.first + length r.calls)) rest later
     ]
 
 length_after : (rs : List PlainRole) (steps : List ℕ) → length (steps_after rs steps) ≡ length steps
 length_after [] steps = refl
-length_after (r ∷ rs) steps = length_after rs (slice_set steps r.number (r.first + length r.calls)) ∙ length_set steps r.number (r.first + length r.calls)
+length_after (r ∷ rs) steps = length_after rs (slice_set steps r.number (r.first + length r.calls)) ∙ length-set steps r.number (r.first + length r.calls)
 
 no_script : (scripts : List PlainScript) (o : Option (List ℕ)) → has_script scripts o ≡ false → calls_of scripts o ≡ []
 no_script scripts None h = refl

@@ -1,5 +1,5 @@
 -- A port with its line and callers, over one phase.
-use Rattle.std.proofs.Common.{◌≡◌, ℕ, ◌+◌, ◌<◌, ◌≤◌, List, [], ◌∷◌, ◌++◌, Option, length, map, drop, refl, sym, ◌∙◌, ap, subst, arith, append_assoc}
+use Rattle.std.proofs.Common.{◌≡◌, ℕ, ◌+◌, ◌<◌, ◌≤◌, List, [], ◌∷◌, ◌++◌, Option, length, map, drop, sym, ◌∙◌, ap, subst, arith, append_assoc}
 use Rattle.std.specs.Prelude.{All, Result, Ok, Err, IfErr, OnErr}
 use Rattle.tty_base.specs.declared.characters.Flagged.{Flagged}
 use Rattle.tty_base.specs.declared.lines.LineStep.{LineStep}
@@ -20,20 +20,17 @@ use Rattle.journal_check.specs.Legal.{phase_at, name_at, has_script, first_step,
 use Rattle.journal_check.specs.Short.{after_phases}
 use Rattle.journal_check.specs.Phases.{HasPlayed, CompletesPhase}
 use Rattle.port_core.specs.Ports.{PortValue}
-use Rattle.one_thread.specs.Order.{Place, next_place, place_after, first_place, cuts_flushed}
+use Rattle.one_thread.specs.Order.{Place, place_after, first_place, cuts_flushed}
 use Rattle.one_thread.specs.Roles.{Scene}
 use Rattle.one_thread.specs.Stages.{place_of, AreAtFirst, IsOfScene, EndsAfterLine, StopsAfterLine}
 use Rattle.one_thread.specs.Lines.{HasPut, IsAtPhase, PlaysLine, StopsInLine, StopsLine}
 use Rattle.one_thread.specs.Phases.{HasFewTicks, HavePlayed, IsFullRun, StopsFull}
+use Rattle.one_thread.proofs.Places.{place_more}
 use Rattle.one_thread.proofs.JournalLemmas.{none_ends, leads_both, stops_within}
 use Rattle.one_thread.proofs.ReceivedLemmas.{script_parts, kept_later, arrivals_fit, hands_over_loaded}
 use Rattle.one_thread.proofs.PhaseLemmas.{few_ticks, phase_stays, PlaysPhase, whole_part, line_inside, played_more}
 
 -- ---- places
-
-place_more : (calls : ℕ → ℕ → Option PlainCall) (s : Place) (xs : List PlainEntry) (e : PlainEntry) → place_after calls s (xs ++ e ∷ []) ≡ next_place calls (place_after calls s xs) e
-place_more calls s [] e = refl
-place_more calls s (x ∷ xs) e = place_more calls (next_place calls s x) xs e
 
 -- at the beginning of a phase no cut of it was flushed
 no_cuts : (s : Scene) (journal part : List PlainEntry) (last : PlainEntry) → last.event ≡ phase_ended → (place_of s (journal ++ (part ++ last ∷ []))).cuts ≡ 0
