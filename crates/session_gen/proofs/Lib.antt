@@ -1,2 +1,3 @@
 pub mod ListLemmas
 pub mod DrawLemmas
+pub mod Within

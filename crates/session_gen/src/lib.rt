@@ -2,8 +2,10 @@
 #![tactic(auto)]
 
 mod draws;
+mod laws;
 mod phases;
 
+pub use laws::each_number_keeps_the_limits;
 pub use phases::make;
 
 #[cfg(test)]

@@ -4,4 +4,5 @@ pub mod Laws
 pub mod Lines
 pub mod Printing
 pub mod Report
+pub mod Summary
 pub mod Words

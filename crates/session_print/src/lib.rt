@@ -9,11 +9,13 @@ mod journals;
 mod laws;
 mod modes;
 mod ports;
+mod summaries;
 mod texts;
 mod words;
 
 pub use journals::journal_text;
 pub use laws::each_call_has_its_line;
+pub use summaries::summary;
 pub use texts::{answer_text, play_text, report};
 
 #[cfg(test)]

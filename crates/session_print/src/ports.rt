@@ -122,7 +122,7 @@ fn put_wire(text: &mut String, port: usize, wire: &[u8]) -> Result<(), AllocErro
 }
 
 /// How many characters a journal flushes.
-fn flushed_characters(entries: &[Entry]) -> Result<u64, NoMemory>
+pub(crate) fn flushed_characters(entries: &[Entry]) -> Result<u64, NoMemory>
     ensures { IfOk result (λ count. count ≡ flushed_count (entries_of entries.now)) }
 {
     let mut count = 0u64;

@@ -16,6 +16,8 @@ mod refusals;
 #[cfg(test)]
 mod rows;
 #[cfg(test)]
+mod summaries;
+#[cfg(test)]
 mod switching;
 #[cfg(test)]
 mod waiting;

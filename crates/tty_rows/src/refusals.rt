@@ -67,7 +67,10 @@ fn other_words_are_bad(rt: HostRuntime) -> Result<(), Fail> {
     are_bad(&rt, alloc, &["run", "--two"])?;
     are_bad(&rt, alloc, &["run", "--one", "--one"])?;
     are_bad(&rt, alloc, &["run", "--journal", "--journal"])?;
-    are_bad(&rt, alloc, &["gen", "07"])
+    are_bad(&rt, alloc, &["gen"])?;
+    are_bad(&rt, alloc, &["gen", "07"])?;
+    are_bad(&rt, alloc, &["gen", "-1"])?;
+    are_bad(&rt, alloc, &["gen", "4294967296"])
 }
 
 #[test]

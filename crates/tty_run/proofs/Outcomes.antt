@@ -1,8 +1,9 @@
 -- What each status says of the work that ended with it.
-use Rattle.std.proofs.Common.{◌≡◌, ◌≢◌, ◌⊎◌, ◌+◌, ◌≤◌, ◌==◌, ◌||◌, take, drop, length, arith, zero, suc, ℕ, Bool, true, false, List, [], ◌∷◌, ◌++◌, Option, None, Some, IfSome, inl, inr, refl, sym, ap, subst, ◌∙◌, map, eq-eqb}
+use Rattle.std.proofs.Common.{◌≡◌, ◌≢◌, ◌⊎◌, ◌+◌, ◌≤◌, ◌==◌, ◌||◌, take, drop, length, codes, get_or, arith, zero, suc, ℕ, Bool, true, false, List, [], ◌∷◌, ◌++◌, Option, None, Some, IfSome, inl, inr, refl, sym, ap, subst, ◌∙◌, map, eq-eqb}
 use Rattle.std.specs.Prelude.{slice_get}
 use Rattle.std.proofs.lemmas.Bool.{false≢true}
 use Rattle.std.proofs.lemmas.List.{length-map}
+use Rattle.tty_base.specs.Contents.{Contents}
 use Rattle.tty_base.specs.Outside.{Rose, LeavesRest, TookCount}
 use Rattle.tty_calls.specs.declared.answers.PortEnd.{PortEnd}
 use Rattle.tty_calls.specs.declared.journals.PortRun.{PortRun}
@@ -14,12 +15,15 @@ use Rattle.session_text.proofs.Spelled.{spelled_fault}
 use Rattle.session_print.specs.Ends.{PlainEnd, end_of}
 use Rattle.one_thread.specs.declared.playing.Played.{Played}
 use Rattle.one_thread.specs.Played.{ArePlayed, IsPlayedOn}
+use Rattle.session_gen.specs.Generated.{generated_session}
+use Rattle.tty_run.specs.declared.top.Command.{Command}
+use Rattle.tty_run.specs.declared.top.Command.TheVariants.{Run, Gen}
 use Rattle.tty_run.specs.declared.top.Work.{Work}
 use Rattle.tty_run.specs.declared.top.Ending.{Ending}
 use Rattle.tty_run.specs.declared.top.Ending.TheVariants.{Done, BadSession, BadWords, ReadFault, TooLong, JournalFull}
-use Rattle.tty_run.specs.Endings.{Ask, AreKnown, line_of, status_of, text_of, bad_session_line, IsOfSource, IsTold}
-use Rattle.tty_run.specs.Outcome.{end_at, has_full_journal, IsWhole, IsPartly, IsPlayed, IsRefused, IsReported, AreCutShort, IsAllOf, Completes, WasGiven, WasGivenFront, IsDone, IsToldRefused, IsBroken, breaks_line, breaks_refusal, breaks_text, breaks_full}
-use Rattle.tty_run.specs.Works.{IsEndingOf, IsSessionWork, IsTextWork, IsWork}
+use Rattle.tty_run.specs.Endings.{Ask, AskRun, AreKnown, AreRun, AreGen, line_of, status_of, text_of, bad_session_line, IsOfSource, IsShort, IsTold}
+use Rattle.tty_run.specs.Outcome.{end_at, has_full_journal, IsWhole, IsPartly, IsPlayedText, IsRefused, IsReported, AreCutShort, IsAllOf, Completes, CompletesGen, WasGiven, WasGivenFront, IsDone, IsFull, IsToldRefused, IsBroken, breaks_line, breaks_refusal, breaks_text, breaks_full}
+use Rattle.tty_run.specs.Works.{IsEndingOf, IsSessionWork, IsTextWork, IsWork, CanEnd, ReadsNothing}
 
 -- ---- the ports that were played
 
@@ -95,8 +99,8 @@ each_partly session runs ends played p run is =
 
 -- ---- the work on a session, and on a text
 
-pub ending_works : (journals : Bool) (session : PlainSession) (played : Played) (e : Ending) → ArePlayed session played.runs.items played.ends.items → IsEndingOf journals session played e → IsSessionWork journals session e played.runs.items
-ending_works journals session played (Done text) plays ending =
+pub ending_works : (command : Command) (session : PlainSession) (played : Played) (e : Ending) → ArePlayed session played.runs.items played.ends.items → IsEndingOf command session played e → IsSessionWork command session e played.runs.items
+ending_works command session played (Done text) plays ending =
     record {
       ends = map end_of played.ends.items;
       runs_of_all = plays.runs_of_all;
@@ -105,21 +109,75 @@ ending_works journals session played (Done text) plays ending =
       room = ending.0;
       told = ending.1;
     }
-ending_works journals session played (BadSession line) plays ending = ending
-ending_works journals session played BadWords plays ending = ending
-ending_works journals session played ReadFault plays ending = ending
-ending_works journals session played TooLong plays ending = ending
-ending_works journals session played JournalFull plays ending =
+ending_works command session played (BadSession line) plays ending = ending
+ending_works command session played BadWords plays ending = ending
+ending_works command session played ReadFault plays ending = ending
+ending_works command session played TooLong plays ending = ending
+ending_works command session played JournalFull plays ending =
     record { runs_of_all = plays.runs_of_all; each = each_partly session played.runs.items played.ends.items plays; full = ending }
 
 -- the work on the text that was read
-pub text_works : (journals : Bool) (left : Option (List ℕ)) (text : List ℕ) (e : Ending) (runs : List PortRun) → IsAllOf left text → IsTextWork journals text e runs → IsWork journals left e runs
+pub text_works : (journals : Bool) (left : Option (List ℕ)) (text : List ℕ) (e : Ending) (runs : List PortRun) → IsAllOf left text → IsTextWork journals text e runs → IsWork (Run journals) left e runs
 text_works journals left text (Done report) runs whole h = record { read = text; session = h.0; whole = whole; spelled = h.1; ends = h.2 }
 text_works journals left text (BadSession line) runs whole h = (h.0, (h.1.0, record { read = text; whole = whole; refused = h.1.1 }, h.1.2))
 text_works journals left text BadWords runs whole h = absurd h
 text_works journals left text ReadFault runs whole h = absurd h
 text_works journals left text TooLong runs whole h = absurd h
 text_works journals left text JournalFull runs whole h = record { read = text; session = h.0; whole = whole; spelled = h.1; ends = h.2 }
+
+-- the work on the session of a number
+pub made_works : (number : ℕ) (left : Option (List ℕ)) (e : Ending) (runs : List PortRun) → IsSessionWork (Gen number) (generated_session number) e runs → IsWork (Gen number) left e runs × CanEnd (Gen number) e
+made_works number left (Done report) runs h = (h, tt)
+made_works number left (BadSession line) runs h = absurd h
+made_works number left BadWords runs h = absurd h
+made_works number left ReadFault runs h = absurd h
+made_works number left TooLong runs h = absurd h
+made_works number left JournalFull runs h = (h, tt)
+
+-- nothing was read
+left_short : (bytes : List ℕ) → TookCount 4194305 bytes (Some bytes) → ⊥
+left_short bytes took = omega (arith, took)
+
+pub unread_short : (left : Option (List ℕ)) → IsShort left left
+unread_short None = tt
+unread_short (Some bytes) = left_short bytes
+
+pub made_from : (number : ℕ) (e : Ending) (faults : ℕ) (left : Option (List ℕ)) → CanEnd (Gen number) e → IsOfSource e faults faults left left
+made_from number (Done report) faults left can = unread_short left
+made_from number (BadSession line) faults left can = absurd can
+made_from number BadWords faults left can = absurd can
+made_from number ReadFault faults left can = absurd can
+made_from number TooLong faults left can = absurd can
+made_from number JournalFull faults left can = unread_short left
+
+-- ---- which words ask for what
+
+same_heads : (a b : List ℕ) (as' bs : List (List ℕ)) → a ∷ as' ≡ b ∷ bs → a ≡ b
+same_heads a b as' bs h = cc
+
+gen_differs : codes "gen" ≡ codes "run" → ⊥
+gen_differs h = let first : 103 ≡ 114 = ap (λ word. get_or word 0 0) h in omega (arith, first)
+
+gen_is_not_run : (words rest others : List (List ℕ)) → words ≡ codes "gen" ∷ rest → words ≡ codes "run" ∷ others → ⊥
+gen_is_not_run words rest others gen run = gen_differs (same_heads (codes "gen") (codes "run") rest others (sym gen ∙ run))
+
+not_gen_and_run : (words : List (List ℕ)) (journals : Bool) → AreGen words → AskRun journals words → ⊥
+not_gen_and_run words false gen run = gen_is_not_run words (gen.1.0 ∷ []) (codes "--one" ∷ []) gen.1.1 run
+not_gen_and_run words true gen (inl run) = gen_is_not_run words (gen.1.0 ∷ []) (codes "--one" ∷ codes "--journal" ∷ []) gen.1.1 run
+not_gen_and_run words true gen (inr run) = gen_is_not_run words (gen.1.0 ∷ []) (codes "--journal" ∷ codes "--one" ∷ []) gen.1.1 run
+
+pub unknown : (words : List (List ℕ)) → (AreRun words → ⊥) → (AreGen words → ⊥) → AreKnown words → ⊥
+unknown words no_run no_gen (Run journals, asked) = no_run (journals, asked)
+unknown words no_run no_gen (Gen number, asked) = no_gen (number, asked)
+
+pub reads_nothing : (command : Command) (words : List (List ℕ)) → Ask command words → AreGen words → ReadsNothing command
+reads_nothing (Run journals) words asked gen = absurd (not_gen_and_run words journals gen asked)
+reads_nothing (Gen number) words asked gen = tt
+
+-- only a session that is read can be refused
+run_refused : (command : Command) (words : List (List ℕ)) (line : Contents ℕ) → Ask command words → CanEnd command (BadSession line) → AreRun words
+run_refused (Run journals) words line asked can = (journals, asked)
+run_refused (Gen number) words line asked can = absurd can
 
 -- ---- what was told
 
@@ -128,15 +186,15 @@ given_as : (before now : Option (List ℕ)) (text other : List ℕ) → text ≡
 given_as before now text other same h = subst (λ (t : List ℕ). WasGivenFront before now t) same h
 
 -- a text that was not given whole
-pub broken : (words : List (List ℕ)) (journals : Bool) (faults faults' : ℕ) (left rest before now : Option (List ℕ)) (runs : List PortRun) (e : Ending)
-    → Ask journals words → IsOfSource e faults faults' left rest → IsWork journals left e runs → WasGivenFront before now (text_of e) → IsBroken words faults faults' left rest before now runs
-broken words journals faults faults' left rest before now runs (Done report) asked of work front = breaks_text journals report.items asked work front
-broken words journals faults faults' left rest before now runs (BadSession line) asked of work front =
-    breaks_refusal work.1.0 work.1.1 work.0 (given_as before now line.items (bad_session_line work.1.0) work.1.2 front)
-broken words journals faults faults' left rest before now runs BadWords asked of work front = absurd of
-broken words journals faults faults' left rest before now runs ReadFault asked of work front = breaks_line 3 of.0 work front
-broken words journals faults faults' left rest before now runs TooLong asked of work front = breaks_line 6 of work front
-broken words journals faults faults' left rest before now runs JournalFull asked of work front = breaks_full work front
+pub broken : (words : List (List ℕ)) (command : Command) (faults faults' : ℕ) (left rest before now : Option (List ℕ)) (runs : List PortRun) (e : Ending)
+    → Ask command words → IsOfSource e faults faults' left rest → IsWork command left e runs → CanEnd command e → WasGivenFront before now (text_of e) → IsBroken words faults faults' left rest before now runs
+broken words command faults faults' left rest before now runs (Done report) asked of work can front = breaks_text command report.items asked work front
+broken words command faults faults' left rest before now runs (BadSession line) asked of work can front =
+    breaks_refusal (run_refused command words line asked can) work.1.0 work.1.1 work.0 (given_as before now line.items (bad_session_line work.1.0) work.1.2 front)
+broken words command faults faults' left rest before now runs BadWords asked of work can front = absurd of
+broken words command faults faults' left rest before now runs ReadFault asked of work can front = breaks_line 3 of.0 work front
+broken words command faults faults' left rest before now runs TooLong asked of work can front = breaks_line 6 of work front
+broken words command faults faults' left rest before now runs JournalFull asked of work can front = breaks_full (record { command = command; asked = asked; played = work }) front
 
 -- a status that is not that of a write fault is that of the ending
 status_is : (status n : ℕ) → (status ≡ n) ⊎ (status ≡ 4) → (status ≡ 4 → ⊥) → status ≡ n
@@ -144,35 +202,50 @@ status_is status n (inl is) other = is
 status_is status n (inr four) other = absurd (other four)
 
 -- a session that was played
-done_at : (words : List (List ℕ)) (journals : Bool) (left before now : Option (List ℕ)) (runs : List PortRun) (e : Ending) → Ask journals words → IsWork journals left e runs → WasGiven before now (text_of e) → status_of e ≡ 0 → IsDone words left before now runs
-done_at words journals left before now runs (Done report) asked work given is = record { journals = journals; text = report.items; asked = asked; played = work; given = given }
-done_at words journals left before now runs (BadSession line) asked work given is = absurd (omega (arith, is))
-done_at words journals left before now runs BadWords asked work given is = absurd (omega (arith, is))
-done_at words journals left before now runs ReadFault asked work given is = absurd (omega (arith, is))
-done_at words journals left before now runs TooLong asked work given is = absurd (omega (arith, is))
-done_at words journals left before now runs JournalFull asked work given is = absurd (omega (arith, is))
+done_at : (words : List (List ℕ)) (command : Command) (left before now : Option (List ℕ)) (runs : List PortRun) (e : Ending) → Ask command words → IsWork command left e runs → WasGiven before now (text_of e) → status_of e ≡ 0 → IsDone words left before now runs
+done_at words command left before now runs (Done report) asked work given is = record { command = command; text = report.items; asked = asked; played = work; given = given }
+done_at words command left before now runs (BadSession line) asked work given is = absurd (omega (arith, is))
+done_at words command left before now runs BadWords asked work given is = absurd (omega (arith, is))
+done_at words command left before now runs ReadFault asked work given is = absurd (omega (arith, is))
+done_at words command left before now runs TooLong asked work given is = absurd (omega (arith, is))
+done_at words command left before now runs JournalFull asked work given is = absurd (omega (arith, is))
 
-pub done_by : (words : List (List ℕ)) (journals : Bool) (left before now : Option (List ℕ)) (runs : List PortRun) (e : Ending) (status : ℕ)
-    → Ask journals words → IsWork journals left e runs → (status ≡ status_of e) ⊎ (status ≡ 4) → ((status ≡ 4 → ⊥) → WasGiven before now (text_of e)) → status ≡ 0 → IsDone words left before now runs
-done_by words journals left before now runs e status asked work is given zero_is =
+pub done_by : (words : List (List ℕ)) (command : Command) (left before now : Option (List ℕ)) (runs : List PortRun) (e : Ending) (status : ℕ)
+    → Ask command words → IsWork command left e runs → (status ≡ status_of e) ⊎ (status ≡ 4) → ((status ≡ 4 → ⊥) → WasGiven before now (text_of e)) → status ≡ 0 → IsDone words left before now runs
+done_by words command left before now runs e status asked work is given zero_is =
     let other : status ≡ 4 → ⊥ = λ four. omega (arith, zero_is, four) in
-    done_at words journals left before now runs e asked work (given other) (sym (status_is status (status_of e) is other) ∙ zero_is)
+    done_at words command left before now runs e asked work (given other) (sym (status_is status (status_of e) is other) ∙ zero_is)
 
 -- a text that was refused
-refused_at : (journals : Bool) (left before now : Option (List ℕ)) (runs : List PortRun) (e : Ending) → IsWork journals left e runs → WasGiven before now (text_of e) → status_of e ≡ 1 → IsToldRefused left before now
-refused_at journals left before now runs (BadSession line) work given is =
+refused_at : (command : Command) (left before now : Option (List ℕ)) (runs : List PortRun) (e : Ending) → IsWork command left e runs → WasGiven before now (text_of e) → status_of e ≡ 1 → IsToldRefused left before now
+refused_at command left before now runs (BadSession line) work given is =
     record { bad = work.1.0; refused = work.1.1; given = subst (λ (t : List ℕ). WasGiven before now t) work.1.2 given }
-refused_at journals left before now runs (Done report) work given is = absurd (omega (arith, is))
-refused_at journals left before now runs BadWords work given is = absurd (omega (arith, is))
-refused_at journals left before now runs ReadFault work given is = absurd (omega (arith, is))
-refused_at journals left before now runs TooLong work given is = absurd (omega (arith, is))
-refused_at journals left before now runs JournalFull work given is = absurd (omega (arith, is))
+refused_at command left before now runs (Done report) work given is = absurd (omega (arith, is))
+refused_at command left before now runs BadWords work given is = absurd (omega (arith, is))
+refused_at command left before now runs ReadFault work given is = absurd (omega (arith, is))
+refused_at command left before now runs TooLong work given is = absurd (omega (arith, is))
+refused_at command left before now runs JournalFull work given is = absurd (omega (arith, is))
 
-pub refused_by : (journals : Bool) (left before now : Option (List ℕ)) (runs : List PortRun) (e : Ending) (status : ℕ)
-    → IsWork journals left e runs → (status ≡ status_of e) ⊎ (status ≡ 4) → ((status ≡ 4 → ⊥) → WasGiven before now (text_of e)) → status ≡ 1 → IsToldRefused left before now
-refused_by journals left before now runs e status work is given one_is =
+pub refused_by : (command : Command) (left before now : Option (List ℕ)) (runs : List PortRun) (e : Ending) (status : ℕ)
+    → IsWork command left e runs → (status ≡ status_of e) ⊎ (status ≡ 4) → ((status ≡ 4 → ⊥) → WasGiven before now (text_of e)) → status ≡ 1 → IsToldRefused left before now
+refused_by command left before now runs e status work is given one_is =
     let other : status ≡ 4 → ⊥ = λ four. omega (arith, one_is, four) in
-    refused_at journals left before now runs e work (given other) (sym (status_is status (status_of e) is other) ∙ one_is)
+    refused_at command left before now runs e work (given other) (sym (status_is status (status_of e) is other) ∙ one_is)
+
+-- a full journal
+full_at : (words : List (List ℕ)) (command : Command) (left : Option (List ℕ)) (runs : List PortRun) (e : Ending) → Ask command words → IsWork command left e runs → status_of e ≡ 8 → IsFull words left runs
+full_at words command left runs (Done report) asked work is = absurd (omega (arith, is))
+full_at words command left runs (BadSession line) asked work is = absurd (omega (arith, is))
+full_at words command left runs BadWords asked work is = absurd (omega (arith, is))
+full_at words command left runs ReadFault asked work is = absurd (omega (arith, is))
+full_at words command left runs TooLong asked work is = absurd (omega (arith, is))
+full_at words command left runs JournalFull asked work is = record { command = command; asked = asked; played = work }
+
+pub full_by : (words : List (List ℕ)) (command : Command) (left : Option (List ℕ)) (runs : List PortRun) (e : Ending) (status : ℕ)
+    → Ask command words → IsWork command left e runs → (status ≡ status_of e) ⊎ (status ≡ 4) → status ≡ 8 → IsFull words left runs
+full_by words command left runs e status asked work is eight =
+    let other : status ≡ 4 → ⊥ = λ four. omega (arith, eight, four) in
+    full_at words command left runs e asked work (sym (status_is status (status_of e) is other) ∙ eight)
 
 -- a status other than 0 and 1 tells its line
 line_at : (e : Ending) → (status_of e ≡ 0 → ⊥) → (status_of e ≡ 1 → ⊥) → text_of e ≡ line_of (status_of e)
@@ -224,7 +297,7 @@ long_by JournalFull status faults faults' (Some bytes) rest of is = λ took. abs
 
 -- ---- what a text comes to where reading did not fail
 
-spelled_in : (bytes : List ℕ) (EndsBy : PlainSession → Type 0) (h : IsPlayed (Some bytes) EndsBy) → Spells bytes h.session
+spelled_in : (bytes : List ℕ) (EndsBy : PlainSession → Type 0) (h : IsPlayedText (Some bytes) EndsBy) → Spells bytes h.session
 spelled_in bytes EndsBy h = subst (λ (text : List ℕ). Spells text h.session) h.whole h.spelled
 
 refused_in : (bytes : List ℕ) (bad : BadLine) (h : IsRefused (Some bytes) bad) → refusal bytes ≡ Some bad
@@ -243,14 +316,14 @@ too_short bytes rest h took short =
     omega (arith, counted, short)
 
 completes_so : (journals : Bool) (bytes : List ℕ) (faults faults' : ℕ) (rest : Option (List ℕ)) (runs : List PortRun) (e : Ending) (status : ℕ) → (status ≡ status_of e) ⊎ (status ≡ 4)
-    → IsOfSource e faults faults' (Some bytes) rest → IsWork journals (Some bytes) e runs → LeavesRest bytes rest → length bytes ≤ 4194304 → (Rose faults faults' → ⊥) → Completes bytes status runs
+    → IsOfSource e faults faults' (Some bytes) rest → IsWork (Run journals) (Some bytes) e runs → LeavesRest bytes rest → length bytes ≤ 4194304 → (Rose faults faults' → ⊥) → Completes bytes status runs
 completes_so journals bytes faults faults' rest runs e status (inr four) of work left short sound =
     record { played = λ session spells room. inr (inl four); full = λ session spells full. inr (inl four); refused = λ bad wrong. inr (inl four) }
 completes_so journals bytes faults faults' rest runs (Done report) status (inl is) of work left short sound =
     record {
       played = λ session spells room. inl is;
       full = λ session spells full. absurd (false≢true (sym work.ends.room ∙ full));
-      refused = λ bad wrong. absurd (not_both bytes work.session bad (spelled_in bytes (λ session. IsReported journals session runs report.items) work) wrong);
+      refused = λ bad wrong. absurd (not_both bytes work.session bad (spelled_in bytes (λ session. IsReported (Run journals) session runs report.items) work) wrong);
     }
 completes_so journals bytes faults faults' rest runs (BadSession line) status (inl is) of work left short sound =
     record {
@@ -268,14 +341,34 @@ completes_so journals bytes faults faults' rest runs JournalFull status (inl is)
       refused = λ bad wrong. absurd (not_both bytes work.session bad (spelled_in bytes (λ session. AreCutShort session runs) work) wrong);
     }
 
-pub completes : (words : List (List ℕ)) (journals : Bool) (left rest : Option (List ℕ)) (faults faults' : ℕ) (runs : List PortRun) (work : Work) (status : ℕ) → runs ≡ work.runs.items → (status ≡ status_of work.ending) ⊎ (status ≡ 4)
-    → IsOfSource work.ending faults faults' left rest → IsWork journals left work.ending work.runs.items → IfSome left (λ bytes. LeavesRest bytes rest)
-    → IfSome left (λ bytes. AreKnown words → length bytes ≤ 4194304 → (Rose faults faults' → ⊥) → Completes bytes status runs)
-completes words journals None rest faults faults' runs work status same is of done left = left
-completes words journals (Some bytes) rest faults faults' runs work status same is of done left = λ known short sound.
-    completes_so journals bytes faults faults' rest runs work.ending status is of (subst (λ (rs : List PortRun). IsWork journals (Some bytes) work.ending rs) (sym same) done) left short sound
+pub completes : (words : List (List ℕ)) (command : Command) (left rest : Option (List ℕ)) (faults faults' : ℕ) (runs : List PortRun) (work : Work) (status : ℕ) → Ask command words → runs ≡ work.runs.items → (status ≡ status_of work.ending) ⊎ (status ≡ 4)
+    → IsOfSource work.ending faults faults' left rest → IsWork command left work.ending work.runs.items → IfSome left (λ bytes. LeavesRest bytes rest)
+    → IfSome left (λ bytes. AreRun words → length bytes ≤ 4194304 → (Rose faults faults' → ⊥) → Completes bytes status runs)
+completes words command None rest faults faults' runs work status asked same is of done left = left
+completes words (Run journals) (Some bytes) rest faults faults' runs work status asked same is of done left = λ known short sound.
+    completes_so journals bytes faults faults' rest runs work.ending status is of (subst (λ (rs : List PortRun). IsWork (Run journals) (Some bytes) work.ending rs) (sym same) done) left short sound
+completes words (Gen number) (Some bytes) rest faults faults' runs work status asked same is of done left = λ run. absurd (not_gen_and_run words run.0 (number, asked) run.1)
+
+-- ---- what the session of a number comes to
+
+made_so : (number : ℕ) (left : Option (List ℕ)) (runs : List PortRun) (e : Ending) (status : ℕ) → (status ≡ status_of e) ⊎ (status ≡ 4) → IsWork (Gen number) left e runs → CanEnd (Gen number) e → CompletesGen status runs
+made_so number left runs e status (inr four) work can = record { played = λ room. inr (inl four); full = λ full. inr (inl four) }
+made_so number left runs (Done report) status (inl is) work can = record { played = λ room. inl is; full = λ full. absurd (false≢true (sym work.room ∙ full)) }
+made_so number left runs (BadSession line) status (inl is) work can = absurd can
+made_so number left runs BadWords status (inl is) work can = absurd can
+made_so number left runs ReadFault status (inl is) work can = absurd can
+made_so number left runs TooLong status (inl is) work can = absurd can
+made_so number left runs JournalFull status (inl is) work can = record { played = λ room. absurd (false≢true (sym room ∙ work.full)); full = λ full. inl is }
+
+pub made : (words : List (List ℕ)) (command : Command) (left : Option (List ℕ)) (runs : List PortRun) (work : Work) (status : ℕ) → Ask command words → runs ≡ work.runs.items → (status ≡ status_of work.ending) ⊎ (status ≡ 4)
+    → IsWork command left work.ending work.runs.items → CanEnd command work.ending → AreGen words → CompletesGen status runs
+made words (Run journals) left runs work status asked same is done can = λ gen. absurd (not_gen_and_run words journals gen asked)
+made words (Gen number) left runs work status asked same is done can = λ gen. made_so number left runs work.ending status is (subst (λ (rs : List PortRun). IsWork (Gen number) left work.ending rs) (sym same) done) can
 
 -- other words ask for nothing
-pub unasked : (words : List (List ℕ)) (left : Option (List ℕ)) (status : ℕ) (runs : List PortRun) (faults faults' : ℕ) → (AreKnown words → ⊥) → IfSome left (λ bytes. AreKnown words → length bytes ≤ 4194304 → (Rose faults faults' → ⊥) → Completes bytes status runs)
+pub unasked : (words : List (List ℕ)) (left : Option (List ℕ)) (status : ℕ) (runs : List PortRun) (faults faults' : ℕ) → (AreKnown words → ⊥) → IfSome left (λ bytes. AreRun words → length bytes ≤ 4194304 → (Rose faults faults' → ⊥) → Completes bytes status runs)
 unasked words None status runs faults faults' other = tt
-unasked words (Some bytes) status runs faults faults' other = λ known. absurd (other known)
+unasked words (Some bytes) status runs faults faults' other = λ run. absurd (other (Run run.0, run.1))
+
+pub unmade : (words : List (List ℕ)) (status : ℕ) (runs : List PortRun) → (AreKnown words → ⊥) → AreGen words → CompletesGen status runs
+unmade words status runs other gen = absurd (other (Gen gen.0, gen.1))

@@ -1,23 +1,46 @@
 -- How a call of the program ends: its words, its status, and the line that it gives.
-use Rattle.std.specs.Prelude.{◌≡◌, ◌≢◌, ◌≤◌, ◌⊎◌, map, ℕ, List, [], ◌∷◌, ◌++◌, Bool, true, false, Option, Some, codes, decimal, IfSome, ◌==◌, if◌then◌else◌}
+use Rattle.std.specs.Prelude.{◌≡◌, ◌≢◌, ◌≤◌, ◌⊎◌, map, ℕ, List, [], ◌∷◌, ◌++◌, Bool, true, false, Option, Some, codes, decimal, IfSome, IsTrue, ◌==◌, if◌then◌else◌}
 use denote.Ref.{Bor}
 use Rattle.tty_base.specs.Outside.{Rose, TookCount}
 use Rattle.session_text.specs.declared.faults.Reason.{Reason}
 use Rattle.session_text.specs.declared.faults.Reason.TheVariants.{Header, Word, Number, Hex, Order, Limit}
 use Rattle.session_text.specs.declared.faults.BadLine.{BadLine}
+use Rattle.text_lines.specs.Values.{is_number, number_of}
 use Rattle.session_print.specs.Lines.{newline}
+use Rattle.tty_run.specs.declared.top.Command.{Command}
+use Rattle.tty_run.specs.declared.top.Command.TheVariants.{Run, Gen}
 use Rattle.tty_run.specs.declared.top.Ending.{Ending}
 use Rattle.tty_run.specs.declared.top.Ending.TheVariants.{Done, BadSession, BadWords, ReadFault, TooLong, JournalFull}
 
--- the words that ask for a session to be played on one thread, with its journals or without them
-abbrev pub Ask : Bool → List (List ℕ) → Type 0
-Ask false words = words ≡ codes "run" ∷ codes "--one" ∷ []
-Ask true words =
+-- the words that ask for a session to be read and played on one thread, with its journals or without them
+abbrev pub AskRun : Bool → List (List ℕ) → Type 0
+AskRun false words = words ≡ codes "run" ∷ codes "--one" ∷ []
+AskRun true words =
     (words ≡ codes "run" ∷ codes "--one" ∷ codes "--journal" ∷ []) ⊎ (words ≡ codes "run" ∷ codes "--journal" ∷ codes "--one" ∷ [])
 
--- words of the program
+-- the digits write a number of 32 bits
+pub record IsNumberOf (digits : List ℕ) (number : ℕ) : Type 0 where
+  pub written : IsTrue (is_number digits)
+  pub value : number ≡ number_of digits
+  pub small : number ≤ 4294967295
+
+-- the words that ask for the session of a number to be played
+abbrev pub AskGen : ℕ → List (List ℕ) → Type 0
+AskGen number words = (digits : List ℕ) × (words ≡ codes "gen" ∷ digits ∷ []) × IsNumberOf digits number
+
+abbrev pub Ask : Command → List (List ℕ) → Type 0
+Ask (Run journals) words = AskRun journals words
+Ask (Gen number) words = AskGen number words
+
+-- words of the program; those that ask for a session to be read; those that ask for one of a number
 abbrev pub AreKnown : List (List ℕ) → Type 0
-AreKnown words = (journals : Bool) × Ask journals words
+AreKnown words = (command : Command) × Ask command words
+
+abbrev pub AreRun : List (List ℕ) → Type 0
+AreRun words = (journals : Bool) × AskRun journals words
+
+abbrev pub AreGen : List (List ℕ) → Type 0
+AreGen words = (number : ℕ) × AskGen number words
 
 abbrev pub reason_name : Reason → List ℕ
 reason_name Header = codes "header"

@@ -11,10 +11,14 @@ use Rattle.session_text.specs.Refusals.{refusal}
 use Rattle.session_text.specs.Grammar.{Spells}
 use Rattle.session_print.specs.Ends.{PlainEnd}
 use Rattle.session_print.specs.Report.{answer_by, answer_in, play_text}
+use Rattle.session_print.specs.Summary.{summary_text}
+use Rattle.session_gen.specs.Generated.{generated_session}
 use Rattle.journal_check.specs.Legal.{IsLegal}
 use Rattle.journal_check.specs.Short.{IsCutShort}
 use Rattle.one_thread.specs.Order.{IsInOneOrder}
-use Rattle.tty_run.specs.Endings.{Ask, AreKnown, line_of, bad_session_line}
+use Rattle.tty_run.specs.declared.top.Command.{Command}
+use Rattle.tty_run.specs.declared.top.Command.TheVariants.{Run, Gen}
+use Rattle.tty_run.specs.Endings.{Ask, AreKnown, AreRun, line_of, bad_session_line}
 
 -- what a report says of the end of a terminal
 abbrev pub end_at : Terminal → PlainEnd
@@ -31,15 +35,20 @@ pub record IsWhole (p : ℕ) (session : PlainSession) (run : PortRun) (end : Pla
   pub legal : IsLegal p session run terminal
   pub in_order : IsInOneOrder p session (entries_of run.journal.items) run.line.overruns.items
 
--- The runs are those of the session's ports, one of each, each of them whole and none with a full journal. The text is that of the
--- session, of these runs, and of their ends.
-pub record IsReported (journals : Bool) (session : PlainSession) (runs : List PortRun) (text : List ℕ) : Type 0 where
+-- what a command tells of a session, of the runs of its ports, and of their ends
+abbrev pub text_by : Command → PlainSession → List PortRun → List PlainEnd → List ℕ
+text_by (Run journals) session runs ends = play_text journals session runs ends
+text_by (Gen number) session runs ends = summary_text number session runs ends
+
+-- The runs are those of the session's ports, one of each, each of them whole and none with a full journal. The text is what the
+-- command tells of the session, of these runs, and of their ends.
+pub record IsReported (command : Command) (session : PlainSession) (runs : List PortRun) (text : List ℕ) : Type 0 where
   pub ends : List PlainEnd
   pub runs_of_all : length runs ≡ session.ports
   pub ends_of_all : length ends ≡ session.ports
   pub each : (p : ℕ) (run : PortRun) (end : PlainEnd) → slice_get runs p ≡ Some run → slice_get ends p ≡ Some end → IsWhole p session run end
   pub room : has_full_journal runs ≡ false
-  pub told : text ≡ play_text journals session runs ends
+  pub told : text ≡ text_by command session runs ends
 
 -- The run of a port as far as it went; where its journal is not full it is whole.
 pub record IsPartly (p : ℕ) (session : PlainSession) (run : PortRun) : Type 0 where
@@ -58,13 +67,18 @@ pub record AreCutShort (session : PlainSession) (runs : List PortRun) : Type 0 w
 abbrev pub IsAllOf : Option (List ℕ) → List ℕ → Type 0
 IsAllOf left read = IfSome left (λ bytes. read ≡ bytes)
 
--- A session was played: the text that was read spells it.
-pub record IsPlayed (left : Option (List ℕ)) (EndsBy : PlainSession → Type 0) : Type 0 where
+-- A session was read and played: the text that was read spells it.
+pub record IsPlayedText (left : Option (List ℕ)) (EndsBy : PlainSession → Type 0) : Type 0 where
   pub read : List ℕ
   pub session : PlainSession
   pub whole : IsAllOf left read
   pub spelled : Spells read session
   pub ends : EndsBy session
+
+-- A session was played: the one that was read, or the one of the number.
+abbrev pub IsPlayed : Command → Option (List ℕ) → (PlainSession → Type 0) → Type 0
+IsPlayed (Run journals) left EndsBy = IsPlayedText left EndsBy
+IsPlayed (Gen number) left EndsBy = EndsBy (generated_session number)
 
 -- The text that was read spells no session, and this is its first wrong line.
 pub record IsRefused (left : Option (List ℕ)) (bad : BadLine) : Type 0 where
@@ -85,13 +99,19 @@ pub record IsToldRefused (left before now : Option (List ℕ)) : Type 0 where
   pub refused : IsRefused left bad
   pub given : WasGiven before now (bad_session_line bad)
 
--- A session was played, and its text given, with its journals where the words ask for them.
+-- A session was played, and what the words ask for was told of it.
 pub record IsDone (words : List (List ℕ)) (left before now : Option (List ℕ)) (runs : List PortRun) : Type 0 where
-  pub journals : Bool
+  pub command : Command
   pub text : List ℕ
-  pub asked : Ask journals words
-  pub played : IsPlayed left (λ session. IsReported journals session runs text)
+  pub asked : Ask command words
+  pub played : IsPlayed command left (λ session. IsReported command session runs text)
   pub given : WasGiven before now text
+
+-- A session was played as far as it went, and some journal is full.
+pub record IsFull (words : List (List ℕ)) (left : Option (List ℕ)) (runs : List PortRun) : Type 0 where
+  pub command : Command
+  pub asked : Ask command words
+  pub played : IsPlayed command left (λ session. AreCutShort session runs)
 
 -- the cause of a status that refuses before a session is read: the words, the faults of the source, and what it has left, before and
 -- now
@@ -101,13 +121,13 @@ Cause words faults now left rest status =
     MatchBool (status == 3) (Rose faults now) (MatchBool (status == 6) (IfSome left (λ bytes. TookCount 4194305 bytes rest)) ⊥)
     )
 
--- A text could not be given whole: the line of a status that has its cause; the line of a text that was refused; the text of a
--- session that was played; or the line of a full journal.
+-- A text could not be given whole: the line of a status that has its cause; the line of a text that was refused; what was to be told
+-- of a session that was played; or the line of a full journal.
 pub data IsBroken (words : List (List ℕ)) (faults faults' : ℕ) (left rest before now : Option (List ℕ)) (runs : List PortRun) : Type 0 where
   breaks_line : (status : ℕ) → Cause words faults faults' left rest status → runs ≡ [] → WasGivenFront before now (line_of status) → IsBroken words faults faults' left rest before now runs
-  breaks_refusal : (bad : BadLine) → IsRefused left bad → runs ≡ [] → WasGivenFront before now (bad_session_line bad) → IsBroken words faults faults' left rest before now runs
-  breaks_text : (journals : Bool) (text : List ℕ) → Ask journals words → IsPlayed left (λ session. IsReported journals session runs text) → WasGivenFront before now text → IsBroken words faults faults' left rest before now runs
-  breaks_full : IsPlayed left (λ session. AreCutShort session runs) → WasGivenFront before now (line_of 8) → IsBroken words faults faults' left rest before now runs
+  breaks_refusal : AreRun words → (bad : BadLine) → IsRefused left bad → runs ≡ [] → WasGivenFront before now (bad_session_line bad) → IsBroken words faults faults' left rest before now runs
+  breaks_text : (command : Command) (text : List ℕ) → Ask command words → IsPlayed command left (λ session. IsReported command session runs text) → WasGivenFront before now text → IsBroken words faults faults' left rest before now runs
+  breaks_full : IsFull words left runs → WasGivenFront before now (line_of 8) → IsBroken words faults faults' left rest before now runs
 
 -- the status, unless the text could not be given or memory was wanting
 abbrev pub IsStatusOr : ℕ → ℕ → Type 0
@@ -118,6 +138,11 @@ pub record Completes (bytes : List ℕ) (status : ℕ) (runs : List PortRun) : T
   pub played : (session : PlainSession) → Spells bytes session → has_full_journal runs ≡ false → IsStatusOr 0 status
   pub full : (session : PlainSession) → Spells bytes session → has_full_journal runs ≡ true → IsStatusOr 8 status
   pub refused : (bad : BadLine) → refusal bytes ≡ Some bad → IsStatusOr 1 status
+
+-- The session of a number is played, and a full journal told.
+pub record CompletesGen (status : ℕ) (runs : List PortRun) : Type 0 where
+  pub played : has_full_journal runs ≡ false → IsStatusOr 0 status
+  pub full : has_full_journal runs ≡ true → IsStatusOr 8 status
 
 -- all answers of a journal to a caller's step
 abbrev pub answers_to : List PlainEntry → ℕ → ℕ → List PlainAnswer

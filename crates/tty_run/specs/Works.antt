@@ -6,31 +6,32 @@ use Rattle.session_text.specs.declared.faults.BadLine.{BadLine}
 use Rattle.session_text.specs.Refusals.{refusal}
 use Rattle.session_text.specs.Grammar.{Spells}
 use Rattle.session_print.specs.Ends.{end_of}
-use Rattle.session_print.specs.Report.{play_text}
 use Rattle.one_thread.specs.declared.playing.Played.{Played}
+use Rattle.tty_run.specs.declared.top.Command.{Command}
+use Rattle.tty_run.specs.declared.top.Command.TheVariants.{Run, Gen}
 use Rattle.tty_run.specs.declared.top.Ending.{Ending}
 use Rattle.tty_run.specs.declared.top.Ending.TheVariants.{Done, BadSession, BadWords, ReadFault, TooLong, JournalFull}
 use Rattle.tty_run.specs.Endings.{bad_session_line}
-use Rattle.tty_run.specs.Outcome.{IsReported, AreCutShort, IsPlayed, IsRefused, has_full_journal}
+use Rattle.tty_run.specs.Outcome.{text_by, IsReported, AreCutShort, IsPlayed, IsRefused, has_full_journal}
 
 -- of what was played
-abbrev pub IsEndingOf : Bool → PlainSession → Played → Ending → Type 0
-IsEndingOf journals session played (Done text) =
-    (has_full_journal played.runs.items ≡ false) × (text.items ≡ play_text journals session played.runs.items (map end_of played.ends.items))
-IsEndingOf journals session played (BadSession line) = ⊥
-IsEndingOf journals session played BadWords = ⊥
-IsEndingOf journals session played ReadFault = ⊥
-IsEndingOf journals session played TooLong = ⊥
-IsEndingOf journals session played JournalFull = has_full_journal played.runs.items ≡ true
+abbrev pub IsEndingOf : Command → PlainSession → Played → Ending → Type 0
+IsEndingOf command session played (Done text) =
+    (has_full_journal played.runs.items ≡ false) × (text.items ≡ text_by command session played.runs.items (map end_of played.ends.items))
+IsEndingOf command session played (BadSession line) = ⊥
+IsEndingOf command session played BadWords = ⊥
+IsEndingOf command session played ReadFault = ⊥
+IsEndingOf command session played TooLong = ⊥
+IsEndingOf command session played JournalFull = has_full_journal played.runs.items ≡ true
 
 -- of a session
-abbrev pub IsSessionWork : Bool → PlainSession → Ending → List PortRun → Type 0
-IsSessionWork journals session (Done text) runs = IsReported journals session runs text.items
-IsSessionWork journals session (BadSession line) runs = ⊥
-IsSessionWork journals session BadWords runs = ⊥
-IsSessionWork journals session ReadFault runs = ⊥
-IsSessionWork journals session TooLong runs = ⊥
-IsSessionWork journals session JournalFull runs = AreCutShort session runs
+abbrev pub IsSessionWork : Command → PlainSession → Ending → List PortRun → Type 0
+IsSessionWork command session (Done text) runs = IsReported command session runs text.items
+IsSessionWork command session (BadSession line) runs = ⊥
+IsSessionWork command session BadWords runs = ⊥
+IsSessionWork command session ReadFault runs = ⊥
+IsSessionWork command session TooLong runs = ⊥
+IsSessionWork command session JournalFull runs = AreCutShort session runs
 
 -- a text's first wrong line, told by this line
 abbrev pub IsLineOf : List ℕ → List ℕ → Type 0
@@ -38,18 +39,33 @@ IsLineOf text line = (bad : BadLine) × (refusal text ≡ Some bad) × (line ≡
 
 -- of a text
 abbrev pub IsTextWork : Bool → List ℕ → Ending → List PortRun → Type 0
-IsTextWork journals text (Done report) runs = (session : PlainSession) × Spells text session × IsReported journals session runs report.items
+IsTextWork journals text (Done report) runs = (session : PlainSession) × Spells text session × IsReported (Run journals) session runs report.items
 IsTextWork journals text (BadSession line) runs = (runs ≡ []) × IsLineOf text line.items
 IsTextWork journals text BadWords runs = ⊥
 IsTextWork journals text ReadFault runs = ⊥
 IsTextWork journals text TooLong runs = ⊥
 IsTextWork journals text JournalFull runs = (session : PlainSession) × Spells text session × AreCutShort session runs
 
--- of all that a source had left
-abbrev pub IsWork : Bool → Option (List ℕ) → Ending → List PortRun → Type 0
-IsWork journals left (Done report) runs = IsPlayed left (λ session. IsReported journals session runs report.items)
-IsWork journals left (BadSession line) runs = (runs ≡ []) × ((bad : BadLine) × IsRefused left bad × (line.items ≡ bad_session_line bad))
-IsWork journals left BadWords runs = runs ≡ []
-IsWork journals left ReadFault runs = runs ≡ []
-IsWork journals left TooLong runs = runs ≡ []
-IsWork journals left JournalFull runs = IsPlayed left (λ session. AreCutShort session runs)
+-- of a command, where a source had all this left
+abbrev pub IsWork : Command → Option (List ℕ) → Ending → List PortRun → Type 0
+IsWork command left (Done report) runs = IsPlayed command left (λ session. IsReported command session runs report.items)
+IsWork command left (BadSession line) runs = (runs ≡ []) × ((bad : BadLine) × IsRefused left bad × (line.items ≡ bad_session_line bad))
+IsWork command left BadWords runs = runs ≡ []
+IsWork command left ReadFault runs = runs ≡ []
+IsWork command left TooLong runs = runs ≡ []
+IsWork command left JournalFull runs = IsPlayed command left (λ session. AreCutShort session runs)
+
+-- only a command that reads can be refused what it reads
+abbrev pub CanEnd : Command → Ending → Type 0
+CanEnd (Run journals) ending = Unit {0}
+CanEnd (Gen number) (Done report) = Unit {0}
+CanEnd (Gen number) (BadSession line) = ⊥
+CanEnd (Gen number) BadWords = ⊥
+CanEnd (Gen number) ReadFault = ⊥
+CanEnd (Gen number) TooLong = ⊥
+CanEnd (Gen number) JournalFull = Unit {0}
+
+-- a command that reads nothing
+abbrev pub ReadsNothing : Command → Type 0
+ReadsNothing (Run journals) = ⊥
+ReadsNothing (Gen number) = Unit {0}

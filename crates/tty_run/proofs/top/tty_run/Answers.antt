@@ -2,8 +2,8 @@ use Rattle.std.proofs.Common.{◌≡◌, List, ap, sym, subst, ◌∙◌}
 use Rattle.tty_calls.specs.declared.journals.PortRun.{PortRun}
 use Rattle.tty_run.specs.declared.top.Ending.{Ending}
 use Rattle.tty_run.specs.Endings.{texts_of, text_of}
-use Rattle.tty_run.specs.Outcome.{IsBroken, breaks_line, IsDone, WasGivenFront}
-use Rattle.tty_run.proofs.Outcomes.{broken, done_by, refused_by, told_by, took_by, long_by, completes, unasked}
+use Rattle.tty_run.specs.Outcome.{IsBroken, breaks_line, IsDone, IsFull, WasGivenFront}
+use Rattle.tty_run.proofs.Outcomes.{broken, done_by, refused_by, told_by, took_by, long_by, full_by, completes, made, unasked, unmade, reads_nothing}
 use Rattle.tty_run.proofs.top.tty_run.Goals as goal
 
 pub returns-in_default-clause-broken : goal.returns-in_default-clause-broken
@@ -16,10 +16,10 @@ pub returns-in_default-clause-complete : goal.returns-in_default-clause-complete
 returns-in_default-clause-complete g c = unasked (texts_of c.args.words.now) (g.S.Source.left c.args.source.now) _ _ _ _ c.in_default.ensures.other
 
 pub returns-in-Ok-clause-too_long : goal.returns-in-Ok-clause-too_long
-returns-in-Ok-clause-too_long g c = took_by c.in-Ok.work.ending c.tell-in-Ok.result.status _ _ (g.S.Source.left c.args.source.now) (g.S.Source.left c.run_one.new.source) c.in-Ok.ensures.from c.tell-in-Ok.ensures.status
+returns-in-Ok-clause-too_long g c = took_by c.in-Ok.work.ending c.tell-in-Ok.result.status _ _ (g.S.Source.left c.args.source.now) (g.S.Source.left c.work_on.new.source) c.in-Ok.ensures.from c.tell-in-Ok.ensures.status
 
 pub returns-in-Ok-clause-long : goal.returns-in-Ok-clause-long
-returns-in-Ok-clause-long g c = long_by c.in-Ok.work.ending c.tell-in-Ok.result.status _ _ (g.S.Source.left c.args.source.now) (g.S.Source.left c.run_one.new.source) c.in-Ok.ensures.from c.tell-in-Ok.ensures.status
+returns-in-Ok-clause-long g c = long_by c.in-Ok.work.ending c.tell-in-Ok.result.status _ _ (g.S.Source.left c.args.source.now) (g.S.Source.left c.work_on.new.source) c.in-Ok.ensures.from c.tell-in-Ok.ensures.status
 
 pub returns-in-Ok-clause-told : goal.returns-in-Ok-clause-told
 returns-in-Ok-clause-told g c = told_by (g.K.Sink.given c.args.sink.now) (g.K.Sink.given c.tell-in-Ok.new.sink) c.in-Ok.work.ending c.tell-in-Ok.result.status c.tell-in-Ok.ensures.status c.tell-in-Ok.ensures.whole c.tell-in-Ok.ensures.front
@@ -27,19 +27,38 @@ returns-in-Ok-clause-told g c = told_by (g.K.Sink.given c.args.sink.now) (g.K.Si
 pub returns-in-Ok-clause-done : goal.returns-in-Ok-clause-done
 returns-in-Ok-clause-done g c =
     subst (λ (runs : List PortRun). c.tell-in-Ok.result.status ≡ 0 → IsDone (texts_of c.args.words.now) (g.S.Source.left c.args.source.now) (g.K.Sink.given c.args.sink.now) (g.K.Sink.given c.tell-in-Ok.new.sink) runs) (sym (ap (λ runs. runs.items) c.tell-in-Ok.ensures.runs)) (
-    done_by (texts_of c.args.words.now) c.in-Some.options.journals (g.S.Source.left c.args.source.now) (g.K.Sink.given c.args.sink.now) (g.K.Sink.given c.tell-in-Ok.new.sink) c.in-Ok.work.runs.items c.in-Ok.work.ending c.tell-in-Ok.result.status c.in-Some.ensures.known c.in-Ok.ensures.work c.tell-in-Ok.ensures.status c.tell-in-Ok.ensures.whole
+    done_by (texts_of c.args.words.now) c.in-Some.command (g.S.Source.left c.args.source.now) (g.K.Sink.given c.args.sink.now) (g.K.Sink.given c.tell-in-Ok.new.sink) c.in-Ok.work.runs.items c.in-Ok.work.ending c.tell-in-Ok.result.status c.in-Some.ensures.known c.in-Ok.ensures.work c.tell-in-Ok.ensures.status c.tell-in-Ok.ensures.whole
     )
 
 pub returns-in-Ok-clause-bad_session : goal.returns-in-Ok-clause-bad_session
 returns-in-Ok-clause-bad_session g c =
-    refused_by c.in-Some.options.journals (g.S.Source.left c.args.source.now) (g.K.Sink.given c.args.sink.now) (g.K.Sink.given c.tell-in-Ok.new.sink) c.in-Ok.work.runs.items c.in-Ok.work.ending c.tell-in-Ok.result.status c.in-Ok.ensures.work c.tell-in-Ok.ensures.status c.tell-in-Ok.ensures.whole
+    refused_by c.in-Some.command (g.S.Source.left c.args.source.now) (g.K.Sink.given c.args.sink.now) (g.K.Sink.given c.tell-in-Ok.new.sink) c.in-Ok.work.runs.items c.in-Ok.work.ending c.tell-in-Ok.result.status c.in-Ok.ensures.work c.tell-in-Ok.ensures.status c.tell-in-Ok.ensures.whole
 
 pub returns-in-Ok-clause-broken : goal.returns-in-Ok-clause-broken
 returns-in-Ok-clause-broken g c = λ _.
-    subst (λ (runs : List PortRun). IsBroken (texts_of c.args.words.now) (g.S.Source.faults c.args.source.now) (g.S.Source.faults c.run_one.new.source) (g.S.Source.left c.args.source.now) (g.S.Source.left c.run_one.new.source) (g.K.Sink.given c.args.sink.now) (g.K.Sink.given c.tell-in-Ok.new.sink) runs) (sym (ap (λ runs. runs.items) c.tell-in-Ok.ensures.runs)) (
-    broken (texts_of c.args.words.now) c.in-Some.options.journals _ _ _ _ _ _ c.in-Ok.work.runs.items c.in-Ok.work.ending c.in-Some.ensures.known c.in-Ok.ensures.from c.in-Ok.ensures.work c.tell-in-Ok.ensures.front
+    subst (λ (runs : List PortRun). IsBroken (texts_of c.args.words.now) (g.S.Source.faults c.args.source.now) (g.S.Source.faults c.work_on.new.source) (g.S.Source.left c.args.source.now) (g.S.Source.left c.work_on.new.source) (g.K.Sink.given c.args.sink.now) (g.K.Sink.given c.tell-in-Ok.new.sink) runs) (sym (ap (λ runs. runs.items) c.tell-in-Ok.ensures.runs)) (
+    broken (texts_of c.args.words.now) c.in-Some.command _ _ _ _ _ _ c.in-Ok.work.runs.items c.in-Ok.work.ending c.in-Some.ensures.known c.in-Ok.ensures.from c.in-Ok.ensures.work c.in-Ok.ensures.can c.tell-in-Ok.ensures.front
     )
 
 pub returns-in-Ok-clause-complete : goal.returns-in-Ok-clause-complete
 returns-in-Ok-clause-complete g c =
-    completes (texts_of c.args.words.now) c.in-Some.options.journals (g.S.Source.left c.args.source.now) (g.S.Source.left c.run_one.new.source) (g.S.Source.faults c.args.source.now) (g.S.Source.faults c.run_one.new.source) c.tell-in-Ok.result.runs.items c.in-Ok.work c.tell-in-Ok.result.status (ap (λ runs. runs.items) c.tell-in-Ok.ensures.runs) c.tell-in-Ok.ensures.status c.in-Ok.ensures.from c.in-Ok.ensures.work c.in-Ok.ensures.rest
+    completes (texts_of c.args.words.now) c.in-Some.command (g.S.Source.left c.args.source.now) (g.S.Source.left c.work_on.new.source) (g.S.Source.faults c.args.source.now) (g.S.Source.faults c.work_on.new.source) c.tell-in-Ok.result.runs.items c.in-Ok.work c.tell-in-Ok.result.status c.in-Some.ensures.known (ap (λ runs. runs.items) c.tell-in-Ok.ensures.runs) c.tell-in-Ok.ensures.status c.in-Ok.ensures.from c.in-Ok.ensures.work c.in-Ok.ensures.rest
+
+pub returns-in-Ok-clause-full : goal.returns-in-Ok-clause-full
+returns-in-Ok-clause-full g c =
+    subst (λ (runs : List PortRun). c.tell-in-Ok.result.status ≡ 8 → IsFull (texts_of c.args.words.now) (g.S.Source.left c.args.source.now) runs) (sym (ap (λ runs. runs.items) c.tell-in-Ok.ensures.runs)) (
+    full_by (texts_of c.args.words.now) c.in-Some.command (g.S.Source.left c.args.source.now) c.in-Ok.work.runs.items c.in-Ok.work.ending c.tell-in-Ok.result.status c.in-Some.ensures.known c.in-Ok.ensures.work c.tell-in-Ok.ensures.status
+    )
+
+pub returns-in-Ok-clause-made : goal.returns-in-Ok-clause-made
+returns-in-Ok-clause-made g c =
+    made (texts_of c.args.words.now) c.in-Some.command (g.S.Source.left c.args.source.now) c.tell-in-Ok.result.runs.items c.in-Ok.work c.tell-in-Ok.result.status c.in-Some.ensures.known (ap (λ runs. runs.items) c.tell-in-Ok.ensures.runs) c.tell-in-Ok.ensures.status c.in-Ok.ensures.work c.in-Ok.ensures.can
+
+pub returns-in-Ok-clause-unread : goal.returns-in-Ok-clause-unread
+returns-in-Ok-clause-unread g c = λ gen. c.in-Ok.ensures.unread (reads_nothing c.in-Some.command (texts_of c.args.words.now) c.in-Some.ensures.known gen)
+
+pub returns-in-Err-clause-unread : goal.returns-in-Err-clause-unread
+returns-in-Err-clause-unread g c = λ gen. c.in-Err.ensures.unread (reads_nothing c.in-Some.command (texts_of c.args.words.now) c.in-Some.ensures.known gen)
+
+pub returns-in_default-clause-made : goal.returns-in_default-clause-made
+returns-in_default-clause-made g c = unmade (texts_of c.args.words.now) _ _ c.in_default.ensures.other

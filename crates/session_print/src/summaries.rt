@@ -1,0 +1,137 @@
+ghost use Rattle.std.specs.Prelude.{◌≡◌, IfOk, map, sum_by, length};
+ghost use Rattle.tty_calls.specs.Limits.{call_count};
+ghost use Rattle.tty_calls.specs.Plain.{answer_of, entry_of, entries_of};
+ghost use Rattle.tty_calls.specs.Sessions.{script_of, phase_of, session_of};
+ghost use Rattle.session_print.specs.Ends.{end_of};
+ghost use Rattle.session_print.specs.Summary.{summary_text, all_arrived, all_flushed, all_got, all_generations, got_count, got_in as got_by_event, got_by as got_by_answer};
+
+use super::ports::flushed_characters;
+use std::alloc::Global;
+use tty_base::{Bytes, NoMemory};
+use tty_calls::{Answer, Entry, Event, Phase, PortEnd, PortRun, Script, Session};
+
+/// The summary of a session that a number gives: its calls, the characters that arrived and that were
+/// flushed, the bytes that reads were answered, and the generations, over all ports. There is one run,
+/// and one end, for each port. More than can be counted are want of memory.
+pub fn summary(
+    alloc: Global,
+    number: u32,
+    session: &Session,
+    runs: &[PortRun],
+    ends: &[PortEnd],
+) -> Result<Bytes, NoMemory>
+    ensures { IfOk result (λ text. text.items ≡ summary_text number (session_of session.now) runs.now (map end_of ends.now)) }
+{
+    let calls = calls_in(session.phases.as_slice())?;
+    let arrived = arrived_on(runs)?;
+    let flushed = flushed_on(runs)?;
+    let got = got_on(runs)?;
+    let generations = generations_of(ends)?;
+    let mut text = String::new(alloc);
+    write!(
+        text,
+        "gen {number}\ncalls {calls}\narrived {arrived}\ntaken {flushed}\nbytes {got}\ngenerations {generations}\ndone\n"
+    )?;
+    Ok(Bytes::from_vec(text.into_bytes()))
+}
+
+fn calls_in(phases: &[Phase]) -> Result<u64, NoMemory>
+    ensures { IfOk result (λ count. count ≡ call_count (map phase_of phases.now)) }
+{
+    let mut count = 0u64;
+    for phase in phases {
+        let more = calls_of(phase.callers.as_slice())?;
+        count = count.checked_add(more).ok_or(NoMemory)?;
+    }
+    Ok(count)
+}
+
+fn calls_of(scripts: &[Script]) -> Result<u64, NoMemory>
+    ensures { IfOk result (λ count. count ≡ sum_by (λ script. length script.calls) (map script_of scripts.now)) }
+{
+    let mut count = 0u64;
+    for script in scripts {
+        count = count
+            .checked_add(script.calls.len() as u64)
+            .ok_or(NoMemory)?;
+    }
+    Ok(count)
+}
+
+/// How many characters arrived.
+fn arrived_on(runs: &[PortRun]) -> Result<u64, NoMemory>
+    ensures { IfOk result (λ count. count ≡ all_arrived runs.now) }
+{
+    let mut count = 0u64;
+    for run in runs {
+        count = count
+            .checked_add(u64::from(run.line.arrived))
+            .ok_or(NoMemory)?;
+    }
+    Ok(count)
+}
+
+/// How many characters were flushed.
+fn flushed_on(runs: &[PortRun]) -> Result<u64, NoMemory>
+    ensures { IfOk result (λ count. count ≡ all_flushed runs.now) }
+{
+    let mut count = 0u64;
+    for run in runs {
+        let more = flushed_characters(run.journal.as_slice())?;
+        count = count.checked_add(more).ok_or(NoMemory)?;
+    }
+    Ok(count)
+}
+
+/// How many bytes were answered.
+fn got_on(runs: &[PortRun]) -> Result<u64, NoMemory>
+    ensures { IfOk result (λ count. count ≡ all_got runs.now) }
+{
+    let mut count = 0u64;
+    for run in runs {
+        let more = got_bytes(run.journal.as_slice())?;
+        count = count.checked_add(more).ok_or(NoMemory)?;
+    }
+    Ok(count)
+}
+
+/// How many bytes a journal answers.
+fn got_bytes(entries: &[Entry]) -> Result<u64, NoMemory>
+    ensures { IfOk result (λ count. count ≡ got_count (entries_of entries.now)) }
+{
+    let mut count = 0u64;
+    for entry in entries {
+        count = count.checked_add(got_in(entry)).ok_or(NoMemory)?;
+    }
+    Ok(count)
+}
+
+fn got_in(entry: &Entry) -> u64
+    ensures { result ≡ got_by_event (entry_of entry.now).event }
+{
+    match &entry.event {
+        Event::Answer(answer, _) => got_by(answer),
+        _ => 0,
+    }
+}
+
+fn got_by(answer: &Answer) -> u64
+    ensures { result ≡ got_by_answer (answer_of answer.now) }
+{
+    match answer {
+        Answer::Got(bytes) => bytes.len() as u64,
+        _ => 0,
+    }
+}
+
+fn generations_of(ends: &[PortEnd]) -> Result<u64, NoMemory>
+    ensures { IfOk result (λ count. count ≡ all_generations (map end_of ends.now)) }
+{
+    let mut count = 0u64;
+    for end in ends {
+        count = count
+            .checked_add(u64::from(end.generation))
+            .ok_or(NoMemory)?;
+    }
+    Ok(count)
+}
