@@ -1,0 +1,7 @@
+pub mod Totals
+pub mod Names
+pub mod Spent
+pub mod Steps
+pub mod Ends
+pub mod Characters
+pub mod Bound

@@ -1,0 +1,20 @@
+//! What follows from the definitions alone.
+
+ghost use Rattle.std.specs.Prelude.{ℕ, ◌+◌, ◌*◌, ◌<◌, ◌≤◌, length};
+ghost use Rattle.tty_calls.specs.declared.journals.PortRun.{PortRun};
+ghost use Rattle.tty_calls.specs.Sessions.{PlainSession};
+ghost use Rattle.tty_calls.specs.Limits.{IsWithinLimits, character_count, tick_count};
+ghost use Rattle.tty_terminal.specs.Terminals.{Terminal};
+ghost use Rattle.journal_check.specs.Short.{IsCutShort};
+ghost use Rattle.journal_bound.specs.Counts.{byte_count_on, call_count_on};
+
+/// A run of a session as far as it went has no longer a journal than the session allows: at most two
+/// entries for each byte written and each call on the port, one for each character that arrives and
+/// each tick, and 1,217 more. So no port on which at most 1,800,000 bytes are written has a journal of
+/// 4,194,304 entries.
+pub fn a_journal_is_bounded()
+    ensures by_its_session { (p : ℕ) (session : PlainSession) (run : PortRun) (t : Terminal) → IsWithinLimits session → IsCutShort p session run t
+        → length run.journal.items ≤ 2 * byte_count_on p session.phases + 2 * call_count_on p session.phases + character_count p session.phases + tick_count p session.phases + 1217 }
+    ensures never_full { (p : ℕ) (session : PlainSession) (run : PortRun) (t : Terminal) → IsWithinLimits session → IsCutShort p session run t
+        → byte_count_on p session.phases ≤ 1800000 → length run.journal.items < 4194304 }
+{}
