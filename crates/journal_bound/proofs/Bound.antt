@@ -1,6 +1,6 @@
 -- The bound on a journal by the numbers of its session.
-use Rattle.std.proofs.Common.{◌≡◌, ℕ, suc, ◌+◌, ◌*◌, ◌<◌, ◌≤◌, Bool, true, false, ◌==◌, cond, List, [], ◌∷◌, ◌++◌, Option, None, Some, length, map, sum, refl, sym, ap, subst, ◌∙◌, arith, length-append}
-use Rattle.std.specs.Prelude.{sum_by, slice_index_or, All, filter}
+use Rattle.std.proofs.Common.{◌≡◌, ℕ, suc, ◌+◌, ◌*◌, ◌<◌, ◌≤◌, Bool, true, false, ◌==◌, cond, List, [], ◌∷◌, ◌++◌, Option, Some, length, sum, refl, sym, ap, subst, arith, length-append}
+use Rattle.std.specs.Prelude.{sum_by, All, filter}
 use mathlib.Core.List.{IsPrefix}
 use Rattle.std.proofs.lemmas.List.{length-map}
 use Rattle.std.proofs.lemmas.List.Elements.{All-head, All-tail}
@@ -14,18 +14,18 @@ use Rattle.tty_terminal.specs.declared.callers.CallerState.{CallerState}
 use Rattle.tty_terminal.specs.Terminals.{Terminal, opening, caller_at}
 use Rattle.tty_terminal.specs.Runs.{chars_in, chars_of}
 use Rattle.tty_terminal.specs.Standing.{Standing, standing_of, at_first}
-use Rattle.tty_terminal.specs.Marks.{Marks, marks_of, marks_in, no_marks}
+use Rattle.tty_terminal.specs.Marks.{marks_of, marks_in, no_marks}
 use Rattle.tty_terminal.proofs.CallerLists.{all_idle}
 use Rattle.tty_terminal.proofs.MarkLaws.{run_marks}
 use Rattle.uart_line.specs.Received.{received_list}
 use Rattle.uart_line.specs.Offered.{kept_list}
 use Rattle.journal_check.specs.Legal.{phase_at, name_at, flip_on, script_on}
-use Rattle.journal_check.specs.Short.{is_tick, tick_count_in, IsCutShort}
+use Rattle.journal_check.specs.Short.{tick_count_in, IsCutShort}
 use Rattle.journal_bound.specs.Counts.{written_count, byte_count_on, call_count_on}
 use Rattle.journal_bound.proofs.Totals.{total, total_least, total_plus, total_listed, total_found}
 use Rattle.journal_bound.proofs.Names.{names_own, worth_of, worth_once, worth_over, calls_worth, one_each}
-use Rattle.journal_bound.proofs.Spent.{bit, cost, spent, IsSound}
-use Rattle.journal_bound.proofs.Steps.{own, mark_count, is_hangup, spent_in, extra, extras, used, leads_uses}
+use Rattle.journal_bound.proofs.Spent.{cost, spent, IsSound}
+use Rattle.journal_bound.proofs.Steps.{own, mark_count, spent_in, extras, leads_uses}
 use Rattle.journal_bound.proofs.Ends.{few_marks, hangup_count, few_hangups, ticks_in, phase_ends_in, all_ticks}
 use Rattle.journal_bound.proofs.Characters.{received_few, script_arrivals, kept_few}
 

@@ -1,5 +1,5 @@
 -- No more characters are received than arrive.
-use Rattle.std.proofs.Common.{◌≡◌, ℕ, suc, ◌+◌, ◌<◌, ◌≤◌, ◌==◌, Bool, true, false, nat_lt, if◌then◌else◌, List, [], ◌∷◌, ◌++◌, length, map, take, reverse, refl, sym, ap, subst, ◌∙◌, arith, length-append, length-take}
+use Rattle.std.proofs.Common.{◌≡◌, ℕ, suc, ◌+◌, ◌<◌, ◌≤◌, ◌==◌, Bool, true, false, nat_lt, if◌then◌else◌, List, [], ◌∷◌, ◌++◌, length, map, take, reverse, refl, ap, ◌∙◌, arith, length-append, length-take}
 use Rattle.std.specs.List.{list_any}
 use Rattle.std.proofs.lemmas.Bool.Decides.{nat_tests}
 use Rattle.std.proofs.lemmas.List.{reverse-append}
@@ -9,7 +9,6 @@ use Rattle.tty_base.specs.declared.lines.LineStep.{LineStep}
 use Rattle.tty_base.specs.declared.lines.LineStep.TheVariants.{Unmask, Idle}
 use Rattle.tty_base.specs.declared.lines.Overrun.{Overrun}
 use Rattle.tty_base.specs.Lines.{arrival, arrival_count}
-use Rattle.uart_regs.specs.Registers.{DEPTH}
 use Rattle.uart_line.specs.Received.{is_cut, window, uncut_window, window_output, overrun_mark, received_list_after, received_list, closed_script, script}
 use Rattle.uart_line.specs.Offered.{kept_list_from}
 use Rattle.uart_line.proofs.Steps.{arrival_count-append}

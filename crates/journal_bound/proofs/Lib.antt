@@ -5,3 +5,4 @@ pub mod Steps
 pub mod Ends
 pub mod Characters
 pub mod Bound
+pub mod LegalRuns

@@ -10,7 +10,7 @@ use Rattle.std.proofs.lemmas.Slice.Eq.{bytes_eq-Decides}
 use Rattle.tty_calls.specs.Plain.{PlainCall}
 use Rattle.tty_calls.specs.Sessions.{PlainScript, PlainPhase, scripts_on, scripts_over, with_name, names_of, calls_under, calls_of}
 use Rattle.journal_check.specs.Legal.{has_script}
-use Rattle.journal_bound.proofs.Totals.{total, total_least, total_shift, total_plus, total_none}
+use Rattle.journal_bound.proofs.Totals.{total, total_shift, total_plus, total_none}
 
 neither_of : (a b : Bool) → (a || b) ≡ false → (a ≡ false) × (b ≡ false)
 neither_of true b h = absurd (false≢true (sym h))

@@ -1,5 +1,5 @@
 -- Each entry but a hangup uses up some of what a session allows.
-use Rattle.std.proofs.Common.{◌≡◌, ℕ, suc, ◌+◌, ◌*◌, ◌<◌, ◌≤◌, Bool, true, false, ◌==◌, if◌then◌else◌, List, [], ◌∷◌, ◌++◌, Option, None, Some, is_some, length, refl, sym, ap, subst, ◌∙◌, arith, length-append}
+use Rattle.std.proofs.Common.{◌≡◌, ℕ, ◌+◌, ◌*◌, ◌<◌, ◌≤◌, Bool, true, false, ◌==◌, if◌then◌else◌, List, [], ◌∷◌, Option, None, Some, is_some, length, refl, sym, ap, subst, ◌∙◌, arith}
 use Rattle.std.proofs.lemmas.Bool.{eqb-true, eq-eqb}
 use Rattle.std.specs.Prelude.{nat_lt}
 use Rattle.tty_base.specs.declared.counters.Errno.TheVariants.{EAGAIN, EMSGSIZE}
@@ -18,7 +18,7 @@ use Rattle.tty_terminal.specs.Outcomes.{Outcome, gives, refuses, does, on_access
 use Rattle.tty_terminal.specs.Packets.{with_packet_sent, sending_outcome}
 use Rattle.tty_terminal.specs.Calls.{outcome_of}
 use Rattle.tty_terminal.specs.Steps.{Answers, MustWait, TakesPart, IsAllowed, Allowed, after}
-use Rattle.tty_terminal.specs.Runs.{Leads, chars_in, chars_of, phase_after}
+use Rattle.tty_terminal.specs.Runs.{Leads, chars_in, phase_after}
 use Rattle.tty_terminal.specs.Standing.{Standing, standing_of, standing_after_own, standing_after_other, standing_after}
 use Rattle.tty_terminal.specs.Marks.{Marks, marks_of, marks_after}
 use Rattle.tty_terminal.proofs.StandingLaws.{step_stands}
@@ -30,7 +30,7 @@ use Rattle.journal_check.specs.Short.{is_tick}
 use Rattle.journal_check.proofs.PhaseLemmas.{phase-after}
 use Rattle.journal_bound.proofs.Totals.{total, total_least, total_more}
 use Rattle.journal_bound.proofs.Names.{worth_of, one_each, caller_worth}
-use Rattle.journal_bound.proofs.Spent.{bit, bit_small, bytes_of, known, cost, spent, IsSound, IsMore, answer_more, part_more, wait_more, end_more, same_more, phase_more}
+use Rattle.journal_bound.proofs.Spent.{bit, bit_small, bytes_of, known, spent, IsSound, IsMore, answer_more, part_more, wait_more, end_more, same_more, phase_more}
 
 -- ---- what the events of a call need
 

@@ -1,12 +1,14 @@
 //! What follows from the definitions alone.
 
-ghost use Rattle.std.specs.Prelude.{ℕ, ◌+◌, ◌*◌, ◌<◌, ◌≤◌, length};
+ghost use Rattle.std.specs.Prelude.{◌≡◌, ℕ, ◌+◌, ◌*◌, ◌<◌, ◌≤◌, length};
 ghost use Rattle.tty_calls.specs.declared.journals.PortRun.{PortRun};
 ghost use Rattle.tty_calls.specs.Sessions.{PlainSession};
 ghost use Rattle.tty_calls.specs.Limits.{IsWithinLimits, character_count, tick_count};
 ghost use Rattle.tty_terminal.specs.Terminals.{Terminal};
+ghost use Rattle.journal_check.specs.Legal.{IsLegal};
 ghost use Rattle.journal_check.specs.Short.{IsCutShort};
 ghost use Rattle.journal_bound.specs.Counts.{byte_count_on, call_count_on};
+ghost use Rattle.journal_bound.specs.Rows.{worked_phases};
 
 /// A run of a session as far as it went has no longer a journal than the session allows: at most two
 /// entries for each byte written and each call on the port, one for each character that arrives and
@@ -17,4 +19,16 @@ pub fn a_journal_is_bounded()
         → length run.journal.items ≤ 2 * byte_count_on p session.phases + 2 * call_count_on p session.phases + character_count p session.phases + tick_count p session.phases + 1217 }
     ensures never_full { (p : ℕ) (session : PlainSession) (run : PortRun) (t : Terminal) → IsWithinLimits session → IsCutShort p session run t
         → byte_count_on p session.phases ≤ 1800000 → length run.journal.items < 4194304 }
+{}
+
+/// A legal run is one of its session as far as it went, so that its journal is bounded too.
+pub fn a_legal_run_is_one_as_far_as_it_went()
+    ensures { (p : ℕ) (session : PlainSession) (run : PortRun) (t : Terminal) → IsLegal p session run t → IsCutShort p session run t }
+{}
+
+/// Of three bytes and two that are written on port 0, and a packet that is sent there, five are bytes
+/// written; the calls are all those of the port.
+pub fn a_worked_session_is_counted()
+    ensures bytes { (byte_count_on 0 worked_phases ≡ 5) × (byte_count_on 1 worked_phases ≡ 1) }
+    ensures calls { (call_count_on 0 worked_phases ≡ 5) × (call_count_on 1 worked_phases ≡ 1) }
 {}
