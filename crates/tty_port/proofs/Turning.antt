@@ -1,5 +1,5 @@
 -- What a turn adds to what a seat knows.
-use Rattle.std.proofs.Common.{◌≡◌, ◌≢◌, ◌⊎◌, inl, inr, ℕ, ◌+◌, ◌<◌, ◌≤◌, List, [], ◌∷◌, ◌++◌, false, length, refl, sym, ◌∙◌, ap, subst, arith, append-nil, length-append, Option, Some}
+use Rattle.std.proofs.Common.{◌≡◌, ◌≢◌, ◌⊎◌, inl, inr, ℕ, ◌+◌, ◌<◌, ◌≤◌, List, [], ◌∷◌, ◌++◌, false, length, refl, sym, ◌∙◌, ap, subst, arith, append-nil, length-append, Option, Some, sum}
 use Rattle.port_cell.specs.declared.kept.Stamped.{Stamped}
 use Rattle.port_cell.specs.Entries.{generation_of, entries_by, Each, Keeps, AddsBy}
 use Rattle.port_cell.specs.Knowledge.{number_of, name_of, list_seen, own_entries, is_raised, generation_installed}
@@ -7,7 +7,7 @@ use Rattle.port_cell.specs.Views.{bit_of, raises_of}
 use Rattle.port_cell.proofs.OwnEntries.{entries_by_kept, entries_by_added}
 use Rattle.tty_port.specs.Inside.{Name, EntryWithCall}
 use Rattle.tty_port.specs.Histories.{history_of, name_of as port_name}
-use Rattle.tty_port.specs.Placed.{IsHistoryOf}
+use Rattle.tty_port.specs.Placed.{IsHistoryOf, ArePlaced}
 use Rattle.tty_port.specs.Adding.{Adds}
 use Rattle.tty_port.specs.Calls.{PortSeat}
 use Rattle.tty_port.specs.Lines.{MakesOne, MakesNone}
@@ -74,3 +74,8 @@ found name n old v v1 v2 number named named_now keeps one two history =
       keeps = subst (λ (k : ℕ). Keeps k (list_seen old) (history_of v)) number keeps;
       history = subst (λ (k : ℕ). IsHistoryOf k v.port (history_of v)) (ap (λ (x : Name). x.callers) same) first;
     })
+
+-- the history that the seat has seen is that of the port
+pub placed_now : (name : Name) (w : KeptPort) (s : PortSeat) → port_name w ≡ name → IsHistoryOf w.callers w.port (history_of w) → list_seen s ≡ history_of w → ArePlaced name.callers (sum name.counts) (list_seen s)
+placed_now name w s named h seen =
+    subst (ArePlaced name.callers (sum name.counts)) (sym seen) (subst (λ (x : Name). ArePlaced x.callers (sum x.counts) (history_of w)) named h.placed)

@@ -10,6 +10,7 @@ ghost use Rattle.port_cell.specs.Seats.{IsSeat, IsSameSeat, KeepsUse};
 ghost use Rattle.port_cell.specs.Lent.{value_in};
 ghost use Rattle.tty_port.specs.Histories.{history_of, name_of as port_name};
 ghost use Rattle.tty_port.specs.Seen.{standing_at, marks_at, terminal_at, IsBetween};
+ghost use Rattle.tty_port.specs.Placed.{IsHistoryOf, ArePlaced};
 ghost use Rattle.tty_port.specs.Adding.{IsEntry, IsFull};
 ghost use Rattle.tty_port.specs.Lines.{MakesOne, MakesNone, EndsLine};
 ghost use Rattle.tty_port.specs.Shared.{IsHere, name_of_port, table_of};
@@ -37,6 +38,7 @@ impl SharedPort {
         ensures turn { has_turn seat.new ≡ false }
         ensures lowered { is_raised seat.new ≡ false }
         ensures list { list_seen seat.new ≡ history_of (value_in turn) }
+        ensures history { IsHistoryOf (value_in turn).callers (value_in turn).port (history_of (value_in turn)) }
     {
         if turn.value().entry_count() != found {
             self.cell.note(seat, &mut turn);
@@ -51,6 +53,7 @@ impl SharedPort {
         ensures seat { IsHere self.now ((name_of_port self.now).callers + 2) seat.new }
         ensures references { KeepsUse seat.old seat.new }
         ensures ok { OnOk result (MakesOne (λ before. IsEntry ((name_of_port self.now).callers + 2) Clock (marks_at before).phase ticked) seat.old seat.new) }
+        ensures placed { ArePlaced (name_of_port self.now).callers (sum (name_of_port self.now).counts) (list_seen seat.new) }
         ensures err { OnErr result (MakesNone seat.old seat.new) }
         ensures full { IfErr result (λ d. IsFull (name_of_port self.now) d (list_seen seat.new)) }
     {
@@ -130,8 +133,10 @@ impl SharedPort {
         ensures references { KeepsUse seat.old seat.new }
         ensures kept { MakesNone seat.old seat.new }
         ensures ended { result ≡ may_end (name_of_port self.now).counts (terminal_at (name_of_port self.now) (list_seen seat.new)) }
+        ensures placed { ArePlaced (name_of_port self.now).callers (sum (name_of_port self.now).counts) (list_seen seat.new) }
     {
         let mut turn = self.cell.turn(rt, seat);
+        turn.value().entry_count();
         let ended = turn.value().may_end();
         self.cell.give(seat, turn);
         ended

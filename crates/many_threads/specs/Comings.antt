@@ -1,0 +1,44 @@
+-- What comes of each thread of a phase, whether or not it was denied an entry.
+use Rattle.std.specs.Prelude.{◌≡◌, ◌⊎◌, ℕ, ◌+◌, ◌<◌, ◌≤◌, ◌^◌, List, [], ◌∷◌, ◌++◌, Option, None, Some, IfOk, IfErr, OnOk, OnErr, All, length, sum}
+use Rattle.tty_base.specs.declared.characters.Flagged.{Flagged}
+use Rattle.tty_base.specs.declared.lines.LineStep.{LineStep}
+use Rattle.word_ring.specs.Ends.{PutterState}
+use Rattle.uart_line.specs.LineState.{LineState}
+use Rattle.tty_calls.specs.Plain.{PlainCall}
+use Rattle.tty_calls.specs.Limits.{IsCallWithin}
+use Rattle.port_cell.specs.declared.kept.Stamped.{Stamped}
+use Rattle.port_cell.specs.Entries.{entries_by}
+use Rattle.port_cell.specs.Knowledge.{list_seen}
+use Rattle.tty_port.specs.Inside.{Name, EntryWithCall}
+use Rattle.tty_port.specs.Seen.{IsBetween, next_run}
+use Rattle.tty_port.specs.Adding.{IsFull}
+use Rattle.tty_port.specs.Calls.{PortSeat}
+use Rattle.tty_port.specs.Shared.{IsHere, name_of_port}
+use Rattle.tty_port.specs.declared.shared.SharedPort.{SharedPort}
+use Rattle.many_threads.specs.Parts.{MakesInRole, PlaysCaller, StopsClock, PlaysClock, RunsLine, PlaysLine}
+use Rattle.many_threads.specs.declared.threads.SeatBack.{SeatBack}
+use Rattle.many_threads.specs.declared.threads.FlusherBack.{FlusherBack}
+use Rattle.many_threads.specs.declared.threads.LineBack.{LineBack}
+
+pub record CallerComes (p : SharedPort) (c first : ℕ) (calls : List PlainCall) (start : List (Stamped EntryWithCall)) (back : SeatBack) : Type 0 where
+  pub here : IsHere p c back.seat
+  pub ok : OnOk back.result (PlaysCaller c first calls start back.seat)
+  pub err : OnErr back.result (MakesInRole c first calls start back.seat)
+  pub full : IfErr back.result (λ d. IsFull (name_of_port p) d (list_seen back.seat))
+
+pub record ClockComes (p : SharedPort) (ticks : ℕ) (start : List (Stamped EntryWithCall)) (back : SeatBack) : Type 0 where
+  pub here : IsHere p ((name_of_port p).callers + 2) back.seat
+  pub ok : OnOk back.result (PlaysClock ((name_of_port p).callers + 2) ticks start back.seat)
+  pub err : OnErr back.result (StopsClock ((name_of_port p).callers + 2) ticks start back.seat)
+  pub full : IfErr back.result (λ d. IsFull (name_of_port p) d (list_seen back.seat))
+
+pub record FlusherComes (p : SharedPort) (back : FlusherBack) : Type 0 where
+  pub here : IsHere p (name_of_port p).callers back.seat
+  pub next : IfOk back.result (λ next. next ≡ next_run (list_seen back.seat))
+  pub full : IfErr back.result (λ d. IsFull (name_of_port p) d (list_seen back.seat))
+
+pub record LineComes (p : SharedPort) (steps : List LineStep) (line : LineState) (putter : PutterState Flagged) (start : List (Stamped EntryWithCall)) (back : LineBack) : Type 0 where
+  pub here : IsHere p ((name_of_port p).callers + 1) back.seat
+  pub ok : OnOk back.result (PlaysLine ((name_of_port p).callers + 1) steps line back.receiver.line putter back.receiver.putter start back.seat)
+  pub err : OnErr back.result (RunsLine steps line back.receiver.line putter back.receiver.putter)
+  pub full : IfErr back.result (λ d. IsFull (name_of_port p) d (list_seen back.seat))

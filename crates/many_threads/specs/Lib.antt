@@ -1,0 +1,5 @@
+pub mod Parts
+pub mod Comings
+pub mod Crews
+pub mod Dealing
+pub mod Stations

@@ -1,0 +1,144 @@
+//! The threads of a phase: what each is given, and what it brings back.
+
+ghost use Rattle.std.specs.Prelude.{◌≡◌, ◌+◌, ◌-◌, ◌<◌, ◌≤◌, ◌^◌, false, IsTrue, List, All, length, map, sum};
+ghost use Rattle.tty_base.specs.Lines.{is_step, arrival_count};
+ghost use Rattle.tty_base.specs.declared.lines.LineStep.{LineStep};
+ghost use Rattle.uart_line.specs.LineState.{HasDone};
+ghost use Rattle.tty_calls.specs.Plain.{call_of};
+ghost use Rattle.tty_calls.specs.Limits.{IsCallWithin};
+ghost use Rattle.port_cell.specs.Knowledge.{list_seen};
+ghost use Rattle.tty_port.specs.Seen.{IsBetween, marks_at, next_run};
+ghost use Rattle.tty_port.specs.Shared.{IsHere, name_of_port};
+ghost use Rattle.many_threads.specs.Comings.{CallerComes, ClockComes, FlusherComes, LineComes};
+
+use crate::callers::play_caller;
+use crate::clocks::play_clock;
+use crate::flushers::play_flusher;
+use crate::lines::play_line;
+use flip_buffer::FlipIn;
+use std::sync::Wait;
+use tty_base::LineStep;
+use tty_calls::{Call, Denied};
+use tty_port::{Gate, Seat, SharedPort};
+use uart_line::Line;
+
+/// What a caller's thread, or the clock's, brings back.
+#[derive(Drop)]
+pub struct SeatBack {
+    pub seat: Seat,
+    pub result: Result<(), Denied>,
+}
+
+/// What the flusher's thread brings back: the number of the next flush run, where it was not denied.
+#[derive(Drop)]
+pub struct FlusherBack {
+    pub seat: Seat,
+    pub result: Result<u32, Denied>,
+}
+
+/// What the line's thread is given and brings back: the line, and the putting end of the flip buffer.
+#[derive(Drop)]
+pub struct Receiver {
+    pub line: Line,
+    pub putter: FlipIn,
+}
+
+/// What the line's thread brings back.
+#[derive(Drop)]
+pub struct LineBack {
+    pub seat: Seat,
+    pub receiver: Receiver,
+    pub result: Result<(), Denied>,
+}
+
+/// A caller's thread.
+pub(crate) fn caller_thread<R: Wait, G: Gate>(
+    rt: &R,
+    shared: &SharedPort,
+    gate: &G,
+    mut seat: Seat,
+    caller: u16,
+    first: u32,
+    calls: &[Call],
+) -> SeatBack
+    requires seat { IsHere shared.now caller seat }
+    requires known { caller < sum (name_of_port shared.now).counts }
+    requires within { All IsCallWithin (map call_of calls.now) }
+    requires few { first + length calls.now < 2 ^ 32 }
+    requires between { IsBetween caller first (list_seen seat) }
+    ensures { CallerComes shared.now caller first (map call_of calls.now) (list_seen seat) result }
+{
+    let result = play_caller(rt, shared, &mut seat, caller, first, calls, gate);
+    SeatBack { seat, result }
+}
+
+/// The clock's thread.
+pub(crate) fn clock_thread<R: Wait>(
+    rt: &R,
+    shared: &SharedPort,
+    mut seat: Seat,
+    ticks: u32,
+) -> SeatBack
+    requires seat { IsHere shared.now ((name_of_port shared.now).callers + 2) seat }
+    requires not_over { (marks_at (list_seen seat)).clock_over ≡ false }
+    ensures { ClockComes shared.now ticks (list_seen seat) result }
+{
+    let result = play_clock(rt, shared, &mut seat, ticks);
+    SeatBack { seat, result }
+}
+
+/// The flusher's thread.
+pub(crate) fn flusher_thread<R: Wait>(
+    rt: &R,
+    shared: &SharedPort,
+    mut seat: Seat,
+    run: u32,
+) -> FlusherBack
+    requires seat { IsHere shared.now (name_of_port shared.now).callers seat }
+    requires next { run ≡ next_run (list_seen seat) }
+    ensures { FlusherComes shared.now result }
+{
+    let result = play_flusher(rt, shared, &mut seat, run);
+    FlusherBack { seat, result }
+}
+
+/// The line's thread.
+pub(crate) fn line_thread<R: Wait, G: Gate>(
+    rt: &R,
+    shared: &SharedPort,
+    gate: &G,
+    mut seat: Seat,
+    receiver: Receiver,
+    steps: &[LineStep],
+    phase: u32,
+) -> LineBack
+    requires seat { IsHere shared.now ((name_of_port shared.now).callers + 1) seat }
+    requires not_over { (marks_at (list_seen seat)).line_over ≡ false }
+    requires ring { receiver.putter.ring ≡ (name_of_port shared.now).ring }
+    requires sent { (marks_at (list_seen seat)).sent ≤ length receiver.putter.sent }
+    requires done { (before : List LineStep) × HasDone receiver.line before }
+    requires good { All (λ step. IsTrue (is_step step)) steps.now }
+    requires room { receiver.line.report.arrived + arrival_count steps.now ≤ receiver.line.most }
+    requires put { receiver.line.most ≤ (2 ^ 63 - length receiver.putter.sent) + receiver.line.handed }
+    ensures { LineComes shared.now steps.now receiver.line receiver.putter (list_seen seat) result }
+{
+    let Receiver {
+        mut line,
+        mut putter,
+    } = receiver;
+    let result = play_line(
+        rt,
+        shared,
+        &mut seat,
+        &mut line,
+        &mut putter,
+        steps,
+        phase,
+        gate,
+    );
+    LineBack {
+        seat,
+        receiver: Receiver { line, putter },
+        result,
+    }
+}
