@@ -16,7 +16,7 @@ use Rattle.journal_check.specs.declared.checking.Finding.TheVariants.{Legal, Acc
 use Rattle.journal_check.specs.Legal.{phase_at, flip_on, script_of_first, script_on, sent_by, AreSeen, IsAccounted, IsLegalOn}
 use Rattle.journal_check.specs.Verdicts.{HasNoWrong, IsFirstWrong, HasNoWrongAt, FirstIsWrong, FirstIsNotLegal, Fits}
 use Rattle.journal_check.specs.Receipts.{received_count, IsReceived}
-use Rattle.journal_check.specs.Seen.{phase_starts, line_stops, between}
+use Rattle.journal_check.specs.Seen.{phase_starts, line_stops, are_between}
 use Rattle.journal_check.specs.Findings.{IsKept, Finds, IsFirstAccount, FoundSoFar, first_found}
 use Rattle.journal_check.proofs.AccountLemmas.{walk_is}
 use Rattle.journal_check.proofs.ReceiptLemmas.{none_first}
@@ -62,7 +62,7 @@ nothing_yet p session = omega (arith, ap (λ (cs : List Flagged). length cs) (no
 -- what is found of the overruns
 pub seen_as_found : (p : ℕ) (session : PlainSession) (run : PortRun) (r : Received) (starts stops : List ℕ) → IsReceived p session run.line.overruns.items r → AreShown (flip_on p session) 0 0 run.line.overruns.items → IsKept p session run
     → starts ≡ 0 ∷ phase_starts 0 (entries_of run.journal.items) → stops ≡ line_stops 0 (entries_of run.journal.items)
-    → (between r.ends.items starts stops 0 run.line.overruns.items ≡ true → AreSeen p session (entries_of run.journal.items) run.line.overruns.items) × (AreSeen p session (entries_of run.journal.items) run.line.overruns.items → between r.ends.items starts stops 0 run.line.overruns.items ≡ true)
+    → (are_between r.ends.items starts stops 0 run.line.overruns.items ≡ true → AreSeen p session (entries_of run.journal.items) run.line.overruns.items) × (AreSeen p session (entries_of run.journal.items) run.line.overruns.items → are_between r.ends.items starts stops 0 run.line.overruns.items ≡ true)
 seen_as_found p session run r starts stops received shown kept starts_is stops_is =
     seen_as_between p session (entries_of run.journal.items) r.ends.items starts stops (flip_on p session) 0 0 0 run.line.overruns.items
     (knows_when p session run.line.overruns.items (entries_of run.journal.items) r.ends.items starts stops kept.finished received.many_ends received.ends starts_is stops_is)

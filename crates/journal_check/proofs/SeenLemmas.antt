@@ -13,7 +13,7 @@ use Rattle.uart_line.specs.Received.{received_list, received_list_after, is_cut,
 use Rattle.uart_line.specs.Offered.{AreShown}
 use Rattle.journal_check.specs.Legal.{phase_at, script_of_first, script_on, is_phase_end, line_ends, line_ends_in, session_events, session_events_in, before_phase, before_line_end, IsOfPhase, AreSeen, IsFinishedFrom}
 use Rattle.journal_check.specs.Receipts.{received_count}
-use Rattle.journal_check.specs.Seen.{phase_starts, line_stops, phase_from, between}
+use Rattle.journal_check.specs.Seen.{phase_starts, line_stops, phase_from, are_between}
 use Rattle.journal_check.proofs.AccountLemmas.{shown_cons}
 use Rattle.journal_check.proofs.ReceiptLemmas.{first_more}
 
@@ -357,7 +357,7 @@ all_four false b c d p q r s = absurd (false≢true p)
 
 -- the overruns are between exactly where they have seen what they must
 pub seen_as_between : (p : ℕ) (session : PlainSession) (journal : List PlainEntry) (ends starts stops : List ℕ) (capacity i floor k : ℕ) (os : List Overrun) → KnowsWhen p session journal ends starts stops → AreShown capacity i floor os → k ≤ length session.phases → received_count p session k ≤ floor
-    → (between ends starts stops k os ≡ true → AreSeen p session journal os) × (AreSeen p session journal os → between ends starts stops k os ≡ true)
+    → (are_between ends starts stops k os ≡ true → AreSeen p session journal os) × (AreSeen p session journal os → are_between ends starts stops k os ≡ true)
 seen_as_between p session journal ends starts stops capacity i floor k [] knows shown le begun = (λ h. tt, λ h. refl)
 seen_as_between p session journal ends starts stops capacity i floor k (o ∷ os) knows shown le begun =
     let parts = shown_cons capacity i floor o os shown in
@@ -365,9 +365,9 @@ seen_as_between p session journal ends starts stops capacity i floor k (o ∷ os
     let at = in_phase p session journal ends starts stops k o.at knows le (omega (arith, begun, parts.0.place)) in
     let rest = seen_as_between p session journal ends starts stops capacity (i + 1) (o.at + 1) (phase_from k (drop k ends) o.at) os knows parts.1 at.within (omega (arith, at.begun)) in (
       λ h.
-          (let first = and_parts (nat_lt r (length ends)) (nat_le (get_or starts r 0) o.seen && (nat_le o.seen (get_or stops r 0) && between ends starts stops r os)) h in
-          let second = and_parts (nat_le (get_or starts r 0) o.seen) (nat_le o.seen (get_or stops r 0) && between ends starts stops r os) first.1 in
-          let third = and_parts (nat_le o.seen (get_or stops r 0)) (between ends starts stops r os) second.1 in
+          (let first = and_parts (nat_lt r (length ends)) (nat_le (get_or starts r 0) o.seen && (nat_le o.seen (get_or stops r 0) && are_between ends starts stops r os)) h in
+          let second = and_parts (nat_le (get_or starts r 0) o.seen) (nat_le o.seen (get_or stops r 0) && are_between ends starts stops r os) first.1 in
+          let third = and_parts (nat_le o.seen (get_or stops r 0)) (are_between ends starts stops r os) second.1 in
           let lt : phase_from k (drop k ends) o.at < length session.phases = omega (arith, is_lt r (length ends) first.0, knows.many) in
           let most = at.ended lt in
           let least = is_le (get_or starts r 0) o.seen second.0 in
@@ -383,7 +383,7 @@ seen_as_between p session journal ends starts stops capacity i floor k (o ∷ os
           )),
       λ h. elim (cases_lt (phase_from k (drop k ends) o.at) (length session.phases)) [
         | inl lt ↦ (let of : IsOfPhase p session r o = (at.begun, at.ended lt) in
-            all_four (nat_lt r (length ends)) (nat_le (get_or starts r 0) o.seen) (nat_le o.seen (get_or stops r 0)) (between ends starts stops r os)
+            all_four (nat_lt r (length ends)) (nat_le (get_or starts r 0) o.seen) (nat_le o.seen (get_or stops r 0)) (are_between ends starts stops r os)
             (lt_is r (length ends) (omega (arith, lt, knows.many)))
             (le_is (get_or starts r 0) o.seen (omega (arith, h.0.from_before r of, knows.starts_at r lt)))
             (le_is o.seen (get_or stops r 0) (omega (arith, h.0.by_line_end r of, knows.stops_at r lt)))

@@ -21,10 +21,9 @@ use Rattle.tty_calls.specs.Sessions.{PlainScript, PlainPhase, PlainSession, scri
 use Rattle.tty_calls.specs.Limits.{byte_count, IsCallWithin, IsScriptWithin, IsPhaseWithin, IsWithinLimits, call_count}
 use Rattle.journal_check.specs.declared.turns.Turn.{Turn}
 use Rattle.tty_terminal.specs.Runs.{is_of_call}
-use Rattle.tty_terminal.specs.Meeting.{byte_count as meeting_count}
 use Rattle.journal_check.specs.Trying.{IsSmallCall}
 use Rattle.journal_check.specs.Legal.{phase_at, name_at, has_script, first_step, steps_in, is_caller_end, IsInPhase}
-use Rattle.journal_check.specs.Scripts.{no_turn, opened, IsOpen, IsIdle, scripts_for, IsTurnAmong, AreTurnsAmong, AreTurns, AreIdle, AreSmallTurns}
+use Rattle.journal_check.specs.Scripts.{no_turn, turns_with_next, IsOpen, IsIdle, scripts_for, IsTurnAmong, AreTurnsAmong, AreTurns, AreIdle, AreSmallTurns}
 use Rattle.journal_check.proofs.NameLemmas.{get_append, get_past, same_name, Distinct, either_true, all_distinct, calls_append, first_next, call_of_phase}
 
 abbrev is_of : ℕ → PlainScript → Bool
@@ -292,7 +291,7 @@ same_turn : (a b : Bool) (P Q : Type 0) → a ≡ b → MatchBool b P Q → Matc
 same_turn a b P Q is m = subst (λ (x : Bool). MatchBool x P Q) (sym is) m
 
 opens_by : (p : ℕ) (session : PlainSession) (k i : ℕ) (turns : List Turn) (s : PlainScript) (o : Option ℕ) → IsNext p session k i s → number_in (names_of (scripts_over p session.phases)) s.name ≡ o
-    → AreTurnsAmong p session k (take i (phase_at session k).callers) turns → AreTurnsAmong p session k (take (i + 1) (phase_at session k).callers) (opened turns o k (length s.calls) i)
+    → AreTurnsAmong p session k (take i (phase_at session k).callers) turns → AreTurnsAmong p session k (take (i + 1) (phase_at session k).callers) (turns_with_next turns o k (length s.calls) i)
 opens_by p session k i turns s None n is among = record {
   many = among.many;
   each = λ c within. same_turn (has_script (scripts_for p (take (i + 1) (phase_at session k).callers)) (name_at p session c)) (has_script (scripts_for p (take i (phase_at session k).callers)) (name_at p session c)) _ _
@@ -335,7 +334,7 @@ opens_by p session k i turns s (Some d) n is among =
         (among.each c within))
 
 pub opens_turn : (p : ℕ) (session : PlainSession) (k i : ℕ) (turns : List Turn) (s : PlainScript) → IsWithinLimits session → k < length session.phases → slice_get (phase_at session k).callers i ≡ Some s → is_of p s ≡ true
-    → AreTurnsAmong p session k (take i (phase_at session k).callers) turns → AreTurnsAmong p session k (take (i + 1) (phase_at session k).callers) (opened turns (number_in (names_of (scripts_over p session.phases)) s.name) k (length s.calls) i)
+    → AreTurnsAmong p session k (take i (phase_at session k).callers) turns → AreTurnsAmong p session k (take (i + 1) (phase_at session k).callers) (turns_with_next turns (number_in (names_of (scripts_over p session.phases)) s.name) k (length s.calls) i)
 opens_turn p session k i turns s limits lt at of among = opens_by p session k i turns s _ (is_next p session k i s limits lt at of) refl among
 
 -- ---- from phase to phase
@@ -470,13 +469,13 @@ call_there p session k c t step scripts script call limits lt o are script_is ca
 
 pub opened_turns : (p : ℕ) (session : PlainSession) (k i : ℕ) (turns after : List Turn) (names : List (List ℕ)) (scripts : List Script) (script : Script) → IsWithinLimits session → k < length session.phases
     → map script_of scripts ≡ (phase_at session k).callers → script ≡ get_or scripts i script → i < length scripts → script.port ≡ p → names ≡ names_of (scripts_over p session.phases)
-    → after ≡ opened turns (number_in names script.name.bytes) k (length script.calls.items) i
+    → after ≡ turns_with_next turns (number_in names script.name.bytes) k (length script.calls.items) i
     → AreTurnsAmong p session k (take i (phase_at session k).callers) turns → AreTurnsAmong p session k (take (i + 1) (phase_at session k).callers) after
 opened_turns p session k i turns after names scripts script limits lt are script_is place on_port named after_is among =
     let at : slice_get (phase_at session k).callers i ≡ Some (script_of script) =
     ap (λ (ss : List PlainScript). slice_get ss i) (sym are) ∙ (slice_get-map script_of scripts i ∙ ap (option_map script_of) (slice_get_read scripts (length scripts) i script refl place script_is)) in
     subst (AreTurnsAmong p session k (take (i + 1) (phase_at session k).callers))
-    (sym (after_is ∙ (λ j. opened turns (number_in (named j) script.name.bytes) k (sym (length-map script.calls.items call_of) j) i)))
+    (sym (after_is ∙ (λ j. turns_with_next turns (number_in (named j) script.name.bytes) k (sym (length-map script.calls.items call_of) j) i)))
     (opens_turn p session k i turns (script_of script) limits lt at (eq-eqb script.port p on_port) among)
 
 pub skipped_turns : (p : ℕ) (session : PlainSession) (k i : ℕ) (turns after : List Turn) (scripts : List Script) (script : Script) → map script_of scripts ≡ (phase_at session k).callers → script ≡ get_or scripts i script → i < length scripts
@@ -506,27 +505,6 @@ step_within p session k c t who step event own by h of =
     let both = there.1 of in
     (omega (arith, both.0, own.opened_here.first), omega (arith, both.1, own.opened_here.first, own.steps))
 
-same_count : (call : PlainCall) → meeting_count call ≡ byte_count call
-same_count (opens h access nonblock) = refl
-same_count (closes h) = refl
-same_count (reads h n) = refl
-same_count (writes h bytes) = refl
-same_count (gets_modes h) = refl
-same_count (sets_modes h when words) = refl
-same_count (gets_disc h) = refl
-same_count (sets_disc h n) = refl
-same_count (flushes h queue) = refl
-same_count (steers h act) = refl
-same_count (counts_input h) = refl
-same_count (counts_output h) = refl
-same_count (excludes h) = refl
-same_count (admits h) = refl
-same_count (drains h) = refl
-same_count (gets_counts h) = refl
-same_count (hangs_up h) = refl
-same_count (sends_packet h bytes) = refl
-same_count (takes_packet h) = refl
-
 -- the calls of a session are small
 pub small_call : (p : ℕ) (session : PlainSession) (k c : ℕ) (t : Turn) (step : ℕ) (call : PlainCall) → IsWithinLimits session → IsTurnOf p session k c t → t.first ≤ step → step < t.first + t.steps → call_at p session c step ≡ Some call → IsSmallCall call
 small_call p session k c t step call limits own first within at =
@@ -544,4 +522,4 @@ small_call p session k c t step call limits own first within at =
     subst (IsScriptWithin session.ports) (get_or_from_slice_get (phase_at session k).callers t.script o.script o.script o.found)
     (All-get_or (IsScriptWithin session.ports) (phase_at session k).callers t.script o.script (slice_get_within (phase_at session k).callers t.script o.script o.found) phase.scripts) in
     let fits : IsCallWithin call = subst IsCallWithin same (All-get_or IsCallWithin o.script.calls i call below script.calls) in
-    record { number = fits.handle; bytes = omega (arith, fits.bytes, same_count call) }
+    record { number = fits.handle; bytes = fits.bytes }

@@ -8,9 +8,9 @@ abbrev pub no_turn : Turn
 no_turn = record { begun = 0; first = 0; steps = 0; script = 0 }
 
 -- a caller has its next turn in this phase, of so many calls, by the script at this place
-abbrev pub opened : List Turn → Option ℕ → (phase steps place : ℕ) → List Turn
-opened turns None phase steps place = turns
-opened turns (Some c) phase steps place =
+abbrev pub turns_with_next : List Turn → Option ℕ → (phase steps place : ℕ) → List Turn
+turns_with_next turns None phase steps place = turns
+turns_with_next turns (Some c) phase steps place =
     slice_set turns c (record {
       begun = phase + 1;
       first = (slice_index_or turns c no_turn).first + (slice_index_or turns c no_turn).steps;

@@ -25,8 +25,8 @@ phase_from k [] at = k
 phase_from k (end ∷ ends) at = if nat_le end at then phase_from (k + 1) ends at else k
 
 -- each of these overruns has seen a number between those of its phase, which is this one or a later one
-abbrev pub between : (ends starts stops : List ℕ) → ℕ → List Overrun → Bool
-between ends starts stops k [] = true
-between ends starts stops k (o ∷ os) =
+abbrev pub are_between : (ends starts stops : List ℕ) → ℕ → List Overrun → Bool
+are_between ends starts stops k [] = true
+are_between ends starts stops k (o ∷ os) =
     let phase = phase_from k (drop k ends) o.at in
-    nat_lt phase (length ends) && (nat_le (slice_index starts phase) o.seen && (nat_le o.seen (slice_index stops phase) && between ends starts stops phase os))
+    nat_lt phase (length ends) && (nat_le (slice_index starts phase) o.seen && (nat_le o.seen (slice_index stops phase) && are_between ends starts stops phase os))

@@ -1,10 +1,10 @@
 -- What it is to try an entry, or a part of one, on a terminal.
 use Rattle.std.specs.Prelude.{◌≡◌, ℕ, Bool, MatchBool, is_some, ◌&&◌, ◌+◌, ◌<◌, ◌≤◌, ◌^◌, false}
 use Rattle.tty_calls.specs.Plain.{PlainCall, PlainAnswer, handle_of}
+use Rattle.tty_calls.specs.Limits.{byte_count}
 use Rattle.ldisc_switch.specs.Disciplines.{column_in}
 use Rattle.tty_terminal.specs.Terminals.{Terminal, caller_at}
 use Rattle.tty_terminal.specs.Calls.{outcome}
-use Rattle.tty_terminal.specs.Meeting.{byte_count}
 use Rattle.tty_terminal.specs.Steps.{Answers, Drops, MustWait, quiet_with}
 
 -- where it may be made the terminal has become this one, and otherwise it may not; of the terminal nothing is said then

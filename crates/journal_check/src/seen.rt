@@ -4,7 +4,7 @@ ghost use Rattle.std.specs.Prelude.{◌≡◌, ◌+◌, ◌≤◌, ◌<◌, ◌^
 ghost use Rattle.tty_calls.specs.Plain.{event_of, entries_of};
 ghost use Rattle.tty_terminal.specs.Runs.{chars_of};
 ghost use Rattle.journal_check.specs.Legal.{is_phase_end as ends_phase, line_ends};
-ghost use Rattle.journal_check.specs.Seen.{phase_starts, line_stops, phase_from, between};
+ghost use Rattle.journal_check.specs.Seen.{phase_starts, line_stops, phase_from, are_between};
 
 use crate::characters::chars_of_event;
 use std::alloc::Global;
@@ -97,7 +97,7 @@ pub(crate) fn are_between(
 ) -> bool
     requires starts { length ends.now ≤ length starts.now }
     requires stops { length ends.now ≤ length stops.now }
-    ensures { result ≡ between ends.now starts.now stops.now 0 overruns.now }
+    ensures { result ≡ are_between ends.now starts.now stops.now 0 overruns.now }
 {
     let mut phase = 0;
     for overrun in overruns {

@@ -15,10 +15,7 @@ use crate::answers::is_same;
 use std::alloc::Global;
 use tty_base::{Flagged, NoMemory};
 use tty_calls::{Answer, Call};
-use tty_terminal::{Met, Piece, Terminal};
-
-/// The room on the wire that any call needs.
-const ROOM_FOR_CALL: usize = 4097;
+use tty_terminal::{Met, Piece, ROOM_FOR_CALL, Terminal};
 
 /// The most characters of one piece of a flush run.
 const MOST_IN_PIECE: usize = 64;

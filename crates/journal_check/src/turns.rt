@@ -6,7 +6,7 @@ ghost use Rattle.tty_calls.specs.Sessions.{PlainSession, script_of, session_of, 
 ghost use Rattle.tty_calls.specs.Limits.{IsWithinLimits};
 ghost use Rattle.tty_terminal.specs.Runs.{is_of_call};
 ghost use Rattle.journal_check.specs.Legal.{phase_at, is_caller_end, IsInPhase};
-ghost use Rattle.journal_check.specs.Scripts.{no_turn, opened, AreSmallTurns, AreTurns, AreIdle, IsOpen};
+ghost use Rattle.journal_check.specs.Scripts.{no_turn, turns_with_next, AreSmallTurns, AreTurns, AreIdle, IsOpen};
 
 use tty_calls::{Call, Entry, Event, Names, Script, Session, Who};
 
@@ -43,7 +43,7 @@ fn open_script(turns: &mut [Turn], names: &Names, phase: u32, place: usize, scri
     requires many { length names.now ≤ length turns.old }
     requires phase { phase < 2 ^ 31 }
     requires small { AreSmallTurns turns.old }
-    ensures { turns.new ≡ opened turns.old (number_in names.now script.now.name.bytes) phase (length script.now.calls.items) place }
+    ensures { turns.new ≡ turns_with_next turns.old (number_in names.now script.now.name.bytes) phase (length script.now.calls.items) place }
 {
     if let Some(caller) = names.number(&script.name) {
         let turn = turns[caller];

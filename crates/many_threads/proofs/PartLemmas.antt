@@ -4,8 +4,7 @@ use Rattle.std.specs.Prelude.{slice_get, All, OnErr, option_map, ◌^◌}
 use Rattle.std.proofs.lemmas.Option.{slice_get-map, slice_get_read, slice_get_within, get_or_from_slice_get}
 use Rattle.tty_calls.specs.declared.calls.Call.{Call}
 use Rattle.tty_calls.specs.Limits as limits
-use Rattle.tty_calls.specs.Limits.{IsCallWithin}
-use Rattle.tty_terminal.specs.Meeting.{byte_count}
+use Rattle.tty_calls.specs.Limits.{byte_count, IsCallWithin}
 use Rattle.tty_base.specs.declared.characters.Flagged.{Flagged}
 use Rattle.tty_base.specs.declared.lines.LineStep.{LineStep}
 use Rattle.tty_base.specs.declared.lines.Overrun.{Overrun}

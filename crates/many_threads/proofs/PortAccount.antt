@@ -18,7 +18,7 @@ use Rattle.port_cell.specs.Entries.{Keeps}
 use Rattle.one_thread.specs.Roles.{Scene, PlainRole}
 use Rattle.one_thread.proofs.Places.{phase_from, leads_phase}
 use Rattle.tty_port.specs.Inside.{Name, EntryWithCall}
-use Rattle.tty_port.specs.Histories.{call_by, call_for, stamped, generation_next, history, history_in, name_in}
+use Rattle.tty_port.specs.Histories.{call_by, call_for, stamped_entry, generation_next, history, history_in, name_in}
 use Rattle.tty_port.specs.Seen.{entries_in}
 use Rattle.tty_port.specs.Placed.{ArePlaced, HasCall, HaveCalls, IsHistoryOf}
 use Rattle.tty_port.proofs.Histories.{entries_append}

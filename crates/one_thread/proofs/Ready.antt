@@ -6,10 +6,9 @@ use Rattle.std.proofs.lemmas.List.{length-map}
 use Rattle.tty_calls.specs.declared.sessions.Script.{Script}
 use Rattle.tty_calls.specs.Plain.{PlainCall, opens, closes, reads, writes, gets_modes, sets_modes, gets_disc, sets_disc, flushes, steers, counts_input, counts_output, excludes, admits, drains, gets_counts, hangs_up, sends_packet, takes_packet}
 use Rattle.tty_calls.specs.Limits as limits
-use Rattle.tty_calls.specs.Limits.{IsCallWithin}
+use Rattle.tty_calls.specs.Limits.{byte_count, IsCallWithin}
 use Rattle.tty_terminal.specs.declared.callers.CallerState.{CallerState}
 use Rattle.tty_terminal.specs.Terminals.{caller_at, has_begun}
-use Rattle.tty_terminal.specs.Meeting.{byte_count}
 use Rattle.port_core.specs.Attempts.{PlainTried, IsReady, Attempts}
 use Rattle.port_core.specs.Ports.{PortValue, Appends, end_entry}
 use Rattle.one_thread.specs.Roles.{Scene, calls_in}

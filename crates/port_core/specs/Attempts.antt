@@ -2,10 +2,11 @@
 use Rattle.std.specs.Prelude.{◌≡◌, ◌⊎◌, ℕ, List, [], Bool, IsTrue, true, false, ◌+◌, ◌<◌, ◌^◌, None, Some, is_some, MatchBool, sum}
 use Rattle.tty_base.specs.declared.characters.Flagged.{Flagged}
 use Rattle.tty_calls.specs.Plain.{PlainCall, handle_of, PlainAnswer, answered, parted, waited, answer_of}
+use Rattle.tty_calls.specs.Limits.{byte_count}
 use Rattle.tty_terminal.specs.Terminals.{caller_at, has_begun}
 use Rattle.tty_terminal.specs.Calls.{outcome, outcome_of}
 use Rattle.tty_terminal.specs.Steps.{MustWait, quiet}
-use Rattle.tty_terminal.specs.Meeting.{drops_of, byte_count}
+use Rattle.tty_terminal.specs.Meeting.{drops_of}
 use Rattle.port_core.specs.declared.ports.attempting.Tried.{Tried}
 use Rattle.port_core.specs.declared.ports.attempting.Tried.TheVariants as tried
 use Rattle.port_core.specs.Flips.{DropsShown}

@@ -4,13 +4,13 @@
 ghost use Rattle.std.specs.Prelude.{◌≡◌, ◌≤◌, ◌<◌, [], ◌∷◌, ◌++◌, true, false, IfOk, IfErr, OnOk, IsSome, vec_len};
 ghost use Rattle.tty_calls.specs.declared.journals.Who.TheVariants.{Caller};
 ghost use Rattle.tty_calls.specs.Plain.{call_of};
-ghost use Rattle.tty_terminal.specs.Meeting.{IsRoomFor, room_for, room_for_call};
+ghost use Rattle.tty_terminal.specs.Meeting.{IsRoomFor, room_for};
 ghost use Rattle.port_core.specs.Kept.{IsCopyOf, kept_after, places_after};
 
 use std::alloc::Global;
 use tty_base::{Buffer, Bytes, Chars, NoMemory};
 use tty_calls::{Call, Denied, Entry, Event, Journal, Who};
-use tty_terminal::{Room, Terminal};
+use tty_terminal::{ROOM_FOR_CALL, Room, Terminal};
 
 /// A call that the port keeps from its first attempt on.
 #[derive(Drop)]
@@ -28,9 +28,6 @@ pub(crate) fn starve(starved: &mut bool) -> Denied
     *starved = true;
     Denied::NoMemory
 }
-
-/// The room on the wire that any call needs.
-const ROOM_FOR_CALL: usize = 4097;
 
 /// What a call needs beside the port: its own copy, where it has not begun; room for the bytes of its
 /// answer, in the journal and for the caller; and what the terminal needs.
@@ -137,7 +134,7 @@ fn copy_to_keep(alloc: Global, kept: &mut Buffer<KeptCall>, call: &Call) -> Resu
 fn room_for_call(alloc: Global, terminal: &mut Terminal, call: &Call) -> Result<Room, NoMemory>
     ensures same { terminal.new.terminal ≡ terminal.old.terminal }
     ensures room { IfOk result (λ room. IsRoomFor terminal.new.terminal (call_of call.now) room) }
-    ensures wire { OnOk result (room_for_call ≤ terminal.new.wire_room) }
+    ensures wire { OnOk result (ROOM_FOR_CALL ≤ terminal.new.wire_room) }
 {
     terminal.reserve(ROOM_FOR_CALL, 0)?;
     terminal.make_room(alloc, call)
@@ -153,7 +150,7 @@ pub(crate) fn prepare(
     call: &Call,
 ) -> Result<Prepared, Denied>
     ensures terminal { terminal.new.terminal ≡ terminal.old.terminal }
-    ensures wire { OnOk result (room_for_call ≤ terminal.new.wire_room) }
+    ensures wire { OnOk result (ROOM_FOR_CALL ≤ terminal.new.wire_room) }
     ensures items { kept.new.items ≡ kept.old.items }
     ensures kept { IfOk result (λ p. IsCopyOf begun (call_of call.now) p.copy) }
     ensures spare { OnOk result (begun ≡ false → 0 < kept.new.spare) }

@@ -1,6 +1,6 @@
 ghost use Rattle.std.specs.Prelude.{◌≡◌, ◌≤◌, ◌<◌, ◌^◌, IsTrue};
 ghost use Rattle.tty_calls.specs.Plain.{call_of, handle_of};
-ghost use Rattle.tty_terminal.specs.Meeting.{byte_count};
+ghost use Rattle.tty_calls.specs.Limits.{byte_count};
 
 use super::*;
 use flip_buffer::flip;

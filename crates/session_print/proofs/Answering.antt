@@ -11,7 +11,7 @@ use Rattle.tty_calls.specs.declared.journals.Entry.{Entry}
 use Rattle.tty_calls.specs.Plain.{PlainAnswer, PlainEntry, answer_of, entry_of, entries_of}
 use Rattle.session_print.specs.declared.answers.Turn.{Turn}
 use Rattle.session_print.specs.Report.{answer_by, answer_in}
-use Rattle.session_print.specs.Printing.{found, found_once, same_turn}
+use Rattle.session_print.specs.Printing.{noted_answer, entry_answer, same_turn}
 
 or_none : (o : Option PlainAnswer) → o ≡ option_or o None
 or_none None = refl
@@ -40,8 +40,8 @@ one_more es i e c step h at =
 -- an entry that answers nothing
 pub none_told : (answers : HashMap Turn (Bor Answer) (BuildHasherDefault FoldHasher)) (es : List Entry) (i : ℕ) (e : Entry) → i < length es → e ≡ get_or es i e
     → ((c step : ℕ) → None ≡ answer_by (entry_of e) c step)
-    → ((c step : ℕ) → found answers c step ≡ answer_in (entries_of (take i es)) c step)
-    → (c step : ℕ) → found answers c step ≡ answer_in (entries_of (take (i + 1) es)) c step
+    → ((c step : ℕ) → noted_answer answers c step ≡ answer_in (entries_of (take i es)) c step)
+    → (c step : ℕ) → noted_answer answers c step ≡ answer_in (entries_of (take (i + 1) es)) c step
 none_told answers es i e h at none before c step =
     before c step ∙ ap (λ o. option_or o (answer_in (entries_of (take i es)) c step)) (none c step) ∙ sym (one_more es i e c step h at)
 
@@ -51,14 +51,14 @@ merged f false a g = refl
 
 -- an entry that answers
 pub some_told : (old new : HashMap Turn (Bor Answer) (BuildHasherDefault FoldHasher)) (es : List Entry) (i : ℕ) (e : Entry) (turn : Turn) (a : Bor Answer) → i < length es → e ≡ get_or es i e
-    → ((c step : ℕ) → found_once (Some (turn, a)) c step ≡ answer_by (entry_of e) c step)
+    → ((c step : ℕ) → entry_answer (Some (turn, a)) c step ≡ answer_by (entry_of e) c step)
     → Updates same_turn old new turn (Some a)
-    → ((c step : ℕ) → found old c step ≡ answer_in (entries_of (take i es)) c step)
-    → (c step : ℕ) → found new c step ≡ answer_in (entries_of (take (i + 1) es)) c step
+    → ((c step : ℕ) → noted_answer old c step ≡ answer_in (entries_of (take i es)) c step)
+    → (c step : ℕ) → noted_answer new c step ≡ answer_in (entries_of (take (i + 1) es)) c step
 some_told old new es i e turn a h at by updates before c step =
     let q : Turn = record { caller = c; step = step } in
     ap (λ o. option_map (λ x. answer_of x.now) o) (updates.0 q)
     ∙ merged (λ (x : Bor Answer). answer_of x.now) (same_turn turn q) a _
-    ∙ ap (λ o. option_or (found_once (Some (turn, a)) c step) o) (before c step)
+    ∙ ap (λ o. option_or (entry_answer (Some (turn, a)) c step) o) (before c step)
     ∙ ap (λ o. option_or o (answer_in (entries_of (take i es)) c step)) (by c step)
     ∙ sym (one_more es i e c step h at)

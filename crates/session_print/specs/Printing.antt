@@ -22,13 +22,13 @@ abbrev pub same_turn : Turn → Turn → Bool
 same_turn a b = (a.caller == b.caller) && (a.step == b.step)
 
 -- the answer of a caller and step
-abbrev pub found : HashMap Turn (Bor Answer) (BuildHasherDefault FoldHasher) → ℕ → ℕ → Option PlainAnswer
-found answers c step = option_map (λ a. answer_of a.now) (get same_turn answers (record { caller = c; step = step }))
+abbrev pub noted_answer : HashMap Turn (Bor Answer) (BuildHasherDefault FoldHasher) → ℕ → ℕ → Option PlainAnswer
+noted_answer answers c step = option_map (λ a. answer_of a.now) (get same_turn answers (record { caller = c; step = step }))
 
 -- what an entry answers to a caller's step
-abbrev pub found_once : Option (Turn × Bor Answer) → ℕ → ℕ → Option PlainAnswer
-found_once None c step = None
-found_once (Some answer) c step = if same_turn answer.0 (record { caller = c; step = step }) then Some (answer_of answer.1.now) else None
+abbrev pub entry_answer : Option (Turn × Bor Answer) → ℕ → ℕ → Option PlainAnswer
+entry_answer None c step = None
+entry_answer (Some answer) c step = if same_turn answer.0 (record { caller = c; step = step }) then Some (answer_of answer.1.now) else None
 
 -- the scripts of a port's callers
 abbrev pub scripts_for : ℕ → List Script → List PlainScript

@@ -1,7 +1,7 @@
 ghost use Rattle.std.specs.Prelude.{◌≡◌, ℕ, IfOk};
 ghost use Rattle.tty_calls.specs.Plain.{entry_of, entries_of};
 ghost use Rattle.session_print.specs.Report.{answer_in, answer_by};
-ghost use Rattle.session_print.specs.Printing.{found, found_once};
+ghost use Rattle.session_print.specs.Printing.{noted_answer, entry_answer};
 
 use std::alloc::Global;
 use std::collections::HashMap;
@@ -20,7 +20,7 @@ pub(crate) fn answers_of(
     alloc: Global,
     entries: &[Entry],
 ) -> Result<HashMap<Turn, &Answer>, NoMemory>
-    ensures { IfOk result (λ answers. (c step : ℕ) → found answers c step ≡ answer_in (entries_of entries.now) c step) }
+    ensures { IfOk result (λ answers. (c step : ℕ) → noted_answer answers c step ≡ answer_in (entries_of entries.now) c step) }
 {
     let mut answers = HashMap::new(alloc);
     for entry in entries {
@@ -33,7 +33,7 @@ pub(crate) fn answers_of(
 
 /// What an entry answers, and to which step.
 fn answer_of(entry: &Entry) -> Option<(Turn, &Answer)>
-    ensures { (c step : ℕ) → found_once result c step ≡ answer_by (entry_of entry.now) c step }
+    ensures { (c step : ℕ) → entry_answer result c step ≡ answer_by (entry_of entry.now) c step }
 {
     match (entry.who, &entry.event) {
         (Who::Caller(caller), Event::Answer(answer, _)) => {

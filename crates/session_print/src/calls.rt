@@ -3,7 +3,7 @@ ghost use Rattle.tty_calls.specs.Plain.{call_of, answer_of};
 ghost use Rattle.tty_calls.specs.Sessions.{script_of, number_in, session_of};
 ghost use Rattle.session_print.specs.Lines.{call_line};
 ghost use Rattle.session_print.specs.Report.{calls_text, told_line, told_from};
-ghost use Rattle.session_print.specs.Printing.{found, scripts_for, told_script, steps_then, told_scripts, steps_after};
+ghost use Rattle.session_print.specs.Printing.{noted_answer, scripts_for, told_script, steps_then, told_scripts, steps_after};
 
 use super::answers::{Turn, answers_of};
 use super::words::{put_answer, verb_of};
@@ -52,7 +52,7 @@ impl Teller<'_> {
     ) -> Result<(), NoMemory>
         requires { length steps.old.items ≡ length self.now.names }
         ensures text { OnOk result (string_bytes text.new ≡ string_bytes text.old
-            ++ flat_map (told_line self.now.port (found self.now.answers)) (told_scripts self.now.names steps.old.items (scripts_for self.now.port scripts.now))) }
+            ++ flat_map (told_line self.now.port (noted_answer self.now.answers)) (told_scripts self.now.names steps.old.items (scripts_for self.now.port scripts.now))) }
         ensures steps { OnOk result (steps.new.items ≡ steps_after self.now.names steps.old.items (scripts_for self.now.port scripts.now)) }
         ensures each { OnOk result (length steps.new.items ≡ length steps.old.items) }
     {
@@ -73,7 +73,7 @@ impl Teller<'_> {
     ) -> Result<(), NoMemory>
         requires { length steps.old.items ≡ length self.now.names }
         ensures text { OnOk result (string_bytes text.new ≡ string_bytes text.old
-            ++ flat_map (told_line self.now.port (found self.now.answers)) (told_script steps.old.items (script_of script.now) (number_in self.now.names script.now.name.bytes))) }
+            ++ flat_map (told_line self.now.port (noted_answer self.now.answers)) (told_script steps.old.items (script_of script.now) (number_in self.now.names script.now.name.bytes))) }
         ensures steps { OnOk result (steps.new.items ≡ steps_then steps.old.items (script_of script.now) (number_in self.now.names script.now.name.bytes)) }
     {
         let calls = script.calls.as_slice();
@@ -98,7 +98,7 @@ impl Teller<'_> {
     ) -> Result<(), AllocError>
         requires { first.step + length calls.now < 2 ^ 64 }
         ensures { OnOk result (string_bytes text.new ≡ string_bytes text.old
-            ++ flat_map (told_line self.now.port (found self.now.answers)) (told_from name.now (Some first.caller) first.step (map call_of calls.now))) }
+            ++ flat_map (told_line self.now.port (noted_answer self.now.answers)) (told_from name.now (Some first.caller) first.step (map call_of calls.now))) }
     {
         let mut turn = first;
         for call in calls {

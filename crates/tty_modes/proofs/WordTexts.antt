@@ -16,7 +16,7 @@ use Rattle.tty_modes.specs.declared.words.Word.{Word}
 use Rattle.tty_modes.specs.declared.words.Word.TheVariants.{On, Off, Cc, Raw, Sane}
 use Rattle.tty_modes.specs.Names.{flag_names, character_names}
 use Rattle.tty_modes.specs.Word.{IsModeWord, word_text}
-use Rattle.tty_modes.specs.Reading.{place_of, is_number, byte_of, character_word, other_word, word_of}
+use Rattle.tty_modes.specs.Reading.{place_of, is_decimal, byte_of, character_word, other_word, word_of}
 
 -- P at each of count numbers from a first one on
 abbrev AllFrom : (ℕ → Type 0) → ℕ → ℕ → Type 0
@@ -55,10 +55,10 @@ byte_of-decimal value small =
     let digits : all_ascii_digits (decimal value) ≡ true = digits_decimal own value wide in
     let lead = leads value small in
     let below : ltb (digits_value 10 (decimal value)) 256 ≡ true = (Decides-ltb (digits_value 10 (decimal value)) 256).1 (rw is small) in
-    let number : is_number (decimal value) ≡ true =
+    let number : is_decimal (decimal value) ≡ true =
     and_true (ltb 0 (length (decimal value)) && all_ascii_digits (decimal value)) (ltb 48 (get_or (decimal value) 0 0) || eqb (length (decimal value)) 1)
     (and_true (ltb 0 (length (decimal value))) (all_ascii_digits (decimal value)) some digits) lead in
-    let both : (is_number (decimal value) && ltb (digits_value 10 (decimal value)) 256) ≡ true = and_true (is_number (decimal value)) (ltb (digits_value 10 (decimal value)) 256) number below in
+    let both : (is_decimal (decimal value) && ltb (digits_value 10 (decimal value)) 256) ≡ true = and_true (is_decimal (decimal value)) (ltb (digits_value 10 (decimal value)) 256) number below in
     ap (λ b. cond b (Some (digits_value 10 (decimal value))) None) both ∙ ap Some is
 
 or_right : (a b : Bool) → b ≡ true → (a || b) ≡ true
@@ -87,9 +87,9 @@ pub record IsByteText (text : List ℕ) : Type 0 where
   pub plain : get_or text 0 0 ≡ 48 → length text ≡ 1
   pub below : digits_value 10 text < 256
 
-byte_text-tested : (text : List ℕ) → (is_number text && ltb (digits_value 10 text) 256) ≡ true → IsByteText text
+byte_text-tested : (text : List ℕ) → (is_decimal text && ltb (digits_value 10 text) 256) ≡ true → IsByteText text
 byte_text-tested text e =
-    let whole = both_true (is_number text) (ltb (digits_value 10 text) 256) e in
+    let whole = both_true (is_decimal text) (ltb (digits_value 10 text) 256) e in
     let number = both_true (ltb 0 (length text) && all_ascii_digits text) (ltb 48 (get_or text 0 0) || eqb (length text) 1) whole.0 in
     let front = both_true (ltb 0 (length text)) (all_ascii_digits text) number.0 in
     record {
@@ -109,12 +109,12 @@ leads_if text high plain =
       | inr other ↦ (let above : ltb 48 (get_or text 0 0) ≡ true = (Decides-ltb 48 (get_or text 0 0)).1 (omega arith) in rw above refl)
     ]
 
-byte_text-test : (text : List ℕ) → IsByteText text → (is_number text && ltb (digits_value 10 text) 256) ≡ true
+byte_text-test : (text : List ℕ) → IsByteText text → (is_decimal text && ltb (digits_value 10 text) 256) ≡ true
 byte_text-test text is =
     let some : ltb 0 (length text) ≡ true = (Decides-ltb 0 (length text)).1 is.some in
     let below : ltb (digits_value 10 text) 256 ≡ true = (Decides-ltb (digits_value 10 text) 256).1 is.below in
     let lead = leads_if text (first_digit text is.digits is.some) is.plain in
-    and_true (is_number text) (ltb (digits_value 10 text) 256)
+    and_true (is_decimal text) (ltb (digits_value 10 text) 256)
     (and_true (ltb 0 (length text) && all_ascii_digits text) (ltb 48 (get_or text 0 0) || eqb (length text) 1)
     (and_true (ltb 0 (length text)) (all_ascii_digits text) some is.digits) lead)
     below
@@ -128,7 +128,7 @@ none_if_not false n never = refl
 
 pub byte_of-none : (text : List ℕ) → ¬ (IsByteText text) → byte_of text ≡ None
 byte_of-none text never =
-    none_if_not (is_number text && ltb (digits_value 10 text) 256) (digits_value 10 text) (λ e. never (byte_text-tested text e))
+    none_if_not (is_decimal text && ltb (digits_value 10 text) 256) (digits_value 10 text) (λ e. never (byte_text-tested text e))
 
 -- a text that begins with a plus, or with a zero and more, or is empty, is no byte
 pub byte_of-not_plain : (text : List ℕ) → ¬ ((0 < length text) × (get_or text 0 0 ≢ 43) × (get_or text 0 0 ≡ 48 → length text ≡ 1)) → byte_of text ≡ None
@@ -144,7 +144,7 @@ parsed_if text (Err e) h plain = sym (byte_of-none text (λ is. h (is.digits, is
 pub byte_of-parsed : {E : Type 0} (text : List ℕ) (r : Result ℕ E) → ParsesUnsigned 8 10 text r → (get_or text 0 0 ≢ 43) → (get_or text 0 0 ≡ 48 → length text ≡ 1) → result_ok r ≡ byte_of text
 byte_of-parsed text r h no_plus plain = parsed_if text r (parse_plain own 8 text r h no_plus) plain
 
-byte_spelled_if : (text : List ℕ) (test : Bool) → (is_number text && ltb (digits_value 10 text) 256) ≡ test → IfSome (cond test (Some (digits_value 10 text)) None) (λ v. (v < 256) × (decimal v ≡ text))
+byte_spelled_if : (text : List ℕ) (test : Bool) → (is_decimal text && ltb (digits_value 10 text) 256) ≡ test → IfSome (cond test (Some (digits_value 10 text)) None) (λ v. (v < 256) × (decimal v ≡ text))
 byte_spelled_if text false e = tt
 byte_spelled_if text true e =
     let is = byte_text-tested text e in
@@ -152,7 +152,7 @@ byte_spelled_if text true e =
 
 -- a byte that is read spells its text
 byte_of-spelled : (text : List ℕ) → IfSome (byte_of text) (λ v. (v < 256) × (decimal v ≡ text))
-byte_of-spelled text = byte_spelled_if text (is_number text && ltb (digits_value 10 text) 256) refl
+byte_of-spelled text = byte_spelled_if text (is_decimal text && ltb (digits_value 10 text) 256) refl
 
 -- ---- from a word to its text and back
 

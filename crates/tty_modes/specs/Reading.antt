@@ -13,12 +13,12 @@ abbrev pub place_of : List (List ℕ) → List ℕ → Option ℕ
 place_of names text = position (λ name. bytes_eq name text) names
 
 -- whether a text is decimal digits without sign or leading zero
-abbrev pub is_number : List ℕ → Bool
-is_number text = nat_lt 0 (length text) && all_ascii_digits text && (nat_lt 48 (slice_index text 0) || length text == 1)
+abbrev pub is_decimal : List ℕ → Bool
+is_decimal text = nat_lt 0 (length text) && all_ascii_digits text && (nat_lt 48 (slice_index text 0) || length text == 1)
 
 -- the number from 0 to 255 that a text says
 abbrev pub byte_of : List ℕ → Option ℕ
-byte_of text = if is_number text && nat_lt (digits_value 10 text) 256 then Some (digits_value 10 text) else None
+byte_of text = if is_decimal text && nat_lt (digits_value 10 text) 256 then Some (digits_value 10 text) else None
 
 -- a control character with its value, where both are there
 abbrev pub character_word : Option ℕ → Option ℕ → Option Word

@@ -9,11 +9,12 @@ use Rattle.tty_calls.specs.declared.answers.Denied.TheVariants.{NoMemory, Full}
 use Rattle.tty_calls.specs.declared.journals.Who.{Who}
 use Rattle.tty_calls.specs.declared.journals.Who.TheVariants.{Caller, Flusher, Line, Clock, Session}
 use Rattle.tty_calls.specs.Plain.{PlainCall, handle_of, PlainAnswer, PlainEvent, answered, parted, waited, PlainEntry}
+use Rattle.tty_calls.specs.Limits.{byte_count}
 use Rattle.tty_terminal.specs.declared.callers.CallerState.{CallerState}
 use Rattle.tty_terminal.specs.Terminals.{Terminal, opening, caller_at, has_begun}
 use Rattle.tty_terminal.specs.Calls.{outcome, outcome_of}
 use Rattle.tty_terminal.specs.Steps.{quiet, Allowed, after}
-use Rattle.tty_terminal.specs.Meeting.{byte_count, drops_of}
+use Rattle.tty_terminal.specs.Meeting.{drops_of}
 use Rattle.tty_terminal.specs.Runs.{is_of_call}
 use Rattle.tty_terminal.specs.Standing.{Standing, standing_of, standing_after, standing_after_own, standing_after_other}
 use Rattle.tty_terminal.proofs.Effects.{outcome_keeps}
@@ -25,14 +26,14 @@ use Rattle.port_core.proofs.Calls.{grows_kept, known_call}
 use Rattle.port_cell.specs.declared.kept.Stamped.{Stamped}
 use Rattle.port_cell.specs.Entries.{generation_of}
 use Rattle.tty_port.specs.Inside.{Name, EntryWithCall}
-use Rattle.tty_port.specs.Histories.{seat_of, call_by, call_for, stamped, history, history_in, name_in}
+use Rattle.tty_port.specs.Histories.{seat_of, call_by, call_for, stamped_entry, history, history_in, name_in}
 use Rattle.tty_port.specs.Seen.{entries_in, standing_at, IsBetween}
 use Rattle.tty_port.specs.Adding.{Adds, IsOf, IsFull, IsOfStep, IsTold, IsUnderWay, Tries}
 use Rattle.tty_port.proofs.Histories.{history_length, history_adds, port_generation, port_stands, standing_append}
 
 -- ---- what the caller of a call knows is what the port needs
 
-told_step : (m : ℕ) (f : ℕ → ℕ → Option PlainCall) (c step : ℕ) (call : PlainCall) (e : PlainEntry) (now : ℕ) → IsOfStep c step call (stamped m f e now) → f c step ≡ Some call
+told_step : (m : ℕ) (f : ℕ → ℕ → Option PlainCall) (c step : ℕ) (call : PlainCall) (e : PlainEntry) (now : ℕ) → IsOfStep c step call (stamped_entry m f e now) → f c step ≡ Some call
 told_step m f c step call e now h =
     let of : call_by f e.who e.step ≡ Some call = sym (ap (λ (b : Bool). if b then call_by f e.who e.step else None) h.of_call) ∙ h.keeps in
     sym (ap (λ (w : Who). call_by f w e.step) h.who ∙ ap (λ (k : ℕ). f c k) h.at_step) ∙ of
@@ -69,7 +70,7 @@ entered v c step call flip event = record (with_entry (with_call v c step call) 
 
 abbrev entry_of : ℕ → PortValue → ℕ → ℕ → PlainCall → TakerState Flagged → PlainEvent → Stamped EntryWithCall
 entry_of m v c step call flip event =
-    stamped m (call_in (with_call v c step call).kept) (caller_entry v c event) (entered v c step call flip event).terminal.generation
+    stamped_entry m (call_in (with_call v c step call).kept) (caller_entry v c event) (entered v c step call flip event).terminal.generation
 
 adds_to : (m : ℕ) (v : PortValue) (c step : ℕ) (call : PlainCall) (flip : TakerState Flagged) (event : PlainEvent) → IsPort v → history_in m (entered v c step call flip event) ≡ history_in m v ++ entry_of m v c step call flip event ∷ []
 adds_to m v c step call flip event p =

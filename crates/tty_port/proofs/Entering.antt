@@ -23,7 +23,7 @@ use Rattle.port_cell.specs.declared.kept.Stamped.{Stamped}
 use Rattle.port_cell.specs.Entries.{generation_of}
 use Rattle.port_cell.proofs.Histories.{generation_of-push}
 use Rattle.tty_port.specs.Inside.{Name, EntryWithCall}
-use Rattle.tty_port.specs.Histories.{stamped, history_in, name_in}
+use Rattle.tty_port.specs.Histories.{stamped_entry, history_in, name_in}
 use Rattle.tty_port.specs.Seen.{entries_in, standing_at, marks_at, chars_at, terminal_at, next_run, IsBetween}
 use Rattle.tty_port.specs.Adding.{Adds, IsEntry}
 use Rattle.tty_port.specs.Flushing.{IsPiece, GoesOnAt, HasNothingLeft, Hands}
@@ -33,7 +33,7 @@ use Rattle.tty_port.proofs.Keeping.{run_append}
 
 -- the entry that a port made is the last of its history
 abbrev last_of : ℕ → PortValue → PlainEntry → Stamped EntryWithCall
-last_of m v e = stamped m (call_in v.kept) e (after (call_in v.kept) v.terminal e).generation
+last_of m v e = stamped_entry m (call_in v.kept) e (after (call_in v.kept) v.terminal e).generation
 
 appends : (m : ℕ) (old new : PortValue) (flip : TakerState Flagged) (e : PlainEntry) → IsPort old → Appends old new flip e → history_in m new ≡ history_in m old ++ last_of m old e ∷ []
 appends m old new flip e p h =

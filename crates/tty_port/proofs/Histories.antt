@@ -22,16 +22,16 @@ use Rattle.port_core.specs.Ports.{PortValue, IsPort, call_in}
 use Rattle.port_cell.specs.declared.kept.Stamped.{Stamped}
 use Rattle.port_cell.specs.Entries.{generation_of}
 use Rattle.tty_port.specs.Inside.{Name, EntryWithCall}
-use Rattle.tty_port.specs.Histories.{seat_of, call_by, call_for, stamped, generation_next, history, history_in, name_in}
+use Rattle.tty_port.specs.Histories.{seat_of, call_by, call_for, stamped_entry, generation_next, history, history_in, name_in}
 use Rattle.tty_port.specs.Seen.{entries_in, standing_at, marks_at, next_run, led_to, terminal_at}
 use Rattle.tty_port.specs.Placed.{IsPlaced, ArePlaced, HasCall, HaveCalls, IsHistoryOf}
 
 -- ---- one entry more
 
-pub history_append : (m : ℕ) (f : ℕ → ℕ → Option PlainCall) (es : List PlainEntry) (e : PlainEntry) (now : ℕ) → history m f (es ++ e ∷ []) now ≡ history m f es e.generation ++ stamped m f e now ∷ []
+pub history_append : (m : ℕ) (f : ℕ → ℕ → Option PlainCall) (es : List PlainEntry) (e : PlainEntry) (now : ℕ) → history m f (es ++ e ∷ []) now ≡ history m f es e.generation ++ stamped_entry m f e now ∷ []
 history_append m f [] e now = refl
 history_append m f (x ∷ []) e now = refl
-history_append m f (x ∷ y ∷ ys) e now = ap (λ (xs : List (Stamped EntryWithCall)). stamped m f x y.generation ∷ xs) (history_append m f (y ∷ ys) e now)
+history_append m f (x ∷ y ∷ ys) e now = ap (λ (xs : List (Stamped EntryWithCall)). stamped_entry m f x y.generation ∷ xs) (history_append m f (y ∷ ys) e now)
 
 pub history_entries : (m : ℕ) (f : ℕ → ℕ → Option PlainCall) (es : List PlainEntry) (now : ℕ) → entries_in (history m f es now) ≡ es
 history_entries m f [] now = refl
@@ -78,17 +78,17 @@ history_grown m f g counts t (e ∷ es) u now grows h =
     let same = event_grown f g (length t.callers) e.who e.step e.event grows (step_maker f counts t e h.0) in
     let rest = history_grown m f g counts (after f t e) es u now grows h.1 in
     ap (λ (c : Option PlainCall). record { seat = seat_of m e.who; after = generation_next es now; what = record { entry = e; call = c } } ∷ history m g es now) same
-    ∙ ap (λ (xs : List (Stamped EntryWithCall)). stamped m f e (generation_next es now) ∷ xs) rest
+    ∙ ap (λ (xs : List (Stamped EntryWithCall)). stamped_entry m f e (generation_next es now) ∷ xs) rest
 
 -- the history of a port with one entry more
-pub history_adds : (m : ℕ) (old new : PortValue) (e : PlainEntry) → IsPort old → Grows (call_in old.kept) (call_in new.kept) → e.generation ≡ old.terminal.generation → new.journal ≡ old.journal ++ e ∷ [] → history_in m new ≡ history_in m old ++ stamped m (call_in new.kept) e new.terminal.generation ∷ []
+pub history_adds : (m : ℕ) (old new : PortValue) (e : PlainEntry) → IsPort old → Grows (call_in old.kept) (call_in new.kept) → e.generation ≡ old.terminal.generation → new.journal ≡ old.journal ++ e ∷ [] → history_in m new ≡ history_in m old ++ stamped_entry m (call_in new.kept) e new.terminal.generation ∷ []
 history_adds m old new e p grows at journal =
     let g = call_in new.kept in
     let now = new.terminal.generation in
     ap (λ (es : List PlainEntry). history m g es now) journal
     ∙ history_append m g old.journal e now
-    ∙ ap (λ (k : ℕ). history m g old.journal k ++ stamped m g e now ∷ []) at
-    ∙ ap (λ (xs : List (Stamped EntryWithCall)). xs ++ stamped m g e now ∷ []) (history_grown m (call_in old.kept) g old.counts (opening (sum old.counts) old.flip.capacity) old.journal old.terminal old.terminal.generation grows p.run)
+    ∙ ap (λ (k : ℕ). history m g old.journal k ++ stamped_entry m g e now ∷ []) at
+    ∙ ap (λ (xs : List (Stamped EntryWithCall)). xs ++ stamped_entry m g e now ∷ []) (history_grown m (call_in old.kept) g old.counts (opening (sum old.counts) old.flip.capacity) old.journal old.terminal old.terminal.generation grows p.run)
 
 -- ---- who made its entries
 

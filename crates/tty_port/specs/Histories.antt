@@ -31,8 +31,8 @@ call_by calls Session step = None
 abbrev pub call_for : (ℕ → ℕ → Option PlainCall) → PlainEntry → Option PlainCall
 call_for calls e = if is_of_call e.event then call_by calls e.who e.step else None
 
-abbrev pub stamped : ℕ → (ℕ → ℕ → Option PlainCall) → PlainEntry → ℕ → Stamped EntryWithCall
-stamped m calls e after = record { seat = seat_of m e.who; after = after; what = record { entry = e; call = call_for calls e } }
+abbrev pub stamped_entry : ℕ → (ℕ → ℕ → Option PlainCall) → PlainEntry → ℕ → Stamped EntryWithCall
+stamped_entry m calls e after = record { seat = seat_of m e.who; after = after; what = record { entry = e; call = call_for calls e } }
 
 -- the generation in which the first of these entries was made, or else that of now
 abbrev pub generation_next : List PlainEntry → ℕ → ℕ
@@ -42,7 +42,7 @@ generation_next (e ∷ es) now = e.generation
 -- a journal as a history, in the generation of now
 abbrev pub history : ℕ → (ℕ → ℕ → Option PlainCall) → List PlainEntry → ℕ → List (Stamped EntryWithCall)
 history m calls [] now = []
-history m calls (e ∷ es) now = stamped m calls e (generation_next es now) ∷ history m calls es now
+history m calls (e ∷ es) now = stamped_entry m calls e (generation_next es now) ∷ history m calls es now
 
 -- the history of a port, where m callers have seats
 abbrev pub history_in : ℕ → PortValue → List (Stamped EntryWithCall)

@@ -2,7 +2,7 @@
 
 ghost use Rattle.std.specs.Prelude.{◌≡◌, ◌<◌, ◌≤◌, ◌^◌, false, IfOk, IfErr, OnOk, OnErr, IfSome, IfNone, sum};
 ghost use Rattle.tty_calls.specs.Plain.{call_of, handle_of, changes, answer_of};
-ghost use Rattle.tty_terminal.specs.Meeting.{byte_count};
+ghost use Rattle.tty_calls.specs.Limits.{byte_count};
 ghost use Rattle.port_core.specs.Attempts.{tried_of, done_by};
 ghost use Rattle.port_cell.specs.Entries.{generation_of};
 ghost use Rattle.port_cell.specs.Word.{generation_in, changing_in};

@@ -2,7 +2,7 @@
 
 ghost use Rattle.std.specs.Prelude.{◌≡◌, ◌⊎◌, ◌+◌, ◌<◌, ◌≤◌, ◌^◌, true, false, Some, IfOk, IfErr, OnErr, IsTrue, MatchBool, length, sum, if◌then◌else◌};
 ghost use Rattle.tty_calls.specs.Plain.{call_of, handle_of, changes, answer_of};
-ghost use Rattle.tty_terminal.specs.Meeting.{byte_count};
+ghost use Rattle.tty_calls.specs.Limits.{byte_count};
 ghost use Rattle.port_cell.specs.Entries.{generation_of, AddsBy};
 ghost use Rattle.port_cell.specs.declared.view.User.TheVariants.{Free};
 ghost use Rattle.port_cell.specs.Knowledge.{number_of, name_of, list_seen, user_of, has_turn, is_raised, install_count, IsAlone};

@@ -3,8 +3,8 @@
 ghost use Rattle.std.specs.Prelude.{◌≡◌, ◌+◌, ◌<◌, ◌≤◌, ◌^◌, true, false, IfOk, IfErr, OnOk, OnErr, IsTrue, length, sum};
 ghost use Rattle.tty_calls.specs.Plain.{call_of, handle_of, changes, ticked, clock_ended, caller_ended};
 ghost use Rattle.tty_calls.specs.declared.journals.Who.TheVariants.{Caller, Clock};
+ghost use Rattle.tty_calls.specs.Limits.{byte_count};
 ghost use Rattle.tty_terminal.specs.Steps.{may_end};
-ghost use Rattle.tty_terminal.specs.Meeting.{byte_count};
 ghost use Rattle.port_core.specs.Attempts.{tried_of, Raises, IsAtOnce};
 ghost use Rattle.port_cell.specs.Entries.{generation_of, AddsBy};
 ghost use Rattle.tty_port.specs.Histories.{history_of, name_of};

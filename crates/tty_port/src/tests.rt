@@ -1,7 +1,7 @@
 ghost use Rattle.std.specs.Prelude.{◌≡◌, ◌+◌, ◌<◌, ◌^◌, [], IfOk, length, sum};
 ghost use Rattle.std.specs.Thread.{IsSync};
 ghost use Rattle.tty_calls.specs.Plain.{call_of, handle_of};
-ghost use Rattle.tty_terminal.specs.Meeting.{byte_count};
+ghost use Rattle.tty_calls.specs.Limits.{byte_count};
 ghost use Rattle.port_cell.specs.Knowledge.{list_seen};
 ghost use Rattle.tty_port.specs.Seen.{IsBetween};
 ghost use Rattle.tty_port.specs.Shared.{IsHere, AreHere, name_of_port, opening_history};

@@ -27,6 +27,7 @@ use Rattle.tty_calls.specs.declared.calls.Queue.TheVariants as queue
 use Rattle.tty_calls.specs.declared.calls.Act.{Act}
 use Rattle.tty_calls.specs.declared.calls.Act.TheVariants as act
 use Rattle.tty_calls.specs.Plain.{PlainCall, opens, closes, reads, writes, gets_modes, sets_modes, gets_disc, sets_disc, flushes, steers, counts_input, counts_output, excludes, admits, drains, gets_counts, hangs_up, sends_packet, takes_packet, PlainAnswer, done}
+use Rattle.tty_calls.specs.Limits.{byte_count}
 use Rattle.tty_terminal.specs.declared.callers.CallerState.{CallerState}
 use Rattle.tty_terminal.specs.Terminals.{Terminal, handle_at, handle_for, caller_at}
 use Rattle.tty_terminal.specs.Generations.{after_change, after_last_close, after_hangup, after_close, caller_after_close, caller_after_hangup}
@@ -38,7 +39,6 @@ use Rattle.tty_terminal.specs.Switching.{number_of, change_outcome}
 use Rattle.tty_terminal.specs.Flow.{flush_outcome, after_act, with_character_sent}
 use Rattle.tty_terminal.specs.Packets.{sending_outcome, taking_outcome}
 use Rattle.tty_terminal.specs.Calls.{outcome, outcome_of}
-use Rattle.tty_terminal.specs.Meeting.{byte_count}
 use Rattle.tty_terminal.specs.Steps.{left_by, TakesPart}
 use Rattle.tty_terminal.proofs.CallerLists.{Stays, stays, close_stays, hangup_stays, map_relates}
 

@@ -5,7 +5,7 @@ use Rattle.tty_base.specs.declared.counters.Errno.TheVariants.{EBUSY, EIO}
 use Rattle.tty_calls.specs.Plain.{PlainAnswer, done, count_is, got, number_is, modes_are, counts_are, refused, idle, bytes_in}
 use Rattle.tty_terminal.specs.Terminals.{Terminal, opening}
 use Rattle.tty_terminal.specs.Runs.{IsRun}
-use Rattle.tty_terminal.specs.Rows.{three_bytes_calls, three_bytes_counts, three_bytes, with_other_bytes, with_old_generation, without_flush, without_new_generation, calls_from, LeadsFrom, half_line_calls, half_line, hangup_calls, hangup, stopped, stopped_calls, stopped_write, timed_calls, timed_read, one_tick, exclusive_calls, exclusive_use, filling, filling_calls, filled_read, idle_calls, idle_answer, idle_too_early, end_too_early}
+use Rattle.tty_terminal.specs.Rows.{three_bytes_calls, three_bytes_counts, three_bytes, with_other_bytes, with_old_generation, without_flush, without_new_generation, calls_from, LeadsFrom, half_line_calls, half_line, hangup_calls, hangup, stopped_terminal, stopped_calls, stopped_write, timed_calls, timed_read, one_tick, exclusive_calls, exclusive_use, filling, filling_calls, filled_read, idle_calls, idle_answer, idle_too_early, end_too_early}
 use Rattle.read_rule.specs.Ready.{is_ready}
 use Rattle.tty_terminal.proofs.Testing.{end_of, passing_leads}
 
@@ -54,13 +54,13 @@ hangup_no_write t h = let a = h.1.1.1.1.1.1.1.1.1.0.1.answer in cc
 pub hangup_no_last_close : (t : Terminal) → LeadsFrom hangup_calls (3 ∷ []) (opening 3 4096) (hangup (got []) (refused EIO) 2) t → ⊥
 hangup_no_last_close t h = let a = h.1.1.1.1.1.1.1.1.1.1.1.1.0.0 in omega arith
 
-pub stopped_runs : (t : Terminal) × (LeadsFrom stopped_calls (1 ∷ []) stopped (stopped_write 6 (count_is 10)) t × (length t.output.wire ≡ 4100))
-stopped_runs = (end_of (calls_from stopped_calls) stopped (stopped_write 6 (count_is 10)), (passing_leads (calls_from stopped_calls) (1 ∷ []) stopped (stopped_write 6 (count_is 10)) ((refl, tt), ((refl, tt), ((refl, tt), ((refl, refl), tt)))), refl))
+pub stopped_runs : (t : Terminal) × (LeadsFrom stopped_calls (1 ∷ []) stopped_terminal (stopped_write 6 (count_is 10)) t × (length t.output.wire ≡ 4100))
+stopped_runs = (end_of (calls_from stopped_calls) stopped_terminal (stopped_write 6 (count_is 10)), (passing_leads (calls_from stopped_calls) (1 ∷ []) stopped_terminal (stopped_write 6 (count_is 10)) ((refl, tt), ((refl, tt), ((refl, tt), ((refl, refl), tt)))), refl))
 
-pub stopped_longer : (t : Terminal) → LeadsFrom stopped_calls (1 ∷ []) stopped (stopped_write 7 (count_is 10)) t → ⊥
+pub stopped_longer : (t : Terminal) → LeadsFrom stopped_calls (1 ∷ []) stopped_terminal (stopped_write 7 (count_is 10)) t → ⊥
 stopped_longer t h = let a = h.0.1.takes in omega arith
 
-pub stopped_rest : (t : Terminal) → LeadsFrom stopped_calls (1 ∷ []) stopped (stopped_write 6 (count_is 4)) t → ⊥
+pub stopped_rest : (t : Terminal) → LeadsFrom stopped_calls (1 ∷ []) stopped_terminal (stopped_write 6 (count_is 4)) t → ⊥
 stopped_rest t h = let a = ap mark_of h.1.1.1.0.1.answer in omega arith
 
 pub timed_runs : (t : Terminal) × LeadsFrom timed_calls (1 ∷ []) (opening 1 4096) (timed_read one_tick) t

@@ -53,10 +53,6 @@ drops_of (gives answer drops left) = drops
 
 -- ---- room
 
--- the room on the wire that a call needs: the bytes that can be held, and the character for ixoff
-abbrev pub room_for_call : ℕ
-room_for_call = 4097
-
 -- the room on the wire that so many characters need at most: for what is pending once, and for each of them
 abbrev pub room_for_characters : Terminal → ℕ → ℕ
 room_for_characters t n = pending_count_of t.disc t.output + CHARACTER_ROOM * n
@@ -140,28 +136,6 @@ spelled_packet (gets_counts h) = []
 spelled_packet (hangs_up h) = []
 spelled_packet (sends_packet h bytes) = if nat_lt max_packet (length bytes) then [] else spelling_of bytes
 spelled_packet (takes_packet h) = []
-
--- how many bytes a call hands over
-abbrev pub byte_count : PlainCall → ℕ
-byte_count (opens h access nonblock) = 0
-byte_count (closes h) = 0
-byte_count (reads h n) = 0
-byte_count (writes h bytes) = length bytes
-byte_count (gets_modes h) = 0
-byte_count (sets_modes h when words) = 0
-byte_count (gets_disc h) = 0
-byte_count (sets_disc h n) = 0
-byte_count (flushes h queue) = 0
-byte_count (steers h act) = 0
-byte_count (counts_input h) = 0
-byte_count (counts_output h) = 0
-byte_count (excludes h) = 0
-byte_count (admits h) = 0
-byte_count (drains h) = 0
-byte_count (gets_counts h) = 0
-byte_count (hangs_up h) = 0
-byte_count (sends_packet h bytes) = length bytes
-byte_count (takes_packet h) = 0
 
 -- the calls in groups: opens, closes and transfers; modes and disciplines; output and exclusive use; the others
 abbrev pub group_of : PlainCall → ℕ

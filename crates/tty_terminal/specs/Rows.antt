@@ -143,8 +143,8 @@ hangup read write generation =
     ∷ []
 
 -- a write that STOP halts, with room for six bytes: it takes a part, waits, and after START is answered
-abbrev pub stopped : Terminal
-stopped =
+abbrev pub stopped_terminal : Terminal
+stopped_terminal =
     record (opening 1 4096) {
       handles = with_handle no_handles 0 Rw false;
       output = record idle_output { held = replicate 4090 120; stopped = true };

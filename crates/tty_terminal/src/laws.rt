@@ -3,11 +3,11 @@
 ghost use Rattle.std.specs.Prelude.{◌≡◌, ◌+◌, ◌<◌, ◌≤◌, ℕ, List, [], ◌∷◌, ◌++◌, true, Option, is_some, IsTrue, length, sum};
 ghost use Rattle.tty_base.specs.declared.characters.Flagged.{Flagged};
 ghost use Rattle.tty_calls.specs.Plain.{PlainCall, PlainEntry, hung_up};
+ghost use Rattle.tty_calls.specs.Limits.{byte_count};
 ghost use Rattle.ldisc_switch.specs.Disciplines.{unread_of};
 ghost use Rattle.tty_terminal.specs.declared.callers.CallerState.{CallerState};
 ghost use Rattle.tty_terminal.specs.Terminals.{Terminal, opening, caller_at, has_begun, live_count};
 ghost use Rattle.tty_terminal.specs.Calls.{outcome};
-ghost use Rattle.tty_terminal.specs.Meeting.{byte_count};
 ghost use Rattle.tty_terminal.specs.Steps.{Allowed, after, TakesPart};
 ghost use Rattle.tty_terminal.specs.Runs.{IsRun, Grows, AgreesOn, OneGeneration, GoesOnInGeneration, is_flush, RunHas, chars_of};
 ghost use Rattle.tty_terminal.specs.Standing.{standing_of, standing_in, at_first};

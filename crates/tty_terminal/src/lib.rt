@@ -15,7 +15,7 @@ pub use laws::{
     generations_are_counted, hangup_leaves_nothing, more_calls_keep_a_run, numbers_of_a_run,
     one_generation_goes_on, own_entries_tell, who_waits_has_begun,
 };
-pub use rooms::{Met, Room};
+pub use rooms::{Met, ROOM_FOR_CALL, Room};
 pub use rows::{
     change_drops_a_half_line, changed_three_bytes_is_no_run, exclusive_use_keeps_others_out,
     hangup_leaves_dead_handles, idle_where_nothing_can_come, ixoff_stops_and_starts_round_a_read,

@@ -2,6 +2,9 @@ use ldisc_switch::Disc;
 use tty_base::Bytes;
 use tty_calls::Answer;
 
+/// The room on the wire that any call needs: for the bytes that can be held, and the character of IXOFF.
+pub const ROOM_FOR_CALL: usize = 4097;
+
 /// What a call needs beside the terminal. It is made before the call, which then takes no memory.
 #[derive(Drop)]
 pub struct Room {

@@ -6,7 +6,7 @@ ghost use Rattle.tty_calls.specs.Plain.{done, count_is, got, refused};
 ghost use Rattle.tty_terminal.specs.Terminals.{Terminal, opening};
 ghost use Rattle.tty_terminal.specs.Runs.{IsRun};
 ghost use Rattle.tty_terminal.specs.Rows.{three_bytes_calls, three_bytes_counts, three_bytes, with_other_bytes, with_old_generation, without_flush, without_new_generation};
-ghost use Rattle.tty_terminal.specs.Rows.{LeadsFrom, half_line_calls, half_line, hangup_calls, hangup, stopped, stopped_calls, stopped_write, timed_calls, timed_read, one_tick, exclusive_calls, exclusive_use, filling, filling_calls, filled_read, idle_calls, idle_answer, idle_too_early, end_too_early};
+ghost use Rattle.tty_terminal.specs.Rows.{LeadsFrom, half_line_calls, half_line, hangup_calls, hangup, stopped_terminal, stopped_calls, stopped_write, timed_calls, timed_read, one_tick, exclusive_calls, exclusive_use, filling, filling_calls, filled_read, idle_calls, idle_answer, idle_too_early, end_too_early};
 
 /// A law: a caller that opens the port, and in the next phase reads the three bytes that were sent
 /// and closes it, makes a journal that is a run.
@@ -40,9 +40,9 @@ pub fn hangup_leaves_dead_handles()
 
 /// A law: a write that STOP halts takes what can be held, waits, and is answered after START.
 pub fn stopped_write_goes_on()
-    ensures run { (t : Terminal) × (LeadsFrom stopped_calls (1 ∷ []) stopped (stopped_write 6 (count_is 10)) t × (length t.output.wire ≡ 4100)) }
-    ensures longer_part { (t : Terminal) → LeadsFrom stopped_calls (1 ∷ []) stopped (stopped_write 7 (count_is 10)) t → ⊥ }
-    ensures rest_alone { (t : Terminal) → LeadsFrom stopped_calls (1 ∷ []) stopped (stopped_write 6 (count_is 4)) t → ⊥ }
+    ensures run { (t : Terminal) × (LeadsFrom stopped_calls (1 ∷ []) stopped_terminal (stopped_write 6 (count_is 10)) t × (length t.output.wire ≡ 4100)) }
+    ensures longer_part { (t : Terminal) → LeadsFrom stopped_calls (1 ∷ []) stopped_terminal (stopped_write 7 (count_is 10)) t → ⊥ }
+    ensures rest_alone { (t : Terminal) → LeadsFrom stopped_calls (1 ∷ []) stopped_terminal (stopped_write 6 (count_is 4)) t → ⊥ }
 {}
 
 /// A law: with MIN and TIME a read of fewer bytes is ready after a tick, and not before.

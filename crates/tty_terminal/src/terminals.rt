@@ -7,7 +7,7 @@ mod acting;
 mod asking;
 
 use crate::callers::{Bound, CallerState, Callers, IDLE, Piece};
-use crate::rooms::{Met, Room};
+use crate::rooms::{Met, ROOM_FOR_CALL, Room};
 use flow_control::{Tally, Wire};
 use handle_table::Handles;
 use ldisc_switch::{Disc, Kind, fresh};
@@ -60,7 +60,8 @@ impl Terminal {
     ghost use Rattle.tty_terminal.specs.Generations.{after_hangup};
     ghost use Rattle.tty_terminal.specs.Calls.{outcome};
     ghost use Rattle.tty_terminal.specs.Steps.{left_by, nothing_to_flush, quiet_with, may_end_with, after_answer, after_wait, after_part, after_caller_end, bound_at, next_phase, with_dropped};
-    ghost use Rattle.tty_terminal.specs.Meeting.{Meets, byte_count, IsRoomFor, room_for_characters, room_for_call};
+    ghost use Rattle.tty_calls.specs.Limits.{byte_count};
+    ghost use Rattle.tty_terminal.specs.Meeting.{Meets, IsRoomFor, room_for_characters};
 
     /// A closed terminal for so many callers, on a port whose flip buffer holds so many characters.
     pub fn new(alloc: Global, callers: usize, capacity: u32) -> Result<Terminal, NoMemory>
@@ -159,7 +160,7 @@ impl Terminal {
         requires bytes { byte_count (call_of call.now) < 2 ^ 32 }
         requires few { self.old.terminal.generation < 2 ^ 31 }
         requires room { IsRoomFor self.old.terminal (call_of call.now) room }
-        requires wire { room_for_call ≤ self.old.wire_room }
+        requires wire { ROOM_FOR_CALL ≤ self.old.wire_room }
         requires column { column_in self.old.terminal.disc < 2 ^ 62 }
         ensures met { Meets (outcome self.old.terminal (caller_at self.old.terminal caller) (call_of call.now)) result }
         ensures left { self.new.terminal ≡ left_by (outcome self.old.terminal (caller_at self.old.terminal caller) (call_of call.now)) self.old.terminal }

@@ -12,7 +12,7 @@ ghost use Rattle.tty_terminal.specs.Outcomes.{may_read as reads_by, may_write as
 
 use super::Terminal;
 use crate::callers::CallerState;
-use crate::rooms::{Met, Room};
+use crate::rooms::{Met, ROOM_FOR_CALL, Room};
 use flow_control::Wire;
 use handle_table::HandleState;
 use ldisc_switch::{Disc, Kind};
@@ -66,7 +66,8 @@ impl Terminal {
     ghost use Rattle.tty_terminal.specs.Flow.{flush_outcome, after_act, without_held, with_character_sent};
     ghost use Rattle.tty_terminal.specs.Packets.{sending_outcome, taking_outcome};
     ghost use Rattle.tty_terminal.specs.Calls.{outcome};
-    ghost use Rattle.tty_terminal.specs.Meeting.{Meets, left_before_rule, read_room, packet_room, close_kind, spelled_packet, byte_count, IsRoomFor, room_for_call, group_of};
+    ghost use Rattle.tty_calls.specs.Limits.{byte_count};
+    ghost use Rattle.tty_terminal.specs.Meeting.{Meets, left_before_rule, read_room, packet_room, close_kind, spelled_packet, IsRoomFor, group_of};
 
     /// The handle that a call of the caller goes by.
     pub(super) fn handle_for(&self, caller: u16, h: u8) -> Option<HandleState>
@@ -472,7 +473,7 @@ impl Terminal {
         requires bytes { byte_count (call_of call.now) < 2 ^ 32 }
         requires few { self.old.terminal.generation < 2 ^ 31 }
         requires room { IsRoomFor self.old.terminal (call_of call.now) room }
-        requires wire { room_for_call ≤ self.old.wire_room }
+        requires wire { ROOM_FOR_CALL ≤ self.old.wire_room }
         requires column { column_in self.old.terminal.disc < 2 ^ 62 }
         ensures met { Meets (outcome self.old.terminal (caller_at self.old.terminal caller) (call_of call.now)) result }
         ensures left { self.new.terminal ≡ left_before_rule (outcome self.old.terminal (caller_at self.old.terminal caller) (call_of call.now)) self.old.terminal }
@@ -505,7 +506,7 @@ impl Terminal {
         requires bytes { byte_count (call_of call.now) < 2 ^ 32 }
         requires few { self.old.terminal.generation < 2 ^ 31 }
         requires room { IsRoomFor self.old.terminal (call_of call.now) room }
-        requires wire { room_for_call ≤ self.old.wire_room }
+        requires wire { ROOM_FOR_CALL ≤ self.old.wire_room }
         requires column { column_in self.old.terminal.disc < 2 ^ 62 }
         requires group { 1 ≤ group_of (call_of call.now) }
         ensures met { Meets (outcome self.old.terminal (caller_at self.old.terminal caller) (call_of call.now)) result }
@@ -541,7 +542,7 @@ impl Terminal {
         requires bytes { byte_count (call_of call.now) < 2 ^ 32 }
         requires few { self.old.terminal.generation < 2 ^ 31 }
         requires room { IsRoomFor self.old.terminal (call_of call.now) room }
-        requires wire { room_for_call ≤ self.old.wire_room }
+        requires wire { ROOM_FOR_CALL ≤ self.old.wire_room }
         requires column { column_in self.old.terminal.disc < 2 ^ 62 }
         requires group { 2 ≤ group_of (call_of call.now) }
         ensures met { Meets (outcome self.old.terminal (caller_at self.old.terminal caller) (call_of call.now)) result }
@@ -581,7 +582,7 @@ impl Terminal {
         requires bytes { byte_count (call_of call.now) < 2 ^ 32 }
         requires few { self.old.terminal.generation < 2 ^ 31 }
         requires room { IsRoomFor self.old.terminal (call_of call.now) room }
-        requires wire { room_for_call ≤ self.old.wire_room }
+        requires wire { ROOM_FOR_CALL ≤ self.old.wire_room }
         requires column { column_in self.old.terminal.disc < 2 ^ 62 }
         requires group { 3 ≤ group_of (call_of call.now) }
         ensures met { Meets (outcome self.old.terminal (caller_at self.old.terminal caller) (call_of call.now)) result }

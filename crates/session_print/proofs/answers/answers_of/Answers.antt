@@ -1,5 +1,5 @@
 use Rattle.std.proofs.Common.{◌∙◌, ap}
-use Rattle.session_print.specs.Printing.{found}
+use Rattle.session_print.specs.Printing.{noted_answer}
 use Rattle.session_print.proofs.Answering.{none_told, some_told}
 use Rattle.session_print.proofs.answers.answers_of.Goals as goal
 use Rattle.session_print.proofs.answers.answers_of.Goals.{in-Some+in_ok-insert, in_default}
@@ -8,9 +8,9 @@ pub loop-entry-preserved : goal.loop-entry-preserved
 loop-entry-preserved c =
     elim c.match-answer_of.branch [
       | in-Some+in_ok-insert w ↦ λ n step.
-          ap (λ answers. found answers n step) w.answers-is
+          ap (λ answers. noted_answer answers n step) w.answers-is
           ∙ some_told c.loop-entry.answers w.insert.new.self c.args.entries.now c.loop-entry.entry-index c.entry-item.result w.in-Some.turn w.in-Some.answer c.loop-entry-test.true c.entry-item.is w.in-Some.ensures w.in_ok-insert.ensures.updates c.loop-entry.invariant n step
       | in_default w ↦ λ n step.
-          ap (λ answers. found answers n step) w.answers-is
+          ap (λ answers. noted_answer answers n step) w.answers-is
           ∙ none_told c.loop-entry.answers c.args.entries.now c.loop-entry.entry-index c.entry-item.result c.loop-entry-test.true c.entry-item.is w.in_default.ensures c.loop-entry.invariant n step
     ]

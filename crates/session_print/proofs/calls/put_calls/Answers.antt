@@ -2,14 +2,14 @@ use Rattle.std.proofs.Common.{◌∙◌, ◌++◌, ap, string_bytes, flat_map, m
 use Rattle.tty_calls.specs.Plain.{entries_of}
 use Rattle.tty_calls.specs.Sessions.{session_of, phase_of, scripts_over}
 use Rattle.session_print.specs.Report.{answer_in, told_line}
-use Rattle.session_print.specs.Printing.{found, told_scripts}
+use Rattle.session_print.specs.Printing.{noted_answer, told_scripts}
 use Rattle.session_print.proofs.Numbering.{told_is}
 use Rattle.session_print.proofs.Telling.{phasing_more, phasing_all}
 use Rattle.session_print.proofs.calls.put_calls.Goals as goal
 
 pub loop-phase-preserved : goal.loop-phase-preserved
 loop-phase-preserved c =
-    phasing_more c.args.port (found c.in_ok-answers_of.field-0) c.in_ok-on_port.field-0 (string_bytes c.args.text.now) c.in_ok-steps.steps.items c.as_slice-phase-items.result.now (string_bytes c.loop-phase.text) (string_bytes c.put_scripts.new.text) c.loop-phase.steps.items c.put_scripts.new.steps.items c.loop-phase.phase-index c.phase-item.result c.as_slice-in-loop-phase.result.now c.loop-phase.invariant c.loop-phase-test.true c.phase-item.is c.as_slice-in-loop-phase.ensures c.in_ok-put_scripts.ensures.text c.in_ok-put_scripts.ensures.steps c.in_ok-put_scripts.ensures.each
+    phasing_more c.args.port (noted_answer c.in_ok-answers_of.field-0) c.in_ok-on_port.field-0 (string_bytes c.args.text.now) c.in_ok-steps.steps.items c.as_slice-phase-items.result.now (string_bytes c.loop-phase.text) (string_bytes c.put_scripts.new.text) c.loop-phase.steps.items c.put_scripts.new.steps.items c.loop-phase.phase-index c.phase-item.result c.as_slice-in-loop-phase.result.now c.loop-phase.invariant c.loop-phase-test.true c.phase-item.is c.as_slice-in-loop-phase.ensures c.in_ok-put_scripts.ensures.text c.in_ok-put_scripts.ensures.steps c.in_ok-put_scripts.ensures.each
 
 pub returns : goal.returns
 returns c =
@@ -17,7 +17,7 @@ returns c =
     let session = session_of c.args.session.now in
     let names = c.in_ok-on_port.field-0 in
     let steps = c.in_ok-steps.steps.items in
-    let answers = found c.in_ok-answers_of.field-0 in
+    let answers = noted_answer c.in_ok-answers_of.field-0 in
     let text = string_bytes c.args.text.now in
     let phases = c.as_slice-phase-items.result.now in
     phasing_all p answers names text steps phases (string_bytes c.loop-phase.text) c.loop-phase.steps.items c.loop-phase.phase-index c.loop-phase.invariant c.loop-phase-test.false

@@ -15,9 +15,10 @@ use Rattle.port_core.proofs.GoingOn.{made, entries_added, known_caller, port_bou
 use Rattle.port_core.proofs.Calls.{kept_is, begun_is, answers_met, parts_met, none_dropped, with_none_dropped}
 use Rattle.port_core.proofs.Answering.{IsTried, after_call, answers_call, takes_part_of}
 use Rattle.tty_calls.specs.Plain.{PlainCall}
+use Rattle.tty_calls.specs.Limits.{byte_count}
 use Rattle.tty_terminal.specs.declared.rooms.Met.TheVariants as met
 use Rattle.tty_terminal.specs.Outcomes.{Outcome}
-use Rattle.tty_terminal.specs.Meeting.{Meets, byte_count}
+use Rattle.tty_terminal.specs.Meeting.{Meets}
 use Rattle.tty_terminal.proofs.Effects.{Leaves, outcome_keeps}
 use Rattle.tty_terminal.proofs.WaitLaws.{run_part_count, part_more}
 use Rattle.port_core.specs.Ports.{call_in}

@@ -1,8 +1,8 @@
 use Rattle.std.proofs.Common.{string_bytes}
-use Rattle.session_print.specs.Printing.{found}
+use Rattle.session_print.specs.Printing.{noted_answer}
 use Rattle.session_print.proofs.Telling.{Stepping}
 use Rattle.session_print.proofs.calls.Teller.put_steps.Given as goal
 
 abbrev pub invariant-loop-call : goal.invariant-loop-call
 invariant-loop-call l =
-    Stepping l.self.port (found l.self.answers) l.name (string_bytes l.initial.text) l.initial.turn.caller l.initial.turn.step l.calls (string_bytes l.text) l.turn.caller l.turn.step l.call-index
+    Stepping l.self.port (noted_answer l.self.answers) l.name (string_bytes l.initial.text) l.initial.turn.caller l.initial.turn.step l.calls (string_bytes l.text) l.turn.caller l.turn.step l.call-index
