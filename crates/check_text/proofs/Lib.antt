@@ -5,10 +5,11 @@ mod Rows
 mod Truths
 mod Walks
 mod Whole
-mod Spelled
+pub mod Spelled
 mod Splitting
 mod Answering
 mod AnsweringModes
 mod PrintedEntries
 mod PrintedTexts
 mod EntryLines
+pub mod Within

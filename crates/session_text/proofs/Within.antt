@@ -632,7 +632,7 @@ flips_within (words ∷ arguments) version ports flips good h =
 
 -- ---- the session
 
-written_within : (w : Written) → IsGood w → IsWithinLimits (session_meaning w)
+pub written_within : (w : Written) → IsGood w → IsWithinLimits (session_meaning w)
 written_within w good =
     let ports = ports_of w in
     let range = number_between 0 Ports (w.ports ∷ []) 0 1 8 good.ports (omega arith) refl in

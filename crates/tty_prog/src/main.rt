@@ -1,12 +1,12 @@
 //! The program: the words of the command line, standard input and standard output are handed to
-//! `tty_run`, and its status is the program's.
+//! `tty_one`, and its status is the program's.
 #![tactic(auto)]
 
 use std::alloc::Global;
 use std::process::ExitCode;
 use std::{env, io};
 use tty_base::{StdSink, StdSource};
-use tty_run::{Ran, tty_run};
+use tty_one::{Ran, tty_one};
 
 fn main(rt: HostRuntime) -> ExitCode {
     let alloc = rt.alloc();
@@ -26,6 +26,6 @@ fn main(rt: HostRuntime) -> ExitCode {
             return ExitCode::from(5);
         }
     }
-    let Ran { status, runs: _ } = tty_run(alloc, words.as_slice(), &mut source, &mut sink);
+    let Ran { status, runs: _ } = tty_one(alloc, words.as_slice(), &mut source, &mut sink);
     ExitCode::from(status)
 }

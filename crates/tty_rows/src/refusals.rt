@@ -4,7 +4,7 @@ use std::alloc::{AllocError, Global};
 use std::process::Abort;
 use std::test::Fail;
 use tty_base::{Bytes, MemSink, MemSource};
-use tty_run::{Ran, tty_run};
+use tty_one::{Ran, tty_one};
 
 const ONE: [&str; 2] = ["run", "--one"];
 
@@ -54,7 +54,7 @@ fn source_of(alloc: Global, text: &[u8], fails: Vec<u32>) -> Result<MemSource, A
 fn are_bad(rt: &impl Abort, alloc: Global, words: &[&str]) -> Result<(), Fail> {
     let mut source = source_of(alloc, THREE_BYTES.as_bytes(), Vec::new(alloc))?;
     let mut sink = MemSink::new(alloc, PIECE, ROOM, Vec::new(alloc))?;
-    let Ran { status, .. } = tty_run(alloc, words, &mut source, &mut sink);
+    let Ran { status, .. } = tty_one(alloc, words, &mut source, &mut sink);
     assert_eq!(rt; status, 2);
     assert_eq!(rt; sink.given(), b"bad words\n".as_slice());
     Ok(())
@@ -106,7 +106,7 @@ fn the_first_wrong_line_is_told(rt: HostRuntime) -> Result<(), Fail> {
     ] {
         let mut source = source_of(alloc, text.as_bytes(), Vec::new(alloc))?;
         let mut sink = MemSink::new(alloc, PIECE, ROOM, Vec::new(alloc))?;
-        let Ran { status, .. } = tty_run(alloc, &ONE, &mut source, &mut sink);
+        let Ran { status, .. } = tty_one(alloc, &ONE, &mut source, &mut sink);
         assert_eq!(rt; status, 1, "at {text:?}");
         assert_eq!(rt; sink.given(), told.as_bytes());
     }
@@ -123,7 +123,7 @@ fn one_byte_more_than_the_longest_text_is_too_long(rt: HostRuntime) -> Result<()
         let comment = vec![in alloc; b'#'; LONGEST + more]?;
         let mut source = MemSource::new(Bytes::from_vec(comment), LONGEST, Vec::new(alloc));
         let mut sink = MemSink::new(alloc, PIECE, ROOM, Vec::new(alloc))?;
-        let Ran { status, .. } = tty_run(alloc, &ONE, &mut source, &mut sink);
+        let Ran { status, .. } = tty_one(alloc, &ONE, &mut source, &mut sink);
         assert_eq!(rt; status, ended);
         assert_eq!(rt; sink.given(), told.as_bytes());
     }
@@ -137,7 +137,7 @@ fn a_source_that_fails_is_told_at_each_read(rt: HostRuntime) -> Result<(), Fail>
         let fails = vec![in alloc; read as u32]?;
         let mut source = source_of(alloc, THREE_BYTES.as_bytes(), fails)?;
         let mut sink = MemSink::new(alloc, PIECE, ROOM, Vec::new(alloc))?;
-        let Ran { status, .. } = tty_run(alloc, &ONE, &mut source, &mut sink);
+        let Ran { status, .. } = tty_one(alloc, &ONE, &mut source, &mut sink);
         assert_eq!(rt; status, 3, "at read {read}");
         assert_eq!(rt; sink.given(), b"read fault\n".as_slice());
     }
@@ -151,7 +151,7 @@ fn a_sink_that_fails_has_the_front_of_the_report(rt: HostRuntime) -> Result<(), 
         let mut source = source_of(alloc, THREE_BYTES.as_bytes(), Vec::new(alloc))?;
         let fails = vec![in alloc; write as u32]?;
         let mut sink = MemSink::new(alloc, PIECE, ROOM, fails)?;
-        let Ran { status, .. } = tty_run(alloc, &ONE, &mut source, &mut sink);
+        let Ran { status, .. } = tty_one(alloc, &ONE, &mut source, &mut sink);
         assert_eq!(rt; status, 4, "at write {write}");
         let front = REPORT.as_bytes().get(..write * PIECE);
         assert!(rt; front == Some(sink.given()), "at write {write}");
@@ -159,7 +159,7 @@ fn a_sink_that_fails_has_the_front_of_the_report(rt: HostRuntime) -> Result<(), 
     for room in 0..REPORT.len() {
         let mut source = source_of(alloc, THREE_BYTES.as_bytes(), Vec::new(alloc))?;
         let mut sink = MemSink::new(alloc, PIECE, room, Vec::new(alloc))?;
-        let Ran { status, .. } = tty_run(alloc, &ONE, &mut source, &mut sink);
+        let Ran { status, .. } = tty_one(alloc, &ONE, &mut source, &mut sink);
         assert_eq!(rt; status, 4, "with room for {room}");
         assert!(rt;
             REPORT.as_bytes().get(..room) == Some(sink.given()),

@@ -4,7 +4,7 @@ use std::alloc::{AllocError, Global};
 use std::process::Abort;
 use std::test::Fail;
 use tty_base::{Bytes, MemSink, MemSource};
-use tty_run::{Ran, tty_run};
+use tty_one::{Ran, tty_one};
 
 /// A session and its report. In both `[61*4095]` stands for 4,095 times 61.
 #[derive(Clone, Copy)]
@@ -31,7 +31,7 @@ pub(crate) fn plays(
         let text = written_out(alloc, session)?;
         let mut source = MemSource::new(Bytes::from_vec(text), PIECE, Vec::new(alloc));
         let mut sink = MemSink::new(alloc, PIECE, ROOM, Vec::new(alloc))?;
-        let Ran { status, .. } = tty_run(alloc, words, &mut source, &mut sink);
+        let Ran { status, .. } = tty_one(alloc, words, &mut source, &mut sink);
         assert_eq!(rt; status, 0, "at {session}");
         let report = written_out(alloc, row.report)?;
         let same = sink.given() == report.as_slice();

@@ -2,7 +2,7 @@
 
 use std::test::Fail;
 use tty_base::{Bytes, MemSink, MemSource};
-use tty_run::{Ran, tty_run};
+use tty_one::{Ran, tty_one};
 
 const SUMMARY: &str = "gen 7
 calls 98
@@ -24,7 +24,7 @@ fn seven_is_summed_up(rt: HostRuntime) -> Result<(), Fail> {
     let alloc = rt.alloc();
     let mut source = MemSource::new(Bytes::new(alloc), PIECE, Vec::new(alloc));
     let mut sink = MemSink::new(alloc, PIECE, ROOM, Vec::new(alloc))?;
-    let Ran { status, .. } = tty_run(alloc, &["gen", "7"], &mut source, &mut sink);
+    let Ran { status, .. } = tty_one(alloc, &["gen", "7"], &mut source, &mut sink);
     assert_eq!(rt; status, 0);
     assert_eq!(rt; sink.given(), SUMMARY.as_bytes());
     Ok(())

@@ -1,0 +1,128 @@
+-- What became of the ports of a session that was played, as it is reported.
+use Rattle.std.proofs.Common.{◌≡◌, ◌≢◌, ◌≤◌, ◌==◌, ◌||◌, length, arith, zero, suc, ℕ, Bool, true, false, List, [], ◌∷◌, Some, refl, sym, ap, subst, ◌∙◌, map, eq-eqb}
+use Rattle.std.specs.Prelude.{slice_get}
+use Rattle.std.specs.Prelude.{IfOk, Result, Ok, Err}
+use Rattle.std.proofs.lemmas.Bool.{false≢true}
+use Rattle.std.proofs.lemmas.List.{length-map}
+use Rattle.tty_base.specs.Contents.{Contents}
+use Rattle.tty_base.specs.declared.buffers.NoMemory.{NoMemory}
+use Rattle.tty_calls.specs.declared.answers.PortEnd.{PortEnd}
+use Rattle.tty_calls.specs.declared.journals.PortRun.{PortRun}
+use Rattle.tty_calls.specs.Sessions.{PlainSession}
+use Rattle.session_print.specs.Ends.{PlainEnd, end_of}
+use Rattle.one_thread.specs.declared.playing.Played.{Played}
+use Rattle.one_thread.specs.Played.{ArePlayed, IsPlayedOn}
+use Rattle.tty_one.specs.declared.playing.Telling.{Telling}
+use Rattle.tty_one.specs.declared.works.Work.{Work}
+use Rattle.tty_one.specs.declared.works.Ending.{Ending}
+use Rattle.tty_one.specs.declared.works.Ending.TheVariants.{Done, BadSession, BadWords, ReadFault, TooLong, NotLegal, JournalFull}
+use Rattle.tty_one.specs.Outcome.{end_at, has_full_journal, IsOrdered, IsWhole, IsPartly}
+use Rattle.tty_one.specs.Works.{IsEndingOf, IsSessionWork}
+
+-- what is left of a terminal, as a report says it
+end_is : (p : ℕ) (s : PlainSession) (run : PortRun) (end : PortEnd) (h : IsPlayedOn p s run end) → end_of end ≡ end_at h.terminal
+end_is p s run end h =
+    let counts = h.at_end.counts in
+    let signals = h.at_end.signals in
+    let generation = h.at_end.generation in
+    let wire = h.at_end.wire in
+    cc
+
+either_false : (a b : Bool) → (a || b) ≡ false → (a ≡ false) × (b ≡ false)
+either_false true b h = absurd (false≢true (sym h))
+either_false false b h = (refl, h)
+
+-- where no journal is full, none of them is
+room_of : (runs : List PortRun) (p : ℕ) (run : PortRun) → has_full_journal runs ≡ false → slice_get runs p ≡ Some run → length run.journal.items ≢ 4194304
+room_of [] p run none is = absurd (cc)
+room_of (first ∷ runs) zero run none is = λ full.
+    let here : (length first.journal.items == 4194304) ≡ false = (either_false (length first.journal.items == 4194304) (has_full_journal runs) none).0 in
+    let same : first ≡ run = some_same first run is in
+    false≢true (sym here ∙ eq-eqb (length first.journal.items) 4194304 (ap (λ r. length r.journal.items) same ∙ full))
+  where
+    some_same : (a b : PortRun) → Some a ≡ Some b → a ≡ b
+    some_same a b h = cc
+room_of (first ∷ runs) (suc p) run none is =
+    room_of runs p run ((either_false (length first.journal.items == 4194304) (has_full_journal runs) none).1) is
+
+-- the end of a place is one of the plain ends there
+record HasEnd (ends : List PortEnd) (p : ℕ) (plain : PlainEnd) : Type 0 where
+  end : PortEnd
+  at : slice_get ends p ≡ Some end
+  is : plain ≡ end_of end
+
+end_found : (ends : List PortEnd) (p : ℕ) (plain : PlainEnd) → slice_get (map end_of ends) p ≡ Some plain → HasEnd ends p plain
+end_found [] p plain h = absurd (cc)
+end_found (end ∷ ends) zero plain h = record { end = end; at = refl; is = some_same plain (end_of end) (sym h) }
+  where
+    some_same : (a b : PlainEnd) → Some a ≡ Some b → a ≡ b
+    some_same a b h = cc
+end_found (end ∷ ends) (suc p) plain h =
+    let later = end_found ends p plain h in
+    record { end = later.end; at = later.at; is = later.is }
+
+end_there : (runs : List PortRun) (ends : List PortEnd) (p : ℕ) (run : PortRun) → length runs ≡ length ends → slice_get runs p ≡ Some run → (end : PortEnd) × (slice_get ends p ≡ Some end)
+end_there [] ends p run same is = absurd (cc)
+end_there (r ∷ runs) [] p run same is = absurd (omega (arith, same))
+end_there (r ∷ runs) (e ∷ ends) zero run same is = (e, refl)
+end_there (r ∷ runs) (e ∷ ends) (suc p) run same is = end_there runs ends p run (omega (arith, same)) is
+
+-- runs that are in this order where their journals are not full
+abbrev pub AreOrdered : (ℕ → PlainSession → PortRun → Type 0) → PlainSession → List PortRun → Type 0
+AreOrdered InOrder session runs = (p : ℕ) (run : PortRun) → slice_get runs p ≡ Some run → length run.journal.items ≢ 4194304 → InOrder p session run
+
+module _ (InOrder : ℕ → PlainSession → PortRun → Type 0) where
+  whole_from : (p : ℕ) (s : PlainSession) (run : PortRun) (end : PortEnd) → IsPlayedOn p s run end → length run.journal.items ≢ 4194304 → InOrder p s run → IsWhole InOrder p s run (end_of end)
+  whole_from p s run end h room ordered = record { terminal = h.terminal; at_end = end_is p s run end h; legal = h.legal room; in_order = ordered }
+
+  partly_from : (p : ℕ) (s : PlainSession) (run : PortRun) (end : PortEnd) → IsPlayedOn p s run end → (length run.journal.items ≢ 4194304 → InOrder p s run) → IsPartly InOrder p s run
+  partly_from p s run end h ordered = record {
+    terminal = h.terminal;
+    short = h.short;
+    few = h.few;
+    whole = λ room. subst (λ (e : PlainEnd). IsWhole InOrder p s run e) (end_is p s run end h) (whole_from p s run end h room (ordered room));
+  }
+
+  each_whole : (session : PlainSession) (runs : List PortRun) (ends : List PortEnd) → ArePlayed session runs ends → AreOrdered InOrder session runs → has_full_journal runs ≡ false
+      → (p : ℕ) (run : PortRun) (plain : PlainEnd) → slice_get runs p ≡ Some run → slice_get (map end_of ends) p ≡ Some plain → IsWhole InOrder p session run plain
+  each_whole session runs ends played ordered room p run plain is at =
+      let found = end_found ends p plain at in
+      let free = room_of runs p run room is in
+      subst (λ (e : PlainEnd). IsWhole InOrder p session run e) (sym found.is) (whole_from p session run found.end (played.each p run found.end is found.at) free (ordered p run is free))
+
+  each_partly : (session : PlainSession) (runs : List PortRun) (ends : List PortEnd) → ArePlayed session runs ends → AreOrdered InOrder session runs → (p : ℕ) (run : PortRun) → slice_get runs p ≡ Some run → IsPartly InOrder p session run
+  each_partly session runs ends played ordered p run is =
+      let found = end_there runs ends p run (played.runs_of_all ∙ sym played.ends_of_all) is in
+      partly_from p session run found.0 (played.each p run found.0 is found.1) (ordered p run is)
+
+  ending_works : (telling : Telling) (session : PlainSession) (played : Played) (e : Ending) → ArePlayed session played.runs.items played.ends.items → AreOrdered InOrder session played.runs.items → IsEndingOf telling session played e
+      → IsSessionWork InOrder telling session e played.runs.items
+  ending_works telling session played (Done text) plays ordered ending =
+      record {
+        ends = map end_of played.ends.items;
+        runs_of_all = plays.runs_of_all;
+        ends_of_all = length-map played.ends.items end_of ∙ plays.ends_of_all;
+        each = each_whole session played.runs.items played.ends.items plays ordered ending.0;
+        room = ending.0;
+        told = ending.1;
+      }
+  ending_works telling session played (BadSession line) plays ordered ending = ending
+  ending_works telling session played BadWords plays ordered ending = ending
+  ending_works telling session played ReadFault plays ordered ending = ending
+  ending_works telling session played TooLong plays ordered ending = ending
+  ending_works telling session played (NotLegal line) plays ordered ending = ending
+  ending_works telling session played JournalFull plays ordered ending =
+      record { runs_of_all = plays.runs_of_all; each = each_partly session played.runs.items played.ends.items plays ordered; full = ending }
+
+  -- the work on what was played
+  pub played_works : (telling : Telling) (session : PlainSession) (played : Played) (r : Result Work NoMemory) → ArePlayed session played.runs.items played.ends.items → AreOrdered InOrder session played.runs.items
+      → IfOk r (λ work. IsEndingOf telling session played work.ending) → IfOk r (λ work. work.runs ≡ played.runs) → IfOk r (λ work. IsSessionWork InOrder telling session work.ending work.runs.items)
+  played_works telling session played (Ok work) plays ordered ending same =
+      subst (λ (runs : Contents PortRun). IsSessionWork InOrder telling session work.ending runs.items) (sym same) (ending_works telling session played work.ending plays ordered ending)
+  played_works telling session played (Err e) plays ordered ending same = ending
+
+-- what one thread played is in its order
+pub ordered_of : (session : PlainSession) (runs : List PortRun) (ends : List PortEnd) → ArePlayed session runs ends → AreOrdered IsOrdered session runs
+ordered_of session runs ends played p run is =
+    let found = end_there runs ends p run (played.runs_of_all ∙ sym played.ends_of_all) is in
+    (played.each p run found.0 is found.1).in_order

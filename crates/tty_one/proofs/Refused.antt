@@ -1,0 +1,85 @@
+-- What was read, and how work ends for want of it.
+use Rattle.std.proofs.Common.{◌≡◌, ℕ, List, [], Option, None, Some, Result, Ok, Err, sym, subst}
+use Rattle.std.specs.Prelude.{IfOk, OnErr}
+use Rattle.tty_base.specs.Contents.{Contents}
+use Rattle.tty_base.specs.declared.buffers.NoMemory.{NoMemory}
+use Rattle.tty_calls.specs.declared.journals.PortRun.{PortRun}
+use Rattle.tty_calls.specs.declared.sessions.Session.{Session}
+use Rattle.tty_calls.specs.Sessions.{PlainSession, session_of}
+use Rattle.tty_calls.specs.Limits.{IsWithinLimits}
+use Rattle.session_text.proofs.Within.{spelled_within}
+use Rattle.session_text.specs.declared.faults.BadLine.{BadLine}
+use Rattle.session_text.specs.Refusals.{refusal}
+use Rattle.tty_one.specs.declared.words.Command.{Command}
+use Rattle.tty_one.specs.declared.reading.Reading.{Reading}
+use Rattle.tty_one.specs.declared.reading.Reading.TheVariants.{Of, Ended}
+use Rattle.tty_one.specs.declared.works.Work.{Work}
+use Rattle.tty_one.specs.declared.works.Ending.{Ending}
+use Rattle.tty_one.specs.declared.works.Ending.TheVariants.{Done, BadSession, BadWords, ReadFault, TooLong, NotLegal, JournalFull}
+use Rattle.tty_one.specs.Endings.{IsOfSource, IsShort}
+use Rattle.tty_one.specs.Outcome.{IsAllOf, IsRefused, IsOrdered, refusal_by}
+use Rattle.tty_one.specs.Works.{IsLineOf, IsUnread, IsTextRead, IsReadAs, IsSessionRead, IsSessionIn, IsRefusal, IsSessionWork, IsWork}
+
+-- the text that was read
+module _ (first_wrong : List ℕ → Option BadLine) (faults now : ℕ) (left rest : Option (List ℕ)) (reading : Reading (Contents ℕ)) where
+  pub text_read : (text : Contents ℕ) (bytes : List ℕ) → reading ≡ Of text → bytes ≡ text.items → IsTextRead first_wrong reading faults now left rest → IsAllOf left bytes × IsShort left rest
+  text_read text bytes is same h =
+      let parts = subst (λ (r : Reading (Contents ℕ)). IsTextRead first_wrong r faults now left rest) is h in
+      (subst (IsAllOf left) (sym same) parts.0, parts.1)
+
+  pub none_read : (e : Ending) → reading ≡ Ended e → IsTextRead first_wrong reading faults now left rest → IsUnread first_wrong left e × IsOfSource e faults now left rest
+  none_read e is h = subst (λ (r : Reading (Contents ℕ)). IsTextRead first_wrong r faults now left rest) is h
+
+-- what holds whatever comes holds at an error
+pub at_err : {A : Type 0} (P : Type 0) (r : Result A NoMemory) → P → OnErr r P
+at_err P (Ok x) h = tt
+at_err P (Err e) h = h
+
+-- what is wrong with the text is wrong with all that the source had left
+pub line_from : (first_wrong : List ℕ → Option BadLine) (left : Option (List ℕ)) (text line : List ℕ) → IsAllOf left text → IsLineOf first_wrong (Some text) line → IsLineOf first_wrong left line
+line_from first_wrong left text line whole h =
+    record {
+      bad = h.bad;
+      refused = record { read = h.refused.read; whole = subst (IsAllOf left) (sym h.refused.whole) whole; refused = h.refused.refused };
+      told = h.told;
+    }
+
+-- the work on a text that was refused
+pub refused_from : (first_wrong : List ℕ → Option BadLine) (faults now : ℕ) (left rest : Option (List ℕ)) (text : List ℕ) (e : Ending) → IsAllOf left text → IsShort left rest → IsRefusal first_wrong text e
+    → IsUnread first_wrong left e × IsOfSource e faults now left rest
+refused_from first_wrong faults now left rest text (Done report) whole short h = absurd h
+refused_from first_wrong faults now left rest text (BadSession line) whole short h = (line_from first_wrong left text line.items whole h, short)
+refused_from first_wrong faults now left rest text BadWords whole short h = absurd h
+refused_from first_wrong faults now left rest text ReadFault whole short h = absurd h
+refused_from first_wrong faults now left rest text TooLong whole short h = absurd h
+refused_from first_wrong faults now left rest text (NotLegal line) whole short h = absurd h
+refused_from first_wrong faults now left rest text JournalFull whole short h = absurd h
+
+-- a session that was read in a text
+pub session_read : (faults now : ℕ) (left rest : Option (List ℕ)) (text : List ℕ) (r : Result (Reading Session) NoMemory) → IsAllOf left text → IsShort left rest → IfOk r (IsSessionIn text)
+    → IfOk r (λ reading. IsSessionRead reading faults now left rest)
+session_read faults now left rest text (Ok (Of session)) whole short h = (record { read = text; whole = whole; spelled = h }, short)
+session_read faults now left rest text (Ok (Ended ending)) whole short h = refused_from refusal faults now left rest text ending whole short h
+session_read faults now left rest text (Err e) whole short h = h
+
+-- how the work of a command ends for want of what it reads
+pub unread_works : (command : Command) (left : Option (List ℕ)) (e : Ending) (runs : List PortRun) → runs ≡ [] → IsUnread (refusal_by command) left e → IsWork command left e runs
+unread_works command left (Done report) runs none h = absurd h
+unread_works command left (BadSession line) runs none h = (none, h)
+unread_works command left BadWords runs none h = absurd h
+unread_works command left ReadFault runs none h = none
+unread_works command left TooLong runs none h = none
+unread_works command left (NotLegal line) runs none h = absurd h
+unread_works command left JournalFull runs none h = absurd h
+
+-- work that ended without a run
+pub ended_works : (command : Command) (faults now : ℕ) (left rest : Option (List ℕ)) (e : Ending) (work : Work) → work ≡ record { ending = e; runs = record { items = []; spare = 0 } } → IsWork command left e [] → IsOfSource e faults now left rest
+    → IsWork command left work.ending work.runs.items × IsOfSource work.ending faults now left rest
+ended_works command faults now left rest e work same done of =
+    subst (λ (w : Work). IsWork command left w.ending w.runs.items × IsOfSource w.ending faults now left rest) (sym same) (done, of)
+
+-- a session that was read keeps the limits of every session
+pub read_within : (faults now : ℕ) (left rest : Option (List ℕ)) (reading : Reading Session) (session : Session) → reading ≡ Of session → IsSessionRead reading faults now left rest → IsWithinLimits (session_of session)
+read_within faults now left rest reading session is h =
+    let parts = subst (λ (r : Reading Session). IsSessionRead r faults now left rest) is h in
+    spelled_within parts.0.read (session_of session) parts.0.spelled

@@ -1,0 +1,162 @@
+-- What the work on a command came to, by its ending and its runs: for the functions below the top calls.
+use Rattle.std.specs.Prelude.{◌≡◌, ◌≢◌, ℕ, List, [], Bool, true, false, Option, Some, map}
+use Rattle.tty_base.specs.Contents.{Contents}
+use Rattle.tty_calls.specs.declared.journals.PortRun.{PortRun}
+use Rattle.tty_calls.specs.declared.sessions.Session.{Session}
+use Rattle.tty_calls.specs.Sessions.{PlainSession, session_of}
+use Rattle.session_text.specs.declared.faults.BadLine.{BadLine}
+use Rattle.session_text.specs.Refusals.{refusal}
+use Rattle.session_text.specs.Grammar.{Spells}
+use Rattle.session_print.specs.Ends.{end_of}
+use Rattle.check_text.specs.Reading.{refusal as refusal_of_runs}
+use Rattle.journal_check.specs.declared.verdicts.Verdict.{Verdict}
+use Rattle.journal_check.specs.declared.verdicts.Verdict.TheVariants.{Legal, Wrong, Account}
+use Rattle.one_thread.specs.declared.playing.Played.{Played}
+use Rattle.tty_one.specs.declared.words.Command.{Command}
+use Rattle.tty_one.specs.declared.words.Command.TheVariants.{Run, RunOne, Gen, Check}
+use Rattle.tty_one.specs.declared.playing.Telling.{Telling}
+use Rattle.tty_one.specs.declared.reading.Reading.{Reading}
+use Rattle.tty_one.specs.declared.reading.Reading.TheVariants.{Of, Ended}
+use Rattle.tty_one.specs.declared.works.Ending.{Ending}
+use Rattle.tty_one.specs.declared.works.Ending.TheVariants.{Done, BadSession, BadWords, ReadFault, TooLong, NotLegal, JournalFull}
+use Rattle.tty_one.specs.Endings.{bad_session_line, verdict_line, IsShort, IsOfSource}
+use Rattle.tty_one.specs.Outcome.{text_by, IsReported, AreCutShort, IsAllOf, IsJudged, IsToldVerdict, IsToldBy, IsFullBy, IsRefused, refusal_by, has_full_journal}
+
+-- ---- reading
+
+-- a text's first wrong line, told by this line
+pub record IsLineOf (first_wrong : List ℕ → Option BadLine) (left : Option (List ℕ)) (line : List ℕ) : Type 0 where
+  pub bad : BadLine
+  pub refused : IsRefused first_wrong left bad
+  pub told : line ≡ bad_session_line bad
+
+-- how work ends for want of a text that is in its grammar
+abbrev pub IsUnread : (List ℕ → Option BadLine) → Option (List ℕ) → Ending → Type 0
+IsUnread first_wrong left (Done text) = ⊥
+IsUnread first_wrong left (BadSession line) = IsLineOf first_wrong left line.items
+IsUnread first_wrong left BadWords = ⊥
+IsUnread first_wrong left ReadFault = Unit {0}
+IsUnread first_wrong left TooLong = Unit {0}
+IsUnread first_wrong left (NotLegal line) = ⊥
+IsUnread first_wrong left JournalFull = ⊥
+
+-- what reading a text came to, by the faults of the source and what it has left, before and now
+abbrev pub IsTextRead : (List ℕ → Option BadLine) → Reading (Contents ℕ) → ℕ → ℕ → Option (List ℕ) → Option (List ℕ) → Type 0
+IsTextRead first_wrong (Of text) faults now left rest = IsAllOf left text.items × IsShort left rest
+IsTextRead first_wrong (Ended ending) faults now left rest = IsUnread first_wrong left ending × IsOfSource ending faults now left rest
+
+-- the text that was read spells the session
+pub record IsReadAs (left : Option (List ℕ)) (session : PlainSession) : Type 0 where
+  pub read : List ℕ
+  pub whole : IsAllOf left read
+  pub spelled : Spells read session
+
+-- what reading a session came to
+abbrev pub IsSessionRead : Reading Session → ℕ → ℕ → Option (List ℕ) → Option (List ℕ) → Type 0
+IsSessionRead (Of session) faults now left rest = IsReadAs left (session_of session) × IsShort left rest
+IsSessionRead (Ended ending) faults now left rest = IsUnread refusal left ending × IsOfSource ending faults now left rest
+
+-- how work ends at the first wrong line of a text
+abbrev pub IsRefusal : (List ℕ → Option BadLine) → List ℕ → Ending → Type 0
+IsRefusal first_wrong text (Done report) = ⊥
+IsRefusal first_wrong text (BadSession line) = IsLineOf first_wrong (Some text) line.items
+IsRefusal first_wrong text BadWords = ⊥
+IsRefusal first_wrong text ReadFault = ⊥
+IsRefusal first_wrong text TooLong = ⊥
+IsRefusal first_wrong text (NotLegal line) = ⊥
+IsRefusal first_wrong text JournalFull = ⊥
+
+-- what a text is read as
+abbrev pub IsSessionIn : List ℕ → Reading Session → Type 0
+IsSessionIn text (Of session) = Spells text (session_of session)
+IsSessionIn text (Ended ending) = IsRefusal refusal text ending
+
+-- ---- playing
+
+-- of what was played
+abbrev pub IsEndingOf : Telling → PlainSession → Played → Ending → Type 0
+IsEndingOf telling session played (Done text) =
+    (has_full_journal played.runs.items ≡ false) × (text.items ≡ text_by telling session played.runs.items (map end_of played.ends.items))
+IsEndingOf telling session played (BadSession line) = ⊥
+IsEndingOf telling session played BadWords = ⊥
+IsEndingOf telling session played ReadFault = ⊥
+IsEndingOf telling session played TooLong = ⊥
+IsEndingOf telling session played (NotLegal line) = ⊥
+IsEndingOf telling session played JournalFull = has_full_journal played.runs.items ≡ true
+
+-- of a session
+abbrev pub IsSessionWork : (ℕ → PlainSession → PortRun → Type 0) → Telling → PlainSession → Ending → List PortRun → Type 0
+IsSessionWork InOrder telling session (Done text) runs = IsReported InOrder telling session runs text.items
+IsSessionWork InOrder telling session (BadSession line) runs = ⊥
+IsSessionWork InOrder telling session BadWords runs = ⊥
+IsSessionWork InOrder telling session ReadFault runs = ⊥
+IsSessionWork InOrder telling session TooLong runs = ⊥
+IsSessionWork InOrder telling session (NotLegal line) runs = ⊥
+IsSessionWork InOrder telling session JournalFull runs = AreCutShort InOrder session runs
+
+-- ---- judging
+
+-- some verdict other than legal was told
+pub record IsIllegal (left : Option (List ℕ)) (runs : List PortRun) (line : List ℕ) : Type 0 where
+  pub verdict : Verdict
+  pub told : IsToldVerdict left verdict runs line
+  pub illegal : verdict ≢ Legal
+
+-- how a verdict ends the work
+abbrev pub IsVerdictEnding : Verdict → Ending → Type 0
+IsVerdictEnding verdict (Done text) = (verdict ≡ Legal) × (text.items ≡ verdict_line verdict)
+IsVerdictEnding verdict (BadSession line) = ⊥
+IsVerdictEnding verdict BadWords = ⊥
+IsVerdictEnding verdict ReadFault = ⊥
+IsVerdictEnding verdict TooLong = ⊥
+IsVerdictEnding verdict (NotLegal line) = (verdict ≢ Legal) × (line.items ≡ verdict_line verdict)
+IsVerdictEnding verdict JournalFull = ⊥
+
+-- how the journals of a text end the work
+abbrev pub IsJudgedText : List ℕ → Ending → Type 0
+IsJudgedText text (Done report) = IsToldVerdict (Some text) Legal [] report.items
+IsJudgedText text (BadSession line) = IsLineOf refusal_of_runs (Some text) line.items
+IsJudgedText text BadWords = ⊥
+IsJudgedText text ReadFault = ⊥
+IsJudgedText text TooLong = ⊥
+IsJudgedText text (NotLegal line) = IsIllegal (Some text) [] line.items
+IsJudgedText text JournalFull = ⊥
+
+-- ---- a command
+
+-- only journals that were read can be found not legal
+abbrev pub IsIllegalBy : Command → Option (List ℕ) → List PortRun → List ℕ → Type 0
+IsIllegalBy (Run journals) left runs line = ⊥
+IsIllegalBy (RunOne journals) left runs line = ⊥
+IsIllegalBy (Gen number) left runs line = ⊥
+IsIllegalBy Check left runs line = IsIllegal left runs line
+
+-- of a command, where a source had all this left
+abbrev pub IsWork : Command → Option (List ℕ) → Ending → List PortRun → Type 0
+IsWork command left (Done report) runs = IsToldBy command left runs report.items
+IsWork command left (BadSession line) runs = (runs ≡ []) × IsLineOf (refusal_by command) left line.items
+IsWork command left BadWords runs = runs ≡ []
+IsWork command left ReadFault runs = runs ≡ []
+IsWork command left TooLong runs = runs ≡ []
+IsWork command left (NotLegal line) runs = IsIllegalBy command left runs line.items
+IsWork command left JournalFull runs = IsFullBy command left runs
+
+-- only a command that reads can be refused what it reads
+abbrev pub CanEnd : Command → Ending → Type 0
+CanEnd (Run journals) ending = Unit {0}
+CanEnd (RunOne journals) ending = Unit {0}
+CanEnd (Gen number) (Done report) = Unit {0}
+CanEnd (Gen number) (BadSession line) = ⊥
+CanEnd (Gen number) BadWords = ⊥
+CanEnd (Gen number) ReadFault = ⊥
+CanEnd (Gen number) TooLong = ⊥
+CanEnd (Gen number) (NotLegal line) = ⊥
+CanEnd (Gen number) JournalFull = Unit {0}
+CanEnd Check ending = Unit {0}
+
+-- a command that reads nothing
+abbrev pub ReadsNothing : Command → Type 0
+ReadsNothing (Run journals) = ⊥
+ReadsNothing (RunOne journals) = ⊥
+ReadsNothing (Gen number) = Unit {0}
+ReadsNothing Check = ⊥

@@ -1,0 +1,19 @@
+//! What the program does without threads: a session's text is read, played on its ports, and what
+//! happened is told; journals are read and judged. What reading and telling take is also for the crate
+//! above, which plays sessions on threads.
+#![tactic(auto)]
+
+mod judging;
+mod laws;
+mod playing;
+mod reading;
+mod top;
+mod words;
+mod works;
+
+pub use laws::each_call_is_answered_once;
+pub use playing::{Telling, work_of};
+pub use reading::{Reading, read_session};
+pub use top::tty_one;
+pub use words::{Command, journals_on_threads};
+pub use works::{Ending, Ran, Runs, Work};

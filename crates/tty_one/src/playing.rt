@@ -1,0 +1,119 @@
+//! Sessions that are played on one thread, and what is told of them.
+
+ghost use Rattle.std.specs.Prelude.{◌≡◌, IfOk, IfSome, OnErr, map};
+ghost use Rattle.tty_base.specs.Outside.{LeavesRest};
+ghost use Rattle.tty_calls.specs.Limits.{IsWithinLimits};
+ghost use Rattle.tty_calls.specs.Sessions.{session_of};
+ghost use Rattle.session_gen.specs.Generated.{generated_session};
+ghost use Rattle.session_print.specs.Ends.{end_of};
+ghost use Rattle.tty_one.specs.Endings.{IsShort, IsOfSource};
+ghost use Rattle.tty_one.specs.Outcome.{IsOrdered, has_full_journal, text_by as text_of_telling};
+ghost use Rattle.tty_one.specs.declared.playing.Telling.TheVariants.{Summary};
+ghost use Rattle.tty_one.specs.declared.words.Command.TheVariants.{RunOne};
+ghost use Rattle.tty_one.specs.Works.{IsWork, IsSessionWork, IsEndingOf};
+
+use crate::reading::{Reading, read_session};
+use crate::works::{Ending, Work};
+use one_thread::{Played, play};
+use session_gen::make;
+use session_print::{play_text, summary};
+use std::alloc::Global;
+use tty_base::{Bytes, NoMemory, Source};
+use tty_calls::{PortRun, Session};
+
+/// How many entries a port's journal can have.
+const JOURNAL: usize = 4_194_304;
+
+/// What is told of a session that was played.
+#[derive(Clone, Copy)]
+pub enum Telling {
+    /// Its report, with its journals or without them.
+    Report { journals: bool },
+    /// That it is the session of this number, and its sums.
+    Summary(u32),
+}
+
+/// Reads a session, plays it on one thread and makes its report.
+pub(crate) fn run_one<S: Source>(
+    alloc: Global,
+    source: &mut S,
+    journals: bool,
+) -> Result<Work, NoMemory>
+    ensures from { IfOk result (λ work. IsOfSource work.ending (S.faults source.old) (S.faults source.new) (S.left source.old) (S.left source.new)) }
+    ensures work { IfOk result (λ work. IsWork (RunOne journals) (S.left source.old) work.ending work.runs.items) }
+    ensures short { OnErr result (IsShort (S.left source.old) (S.left source.new)) }
+    ensures rest { IfSome (S.left source.old) (λ bytes. LeavesRest bytes (S.left source.new)) }
+{
+    match read_session(alloc, source)? {
+        Reading::Of(session) => run_session(alloc, &session, Telling::Report { journals }),
+        Reading::Ended(ending) => Ok(Work::ended(alloc, ending)),
+    }
+}
+
+/// Makes the session of a number, plays it on one thread and makes its summary.
+pub(crate) fn run_number(alloc: Global, number: u32) -> Result<Work, NoMemory>
+    ensures { IfOk result (λ work. IsSessionWork IsOrdered (Summary number) (generated_session number) work.ending work.runs.items) }
+{
+    let session = make(alloc, number)?;
+    run_session(alloc, &session, Telling::Summary(number))
+}
+
+fn run_session(alloc: Global, session: &Session, telling: Telling) -> Result<Work, NoMemory>
+    requires { IsWithinLimits (session_of session.now) }
+    ensures { IfOk result (λ work. IsSessionWork IsOrdered telling (session_of session.now) work.ending work.runs.items) }
+{
+    let played = play(alloc, session)?;
+    work_of(alloc, session, played, telling)
+}
+
+/// The work on a session that was played: what is told of it, or that a journal is full.
+pub fn work_of(
+    alloc: Global,
+    session: &Session,
+    played: Played,
+    telling: Telling,
+) -> Result<Work, NoMemory>
+    ensures ending { IfOk result (λ work. IsEndingOf telling (session_of session.now) played work.ending) }
+    ensures runs { IfOk result (λ work. work.runs ≡ played.runs) }
+{
+    let ending = ending_of(alloc, session, &played, telling)?;
+    let Played { runs, ends: _ } = played;
+    Ok(Work { ending, runs })
+}
+
+fn ending_of(
+    alloc: Global,
+    session: &Session,
+    played: &Played,
+    telling: Telling,
+) -> Result<Ending, NoMemory>
+    ensures { IfOk result (λ ending. IsEndingOf telling (session_of session.now) played.now ending) }
+{
+    if has_full_journal(played.runs.as_slice()) {
+        return Ok(Ending::JournalFull);
+    }
+    let text = text_by(alloc, session, played, telling)?;
+    Ok(Ending::Done(text))
+}
+
+fn text_by(
+    alloc: Global,
+    session: &Session,
+    played: &Played,
+    telling: Telling,
+) -> Result<Bytes, NoMemory>
+    ensures { IfOk result (λ text. text.items ≡ text_of_telling telling (session_of session.now) played.now.runs.items (map end_of played.now.ends.items)) }
+{
+    let runs = played.runs.as_slice();
+    let ends = played.ends.as_slice();
+    match telling {
+        Telling::Report { journals } => play_text(alloc, session, runs, ends, journals),
+        Telling::Summary(number) => summary(alloc, number, session, runs, ends),
+    }
+}
+
+fn has_full_journal(runs: &[PortRun]) -> bool
+    ensures { result ≡ has_full_journal runs.now }
+{
+    runs.iter().any(|run| run.journal.len() == JOURNAL)
+}

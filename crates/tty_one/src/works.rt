@@ -1,0 +1,102 @@
+//! How work ends, and how that is told.
+
+ghost use Rattle.std.specs.Prelude.{◌≡◌, ◌⊎◌, ◌≢◌, ◌++◌, [], Some, IfSome};
+ghost use Rattle.tty_base.specs.Outside.{Rose, GivesFront};
+ghost use Rattle.tty_one.specs.Endings.{status_of, text_of};
+
+use std::alloc::Global;
+use tty_base::{Buffer, Bytes, Sink, write_all};
+use tty_calls::PortRun;
+
+/// The runs of a session's ports.
+pub type Runs = Buffer<PortRun>;
+
+/// What a call of the program came to: its exit status, and the runs of the ports.
+#[derive(Drop)]
+pub struct Ran {
+    pub status: u8,
+    pub runs: Runs,
+}
+
+/// How the work ended, before it was told.
+#[derive(Drop)]
+pub enum Ending {
+    /// What was asked for was done; this is its text.
+    Done(Bytes),
+    /// The text that was read is not in its grammar; this line says why.
+    BadSession(Bytes),
+    BadWords,
+    ReadFault,
+    TooLong,
+    /// The journals that were read are not all legal; this line says which.
+    NotLegal(Bytes),
+    JournalFull,
+}
+
+/// What was done: how it ended, and the runs.
+#[derive(Drop)]
+pub struct Work {
+    pub ending: Ending,
+    pub runs: Runs,
+}
+
+impl Work {
+    /// Work that ended without a run.
+    pub fn ended(alloc: Global, ending: Ending) -> Work
+        ensures { result ≡ record { ending = ending; runs = record { items = []; spare = 0 } } }
+    {
+        Work {
+            ending,
+            runs: Runs::new(alloc),
+        }
+    }
+
+    /// Gives the text of the ending to the sink.
+    pub fn tell<K: Sink>(self, sink: &mut K) -> Ran
+        ensures runs { result.runs ≡ self.runs }
+        ensures status { (result.status ≡ status_of self.ending) ⊎ (result.status ≡ 4) }
+        ensures fault { result.status ≡ 4 → Rose (K.faults sink.old) (K.faults sink.new) }
+        ensures whole { result.status ≢ 4 → IfSome (K.given sink.old) (λ before. K.given sink.new ≡ Some (before ++ text_of self.ending)) }
+        ensures front { IfSome (K.given sink.old) (λ before. GivesFront before (text_of self.ending) (K.given sink.new)) }
+    {
+        let Work { ending, runs } = self;
+        match write_all(sink, ending.text()) {
+            Ok(()) => Ran {
+                status: ending.status(),
+                runs,
+            },
+            Err(_) => Ran { status: 4, runs },
+        }
+    }
+}
+
+impl Ending {
+    fn status(&self) -> u8
+        ensures { result ≡ status_of self.now }
+    {
+        match self {
+            Ending::Done(_) => 0,
+            Ending::BadSession(_) => 1,
+            Ending::BadWords => 2,
+            Ending::ReadFault => 3,
+            Ending::TooLong => 6,
+            Ending::NotLegal(_) => 7,
+            Ending::JournalFull => 8,
+        }
+    }
+
+    /// What is given to the sink.
+    fn text(&self) -> &[u8]
+        ensures { result.now ≡ text_of self.now }
+    {
+        match self {
+            Ending::Done(text) => text.as_slice(),
+            Ending::BadSession(line) => line.as_slice(),
+            Ending::BadWords => b"bad words\n",
+            Ending::ReadFault => b"read fault\n",
+            Ending::TooLong => b"session too long\n",
+            Ending::NotLegal(line) => line.as_slice(),
+            Ending::JournalFull => b"journal full\n",
+        }
+    }
+}

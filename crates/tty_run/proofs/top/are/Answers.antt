@@ -1,6 +1,0 @@
-use Rattle.std.proofs.lemmas.Slice.Eq.{bytes_eq-Decides}
-use Rattle.tty_run.proofs.Words.{texts_same}
-use Rattle.tty_run.proofs.top.are.Goals as goal
-
-pub returns : goal.returns
-returns c = texts_same (λ a b. bytes_eq-Decides a.now b.now) c.eq.result c.args.words.now c.args.known.now c.eq.ensures
