@@ -2,7 +2,11 @@
 #![tactic(auto)]
 
 #[cfg(test)]
+mod altered;
+#[cfg(test)]
 mod editing;
+#[cfg(test)]
+mod exchanged;
 #[cfg(test)]
 mod journals;
 #[cfg(test)]

@@ -19,7 +19,25 @@ const PIECE: usize = 4_096;
 /// How many bytes a sink takes in all: more than any report has.
 const ROOM: usize = 65_536;
 
-/// Each session, played with these words, is told by its report.
+/// What a call of the program came to: its status, and the text that it gave.
+#[derive(Drop)]
+pub(crate) struct Told {
+    pub(crate) status: u8,
+    pub(crate) text: Vec<u8>,
+}
+
+/// What is told of a text with these words.
+pub(crate) fn told_of(alloc: Global, words: &[&str], text: Vec<u8>) -> Result<Told, AllocError> {
+    let mut source = MemSource::new(Bytes::from_vec(text), PIECE, Vec::new(alloc));
+    let Ok(mut sink) = MemSink::new(alloc, PIECE, ROOM, Vec::new(alloc)) else {
+        return Err(AllocError);
+    };
+    let Ran { status, .. } = tty_one(alloc, words, &mut source, &mut sink);
+    let text = sink.given().to_vec(alloc)?;
+    Ok(Told { status, text })
+}
+
+/// Each session, played with these words, is told by its report, and its journals are legal.
 pub(crate) fn plays(
     rt: &impl Abort,
     alloc: Global,
@@ -28,20 +46,37 @@ pub(crate) fn plays(
 ) -> Result<(), Fail> {
     for row in rows {
         let session = row.session;
-        let text = written_out(alloc, session)?;
-        let mut source = MemSource::new(Bytes::from_vec(text), PIECE, Vec::new(alloc));
-        let mut sink = MemSink::new(alloc, PIECE, ROOM, Vec::new(alloc))?;
-        let Ran { status, .. } = tty_one(alloc, words, &mut source, &mut sink);
-        assert_eq!(rt; status, 0, "at {session}");
+        let told = told_of(alloc, words, written_out(alloc, session)?)?;
+        assert_eq!(rt; told.status, 0, "at {session}");
         let report = written_out(alloc, row.report)?;
-        let same = sink.given() == report.as_slice();
+        let same = told.text == report;
         assert!(rt; same, "another report of {session}");
+        let judged = judged_of(alloc, session)?;
+        assert_eq!(rt; judged.status, 0, "at {session}");
+        assert_eq!(rt; judged.text.as_slice(), b"legal\n".as_slice());
     }
     Ok(())
 }
 
+/// What is told of the journals of a session that is played.
+fn judged_of(alloc: Global, session: &str) -> Result<Told, AllocError> {
+    let words = ["run", "--one", "--journal"];
+    let played = told_of(alloc, &words, written_out(alloc, session)?)?;
+    let heading = b"journals\n".as_slice();
+    let before = played
+        .text
+        .windows(heading.len())
+        .take_while(|piece| *piece != heading)
+        .count();
+    let mut text = written_out(alloc, session)?;
+    for byte in played.text.iter().skip(before) {
+        text.push(*byte)?;
+    }
+    told_of(alloc, &["check"], text)
+}
+
 /// The text with its repeated bytes written out.
-fn written_out(alloc: Global, text: &str) -> Result<Vec<u8>, AllocError> {
+pub(crate) fn written_out(alloc: Global, text: &str) -> Result<Vec<u8>, AllocError> {
     let mut whole = Vec::new(alloc);
     let mut times = Vec::new(alloc);
     let mut inside = false;
