@@ -1,6 +1,6 @@
 //! Mode words from their texts.
 
-ghost use Rattle.std.specs.Prelude.{◌≡◌, ◌≢◌, ℕ, List, Some, IfOk, OnErr, IfSome, ◌<◌, ◌↔◌, IsTrue, length, slice_index};
+ghost use Rattle.std.specs.Prelude.{◌≡◌, ◌≢◌, ℕ, List, Some, IfOk, OnErr, IfSome, ◌<◌, ◌↔◌, IsTrue, bytes_eq, length, slice_index};
 ghost use Rattle.std.specs.Result.{result_ok};
 ghost use Rattle.tty_modes.specs.declared.words.Word.{Word};
 ghost use Rattle.tty_modes.specs.Names.{flag_names, character_names};
@@ -50,16 +50,26 @@ pub fn words_are_their_texts()
 fn read_word(text: &str) -> Option<Word>
     ensures { result ≡ word_of text.now }
 {
-    if text == "raw" {
+    if is_same(text, "raw") {
         return Some(Word::Raw);
     }
-    if text == "sane" {
+    if is_same(text, "sane") {
         return Some(Word::Sane);
     }
     if let Some(flag) = flag_place(text) {
         return Some(Word::On(flag));
     }
     other_word(text)
+}
+
+// Most names differ in length, which costs no call.
+fn is_same(one: &str, other: &str) -> bool
+    ensures { result ≡ bytes_eq one.now other.now }
+{
+    if one.len() != other.len() {
+        return false;
+    }
+    one == other
 }
 
 // A word that clears a flag or sets a control character.
@@ -92,7 +102,7 @@ fn flag_position(name: &str) -> Option<usize>
     ensures value { result ≡ place_of flag_names name.now }
     ensures bound { IfSome result (λ place. place < 29) }
 {
-    ModeBits::FLAGS.iter().position(|flag| flag.name == name)
+    ModeBits::FLAGS.iter().position(|flag| is_same(flag.name, name))
 }
 
 fn character_place(name: &str) -> Option<u8>
@@ -106,7 +116,7 @@ fn character_position(name: &str) -> Option<usize>
     ensures value { result ≡ place_of character_names name.now }
     ensures bound { IfSome result (λ place. place < 15) }
 {
-    CHARACTER_NAMES.iter().position(|known| *known == name)
+    CHARACTER_NAMES.iter().position(|known| is_same(*known, name))
 }
 
 fn byte_of(digits: &str) -> Option<u8>
