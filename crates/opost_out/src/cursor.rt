@@ -1,6 +1,6 @@
 //! The column of all that a line discipline has posted, and output processing at that column.
 
-ghost use Rattle.std.specs.Prelude.{◌≡◌, ℕ, ◌≤◌, ◌<◌, ◌+◌, ◌-◌, ◌^◌, [], ◌∷◌, ◌++◌, length, List};
+ghost use Rattle.std.specs.Prelude.{◌≡◌, ◌↔◌, IsTrue, ℕ, ◌≤◌, ◌<◌, ◌+◌, ◌-◌, ◌^◌, [], ◌∷◌, ◌++◌, length, List};
 ghost use Rattle.opost_out.specs.Column.{PostedByte, column_after, column_of, column_after_byte, posted_text, posted_text_under};
 ghost use Rattle.opost_out.specs.Posted.{posted_bytes};
 
@@ -51,6 +51,10 @@ impl Out {
         ensures column { self.new ≡ column_after self.old (posted_text_under modes.now result) }
         ensures text { (text : List PostedByte) → self.old ≡ column_of text → self.new ≡ column_of (text ++ posted_text_under modes.now result) }
     {
+        if is_plain(b) {
+            self.column += 1;
+            return Piece::of_byte(b);
+        }
         let piece = self.would(b, modes);
         self.column = column_after(self.column, piece.as_slice(), modes.has(IUTF8));
         piece
@@ -76,6 +80,13 @@ impl Out {
 pub fn column_of_more()
     ensures { (front rest : List PostedByte) → column_of (front ++ rest) ≡ column_after (column_of front) rest }
 {}
+
+/// A byte that is posted as itself under all modes, and takes one column.
+fn is_plain(b: u8) -> bool
+    ensures { IsTrue result ↔ ((32 ≤ b) × (b ≤ 126)) }
+{
+    b' ' <= b && b <= b'~'
+}
 
 fn column_after(start: u64, bytes: &[u8], utf8: bool) -> u64
     requires room { start < 2 ^ 63 }
