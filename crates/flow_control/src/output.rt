@@ -76,7 +76,11 @@ impl Wire {
         ensures spent { self.old.spare ≤ self.new.spare + length bytes.now }
     {
         if !self.halted() {
-            self.wire.append(bytes);
+            // one byte is the rule, and a copy of many costs more than a push
+            match bytes {
+                [byte] => self.wire.add(*byte),
+                _ => self.wire.append(bytes),
+            }
             return true;
         }
         if bytes.len() > self.room() {
