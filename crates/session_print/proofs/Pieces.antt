@@ -1,7 +1,8 @@
 -- Texts that grow piece by piece.
-use Rattle.std.proofs.Common.{◌≡◌, ℕ, zero, suc, List, [], ◌∷◌, ◌++◌, Option, None, Some, Result, Ok, Err, OnOk, is_ok, cond, ◌+◌, ◌/◌, ◌%◌, ◌<◌, ◌≤◌, length, drop, get_or, map, option_map, unwrap_or, refl, sym, ap, ◌∙◌, arith, append_assoc, append-nil, drop-cons, add-one}
+use Rattle.std.proofs.Common.{◌≡◌, ℕ, true, nat_eq, zero, suc, List, [], ◌∷◌, ◌++◌, Option, None, Some, Result, Ok, Err, OnOk, is_ok, cond, ◌+◌, ◌/◌, ◌%◌, ◌<◌, ◌≤◌, length, take, drop, get_or, map, option_map, unwrap_or, refl, sym, ap, ◌∙◌, arith, append_assoc, append-nil, drop-cons, add-one}
 use denote.Ref.{Bor}
-use Rattle.std.proofs.lemmas.List.{nil_from_length, length-drop}
+use Rattle.std.proofs.lemmas.Bool.{eqb-true}
+use Rattle.std.proofs.lemmas.List.{nil_from_length, length-drop, take-append-drop}
 use Rattle.hex.specs.Hex.{encode_lower, encode_with, lower_digits}
 use Rattle.tty_calls.specs.declared.answers.PortEnd.{PortEnd}
 use Rattle.tty_calls.specs.declared.journals.PortRun.{PortRun}
@@ -39,22 +40,27 @@ byte_digits byte small =
     ap (λ xs. xs ++ get_or digit_texts (byte % 16) []) (digit_at lower_digits (byte / 16) high)
     ∙ ap (λ xs. get_or lower_digits (byte / 16) 0 ∷ xs) (digit_at lower_digits (byte % 16) low)
 
--- one more byte in hexadecimal
-pub hex_more : (first text new bytes : List ℕ) (i : ℕ) → i < length bytes → new ≡ text ++ encode_lower (get_or bytes i 0 ∷ [])
-    → text ++ encode_lower (drop i bytes) ≡ first → new ++ encode_lower (drop (i + 1) bytes) ≡ first
+encode_append : (xs ys : List ℕ) → encode_lower (xs ++ ys) ≡ encode_lower xs ++ encode_lower ys
 unfolding encode_with
-hex_more first text new bytes i h put left =
-    let byte : ℕ = get_or bytes i 0 in
-    ap (λ xs. xs ++ encode_lower (drop (i + 1) bytes)) put
-    ∙ append_assoc text (encode_lower (byte ∷ [])) (encode_lower (drop (i + 1) bytes))
-    ∙ ap (λ n. text ++ encode_lower (byte ∷ drop n bytes)) (add-one i)
-    ∙ ap (λ bs. text ++ encode_lower bs) (sym (drop-cons bytes i 0 h))
+encode_append [] ys = refl
+encode_append (b ∷ xs) ys = ap (λ zs. get_or lower_digits (b / 16) 0 ∷ get_or lower_digits (b % 16) 0 ∷ zs) (encode_append xs ys)
+
+-- so many more bytes in hexadecimal
+pub hex_more : (first text new bytes piece after : List ℕ) (n : ℕ) → piece ≡ take n bytes → after ≡ drop n bytes → new ≡ text ++ encode_lower piece
+    → text ++ encode_lower bytes ≡ first → new ++ encode_lower after ≡ first
+hex_more first text new bytes piece after n front back put left =
+    ap (λ xs. xs ++ encode_lower after) put
+    ∙ append_assoc text (encode_lower piece) (encode_lower after)
+    ∙ ap (λ xs. text ++ xs) (sym (encode_append piece after))
+    ∙ ap (λ xs. text ++ encode_lower (xs ++ after)) front
+    ∙ ap (λ xs. text ++ encode_lower (take n bytes ++ xs)) back
+    ∙ ap (λ xs. text ++ encode_lower xs) (take-append-drop n bytes)
     ∙ left
 
-pub hex_all : (first text bytes : List ℕ) (i : ℕ) → length bytes ≤ i → text ++ encode_lower (drop i bytes) ≡ first → text ≡ first
+pub hex_all : (first text bytes : List ℕ) → nat_eq (length bytes) 0 ≡ true → text ++ encode_lower bytes ≡ first → text ≡ first
 unfolding encode_with
-hex_all first text bytes i h left =
-    sym (append-nil text) ∙ ap (λ bs. text ++ encode_lower bs) (sym (drop_all bytes i h)) ∙ left
+hex_all first text bytes h left =
+    sym (append-nil text) ∙ ap (λ bs. text ++ encode_lower bs) (sym (nil_from_length bytes (eqb-true _ _ h))) ∙ left
 
 -- what a reference in an `Option` points to, or else another
 pub pointed : (o : Option (Bor (List ℕ))) (d r : Bor (List ℕ)) (x : Option (List ℕ)) → r ≡ unwrap_or o d → option_map (λ t. t.now) o ≡ x → r.now ≡ unwrap_or x d.now

@@ -8,14 +8,28 @@ const DIGITS: [&str; 16] = [
     "0", "1", "2", "3", "4", "5", "6", "7", "8", "9", "a", "b", "c", "d", "e", "f",
 ];
 
+/// How many bytes are turned into digits at a time.
+const PIECE: usize = 4096;
+
 /// Adds bytes in hexadecimal.
 pub(crate) fn put_hex(text: &mut String, bytes: &[u8]) -> Result<(), AllocError>
     ensures { OnOk result (string_bytes text.new ≡ string_bytes text.old ++ encode_lower bytes.now) }
 {
-    for byte in bytes {
-        put_byte(text, *byte)?;
+    let mut rest = bytes;
+    while !rest.is_empty() {
+        let (piece, after) = rest.split_at(rest.len().min(PIECE));
+        put_piece(text, piece)?;
+        rest = after;
     }
     Ok(())
+}
+
+/// Adds the digits of some bytes at once.
+fn put_piece(text: &mut String, bytes: &[u8]) -> Result<(), AllocError>
+    ensures { OnOk result (string_bytes text.new ≡ string_bytes text.old ++ encode_lower bytes.now) }
+{
+    let digits = hex::encode(*text.allocator(), bytes)?;
+    text.push_str(digits.as_str())
 }
 
 /// Adds a byte in hexadecimal.
