@@ -1,2 +1,4 @@
 mod Digits
+mod Finds
+mod HexDigits
 mod Splits

@@ -1,2 +1,3 @@
+pub mod HexDigits
 pub mod Lines
 pub mod Values

@@ -18,7 +18,7 @@ pub fn split_line(text: &[u8]) -> Option<(&[u8], &[u8])>
 fn newline_in(text: &[u8]) -> Option<usize>
     ensures { result ≡ position is_newline text.now }
 {
-    text.iter().position(|byte| *byte == b'\n')
+    memchr::memchr(b'\n', text)
 }
 
 fn is_blank(byte: u8) -> bool
@@ -30,7 +30,7 @@ fn is_blank(byte: u8) -> bool
 fn blank_in(line: &[u8]) -> Option<usize>
     ensures { result ≡ position is_blank line.now }
 {
-    line.iter().position(|byte| is_blank(*byte))
+    memchr::memchr3(b' ', b'\t', b'\r', line)
 }
 
 fn word_in(line: &[u8]) -> Option<usize>
