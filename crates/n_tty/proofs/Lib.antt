@@ -1,4 +1,5 @@
 pub mod BoundLemmas
+pub mod EchoLemmas
 pub mod ErasedLemmas
 pub mod FitsLemmas
 pub mod KillLemmas

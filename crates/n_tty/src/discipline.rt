@@ -1,4 +1,4 @@
-ghost use Rattle.std.specs.Prelude.{◌≡◌, ◌+◌, ◌-◌, ◌*◌, ◌<◌, ◌≤◌, ◌^◌, IfOk, true, not, ◌&&◌, ◌++◌, length, take, nat_lt, if◌then◌else◌};
+ghost use Rattle.std.specs.Prelude.{◌≡◌, ◌↔◌, IsTrue, ◌+◌, ◌-◌, ◌*◌, ◌<◌, ◌≤◌, ◌^◌, IfOk, true, not, ◌&&◌, ◌++◌, length, take, nat_lt, if◌then◌else◌};
 ghost use Rattle.tty_modes.specs.Settings.{has_flag};
 ghost use Rattle.tty_modes.specs.declared.places.TheConstants.{ICANON};
 ghost use Rattle.line_store.specs.Unread.{end_count};
@@ -16,7 +16,7 @@ ghost use Rattle.n_tty.specs.Writing.{piece_size, piece_text, after_write};
 
 use crate::erasing::echo_erased;
 use crate::flow::apply_ixoff_rule;
-use crate::posting::{echo_bytes, fits_any, post_fitting};
+use crate::posting::{echo_byte, echo_bytes, fits_any, post_fitting};
 use crate::roles::{Role, is_character, mapped_byte, role_of, signal_of};
 use crate::storing::{MOST_LINE, add_all, end_with, end_with_eof, push_all, start_of};
 use echo_out::{EchoEvent, EraseKind, echo};
@@ -29,7 +29,7 @@ use std::marker::Model;
 use tty_base::{Bytes, Flag, Flagged, Moves, NoMemory, Signal};
 use tty_modes::Modes;
 use tty_modes::places::{
-    BRKINT, ICANON, IGNBRK, IGNPAR, INPCK, ISTRIP, IUTF8, IXANY, IXON, NOFLSH, PARMRK, VMIN,
+    BRKINT, ECHO, ICANON, IGNBRK, IGNPAR, INPCK, ISTRIP, IUTF8, IXANY, IXON, NOFLSH, PARMRK, VMIN,
     VSTART, VSTOP, VTIME,
 };
 
@@ -460,7 +460,7 @@ impl NTty {
         } else {
             self.store_bytes([b].as_slice(), now, modes, tally);
         }
-        self.echo(EchoEvent::Plain(b), modes, wire, tally);
+        self.echo_shown(b, modes, wire, tally);
     }
 
     /// Ends the line with its delimiter, and echoes it.
@@ -588,6 +588,23 @@ impl NTty {
         }
     }
 
+    /// Posts the echo of a byte that is shown.
+    fn echo_shown(&mut self, b: u8, modes: &Modes, wire: &mut Wire, tally: &mut Tally)
+        requires room { 24 ≤ wire.old.spare }
+        requires column { self.old.column < 2 ^ 62 }
+        ensures after { on_port self.new wire.new tally.new
+            ≡ with_echo modes.now (EchoEvent.Plain b) (on_port self.old wire.old tally.old) }
+    {
+        if !modes.has(ECHO) {
+            return;
+        }
+        if is_printed(b) {
+            echo_byte(&mut self.out, b, modes, wire, tally);
+            return;
+        }
+        self.echo(EchoEvent::Plain(b), modes, wire, tally);
+    }
+
     /// Posts the echo of an event.
     fn echo(&mut self, event: EchoEvent, modes: &Modes, wire: &mut Wire, tally: &mut Tally)
         requires event { FitsEcho event }
@@ -611,6 +628,13 @@ fn modes_leave(old: &Modes, new: &Modes) -> bool
     ensures { result ≡ (has_flag old.now ICANON && not (has_flag new.now ICANON)) }
 {
     old.has(ICANON) && !new.has(ICANON)
+}
+
+/// Whether a byte is shown as itself under all modes.
+fn is_printed(b: u8) -> bool
+    ensures { IsTrue result ↔ ((32 ≤ b) × (b ≤ 126)) }
+{
+    b' ' <= b && b <= b'~'
 }
 
 /// The bytes that one piece of a write takes at most.

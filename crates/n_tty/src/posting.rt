@@ -1,6 +1,7 @@
 //! Posting bytes: output processing at the column, and echo that is posted whole or dropped whole.
 
 ghost use Rattle.std.specs.Prelude.{◌≡◌, ◌+◌, ◌*◌, ◌<◌, ◌≤◌, ◌^◌, ℕ, List, true, length, nat_lt, take};
+ghost use Rattle.opost_out.specs.Posted.{posted_bytes};
 ghost use Rattle.flow_control.specs.Output.{has_room, after_send, after_try};
 ghost use Rattle.n_tty.specs.Posting.{column_past_text, column_after_try, all_posted_bytes, tally_after_try};
 ghost use Rattle.n_tty.specs.Writing.{fitting_count};
@@ -95,4 +96,21 @@ pub fn echo_bytes(out: &mut Out, echo: &[u8], modes: &Modes, wire: &mut Wire, ta
     } else {
         tally.count(Counter::Echo, count as u64);
     }
+}
+
+/// Posts an echo of one byte, or where what is posted for it does not fit counts that.
+pub fn echo_byte(out: &mut Out, byte: u8, modes: &Modes, wire: &mut Wire, tally: &mut Tally)
+    requires column { out.old < 2 ^ 62 + 2 ^ 32 }
+    requires spare { 8 ≤ wire.old.spare }
+    ensures column { out.new ≡ column_after_try modes.now wire.old out.old (posted_bytes modes.now out.old byte) }
+    ensures wire { wire.new ≡ after_try wire.old (posted_bytes modes.now out.old byte) }
+    ensures tally { tally.new ≡ tally_after_try wire.old (posted_bytes modes.now out.old byte) tally.old }
+{
+    let mut ahead = *out;
+    let piece = ahead.post(byte, modes);
+    if wire.send(piece.as_slice()) {
+        *out = ahead;
+        return;
+    }
+    tally.count(Counter::Echo, piece.len() as u64);
 }

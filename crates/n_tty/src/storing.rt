@@ -15,6 +15,10 @@ pub fn push_all(store: &mut Store, bytes: &[u8])
     requires { length (bytes_of store.old) + length bytes.now ≤ 4096 }
     ensures { store.new ≡ store.old ++ map Byte bytes.now }
 {
+    if let [byte] = bytes {
+        store.push(*byte);
+        return;
+    }
     for byte in bytes {
         store.push(*byte);
     }
@@ -36,6 +40,10 @@ pub fn add_all(edit: &mut Edit, bytes: &[u8])
     requires { length edit.old + length bytes.now ≤ 4095 }
     ensures { edit.new ≡ edit.old ++ bytes.now }
 {
+    if let [byte] = bytes {
+        let _joined = edit.add(*byte);
+        return;
+    }
     for byte in bytes {
         let _added = edit.add(*byte);
     }
