@@ -249,6 +249,13 @@ fn hold(held: &mut Vec<u8>, bytes: &[u8])
     ensures items { held.new.items ≡ held.old.items ++ bytes.now }
     ensures capacity { vec_capacity held.old ≤ vec_capacity held.new }
 {
+    if let [byte] = bytes {
+        match held.push(*byte) {
+            Ok(()) => {}
+            Err(_) => unreachable!(),
+        }
+        return;
+    }
     match held.extend_from_slice(bytes) {
         Ok(()) => {}
         Err(_) => unreachable!(),
