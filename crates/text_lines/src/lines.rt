@@ -1,6 +1,9 @@
 ghost use Rattle.std.specs.Prelude.{◌≡◌, ◌<◌, [], ◌∷◌, position, not, length, slice_index_or, MatchOption};
 ghost use Rattle.text_lines.specs.Lines.{is_newline, is_blank, first_is, lines_of, words_of};
 
+/// From this length on a line is searched by vectors.
+const LONG: usize = 64;
+
 /// The first line of a text, and what follows it; `None` where the text is empty.
 pub fn split_line(text: &[u8]) -> Option<(&[u8], &[u8])>
     ensures lines { MatchOption result (lines_of text.now ≡ []) (λ parts. lines_of text.now ≡ parts.0.now ∷ lines_of parts.1.now) }
@@ -30,7 +33,17 @@ fn is_blank(byte: u8) -> bool
 fn blank_in(line: &[u8]) -> Option<usize>
     ensures { result ≡ position is_blank line.now }
 {
+    if line.len() < LONG {
+        return blank_near(line);
+    }
     memchr::memchr3(b' ', b'\t', b'\r', line)
+}
+
+/// The same of a short line, byte by byte.
+fn blank_near(line: &[u8]) -> Option<usize>
+    ensures { result ≡ position is_blank line.now }
+{
+    line.iter().position(|byte| is_blank(*byte))
 }
 
 fn word_in(line: &[u8]) -> Option<usize>
