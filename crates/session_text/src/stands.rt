@@ -7,6 +7,7 @@ ghost use Rattle.session_text.specs.Views.{stand_of, key_of};
 use super::faults::Reason;
 use super::kinds::{fault_in, may_have};
 use super::verbs::{CallVerb, LineVerb, Verb, verb_of};
+use super::words::is_same;
 use arrayvec::ArrayString;
 use std::alloc::Global;
 use text_lines::{count_words, name_of, number_at, word_at};
@@ -135,7 +136,9 @@ impl Stand {
     fn judge_first(&self, word: &[u8], arguments: &[u8]) -> Result<Verb, Reason>
         ensures { result ≡ first_verdict (stand_of self.now) word.now (words_of arguments.now) }
     {
-        if word == b"tty-session".as_slice() && is_good(self.ports, Verb::Session, arguments) {
+        if is_same(word, b"tty-session".as_slice())
+            && is_good(self.ports, Verb::Session, arguments)
+        {
             Ok(Verb::Session)
         } else {
             Err(Reason::Header)

@@ -1,18 +1,28 @@
-ghost use Rattle.std.specs.Prelude.{◌≡◌};
+ghost use Rattle.std.specs.Prelude.{◌≡◌, bytes_eq};
 ghost use Rattle.tty_modes.specs.Reading.{word_of};
 ghost use Rattle.session_text.specs.Kinds.{access_of, when_of, queue_of, act_of, is_nonblock};
 
 use tty_calls::{Access, Act, Queue, When};
 use tty_modes::{Word, set_word_bytes};
 
+/// Whether a word is this text. Most words differ from it in length, which costs no call.
+pub(crate) fn is_same(word: &[u8], text: &[u8]) -> bool
+    ensures { result ≡ bytes_eq word.now text.now }
+{
+    if word.len() != text.len() {
+        return false;
+    }
+    word == text
+}
+
 pub(crate) fn access_of(word: &[u8]) -> Option<Access>
     ensures { result ≡ access_of word.now }
 {
-    if word == b"r".as_slice() {
+    if is_same(word, b"r".as_slice()) {
         Some(Access::R)
-    } else if word == b"w".as_slice() {
+    } else if is_same(word, b"w".as_slice()) {
         Some(Access::W)
-    } else if word == b"rw".as_slice() {
+    } else if is_same(word, b"rw".as_slice()) {
         Some(Access::Rw)
     } else {
         None
@@ -22,11 +32,11 @@ pub(crate) fn access_of(word: &[u8]) -> Option<Access>
 pub(crate) fn when_of(word: &[u8]) -> Option<When>
     ensures { result ≡ when_of word.now }
 {
-    if word == b"now".as_slice() {
+    if is_same(word, b"now".as_slice()) {
         Some(When::Now)
-    } else if word == b"drain".as_slice() {
+    } else if is_same(word, b"drain".as_slice()) {
         Some(When::Drain)
-    } else if word == b"flush".as_slice() {
+    } else if is_same(word, b"flush".as_slice()) {
         Some(When::Flush)
     } else {
         None
@@ -36,11 +46,11 @@ pub(crate) fn when_of(word: &[u8]) -> Option<When>
 pub(crate) fn queue_of(word: &[u8]) -> Option<Queue>
     ensures { result ≡ queue_of word.now }
 {
-    if word == b"in".as_slice() {
+    if is_same(word, b"in".as_slice()) {
         Some(Queue::Input)
-    } else if word == b"out".as_slice() {
+    } else if is_same(word, b"out".as_slice()) {
         Some(Queue::Output)
-    } else if word == b"both".as_slice() {
+    } else if is_same(word, b"both".as_slice()) {
         Some(Queue::Both)
     } else {
         None
@@ -50,13 +60,13 @@ pub(crate) fn queue_of(word: &[u8]) -> Option<Queue>
 pub(crate) fn act_of(word: &[u8]) -> Option<Act>
     ensures { result ≡ act_of word.now }
 {
-    if word == b"ooff".as_slice() {
+    if is_same(word, b"ooff".as_slice()) {
         Some(Act::Ooff)
-    } else if word == b"oon".as_slice() {
+    } else if is_same(word, b"oon".as_slice()) {
         Some(Act::Oon)
-    } else if word == b"ioff".as_slice() {
+    } else if is_same(word, b"ioff".as_slice()) {
         Some(Act::Ioff)
-    } else if word == b"ion".as_slice() {
+    } else if is_same(word, b"ion".as_slice()) {
         Some(Act::Ion)
     } else {
         None
@@ -66,7 +76,7 @@ pub(crate) fn act_of(word: &[u8]) -> Option<Act>
 pub(crate) fn is_nonblock(word: &[u8]) -> bool
     ensures { result ≡ is_nonblock word.now }
 {
-    word == b"nonblock".as_slice()
+    is_same(word, b"nonblock".as_slice())
 }
 
 /// The mode word that a word is.
