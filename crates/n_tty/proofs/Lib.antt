@@ -5,6 +5,7 @@ pub mod FitsLemmas
 pub mod KillLemmas
 pub mod PostingLemmas
 pub mod RoomLemmas
+pub mod RunLemmas
 pub mod StoringLemmas
 pub mod WithoutRoom
 pub mod WritingLemmas

@@ -1,6 +1,6 @@
 //! Posting bytes: output processing at the column, and echo that is posted whole or dropped whole.
 
-ghost use Rattle.std.specs.Prelude.{◌≡◌, ◌+◌, ◌*◌, ◌<◌, ◌≤◌, ◌^◌, ℕ, List, true, length, nat_lt, take};
+ghost use Rattle.std.specs.Prelude.{◌≡◌, ◌+◌, ◌*◌, ◌<◌, ◌≤◌, ◌^◌, ℕ, List, true, length, nat_lt, slice_index, take, drop};
 ghost use Rattle.opost_out.specs.Posted.{posted_bytes};
 ghost use Rattle.flow_control.specs.Output.{has_room, after_send, after_try};
 ghost use Rattle.n_tty.specs.Posting.{column_past_text, column_after_try, all_posted_bytes, tally_after_try};
@@ -35,13 +35,74 @@ pub fn post_fitting(out: &mut Out, bytes: &[u8], modes: &Modes, wire: &mut Wire)
     ensures wire { wire.new ≡ after_send wire.old (all_posted_bytes modes.now out.old (take result bytes.now)) }
 {
     let mut count = 0;
-    for byte in bytes {
-        let mut ahead = *out;
-        let piece = ahead.post(*byte, modes);
-        if !wire.send(piece.as_slice()) {
+    while count < bytes.len() {
+        let taken = post_run(out, rest_of(bytes, count), modes, wire);
+        if taken == 0 {
             return count;
         }
-        *out = ahead;
+        count += taken;
+    }
+    count
+}
+
+/// The bytes after so many.
+fn rest_of(bytes: &[u8], count: usize) -> &[u8]
+    requires { count ≤ length bytes.now }
+    ensures { result.now ≡ drop count bytes.now }
+{
+    &bytes[count..]
+}
+
+/// The first bytes, so many.
+fn front_of(bytes: &[u8], count: usize) -> &[u8]
+    requires { count ≤ length bytes.now }
+    ensures { result.now ≡ take count bytes.now }
+{
+    &bytes[..count]
+}
+
+/// Posts the bytes from blank to tilde at the front, where all of them fit, or else the first byte, where
+/// that fits. Answers how many it posted.
+fn post_run(out: &mut Out, bytes: &[u8], modes: &Modes, wire: &mut Wire) -> usize
+    requires column { out.old < 2 ^ 62 + 2 ^ 33 }
+    requires some { 0 < length bytes.now }
+    requires short { length bytes.now ≤ 64 }
+    requires spare { 8 * length bytes.now ≤ wire.old.spare }
+    ensures within { result ≤ length bytes.now }
+    ensures none { result ≡ 0 → fitting_count modes.now out.old wire.old bytes.now ≡ 0 }
+    ensures same { result ≡ 0 → (out.new ≡ out.old) × (wire.new ≡ wire.old) }
+    ensures fitting { 0 < result → fitting_count modes.now out.old wire.old bytes.now ≡ result + fitting_count modes.now out.new wire.new (drop result bytes.now) }
+    ensures column { 0 < result → out.new ≡ column_past_text modes.now out.old (all_posted_bytes modes.now out.old (take result bytes.now)) }
+    ensures wire { 0 < result → wire.new ≡ after_send wire.old (all_posted_bytes modes.now out.old (take result bytes.now)) }
+    ensures spent { wire.old.spare ≤ wire.new.spare + 8 * result }
+    ensures moved { out.new ≤ out.old + 64 * result }
+{
+    let plain = plain_len(bytes);
+    if plain > 0 && has_room(plain, wire) {
+        let _sent = wire.send(front_of(bytes, plain));
+        out.pass(plain);
+        return plain;
+    }
+    let byte = bytes[0];
+    let mut ahead = *out;
+    let piece = ahead.post(byte, modes);
+    if !wire.send(piece.as_slice()) {
+        return 0;
+    }
+    *out = ahead;
+    1
+}
+
+/// How many bytes from blank to tilde stand at the front.
+fn plain_len(bytes: &[u8]) -> usize
+    ensures within { result ≤ length bytes.now }
+    ensures plain { (k : ℕ) → k < result → (32 ≤ slice_index bytes.now k) × (slice_index bytes.now k ≤ 126) }
+{
+    let mut count = 0;
+    for byte in bytes {
+        if *byte < b' ' || *byte > b'~' {
+            return count;
+        }
         count += 1;
     }
     count

@@ -60,6 +60,14 @@ impl Out {
         piece
     }
 
+    /// Moves the column over so many bytes that take one column each.
+    pub fn pass(&mut self, count: usize)
+        requires { self.old + count < 2 ^ 64 }
+        ensures { self.new ≡ self.old + count }
+    {
+        self.column += count as u64;
+    }
+
     /// The bytes that `post` would give. Nothing changes.
     pub fn would(&self, b: u8, modes: &Modes) -> Piece
         ensures { result ≡ posted_bytes modes.now self.now b }

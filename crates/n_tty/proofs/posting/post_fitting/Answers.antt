@@ -1,30 +1,38 @@
-use Rattle.std.proofs.Common.{◌≡◌, ◌+◌, ◌++◌, true, take, ap, sym, ◌∙◌, arith}
-use Rattle.flow_control.specs.Output.{has_room, after_send, after_try}
+use Rattle.std.proofs.Common.{◌≡◌, ℕ, ◌+◌, ◌<◌, ◌++◌, List, length, take, drop, ap, sym, ◌∙◌, arith, length-drop, drop-drop, take-add}
+use Rattle.flow_control.specs.Output.{after_send}
 use Rattle.n_tty.specs.Posting.{column_past_text, all_posted_bytes}
-use Rattle.n_tty.proofs.PostingLemmas.{after_send-append, after_send-spare, column_past_text-append, column_past_text-le, after_try-fits}
-use Rattle.n_tty.proofs.WritingLemmas.{all_posted_bytes-next, fitting_count-more}
+use Rattle.n_tty.specs.Writing.{fitting_count}
+use Rattle.n_tty.proofs.PostingLemmas.{after_send-append, column_past_text-append}
+use Rattle.n_tty.proofs.WritingLemmas.{all_posted_bytes-append}
 use Rattle.n_tty.proofs.posting.post_fitting.Goals as goal
 
-pub loop-byte-preserved : goal.loop-byte-preserved
-loop-byte-preserved c =
+pub loop-count-preserved : goal.loop-count-preserved
+loop-count-preserved c =
     let modes = c.args.modes.now in
     let bytes = c.args.bytes.now in
-    let i = c.loop-byte.byte-index in
-    let column = c.loop-byte.out in
-    let wire = c.loop-byte.wire in
-    let piece = c.post-piece.result in
-    let text = all_posted_bytes modes c.args.out.now (take i bytes) in
-    let more : all_posted_bytes modes c.args.out.now (take (i + 1) bytes) ≡ text ++ piece =
-    all_posted_bytes-next modes c.args.out.now column bytes piece i c.loop-byte-test.true c.loop-byte.invariant.column c.post-piece.ensures.piece in
-    let fits : has_room wire piece ≡ true =
-    ap (has_room wire) (sym c.as_slice.ensures.bytes) ∙ sym c.send.ensures.room ∙ c.if-not-send.false in
-    let left : c.send.new.self ≡ after_send wire piece =
-    c.send.ensures.sent ∙ ap (after_try wire) c.as_slice.ensures.bytes ∙ after_try-fits wire piece fits in
+    let first = c.args.out.now in
+    let i = c.loop-count.count in
+    let column = c.loop-count.out in
+    let wire = c.loop-count.wire in
+    let n = c.post_run-taken.result in
+    let later = c.post_run-taken.new.out in
+    let sent = c.post_run-taken.new.wire in
+    let took = c.post_run-taken.ensures in
+    let so_far = c.loop-count.invariant in
+    let rest = c.rest_of.result.now in
+    let some : 0 < n = omega (arith, c.if-taken-eq0.false) in
+    let text : List ℕ = all_posted_bytes modes first (take i bytes) in
+    let piece : List ℕ = all_posted_bytes modes column (take n rest) in
+    let more : all_posted_bytes modes first (take (i + n) bytes) ≡ text ++ piece =
+    ap (all_posted_bytes modes first) (take-add i n bytes)
+    ∙ all_posted_bytes-append modes first (take i bytes) (take n (drop i bytes))
+    ∙ (λ j. text ++ all_posted_bytes modes (sym so_far.column j) (take n (sym c.rest_of.ensures j))) in
+    let left : drop n rest ≡ drop (i + n) bytes = ap (drop n) c.rest_of.ensures ∙ drop-drop n i bytes in
     record {
-      all = omega (arith, c.loop-byte.invariant.all);
-      count = omega (arith, c.loop-byte.invariant.count, fitting_count-more modes column c.post-piece.new.self wire c.send.new.self bytes piece i c.loop-byte-test.true c.post-piece.ensures.piece fits c.post-piece.ensures.column left);
-      column = c.post-piece.ensures.column ∙ ap (λ k. column_past_text modes k piece) c.loop-byte.invariant.column ∙ sym (column_past_text-append modes c.args.out.now text piece) ∙ ap (column_past_text modes c.args.out.now) (sym more);
-      wire = left ∙ ap (λ o. after_send o piece) c.loop-byte.invariant.wire ∙ sym (after_send-append c.args.wire.now text piece) ∙ ap (after_send c.args.wire.now) (sym more);
-      spare = omega (arith, ap (λ o. o.spare) left, after_send-spare wire piece, c.as_slice.ensures.short, c.loop-byte.invariant.spare);
-      bound = omega (arith, c.post-piece.ensures.column, column_past_text-le modes column piece, c.as_slice.ensures.short, c.loop-byte.invariant.bound);
+      within = omega (arith, took.within, ap length c.rest_of.ensures, length-drop i bytes, so_far.within);
+      count = omega (arith, so_far.count, took.fitting some, ap (fitting_count modes column wire) c.rest_of.ensures, ap (fitting_count modes later sent) left);
+      column = took.column some ∙ ap (λ k. column_past_text modes k piece) so_far.column ∙ sym (column_past_text-append modes first text piece) ∙ ap (column_past_text modes first) (sym more);
+      wire = took.wire some ∙ ap (λ o. after_send o piece) so_far.wire ∙ sym (after_send-append c.args.wire.now text piece) ∙ ap (after_send c.args.wire.now) (sym more);
+      spare = omega (arith, so_far.spare, took.spent);
+      bound = omega (arith, so_far.bound, took.moved);
     }
