@@ -1,4 +1,4 @@
-ghost use Rattle.std.specs.Prelude.{◌≡◌, ◌↔◌, IsTrue, ◌+◌, ◌-◌, ◌*◌, ◌<◌, ◌≤◌, ◌^◌, IfOk, true, not, ◌&&◌, ◌++◌, length, take, nat_lt, if◌then◌else◌};
+ghost use Rattle.std.specs.Prelude.{◌≡◌, ◌↔◌, IsTrue, ◌+◌, ◌-◌, ◌*◌, ◌<◌, ◌≤◌, ◌^◌, IfOk, true, not, ◌&&◌, ◌++◌, [], ◌∷◌, length, take, nat_lt, if◌then◌else◌};
 ghost use Rattle.tty_modes.specs.Settings.{has_flag};
 ghost use Rattle.tty_modes.specs.declared.places.TheConstants.{ICANON};
 ghost use Rattle.line_store.specs.Unread.{end_count};
@@ -458,7 +458,7 @@ impl NTty {
         if modes.has(PARMRK) && !modes.has(ISTRIP) && b == MARK {
             self.store_bytes([MARK, MARK].as_slice(), now, modes, tally);
         } else {
-            self.store_bytes([b].as_slice(), now, modes, tally);
+            self.store_byte(b, now, modes, tally);
         }
         self.echo_shown(b, modes, wire, tally);
     }
@@ -567,6 +567,26 @@ impl NTty {
         } else if self.edit.bytes().len() + bytes.len() <= MOST_LINE {
             self.start = start_of(&self.edit, self.start, self.out.column());
             add_all(&mut self.edit, bytes);
+            self.last = now;
+        } else {
+            tally.count(Counter::Cut, 1);
+        }
+    }
+
+    /// Stores the one byte of a character.
+    fn store_byte(&mut self, b: u8, now: u64, modes: &Modes, tally: &mut Tally)
+        requires accepting { is_accepting modes.now self.old ≡ true }
+        requires fitting { FitsModes modes.now self.old }
+        ensures after { (output : Output) → on_port self.new output tally.new
+            ≡ after_store modes.now now (b ∷ []) (on_port self.old output tally.old) }
+        ensures column { self.new.column ≡ self.old.column }
+    {
+        if !modes.has(ICANON) {
+            self.store.push(b);
+            self.last = now;
+        } else if self.edit.bytes().len() < MOST_LINE {
+            self.start = start_of(&self.edit, self.start, self.out.column());
+            add_all(&mut self.edit, [b].as_slice());
             self.last = now;
         } else {
             tally.count(Counter::Cut, 1);
