@@ -81,7 +81,7 @@ no_going caller_ended sent ticks passed is = absurd (false≢true is)
 no_going phase_ended sent ticks passed is = absurd (false≢true is)
 no_going (hung_up dropped) sent ticks passed is = refl
 
-quiet_phase : (event : PlainEvent) (k : ℕ) → session_events event ≡ [] → phase_after event k ≡ k
+pub quiet_phase : (event : PlainEvent) (k : ℕ) → session_events event ≡ [] → phase_after event k ≡ k
 quiet_phase (answered a dropped) k none = refl
 quiet_phase (parted n) k none = refl
 quiet_phase waited k none = refl
@@ -95,11 +95,11 @@ quiet_phase (hung_up dropped) k none = refl
 
 -- ---- parts of a journal
 
-nothing_first : {X : Type 0} (xs ys : List X) → xs ++ ys ≡ [] → xs ≡ []
+pub nothing_first : {X : Type 0} (xs ys : List X) → xs ++ ys ≡ [] → xs ≡ []
 nothing_first [] ys e = refl
 nothing_first (x ∷ xs) ys e = cc
 
-nothing_rest : {X : Type 0} (xs ys : List X) → xs ++ ys ≡ [] → ys ≡ []
+pub nothing_rest : {X : Type 0} (xs ys : List X) → xs ++ ys ≡ [] → ys ≡ []
 nothing_rest [] ys e = e
 nothing_rest (x ∷ xs) ys e = cc
 
@@ -134,11 +134,11 @@ part_past (x ∷ sofar) (y ∷ part) es rest last none end same =
 -- ---- where the callers stand in a phase
 
 -- a caller of the phase has made some of its calls, and all of them where it is over; another has made none
-abbrev Plays : Bool → (first count next : ℕ) → Bool → Type 0
+abbrev pub Plays : Bool → (first count next : ℕ) → Bool → Type 0
 Plays true first count next over = (first ≤ next) × (next ≤ first + count) × (over ≡ true → next ≡ first + count)
 Plays false first count next over = (next ≡ first) × (over ≡ false)
 
-who_is : (w : Who) (c : ℕ) → is_caller w c ≡ true → w ≡ who.Caller c
+pub who_is : (w : Who) (c : ℕ) → is_caller w c ≡ true → w ≡ who.Caller c
 who_is (who.Caller d) c is = ap (λ (n : ℕ). who.Caller n) (eqb-true d c is)
 who_is who.Flusher c is = absurd (false≢true is)
 who_is who.Line c is = absurd (false≢true is)
@@ -177,7 +177,7 @@ own_plays caller_ended step generation first count s h own calls end =
 own_plays phase_ended step generation first count s h own calls end = h
 own_plays (hung_up dropped) step generation first count s h own calls end = h
 
-other_stays : (event : PlainEvent) (s : Standing) → session_events event ≡ [] → standing_after_other event s ≡ s
+pub other_stays : (event : PlainEvent) (s : Standing) → session_events event ≡ [] → standing_after_other event s ≡ s
 other_stays (answered a dropped) s none = refl
 other_stays (parted n) s none = refl
 other_stays waited s none = refl
@@ -189,7 +189,7 @@ other_stays caller_ended s none = refl
 other_stays phase_ended s none = cc
 other_stays (hung_up dropped) s none = refl
 
-abbrev PlaysAt : ℕ → PlainSession → ℕ → Terminal → ℕ → Type 0
+abbrev pub PlaysAt : ℕ → PlainSession → ℕ → Terminal → ℕ → Type 0
 PlaysAt p session k t c = Plays (has_script (scripts_on p (phase_at session k)) (name_at p session c)) (first_step p session k c) (steps_in p session k c) (caller_at t c).next (caller_at t c).over
 
 has_true : (b : Bool) (first count next : ℕ) (over : Bool) → b ≡ true → Plays b first count next over → Plays true first count next over
@@ -200,7 +200,7 @@ from_true : (b : Bool) (first count next : ℕ) (over : Bool) → b ≡ true →
 from_true true first count next over is h = h
 from_true false first count next over is h = absurd (false≢true is)
 
-plays_more : (p : ℕ) (session : PlainSession) (k : ℕ) (t : Terminal) (e : PlainEntry) (c : ℕ) → Allowed (call_at p session) (counts_on p session) t e → IsInPhase p session k e.who e.step e.event → session_events e.event ≡ [] → PlaysAt p session k t c → PlaysAt p session k (after (call_at p session) t e) c
+pub plays_more : (p : ℕ) (session : PlainSession) (k : ℕ) (t : Terminal) (e : PlainEntry) (c : ℕ) → Allowed (call_at p session) (counts_on p session) t e → IsInPhase p session k e.who e.step e.event → session_events e.event ≡ [] → PlaysAt p session k t c → PlaysAt p session k (after (call_at p session) t e) c
 plays_more p session k t e c allowed in_phase none h = either (is_caller e.who c) refl
   where
     f : ℕ → ℕ → Option PlainCall
@@ -302,7 +302,7 @@ midway_more p session overruns k passed t0 sofar t e h allowed in_phase none may
 
 -- ---- the end of a phase
 
-three_true : (a b c d : Bool) → (a && (b && (c && d))) ≡ true → (a ≡ true) × (b ≡ true) × (c ≡ true)
+pub three_true : (a b c d : Bool) → (a && (b && (c && d))) ≡ true → (a ≡ true) × (b ≡ true) × (c ≡ true)
 three_true true true true d h = (refl, refl, refl)
 three_true true true false d h = absurd (false≢true h)
 three_true true false c d h = absurd (false≢true h)
@@ -325,29 +325,36 @@ named_within p session k c n many is = elim (cases_lt c (length (names_of (scrip
   | inr past ↦ absurd (false≢true (sym (ap (λ name. has_script (scripts_on p (phase_at session k)) name) (slice_get_past (names_of (scripts_over p session.phases)) c past)) ∙ is))
 ]
 
-completes : (p : ℕ) (session : PlainSession) (overruns : List Overrun) (k passed : ℕ) (t0 : Terminal) (sofar : List PlainEntry) (t : Terminal) → Midway p session overruns k passed t0 sofar t → may_end (counts_on p session) t ≡ true → CompletesPhase p session overruns k t0 t
-completes p session overruns k passed t0 sofar t h may =
+-- where the phase may end, each of its callers has made its calls, and is over
+pub callers_complete : (p : ℕ) (session : PlainSession) (k : ℕ) (t : Terminal) → k < length session.phases → t.phase ≡ k → length (names_of (scripts_over p session.phases)) ≤ length t.callers → ((c : ℕ) → PlaysAt p session k t c) → may_end (counts_on p session) t ≡ true
+    → (c : ℕ) → HasPlayed (has_script (scripts_on p (phase_at session k)) (name_at p session c)) (first_step p session k c) (steps_in p session k c) (caller_at t c).next (caller_at t c).over
+callers_complete p session k t lt phase many plays may c =
     let scripts = scripts_on p (phase_at session k) in
     let parts = three_true t.line_over t.clock_over (nat_le (callers_in (counts_on p session) t.phase) (count_by is_over t.callers)) (nothing_to_flush t) may in
     let count : callers_in (counts_on p session) t.phase ≡ length scripts =
-    ap (callers_in (counts_on p session)) h.phase ∙ get_or-map (λ (phase : PlainPhase). length (scripts_on p phase)) session.phases k (record { lines = []; ticks = []; callers = [] }) 0 h.lt in
-    let many : length scripts ≤ count_by is_over t.callers = omega (arith, le_true (callers_in (counts_on p session) t.phase) (count_by is_over t.callers) parts.2, count) in
+    ap (callers_in (counts_on p session)) phase ∙ get_or-map (λ (phase : PlainPhase). length (scripts_on p phase)) session.phases k (record { lines = []; ticks = []; callers = [] }) 0 lt in
+    let all : length scripts ≤ count_by is_over t.callers = omega (arith, le_true (callers_in (counts_on p session) t.phase) (count_by is_over t.callers) parts.2, count) in
+    played (has_script scripts (name_at p session c)) _ _ _ _ (plays c) (λ is.
+    all_over (names_of (scripts_over p session.phases)) scripts t.callers c (all_distinct (scripts_over p session.phases))
+    (λ d over. over_has (has_script scripts (name_at p session d)) _ _ _ _ (plays d) over) all (named_within p session k c (length t.callers) many is) is)
+
+completes : (p : ℕ) (session : PlainSession) (overruns : List Overrun) (k passed : ℕ) (t0 : Terminal) (sofar : List PlainEntry) (t : Terminal) → Midway p session overruns k passed t0 sofar t → may_end (counts_on p session) t ≡ true → CompletesPhase p session overruns k t0 t
+completes p session overruns k passed t0 sofar t h may =
+    let parts = three_true t.line_over t.clock_over (nat_le (callers_in (counts_on p session) t.phase) (count_by is_over t.callers)) (nothing_to_flush t) may in
     record {
       line = parts.0;
       sent = h.line parts.0;
       clock = parts.1;
       tick = omega (arith, h.passes, h.clock parts.1);
       first = h.first;
-      callers = λ c. played (has_script scripts (name_at p session c)) _ _ _ _ (h.callers c) (λ is.
-          all_over (names_of (scripts_over p session.phases)) scripts t.callers c (all_distinct (scripts_over p session.phases))
-          (λ d over. over_has (has_script scripts (name_at p session d)) _ _ _ _ (h.callers d) over) many (named_within p session k c (length t.callers) h.many is) is);
+      callers = callers_complete p session k t h.lt h.phase h.many h.callers may;
     }
 
-played_next : (p : ℕ) (session : PlainSession) (k c next : ℕ) (over : Bool) (b : Bool) → k < length session.phases → has_script (scripts_on p (phase_at session k)) (name_at p session c) ≡ b → HasPlayed b (first_step p session k c) (steps_in p session k c) next over → next ≡ first_step p session (k + 1) c
+pub played_next : (p : ℕ) (session : PlainSession) (k c next : ℕ) (over : Bool) (b : Bool) → k < length session.phases → has_script (scripts_on p (phase_at session k)) (name_at p session c) ≡ b → HasPlayed b (first_step p session k c) (steps_in p session k c) next over → next ≡ first_step p session (k + 1) c
 played_next p session k c next over true lt is h = h.0 ∙ sym (first_next p session k c lt)
 played_next p session k c next over false lt is h = h.0 ∙ sym (first_stays p session k c lt is)
 
-plays_first : (b : Bool) (first count next : ℕ) (over : Bool) → next ≡ first → over ≡ false → Plays b first count next over
+pub plays_first : (b : Bool) (first count next : ℕ) (over : Bool) → next ≡ first → over ≡ false → Plays b first count next over
 plays_first true first count next over at not = (omega (arith, at), omega (arith, at), λ is. absurd (false≢true (sym not ∙ is)))
 plays_first false first count next over at not = (at, not)
 

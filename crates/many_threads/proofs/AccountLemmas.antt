@@ -28,6 +28,7 @@ use Rattle.tty_port.proofs.Keeping.{by_another}
 use Rattle.many_threads.specs.Parts as parts
 use Rattle.many_threads.specs.Parts.{IsOfCalls, IsOfRole, MakesInRole}
 use Rattle.many_threads.specs.Crews.{MadeAs}
+use Rattle.many_threads.specs.Stations.{AreParts}
 
 -- ---- what a seat made
 
@@ -113,12 +114,6 @@ in_role s k c r x role number (inr h) =
 -- an entry of no caller
 by_no_caller : (s : Scene) (k : ℕ) (x : Stamped EntryWithCall) → is_of_call x.what.entry.event ≡ false → IsInPhase s.port s.session k x.what.entry.who x.what.entry.step x.what.entry.event → IsOfPhase s k x
 by_no_caller s k x none phase = record { has_call = λ of. absurd (false≢true (sym none ∙ of)); in_phase = phase }
-
--- the roles of all callers of the port in phase k, by number
-pub record AreParts (s : Scene) (k callers : ℕ) (rs : List (Option PlainRole)) : Type 0 where
-  pub count : length rs ≡ callers
-  pub roles : (c : ℕ) (r : PlainRole) → slice_get rs c ≡ Some (Some r) → IsRoleOf s k r × (r.number ≡ c)
-  pub all : (c : ℕ) → IsCallerOf s.port s.session k c → (r : PlainRole) × (slice_get rs c ≡ Some (Some r))
 
 -- what is known of the entries that were made: each of a caller's seat is of its role
 abbrev pub AllInRoles : List (Option PlainRole) → List (Stamped EntryWithCall) → Type 0

@@ -5,3 +5,8 @@ pub mod AccountLemmas
 pub mod LineAccount
 pub mod PortAccount
 pub mod LineEnds
+pub mod IdleLemmas
+pub mod PhaseAccount
+pub mod PhaseStart
+pub mod PhaseEnds
+pub mod Gathering

@@ -1,5 +1,5 @@
 -- What the threads of a phase did, from one step to the next.
-use Rattle.std.proofs.Common.{◌≡◌, ◌≢◌, ◌⊎◌, inl, inr, ℕ, ◌+◌, ◌<◌, ◌≤◌, List, [], ◌∷◌, ◌++◌, zero, suc, Bool, true, false, Option, Some, None, Result, Ok, Err, length, get_or, map, refl, sym, ◌∙◌, ap, subst, arith, append_assoc, append-nil, length-append}
+use Rattle.std.proofs.Common.{◌≡◌, ◌≢◌, ◌⊎◌, inl, inr, ℕ, ◌+◌, ◌<◌, ◌≤◌, List, [], ◌∷◌, ◌++◌, zero, suc, Bool, true, false, if◌then◌else◌, ne_eqb, Option, Some, None, Result, Ok, Err, length, get_or, map, refl, sym, ◌∙◌, ap, subst, arith, append_assoc, append-nil, length-append}
 use Rattle.std.specs.Prelude.{slice_get, All, OnErr, option_map, ◌^◌}
 use Rattle.std.proofs.lemmas.Option.{slice_get-map, slice_get_read, slice_get_within, get_or_from_slice_get}
 use Rattle.tty_calls.specs.declared.calls.Call.{Call}
@@ -28,13 +28,13 @@ use Rattle.tty_port.specs.Seen.{entries_in, marks_at, next_run, IsBetween}
 use Rattle.tty_port.specs.Placed.{IsPlaced, ArePlaced}
 use Rattle.tty_port.specs.Adding.{IsOf, IsEntry, IsOfStep}
 use Rattle.tty_port.specs.Calls.{PortSeat, IsPause, ArePauses, IsAnswered, Pauses}
-use Rattle.tty_port.specs.Flushing.{run_past}
+use Rattle.tty_port.specs.Flushing.{FlushesRun, run_past}
 use Rattle.tty_port.specs.Lines.{MakesOne, MakesNone, EndsLine}
 use Rattle.tty_port.proofs.Histories.{marks_append}
 use Rattle.tty_port.proofs.FlushSteps.{run_kept}
 use Rattle.tty_port.proofs.Keeping.{clock_kept, placed_right, by_another}
 use Rattle.many_threads.specs.Parts as parts
-use Rattle.many_threads.specs.Parts.{IsOfCalls, IsOfRole, MakesInRole, PlaysCaller, MakesTicks, StopsClock, PlaysClock, RunsLine, PlaysLine}
+use Rattle.many_threads.specs.Parts.{IsOfCalls, IsOfRole, MakesInRole, PlaysCaller, MakesTicks, StopsClock, PlaysClock, RunsLine, PlaysLine, RunMade, FlushesRuns}
 
 pub each_both : (P : Stamped EntryWithCall → Type 0) (xs ys : List (Stamped EntryWithCall)) → parts.Each P xs → parts.Each P ys → parts.Each P (xs ++ ys)
 each_both P [] ys h k = k
@@ -47,6 +47,10 @@ calls_length (x ∷ calls) = ap (λ n. suc n) (calls_length calls)
 pub where_err : {A E : Type 0} (r : Result A E) (P Q : Type 0) → (P → Q) → OnErr r P → OnErr r Q
 where_err (Ok x) P Q f h = tt
 where_err (Err d) P Q f h = f h
+
+pub where_any_err : {A E : Type 0} (r : Result A E) (P : Type 0) → P → OnErr r P
+where_any_err (Ok x) P h = tt
+where_any_err (Err d) P h = h
 
 -- ---- beginnings
 
@@ -279,3 +283,27 @@ pub run_goes_on : (m n run count : ℕ) (mid new : PortSeat) → number_of mid �
 run_goes_on m n run count mid new number next none look placed =
     let same : run_past run count ≡ run = ap (λ (k : ℕ). run_past run k) none in
     sym (run_kept m n (list_seen mid) (list_seen new) placed (subst (λ (k : ℕ). Keeps k (list_seen mid) (list_seen new)) number look.found) ∙ (next ∙ same))
+
+pub makes_same : (s : PortSeat) → MakesNone s s
+makes_same s = record { found = ([], sym (append-nil (list_seen s)), tt); own = refl }
+
+abbrev pub run_made : (number count : ℕ) → PortSeat → PortSeat → RunMade
+run_made number count before after = record { number = number; count = count; before = before; after = after }
+
+pub runs_more : (m run : ℕ) (start : PortSeat) (runs : List RunMade) (number count next : ℕ) (mid after new : PortSeat) → FlushesRuns m run start runs number mid → FlushesRun m number count mid after → next ≡ run_past number count → MakesNone after new
+    → FlushesRuns m run start (run_made number count mid after ∷ runs) next new
+runs_more m run start runs number count next mid after new h one numbered none = (h, one, numbered, none)
+
+pub same_number : (number count : ℕ) → count ≡ 0 → number ≡ run_past number count
+same_number number count none = sym (ap (λ (k : ℕ). run_past number k) none)
+
+pub next_number : (number next count : ℕ) → 0 < count → next ≡ number + 1 → next ≡ run_past number count
+next_number number next count some is =
+    let differs : count ≢ 0 = λ e. omega arith in
+    is ∙ sym (ap (λ (b : Bool). if b then number else number + 1) (ne_eqb count 0 differs))
+
+pub flusher_begins : (m run : ℕ) (start : PortSeat) (runs : List RunMade) (next : ℕ) (new : PortSeat) → FlushesRuns m run start runs next new → Begins (list_seen start) (list_seen new)
+flusher_begins m run start [] next new h = begins_kept (number_of start) (list_seen start) (list_seen new) h.1.found
+flusher_begins m run start (r ∷ runs) next new h =
+    begins_on (list_seen start) (list_seen r.before) (list_seen new) (flusher_begins m run start runs r.number r.before h.0)
+    (begins_on (list_seen r.before) (list_seen r.after) (list_seen new) h.1.begins (begins_kept (number_of r.after) (list_seen r.after) (list_seen new) h.3.found))

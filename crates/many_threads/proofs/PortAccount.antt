@@ -24,8 +24,8 @@ use Rattle.tty_port.specs.Placed.{ArePlaced, HasCall, HaveCalls, IsHistoryOf}
 use Rattle.tty_port.proofs.Histories.{entries_append}
 use Rattle.tty_port.proofs.Keeping.{placed_right}
 use Rattle.many_threads.specs.Parts as parts
-use Rattle.many_threads.specs.Stations.{IsOfSession}
-use Rattle.many_threads.proofs.AccountLemmas.{IsOfPhase, AreParts, AllInRoles, all_of_phase, calls_of_phase, none_of_session, phases_of_phase}
+use Rattle.many_threads.specs.Stations.{IsOfSession, AreParts}
+use Rattle.many_threads.proofs.AccountLemmas.{IsOfPhase, AllInRoles, all_of_phase, calls_of_phase, none_of_session, phases_of_phase}
 
 -- ---- calls
 
@@ -57,7 +57,7 @@ leads_same : (f : ℕ → ℕ → Option PlainCall) (counts : List ℕ) (t : Ter
 leads_same f counts t [] u v h k = h ∙ sym k
 leads_same f counts t (e ∷ es) u v h k = leads_same f counts (after f t e) es u v h.1 k.1
 
-leads_split : (f : ℕ → ℕ → Option PlainCall) (counts : List ℕ) (t : Terminal) (es fs : List PlainEntry) (u : Terminal) → Leads f counts t (es ++ fs) u → (m : Terminal) × Leads f counts t es m × Leads f counts m fs u
+pub leads_split : (f : ℕ → ℕ → Option PlainCall) (counts : List ℕ) (t : Terminal) (es fs : List PlainEntry) (u : Terminal) → Leads f counts t (es ++ fs) u → (m : Terminal) × Leads f counts t es m × Leads f counts m fs u
 leads_split f counts t [] fs u h = (t, refl, h)
 leads_split f counts t (e ∷ es) fs u h =
     let rest = leads_split f counts (after f t e) es fs u h.1 in
@@ -79,6 +79,7 @@ pub record IsPartOf (s : Scene) (v w : PortValue) (part : List PlainEntry) : Typ
   pub added : w.journal ≡ v.journal ++ part
   pub leads : Leads (call_at s.port s.session) (counts_on s.port s.session) v.terminal part w.terminal
   pub inside : session_events_in part ≡ []
+  pub in_phase : AreInPhases s.port s.session v.terminal.phase part
   pub of_session : IsOfSession s w
 
 module _ (s : Scene) (m : ℕ) (rs : List (Option PlainRole)) (v w : PortValue)
@@ -108,7 +109,7 @@ module _ (s : Scene) (m : ℕ) (rs : List (Option PlainRole)) (v w : PortValue)
   journal : w.journal ≡ v.journal ++ entries_in rest
   journal = sym now.entries ∙ (ap entries_in session.1 ∙ (entries_append (history_in m v) rest ∙ ap (λ (es : List PlainEntry). es ++ entries_in rest) was.entries))
 
-  have : HaveCalls calls (history_in m w)
+  pub have : HaveCalls calls (history_in m w)
   have =
       subst (HaveCalls calls) (sym session.1)
       (have_both calls (history_in m v) rest (agreeing_have m (call_in v.kept) calls v.journal v.terminal.generation old.calls) (calls_of_phase s v.terminal.phase rest of_phase))
@@ -116,7 +117,7 @@ module _ (s : Scene) (m : ℕ) (rs : List (Option PlainRole)) (v w : PortValue)
   agrees : AgreesOn (call_in w.kept) calls w.journal
   agrees = now.calls calls have
 
-  run_v : IsRun calls (counts_on s.port s.session) v.flip.capacity v.journal v.terminal
+  pub run_v : IsRun calls (counts_on s.port s.session) v.flip.capacity v.journal v.terminal
   run_v =
       subst (λ (cs : List ℕ). IsRun calls cs v.flip.capacity v.journal v.terminal) old.counts
       (leads_agrees (call_in v.kept) calls v.counts (opening (sum v.counts) v.flip.capacity) v.journal v.terminal old.calls port_v.run)
@@ -131,18 +132,22 @@ module _ (s : Scene) (m : ℕ) (rs : List (Option PlainRole)) (v w : PortValue)
   none_inside : session_events_in (entries_in rest) ≡ []
   none_inside = none_of_session m m rest placed_rest session.2
 
+  in_phase : AreInPhases s.port s.session v.terminal.phase (entries_in rest)
+  in_phase = phases_of_phase s v.terminal.phase m m rest placed_rest session.2 of_phase
+
   in_phases : AreInPhases s.port s.session 0 w.journal
   in_phases =
       let here : phase_from 0 v.journal ≡ v.terminal.phase = leads_phase calls (counts_on s.port s.session) (opening (sum (counts_on s.port s.session)) v.flip.capacity) v.journal v.terminal run_v in
       subst (AreInPhases s.port s.session 0) (sym journal)
       (phases_both s.port s.session 0 v.journal (entries_in rest) old.in_phases
-      (subst (λ (k : ℕ). AreInPhases s.port s.session k (entries_in rest)) (sym here) (phases_of_phase s v.terminal.phase m m rest placed_rest session.2 of_phase)))
+      (subst (λ (k : ℕ). AreInPhases s.port s.session k (entries_in rest)) (sym here) in_phase))
 
   pub part_of : IsPartOf s v w (entries_in rest)
   part_of = record {
     added = journal;
     leads = leads_after calls (counts_on s.port s.session) (opening (sum (counts_on s.port s.session)) v.flip.capacity) v.journal (entries_in rest) v.terminal w.terminal run_v run_w;
     inside = none_inside;
+    in_phase = in_phase;
     of_session = record {
       counts = counts_same ∙ old.counts;
       capacity = capacity_same ∙ old.capacity;

@@ -10,12 +10,12 @@ use Rattle.port_cell.specs.declared.kept.Stamped.{Stamped}
 use Rattle.port_cell.specs.Entries.{entries_by}
 use Rattle.port_cell.specs.Knowledge.{list_seen}
 use Rattle.tty_port.specs.Inside.{Name, EntryWithCall}
-use Rattle.tty_port.specs.Seen.{IsBetween, next_run}
+use Rattle.tty_port.specs.Seen.{IsBetween}
 use Rattle.tty_port.specs.Adding.{IsFull}
 use Rattle.tty_port.specs.Calls.{PortSeat}
 use Rattle.tty_port.specs.Shared.{IsHere, name_of_port}
 use Rattle.tty_port.specs.declared.shared.SharedPort.{SharedPort}
-use Rattle.many_threads.specs.Parts.{MakesInRole, PlaysCaller, StopsClock, PlaysClock, RunsLine, PlaysLine}
+use Rattle.many_threads.specs.Parts.{MakesInRole, PlaysCaller, StopsClock, PlaysClock, RunsLine, PlaysLine, PlaysFlusher, StopsFlusher}
 use Rattle.many_threads.specs.declared.threads.SeatBack.{SeatBack}
 use Rattle.many_threads.specs.declared.threads.FlusherBack.{FlusherBack}
 use Rattle.many_threads.specs.declared.threads.LineBack.{LineBack}
@@ -32,9 +32,10 @@ pub record ClockComes (p : SharedPort) (ticks : ℕ) (start : List (Stamped Entr
   pub err : OnErr back.result (StopsClock ((name_of_port p).callers + 2) ticks start back.seat)
   pub full : IfErr back.result (λ d. IsFull (name_of_port p) d (list_seen back.seat))
 
-pub record FlusherComes (p : SharedPort) (back : FlusherBack) : Type 0 where
+pub record FlusherComes (p : SharedPort) (run : ℕ) (start : PortSeat) (back : FlusherBack) : Type 0 where
   pub here : IsHere p (name_of_port p).callers back.seat
-  pub next : IfOk back.result (λ next. next ≡ next_run (list_seen back.seat))
+  pub ok : IfOk back.result (λ next. PlaysFlusher (name_of_port p) run start next back.seat)
+  pub err : OnErr back.result (StopsFlusher (name_of_port p).callers run start back.seat)
   pub full : IfErr back.result (λ d. IsFull (name_of_port p) d (list_seen back.seat))
 
 pub record LineComes (p : SharedPort) (steps : List LineStep) (line : LineState) (putter : PutterState Flagged) (start : List (Stamped EntryWithCall)) (back : LineBack) : Type 0 where

@@ -3,3 +3,4 @@ pub mod Comings
 pub mod Crews
 pub mod Dealing
 pub mod Stations
+pub mod Ends

@@ -1,5 +1,5 @@
 -- What each thread of a phase did, as its seat knows it: from the history that it had seen at the start.
-use Rattle.std.specs.Prelude.{◌≡◌, ◌⊎◌, ℕ, ◌+◌, ◌-◌, ◌^◌, ◌≤◌, List, [], ◌∷◌, ◌++◌, Some, length, slice_get}
+use Rattle.std.specs.Prelude.{◌≡◌, ◌⊎◌, ℕ, ◌+◌, ◌-◌, ◌^◌, ◌≤◌, List, [], ◌∷◌, ◌++◌, true, Some, length, slice_get}
 use Rattle.std.specs.List.Sorted.{IsNonDecreasing}
 use Rattle.tty_base.specs.declared.characters.Flagged.{Flagged}
 use Rattle.tty_base.specs.declared.lines.LineStep.{LineStep}
@@ -10,14 +10,16 @@ use Rattle.uart_line.specs.Received.{received_list, closed_script}
 use Rattle.uart_line.specs.Offered.{HandsOver}
 use Rattle.tty_calls.specs.declared.journals.Who.TheVariants.{Caller}
 use Rattle.tty_calls.specs.Plain.{PlainCall, clock_ended, caller_ended}
+use Rattle.tty_terminal.specs.Steps.{may_end}
 use Rattle.port_cell.specs.declared.kept.Stamped.{Stamped}
 use Rattle.port_cell.specs.Entries.{Keeps, Begins, entries_by}
 use Rattle.port_cell.specs.Knowledge.{list_seen, own_entries}
-use Rattle.tty_port.specs.Inside.{EntryWithCall}
-use Rattle.tty_port.specs.Seen.{marks_at, IsBetween}
+use Rattle.tty_port.specs.Inside.{Name, EntryWithCall}
+use Rattle.tty_port.specs.Seen.{marks_at, next_run, terminal_at, IsBetween}
 use Rattle.tty_port.specs.Adding.{IsEntry, IsOfStep}
 use Rattle.tty_port.specs.Calls.{PortSeat}
-use Rattle.tty_port.specs.Lines.{EndsLine}
+use Rattle.tty_port.specs.Flushing.{FlushesRun, HasNothingLeft, run_past}
+use Rattle.tty_port.specs.Lines.{EndsLine, MakesNone}
 
 abbrev pub Each : (Stamped EntryWithCall → Type 0) → List (Stamped EntryWithCall) → Type 0
 Each P [] = Unit {0}
@@ -106,3 +108,36 @@ pub record PlaysLine (seat : ℕ) (steps : List LineStep) (line played : LineSta
   pub last : Stamped EntryWithCall
   pub added : list_seen new ≡ before ++ last ∷ []
   pub ends : EndsLine seat met now before last
+
+-- ---- the flusher
+
+-- a flush run, with the flusher's seat before and after it
+pub record RunMade : Type 0 where
+  pub number : ℕ
+  pub count : ℕ
+  pub before : PortSeat
+  pub after : PortSeat
+
+-- The flusher, whose seat has the number m, made these flush runs, the latest first, and nothing else. The first has the number
+-- `run`, and each other one the number after the run before it, which `next` is after the latest.
+abbrev pub FlushesRuns : (m run : ℕ) → PortSeat → List RunMade → ℕ → PortSeat → Type 0
+FlushesRuns m run start [] next new = (next ≡ run) × MakesNone start new
+FlushesRuns m run start (r ∷ runs) next new =
+    FlushesRuns m run start runs r.number r.before × FlushesRun m r.number r.count r.before r.after × (next ≡ run_past r.number r.count) × MakesNone r.after new
+
+-- The last of the runs found nothing more to hand over, and the look after it that the phase may end.
+pub record PlaysFlusher (name : Name) (run : ℕ) (start : PortSeat) (next : ℕ) (new : PortSeat) : Type 0 where
+  pub runs : List RunMade
+  pub last : RunMade
+  pub flushes : FlushesRuns name.callers run start (last ∷ runs) next new
+  pub none : last.count ≡ 0
+  pub left : HasNothingLeft (terminal_at name (list_seen last.after))
+  pub numbered : next ≡ next_run (list_seen new)
+  pub ended : may_end name.counts (terminal_at name (list_seen new)) ≡ true
+
+-- flush runs, the last of which was denied
+pub record StopsFlusher (m run : ℕ) (start new : PortSeat) : Type 0 where
+  pub runs : List RunMade
+  pub last : RunMade
+  pub next : ℕ
+  pub flushes : FlushesRuns m run start (last ∷ runs) next new

@@ -1,20 +1,20 @@
 -- A port, the putting end of its flip buffer, and its line at the beginning of a phase.
-use Rattle.std.specs.Prelude.{◌≡◌, ◌≤◌, ◌<◌, ◌+◌, ℕ, List, [], ◌∷◌, ◌++◌, false, true, All, length}
+use Rattle.std.specs.Prelude.{◌≡◌, ◌≤◌, ◌<◌, ◌+◌, ℕ, List, [], ◌∷◌, ◌++◌, false, true, Option, Some, All, length, slice_get}
 use Rattle.tty_base.specs.declared.characters.Flagged.{Flagged}
 use Rattle.tty_base.specs.declared.lines.Overrun.{Overrun}
 use Rattle.word_ring.specs.Ends.{PutterState}
 use Rattle.uart_line.specs.LineState.{LineState}
 use Rattle.tty_calls.specs.Plain.{PlainEntry, line_ended, phase_ended}
-use Rattle.tty_calls.specs.Sessions.{call_at, counts_on}
+use Rattle.tty_calls.specs.Sessions.{call_at, counts_on, ticks_on}
 use Rattle.tty_calls.specs.Limits.{character_count}
 use Rattle.tty_terminal.specs.Terminals.{Terminal, caller_at}
 use Rattle.tty_terminal.specs.Standing.{Standing, standing_of}
 use Rattle.tty_terminal.specs.Steps.{next_phase}
 use Rattle.tty_terminal.specs.Runs.{Leads, AgreesOn, chars_of}
-use Rattle.journal_check.specs.Legal.{first_step, script_of_first, session_events_in, line_ends_in, received_before, AreInPhases, flip_on}
+use Rattle.journal_check.specs.Legal.{phase_at, IsCallerOf, first_step, script_of_first, session_events_in, line_ends_in, received_before, AreInPhases, flip_on}
 use Rattle.journal_check.specs.Phases.{CompletesPhase}
 use Rattle.port_core.specs.Ports.{PortValue, call_in}
-use Rattle.one_thread.specs.Roles.{Scene}
+use Rattle.one_thread.specs.Roles.{Scene, PlainRole, IsRoleOf}
 use Rattle.one_thread.specs.Lines.{HasPut}
 use Rattle.tty_port.specs.Seen.{run_after}
 
@@ -25,6 +25,12 @@ pub record IsOfSession (s : Scene) (v : PortValue) : Type 0 where
   pub limit : v.limit ≡ 4194304
   pub calls : AgreesOn (call_in v.kept) (call_at s.port s.session) v.journal
   pub in_phases : AreInPhases s.port s.session 0 v.journal
+
+-- the roles of so many callers of the port in phase k, by number: each caller of the phase has its own
+pub record AreParts (s : Scene) (k callers : ℕ) (rs : List (Option PlainRole)) : Type 0 where
+  pub count : length rs ≡ callers
+  pub roles : (c : ℕ) (r : PlainRole) → slice_get rs c ≡ Some (Some r) → IsRoleOf s k r × (r.number ≡ c)
+  pub all : (c : ℕ) → IsCallerOf s.port s.session k c → (r : PlainRole) × (slice_get rs c ≡ Some (Some r))
 
 -- a caller between two calls, whose calls of the phase are not over
 pub record IsAtRest (next : ℕ) (q : Standing) : Type 0 where
@@ -70,3 +76,17 @@ pub record PlaysPhase (s : Scene) (k : ℕ) (old new : PortValue) (now : PutterS
   pub more_overruns : played.report.overruns.items ≡ line.report.overruns.items ++ overruns
   pub completes : (more : List Overrun) → All (λ o. received_before s.port s.session (k + 1) ≤ o.at) more → CompletesPhase s.port s.session (played.report.overruns.items ++ more) k old.terminal terminal
   pub seen : All (SeesWithin s k (length (chars_of old.journal)) (length (chars_of (old.journal ++ front)))) overruns
+
+-- Phase k came to a full journal: the part that it made, as far as it went. The line has handed over all that it had to.
+pub record StopsPhase (s : Scene) (k : ℕ) (old new : PortValue) (now : PutterState Flagged) (line played : LineState) : Type 0 where
+  pub of_session : IsOfSession s new
+  pub part : List PlainEntry
+  pub added : new.journal ≡ old.journal ++ part
+  pub leads : Leads (call_at s.port s.session) (counts_on s.port s.session) old.terminal part new.terminal
+  pub inside : session_events_in part ≡ []
+  pub ticks : new.terminal.tick ≤ old.terminal.tick + ticks_on s.port (phase_at s.session k)
+  pub full : length new.journal ≡ 4194304
+  pub ring : new.flip.ring ≡ old.flip.ring
+  pub capacity : new.flip.capacity ≡ old.flip.capacity
+  pub has_put : HasPut new now played (script_of_first s.port s.session (k + 1))
+  pub most : played.most ≡ line.most

@@ -1,10 +1,11 @@
 //! What the flusher's thread does in a phase: flush runs, until the phase may end.
 
-ghost use Rattle.std.specs.Prelude.{◌≡◌, IfOk, IfErr};
+ghost use Rattle.std.specs.Prelude.{◌≡◌, IfOk, IfErr, OnErr};
 ghost use Rattle.port_cell.specs.Knowledge.{list_seen};
 ghost use Rattle.tty_port.specs.Seen.{next_run};
 ghost use Rattle.tty_port.specs.Adding.{IsFull};
 ghost use Rattle.tty_port.specs.Shared.{IsHere, name_of_port};
+ghost use Rattle.many_threads.specs.Parts.{PlaysFlusher, StopsFlusher};
 
 use std::sync::Wait;
 use tty_calls::Denied;
@@ -21,7 +22,8 @@ pub(crate) fn play_flusher<R: Wait>(
     requires seat { IsHere shared.now (name_of_port shared.now).callers seat.old }
     requires next { run ≡ next_run (list_seen seat.old) }
     ensures seat { IsHere shared.now (name_of_port shared.now).callers seat.new }
-    ensures next { IfOk result (λ next. next ≡ next_run (list_seen seat.new)) }
+    ensures ok { IfOk result (λ next. PlaysFlusher (name_of_port shared.now) run seat.old next seat.new) }
+    ensures err { OnErr result (StopsFlusher (name_of_port shared.now).callers run seat.old seat.new) }
     ensures full { IfErr result (λ d. IsFull (name_of_port shared.now) d (list_seen seat.new)) }
 {
     let mut next = run;

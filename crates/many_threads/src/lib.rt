@@ -7,6 +7,7 @@ mod clocks;
 mod crews;
 mod flushers;
 mod lines;
+mod phases;
 mod running;
 mod stations;
 mod threads;

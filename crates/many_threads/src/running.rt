@@ -37,14 +37,14 @@ fn flush_and_call<R: Threads + Wait + Sync, G: Gate + Sync>(
     requires callers { AreHere shared.now (opening_history shared.now) 0 callers.items }
     requires count { length callers.items ≡ length parts.now }
     requires parts { CanPlayAll shared.now 0 (plain_parts scripts.now parts.now) }
-    ensures flusher { FlusherComes shared.now result.0 }
+    ensures flusher { FlusherComes shared.now run flusher result.0 }
     ensures callers { IfOk result.1 (λ back. CallersCome shared.now (plain_parts scripts.now parts.now) back) }
 {
     join(
         rt,
         move || -> FlusherBack
             requires { IsSync R.row × IsHere shared.now (name_of_port shared.now).callers flusher × (run ≡ next_run (list_seen flusher)) }
-            ensures { FlusherComes shared.entry.now result }
+            ensures { FlusherComes shared.entry.now run flusher result }
         { flusher_thread(rt, shared, flusher, run) },
         move || -> Result<CallersBack, NoMemory>
             requires { IsSync R.row × IsSync G.row × AreHere shared.now (opening_history shared.now) 0 callers.items × (length callers.items ≡ length parts.now) × CanPlayAll shared.now 0 (plain_parts scripts.now parts.now) }
@@ -74,7 +74,7 @@ fn tick_and_flush<R: Threads + Wait + Sync, G: Gate + Sync>(
     requires count { length callers.items ≡ length parts.now }
     requires parts { CanPlayAll shared.now 0 (plain_parts scripts.now parts.now) }
     ensures clock { ClockComes shared.now ticks (list_seen clock) result.0 }
-    ensures flusher { FlusherComes shared.now result.1.0 }
+    ensures flusher { FlusherComes shared.now run flusher result.1.0 }
     ensures callers { IfOk result.1.1 (λ back. CallersCome shared.now (plain_parts scripts.now parts.now) back) }
 {
     join(
@@ -85,7 +85,7 @@ fn tick_and_flush<R: Threads + Wait + Sync, G: Gate + Sync>(
         { clock_thread(rt, shared, clock, ticks) },
         move || -> (FlusherBack, Result<CallersBack, NoMemory>)
             requires { IsSync R.row × IsSync G.row × IsHere shared.now (name_of_port shared.now).callers flusher × (run ≡ next_run (list_seen flusher)) × AreHere shared.now (opening_history shared.now) 0 callers.items × (length callers.items ≡ length parts.now) × CanPlayAll shared.now 0 (plain_parts scripts.now parts.now) }
-            ensures { FlusherComes shared.entry.now result.0 × IfOk result.1 (λ back. CallersCome shared.entry.now (plain_parts scripts.entry.now parts.entry.now) back) }
+            ensures { FlusherComes shared.entry.now run flusher result.0 × IfOk result.1 (λ back. CallersCome shared.entry.now (plain_parts scripts.entry.now parts.entry.now) back) }
         { flush_and_call(rt, shared, gate, flusher, run, callers, parts, scripts) },
     )
 }
@@ -127,7 +127,7 @@ pub fn run_threads<R: Threads + Wait + Sync, G: Gate + Sync>(
     requires parts { CanPlayAll shared.now 0 (plain_parts scripts.now parts.now) }
     ensures line { LineComes shared.now steps.now receiver.line receiver.putter (list_seen line) result.0 }
     ensures clock { ClockComes shared.now ticks (list_seen clock) result.1.0 }
-    ensures flusher { FlusherComes shared.now result.1.1.0 }
+    ensures flusher { FlusherComes shared.now run flusher result.1.1.0 }
     ensures callers { IfOk result.1.1.1 (λ back. CallersCome shared.now (plain_parts scripts.now parts.now) back) }
 {
     join(
@@ -138,7 +138,7 @@ pub fn run_threads<R: Threads + Wait + Sync, G: Gate + Sync>(
         { line_thread(rt, shared, gate, line, receiver, steps, phase) },
         move || -> (SeatBack, (FlusherBack, Result<CallersBack, NoMemory>))
             requires { IsSync R.row × IsSync G.row × IsHere shared.now ((name_of_port shared.now).callers + 2) clock × ((marks_at (list_seen clock)).clock_over ≡ false) × IsHere shared.now (name_of_port shared.now).callers flusher × (run ≡ next_run (list_seen flusher)) × AreHere shared.now (opening_history shared.now) 0 callers.items × (length callers.items ≡ length parts.now) × CanPlayAll shared.now 0 (plain_parts scripts.now parts.now) }
-            ensures { ClockComes shared.entry.now ticks (list_seen clock) result.0 × FlusherComes shared.entry.now result.1.0 × IfOk result.1.1 (λ back. CallersCome shared.entry.now (plain_parts scripts.entry.now parts.entry.now) back) }
+            ensures { ClockComes shared.entry.now ticks (list_seen clock) result.0 × FlusherComes shared.entry.now run flusher result.1.0 × IfOk result.1.1 (λ back. CallersCome shared.entry.now (plain_parts scripts.entry.now parts.entry.now) back) }
         {
             tick_and_flush(
                 rt, shared, gate, clock, ticks, flusher, run, callers, parts, scripts,

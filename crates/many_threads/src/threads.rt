@@ -96,7 +96,7 @@ pub(crate) fn flusher_thread<R: Wait>(
 ) -> FlusherBack
     requires seat { IsHere shared.now (name_of_port shared.now).callers seat }
     requires next { run ≡ next_run (list_seen seat) }
-    ensures { FlusherComes shared.now result }
+    ensures { FlusherComes shared.now run seat result }
 {
     let result = play_flusher(rt, shared, &mut seat, run);
     FlusherBack { seat, result }
