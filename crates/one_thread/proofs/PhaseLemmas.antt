@@ -17,9 +17,8 @@ use Rattle.journal_check.proofs.PhaseLemmas.{phase-after}
 use Rattle.journal_check.proofs.MarkLemmas.{phase_part}
 use Rattle.one_thread.specs.Order.{SeesAll, AllSeeAll}
 use Rattle.one_thread.specs.Roles.{Scene}
-use Rattle.one_thread.specs.Stages.{AreAtFirst}
 use Rattle.one_thread.specs.Lines.{SeesIn}
-use Rattle.one_thread.specs.Phases.{phase_count, IsUpTo, HasFewTicks, HavePlayed}
+use Rattle.one_thread.specs.Phases.{phase_count, IsUpTo, HasFewTicks, SeesWithin, HavePlayed, HaveSeenAll, HavePlayedInOrder}
 use Rattle.one_thread.proofs.JournalLemmas.{up_before, up_line, up_count, up_ticks, up_more, line_part, first_of_phase, more_chars, ticks_between, other_ticks, ticks_both, end_adds_none, phase_is}
 use Rattle.one_thread.proofs.ReceivedLemmas.{received_within, received_rises, one_phase_of}
 
@@ -54,11 +53,10 @@ few_ticks_end s journal part last ends few j =
 
 -- ---- overruns that are seen
 
--- after the journal up to phase k come these flushes, the end of the line, and what is later
-seen_one : (s : Scene) (k : ℕ) (journal flushes : List PlainEntry) (last : PlainEntry) (n : ℕ) (later : List PlainEntry) (o : Overrun) → IsUpTo k journal → line_ends_in flushes ≡ [] → last.event ≡ line_ended n
-    → SeesIn s k (length (chars_of (journal ++ flushes))) o → IsSeen s.port s.session (journal ++ (flushes ++ last ∷ later)) o
-seen_one s k journal flushes last n later o up none ends sees =
-    let rest : List PlainEntry = flushes ++ last ∷ later in
+-- after the journal up to phase k come the entries before the end of the line, that end, and what is later
+seen_one : (s : Scene) (k : ℕ) (journal front : List PlainEntry) (last : PlainEntry) (n : ℕ) (later : List PlainEntry) (o : Overrun) → IsUpTo k journal → line_ends_in front ≡ [] → last.event ≡ line_ended n
+    → SeesWithin s k (length (chars_of journal)) (length (chars_of (journal ++ front))) o → IsSeen s.port s.session (journal ++ (front ++ last ∷ later)) o
+seen_one s k journal front last n later o up none ends sees =
     let of_phase : IsOfPhase s.port s.session k o = (sees.from, sees.below) in
     let whole = received_within s.port s.session (k + 1) in
     record {
@@ -67,32 +65,31 @@ seen_one s k journal flushes last n later o up none ends sees =
       by_line_end = λ j here. by_is j (one_phase_of s.port s.session j k o of_phase here);
     }
   where
-    from_is : (j : ℕ) → j ≡ k → length (chars_of (before_phase j (journal ++ (flushes ++ last ∷ later)))) ≤ o.seen
+    from_is : (j : ℕ) → j ≡ k → length (chars_of (before_phase j (journal ++ (front ++ last ∷ later)))) ≤ o.seen
     from_is j same =
-        let begins : before_phase j (journal ++ (flushes ++ last ∷ later)) ≡ journal =
-        ap (λ i. before_phase i (journal ++ (flushes ++ last ∷ later))) (same ∙ sym (add-zero k)) ∙ up_before k 0 journal (flushes ++ last ∷ later) up
-        ∙ ap (λ (x : List PlainEntry). journal ++ x) (first_of_phase (flushes ++ last ∷ later)) ∙ append-nil journal in
+        let begins : before_phase j (journal ++ (front ++ last ∷ later)) ≡ journal =
+        ap (λ i. before_phase i (journal ++ (front ++ last ∷ later))) (same ∙ sym (add-zero k)) ∙ up_before k 0 journal (front ++ last ∷ later) up
+        ∙ ap (λ (x : List PlainEntry). journal ++ x) (first_of_phase (front ++ last ∷ later)) ∙ append-nil journal in
         let count = ap (λ (x : List PlainEntry). length (chars_of x)) begins in
-        let more = more_chars journal flushes in
-        let seen = sees.sees in
-        omega (arith, count, more, seen)
-
-    by_is : (j : ℕ) → j ≡ k → o.seen ≤ length (chars_of (before_line_end j (journal ++ (flushes ++ last ∷ later))))
-    by_is j same =
-        let by_line : before_line_end j (journal ++ (flushes ++ last ∷ later)) ≡ journal ++ flushes =
-        ap (λ i. before_line_end i (journal ++ (flushes ++ last ∷ later))) (same ∙ sym (add-zero k)) ∙ up_line k 0 journal (flushes ++ last ∷ later) up
-        ∙ ap (λ (x : List PlainEntry). journal ++ x) (line_part flushes last n later none ends) in
-        let count = ap (λ (x : List PlainEntry). length (chars_of x)) by_line in
-        let seen = sees.sees in
+        let seen = sees.sees_least in
         omega (arith, count, seen)
 
-sees_all_one : (s : Scene) (k : ℕ) (journal flushes : List PlainEntry) (last : PlainEntry) (n : ℕ) (later : List PlainEntry) (o : Overrun) → IsUpTo k journal → line_ends_in flushes ≡ [] → last.event ≡ line_ended n
-    → SeesIn s k (length (chars_of (journal ++ flushes))) o → SeesAll s.port s.session (journal ++ (flushes ++ last ∷ later)) o
-sees_all_one s k journal flushes last n later o up none ends sees j from below =
+    by_is : (j : ℕ) → j ≡ k → o.seen ≤ length (chars_of (before_line_end j (journal ++ (front ++ last ∷ later))))
+    by_is j same =
+        let by_line : before_line_end j (journal ++ (front ++ last ∷ later)) ≡ journal ++ front =
+        ap (λ i. before_line_end i (journal ++ (front ++ last ∷ later))) (same ∙ sym (add-zero k)) ∙ up_line k 0 journal (front ++ last ∷ later) up
+        ∙ ap (λ (x : List PlainEntry). journal ++ x) (line_part front last n later none ends) in
+        let count = ap (λ (x : List PlainEntry). length (chars_of x)) by_line in
+        let seen = sees.sees_most in
+        omega (arith, count, seen)
+
+sees_all_one : (s : Scene) (k : ℕ) (journal front : List PlainEntry) (last : PlainEntry) (n : ℕ) (later : List PlainEntry) (o : Overrun) → IsUpTo k journal → line_ends_in front ≡ [] → last.event ≡ line_ended n
+    → SeesIn s k (length (chars_of (journal ++ front))) o → SeesAll s.port s.session (journal ++ (front ++ last ∷ later)) o
+sees_all_one s k journal front last n later o up none ends sees j from below =
     let same : j ≡ k = one_phase_of s.port s.session j k o (sees.from, sees.below) (from, below) in
-    let by_line : before_line_end j (journal ++ (flushes ++ last ∷ later)) ≡ journal ++ flushes =
-    ap (λ i. before_line_end i (journal ++ (flushes ++ last ∷ later))) (same ∙ sym (add-zero k)) ∙ up_line k 0 journal (flushes ++ last ∷ later) up
-    ∙ ap (λ (x : List PlainEntry). journal ++ x) (line_part flushes last n later none ends) in
+    let by_line : before_line_end j (journal ++ (front ++ last ∷ later)) ≡ journal ++ front =
+    ap (λ i. before_line_end i (journal ++ (front ++ last ∷ later))) (same ∙ sym (add-zero k)) ∙ up_line k 0 journal (front ++ last ∷ later) up
+    ∙ ap (λ (x : List PlainEntry). journal ++ x) (line_part front last n later none ends) in
     sees.sees ∙ ap (λ (x : List PlainEntry). length (chars_of x)) (sym by_line)
 
 seen_more : (p : ℕ) (session : PlainSession) (journal : List PlainEntry) (overruns added : List Overrun) → AreSeen p session journal overruns → AreSeen p session journal added → AreSeen p session journal (overruns ++ added)
@@ -103,19 +100,25 @@ see_all_more : (p : ℕ) (session : PlainSession) (journal : List PlainEntry) (o
 see_all_more p session journal [] added h k = k
 see_all_more p session journal (o ∷ os) added h k = (h.0, see_all_more p session journal os added h.1 k)
 
-seen_added : (s : Scene) (k : ℕ) (journal flushes : List PlainEntry) (last : PlainEntry) (n : ℕ) (later : List PlainEntry) (added : List Overrun) → IsUpTo k journal → line_ends_in flushes ≡ [] → last.event ≡ line_ended n
-    → All (SeesIn s k (length (chars_of (journal ++ flushes)))) added → AreSeen s.port s.session (journal ++ (flushes ++ last ∷ later)) added
-seen_added s k journal flushes last n later [] up none ends sees = tt
-seen_added s k journal flushes last n later (o ∷ os) up none ends sees =
-    let P : Overrun → Type 0 = SeesIn s k (length (chars_of (journal ++ flushes))) in
-    (seen_one s k journal flushes last n later o up none ends (All-head P o os sees), seen_added s k journal flushes last n later os up none ends (All-tail P o os sees))
+seen_added : (s : Scene) (k : ℕ) (journal front : List PlainEntry) (last : PlainEntry) (n : ℕ) (later : List PlainEntry) (added : List Overrun) → IsUpTo k journal → line_ends_in front ≡ [] → last.event ≡ line_ended n
+    → All (SeesWithin s k (length (chars_of journal)) (length (chars_of (journal ++ front)))) added → AreSeen s.port s.session (journal ++ (front ++ last ∷ later)) added
+seen_added s k journal front last n later [] up none ends sees = tt
+seen_added s k journal front last n later (o ∷ os) up none ends sees =
+    let P : Overrun → Type 0 = SeesWithin s k (length (chars_of journal)) (length (chars_of (journal ++ front))) in
+    (seen_one s k journal front last n later o up none ends (All-head P o os sees), seen_added s k journal front last n later os up none ends (All-tail P o os sees))
 
-see_all_added : (s : Scene) (k : ℕ) (journal flushes : List PlainEntry) (last : PlainEntry) (n : ℕ) (later : List PlainEntry) (added : List Overrun) → IsUpTo k journal → line_ends_in flushes ≡ [] → last.event ≡ line_ended n
-    → All (SeesIn s k (length (chars_of (journal ++ flushes)))) added → AllSeeAll s.port s.session (journal ++ (flushes ++ last ∷ later)) added
-see_all_added s k journal flushes last n later [] up none ends sees = tt
-see_all_added s k journal flushes last n later (o ∷ os) up none ends sees =
-    let P : Overrun → Type 0 = SeesIn s k (length (chars_of (journal ++ flushes))) in
-    (sees_all_one s k journal flushes last n later o up none ends (All-head P o os sees), see_all_added s k journal flushes last n later os up none ends (All-tail P o os sees))
+see_all_added : (s : Scene) (k : ℕ) (journal front : List PlainEntry) (last : PlainEntry) (n : ℕ) (later : List PlainEntry) (added : List Overrun) → IsUpTo k journal → line_ends_in front ≡ [] → last.event ≡ line_ended n
+    → All (SeesIn s k (length (chars_of (journal ++ front)))) added → AllSeeAll s.port s.session (journal ++ (front ++ last ∷ later)) added
+see_all_added s k journal front last n later [] up none ends sees = tt
+see_all_added s k journal front last n later (o ∷ os) up none ends sees =
+    let P : Overrun → Type 0 = SeesIn s k (length (chars_of (journal ++ front))) in
+    (sees_all_one s k journal front last n later o up none ends (All-head P o os sees), see_all_added s k journal front last n later os up none ends (All-tail P o os sees))
+
+-- who has seen all that was taken has seen what was taken before the phase
+pub all_see_within : (s : Scene) (k : ℕ) (journal front : List PlainEntry) (added : List Overrun) → All (SeesIn s k (length (chars_of (journal ++ front)))) added → All (SeesWithin s k (length (chars_of journal)) (length (chars_of (journal ++ front)))) added
+all_see_within s k journal front added sees =
+    All-weaker (SeesIn s k (length (chars_of (journal ++ front)))) (SeesWithin s k (length (chars_of journal)) (length (chars_of (journal ++ front))))
+    (λ o h. let more = more_chars journal front in let seen = h.sees in record { from = h.from; below = h.below; sees_least = omega (arith, more, seen); sees_most = omega (arith, seen) }) added sees
 
 -- ---- the terminal in a phase
 
@@ -127,38 +130,29 @@ phase_stays calls counts t (e ∷ es) u h =
     let counted = phase_is e.event t.phase in
     omega (arith, rest, one, counted)
 
--- where the phase's line and what comes after it led, from the beginning of phase k
-pub record PlaysPhase (s : Scene) (k : ℕ) (t : Terminal) (journal flushes : List PlainEntry) (ends_line : PlainEntry) (sent : ℕ) (part : List PlainEntry) (last : PlainEntry) (u : Terminal) : Type 0 where
+-- where the entries of phase k led, from its beginning
+pub record PlaysPart (s : Scene) (k : ℕ) (t : Terminal) (front : List PlainEntry) (line_end : PlainEntry) (sent : ℕ) (back : List PlainEntry) (last : PlainEntry) (u : Terminal) : Type 0 where
   pub within : k < length s.session.phases
   pub begins : BeginsPhase t
-  pub first : AreAtFirst s k t
-  pub inside : session_events_in flushes ≡ []
-  pub none : line_ends_in flushes ≡ []
-  pub line : ends_line.event ≡ line_ended sent
-  pub leads : Leads (call_at s.port s.session) (counts_on s.port s.session) t ((flushes ++ ends_line ∷ []) ++ part) u
-  pub later : session_events_in part ≡ []
+  pub inside : session_events_in (front ++ line_end ∷ back) ≡ []
+  pub none : line_ends_in front ≡ []
+  pub line : line_end.event ≡ line_ended sent
+  pub leads : Leads (call_at s.port s.session) (counts_on s.port s.session) t (front ++ line_end ∷ back) u
   pub ends : last.event ≡ phase_ended
   pub tick : u.tick ≡ t.tick + ticks_on s.port (phase_at s.session k)
 
-abbrev pub whole_part : List PlainEntry → PlainEntry → List PlainEntry → List PlainEntry
-whole_part flushes ends_line part = (flushes ++ ends_line ∷ []) ++ part
-
-pub line_inside : (flushes : List PlainEntry) (ends_line : PlainEntry) (n : ℕ) (part : List PlainEntry) → session_events_in flushes ≡ [] → ends_line.event ≡ line_ended n → session_events_in part ≡ [] → session_events_in (whole_part flushes ends_line part) ≡ []
-line_inside flushes ends_line n part inside ends later =
-    flat_map-append (λ (e : PlainEntry). session_events e.event) (flushes ++ ends_line ∷ []) part
-    ∙ ap (λ (x : List PlainEvent). x ++ session_events_in part) (flat_map-append (λ (e : PlainEntry). session_events e.event) flushes (ends_line ∷ []))
-    ∙ ap (λ (x : List PlainEvent). (x ++ (session_events ends_line.event ++ [])) ++ session_events_in part) inside
-    ∙ ap (λ (event : PlainEvent). (session_events event ++ []) ++ session_events_in part) ends ∙ later
-
-split_part : (flushes : List PlainEntry) (ends_line : PlainEntry) (part rest : List PlainEntry) → whole_part flushes ends_line part ++ rest ≡ flushes ++ ends_line ∷ (part ++ rest)
-split_part flushes ends_line part rest = append_assoc (flushes ++ ends_line ∷ []) part rest ∙ append_assoc flushes (ends_line ∷ []) (part ++ rest)
+pub line_inside : (front : List PlainEntry) (line_end : PlainEntry) (n : ℕ) (back : List PlainEntry) → session_events_in front ≡ [] → line_end.event ≡ line_ended n → session_events_in back ≡ [] → session_events_in (front ++ line_end ∷ back) ≡ []
+line_inside front line_end n back inside ends later =
+    flat_map-append (λ (e : PlainEntry). session_events e.event) front (line_end ∷ back)
+    ∙ ap (λ (x : List PlainEvent). x ++ (session_events line_end.event ++ session_events_in back)) inside
+    ∙ ap (λ (event : PlainEvent). session_events event ++ session_events_in back) ends ∙ later
 
 -- the journal after the phase, and what follows it
-after_whole : (journal flushes : List PlainEntry) (ends_line : PlainEntry) (part : List PlainEntry) (last : PlainEntry) (rest : List PlainEntry)
-    → (journal ++ (whole_part flushes ends_line part ++ last ∷ [])) ++ rest ≡ journal ++ (flushes ++ ends_line ∷ (part ++ last ∷ rest))
-after_whole journal flushes ends_line part last rest =
-    append_assoc journal (whole_part flushes ends_line part ++ last ∷ []) rest
-    ∙ ap (λ (x : List PlainEntry). journal ++ x) (append_assoc (whole_part flushes ends_line part) (last ∷ []) rest ∙ split_part flushes ends_line part (last ∷ rest))
+pub after_whole : (journal front : List PlainEntry) (line_end : PlainEntry) (back : List PlainEntry) (last : PlainEntry) (rest : List PlainEntry)
+    → (journal ++ ((front ++ line_end ∷ back) ++ last ∷ [])) ++ rest ≡ journal ++ (front ++ line_end ∷ (back ++ last ∷ rest))
+after_whole journal front line_end back last rest =
+    append_assoc journal ((front ++ line_end ∷ back) ++ last ∷ []) rest
+    ∙ ap (λ (x : List PlainEntry). journal ++ x) (append_assoc (front ++ line_end ∷ back) (last ∷ []) rest ∙ append_assoc front (line_end ∷ back) (last ∷ rest))
 
 one_finished : (s : Scene) (overruns : List Overrun) (k : ℕ) (part : List PlainEntry) (last : PlainEntry) (rest : List PlainEntry) → k < length s.session.phases → IsPhasePart s.port s.session overruns k part → last.event ≡ phase_ended
     → IsFinishedFrom s.port s.session overruns (k + 1) (drop (k + 1) s.session.phases) rest → IsFinishedFrom s.port s.session overruns k (drop k s.session.phases) (part ++ last ∷ rest)
@@ -166,39 +160,43 @@ one_finished s overruns k part last rest within is_part ends goes_on =
     subst (λ (phases : List PlainPhase). IsFinishedFrom s.port s.session overruns k phases (part ++ last ∷ rest)) (sym (drop_more s.session.phases k (record { lines = []; ticks = []; callers = [] }) within))
     (record { part = part; last = last; rest = rest; parts = refl; is_part = is_part; ends = ends; goes_on = goes_on })
 
--- the phase's part, whatever overruns come later
-pub played_more : (s : Scene) (k : ℕ) (t : Terminal) (journal flushes : List PlainEntry) (ends_line : PlainEntry) (sent : ℕ) (part : List PlainEntry) (last : PlainEntry) (u : Terminal) (overruns added : List Overrun)
-    → HavePlayed s k journal overruns → PlaysPhase s k t journal flushes ends_line sent part last u
+-- one more phase was played, whatever overruns come later
+pub played_more : (s : Scene) (k : ℕ) (t : Terminal) (journal front : List PlainEntry) (line_end : PlainEntry) (sent : ℕ) (back : List PlainEntry) (last : PlainEntry) (u : Terminal) (overruns added : List Overrun)
+    → HavePlayed s k journal overruns → PlaysPart s k t front line_end sent back last u
     → ((more : List Overrun) → All (λ o. received_before s.port s.session (k + 1) ≤ o.at) more → CompletesPhase s.port s.session ((overruns ++ added) ++ more) k t u)
-    → All (SeesIn s k (length (chars_of (journal ++ flushes)))) added
-    → HavePlayed s (k + 1) (journal ++ (whole_part flushes ends_line part ++ last ∷ [])) (overruns ++ added)
-played_more s k t journal flushes ends_line sent part last u overruns added before plays completes sees =
-    let whole : List PlainEntry = whole_part flushes ends_line part in
-    let inside : session_events_in whole ≡ [] = line_inside flushes ends_line sent part plays.inside plays.line plays.later in
+    → All (SeesWithin s k (length (chars_of journal)) (length (chars_of (journal ++ front)))) added
+    → HavePlayed s (k + 1) (journal ++ ((front ++ line_end ∷ back) ++ last ∷ [])) (overruns ++ added)
+played_more s k t journal front line_end sent back last u overruns added before plays completes sees =
+    let whole : List PlainEntry = front ++ line_end ∷ back in
     record {
-      up_to = up_more k journal whole last before.up_to inside plays.ends;
-      ticks = few_ticks_end s journal whole last plays.ends (few_ticks s k journal whole t u before.up_to before.ticks plays.leads inside (omega (arith, plays.tick)));
+      up_to = up_more k journal whole last before.up_to plays.inside plays.ends;
+      ticks = few_ticks_end s journal whole last plays.ends (few_ticks s k journal whole t u before.up_to before.ticks plays.leads plays.inside (omega (arith, plays.tick)));
       finished = λ more rest later goes_on.
           let final : List Overrun = (overruns ++ added) ++ more in
-          let is_part : IsPhasePart s.port s.session final k whole = phase_part s.port s.session final k t whole u plays.leads inside plays.begins (completes more later) in
+          let is_part : IsPhasePart s.port s.session final k whole = phase_part s.port s.session final k t whole u plays.leads plays.inside plays.begins (completes more later) in
           let from : IsFinishedFrom s.port s.session final k (drop k s.session.phases) (whole ++ last ∷ rest) = one_finished s final k whole last rest plays.within is_part plays.ends goes_on in
           subst (λ (x : List PlainEntry). IsFinished s.port s.session final x) (sym (append_assoc journal (whole ++ last ∷ []) rest ∙ ap (λ (x : List PlainEntry). journal ++ x) (append_assoc whole (last ∷ []) rest)))
           (subst (λ (os : List Overrun). IsFinished s.port s.session os (journal ++ (whole ++ last ∷ rest))) (sym (append_assoc overruns added more))
           (before.finished (added ++ more) (whole ++ last ∷ rest) (all_later more later)
           (subst (λ (os : List Overrun). IsFinishedFrom s.port s.session os k (drop k s.session.phases) (whole ++ last ∷ rest)) (append_assoc overruns added more) from)));
       seen = λ rest.
-          subst (λ (x : List PlainEntry). AreSeen s.port s.session x (overruns ++ added)) (sym (after_whole journal flushes ends_line part last rest))
-          (seen_more s.port s.session (journal ++ (flushes ++ ends_line ∷ (part ++ last ∷ rest))) overruns added (before.seen (flushes ++ ends_line ∷ (part ++ last ∷ rest)))
-          (seen_added s k journal flushes ends_line sent (part ++ last ∷ rest) added before.up_to plays.none plays.line sees));
-      see_all = λ rest.
-          subst (λ (x : List PlainEntry). AllSeeAll s.port s.session x (overruns ++ added)) (sym (after_whole journal flushes ends_line part last rest))
-          (see_all_more s.port s.session (journal ++ (flushes ++ ends_line ∷ (part ++ last ∷ rest))) overruns added (before.see_all (flushes ++ ends_line ∷ (part ++ last ∷ rest)))
-          (see_all_added s k journal flushes ends_line sent (part ++ last ∷ rest) added before.up_to plays.none plays.line sees));
+          subst (λ (x : List PlainEntry). AreSeen s.port s.session x (overruns ++ added)) (sym (after_whole journal front line_end back last rest))
+          (seen_more s.port s.session (journal ++ (front ++ line_end ∷ (back ++ last ∷ rest))) overruns added (before.seen (front ++ line_end ∷ (back ++ last ∷ rest)))
+          (seen_added s k journal front line_end sent (back ++ last ∷ rest) added before.up_to plays.none plays.line sees));
     }
   where
     all_later : (more : List Overrun) → All (λ o. received_before s.port s.session (k + 1) ≤ o.at) more → All (λ o. received_before s.port s.session k ≤ o.at) (added ++ more)
     all_later more later =
         let rises = received_rises s.port s.session k (k + 1) (omega arith) in
         All-append (λ o. received_before s.port s.session k ≤ o.at) added more
-        (All-weaker (SeesIn s k (length (chars_of (journal ++ flushes)))) (λ o. received_before s.port s.session k ≤ o.at) (λ o h. h.from) added sees)
+        (All-weaker (SeesWithin s k (length (chars_of journal)) (length (chars_of (journal ++ front)))) (λ o. received_before s.port s.session k ≤ o.at) (λ o h. h.from) added sees)
         (All-weaker (λ o. received_before s.port s.session (k + 1) ≤ o.at) (λ o. received_before s.port s.session k ≤ o.at) (λ o h. omega (arith, rises, h)) more later)
+
+-- and each of its overruns has seen all
+pub seen_all_more : (s : Scene) (k : ℕ) (t : Terminal) (journal front : List PlainEntry) (line_end : PlainEntry) (sent : ℕ) (back : List PlainEntry) (last : PlainEntry) (u : Terminal) (overruns added : List Overrun)
+    → HavePlayedInOrder s k journal overruns → PlaysPart s k t front line_end sent back last u → All (SeesIn s k (length (chars_of (journal ++ front)))) added
+    → HaveSeenAll s (journal ++ ((front ++ line_end ∷ back) ++ last ∷ [])) (overruns ++ added)
+seen_all_more s k t journal front line_end sent back last u overruns added before plays sees rest =
+    subst (λ (x : List PlainEntry). AllSeeAll s.port s.session x (overruns ++ added)) (sym (after_whole journal front line_end back last rest))
+    (see_all_more s.port s.session (journal ++ (front ++ line_end ∷ (back ++ last ∷ rest))) overruns added (before.see_all (front ++ line_end ∷ (back ++ last ∷ rest)))
+    (see_all_added s k journal front line_end sent (back ++ last ∷ rest) added before.played.up_to plays.none plays.line sees))

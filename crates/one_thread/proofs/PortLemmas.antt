@@ -20,11 +20,11 @@ use Rattle.tty_calls.specs.declared.answers.PortEnd.{PortEnd}
 use Rattle.tty_calls.specs.declared.journals.PortRun.{PortRun}
 use Rattle.tty_calls.specs.declared.journals.Who.{Who}
 use Rattle.tty_calls.specs.declared.journals.Who.TheVariants.{Session}
-use Rattle.tty_calls.specs.Plain.{PlainEvent, PlainEntry, hung_up, entry_of, entries_of}
+use Rattle.tty_calls.specs.Plain.{PlainCall, PlainEvent, PlainEntry, hung_up, entry_of, entries_of}
 use Rattle.tty_calls.specs.Sessions.{PlainPhase, PlainSession, call_at, counts_on, ticks_on, scripts_on, calls_of}
 use Rattle.tty_calls.specs.Limits.{character_count}
 use Rattle.tty_terminal.specs.Terminals.{Terminal, opening}
-use Rattle.tty_terminal.specs.Steps.{after}
+use Rattle.tty_terminal.specs.Steps.{Allowed, after}
 use Rattle.tty_terminal.specs.Runs.{IsRun, is_flush, chars_of, phase_after}
 use Rattle.tty_terminal.proofs.CallerLists.{all_idle}
 use Rattle.tty_terminal.proofs.Grown.{leads_grown}
@@ -36,24 +36,25 @@ use Rattle.one_thread.specs.Order.{Place, first_place, turn, AreInTurn, IsPieceO
 use Rattle.one_thread.specs.Roles.{Scene, names_in, AreFirstSteps}
 use Rattle.one_thread.specs.Stages.{place_of, caller_at_rest, IsOfScene}
 use Rattle.one_thread.specs.Lines.{HasPut, IsAtPhase}
-use Rattle.one_thread.specs.Played.{IsPlayedOn, ArePlayed}
-use Rattle.one_thread.specs.Phases.{phase_count, HasFewTicks, HavePlayed, IsFullRun, IsLeftOf, AreFirstPlayed}
+use Rattle.one_thread.specs.Played.{IsPlayedOn, ArePlayed, IsRunInOrder, AreInOneOrder}
+use Rattle.one_thread.specs.Phases.{phase_count, HasFewTicks, HavePlayed, HaveSeenAll, HavePlayedInOrder, IsPortOf, IsFullRun, IsAtEnd, IsLeftOf, AreFirstPlayed}
 use Rattle.one_thread.proofs.Places.{leads_place, turns_more}
-use Rattle.one_thread.proofs.JournalLemmas.{one_if, all_phases_after, up_after, ticks_both}
+use Rattle.one_thread.proofs.JournalLemmas.{one_if, all_phases_after, up_after, ticks_both, leads_both}
 use Rattle.one_thread.proofs.ReceivedLemmas.{script_whole, kept_front, overruns_within, all_counted, list_grows}
 
 -- ---- journals that lead to a terminal
 
 -- the run of a scene
-run_of_scene : (s : Scene) (v : PortValue) → IsOfScene s v → IsRun (call_at s.port s.session) v.counts v.flip.capacity v.journal v.terminal → IsRun (call_at s.port s.session) (counts_on s.port s.session) (flip_on s.port s.session) v.journal v.terminal
-run_of_scene s v of_scene run =
-    subst (λ (counts : List ℕ). IsRun (call_at s.port s.session) counts (flip_on s.port s.session) v.journal v.terminal) of_scene.counts
-    (subst (λ n. IsRun (call_at s.port s.session) v.counts n v.journal v.terminal) of_scene.capacity run)
+pub run_of_scene : (s : Scene) (v : PortValue) → v.counts ≡ counts_on s.port s.session → v.flip.capacity ≡ flip_on s.port s.session → IsRun (call_at s.port s.session) v.counts v.flip.capacity v.journal v.terminal
+    → IsRun (call_at s.port s.session) (counts_on s.port s.session) (flip_on s.port s.session) v.journal v.terminal
+run_of_scene s v counts capacity run =
+    subst (λ (cs : List ℕ). IsRun (call_at s.port s.session) cs (flip_on s.port s.session) v.journal v.terminal) counts
+    (subst (λ n. IsRun (call_at s.port s.session) v.counts n v.journal v.terminal) capacity run)
 
 place_terminal : (s : Scene) (v : PortValue) → IsOfScene s v → IsPort v → (place_of s v.journal).terminal ≡ v.terminal
 place_terminal s v of_scene port =
     let grown = leads_grown (call_in v.kept) (call_at s.port s.session) v.counts (opening (sum v.counts) v.flip.capacity) v.journal v.terminal of_scene.known port.run in
-    leads_place (call_at s.port s.session) (counts_on s.port s.session) (first_place s.port s.session) (first_place s.port s.session).terminal v.journal v.terminal refl (run_of_scene s v of_scene grown)
+    leads_place (call_at s.port s.session) (counts_on s.port s.session) (first_place s.port s.session) (first_place s.port s.session).terminal v.journal v.terminal refl (run_of_scene s v of_scene.counts of_scene.capacity grown)
 
 -- ---- the last entry
 
@@ -75,19 +76,23 @@ hangup_ticks s journal e dropped ends few j =
     let before = few j in
     omega (arith, both, none, before)
 
--- ---- what is left
+-- ---- the run of a scene
 
-few_entries : (v : PortValue) (line : LineState) (run : PortRun) (end : PortEnd) → IsLeftOf v line run end → v.limit ≡ 4194304 → length run.journal.items ≤ 4194304
-few_entries v line run end left limit =
-    let count = length-map run.journal.items entry_of in
-    let same = ap (λ (es : List PlainEntry). length es) left.journal in
-    let few = left.port.few in
-    omega (arith, count, same, few, limit)
+pub port_of_scene : (s : Scene) (v : PortValue) → IsOfScene s v → IsPortOf s v
+port_of_scene s v h = record {
+  counts = h.counts;
+  capacity = h.capacity;
+  limit = h.limit;
+  calls = λ capacity run. leads_grown (call_in v.kept) (call_at s.port s.session) v.counts (opening (sum v.counts) capacity) v.journal v.terminal h.known run;
+  in_phases = h.in_phases;
+}
 
-on_the_way : (s : Scene) (v : PortValue) (line : LineState) (run : PortRun) (end : PortEnd) → IsOfScene s v → IsLeftOf v line run end → IsOnTheWay s.port s.session (entries_of run.journal.items) v.terminal
-on_the_way s v line run end of_scene left =
-    subst (λ (es : List PlainEntry). IsOnTheWay s.port s.session es v.terminal) (sym left.journal)
-    (record { steps = run_of_scene s v of_scene (left.run_of (call_at s.port s.session) of_scene.known); in_phases = of_scene.in_phases; one = left.port.one })
+on_the_way : (s : Scene) (v : PortValue) → IsPortOf s v → IsPort v → IsOnTheWay s.port s.session v.journal v.terminal
+on_the_way s v of port = record { steps = run_of_scene s v of.counts of.capacity (of.calls v.flip.capacity port.run); in_phases = of.in_phases; one = port.one }
+
+-- also once the two ends of its flip buffer have met
+port_met : (s : Scene) (v : PortValue) (flip : TakerState Flagged) → flip.capacity ≡ v.flip.capacity → IsPortOf s v → IsPortOf s (record v { flip = flip })
+port_met s v flip capacity of = record { counts = of.counts; capacity = capacity ∙ of.capacity; limit = of.limit; calls = of.calls; in_phases = of.in_phases }
 
 -- ---- a full journal
 
@@ -107,27 +112,29 @@ begins_kept s v putter line done left put is begins =
     ∙ kept_front all grown.more overruns (overruns_within v.flip.capacity all putter.sent putter.heads overruns put.hands_over) in
     prefix_more v.flip.taken (kept_list all overruns) (kept_list (received_list (script_on s.port s.session)) overruns) grown.more (subst (λ (cs : List Flagged). IsPrefix v.flip.taken cs) kept begins) whole
 
+few_entries : (v : PortValue) (line : LineState) (run : PortRun) (end : PortEnd) → IsLeftOf v line run end → v.limit ≡ 4194304 → length run.journal.items ≤ 4194304
+few_entries v line run end left limit =
+    let count = length-map run.journal.items entry_of in
+    let same = ap (λ (es : List PlainEntry). length es) left.journal in
+    let few = left.port.few in
+    omega (arith, count, same, few, limit)
+
+-- so many entries are told as are printed
+pub told_full : (run : PortRun) (journal : List PlainEntry) → entries_of run.journal.items ≡ journal → length journal ≡ 4194304 → length run.journal.items ≡ 4194304
+told_full run journal is full = sym (length-map run.journal.items entry_of) ∙ ap (λ (es : List PlainEntry). length es) is ∙ full
+
 pub full_played : (s : Scene) (v : PortValue) (flip : TakerState Flagged) (putter : PutterState Flagged) (line : LineState) (run : PortRun) (end : PortEnd)
-    → IsFullRun s v putter line → IsPrefix v.flip.taken putter.sent → flip.taken ≡ v.flip.taken → flip.capacity ≡ v.flip.capacity → IsLeftOf (record v { flip = flip }) line run end → IsPlayedOn s.port s.session run end
-full_played s v flip putter line run end full begins taken capacity left =
-    let of_scene : IsOfScene s (record v { flip = flip }) = record {
-      counts = full.of_scene.counts;
-      capacity = capacity ∙ full.of_scene.capacity;
-      limit = full.of_scene.limit;
-      known = full.of_scene.known;
-      in_phases = full.of_scene.in_phases;
-      turns = full.of_scene.turns;
-    } in
-    let way = on_the_way s (record v { flip = flip }) line run end of_scene left in
-    let count : length run.journal.items ≡ 4194304 = sym (length-map run.journal.items entry_of) ∙ ap (λ (es : List PlainEntry). length es) left.journal ∙ full.full in
+    → IsPortOf s v → IsFullRun s v putter line → IsPrefix v.flip.taken putter.sent → flip.taken ≡ v.flip.taken → flip.capacity ≡ v.flip.capacity → IsLeftOf (record v { flip = flip }) line run end → IsPlayedOn s.port s.session run end
+full_played s v flip putter line run end of full begins taken capacity left =
+    let count : length run.journal.items ≡ 4194304 = told_full run v.journal left.journal full.full in
     let chars : chars_of (entries_of run.journal.items) ≡ v.flip.taken = ap chars_of left.journal ∙ left.port.chars ∙ taken in
     let overruns : run.line.overruns.items ≡ line.report.overruns.items = ap (λ (r : LineReport). r.overruns.items) left.report in
     record {
       terminal = v.terminal;
       at_end = left.at_end;
-      few = few_entries (record v { flip = flip }) line run end left full.of_scene.limit;
+      few = few_entries (record v { flip = flip }) line run end left of.limit;
       short = record {
-        on_the_way = way;
+        on_the_way = subst (λ (es : List PlainEntry). IsOnTheWay s.port s.session es v.terminal) (sym left.journal) (on_the_way s (record v { flip = flip }) (port_met s v flip capacity of) left.port);
         ticks = λ k. subst (λ (es : List PlainEntry). tick_count_in k 0 es ≤ ticks_on s.port (phase_at s.session k)) (sym left.journal) (full.ticks k);
         last = inl (ap (after_phases (length s.session.phases)) left.journal ∙ full.last);
         chars = subst (λ (cs : List Flagged). IsPrefix cs (kept_list (received_list (script_on s.port s.session)) run.line.overruns.items)) (sym chars)
@@ -135,17 +142,14 @@ full_played s v flip putter line run end full begins taken capacity left =
             (begins_kept s v putter line full.done full.left full.has_put full.script_is begins));
       };
       legal = λ other. absurd (other count);
-      in_order = λ other. absurd (other count);
     }
 
 -- the journal of a port that was played to its last phase is full
-pub full_at_end : (s : Scene) (v : PortValue) (putter : PutterState Flagged) (line : LineState) (run : ℕ) → IsAtPhase s (length s.session.phases) v putter line run → HavePlayed s (length s.session.phases) v.journal line.report.overruns.items
-    → length v.journal ≡ v.limit → IsFullRun s v putter line
-full_at_end s v putter line run at_end played full = record {
-  of_scene = at_end.of_scene;
-  full = full ∙ at_end.of_scene.limit;
-  ticks = played.ticks;
-  last = all_phases_after (length s.session.phases) v.journal played.up_to;
+pub full_at_end : (s : Scene) (v : PortValue) (putter : PutterState Flagged) (line : LineState) → IsAtEnd s v putter line → length v.journal ≡ v.limit → IsFullRun s v putter line
+full_at_end s v putter line at_end full = record {
+  full = full ∙ at_end.port_of.limit;
+  ticks = at_end.played.ticks;
+  last = all_phases_after (length s.session.phases) v.journal at_end.played.up_to;
   done = script_of_first s.port s.session (length s.session.phases);
   left = [];
   script_is = sym (script_whole s.port s.session) ∙ sym (append-nil (script_of_first s.port s.session (length s.session.phases)));
@@ -157,19 +161,30 @@ full_at_end s v putter line run at_end played full = record {
 is_past_all : (n m : ℕ) → n ≡ m → m ≤ n
 is_past_all n m h = omega (arith, h)
 
-hangup_of_scene : (s : Scene) (v : PortValue) (flip : TakerState Flagged) (e : PlainEntry) (dropped : List Flagged) (terminal : Terminal) → IsOfScene s v → IsPort v → v.terminal.phase ≡ length s.session.phases → e.who ≡ Session → e.event ≡ hung_up dropped
-    → flip.capacity ≡ v.flip.capacity → IsOfScene s (record v { terminal = terminal; journal = v.journal ++ e ∷ []; flip = flip })
-hangup_of_scene s v flip e dropped terminal of_scene port past who event capacity =
+-- the hangup stands in its turn
+hangup_in_turn : (s : Scene) (v : PortValue) (e : PlainEntry) (dropped : List Flagged) → IsOfScene s v → IsPort v → v.terminal.phase ≡ length s.session.phases → e.who ≡ Session → e.event ≡ hung_up dropped
+    → AreInTurn s.port s.session (first_place s.port s.session) (v.journal ++ e ∷ [])
+hangup_in_turn s v e dropped of_scene port past who event =
     let there = place_terminal s v of_scene port in
     let phase : length s.session.phases ≤ (place_of s v.journal).terminal.phase = is_past_all (place_of s v.journal).terminal.phase (length s.session.phases) (ap (λ (t : Terminal). t.phase) there ∙ past) in
+    turns_more s.port s.session (first_place s.port s.session) v.journal e of_scene.turns
+    (record { by_turn = who ∙ sym (session_turn s.port s.session (place_of s v.journal) phase); piece = subst (λ (x : PlainEvent). IsPieceOf s.port s.session (place_of s v.journal) e.part x) (sym event) tt })
+
+-- the journal with the hangup is on the way
+hung_on_the_way : (s : Scene) (v w : PortValue) (now : PutterState Flagged) → v.counts ≡ counts_on s.port s.session → IsOnTheWay s.port s.session v.journal v.terminal → IsPort w → HangsUp v w now → IsOnTheWay s.port s.session w.journal w.terminal
+hung_on_the_way s v w now counted way port_w hang =
+    let e : PlainEntry = hangup_entry v hang.dropped in
+    let calls : ℕ → ℕ → Option PlainCall = call_at s.port s.session in
+    let counts : List ℕ = counts_on s.port s.session in
+    let allowed : Allowed calls counts v.terminal e = subst (λ (cs : List ℕ). Allowed calls cs v.terminal e) counted hang.appends.allowed in
+    let journal : w.journal ≡ v.journal ++ e ∷ [] = ap (λ (x : PortValue). x.journal) hang.appends.appended in
+    let terminal : w.terminal ≡ after calls v.terminal e = ap (λ (x : PortValue). x.terminal) hang.appends.appended in
+    let steps : IsRun calls counts (flip_on s.port s.session) (v.journal ++ e ∷ []) w.terminal =
+    leads_both calls counts (opening (sum counts) (flip_on s.port s.session)) v.journal v.terminal (e ∷ []) w.terminal way.steps (allowed, terminal) in
     record {
-      counts = of_scene.counts;
-      capacity = capacity ∙ of_scene.capacity;
-      limit = of_scene.limit;
-      known = of_scene.known;
-      in_phases = phases_more s.port s.session 0 v.journal e who of_scene.in_phases;
-      turns = turns_more s.port s.session (first_place s.port s.session) v.journal e of_scene.turns
-          (record { by_turn = who ∙ sym (session_turn s.port s.session (place_of s v.journal) phase); piece = subst (λ (x : PlainEvent). IsPieceOf s.port s.session (place_of s v.journal) e.part x) (sym event) tt });
+      steps = subst (λ (es : List PlainEntry). IsRun calls counts (flip_on s.port s.session) es w.terminal) (sym journal) steps;
+      in_phases = subst (AreInPhases s.port s.session 0) (sym journal) (phases_more s.port s.session 0 v.journal e refl way.in_phases);
+      one = port_w.one;
     }
 
 -- the journal of a port that was hung up is finished
@@ -185,10 +200,9 @@ hung_finished s journal overruns e dropped played event =
 sent_is : (n : ℕ) (sent : List Flagged) (overruns : List Overrun) (handed : ℕ) (all : List Flagged) → n + length overruns ≡ handed → handed ≡ length all → length sent + length overruns ≡ length all → n ≡ length sent
 sent_is n sent overruns handed all h k e = omega (arith, h, k, e)
 
-hung_account : (s : Scene) (v w : PortValue) (putter : PutterState Flagged) (line : LineState) (run : PortRun) (end : PortEnd) (run0 : ℕ) (e : PlainEntry) (dropped : List Flagged)
-    → IsAtPhase s (length s.session.phases) v putter line run0 → HavePlayed s (length s.session.phases) v.journal line.report.overruns.items
+hung_account : (s : Scene) (v w : PortValue) (putter : PutterState Flagged) (line : LineState) (run : PortRun) (end : PortEnd) (e : PlainEntry) (dropped : List Flagged) → IsAtEnd s v putter line
     → w.journal ≡ v.journal ++ e ∷ [] → e.event ≡ hung_up dropped → w.flip.taken ≡ putter.sent → IsLeftOf w line run end → IsAccounted s.port s.session run
-hung_account s v w putter line run end run0 e dropped at_end played journal event all left =
+hung_account s v w putter line run end e dropped at_end journal event all left =
     let n : ℕ = length s.session.phases in
     let entries : entries_of run.journal.items ≡ v.journal ++ e ∷ [] = left.journal ∙ journal in
     let overruns : run.line.overruns.items ≡ line.report.overruns.items = ap (λ (r : LineReport). r.overruns.items) left.report in
@@ -202,11 +216,11 @@ hung_account s v w putter line run end run0 e dropped at_end played journal even
     let count = all_counted v.flip.capacity handed putter.sent putter.heads line.report.overruns.items put.hands_over in
     record {
       finished = subst (λ (es : List PlainEntry). IsFinished s.port s.session run.line.overruns.items es) (sym entries)
-          (subst (λ (os : List Overrun). IsFinished s.port s.session os (v.journal ++ e ∷ [])) (sym overruns) (hung_finished s v.journal line.report.overruns.items e dropped played event));
+          (subst (λ (os : List Overrun). IsFinished s.port s.session os (v.journal ++ e ∷ [])) (sym overruns) (hung_finished s v.journal line.report.overruns.items e dropped at_end.played event));
       chars = ap chars_of left.journal ∙ left.port.chars ∙ all ∙ kept_all;
-      shown = subst (λ (os : List Overrun). AreShown (flip_on s.port s.session) 0 0 os) (sym overruns) (subst (λ c. AreShown c 0 0 line.report.overruns.items) at_end.of_scene.capacity shown);
+      shown = subst (λ (os : List Overrun). AreShown (flip_on s.port s.session) 0 0 os) (sym overruns) (subst (λ c. AreShown c 0 0 line.report.overruns.items) at_end.port_of.capacity shown);
       seen = subst (λ (es : List PlainEntry). AreSeen s.port s.session es run.line.overruns.items) (sym entries)
-          (subst (λ (os : List Overrun). AreSeen s.port s.session (v.journal ++ e ∷ []) os) (sym overruns) (played.seen (e ∷ [])));
+          (subst (λ (os : List Overrun). AreSeen s.port s.session (v.journal ++ e ∷ []) os) (sym overruns) (at_end.played.seen (e ∷ [])));
       arrived = ap (λ (r : LineReport). r.arrived) left.report ∙ put.done.arrived ∙ ap arrival_count (script_whole s.port s.session);
       fifo_lost = ap (λ (r : LineReport). r.fifo_lost) left.report ∙ put.done.lost ∙ ap lost_count (script_whole s.port s.session);
       sent = ap (λ (r : LineReport). r.sent) left.report ∙ sent_is line.report.sent putter.sent line.report.overruns.items line.handed handed put.done.sent put.done.handed count ∙ ap (λ (cs : List Flagged). length cs) kept_all;
@@ -215,36 +229,40 @@ hung_account s v w putter line run end run0 e dropped at_end played journal even
 prefix_same : {X : Type 0} (xs ys : List X) → xs ≡ ys → IsPrefix xs ys
 prefix_same xs ys e = ([], append-nil xs ∙ e)
 
-pub hung_played : (s : Scene) (v : PortValue) (flip : TakerState Flagged) (putter now : PutterState Flagged) (w : PortValue) (line : LineState) (run : PortRun) (end : PortEnd) (run0 : ℕ)
-    → IsAtPhase s (length s.session.phases) v putter line run0 → HavePlayed s (length s.session.phases) v.journal line.report.overruns.items → IsPort v → flip.capacity ≡ v.flip.capacity → now.sent ≡ putter.sent
-    → HangsUp (record v { flip = flip }) w now → IsLeftOf w line run end → IsPlayedOn s.port s.session run end
-hung_played s v flip putter now w line run end run0 at_end played port capacity same hang left =
+pub hung_played : (s : Scene) (v : PortValue) (flip : TakerState Flagged) (putter now : PutterState Flagged) (w : PortValue) (line : LineState) (run : PortRun) (end : PortEnd)
+    → IsAtEnd s v putter line → IsPort v → now.sent ≡ putter.sent → HangsUp (record v { flip = flip }) w now → IsLeftOf w line run end → IsPlayedOn s.port s.session run end
+hung_played s v flip putter now w line run end at_end port same hang left =
     let n : ℕ = length s.session.phases in
     let e : PlainEntry = hangup_entry (record v { flip = flip }) hang.dropped in
-    let terminal : Terminal = after (call_in v.kept) v.terminal e in
     let journal : w.journal ≡ v.journal ++ e ∷ [] = ap (λ (x : PortValue). x.journal) hang.appends.appended in
-    let of_scene : IsOfScene s w = subst (IsOfScene s) (sym hang.appends.appended) (hangup_of_scene s v w.flip e hang.dropped terminal at_end.of_scene port at_end.phase refl refl (hang.capacity ∙ capacity)) in
-    let account = hung_account s v w putter line run end run0 e hang.dropped at_end played journal refl (hang.all ∙ same) left in
-    let way = on_the_way s w line run end of_scene left in
+    let account = hung_account s v w putter line run end e hang.dropped at_end journal refl (hang.all ∙ same) left in
+    let way : IsOnTheWay s.port s.session (entries_of run.journal.items) w.terminal =
+    subst (λ (es : List PlainEntry). IsOnTheWay s.port s.session es w.terminal) (sym left.journal) (hung_on_the_way s (record v { flip = flip }) w now at_end.port_of.counts (on_the_way s v at_end.port_of port) left.port hang) in
     let entries : entries_of run.journal.items ≡ v.journal ++ e ∷ [] = left.journal ∙ journal in
-    let overruns : run.line.overruns.items ≡ line.report.overruns.items = ap (λ (r : LineReport). r.overruns.items) left.report in
-    let after_all : after_phases n (v.journal ++ e ∷ []) ≡ e ∷ [] = ap (λ j. after_phases j (v.journal ++ e ∷ [])) (sym (add-zero n)) ∙ up_after n 0 v.journal (e ∷ []) played.up_to in
+    let limit : w.limit ≡ 4194304 = ap (λ (x : PortValue). x.limit) hang.appends.appended ∙ at_end.port_of.limit in
+    let after_all : after_phases n (v.journal ++ e ∷ []) ≡ e ∷ [] = ap (λ j. after_phases j (v.journal ++ e ∷ [])) (sym (add-zero n)) ∙ up_after n 0 v.journal (e ∷ []) at_end.played.up_to in
     record {
       terminal = w.terminal;
       at_end = left.at_end;
-      few = few_entries w line run end left of_scene.limit;
+      few = few_entries w line run end left limit;
       short = record {
         on_the_way = way;
-        ticks = λ k. subst (λ (es : List PlainEntry). tick_count_in k 0 es ≤ ticks_on s.port (phase_at s.session k)) (sym entries) (hangup_ticks s v.journal e hang.dropped refl played.ticks k);
+        ticks = λ k. subst (λ (es : List PlainEntry). tick_count_in k 0 es ≤ ticks_on s.port (phase_at s.session k)) (sym entries) (hangup_ticks s v.journal e hang.dropped refl at_end.played.ticks k);
         last = inr (record { entry = e; dropped = hang.dropped; alone = ap (after_phases n) entries ∙ after_all; is_hangup = refl });
         chars = prefix_same (chars_of (entries_of run.journal.items)) (kept_list (received_list (script_on s.port s.session)) run.line.overruns.items) account.chars;
       };
       legal = λ other. record { on_the_way = way; account = account };
-      in_order = λ other. record {
-        turns = subst (λ (es : List PlainEntry). AreInTurn s.port s.session (first_place s.port s.session) es) (sym left.journal) of_scene.turns;
-        seen = subst (λ (es : List PlainEntry). AllSeeAll s.port s.session es run.line.overruns.items) (sym entries)
-            (subst (λ (os : List Overrun). AllSeeAll s.port s.session (v.journal ++ e ∷ []) os) (sym overruns) (played.see_all (e ∷ [])));
-      };
+    }
+
+pub hung_in_order : (s : Scene) (v : PortValue) (flip : TakerState Flagged) (now : PutterState Flagged) (w : PortValue) (line : LineState) (run : PortRun) (end : PortEnd)
+    → IsOfScene s v → IsPort v → v.terminal.phase ≡ length s.session.phases → HaveSeenAll s v.journal line.report.overruns.items → HangsUp (record v { flip = flip }) w now → IsLeftOf w line run end → IsRunInOrder s.port s.session run
+hung_in_order s v flip now w line run end of_scene port past see_all hang left other =
+    let e : PlainEntry = hangup_entry (record v { flip = flip }) hang.dropped in
+    let entries : entries_of run.journal.items ≡ v.journal ++ e ∷ [] = left.journal ∙ ap (λ (x : PortValue). x.journal) hang.appends.appended in
+    let overruns : run.line.overruns.items ≡ line.report.overruns.items = ap (λ (r : LineReport). r.overruns.items) left.report in
+    record {
+      turns = subst (λ (es : List PlainEntry). AreInTurn s.port s.session (first_place s.port s.session) es) (sym entries) (hangup_in_turn s v e hang.dropped of_scene port past refl refl);
+      seen = subst (λ (es : List PlainEntry). AllSeeAll s.port s.session es run.line.overruns.items) (sym entries) (subst (λ (os : List Overrun). AllSeeAll s.port s.session (v.journal ++ e ∷ []) os) (sym overruns) (see_all (e ∷ [])));
     }
 
 -- ---- the beginning
@@ -305,12 +323,9 @@ opened_at s counts flip putter line is capacity room ring same none heads done m
         (subst (λ (hs : List ℕ). HandsOver flip.capacity [] [] [] [] [] hs [] line.report.overruns.items) (sym heads)
         (subst (λ (os : List Overrun). HandsOver flip.capacity [] [] [] [] [] [] [] os) (sym no_overruns) (HandsOver-none flip.capacity [] [] [] []))))
 
-pub nothing_played : (s : Scene) → HavePlayed s 0 [] []
+pub nothing_played : (s : Scene) → HavePlayedInOrder s 0 [] []
 nothing_played s = record {
-  up_to = inl (refl, refl);
-  ticks = λ j. omega arith;
-  finished = λ more rest later goes_on. goes_on;
-  seen = λ rest. tt;
+  played = record { up_to = inl (refl, refl); ticks = λ j. omega arith; finished = λ more rest later goes_on. goes_on; seen = λ rest. tt };
   see_all = λ rest. tt;
 }
 
@@ -321,15 +336,18 @@ no_first_steps s n h = record { count = length-replicate n 0 ∙ h; each = λ c.
 pub phases_over : (s : Scene) (v : PortValue) (putter : PutterState Flagged) (line : LineState) (run : ℕ) → IsAtPhase s (length s.session.phases) v putter line run → v.terminal.phase ≡ length v.counts
 phases_over s v putter line run h = h.phase ∙ sym (ap (λ (xs : List ℕ). length xs) h.of_scene.counts ∙ length-map s.session.phases (λ phase. length (scripts_on s.port phase)))
 
+pub at_end_of : (s : Scene) (v : PortValue) (putter : PutterState Flagged) (line : LineState) (run : ℕ) → IsAtPhase s (length s.session.phases) v putter line run → HavePlayed s (length s.session.phases) v.journal line.report.overruns.items → IsAtEnd s v putter line
+at_end_of s v putter line run h played = record { port_of = port_of_scene s v h.of_scene; has_put = h.has_put; played = played }
+
 -- ---- port after port
 
-last_or : {X : Type 0} (xs : List X) (y : X) (i : ℕ) (x : X) → slice_get (xs ++ y ∷ []) i ≡ Some x → (slice_get xs i ≡ Some x) ⊎ ((i ≡ length xs) × (Some y ≡ Some x))
+pub last_or : {X : Type 0} (xs : List X) (y : X) (i : ℕ) (x : X) → slice_get (xs ++ y ∷ []) i ≡ Some x → (slice_get xs i ≡ Some x) ⊎ ((i ≡ length xs) × (Some y ≡ Some x))
 last_or [] y zero x h = inr (refl, h)
 last_or [] y (suc i) x h = absurd (cc)
 last_or (z ∷ xs) y zero x h = inl h
 last_or (z ∷ xs) y (suc i) x h = elim (last_or xs y i x h) [ inl p ↦ inl p | inr p ↦ inr (ap (λ n. suc n) p.0, p.1) ]
 
-get_none : {X : Type 0} (xs : List X) (i : ℕ) (x : X) → length xs ≤ i → slice_get xs i ≡ Some x → ⊥
+pub get_none : {X : Type 0} (xs : List X) (i : ℕ) (x : X) → length xs ≤ i → slice_get xs i ≡ Some x → ⊥
 get_none [] i x h k = cc
 get_none (y ∷ xs) zero x h k = absurd (omega (arith, h))
 get_none (y ∷ xs) (suc i) x h k = get_none xs i x (omega (arith, h)) k
@@ -338,7 +356,7 @@ abbrev or_else : {X : Type 0} → X → Option X → X
 or_else d None = d
 or_else d (Some x) = x
 
-some_is : {X : Type 0} (x y : X) → Some x ≡ Some y → x ≡ y
+pub some_is : {X : Type 0} (x y : X) → Some x ≡ Some y → x ≡ y
 some_is x y h = ap (or_else x) h
 
 pub one_more_played : (session : PlainSession) (n : ℕ) (runs : List PortRun) (ends : List PortEnd) (run : PortRun) (end : PortEnd) → AreFirstPlayed session n runs ends → IsPlayedOn n session run end → AreFirstPlayed session (n + 1) (runs ++ run ∷ []) (ends ++ end ∷ [])
@@ -355,6 +373,16 @@ one_more_played session n runs ends run end before now = record {
     one_of p r e (inr a) (inr b) =
         subst (λ m. IsPlayedOn m session r e) (sym (a.0 ∙ before.runs_of))
         (subst (λ (x : PortRun). IsPlayedOn n session x e) (some_is run r a.1) (subst (λ (x : PortEnd). IsPlayedOn n session run x) (some_is end e b.1) now))
+
+pub one_more_in_order : (session : PlainSession) (n : ℕ) (runs : List PortRun) (run : PortRun) → length runs ≡ n → AreInOneOrder session runs → IsRunInOrder n session run → AreInOneOrder session (runs ++ run ∷ [])
+one_more_in_order session n runs run count before now p r at = one_of (last_or runs run p r at)
+  where
+    one_of : (slice_get runs p ≡ Some r) ⊎ ((p ≡ length runs) × (Some run ≡ Some r)) → IsRunInOrder p session r
+    one_of (inl a) = before p r a
+    one_of (inr a) = subst (λ m. IsRunInOrder m session r) (sym (a.0 ∙ count)) (subst (λ (x : PortRun). IsRunInOrder n session x) (some_is run r a.1) now)
+
+pub none_in_order : (session : PlainSession) → AreInOneOrder session []
+none_in_order session p run at = absurd (get_none [] p run (omega arith) at)
 
 pub none_played : (session : PlainSession) → AreFirstPlayed session 0 [] []
 none_played session = record { runs_of = refl; ends_of = refl; each = λ p r e at_run at_end. absurd (get_none [] p r (omega arith) at_run) }

@@ -16,6 +16,7 @@ use Rattle.tty_calls.specs.Plain.{PlainCall, PlainEvent, PlainEntry, phase_ended
 use Rattle.tty_calls.specs.Sessions.{line_on, ticks_on, scripts_on, call_at, counts_on}
 use Rattle.tty_terminal.specs.declared.callers.CallerState.{CallerState}
 use Rattle.tty_terminal.specs.Terminals.{Terminal, caller_at}
+use Rattle.tty_terminal.specs.Runs.{Leads}
 use Rattle.journal_check.specs.Legal.{phase_at, name_at, has_script, first_step, steps_in, script_of_first, script_on, received_before, session_events_in}
 use Rattle.journal_check.specs.Short.{after_phases}
 use Rattle.journal_check.specs.Phases.{HasPlayed, CompletesPhase}
@@ -24,11 +25,11 @@ use Rattle.one_thread.specs.Order.{Place, place_after, first_place, cuts_flushed
 use Rattle.one_thread.specs.Roles.{Scene}
 use Rattle.one_thread.specs.Stages.{place_of, AreAtFirst, IsOfScene, EndsAfterLine, StopsAfterLine}
 use Rattle.one_thread.specs.Lines.{HasPut, IsAtPhase, PlaysLine, StopsInLine, StopsLine}
-use Rattle.one_thread.specs.Phases.{HasFewTicks, HavePlayed, IsFullRun, StopsFull}
+use Rattle.one_thread.specs.Phases.{HasFewTicks, HavePlayed, HavePlayedInOrder, IsFullRun, StopsFull}
 use Rattle.one_thread.proofs.Places.{place_more}
 use Rattle.one_thread.proofs.JournalLemmas.{none_ends, leads_both, stops_within}
 use Rattle.one_thread.proofs.ReceivedLemmas.{script_parts, kept_later, arrivals_fit, hands_over_loaded}
-use Rattle.one_thread.proofs.PhaseLemmas.{few_ticks, phase_stays, PlaysPhase, whole_part, line_inside, played_more}
+use Rattle.one_thread.proofs.PhaseLemmas.{few_ticks, phase_stays, PlaysPart, line_inside, all_see_within, played_more, seen_all_more}
 
 -- ---- places
 
@@ -99,19 +100,24 @@ at_next_phase s k old mid new putter now left line played run after_line next be
       most = plays.most ∙ before.most;
     }
 
+-- the line of the phase, and what comes after it
+leads_on : (s : Scene) (t m u : Terminal) (flushes : List PlainEntry) (last : PlainEntry) (part : List PlainEntry) → Leads (call_at s.port s.session) (counts_on s.port s.session) t (flushes ++ last ∷ []) m
+    → Leads (call_at s.port s.session) (counts_on s.port s.session) m part u → Leads (call_at s.port s.session) (counts_on s.port s.session) t (flushes ++ last ∷ part) u
+leads_on s t m u flushes last part h k =
+    subst (λ (es : List PlainEntry). Leads (call_at s.port s.session) (counts_on s.port s.session) t es u) (append_assoc flushes (last ∷ []) part)
+    (leads_both (call_at s.port s.session) (counts_on s.port s.session) t (flushes ++ last ∷ []) m part u h k)
+
 -- the phase as it was played
-plays_phase : (s : Scene) (k : ℕ) (old mid new : PortValue) (putter now left : PutterState Flagged) (line played : LineState) (run after_line next : ℕ)
+plays_part : (s : Scene) (k : ℕ) (old mid new : PortValue) (putter now left : PutterState Flagged) (line played : LineState) (run after_line next : ℕ)
     → k < length s.session.phases → IsAtPhase s k old putter line run → (plays : PlaysLine s k old mid now line played after_line) → (ends : EndsAfterLine s mid new now left next)
-    → PlaysPhase s k old.terminal old.journal plays.flushes plays.last (length now.sent) ends.part ends.last ends.terminal
-plays_phase s k old mid new putter now left line played run after_line next within before plays ends = record {
+    → PlaysPart s k old.terminal plays.flushes plays.last (length now.sent) ends.part ends.last ends.terminal
+plays_part s k old mid new putter now left line played run after_line next within before plays ends = record {
   within = within;
   begins = record { line = before.line_over; clock = before.clock_over; callers = λ c. ap (λ (x : CallerState). x.over) (before.callers c) };
-  first = before.callers;
-  inside = plays.inside;
+  inside = line_inside plays.flushes plays.last (length now.sent) ends.part plays.inside plays.ends ends.inside;
   none = plays.no_end;
   line = plays.ends;
-  leads = leads_both (call_at s.port s.session) (counts_on s.port s.session) old.terminal (plays.flushes ++ plays.last ∷ []) mid.terminal ends.part ends.terminal plays.leads ends.leads;
-  later = ends.inside;
+  leads = leads_on s old.terminal mid.terminal ends.terminal plays.flushes plays.last ends.part plays.leads ends.leads;
   ends = ends.ends;
   tick = ends.tick ∙ ap (λ n. n + ticks_on s.port (phase_at s.session mid.terminal.phase)) plays.tick ∙ ap (λ n. old.terminal.tick + ticks_on s.port (phase_at s.session n)) plays.phase;
 }
@@ -132,19 +138,27 @@ completes_phase s k old mid new putter now left line played run after_line next 
       callers = λ c. subst (λ n. HasPlayed (has_script (scripts_on s.port (phase_at s.session n)) (name_at s.port s.session c)) (first_step s.port s.session n c) (steps_in s.port s.session n c) (caller_at ends.terminal c).next (caller_at ends.terminal c).over) plays.phase (ends.callers c);
     }
 
+-- the journal after the phase
+journal_after : (journal mid new flushes : List PlainEntry) (last : PlainEntry) (part : List PlainEntry) (end : PlainEntry) → mid ≡ journal ++ (flushes ++ last ∷ []) → new ≡ mid ++ (part ++ end ∷ []) → new ≡ journal ++ ((flushes ++ last ∷ part) ++ end ∷ [])
+journal_after journal mid new flushes last part end is ends =
+    ends ∙ ap (λ (x : List PlainEntry). x ++ (part ++ end ∷ [])) is ∙ append_assoc journal (flushes ++ last ∷ []) (part ++ end ∷ [])
+    ∙ ap (λ (x : List PlainEntry). journal ++ x) (sym (append_assoc (flushes ++ last ∷ []) part (end ∷ []))) ∙ ap (λ (x : List PlainEntry). journal ++ (x ++ end ∷ [])) (append_assoc flushes (last ∷ []) part)
+
 pub played_phase : (s : Scene) (k : ℕ) (old mid new : PortValue) (putter now left : PutterState Flagged) (line played : LineState) (run after_line next : ℕ)
-    → k < length s.session.phases → IsAtPhase s k old putter line run → HavePlayed s k old.journal line.report.overruns.items → PlaysLine s k old mid now line played after_line → EndsAfterLine s mid new now left next
-    → HavePlayed s (k + 1) new.journal played.report.overruns.items
+    → k < length s.session.phases → IsAtPhase s k old putter line run → HavePlayedInOrder s k old.journal line.report.overruns.items → PlaysLine s k old mid now line played after_line → EndsAfterLine s mid new now left next
+    → HavePlayedInOrder s (k + 1) new.journal played.report.overruns.items
 played_phase s k old mid new putter now left line played run after_line next within before so_far plays ends =
-    let part = plays_phase s k old mid new putter now left line played run after_line next within before plays ends in
-    let journal : new.journal ≡ old.journal ++ (whole_part plays.flushes plays.last ends.part ++ ends.last ∷ []) =
-    ends.added ∙ ap (λ (x : List PlainEntry). x ++ (ends.part ++ ends.last ∷ [])) plays.added ∙ append_assoc old.journal (plays.flushes ++ plays.last ∷ []) (ends.part ++ ends.last ∷ [])
-    ∙ ap (λ (x : List PlainEntry). old.journal ++ x) (sym (append_assoc (plays.flushes ++ plays.last ∷ []) ends.part (ends.last ∷ []))) in
-    subst (λ (x : List PlainEntry). HavePlayed s (k + 1) x played.report.overruns.items) (sym journal)
-    (subst (λ (os : List Overrun). HavePlayed s (k + 1) (old.journal ++ (whole_part plays.flushes plays.last ends.part ++ ends.last ∷ [])) os) (sym plays.more_overruns)
-    (played_more s k old.terminal old.journal plays.flushes plays.last (length now.sent) ends.part ends.last ends.terminal line.report.overruns.items plays.overruns so_far part
-    (λ more later. subst (λ (os : List Overrun). CompletesPhase s.port s.session (os ++ more) k old.terminal ends.terminal) plays.more_overruns (completes_phase s k old mid new putter now left line played run after_line next before plays ends more later))
-    plays.seen))
+    let part = plays_part s k old mid new putter now left line played run after_line next within before plays ends in
+    let whole : List PlainEntry = old.journal ++ ((plays.flushes ++ plays.last ∷ ends.part) ++ ends.last ∷ []) in
+    let journal : new.journal ≡ whole = journal_after old.journal mid.journal new.journal plays.flushes plays.last ends.part ends.last plays.added ends.added in
+    let completes : (more : List Overrun) → All (λ o. received_before s.port s.session (k + 1) ≤ o.at) more → CompletesPhase s.port s.session ((line.report.overruns.items ++ plays.overruns) ++ more) k old.terminal ends.terminal =
+    λ more later. subst (λ (os : List Overrun). CompletesPhase s.port s.session (os ++ more) k old.terminal ends.terminal) plays.more_overruns (completes_phase s k old mid new putter now left line played run after_line next before plays ends more later) in
+    subst (λ (x : List PlainEntry). HavePlayedInOrder s (k + 1) x played.report.overruns.items) (sym journal)
+    (subst (λ (os : List Overrun). HavePlayedInOrder s (k + 1) whole os) (sym plays.more_overruns) (record {
+      played = played_more s k old.terminal old.journal plays.flushes plays.last (length now.sent) ends.part ends.last ends.terminal line.report.overruns.items plays.overruns so_far.played part completes
+          (all_see_within s k old.journal plays.flushes plays.overruns plays.seen);
+      see_all = seen_all_more s k old.terminal old.journal plays.flushes plays.last (length now.sent) ends.part ends.last ends.terminal line.report.overruns.items plays.overruns so_far part plays.seen;
+    }))
 
 -- ---- a full journal
 
@@ -153,10 +167,9 @@ script_left s k steps left h =
     script_parts s.port s.session (k + 1) ∙ ap (λ (x : List LineStep). x ++ script (map (line_on s.port) (drop (k + 1) s.session.phases))) h
     ∙ append_assoc steps left (script (map (line_on s.port) (drop (k + 1) s.session.phases)))
 
-pub full_in_line : (s : Scene) (k : ℕ) (old new : PortValue) (putter now : PutterState Flagged) (line played : LineState) (run : ℕ)
+full_in_line : (s : Scene) (k : ℕ) (old new : PortValue) (putter now : PutterState Flagged) (line played : LineState) (run : ℕ)
     → k < length s.session.phases → IsAtPhase s k old putter line run → HavePlayed s k old.journal line.report.overruns.items → StopsInLine s k old new now played → IsFullRun s new now played
 full_in_line s k old new putter now line played run within before so_far stops = record {
-  of_scene = stops.of_scene;
   full = stops.full;
   ticks = subst (HasFewTicks s) (sym stops.added)
       (few_ticks s k old.journal stops.part old.terminal new.terminal so_far.up_to so_far.ticks stops.leads stops.inside (let tick = stops.tick in omega (arith, tick)));
@@ -167,26 +180,32 @@ full_in_line s k old new putter now line played run within before so_far stops =
   has_put = stops.has_put;
 }
 
-pub full_after_line : (s : Scene) (k : ℕ) (old mid new : PortValue) (putter now left : PutterState Flagged) (line played : LineState) (run after_line : ℕ)
+-- the journal is full in a phase whose line has done its steps
+pub full_in_phase : (s : Scene) (k : ℕ) (old new : PortValue) (now : PutterState Flagged) (played : LineState) (overruns : List Overrun) (part : List PlainEntry)
+    → k < length s.session.phases → HavePlayed s k old.journal overruns → length new.journal ≡ 4194304 → new.journal ≡ old.journal ++ part → Leads (call_at s.port s.session) (counts_on s.port s.session) old.terminal part new.terminal
+    → session_events_in part ≡ [] → new.terminal.tick ≤ old.terminal.tick + ticks_on s.port (phase_at s.session k) → HasPut new now played (script_of_first s.port s.session (k + 1)) → IsFullRun s new now played
+full_in_phase s k old new now played overruns part within so_far full added leads inside ticks put = record {
+  full = full;
+  ticks = subst (HasFewTicks s) (sym added) (few_ticks s k old.journal part old.terminal new.terminal so_far.up_to so_far.ticks leads inside ticks);
+  last = ap (after_phases (length s.session.phases)) added ∙ stops_within k (length s.session.phases) old.journal part so_far.up_to inside within;
+  done = script_of_first s.port s.session (k + 1);
+  left = script (map (line_on s.port) (drop (k + 1) s.session.phases));
+  script_is = script_parts s.port s.session (k + 1);
+  has_put = put;
+}
+
+full_after_line : (s : Scene) (k : ℕ) (old mid new : PortValue) (putter now left : PutterState Flagged) (line played : LineState) (run after_line : ℕ)
     → k < length s.session.phases → IsAtPhase s k old putter line run → HavePlayed s k old.journal line.report.overruns.items → PlaysLine s k old mid now line played after_line
     → StopsAfterLine s mid new Full → left ≡ now → IsFullRun s new left played
 full_after_line s k old mid new putter now left line played run after_line within before so_far plays stops same =
-    let part : List PlainEntry = whole_part plays.flushes plays.last stops.part in
-    let inside : session_events_in part ≡ [] = line_inside plays.flushes plays.last (length now.sent) stops.part plays.inside plays.ends stops.inside in
-    let added : new.journal ≡ old.journal ++ part = stops.added ∙ ap (λ (x : List PlainEntry). x ++ stops.part) plays.added ∙ append_assoc old.journal (plays.flushes ++ plays.last ∷ []) stops.part in
-    let leads = leads_both (call_at s.port s.session) (counts_on s.port s.session) old.terminal (plays.flushes ++ plays.last ∷ []) mid.terminal stops.part new.terminal plays.leads stops.leads in
+    let part : List PlainEntry = plays.flushes ++ plays.last ∷ stops.part in
     let bound : ticks_on s.port (phase_at s.session mid.terminal.phase) ≡ ticks_on s.port (phase_at s.session k) = ap (λ n. ticks_on s.port (phase_at s.session n)) plays.phase in
-    record {
-      of_scene = stops.of_scene;
-      full = stops.full ∙ stops.of_scene.limit;
-      ticks = subst (HasFewTicks s) (sym added)
-          (few_ticks s k old.journal part old.terminal new.terminal so_far.up_to so_far.ticks leads inside (let ticks = stops.ticks in let tick = plays.tick in omega (arith, ticks, tick, bound)));
-      last = ap (after_phases (length s.session.phases)) added ∙ stops_within k (length s.session.phases) old.journal part so_far.up_to inside within;
-      done = script_of_first s.port s.session (k + 1);
-      left = script (map (line_on s.port) (drop (k + 1) s.session.phases));
-      script_is = script_parts s.port s.session (k + 1);
-      has_put = same_put mid new now left played (script_of_first s.port s.session (k + 1)) plays.has_put same stops.ring (same_capacity s mid new plays.after_line.of_scene stops.of_scene);
-    }
+    full_in_phase s k old new left played line.report.overruns.items part within so_far (stops.full ∙ stops.of_scene.limit)
+    (stops.added ∙ ap (λ (x : List PlainEntry). x ++ stops.part) plays.added ∙ append_assoc old.journal (plays.flushes ++ plays.last ∷ []) stops.part ∙ ap (λ (x : List PlainEntry). old.journal ++ x) (append_assoc plays.flushes (plays.last ∷ []) stops.part))
+    (leads_on s old.terminal mid.terminal new.terminal plays.flushes plays.last stops.part plays.leads stops.leads)
+    (line_inside plays.flushes plays.last (length now.sent) stops.part plays.inside plays.ends stops.inside)
+    (let ticks = stops.ticks in let tick = plays.tick in omega (arith, ticks, tick, bound))
+    (same_put mid new now left played (script_of_first s.port s.session (k + 1)) plays.has_put same stops.ring (same_capacity s mid new plays.after_line.of_scene stops.of_scene))
 
 -- ---- the player's exits
 
@@ -200,16 +219,16 @@ room_for_line s k v putter line run steps before within is =
     omega (arith, fit, count, arrived, most)
 
 pub stopped_in_line : (d : Denied) (s : Scene) (k : ℕ) (old new : PortValue) (putter now : PutterState Flagged) (line played : LineState) (run : ℕ)
-    → k < length s.session.phases → IsAtPhase s k old putter line run → HavePlayed s k old.journal line.report.overruns.items → StopsLine d s k old new now played → StopsFull d s new now played
+    → k < length s.session.phases → IsAtPhase s k old putter line run → HavePlayedInOrder s k old.journal line.report.overruns.items → StopsLine d s k old new now played → StopsFull d s new now played
 stopped_in_line NoMemory s k old new putter now line played run within before so_far stops = tt
-stopped_in_line Full s k old new putter now line played run within before so_far stops = full_in_line s k old new putter now line played run within before so_far stops
+stopped_in_line Full s k old new putter now line played run within before so_far stops = (stops.of_scene, full_in_line s k old new putter now line played run within before so_far.played stops)
 
 pub stopped_after_line : (d : Denied) (s : Scene) (k : ℕ) (old mid new : PortValue) (putter now left : PutterState Flagged) (line played : LineState) (run after_line : ℕ)
-    → k < length s.session.phases → IsAtPhase s k old putter line run → HavePlayed s k old.journal line.report.overruns.items → PlaysLine s k old mid now line played after_line
+    → k < length s.session.phases → IsAtPhase s k old putter line run → HavePlayedInOrder s k old.journal line.report.overruns.items → PlaysLine s k old mid now line played after_line
     → StopsAfterLine s mid new d → left ≡ now → StopsFull d s new left played
 stopped_after_line NoMemory s k old mid new putter now left line played run after_line within before so_far plays stops same = tt
 stopped_after_line Full s k old mid new putter now left line played run after_line within before so_far plays stops same =
-    full_after_line s k old mid new putter now left line played run after_line within before so_far plays stops same
+    (stops.of_scene, full_after_line s k old mid new putter now left line played run after_line within before so_far.played plays stops same)
 
 -- what an `Err` says, with what stayed
 pub err_with : {T E : Type 0} (P R : E → Type 0) (Q : Type 0) (r : Result T E) → IfErr r P → OnErr r Q → ((e : E) → P e → Q → R e) → IfErr r R

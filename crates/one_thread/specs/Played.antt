@@ -1,4 +1,4 @@
--- What playing a session on one thread comes to.
+-- What playing a session comes to.
 use Rattle.std.specs.Prelude.{◌≡◌, ◌≢◌, ◌≤◌, ℕ, List, Some, length, slice_get}
 use Rattle.tty_calls.specs.declared.answers.PortEnd.{PortEnd}
 use Rattle.tty_calls.specs.declared.journals.PortRun.{PortRun}
@@ -17,17 +17,23 @@ pub record IsEndOf (t : Terminal) (end : PortEnd) : Type 0 where
   pub wire : end.wire.items ≡ t.output.wire
 
 -- A port was played: its run is one of the session as far as it went, and leads to the terminal of its end. Unless its journal is
--- full it is legal, and in the order of one thread.
+-- full it is legal.
 pub record IsPlayedOn (p : ℕ) (session : PlainSession) (run : PortRun) (end : PortEnd) : Type 0 where
   pub terminal : Terminal
   pub at_end : IsEndOf terminal end
   pub few : length run.journal.items ≤ 4194304
   pub short : IsCutShort p session run terminal
   pub legal : length run.journal.items ≢ 4194304 → IsLegal p session run terminal
-  pub in_order : length run.journal.items ≢ 4194304 → IsInOneOrder p session (entries_of run.journal.items) run.line.overruns.items
 
 -- each port of the session was played
 pub record ArePlayed (session : PlainSession) (runs : List PortRun) (ends : List PortEnd) : Type 0 where
   pub runs_of_all : length runs ≡ session.ports
   pub ends_of_all : length ends ≡ session.ports
   pub each : (p : ℕ) (run : PortRun) (end : PortEnd) → slice_get runs p ≡ Some run → slice_get ends p ≡ Some end → IsPlayedOn p session run end
+
+-- a run is in the order of one thread, unless its journal is full
+abbrev pub IsRunInOrder : ℕ → PlainSession → PortRun → Type 0
+IsRunInOrder p session run = length run.journal.items ≢ 4194304 → IsInOneOrder p session (entries_of run.journal.items) run.line.overruns.items
+
+abbrev pub AreInOneOrder : PlainSession → List PortRun → Type 0
+AreInOneOrder session runs = (p : ℕ) (run : PortRun) → slice_get runs p ≡ Some run → IsRunInOrder p session run

@@ -8,7 +8,7 @@ ghost use Rattle.journal_check.specs.Legal.{phase_at};
 ghost use Rattle.one_thread.specs.Roles.{Scene, scene_of, names_in, role_in, AreRolesOf};
 ghost use Rattle.one_thread.specs.Casting.{scripts_at};
 ghost use Rattle.one_thread.specs.Lines.{IsAtPhase};
-ghost use Rattle.one_thread.specs.Phases.{HavePlayed, IsBeforePhase, IsStopped};
+ghost use Rattle.one_thread.specs.Phases.{HavePlayedInOrder, IsBeforePhase, IsStopped};
 
 use crate::after_line::play_after_line;
 use crate::line::play_line;
@@ -23,15 +23,15 @@ use uart_line::Line;
 /// A port that is played, the end of its flip buffer that puts in, its line, and the next step of each
 /// of its callers.
 #[derive(Drop)]
-pub(crate) struct Station {
-    pub(crate) port: Port,
-    pub(crate) putter: FlipIn,
-    pub(crate) line: Line,
-    pub(crate) steps: Vec<u32>,
+pub struct Station {
+    pub port: Port,
+    pub putter: FlipIn,
+    pub line: Line,
+    pub steps: Vec<u32>,
 }
 
 /// The scripts of a phase, on all ports.
-fn scripts_of(session: &Session, k: usize) -> &[Script]
+pub fn scripts_of(session: &Session, k: usize) -> &[Script]
     requires { k < length (session_of session.now).phases }
     ensures { result.now ≡ scripts_at session.now k }
 {
@@ -39,7 +39,7 @@ fn scripts_of(session: &Session, k: usize) -> &[Script]
 }
 
 /// The steps of a port's line in a phase.
-pub(crate) fn steps_of(session: &Session, number: usize, k: usize) -> &[LineStep]
+pub fn steps_of(session: &Session, number: usize, k: usize) -> &[LineStep]
     requires within { IsWithinLimits (session_of session.now) }
     requires phase { k < length (session_of session.now).phases }
     requires port { number < (session_of session.now).ports }
@@ -50,7 +50,7 @@ pub(crate) fn steps_of(session: &Session, number: usize, k: usize) -> &[LineStep
 }
 
 /// The ticks of a port's clock in a phase.
-fn ticks_of(session: &Session, number: usize, k: usize) -> u32
+pub fn ticks_of(session: &Session, number: usize, k: usize) -> u32
     requires within { IsWithinLimits (session_of session.now) }
     requires phase { k < length (session_of session.now).phases }
     requires port { number < (session_of session.now).ports }
@@ -71,13 +71,13 @@ fn play_parts(
     ghost scene: { Scene }
     requires within { station.old.port.terminal.phase < length scene.session.phases }
     requires before { IsAtPhase scene station.old.port.terminal.phase station.old.port station.old.putter station.old.line run }
-    requires played { HavePlayed scene station.old.port.terminal.phase station.old.port.journal station.old.line.report.overruns.items }
+    requires played { HavePlayedInOrder scene station.old.port.terminal.phase station.old.port.journal station.old.line.report.overruns.items }
     requires steps { steps.now ≡ line_on scene.port (phase_at scene.session station.old.port.terminal.phase) }
     requires good { All (λ step. IsTrue (is_step step)) steps.now }
     requires roles { AreRolesOf scene station.old.port.terminal.phase (map (role_in scripts.now) roles.now) }
     requires ticks { ticks ≡ ticks_on scene.port (phase_at scene.session station.old.port.terminal.phase) }
     ensures at_phase { IfOk result (λ next. IsAtPhase scene (station.old.port.terminal.phase + 1) station.new.port station.new.putter station.new.line next) }
-    ensures played { OnOk result (HavePlayed scene (station.old.port.terminal.phase + 1) station.new.port.journal station.new.line.report.overruns.items) }
+    ensures played { OnOk result (HavePlayedInOrder scene (station.old.port.terminal.phase + 1) station.new.port.journal station.new.line.report.overruns.items) }
     ensures steps { station.new.steps ≡ station.old.steps }
     ensures err { IfErr result (λ d. IsStopped d scene station.new) }
 {

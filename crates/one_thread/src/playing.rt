@@ -1,7 +1,7 @@
 ghost use Rattle.std.specs.Prelude.{IfOk};
 ghost use Rattle.tty_calls.specs.Limits.{IsWithinLimits};
 ghost use Rattle.tty_calls.specs.Sessions.{session_of};
-ghost use Rattle.one_thread.specs.Played.{ArePlayed};
+ghost use Rattle.one_thread.specs.Played.{ArePlayed, AreInOneOrder};
 
 use crate::ports::play_port;
 use std::alloc::Global;
@@ -19,7 +19,8 @@ pub struct Played {
 /// no further.
 pub fn play(alloc: Global, session: &Session) -> Result<Played, NoMemory>
     requires { IsWithinLimits (session_of session.now) }
-    ensures { IfOk result (λ played. ArePlayed (session_of session.now) played.runs.items played.ends.items) }
+    ensures played { IfOk result (λ played. ArePlayed (session_of session.now) played.runs.items played.ends.items) }
+    ensures in_order { IfOk result (λ played. AreInOneOrder (session_of session.now) played.runs.items) }
 {
     let ports = usize::from(session.ports);
     let mut runs = Buffer::new(alloc);

@@ -1,16 +1,18 @@
 //! A port of a session, from its opening to its hangup.
 
-ghost use Rattle.std.specs.Prelude.{◌≡◌, ◌<◌, ◌≤◌, ℕ, IfOk, IfErr, length};
+ghost use Rattle.std.specs.Prelude.{◌≡◌, ◌<◌, ◌≤◌, IfOk, IfErr, length};
 ghost use Rattle.tty_base.specs.Lines.{arrival, arrival_count};
 ghost use Rattle.tty_calls.specs.Limits.{IsWithinLimits, character_count};
+ghost use Rattle.tty_calls.specs.Plain.{entries_of};
 ghost use Rattle.tty_calls.specs.Sessions.{session_of};
 ghost use Rattle.one_thread.specs.Roles.{Scene, scene_of, names_in};
-ghost use Rattle.one_thread.specs.Phases.{IsBeforePhase, IsStopped, IsFullRun, IsLeftOf};
-ghost use Rattle.one_thread.specs.Played.{IsPlayedOn};
+ghost use Rattle.one_thread.specs.Phases.{HaveSeenAll, IsBeforePhase, IsPortOf, IsFullRun, IsAtEnd, IsStopped, IsLeftOf};
+ghost use Rattle.one_thread.specs.Played.{IsPlayedOn, IsRunInOrder};
+ghost use Rattle.one_thread.specs.Stages.{IsOfScene};
 
 use crate::phases::{Station, play_phase, steps_of};
 use crate::roles::counts_of;
-use flip_buffer::flip;
+use flip_buffer::{FlipIn, flip};
 use port_core::Port;
 use std::alloc::Global;
 use tty_base::{LineStep, NoMemory};
@@ -56,7 +58,7 @@ fn characters_on(session: &Session, number: usize) -> u32
 }
 
 /// A port at the beginning of its session.
-fn open_port(
+pub fn open_port(
     alloc: Global,
     session: &Session,
     number: usize,
@@ -113,33 +115,27 @@ fn left_of(port: Port, line: Line) -> (PortRun, PortEnd)
 }
 
 /// A port whose journal is full, as far as it went.
-fn stop(station: Station) -> (PortRun, PortEnd)
-    requires { station.putter.ring ≡ station.port.flip.ring }
-    ensures { (s : Scene) → IsFullRun s station.port station.putter station.line → IsPlayedOn s.port s.session result.0 result.1 }
+pub fn stop(mut port: Port, mut putter: FlipIn, line: Line) -> (PortRun, PortEnd)
+    requires { putter.ring ≡ port.flip.ring }
+    ensures played { (s : Scene) → IsPortOf s port → IsFullRun s port putter line → IsPlayedOn s.port s.session result.0 result.1 }
+    ensures journal { entries_of result.0.journal.items ≡ port.journal }
 {
-    let Station {
-        mut port,
-        mut putter,
-        line,
-        steps: _,
-    } = station;
     port.meet(&mut putter);
     left_of(port, line)
 }
 
 /// A port whose phases were played, hung up.
-fn hang_up(station: Station) -> Result<(PortRun, PortEnd), NoMemory>
-    requires after { station.port.terminal.phase ≡ length station.port.counts }
-    requires ring { station.putter.ring ≡ station.port.flip.ring }
-    requires sent { station.port.terminal.sent ≡ length station.putter.sent }
-    ensures { (s : Scene) (run : ℕ) → IsBeforePhase s (length s.session.phases) station run → IfOk result (λ played. IsPlayedOn s.port s.session played.0 played.1) }
+pub fn hang_up(
+    mut port: Port,
+    mut putter: FlipIn,
+    line: Line,
+) -> Result<(PortRun, PortEnd), NoMemory>
+    requires after { port.terminal.phase ≡ length port.counts }
+    requires ring { putter.ring ≡ port.flip.ring }
+    requires sent { port.terminal.sent ≡ length putter.sent }
+    ensures played { (s : Scene) → IsAtEnd s port putter line → IfOk result (λ played. IsPlayedOn s.port s.session played.0 played.1) }
+    ensures in_order { (s : Scene) → IsOfScene s port → port.terminal.phase ≡ length s.session.phases → HaveSeenAll s port.journal line.report.overruns.items → IfOk result (λ played. IsRunInOrder s.port s.session played.0) }
 {
-    let Station {
-        mut port,
-        mut putter,
-        line,
-        steps: _,
-    } = station;
     let _journal = port.journal();
     port.meet(&mut putter);
     match port.last_hangup(putter) {
@@ -157,13 +153,14 @@ pub(crate) fn play_port(
 ) -> Result<(PortRun, PortEnd), NoMemory>
     requires within { IsWithinLimits (session_of session.now) }
     requires port { number < (session_of session.now).ports }
-    ensures { IfOk result (λ played. IsPlayedOn number (session_of session.now) played.0 played.1) }
+    ensures played { IfOk result (λ played. IsPlayedOn number (session_of session.now) played.0 played.1) }
+    ensures in_order { IfOk result (λ played. IsRunInOrder number (session_of session.now) played.0) }
 {
     let names = Names::on_port(alloc, session, number)?;
     let mut station = open_port(alloc, session, number, &names)?;
     match play_phases(alloc, session, number, &names, &mut station) {
-        Ok(_) => hang_up(station),
-        Err(Denied::Full) => Ok(stop(station)),
+        Ok(_) => hang_up(station.port, station.putter, station.line),
+        Err(Denied::Full) => Ok(stop(station.port, station.putter, station.line)),
         Err(Denied::NoMemory) => Err(NoMemory),
     }
 }

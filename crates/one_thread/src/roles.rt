@@ -13,14 +13,14 @@ use tty_calls::{Names, Phase, Script, Session};
 /// A caller of a phase: its number, its first step in the phase, and the place of its script among
 /// those of the phase.
 #[derive(Clone, Copy, Debug)]
-pub(crate) struct Role {
-    pub(crate) number: u16,
-    pub(crate) first: u32,
-    pub(crate) place: usize,
+pub struct Role {
+    pub number: u16,
+    pub first: u32,
+    pub place: usize,
 }
 
 /// How many callers a port has in each phase.
-pub(crate) fn counts_of(alloc: Global, session: &Session, port: usize) -> Result<Vec<u8>, NoMemory>
+pub fn counts_of(alloc: Global, session: &Session, port: usize) -> Result<Vec<u8>, NoMemory>
     requires { IsWithinLimits (session_of session.now) }
     ensures { IfOk result (λ counts. counts.items ≡ counts_on port (session_of session.now)) }
 {
@@ -46,7 +46,7 @@ fn count_on(phase: &Phase, port: usize) -> u8
 }
 
 /// The callers of a phase on a port, in the text's order, by their names and their next steps.
-pub(crate) fn roles_of(
+pub fn roles_of(
     alloc: Global,
     session: &Session,
     port: usize,
@@ -106,7 +106,7 @@ fn role_of(script: &Script, place: usize, names: &Names, steps: &[u32]) -> Role
 }
 
 /// Moves the next step of each caller of these roles past its calls.
-pub(crate) fn move_on(roles: &[Role], scripts: &[Script], steps: &mut [u32])
+pub fn move_on(roles: &[Role], scripts: &[Script], steps: &mut [u32])
     requires within { All (λ r. r.number < length steps.old) (map (role_in scripts.now) roles.now) }
     requires few { All (λ r. r.first + length r.calls < 2 ^ 32) (map (role_in scripts.now) roles.now) }
     ensures { steps.new ≡ steps_after (map (role_in scripts.now) roles.now) steps.old }

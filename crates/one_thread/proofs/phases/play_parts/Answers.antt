@@ -1,7 +1,7 @@
 use Rattle.std.proofs.Common.{◌≡◌, ◌+◌}
 use Rattle.std.proofs.lemmas.Result.{err_from_is_err_and, IfOk-weaker}
 use Rattle.one_thread.specs.Lines.{IsAtPhase}
-use Rattle.one_thread.specs.Phases.{HavePlayed, StopsFull}
+use Rattle.one_thread.specs.Phases.{HavePlayedInOrder, StopsFull}
 use Rattle.one_thread.specs.Stages.{EndsAfterLine, StopsAfterLine}
 use Rattle.one_thread.proofs.StationLemmas.{room_for_line, stopped_in_line, stopped_after_line, err_with, at_next_phase, played_phase}
 use Rattle.one_thread.proofs.phases.play_parts.Goals as goal
@@ -33,7 +33,7 @@ returns-clause-played g c =
     let v = c.args.station.now in
     IfOk-weaker c.play_after_line.result
     (λ next. EndsAfterLine g.scene c.play_line.new.port c.play_after_line.new.port c.play_line.new.putter c.play_after_line.new.putter next)
-    (λ next. HavePlayed g.scene (v.port.terminal.phase + 1) c.play_after_line.new.port.journal c.play_line.new.line.report.overruns.items)
+    (λ next. HavePlayedInOrder g.scene (v.port.terminal.phase + 1) c.play_after_line.new.port.journal c.play_line.new.line.report.overruns.items)
     (λ next ends. played_phase g.scene v.port.terminal.phase v.port c.play_line.new.port c.play_after_line.new.port v.putter c.play_line.new.putter c.play_after_line.new.putter v.line c.play_line.new.line c.args.run c.in_ok-next.next next c.requires.0 c.requires.1.0 c.requires.1.1.0 c.in_ok-next.ensures.ok ends)
     c.play_after_line.ensures.ok
 

@@ -5,7 +5,7 @@ use Rattle.std.proofs.lemmas.List.{with_items_is}
 use Rattle.one_thread.specs.Roles.{PlainRole, role_in, AreFirstSteps}
 use Rattle.one_thread.specs.Casting.{steps_after}
 use Rattle.one_thread.specs.Lines.{IsAtPhase}
-use Rattle.one_thread.specs.Phases.{HavePlayed}
+use Rattle.one_thread.specs.Phases.{HavePlayedInOrder}
 use Rattle.one_thread.proofs.RoleLemmas.{cast_in, roles_in_scene, roles_within, roles_few, moved_on}
 use Rattle.one_thread.proofs.phases.play_phase.Goals as goal
 
@@ -35,5 +35,5 @@ returns-clause-ok g c =
     record {
       at_phase = subst (λ n. IsAtPhase g.scene (n + 1) c.play_parts.new.station.port c.play_parts.new.station.putter c.play_parts.new.station.line c.in_ok-next.next) phase c.in_ok-next.ensures.at_phase;
       steps = subst (AreFirstSteps g.scene (c.args.k + 1)) (sym (written ∙ c.move_on.ensures ∙ ap (steps_after roles) same)) moved;
-      played = subst (λ n. HavePlayed g.scene (n + 1) c.play_parts.new.station.port.journal c.play_parts.new.station.line.report.overruns.items) phase c.in_ok-next.ensures.played;
+      played = subst (λ n. HavePlayedInOrder g.scene (n + 1) c.play_parts.new.station.port.journal c.play_parts.new.station.line.report.overruns.items) phase c.in_ok-next.ensures.played;
     }

@@ -3,7 +3,8 @@ use Rattle.tty_calls.specs.declared.answers.PortEnd.{PortEnd}
 use Rattle.tty_calls.specs.declared.journals.PortRun.{PortRun}
 use Rattle.tty_calls.specs.Sessions.{session_of}
 use Rattle.one_thread.specs.Phases.{AreFirstPlayed}
-use Rattle.one_thread.proofs.PortLemmas.{one_more_played, none_played, all_played}
+use Rattle.one_thread.specs.Played.{AreInOneOrder}
+use Rattle.one_thread.proofs.PortLemmas.{one_more_played, none_played, all_played, one_more_in_order, none_in_order}
 use Rattle.one_thread.proofs.playing.play.Goals as goal
 
 pub loop-number-init : goal.loop-number-init
@@ -17,6 +18,7 @@ loop-number-init c =
       room_for_ends = omega (arith, some_ends);
       played = subst (λ (xs : List PortRun). AreFirstPlayed (session_of c.args.session.now) 0 xs c.reserve-2.new.self.items) (sym runs)
           (subst (λ (xs : List PortEnd). AreFirstPlayed (session_of c.args.session.now) 0 [] xs) (sym ends) (none_played (session_of c.args.session.now)));
+      in_order = subst (AreInOneOrder (session_of c.args.session.now)) (sym runs) (none_in_order (session_of c.args.session.now));
     }
 
 pub loop-number-preserved : goal.loop-number-preserved
@@ -30,7 +32,9 @@ loop-number-preserved c =
       room_for_ends = let room = invariant.room_for_ends in omega (arith, room, ends, below);
       played = subst (λ (xs : List PortRun). AreFirstPlayed (session_of c.args.session.now) (c.loop-number.number + 1) xs c.add-in-loop-number.new.self.items) (sym (ap (λ b. b.items) c.add.ensures))
           (subst (λ (xs : List PortEnd). AreFirstPlayed (session_of c.args.session.now) (c.loop-number.number + 1) (c.loop-number.runs.items ++ c.in_ok-run.run' ∷ []) xs) (sym (ap (λ b. b.items) c.add-in-loop-number.ensures))
-          (one_more_played (session_of c.args.session.now) c.loop-number.number c.loop-number.runs.items c.loop-number.ends.items c.in_ok-run.run' c.in_ok-run.end invariant.played c.in_ok-run.ensures));
+          (one_more_played (session_of c.args.session.now) c.loop-number.number c.loop-number.runs.items c.loop-number.ends.items c.in_ok-run.run' c.in_ok-run.end invariant.played c.in_ok-run.ensures.played));
+      in_order = subst (AreInOneOrder (session_of c.args.session.now)) (sym (ap (λ b. b.items) c.add.ensures))
+          (one_more_in_order (session_of c.args.session.now) c.loop-number.number c.loop-number.runs.items c.in_ok-run.run' invariant.played.runs_of invariant.in_order c.in_ok-run.ensures.in_order);
     }
 
 pub returns : goal.returns
@@ -38,4 +42,7 @@ returns c =
     let ports = c.from-ports.ensures in
     let past = c.loop-number-test.false in
     let end = c.loop-number.auto.number-end in
-    all_played (session_of c.args.session.now) c.loop-number.number c.loop-number.runs.items c.loop-number.ends.items c.loop-number.invariant.played (omega (arith, ports, past, end))
+    record {
+      played = all_played (session_of c.args.session.now) c.loop-number.number c.loop-number.runs.items c.loop-number.ends.items c.loop-number.invariant.played (omega (arith, ports, past, end));
+      in_order = c.loop-number.invariant.in_order;
+    }

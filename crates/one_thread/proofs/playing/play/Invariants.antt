@@ -1,6 +1,7 @@
 use Rattle.std.proofs.Common.{◌≤◌, ◌+◌}
 use Rattle.tty_calls.specs.Sessions.{session_of}
 use Rattle.one_thread.specs.Phases.{AreFirstPlayed}
+use Rattle.one_thread.specs.Played.{AreInOneOrder}
 use Rattle.one_thread.proofs.playing.play.Given as goal
 
 abbrev pub invariant-loop-number : goal.invariant-loop-number
@@ -8,4 +9,5 @@ invariant-loop-number l = record {
   room_for_runs : l.ports ≤ l.runs.spare + l.number;
   room_for_ends : l.ports ≤ l.ends.spare + l.number;
   played : AreFirstPlayed (session_of l.session) l.number l.runs.items l.ends.items;
+  in_order : AreInOneOrder (session_of l.session) l.runs.items;
 }

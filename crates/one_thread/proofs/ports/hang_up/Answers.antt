@@ -5,22 +5,35 @@ use Rattle.port_core.specs.Ports.{PortValue, Denies}
 use Rattle.port_core.specs.Phases.{HangsUp}
 use Rattle.port_core.specs.Flips.{after_meeting}
 use Rattle.one_thread.specs.Phases.{IsLeftOf}
-use Rattle.one_thread.proofs.PortLemmas.{full_played, full_at_end, hung_played}
+use Rattle.one_thread.proofs.PortLemmas.{full_played, full_at_end, told_full, hung_played, hung_in_order}
 use Rattle.one_thread.proofs.ports.hang_up.Goals as goal
 
-pub returns-in-Ok : goal.returns-in-Ok
-returns-in-Ok c s run before =
-    let v = c.args.station.port in
-    hung_played s v (after_meeting v.flip c.args.station.putter) c.args.station.putter c.meet.new.putter c.last_hangup.new.self c.args.station.line c.left_of.result.0 c.left_of.result.1 run before.at_phase before.played c.journal-journal.ensures.port refl
-    (ap (λ p. p.sent) c.meet.ensures.putter.putter)
+pub returns-in-Ok-clause-played : goal.returns-in-Ok-clause-played
+returns-in-Ok-clause-played c s at_end =
+    let v = c.args.port in
+    hung_played s v (after_meeting v.flip c.args.putter) c.args.putter c.meet.new.putter c.last_hangup.new.self c.args.line c.left_of.result.0 c.left_of.result.1 at_end c.journal-journal.ensures.port (ap (λ p. p.sent) c.meet.ensures.putter.putter)
     (subst (λ (x : PortValue). HangsUp x c.last_hangup.new.self c.meet.new.putter) c.meet.ensures.port c.in-Ok.ensures.ok)
     c.left_of.ensures
 
-pub returns-in-Err-Full : goal.returns-in-Err-Full
-returns-in-Err-Full c s run before =
-    let v = c.args.station.port in
+pub returns-in-Ok-clause-in_order : goal.returns-in-Ok-clause-in_order
+returns-in-Ok-clause-in_order c s of_scene past see_all =
+    let v = c.args.port in
+    hung_in_order s v (after_meeting v.flip c.args.putter) c.meet.new.putter c.last_hangup.new.self c.args.line c.left_of.result.0 c.left_of.result.1 of_scene c.journal-journal.ensures.port past see_all
+    (subst (λ (x : PortValue). HangsUp x c.last_hangup.new.self c.meet.new.putter) c.meet.ensures.port c.in-Ok.ensures.ok)
+    c.left_of.ensures
+
+pub returns-in-Err-Full-clause-played : goal.returns-in-Err-Full-clause-played
+returns-in-Err-Full-clause-played c s at_end =
+    let v = c.args.port in
     let denied : Denies Full c.meet.new.self c.last_hangup.new.self = subst (λ (d : Denied). Denies d c.meet.new.self c.last_hangup.new.self) c.in-Err-Full.field-0-is c.in-Err-Full.ensures.err in
     let full : length v.journal ≡ v.limit = subst (λ (x : PortValue). length x.journal ≡ x.limit) c.meet.ensures.port denied.0 in
-    full_played s v (after_meeting v.flip c.args.station.putter) c.args.station.putter c.args.station.line c.left_of-in-Err-Full.result.0 c.left_of-in-Err-Full.result.1
-    (full_at_end s v c.args.station.putter c.args.station.line run before.at_phase before.played full) c.meet.ensures.putter.begins refl refl
-    (subst (λ (x : PortValue). IsLeftOf x c.args.station.line c.left_of-in-Err-Full.result.0 c.left_of-in-Err-Full.result.1) (denied.1 ∙ c.meet.ensures.port) c.left_of-in-Err-Full.ensures)
+    full_played s v (after_meeting v.flip c.args.putter) c.args.putter c.args.line c.left_of-in-Err-Full.result.0 c.left_of-in-Err-Full.result.1 at_end.port_of
+    (full_at_end s v c.args.putter c.args.line at_end full) c.meet.ensures.putter.begins refl refl
+    (subst (λ (x : PortValue). IsLeftOf x c.args.line c.left_of-in-Err-Full.result.0 c.left_of-in-Err-Full.result.1) (denied.1 ∙ c.meet.ensures.port) c.left_of-in-Err-Full.ensures)
+
+pub returns-in-Err-Full-clause-in_order : goal.returns-in-Err-Full-clause-in_order
+returns-in-Err-Full-clause-in_order c s of_scene past see_all other =
+    let v = c.args.port in
+    let denied : Denies Full c.meet.new.self c.last_hangup.new.self = subst (λ (d : Denied). Denies d c.meet.new.self c.last_hangup.new.self) c.in-Err-Full.field-0-is c.in-Err-Full.ensures.err in
+    let full : length v.journal ≡ v.limit = subst (λ (x : PortValue). length x.journal ≡ x.limit) c.meet.ensures.port denied.0 in
+    absurd (other (told_full c.left_of-in-Err-Full.result.0 v.journal (c.left_of-in-Err-Full.ensures.journal ∙ ap (λ (x : PortValue). x.journal) (denied.1 ∙ c.meet.ensures.port)) (full ∙ of_scene.limit)))

@@ -11,7 +11,7 @@ use Rattle.journal_check.specs.Legal.{flip_on}
 use Rattle.port_core.specs.Ports.{PortValue}
 use Rattle.one_thread.specs.Roles.{scene_of, names_in, AreFirstSteps}
 use Rattle.one_thread.specs.Lines.{IsAtPhase}
-use Rattle.one_thread.specs.Phases.{HavePlayed}
+use Rattle.one_thread.specs.Phases.{HavePlayedInOrder}
 use Rattle.one_thread.proofs.PortLemmas.{opened_at, nothing_played, no_first_steps, zeros}
 use Rattle.one_thread.proofs.ports.open_port.Goals as goal
 
@@ -37,5 +37,5 @@ returns c =
     record {
       at_phase = subst (λ (p : PutterState Flagged). IsAtPhase s 0 c.in_ok-new.field-0 p c.in_ok-new-2.field-0 0) (sym c.putter.view_is) (subst (λ (v : PortValue). IsAtPhase s 0 v putter c.in_ok-new-2.field-0 0) (sym new) at_phase);
       steps = subst (AreFirstSteps s 0) (sym items) (no_first_steps s c.len.result names);
-      played = subst (λ (es : List PlainEntry). HavePlayed s 0 es c.in_ok-new-2.field-0.report.overruns.items) (sym journal) (subst (λ (os : List Overrun). HavePlayed s 0 [] os) (sym c.in_ok-new-2.ensures.none) (nothing_played s));
+      played = subst (λ (es : List PlainEntry). HavePlayedInOrder s 0 es c.in_ok-new-2.field-0.report.overruns.items) (sym journal) (subst (λ (os : List Overrun). HavePlayedInOrder s 0 [] os) (sym c.in_ok-new-2.ensures.none) (nothing_played s));
     }

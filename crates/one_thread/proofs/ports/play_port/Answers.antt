@@ -3,7 +3,7 @@ use Rattle.tty_calls.specs.declared.answers.Denied.{Denied}
 use Rattle.tty_calls.specs.declared.answers.Denied.TheVariants.{Full}
 use Rattle.one_thread.specs.Roles.{scene_of}
 use Rattle.one_thread.specs.Phases.{IsStopped}
-use Rattle.one_thread.proofs.PortLemmas.{phases_over}
+use Rattle.one_thread.proofs.PortLemmas.{phases_over, at_end_of, port_of_scene, told_full}
 use Rattle.one_thread.proofs.ports.play_port.Goals as goal
 
 pub hang_up-requires-clause-after : goal.hang_up-requires-clause-after
@@ -13,13 +13,27 @@ hang_up-requires-clause-after c =
 
 pub stop-requires : goal.stop-requires
 stop-requires c =
-    let full : IsStopped Full (scene_of c.args.number c.args.session.now) c.play_phases.new.station = subst (λ (d : Denied). IsStopped d (scene_of c.args.number c.args.session.now) c.play_phases.new.station) c.in-Err-Full.field-0-is c.in-Err-Full.ensures.err in
-    full.has_put.ring
+    let s = scene_of c.args.number c.args.session.now in
+    let station = c.play_phases.new.station in
+    let full : IsStopped Full s station = subst (λ (d : Denied). IsStopped d s station) c.in-Err-Full.field-0-is c.in-Err-Full.ensures.err in
+    full.1.has_put.ring
 
 pub returns-in-Ok : goal.returns-in-Ok
-returns-in-Ok c = c.hang_up.ensures (scene_of c.args.number c.args.session.now) c.in-Ok.field-0 c.in-Ok.ensures.ok
+returns-in-Ok c =
+    let s = scene_of c.args.number c.args.session.now in
+    let v = c.play_phases.new.station in
+    let before = c.in-Ok.ensures.ok in
+    record {
+      played = c.hang_up.ensures.played s (at_end_of s v.port v.putter v.line c.in-Ok.field-0 before.at_phase before.played.played);
+      in_order = c.hang_up.ensures.in_order s before.at_phase.of_scene before.at_phase.phase before.played.see_all;
+    }
 
 pub returns-in-Err-Full : goal.returns-in-Err-Full
 returns-in-Err-Full c =
-    let full : IsStopped Full (scene_of c.args.number c.args.session.now) c.play_phases.new.station = subst (λ (d : Denied). IsStopped d (scene_of c.args.number c.args.session.now) c.play_phases.new.station) c.in-Err-Full.field-0-is c.in-Err-Full.ensures.err in
-    c.stop.ensures (scene_of c.args.number c.args.session.now) full
+    let s = scene_of c.args.number c.args.session.now in
+    let station = c.play_phases.new.station in
+    let full : IsStopped Full s station = subst (λ (d : Denied). IsStopped d s station) c.in-Err-Full.field-0-is c.in-Err-Full.ensures.err in
+    record {
+      played = c.stop.ensures.played s (port_of_scene s station.port full.0) full.1;
+      in_order = λ other. absurd (other (told_full c.stop.result.0 station.port.journal c.stop.ensures.journal full.1.full));
+    }
