@@ -5,6 +5,8 @@ pub mod AccountLemmas
 pub mod LineAccount
 pub mod PortAccount
 pub mod LineEnds
+pub mod Seated
+pub mod Onward
 pub mod IdleLemmas
 pub mod PhaseAccount
 pub mod PhaseStart

@@ -15,9 +15,9 @@ use Rattle.port_core.specs.Ports.{PortValue}
 use Rattle.one_thread.specs.Roles.{Scene}
 use Rattle.one_thread.specs.Lines.{HasPut}
 use Rattle.one_thread.specs.LineInside.{KnowsTaken, SeesFrom}
+use Rattle.one_thread.specs.Phases.{SeesWithin}
 use Rattle.one_thread.proofs.LineLists.{All_later, loaded_since, refusals_see, overruns_see_most}
 use Rattle.many_threads.specs.Parts.{RunsLine}
-use Rattle.many_threads.specs.Stations.{SeesWithin}
 
 pub has_put_runs : (v : PortValue) (putter met : PutterState Flagged) (line played : LineState) (before steps : List LineStep) → HasPut v putter line before → RunsLine steps line played putter met → HasPut v met played (before ++ closed_script steps)
 has_put_runs v putter met line played before steps h r = record {

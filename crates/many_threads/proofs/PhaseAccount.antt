@@ -60,7 +60,8 @@ use Rattle.many_threads.specs.declared.phases.PhaseEnd.TheVariants.{Over, Full}
 use Rattle.many_threads.specs.Parts as parts
 use Rattle.many_threads.specs.Parts.{StopsClock, PlaysClock, RunsLine, PlaysLine, PlaysFlusher}
 use Rattle.many_threads.specs.Crews.{EachCaller, IsBack, SomeSawFull}
-use Rattle.many_threads.specs.Stations.{IsOfSession, IsAtPhase, AreParts, SeesWithin, StopsPhase}
+use Rattle.one_thread.specs.Phases.{SeesWithin}
+use Rattle.many_threads.specs.Stations.{IsOfSession, IsAtPhase, AreParts, StopsPhase}
 use Rattle.many_threads.specs.Ends.{all_seats, IsShared, IsClosed, ArePlayed, AreStopped, Tells, ThreadsCome, PlaysThreads, ThreadsLeave}
 use Rattle.many_threads.proofs.PartLemmas.{placed_left, flusher_begins}
 use Rattle.many_threads.proofs.ClosingLemmas.{line_is_over, clock_is_over, clock_stops}

@@ -38,7 +38,8 @@ use Rattle.many_threads.specs.declared.phases.Ends.{Ends}
 use Rattle.many_threads.specs.Parts.{StopsClock, PlaysClock, RunsLine, PlaysLine, PlaysFlusher}
 use Rattle.many_threads.specs.Crews.{EachCaller, IsBack, PlayedAs, SomeSawFull, IsTold}
 use Rattle.many_threads.specs.Dealing.{IsFresh, AreDealt}
-use Rattle.many_threads.specs.Stations.{IsOfSession, IsAtPhase, SeesWithin, PlaysPhase, StopsPhase}
+use Rattle.one_thread.specs.Phases.{SeesWithin}
+use Rattle.many_threads.specs.Stations.{IsOfSession, IsAtPhase, PlaysPhase, StopsPhase}
 
 -- ---- the seats
 

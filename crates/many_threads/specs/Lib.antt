@@ -4,3 +4,5 @@ pub mod Crews
 pub mod Dealing
 pub mod Stations
 pub mod Ends
+pub mod Seating
+pub mod Phases

@@ -16,6 +16,7 @@ use Rattle.journal_check.specs.Phases.{CompletesPhase}
 use Rattle.port_core.specs.Ports.{PortValue, call_in}
 use Rattle.one_thread.specs.Roles.{Scene, PlainRole, IsRoleOf}
 use Rattle.one_thread.specs.Lines.{HasPut}
+use Rattle.one_thread.specs.Phases.{SeesWithin}
 use Rattle.tty_port.specs.Seen.{run_after}
 
 -- The port plays the scene: the calls of its entries are the session's, each in its phase.
@@ -48,13 +49,6 @@ pub record IsAtPhase (s : Scene) (k : ℕ) (v : PortValue) (putter : PutterState
   pub sent : v.terminal.sent ≡ length putter.sent
   pub has_put : HasPut v putter line (script_of_first s.port s.session k)
   pub most : line.most ≡ character_count s.port s.session.phases
-
--- an overrun in the line of phase k that has seen at least so many characters taken, and at most so many
-pub record SeesWithin (s : Scene) (k least most : ℕ) (o : Overrun) : Type 0 where
-  pub from : received_before s.port s.session k ≤ o.at
-  pub below : o.at < received_before s.port s.session (k + 1)
-  pub sees_least : least ≤ o.seen
-  pub sees_most : o.seen ≤ most
 
 -- Phase k is over: the journal has gone on by a part and the end of the phase, to which the terminal u led. The line's end stands
 -- in the part, after these entries; each overrun of the line has seen all that was taken before the phase, and nothing that was

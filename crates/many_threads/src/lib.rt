@@ -1,5 +1,5 @@
-//! The threads of a phase of a port: one for each caller, and one each for line, flusher and clock, side
-//! by side over the seats of a shared port, all joined before the phase ends.
+//! A session played on threads. In each phase a port has a thread for each caller, and one each for line,
+//! flusher and clock, side by side over the seats of a shared port, all joined before the phase ends.
 #![tactic(auto)]
 
 mod callers;
@@ -8,10 +8,14 @@ mod crews;
 mod flushers;
 mod lines;
 mod phases;
+mod playing;
+mod ports;
 mod running;
+mod seating;
 mod stations;
 mod threads;
 
 pub use crews::{CallersBack, Part};
+pub use playing::play;
 pub use running::run_threads;
 pub use threads::{FlusherBack, LineBack, Receiver, SeatBack};

@@ -1,0 +1,11 @@
+use Rattle.std.proofs.Common.{length, subst}
+use Rattle.many_threads.specs.Phases.{IsBeforePhase, StandsBefore}
+use Rattle.many_threads.specs.declared.phases.PhaseEnd.{PhaseEnd}
+use Rattle.many_threads.proofs.Onward.{at_end_of}
+use Rattle.many_threads.proofs.ports.end.Goals as goal
+
+pub returns-in-Over : goal.returns-in-Over
+returns-in-Over c s in_play =
+    let station = c.args.port.station in
+    let before : IsBeforePhase s (length s.session.phases) station c.in-Over.field-0 = subst (λ (end : PhaseEnd). StandsBefore s (length s.session.phases) station end) c.in-Over.is in_play.stands in
+    c.hang_up.ensures.played s (at_end_of s station c.in-Over.field-0 before)

@@ -1,0 +1,208 @@
+//! The ports of a session on threads, from their opening to their end.
+
+ghost use Rattle.std.specs.Prelude.{◌≡◌, ◌+◌, ◌<◌, ◌≤◌, IfOk, length, sum};
+ghost use Rattle.std.specs.Thread.{IsSync};
+ghost use Rattle.tty_calls.specs.Limits.{IsWithinLimits};
+ghost use Rattle.tty_calls.specs.Sessions.{session_of, counts_on};
+ghost use Rattle.one_thread.specs.Played.{IsPlayedOn};
+ghost use Rattle.one_thread.specs.Roles.{Scene, scene_of, names_in};
+ghost use Rattle.many_threads.specs.Phases.{IsBeforePhase, IsInPlay, AreInPlay, CanEnd};
+
+use crate::phases::{Ends, PhaseEnd, play_shared};
+use crate::seating::{caller_count, seat};
+use crate::threads::Receiver;
+use one_thread::{
+    Station, counts_of, hang_up, move_on, open_port, roles_of, scripts_of, steps_of, stop, ticks_of,
+};
+use std::alloc::Global;
+use std::sync::Wait;
+use std::thread::{Threads, join};
+use tty_base::NoMemory;
+use tty_calls::{Names, PortEnd, PortRun, Session};
+use tty_port::Gate;
+
+/// A port that is played: the names of its callers, and how many callers its phases have; the port with
+/// its line and their next steps; and what its latest phase came to.
+#[derive(Drop)]
+pub(crate) struct PortInPlay {
+    names: Names,
+    callers: usize,
+    station: Station,
+    end: PhaseEnd,
+}
+
+/// A port at the beginning of its session.
+fn open(alloc: Global, session: &Session, number: usize) -> Result<PortInPlay, NoMemory>
+    requires within { IsWithinLimits (session_of session.now) }
+    requires port { number < (session_of session.now).ports }
+    ensures { IfOk result (IsInPlay (scene_of number session.now) 0) }
+{
+    let names = Names::on_port(alloc, session, number)?;
+    let station = open_port(alloc, session, number, &names)?;
+    let counts = counts_of(alloc, session, number)?;
+    Ok(PortInPlay {
+        names,
+        callers: caller_count(counts.as_slice()),
+        station,
+        end: PhaseEnd::Over(0),
+    })
+}
+
+/// All ports at the beginning of a session.
+pub(crate) fn open_all(alloc: Global, session: &Session) -> Result<Vec<PortInPlay>, NoMemory>
+    requires { IsWithinLimits (session_of session.now) }
+    ensures { IfOk result (λ all. AreInPlay (session_of session.now) 0 all.items × (length all.items ≡ (session_of session.now).ports)) }
+{
+    let mut all = Vec::new(alloc);
+    for number in 0..usize::from(session.ports) {
+        all.push(open(alloc, session, number)?)?;
+    }
+    Ok(all)
+}
+
+/// Plays a phase of a port whose journal is not full, and whose next flush run has this number.
+fn play_on<R: Threads + Wait + Sync, G: Gate + Sync>(
+    rt: &R,
+    alloc: Global,
+    session: &Session,
+    number: usize,
+    gate: &G,
+    k: usize,
+    port: PortInPlay,
+    run: u32,
+) -> Result<PortInPlay, NoMemory>
+    ghost scene: { Scene }
+    requires scene { scene ≡ scene_of number session.now }
+    requires within { IsWithinLimits (session_of session.now) }
+    requires phase { k < length (session_of session.now).phases }
+    requires known { number < (session_of session.now).ports }
+    requires names { port.names ≡ names_in (scene_of number session.now) }
+    requires callers { port.callers ≡ sum (counts_on number (session_of session.now)) }
+    requires before { IsBeforePhase scene k port.station run }
+    ensures { IfOk result (IsInPlay scene (k + 1)) }
+{
+    let PortInPlay {
+        names,
+        callers,
+        station,
+        end: _,
+    } = port;
+    let Station {
+        port,
+        putter,
+        line,
+        mut steps,
+    } = station;
+    let scripts = scripts_of(session, k);
+    let roles = roles_of(alloc, session, number, k, &names, steps.as_slice())?;
+    let parts = seat(alloc, roles.as_slice(), callers)?;
+    let ends = Ends {
+        port,
+        receiver: Receiver { line, putter },
+    };
+    let (ends, end) = play_shared(
+        rt,
+        alloc,
+        gate,
+        ends,
+        run,
+        parts.as_slice(),
+        scripts,
+        steps_of(session, number, k),
+        ticks_of(session, number, k),
+    )?;
+    move_on(roles.as_slice(), scripts, steps.as_mut_slice());
+    let Ends { port, receiver } = ends;
+    let Receiver { line, putter } = receiver;
+    Ok(PortInPlay {
+        names,
+        callers,
+        station: Station {
+            port,
+            putter,
+            line,
+            steps,
+        },
+        end,
+    })
+}
+
+/// Plays a phase of a port. One whose journal is full plays no further phase.
+fn play_phase<R: Threads + Wait + Sync, G: Gate + Sync>(
+    rt: &R,
+    alloc: Global,
+    session: &Session,
+    number: usize,
+    gate: &G,
+    k: usize,
+    port: PortInPlay,
+) -> Result<PortInPlay, NoMemory>
+    requires within { IsWithinLimits (session_of session.now) }
+    requires phase { k < length (session_of session.now).phases }
+    requires known { number < (session_of session.now).ports }
+    requires in_play { IsInPlay (scene_of number session.now) k port }
+    ensures { IfOk result (IsInPlay (scene_of number session.now) (k + 1)) }
+{
+    match port.end {
+        PhaseEnd::Over(run) => play_on(rt, alloc, session, number, gate, k, port, run),
+        PhaseEnd::Full => Ok(port),
+    }
+}
+
+/// Plays a phase of ports side by side, which begin with port 0.
+pub(crate) fn play_side_by_side<R: Threads + Wait + Sync, G: Gate + Sync>(
+    rt: &R,
+    alloc: Global,
+    session: &Session,
+    gate: &G,
+    k: usize,
+    mut ports: Vec<PortInPlay>,
+) -> Result<Vec<PortInPlay>, NoMemory>
+    requires within { IsWithinLimits (session_of session.now) }
+    requires phase { k < length (session_of session.now).phases }
+    requires known { length ports.items ≤ (session_of session.now).ports }
+    requires in_play { AreInPlay (session_of session.now) k ports.items }
+    ensures { IfOk result (λ all. AreInPlay (session_of session.now) (k + 1) all.items × (length all.items ≡ length ports.items)) }
+{
+    let Some(port) = ports.pop() else {
+        return Ok(ports);
+    };
+    let number = ports.len();
+    let (others, one) = join(
+        rt,
+        move || -> Result<Vec<PortInPlay>, NoMemory>
+            requires { IsSync R.row × IsSync G.row × IsWithinLimits (session_of session.now) × (k < length (session_of session.now).phases) × (length ports.items ≤ (session_of session.now).ports) × AreInPlay (session_of session.now) k ports.items }
+            ensures { IfOk result (λ all. AreInPlay (session_of session.entry.now) (k + 1) all.items × (length all.items ≡ length ports.items)) }
+        { play_side_by_side(rt, alloc, session, gate, k, ports) },
+        move || -> Result<PortInPlay, NoMemory>
+            requires { IsSync R.row × IsSync G.row × IsWithinLimits (session_of session.now) × (k < length (session_of session.now).phases) × (number < (session_of session.now).ports) × IsInPlay (scene_of number session.now) k port }
+            ensures { IfOk result (IsInPlay (scene_of number session.entry.now) (k + 1)) }
+        { play_phase(rt, alloc, session, number, gate, k, port) },
+    );
+    let mut all = others?;
+    all.push(one?)?;
+    Ok(all)
+}
+
+/// Ends a port: it is hung up, unless its journal is full.
+pub(crate) fn end(port: PortInPlay) -> Result<(PortRun, PortEnd), NoMemory>
+    requires { CanEnd port.station port.end }
+    ensures { (s : Scene) → IsInPlay s (length s.session.phases) port → IfOk result (λ played. IsPlayedOn s.port s.session played.0 played.1) }
+{
+    let PortInPlay {
+        names: _,
+        callers: _,
+        station,
+        end,
+    } = port;
+    let Station {
+        port,
+        putter,
+        line,
+        steps: _,
+    } = station;
+    match end {
+        PhaseEnd::Over(_) => hang_up(port, putter, line),
+        PhaseEnd::Full => Ok(stop(port, putter, line)),
+    }
+}
