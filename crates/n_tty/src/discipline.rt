@@ -1,4 +1,4 @@
-ghost use Rattle.std.specs.Prelude.{◌≡◌, ◌↔◌, IsTrue, ◌+◌, ◌-◌, ◌*◌, ◌<◌, ◌≤◌, ◌^◌, IfOk, true, not, ◌&&◌, ◌++◌, [], ◌∷◌, length, take, nat_lt, if◌then◌else◌};
+ghost use Rattle.std.specs.Prelude.{◌≡◌, ◌↔◌, IsTrue, ◌+◌, ◌-◌, ◌*◌, ◌%◌, ◌<◌, ◌≤◌, ◌^◌, IfOk, true, not, ◌&&◌, ◌++◌, [], ◌∷◌, length, take, nat_lt, if◌then◌else◌};
 ghost use Rattle.tty_modes.specs.Settings.{has_flag};
 ghost use Rattle.tty_modes.specs.declared.places.TheConstants.{ICANON};
 ghost use Rattle.line_store.specs.Unread.{end_count};
@@ -217,6 +217,13 @@ impl NTty {
         } else if modes_leave(new, old) && self.store.len() > 0 {
             self.store.end_line(true);
         }
+    }
+
+    /// Keeps the column within 32 bits, for a user who posts for ever.
+    pub fn wrap_column(&mut self)
+        ensures { self.new ≡ record self.old { column = self.old.column % 2 ^ 32 } }
+    {
+        self.out.wrap();
     }
 
     /// Drops unread input, the edited line and the quoting mark.

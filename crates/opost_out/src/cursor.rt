@@ -1,6 +1,6 @@
 //! The column of all that a line discipline has posted, and output processing at that column.
 
-ghost use Rattle.std.specs.Prelude.{◌≡◌, ◌↔◌, IsTrue, ℕ, ◌≤◌, ◌<◌, ◌+◌, ◌-◌, ◌^◌, [], ◌∷◌, ◌++◌, length, List};
+ghost use Rattle.std.specs.Prelude.{◌≡◌, ◌↔◌, IsTrue, ℕ, ◌≤◌, ◌<◌, ◌+◌, ◌-◌, ◌%◌, ◌^◌, [], ◌∷◌, ◌++◌, length, List};
 ghost use Rattle.opost_out.specs.Column.{PostedByte, column_after, column_of, column_after_byte, posted_text, posted_text_under};
 ghost use Rattle.opost_out.specs.Posted.{posted_bytes};
 
@@ -66,6 +66,13 @@ impl Out {
         ensures { self.new ≡ self.old + count }
     {
         self.column += count as u64;
+    }
+
+    /// Keeps the column within 32 bits, for a user who posts for ever.
+    pub fn wrap(&mut self)
+        ensures { self.new ≡ self.old % 2 ^ 32 }
+    {
+        self.column %= 1 << 32;
     }
 
     /// The bytes that `post` would give. Nothing changes.
