@@ -102,7 +102,9 @@ fn flag_position(name: &str) -> Option<usize>
     ensures value { result ≡ place_of flag_names name.now }
     ensures bound { IfSome result (λ place. place < 29) }
 {
-    ModeBits::FLAGS.iter().position(|flag| is_same(flag.name, name))
+    ModeBits::FLAGS
+        .iter()
+        .position(|flag| is_same(flag.name, name))
 }
 
 fn character_place(name: &str) -> Option<u8>
@@ -116,7 +118,9 @@ fn character_position(name: &str) -> Option<usize>
     ensures value { result ≡ place_of character_names name.now }
     ensures bound { IfSome result (λ place. place < 15) }
 {
-    CHARACTER_NAMES.iter().position(|known| is_same(*known, name))
+    CHARACTER_NAMES
+        .iter()
+        .position(|known| is_same(*known, name))
 }
 
 fn byte_of(digits: &str) -> Option<u8>
