@@ -120,9 +120,3 @@ module _ (InOrder : ℕ → PlainSession → PortRun → Type 0) where
   played_works telling session played (Ok work) plays ordered ending same =
       subst (λ (runs : Contents PortRun). IsSessionWork InOrder telling session work.ending runs.items) (sym same) (ending_works telling session played work.ending plays ordered ending)
   played_works telling session played (Err e) plays ordered ending same = ending
-
--- what one thread played is in its order
-pub ordered_of : (session : PlainSession) (runs : List PortRun) (ends : List PortEnd) → ArePlayed session runs ends → AreOrdered IsOrdered session runs
-ordered_of session runs ends played p run is =
-    let found = end_there runs ends p run (played.runs_of_all ∙ sym played.ends_of_all) is in
-    (played.each p run found.0 is found.1).in_order

@@ -1,12 +1,13 @@
 //! The program: the words of the command line, standard input and standard output are handed to
-//! `tty_one`, and its status is the program's.
+//! `tty_run`, and its status is the program's.
 #![tactic(auto)]
 
 use std::alloc::Global;
 use std::process::ExitCode;
 use std::{env, io};
 use tty_base::{StdSink, StdSource};
-use tty_one::{Ran, tty_one};
+use tty_port::OpenGate;
+use tty_run::{Ran, tty_run};
 
 fn main(rt: HostRuntime) -> ExitCode {
     let alloc = rt.alloc();
@@ -26,6 +27,7 @@ fn main(rt: HostRuntime) -> ExitCode {
             return ExitCode::from(5);
         }
     }
-    let Ran { status, runs: _ } = tty_one(alloc, words.as_slice(), &mut source, &mut sink);
+    let words = words.as_slice();
+    let Ran { status, runs: _ } = tty_run(&rt, alloc, words, &mut source, &mut sink, &OpenGate);
     ExitCode::from(status)
 }

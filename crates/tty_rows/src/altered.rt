@@ -643,6 +643,7 @@ fn is_told(rt: &impl Abort, alloc: Global, text: &str, altered: Altered) -> Resu
     let mut whole = String::new(alloc);
     whole.push_str(text)?;
     for (old, new) in altered.changes {
+        assert!(rt; whole.contains(*old), "no {old}");
         whole = with_change(alloc, whole.as_str(), old, new)?;
     }
     let Told { status, text } = told_of(alloc, &["check"], written_out(alloc, whole.as_str())?)?;

@@ -193,7 +193,7 @@ done
 };
 
 /// A name and a password are asked for and read, the second without echo.
-const LOGIN: Row = Row {
+pub(crate) const LOGIN: Row = Row {
     session: "# A login: `getty` asks for a name, of which a character is erased, and for a password, which
 # is not echoed, and then hangs the terminal up.
 tty-session 1

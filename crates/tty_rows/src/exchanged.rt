@@ -75,7 +75,7 @@ fn next_of(digit: &str) -> &'static str {
 fn with_entry(alloc: Global, place: usize, entry: Fields) -> Result<Vec<u8>, AllocError> {
     let mut text = String::new(alloc);
     for (number, line) in THREE_BYTES.lines().enumerate() {
-        if number == BEFORE + place {
+        if number == BEFORE.saturating_add(place) {
             let Fields {
                 who,
                 step,
@@ -141,11 +141,13 @@ fn with_exchange(alloc: Global, first: usize, second: usize) -> Result<Vec<u8>, 
     for line in THREE_BYTES.lines() {
         lines.push(line)?;
     }
+    let first = BEFORE.saturating_add(first);
+    let second = BEFORE.saturating_add(second);
     let mut text = String::new(alloc);
     for number in 0..lines.len() {
         let from = match number {
-            _ if number == BEFORE + first => BEFORE + second,
-            _ if number == BEFORE + second => BEFORE + first,
+            _ if number == first => second,
+            _ if number == second => first,
             _ => number,
         };
         if let Some(line) = lines.get(from) {

@@ -24,4 +24,6 @@ mod summaries;
 #[cfg(test)]
 mod switching;
 #[cfg(test)]
+mod threads;
+#[cfg(test)]
 mod waiting;

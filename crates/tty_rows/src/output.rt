@@ -4,7 +4,7 @@ use super::rows::{Row, plays};
 use std::test::Fail;
 
 /// With opost TABs are blanks under tab3, and NL is CR NL under onlcr.
-const TABS_AND_NEWLINES: Row = Row {
+pub(crate) const TABS_AND_NEWLINES: Row = Row {
     session: "tty-session 1
 ports 1
 phase
@@ -202,7 +202,7 @@ done
 };
 
 /// Twenty calls of one caller, each with its answer.
-const SMALL_CALLS: Row = Row {
+pub(crate) const SMALL_CALLS: Row = Row {
     session: "tty-session 1
 ports 1
 phase

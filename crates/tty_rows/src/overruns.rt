@@ -4,7 +4,7 @@ use super::rows::{Row, plays};
 use std::test::Fail;
 
 /// A port that nobody opens keeps 4,096 characters.
-const ONE_OVERRUN: Row = Row {
+pub(crate) const ONE_OVERRUN: Row = Row {
     session: "tty-session 1
 ports 1
 phase
@@ -64,7 +64,7 @@ done
 };
 
 /// In version 2 a session says how many characters a flip buffer holds.
-const SMALL_FLIP_BUFFER: Row = Row {
+pub(crate) const SMALL_FLIP_BUFFER: Row = Row {
     session: "# A flip buffer of 64 characters, and 65 characters on a port that nobody has open: the last
 # one is an overrun, and the hangup drops the others.
 tty-session 2
@@ -86,7 +86,7 @@ done
 };
 
 /// A line that nobody reads is dropped by the hangup.
-const UNREAD_LINE: Row = Row {
+pub(crate) const UNREAD_LINE: Row = Row {
     session: "# A port that is opened and closed, and a line that nobody reads.
 tty-session 1
 ports 1

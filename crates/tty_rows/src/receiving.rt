@@ -34,7 +34,7 @@ done
 };
 
 /// The line's phase ends before the caller's begins.
-const READ_A_PHASE_LATER: Row = Row {
+pub(crate) const READ_A_PHASE_LATER: Row = Row {
     session: "tty-session 1
 ports 1
 phase
@@ -65,7 +65,7 @@ done
 };
 
 /// Nothing happens but the hangup.
-const EMPTY_SESSION: Row = Row {
+pub(crate) const EMPTY_SESSION: Row = Row {
     session: "tty-session 1
 ports 1
 end

@@ -14,10 +14,10 @@ pub(crate) struct Row {
 }
 
 /// How many bytes a source or a sink moves at most in one call.
-const PIECE: usize = 4_096;
+pub(crate) const PIECE: usize = 4_096;
 
 /// How many bytes a sink takes in all: more than any report has.
-const ROOM: usize = 65_536;
+pub(crate) const ROOM: usize = 65_536;
 
 /// What a call of the program came to: its status, and the text that it gave.
 #[derive(Drop)]
@@ -58,18 +58,22 @@ pub(crate) fn plays(
     Ok(())
 }
 
-/// What is told of the journals of a session that is played.
+/// What is told of the journals of a session that is played on one thread.
 fn judged_of(alloc: Global, session: &str) -> Result<Told, AllocError> {
     let words = ["run", "--one", "--journal"];
     let played = told_of(alloc, &words, written_out(alloc, session)?)?;
+    judged_in(alloc, session, played.text.as_slice())
+}
+
+/// What is told of the journals in the text of a session that was played.
+pub(crate) fn judged_in(alloc: Global, session: &str, played: &[u8]) -> Result<Told, AllocError> {
     let heading = b"journals\n".as_slice();
     let before = played
-        .text
         .windows(heading.len())
         .take_while(|piece| *piece != heading)
         .count();
     let mut text = written_out(alloc, session)?;
-    for byte in played.text.iter().skip(before) {
+    for byte in played.iter().skip(before) {
         text.push(*byte)?;
     }
     told_of(alloc, &["check"], text)

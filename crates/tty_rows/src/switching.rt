@@ -42,7 +42,7 @@ done
 };
 
 /// The installed kind changes nothing, and an unknown number is refused.
-const SAME_AND_UNKNOWN_DISCIPLINE: Row = Row {
+pub(crate) const SAME_AND_UNKNOWN_DISCIPLINE: Row = Row {
     session: "tty-session 1
 ports 1
 phase

@@ -54,7 +54,7 @@ done
 };
 
 /// On a blocking handle a read waits, here in vain; on the other it is to be tried again.
-const BLOCKING_AND_NOT: Row = Row {
+pub(crate) const BLOCKING_AND_NOT: Row = Row {
     session: "tty-session 1
 ports 1
 phase
@@ -80,7 +80,7 @@ done
 };
 
 /// A read of which nothing comes is told so.
-const NOTHING_COMES: Row = Row {
+pub(crate) const NOTHING_COMES: Row = Row {
     session: "tty-session 1
 ports 1
 phase

@@ -1,9 +1,8 @@
 use Rattle.tty_calls.specs.Sessions.{session_of}
 use Rattle.tty_one.specs.Outcome.{IsOrdered}
-use Rattle.tty_one.proofs.PortLemmas.{played_works, ordered_of}
+use Rattle.tty_one.proofs.PortLemmas.{played_works}
 use Rattle.tty_one.proofs.playing.run_session.Goals as goal
 
 pub returns : goal.returns
 returns c =
-    let ordered = ordered_of (session_of c.args.session.now) c.in_ok-played.played.runs.items c.in_ok-played.played.ends.items c.in_ok-played.ensures in
-    played_works IsOrdered c.args.telling (session_of c.args.session.now) c.in_ok-played.played c.work_of.result c.in_ok-played.ensures ordered c.work_of.ensures.ending c.work_of.ensures.runs
+    played_works IsOrdered c.args.telling (session_of c.args.session.now) c.in_ok-played.played c.work_of.result c.in_ok-played.ensures.played c.in_ok-played.ensures.in_order c.work_of.ensures.ending c.work_of.ensures.runs

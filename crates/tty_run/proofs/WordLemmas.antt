@@ -1,0 +1,64 @@
+-- What tells the words of one thread from those of threads, and what each come to.
+use Rattle.std.proofs.Common.{◌≡◌, ◌⊎◌, ◌≤◌, ◌==◌, ℕ, length, List, [], Bool, true, false, Option, None, Some, IfSome, inl, inr}
+use Rattle.std.specs.Prelude.{MatchBool}
+use Rattle.tty_base.specs.Outside.{Rose, TookCount}
+use Rattle.tty_calls.specs.declared.journals.PortRun.{PortRun}
+use Rattle.tty_one.specs.declared.words.Command.{Command}
+use Rattle.tty_one.specs.declared.words.Command.TheVariants.{Run, RunOne, Gen, Check}
+use Rattle.tty_one.specs.Endings.{Ask, AskRun, AreKnown, AreOfOne, AreRun, AreRunOne}
+use Rattle.tty_one.specs.Outcome.{Cause, Completes, IsBroken, breaks_line, breaks_refusal, breaks_text, breaks_verdict, breaks_full, IsDone, IsToldBy, WasGiven}
+use Rattle.tty_one.proofs.Outcomes.{one_if_not_run, run_is_not_one}
+use Rattle.tty_run.specs.Headline.{IsPlayedOnThreads}
+
+-- ---- other words than those of threads
+
+pub unknown_to_one : (words : List (List ℕ)) → (AreKnown words → ⊥) → AreOfOne words → ⊥
+unknown_to_one words unknown known = unknown (known.0, known.2)
+
+-- what is refused for unknown words is refused for other ones
+match_first : (b : Bool) (P Q R : Type 0) → (P → Q) → MatchBool b P R → MatchBool b Q R
+match_first true P Q R f h = f h
+match_first false P Q R f h = h
+
+pub broken_one : (words : List (List ℕ)) (faults faults' : ℕ) (left rest before now : Option (List ℕ)) (runs : List PortRun) → (AreRun words → ⊥)
+    → IsBroken (AreOfOne words) words faults faults' left rest before now runs → IsBroken (AreKnown words) words faults faults' left rest before now runs
+broken_one words faults faults' left rest before now runs no_run (breaks_line status cause none front) =
+    breaks_line status (
+    match_first (status == 2) (AreOfOne words → ⊥) (AreKnown words → ⊥) (MatchBool (status == 3) (Rose faults faults') (MatchBool (status == 6) (IfSome left (λ bytes. TookCount 4194305 bytes rest)) ⊥)) (
+    λ unknown known. unknown (one_if_not_run words no_run known)
+    ) cause
+    ) none front
+broken_one words faults faults' left rest before now runs no_run (breaks_refusal command bad asked refused none front) = breaks_refusal command bad asked refused none front
+broken_one words faults faults' left rest before now runs no_run (breaks_text command text asked told front) = breaks_text command text asked told front
+broken_one words faults faults' left rest before now runs no_run (breaks_verdict verdict text asked told illegal front) = breaks_verdict verdict text asked told illegal front
+broken_one words faults faults' left rest before now runs no_run (breaks_full full front) = breaks_full full front
+
+-- a session is played on one thread
+pub complete_one : (words : List (List ℕ)) (left : Option (List ℕ)) (faults faults' : ℕ) (runs : List PortRun) (status : ℕ) → (AreRun words → ⊥)
+    → IfSome left (λ bytes. AreRunOne words → length bytes ≤ 4194304 → (Rose faults faults' → ⊥) → Completes bytes status runs)
+    → IfSome left (λ bytes. AreRun words ⊎ AreRunOne words → length bytes ≤ 4194304 → (Rose faults faults' → ⊥) → Completes bytes status runs)
+complete_one words None faults faults' runs status no_run h = h
+complete_one words (Some bytes) faults faults' runs status no_run h = λ asked. by asked
+  where
+    by : AreRun words ⊎ AreRunOne words → length bytes ≤ 4194304 → (Rose faults faults' → ⊥) → Completes bytes status runs
+    by (inl run) = absurd (no_run run)
+    by (inr one) = h one
+
+-- ---- words of threads
+
+pub complete_on_threads : (words : List (List ℕ)) (left : Option (List ℕ)) (faults faults' : ℕ) (runs : List PortRun) (status : ℕ)
+    → IfSome left (λ bytes. length bytes ≤ 4194304 → (Rose faults faults' → ⊥) → Completes bytes status runs)
+    → IfSome left (λ bytes. AreRun words ⊎ AreRunOne words → length bytes ≤ 4194304 → (Rose faults faults' → ⊥) → Completes bytes status runs)
+complete_on_threads words None faults faults' runs status h = h
+complete_on_threads words (Some bytes) faults faults' runs status h = λ asked. h
+
+-- what is done for the words of threads was done on threads
+headline_at : (words : List (List ℕ)) (left before now : Option (List ℕ)) (runs : List PortRun) (command : Command) (text : List ℕ) → AreRun words → Ask command words → IsToldBy command left runs text → WasGiven before now text
+    → IsPlayedOnThreads words left before now runs
+headline_at words left before now runs (Run journals) text run asked told given = record { journals = journals; text = text; asked = asked; played = told; given = given }
+headline_at words left before now runs (RunOne journals) text run asked told given = absurd (run_is_not_one words run (RunOne journals, tt, asked))
+headline_at words left before now runs (Gen number) text run asked told given = absurd (run_is_not_one words run (Gen number, tt, asked))
+headline_at words left before now runs Check text run asked told given = absurd (run_is_not_one words run (Check, tt, asked))
+
+pub headline : (words : List (List ℕ)) (left before now : Option (List ℕ)) (runs : List PortRun) → AreRun words → IsDone words left before now runs → IsPlayedOnThreads words left before now runs
+headline words left before now runs run h = headline_at words left before now runs h.command h.text run h.asked h.done h.given

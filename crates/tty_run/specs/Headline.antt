@@ -1,0 +1,16 @@
+-- What playing a session on threads comes to.
+use Rattle.std.specs.Prelude.{ℕ, List, Bool, Option}
+use Rattle.tty_calls.specs.declared.journals.PortRun.{PortRun}
+use Rattle.tty_one.specs.declared.playing.Telling.TheVariants.{Report}
+use Rattle.tty_one.specs.Endings.{AskRun}
+use Rattle.tty_one.specs.Outcome.{IsInAnyOrder, IsReported, IsPlayedText, WasGiven}
+
+-- The text that was read spells a session; each of its ports has one returned run, which is legal and leads to the end that is
+-- reported, and whose journal is not full; and the sink was given the text of that session, of these runs and of their ends, with the
+-- journals where the words ask for them.
+pub record IsPlayedOnThreads (words : List (List ℕ)) (left before now : Option (List ℕ)) (runs : List PortRun) : Type 0 where
+  pub journals : Bool
+  pub text : List ℕ
+  pub asked : AskRun journals words
+  pub played : IsPlayedText left (λ session. IsReported IsInAnyOrder (Report journals) session runs text)
+  pub given : WasGiven before now text

@@ -1,0 +1,84 @@
+ghost use Rattle.std.specs.Prelude.{◌≡◌, ◌⊎◌, ◌≢◌, ◌≤◌, [], IfSome, length};
+ghost use Rattle.tty_base.specs.Outside.{Rose, TookCount, LeavesRest};
+ghost use Rattle.tty_one.specs.Endings.{AreKnown, AreRun, AreRunOne, AreGen, AskCheck, IsStatus, IsTold, texts_of};
+ghost use Rattle.tty_one.specs.Outcome.{IsDone, IsFull, IsToldRefused, IsToldIllegal, IsBroken, Completes, CompletesGen, CompletesCheck};
+ghost use Rattle.tty_run.specs.Headline.{IsPlayedOnThreads};
+
+use crate::playing::run;
+use std::alloc::Global;
+use std::sync::Wait;
+use std::thread::Threads;
+use tty_base::{NoMemory, Sink, Source};
+use tty_one::{Ran, Runs, journals_on_threads, tty_one};
+use tty_port::Gate;
+
+/// Does what the words ask for, and ends with a status: 0 the work is done, 1 the text read is not in its
+/// grammar, 2 the words are none of the program's, 3 reading failed, 4 writing failed, 5 no memory was left,
+/// 6 the text is too long, 7 the journals that were read are not all legal, 8 a journal is full. What is
+/// told goes to the sink: at 0 the session's report, with its journals where the words ask for them, the
+/// summary of a number's session, or that the journals are legal; else the line of the status.
+///
+/// By `run` the session is played on threads: in each phase each port has one for each caller, and one each
+/// for line, flusher and clock. The other words are those of `tty_one`, which needs no thread.
+pub fn tty_run<R: Threads + Wait + Sync, S: Source, K: Sink, G: Gate + Sync>(
+    rt: &R,
+    alloc: Global,
+    words: &[&str],
+    source: &mut S,
+    sink: &mut K,
+    gate: &G,
+) -> Ran
+    // On threads, for every schedule: on status 0 the text that was read spells a session; each of its ports
+    // has one returned run, which is legal; and the sink was given the text of that session and these runs.
+    // On status 4 after a run it was given a front of it.
+    ensures headline { AreRun (texts_of words.now) → result.status ≡ 0 → IsPlayedOnThreads (texts_of words.now) (S.left source.old) (K.given sink.old) (K.given sink.new) result.runs.items }
+    // 2 comes exactly for other words, unless its line could not be given, and nothing is read.
+    ensures other_words { (AreKnown (texts_of words.now) → ⊥) → ((result.status ≡ 2) ⊎ (result.status ≡ 4)) × (source.new ≡ source.old) × (result.runs.items ≡ []) }
+    ensures known_words { AreKnown (texts_of words.now) → result.status ≢ 2 }
+    ensures read_fault { result.status ≡ 3 → Rose (S.faults source.old) (S.faults source.new) }
+    ensures write_fault { result.status ≡ 4 → Rose (K.faults sink.old) (K.faults sink.new) }
+    // 6 comes exactly where one byte more than the longest text was read, unless its line could not
+    // be given.
+    ensures too_long { IfSome (S.left source.old) (λ bytes. result.status ≡ 6 → TookCount 4194305 bytes (S.left source.new)) }
+    ensures long { IfSome (S.left source.old) (λ bytes. TookCount 4194305 bytes (S.left source.new) → (result.status ≡ 6) ⊎ (result.status ≡ 4)) }
+    ensures told { IfSome (K.given sink.old) (λ before. IsTold result.status before (K.given sink.new)) }
+    ensures statuses { IsStatus result.status }
+    // 0: the session is the one that the text spells that was read, or the one of the number; each run is
+    // legal, and on one thread in its order, and the sink was given the text of that session and these
+    // runs, or their summary. Or the runs that the text spells are all legal, and it was given that.
+    ensures done { result.status ≡ 0 → IsDone (texts_of words.now) (S.left source.old) (K.given sink.old) (K.given sink.new) result.runs.items }
+    // 1: the text that was read is not in its grammar, and the sink was given its first wrong line.
+    ensures bad_session { result.status ≡ 1 → IsToldRefused (texts_of words.now) (S.left source.old) (K.given sink.old) (K.given sink.new) }
+    // 7: the runs that the text spells are not all legal, and the sink was given the verdict that fits them.
+    ensures not_legal { result.status ≡ 7 → IsToldIllegal (texts_of words.now) (S.left source.old) (K.given sink.old) (K.given sink.new) }
+    // 8 comes exactly with a full journal, unless its line could not be given; each run is one of the session
+    // as far as it went.
+    ensures full { result.status ≡ 8 → IsFull (texts_of words.now) (S.left source.old) result.runs.items }
+    ensures broken { result.status ≡ 4 → IsBroken (AreKnown (texts_of words.now)) (texts_of words.now) (S.faults source.old) (S.faults source.new) (S.left source.old) (S.left source.new) (K.given sink.old) (K.given sink.new) result.runs.items }
+    ensures no_runs { result.status ≢ 0 → result.status ≢ 4 → result.status ≢ 8 → result.runs.items ≡ [] }
+    ensures none_judged { AskCheck (texts_of words.now) → result.runs.items ≡ [] }
+    // The source has left an end of what it had left.
+    ensures rest { IfSome (S.left source.old) (λ bytes. LeavesRest bytes (S.left source.new)) }
+    // Where a session is to be read and reading did not fail, a text that spells a session is played, and
+    // one that spells none is refused, unless the text could not be given or memory was wanting.
+    ensures complete { IfSome (S.left source.old) (λ bytes. AreRun (texts_of words.now) ⊎ AreRunOne (texts_of words.now) → length bytes ≤ 4194304
+        → (Rose (S.faults source.old) (S.faults source.new) → ⊥) → Completes bytes result.status result.runs.items) }
+    // The session of a number is played, unless its summary could not be given or memory was wanting, and
+    // nothing is read.
+    ensures made { AreGen (texts_of words.now) → CompletesGen result.status result.runs.items }
+    ensures unread { AreGen (texts_of words.now) → source.new ≡ source.old }
+    // Likewise journals are judged: 0 exactly where every run is legal, else 7.
+    ensures judged { IfSome (S.left source.old) (λ bytes. AskCheck (texts_of words.now) → length bytes ≤ 4194304
+        → (Rose (S.faults source.old) (S.faults source.new) → ⊥) → CompletesCheck bytes result.status) }
+{
+    let Some(journals) = journals_on_threads(words) else {
+        return tty_one(alloc, words, source, sink);
+    };
+    match run(rt, alloc, source, journals, gate) {
+        Ok(work) => work.tell(sink),
+        Err(NoMemory) => Ran {
+            status: 5,
+            runs: Runs::new(alloc),
+        },
+    }
+}
