@@ -3,15 +3,15 @@ use Rattle.std.proofs.Common.{◌≡◌, ℕ, ◌≤◌, Bool, true, false, cond
 use Rattle.std.proofs.lemmas.Bool.{cases_Bool}
 use Rattle.tty_modes.specs.Settings.{Settings, has_flag}
 use Rattle.tty_modes.specs.declared.places.TheConstants.{ECHO, ECHOCTL}
-use Rattle.echo_out.specs.Echo.{shown_bytes, echo_of}
+use Rattle.echo_out.specs.Echo.{shown_bytes}
 use Rattle.echo_out.specs.declared.EchoEvent.TheVariants as event
 use Rattle.opost_out.specs.Posted.{posted_bytes}
-use Rattle.flow_control.specs.Output.{Output, is_halted, has_room, room_of, after_send, after_try}
+use Rattle.flow_control.specs.Output.{Output, is_halted, has_room, room_of, after_try}
 use Rattle.flow_control.specs.Counting.{with_count}
 use Rattle.flow_control.specs.declared.tally.Counter.TheVariants.{Echo}
 use Rattle.flow_control.specs.declared.tally.Tally.{Tally}
 use Rattle.n_tty.specs.States.{NTtyState, OnPort, on_port}
-use Rattle.n_tty.specs.Posting.{column_past_text, column_after_try, all_posted_bytes, tally_after_try, after_echo}
+use Rattle.n_tty.specs.Posting.{column_after_try, all_posted_bytes, tally_after_try, after_echo}
 use Rattle.n_tty.specs.Receiving.{with_echo}
 use Rattle.n_tty.proofs.PostingLemmas.{after_send-nil}
 

@@ -3,7 +3,6 @@ use Rattle.std.proofs.Common.{◌≡◌, ℕ, zero, suc, ◌+◌, ◌≤◌, ◌
 use Rattle.std.proofs.lemmas.Bool.{cond-true}
 use Rattle.tty_modes.specs.Settings.{Settings, has_flag}
 use Rattle.tty_modes.specs.declared.places.TheConstants.{IUTF8}
-use Rattle.opost_out.specs.Posted.{posted_bytes}
 use Rattle.opost_out.proofs.Columns.{plain_posted, plain_column}
 use Rattle.flow_control.specs.Output.{Output, has_room, after_send}
 use Rattle.n_tty.specs.Posting.{column_past_text, all_posted_bytes}

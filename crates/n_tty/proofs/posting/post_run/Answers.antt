@@ -1,5 +1,5 @@
-use Rattle.std.proofs.Common.{◌≡◌, ℕ, ◌+◌, true, length, take, drop, ap, sym, ◌∙◌, arith, length-take}
-use Rattle.flow_control.specs.Output.{Output, has_room, after_send, after_try}
+use Rattle.std.proofs.Common.{◌≡◌, ◌+◌, true, take, drop, ap, sym, ◌∙◌, arith, length-take}
+use Rattle.flow_control.specs.Output.{has_room, after_send, after_try}
 use Rattle.n_tty.specs.Posting.{column_past_text}
 use Rattle.n_tty.specs.Writing.{fitting_count}
 use Rattle.n_tty.proofs.PostingLemmas.{column_past_text-le, after_try-fits}

@@ -1,6 +1,4 @@
-use Rattle.std.proofs.Common.{◌≡◌, ◌≤◌, true, sym, ap, ◌∙◌}
-use Rattle.tty_modes.specs.Settings.{has_flag}
-use Rattle.tty_modes.specs.declared.places.TheConstants.{ECHO}
+use Rattle.std.proofs.Common.{◌≤◌, sym, ap, ◌∙◌}
 use Rattle.echo_out.specs.declared.EchoEvent.TheVariants as event
 use Rattle.n_tty.specs.States.{NTtyState, on_port}
 use Rattle.n_tty.specs.Receiving.{with_echo}
