@@ -1,5 +1,5 @@
 -- What the history of a closed port tells of the threads of the phase.
-use Rattle.std.proofs.Common.{◌≡◌, ◌≢◌, ◌⊎◌, inl, inr, ℕ, ◌+◌, ◌<◌, ◌≤◌, List, [], ◌∷◌, ◌++◌, zero, suc, Bool, true, false, if◌then◌else◌, Option, Some, None, length, refl, sym, ◌∙◌, ap, subst, arith, append_assoc, append-nil}
+use Rattle.std.proofs.Common.{◌≡◌, ◌≢◌, ℕ, ◌+◌, ◌≤◌, List, [], ◌∷◌, ◌++◌, Bool, true, false, if◌then◌else◌, length, refl, sym, ◌∙◌, ap, subst, arith, append_assoc}
 use Rattle.std.proofs.lemmas.Bool.Decides.{nat_tests}
 use Rattle.std.proofs.lemmas.List.{append_cancel_left}
 use Rattle.tty_base.specs.declared.characters.Flagged.{Flagged}
@@ -9,8 +9,8 @@ use Rattle.uart_line.specs.LineState.{LineState}
 use Rattle.tty_calls.specs.declared.journals.Who.{Who}
 use Rattle.tty_calls.specs.declared.journals.Who.TheVariants.{Caller}
 use Rattle.tty_calls.specs.Plain.{PlainCall, PlainEvent, line_ended, clock_ended, caller_ended, PlainEntry, is_caller}
-use Rattle.tty_terminal.specs.Standing.{Standing, standing_after, standing_after_own, standing_after_other, standing_in}
-use Rattle.tty_terminal.specs.Marks.{Marks, marks_after, marks_in}
+use Rattle.tty_terminal.specs.Standing.{Standing, standing_after, standing_after_own, standing_after_other}
+use Rattle.tty_terminal.specs.Marks.{Marks, marks_after}
 use Rattle.port_cell.specs.declared.kept.Stamped.{Stamped}
 use Rattle.port_cell.specs.Entries as histories
 use Rattle.port_cell.specs.Entries.{Keeps, Begins}

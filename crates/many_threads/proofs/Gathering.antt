@@ -1,6 +1,6 @@
 -- All threads of a phase taken together, and all seats of its port.
 use Rattle.std.specs.Prelude.{MatchBool, IfOk, IfErr, OnOk, OnErr}
-use Rattle.std.proofs.Common.{◌≡◌, ◌⊎◌, inl, inr, ℕ, suc, ◌+◌, ◌<◌, List, [], ◌∷◌, ◌++◌, Bool, true, false, ◌||◌, Option, Some, None, Result, Ok, Err, length, refl, sym, ◌∙◌, ap, subst, arith, zero-add, length-append}
+use Rattle.std.proofs.Common.{◌≡◌, ◌⊎◌, inl, inr, ℕ, suc, ◌+◌, List, [], ◌∷◌, ◌++◌, Bool, true, false, ◌||◌, Option, Some, None, Result, Ok, Err, length, refl, sym, ◌∙◌, ap, subst, arith, zero-add, length-append}
 use Rattle.tty_base.specs.declared.characters.Flagged.{Flagged}
 use Rattle.tty_base.specs.declared.lines.LineStep.{LineStep}
 use Rattle.word_ring.specs.Ends.{PutterState}
@@ -28,8 +28,8 @@ use Rattle.many_threads.specs.declared.phases.PhaseEnd.{PhaseEnd}
 use Rattle.many_threads.specs.declared.phases.PhaseEnd.TheVariants.{Over, Full}
 use Rattle.many_threads.specs.Parts.{StopsClock, PlaysClock, RunsLine, PlaysLine, PlaysFlusher}
 use Rattle.many_threads.specs.Comings.{ClockComes, FlusherComes, LineComes}
-use Rattle.many_threads.specs.Crews.{EachCaller, IsBack, PlayedAs, SomeSawFull, CallersCome, IsTold}
-use Rattle.many_threads.specs.Dealing.{IsFresh, AreDealt}
+use Rattle.many_threads.specs.Crews.{EachCaller, IsBack, PlayedAs, SomeSawFull, CallersCome}
+use Rattle.many_threads.specs.Dealing.{AreDealt}
 use Rattle.many_threads.specs.Ends.{AreSeats, AreBack, all_seats, end_of, IsNextTold, AreTaken, ArePlayed, AreStopped, Tells, ThreadsCome}
 use Rattle.many_threads.proofs.CrewLemmas.{either_told}
 

@@ -1,16 +1,14 @@
 -- Where a phase may end nothing happens any more but its end; and how its callers come there.
-use Rattle.std.specs.Prelude.{IsTrue, is_some}
-use Rattle.std.proofs.Common.{◌≡◌, ◌≢◌, ◌⊎◌, inl, inr, ℕ, zero, suc, ◌+◌, ◌<◌, ◌≤◌, List, [], ◌∷◌, ◌++◌, Bool, true, false, ◌||◌, ◌==◌, if◌then◌else◌, Option, Some, None, length, refl, sym, ◌∙◌, ap, subst, arith}
-use Rattle.std.proofs.lemmas.Bool.{false≢true, eqb-true, and_parts}
+use Rattle.std.proofs.Common.{◌≡◌, inl, inr, ℕ, List, [], ◌∷◌, ◌++◌, Bool, true, false, ◌==◌, if◌then◌else◌, Option, length, refl, sym, ◌∙◌, ap, subst, arith}
+use Rattle.std.proofs.lemmas.Bool.{false≢true, eqb-true}
 use Rattle.tty_base.specs.declared.characters.Flagged.{Flagged}
 use Rattle.tty_calls.specs.declared.journals.Who.{Who}
 use Rattle.tty_calls.specs.declared.journals.Who.TheVariants.{Caller, Flusher, Line, Clock, Session}
 use Rattle.tty_calls.specs.Plain.{PlainCall, PlainEvent, answered, parted, waited, flushed, ticked, line_ended, clock_ended, caller_ended, phase_ended, hung_up, PlainEntry, is_caller}
 use Rattle.tty_calls.specs.Sessions.{PlainSession, scripts_on, call_at, counts_on}
-use Rattle.tty_terminal.specs.Terminals.{Terminal, caller_at, has_begun}
-use Rattle.tty_terminal.specs.Outcomes.{Outcome}
+use Rattle.tty_terminal.specs.Terminals.{Terminal, caller_at}
 use Rattle.tty_terminal.specs.Calls.{outcome_of}
-use Rattle.tty_terminal.specs.Steps.{nothing_to_flush, may_end, IsFlush, IsAllowed, Allowed, after_event, after, after_answer, with_dropped, left_by, after_part, after_wait, handle_number, by_caller}
+use Rattle.tty_terminal.specs.Steps.{nothing_to_flush, IsFlush, IsAllowed, Allowed, after_event, after, after_answer, with_dropped, left_by, after_part, after_wait, handle_number}
 use Rattle.tty_terminal.specs.Runs.{Leads, is_of_call, phase_after}
 use Rattle.tty_terminal.specs.Standing.{Standing, standing_of, standing_after_own, standing_after_other, standing_after}
 use Rattle.tty_terminal.proofs.StandingLaws.{step_stands}

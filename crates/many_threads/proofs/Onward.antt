@@ -1,6 +1,6 @@
 -- A port on threads from its opening over its phases to its end.
-use Rattle.std.proofs.Common.{◌≡◌, ◌⊎◌, inl, inr, ℕ, ◌+◌, ◌<◌, ◌≤◌, List, [], ◌∷◌, ◌++◌, Bool, true, false, ◌&&◌, ◌||◌, ◌==◌, Option, None, Some, length, refl, sym, ◌∙◌, ap, subst, arith}
-use Rattle.std.specs.Prelude.{IsTrue, Result, Ok, IfOk, slice_get, All, sum}
+use Rattle.std.proofs.Common.{◌≡◌, ◌⊎◌, inl, inr, ℕ, ◌+◌, ◌<◌, ◌≤◌, List, [], ◌∷◌, ◌++◌, Option, None, Some, length, refl, sym, ◌∙◌, ap, subst, arith}
+use Rattle.std.specs.Prelude.{IsTrue, Result, Ok, IfOk, slice_get, sum}
 use Rattle.std.proofs.lemmas.Bool.Decides.{nat_tests}
 use Rattle.std.proofs.lemmas.List.{length-map}
 use Rattle.std.proofs.lemmas.List.Elements.{All-nil}
@@ -32,11 +32,10 @@ use Rattle.one_thread.proofs.StationLemmas.{full_in_phase}
 use Rattle.one_thread.proofs.PortLemmas.{last_or, some_is}
 use Rattle.many_threads.specs.Stations.{IsOfSession, IsAtPhase, PlaysPhase, StopsPhase}
 use Rattle.many_threads.specs.Ends.{PhaseComes}
-use Rattle.many_threads.specs.Phases.{IsBeforePhase, StandsBefore, CanEnd, IsInPlay}
+use Rattle.many_threads.specs.Phases.{IsBeforePhase, StandsBefore, CanEnd}
 use Rattle.many_threads.specs.declared.phases.Ends.{Ends}
 use Rattle.many_threads.specs.declared.phases.PhaseEnd.{PhaseEnd}
 use Rattle.many_threads.specs.declared.phases.PhaseEnd.TheVariants.{Over, Full}
-use Rattle.many_threads.specs.declared.ports.PortInPlay.{PortInPlay}
 
 -- ---- at the beginning
 

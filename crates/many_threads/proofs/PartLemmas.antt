@@ -1,5 +1,5 @@
 -- What the threads of a phase did, from one step to the next.
-use Rattle.std.proofs.Common.{◌≡◌, ◌≢◌, ◌⊎◌, inl, inr, ℕ, ◌+◌, ◌<◌, ◌≤◌, List, [], ◌∷◌, ◌++◌, zero, suc, Bool, true, false, if◌then◌else◌, ne_eqb, Option, Some, None, Result, Ok, Err, length, get_or, map, refl, sym, ◌∙◌, ap, subst, arith, append_assoc, append-nil, length-append}
+use Rattle.std.proofs.Common.{◌≡◌, ◌≢◌, inl, inr, ℕ, ◌+◌, ◌<◌, ◌≤◌, List, [], ◌∷◌, ◌++◌, suc, Bool, true, false, if◌then◌else◌, ne_eqb, Option, Some, Result, Ok, Err, length, get_or, map, refl, sym, ◌∙◌, ap, subst, arith, append_assoc, append-nil, length-append}
 use Rattle.std.specs.Prelude.{slice_get, All, OnErr, option_map, ◌^◌}
 use Rattle.std.proofs.lemmas.Option.{slice_get-map, slice_get_read, slice_get_within, get_or_from_slice_get}
 use Rattle.tty_calls.specs.declared.calls.Call.{Call}
@@ -25,7 +25,7 @@ use Rattle.port_cell.proofs.Histories.{each_append}
 use Rattle.tty_port.specs.Inside.{EntryWithCall}
 use Rattle.tty_port.specs.Histories.{seat_of}
 use Rattle.tty_port.specs.Seen.{entries_in, marks_at, next_run, IsBetween}
-use Rattle.tty_port.specs.Placed.{IsPlaced, ArePlaced}
+use Rattle.tty_port.specs.Placed.{ArePlaced}
 use Rattle.tty_port.specs.Adding.{IsOf, IsEntry, IsOfStep}
 use Rattle.tty_port.specs.Calls.{PortSeat, IsPause, ArePauses, IsAnswered, Pauses}
 use Rattle.tty_port.specs.Flushing.{FlushesRun, run_past}

@@ -1,7 +1,7 @@
 -- The account of a phase: from what comes of its threads, and the port that is whole again after them.
 use Rattle.std.specs.Prelude.{sum}
 use Rattle.std.specs.List.{All}
-use Rattle.std.proofs.Common.{◌≡◌, ◌≢◌, ◌⊎◌, inl, inr, ℕ, zero, suc, ◌+◌, ◌<◌, ◌≤◌, List, [], ◌∷◌, ◌++◌, Bool, true, false, ◌&&◌, Option, Some, None, length, refl, sym, ◌∙◌, ap, subst, arith, zero-add, append-nil, append_assoc, length-append}
+use Rattle.std.proofs.Common.{◌≡◌, ◌⊎◌, inl, inr, ℕ, zero, suc, ◌+◌, ◌<◌, ◌≤◌, List, [], ◌∷◌, ◌++◌, Bool, true, false, ◌&&◌, Option, Some, length, refl, sym, ◌∙◌, ap, subst, arith, zero-add, append-nil, append_assoc, length-append}
 use Rattle.std.specs.Prelude.{slice_get, nat_le, count_by}
 use Rattle.std.proofs.lemmas.Bool.{false≢true}
 use Rattle.std.proofs.lemmas.Grind.{flat_map-append}
@@ -15,19 +15,19 @@ use Rattle.uart_line.specs.LineState.{LineState}
 use Rattle.uart_line.specs.Received.{received_list, closed_script}
 use Rattle.uart_line.specs.Offered.{kept_list}
 use Rattle.uart_line.proofs.OfferedLemmas.{HandsOver-kept}
-use Rattle.tty_calls.specs.Plain.{PlainCall, PlainEvent, line_ended, PlainEntry}
-use Rattle.tty_calls.specs.Sessions.{PlainSession, line_on, ticks_on, scripts_on, scripts_over, names_of, call_at, counts_on}
+use Rattle.tty_calls.specs.Plain.{PlainCall, line_ended, PlainEntry}
+use Rattle.tty_calls.specs.Sessions.{line_on, ticks_on, scripts_on, scripts_over, names_of, call_at, counts_on}
 use Rattle.tty_terminal.specs.Terminals.{Terminal, opening, caller_at, has_begun, is_over}
 use Rattle.tty_terminal.specs.Steps.{callers_in, nothing_to_flush, may_end}
 use Rattle.tty_terminal.specs.Runs.{Leads, IsRun, chars_of}
-use Rattle.tty_terminal.specs.Standing.{Standing, standing_of}
+use Rattle.tty_terminal.specs.Standing.{standing_of}
 use Rattle.tty_terminal.specs.Marks.{Marks, marks_of}
 use Rattle.tty_terminal.proofs.Runs.{run_callers}
-use Rattle.journal_check.specs.Legal.{phase_at, name_at, has_script, first_step, steps_in, script_of_first, session_events, session_events_in, line_ends_in, received_before, AreInPhases}
+use Rattle.journal_check.specs.Legal.{phase_at, name_at, has_script, first_step, steps_in, script_of_first, session_events, session_events_in, received_before, AreInPhases}
 use Rattle.journal_check.specs.Phases.{HasPlayed, CompletesPhase}
 use Rattle.journal_check.proofs.FinishLemmas.{nothing_first, nothing_rest, PlaysAt, plays_first, callers_complete, three_true}
 use Rattle.port_core.specs.Flips.{MeetsTaker}
-use Rattle.port_core.specs.Ports.{PortValue, IsPort}
+use Rattle.port_core.specs.Ports.{PortValue}
 use Rattle.one_thread.specs.Roles.{Scene, PlainRole}
 use Rattle.one_thread.specs.Lines.{HasPut}
 use Rattle.one_thread.specs.LineInside.{KnowsTaken}
@@ -38,9 +38,8 @@ use Rattle.one_thread.proofs.PhaseLemmas.{phase_stays}
 use Rattle.one_thread.proofs.ReceivedLemmas.{script_next, kept_later}
 use Rattle.one_thread.proofs.RoleLemmas.{sum_counts}
 use Rattle.port_cell.specs.declared.kept.Stamped.{Stamped}
-use Rattle.port_cell.specs.Entries as histories
 use Rattle.port_cell.specs.Entries.{Keeps, Begins}
-use Rattle.port_cell.specs.Knowledge.{number_of, list_seen}
+use Rattle.port_cell.specs.Knowledge.{list_seen}
 use Rattle.port_cell.specs.Seats.{EachSeat}
 use Rattle.tty_port.specs.Inside.{Name, EntryWithCall}
 use Rattle.tty_port.specs.Histories.{history_in, name_in}
@@ -60,8 +59,7 @@ use Rattle.many_threads.specs.declared.phases.PhaseEnd.TheVariants.{Over, Full}
 use Rattle.many_threads.specs.Parts as parts
 use Rattle.many_threads.specs.Parts.{StopsClock, PlaysClock, RunsLine, PlaysLine, PlaysFlusher}
 use Rattle.many_threads.specs.Crews.{EachCaller, IsBack, SomeSawFull}
-use Rattle.one_thread.specs.Phases.{SeesWithin}
-use Rattle.many_threads.specs.Stations.{IsOfSession, IsAtPhase, AreParts, StopsPhase}
+use Rattle.many_threads.specs.Stations.{IsAtPhase, AreParts, StopsPhase}
 use Rattle.many_threads.specs.Ends.{all_seats, IsShared, IsClosed, ArePlayed, AreStopped, Tells, ThreadsCome, PlaysThreads, ThreadsLeave}
 use Rattle.many_threads.proofs.PartLemmas.{placed_left, flusher_begins}
 use Rattle.many_threads.proofs.ClosingLemmas.{line_is_over, clock_is_over, clock_stops}

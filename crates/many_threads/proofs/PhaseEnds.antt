@@ -1,28 +1,26 @@
 -- The end of a phase whose threads are over.
-use Rattle.std.specs.List.{All}
-use Rattle.std.proofs.Common.{◌≡◌, ℕ, ◌+◌, ◌<◌, ◌≤◌, List, [], ◌∷◌, ◌++◌, Bool, true, false, Option, Some, None, length, refl, sym, ◌∙◌, ap, subst, arith, append_assoc, append-nil}
+use Rattle.std.proofs.Common.{◌≡◌, ℕ, ◌+◌, ◌<◌, ◌≤◌, List, [], ◌∷◌, ◌++◌, false, Option, length, refl, sym, ◌∙◌, ap, subst, arith, append_assoc}
 use Rattle.std.proofs.lemmas.Bool.{false≢true}
 use Rattle.std.proofs.lemmas.List.Elements.{All-nil}
 use Rattle.tty_base.specs.declared.characters.Flagged.{Flagged}
 use Rattle.tty_base.specs.declared.lines.Overrun.{Overrun}
-use Rattle.word_ring.specs.Ends.{PutterState, TakerState}
+use Rattle.word_ring.specs.Ends.{PutterState}
 use Rattle.uart_line.specs.LineState.{LineState}
 use Rattle.tty_calls.specs.declared.journals.Who.TheVariants.{Session}
 use Rattle.tty_calls.specs.Plain.{PlainCall, phase_ended, line_ended, PlainEntry}
-use Rattle.tty_calls.specs.Sessions.{scripts_on, ticks_on, call_at, counts_on}
+use Rattle.tty_calls.specs.Sessions.{scripts_on, call_at}
 use Rattle.tty_terminal.specs.Terminals.{Terminal, caller_at}
 use Rattle.tty_terminal.specs.Steps.{next_phase}
 use Rattle.tty_terminal.specs.Runs.{AgreesAt, AgreesOn}
 use Rattle.tty_terminal.specs.Standing.{Standing, standing_of}
 use Rattle.tty_terminal.proofs.StandingLaws.{step_stands}
-use Rattle.journal_check.specs.Legal.{phase_at, name_at, has_script, first_step, script_of_first, received_before, AreInPhases}
+use Rattle.journal_check.specs.Legal.{phase_at, name_at, has_script, script_of_first, received_before, AreInPhases}
 use Rattle.journal_check.specs.Phases.{CompletesPhase}
 use Rattle.journal_check.proofs.FinishLemmas.{played_next}
 use Rattle.port_core.specs.Flips.{after_meeting}
 use Rattle.port_core.specs.Phases.{EndsPhase}
 use Rattle.port_core.specs.Ports.{PortValue, call_in, phase_entry}
 use Rattle.one_thread.specs.Roles.{Scene}
-use Rattle.one_thread.specs.Lines.{HasPut}
 use Rattle.one_thread.proofs.LineSteps.{has_put_met, has_put_at, sent_met}
 use Rattle.one_thread.proofs.Places.{in_phases_more}
 use Rattle.tty_port.specs.Seen.{run_after}

@@ -1,28 +1,24 @@
 -- What the threads of a phase need at its beginning.
-use Rattle.std.specs.Prelude.{sum, slice_get, All, ◌^◌}
-use Rattle.std.proofs.Common.{◌≡◌, ℕ, zero, suc, ◌+◌, ◌<◌, ◌≤◌, List, [], ◌∷◌, ◌++◌, false, Option, Some, None, length, refl, sym, ◌∙◌, ap, subst, arith, zero-add}
+use Rattle.std.specs.Prelude.{sum, slice_get}
+use Rattle.std.proofs.Common.{◌≡◌, ℕ, suc, ◌+◌, ◌<◌, ◌≤◌, List, [], ◌∷◌, false, Option, Some, None, length, refl, sym, ◌∙◌, ap, subst, arith, zero-add}
 use Rattle.tty_base.specs.declared.characters.Flagged.{Flagged}
 use Rattle.tty_base.specs.declared.lines.LineStep.{LineStep}
 use Rattle.tty_base.specs.Lines.{arrival_count}
 use Rattle.word_ring.specs.Ends.{PutterState}
 use Rattle.uart_line.specs.LineState.{LineState}
-use Rattle.tty_calls.specs.Plain.{PlainCall}
 use Rattle.tty_calls.specs.Sessions.{line_on, counts_on}
-use Rattle.tty_calls.specs.Limits.{IsCallWithin, IsWithinLimits}
+use Rattle.tty_calls.specs.Limits.{IsWithinLimits}
 use Rattle.tty_terminal.specs.Terminals.{caller_at}
 use Rattle.tty_terminal.specs.Standing.{Standing, standing_of}
 use Rattle.tty_terminal.specs.Marks.{Marks, marks_of}
-use Rattle.journal_check.specs.Legal.{phase_at, first_step, steps_in}
+use Rattle.journal_check.specs.Legal.{phase_at, first_step}
 use Rattle.port_core.specs.Flips.{MeetsTaker, after_meeting}
-use Rattle.port_core.specs.Ports.{PortValue, IsPort}
+use Rattle.port_core.specs.Ports.{PortValue}
 use Rattle.one_thread.specs.Roles.{Scene, PlainRole, IsRoleOf}
-use Rattle.one_thread.specs.Lines.{HasPut}
 use Rattle.one_thread.proofs.LineSteps.{has_put_met, has_put_at, sent_met}
 use Rattle.one_thread.proofs.ReceivedLemmas.{arrivals_fit}
 use Rattle.one_thread.proofs.RoleLemmas.{first_next, few_scripts, few_steps, sum_counts}
-use Rattle.port_cell.specs.declared.kept.Stamped.{Stamped}
-use Rattle.tty_port.specs.Inside.{Name, EntryWithCall}
-use Rattle.tty_port.specs.Histories.{history_in, name_in}
+use Rattle.tty_port.specs.Inside.{Name}
 use Rattle.tty_port.specs.Seen.{standing_at, marks_at, next_run, run_after, IsBetween}
 use Rattle.tty_port.specs.Shared.{name_of_port, opening_history}
 use Rattle.tty_port.specs.declared.shared.SharedPort.{SharedPort}

@@ -1,26 +1,24 @@
 -- A port before it was shared, and after its sharing ended: the part of the journal between them.
 use Rattle.std.specs.Prelude.{sum}
-use Rattle.std.proofs.Common.{◌≡◌, ◌≢◌, ℕ, ◌+◌, ◌<◌, ◌≤◌, List, [], ◌∷◌, ◌++◌, Bool, true, false, if◌then◌else◌, Option, Some, None, length, refl, sym, ◌∙◌, ap, subst, arith, eq-eqb}
+use Rattle.std.proofs.Common.{◌≡◌, ℕ, ◌+◌, List, [], ◌∷◌, ◌++◌, Bool, true, false, if◌then◌else◌, Option, None, refl, sym, ◌∙◌, ap, subst, eq-eqb}
 use Rattle.tty_calls.specs.declared.journals.Who.{Who}
 use Rattle.tty_calls.specs.declared.journals.Who.TheVariants.{Caller, Flusher, Line, Clock, Session}
-use Rattle.tty_calls.specs.Plain.{PlainCall, PlainEvent, PlainEntry, is_caller}
+use Rattle.tty_calls.specs.Plain.{PlainCall, PlainEvent, PlainEntry}
 use Rattle.tty_calls.specs.Sessions.{PlainSession, call_at, counts_on}
 use Rattle.tty_terminal.specs.Terminals.{Terminal, opening}
 use Rattle.tty_terminal.specs.Steps.{after}
 use Rattle.tty_terminal.specs.Runs.{Leads, IsRun, is_of_call, AgreesAt, AgreesOn, phase_after}
-use Rattle.tty_terminal.specs.Marks.{Marks, marks_of}
 use Rattle.tty_terminal.proofs.Agreeing.{leads_agrees}
 use Rattle.journal_check.specs.Legal.{session_events_in, AreInPhases}
 use Rattle.port_core.specs.Ports.{PortValue, IsPort, call_in}
 use Rattle.port_cell.specs.declared.kept.Stamped.{Stamped}
-use Rattle.port_cell.specs.Entries as histories
 use Rattle.port_cell.specs.Entries.{Keeps}
 use Rattle.one_thread.specs.Roles.{Scene, PlainRole}
 use Rattle.one_thread.proofs.Places.{phase_from, leads_phase}
 use Rattle.tty_port.specs.Inside.{Name, EntryWithCall}
-use Rattle.tty_port.specs.Histories.{call_by, call_for, stamped_entry, generation_next, history, history_in, name_in}
+use Rattle.tty_port.specs.Histories.{call_by, history, history_in, name_in}
 use Rattle.tty_port.specs.Seen.{entries_in}
-use Rattle.tty_port.specs.Placed.{ArePlaced, HasCall, HaveCalls, IsHistoryOf}
+use Rattle.tty_port.specs.Placed.{ArePlaced, HaveCalls, IsHistoryOf}
 use Rattle.tty_port.proofs.Histories.{entries_append}
 use Rattle.tty_port.proofs.Keeping.{placed_right}
 use Rattle.many_threads.specs.Parts as parts

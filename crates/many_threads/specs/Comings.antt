@@ -1,16 +1,13 @@
 -- What comes of each thread of a phase, whether or not it was denied an entry.
-use Rattle.std.specs.Prelude.{◌≡◌, ◌⊎◌, ℕ, ◌+◌, ◌<◌, ◌≤◌, ◌^◌, List, [], ◌∷◌, ◌++◌, Option, None, Some, IfOk, IfErr, OnOk, OnErr, All, length, sum}
+use Rattle.std.specs.Prelude.{ℕ, ◌+◌, List, IfOk, IfErr, OnOk, OnErr}
 use Rattle.tty_base.specs.declared.characters.Flagged.{Flagged}
 use Rattle.tty_base.specs.declared.lines.LineStep.{LineStep}
 use Rattle.word_ring.specs.Ends.{PutterState}
 use Rattle.uart_line.specs.LineState.{LineState}
 use Rattle.tty_calls.specs.Plain.{PlainCall}
-use Rattle.tty_calls.specs.Limits.{IsCallWithin}
 use Rattle.port_cell.specs.declared.kept.Stamped.{Stamped}
-use Rattle.port_cell.specs.Entries.{entries_by}
 use Rattle.port_cell.specs.Knowledge.{list_seen}
-use Rattle.tty_port.specs.Inside.{Name, EntryWithCall}
-use Rattle.tty_port.specs.Seen.{IsBetween}
+use Rattle.tty_port.specs.Inside.{EntryWithCall}
 use Rattle.tty_port.specs.Adding.{IsFull}
 use Rattle.tty_port.specs.Calls.{PortSeat}
 use Rattle.tty_port.specs.Shared.{IsHere, name_of_port}

@@ -1,9 +1,8 @@
 -- The callers of a port in a phase: what each can play, and what comes of all.
-use Rattle.std.specs.Prelude.{◌≡◌, ◌⊎◌, ℕ, ◌+◌, ◌<◌, ◌^◌, List, [], ◌∷◌, ◌++◌, Bool, true, false, Option, None, Some, Result, Ok, Err, MatchBool, All, length, map, sum, slice_get}
+use Rattle.std.specs.Prelude.{◌≡◌, ◌⊎◌, ℕ, ◌+◌, ◌<◌, ◌^◌, List, [], ◌∷◌, Bool, true, false, Option, None, Some, Result, Ok, Err, MatchBool, All, length, map, sum, slice_get}
 use Rattle.tty_calls.specs.declared.answers.Denied.{Denied}
 use Rattle.tty_calls.specs.declared.answers.Denied.TheVariants.{NoMemory, Full}
 use Rattle.tty_calls.specs.declared.sessions.Script.{Script}
-use Rattle.tty_calls.specs.Plain.{PlainCall}
 use Rattle.tty_calls.specs.Limits.{IsCallWithin}
 use Rattle.one_thread.specs.Roles.{PlainRole, calls_in}
 use Rattle.port_cell.specs.Knowledge.{list_seen}

@@ -37,7 +37,7 @@ use Rattle.many_threads.specs.declared.phases.PhaseBack.{PhaseBack}
 use Rattle.many_threads.specs.declared.phases.Ends.{Ends}
 use Rattle.many_threads.specs.Parts.{StopsClock, PlaysClock, RunsLine, PlaysLine, PlaysFlusher}
 use Rattle.many_threads.specs.Crews.{EachCaller, IsBack, PlayedAs, SomeSawFull, IsTold}
-use Rattle.many_threads.specs.Dealing.{IsFresh, AreDealt}
+use Rattle.many_threads.specs.Dealing.{AreDealt}
 use Rattle.one_thread.specs.Phases.{SeesWithin}
 use Rattle.many_threads.specs.Stations.{IsOfSession, IsAtPhase, PlaysPhase, StopsPhase}
 

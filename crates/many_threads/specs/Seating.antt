@@ -1,5 +1,5 @@
 -- How the roles of a phase are seated by the numbers of their callers: for private functions alone.
-use Rattle.std.specs.Prelude.{ℕ, List, [], ◌∷◌, Option, Some, slice_set}
+use Rattle.std.specs.Prelude.{List, [], ◌∷◌, Option, Some, slice_set}
 use Rattle.one_thread.specs.declared.roles.Role.{Role}
 use Rattle.many_threads.specs.declared.crews.Part.{Part}
 

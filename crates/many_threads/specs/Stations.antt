@@ -1,5 +1,5 @@
 -- A port, the putting end of its flip buffer, and its line at the beginning of a phase.
-use Rattle.std.specs.Prelude.{◌≡◌, ◌≤◌, ◌<◌, ◌+◌, ℕ, List, [], ◌∷◌, ◌++◌, false, true, Option, Some, All, length, slice_get}
+use Rattle.std.specs.Prelude.{◌≡◌, ◌≤◌, ◌+◌, ℕ, List, [], ◌∷◌, ◌++◌, false, Option, Some, All, length, slice_get}
 use Rattle.tty_base.specs.declared.characters.Flagged.{Flagged}
 use Rattle.tty_base.specs.declared.lines.Overrun.{Overrun}
 use Rattle.word_ring.specs.Ends.{PutterState}

@@ -13,6 +13,8 @@ mod ports;
 mod running;
 mod seating;
 mod stations;
+#[cfg(test)]
+mod tests;
 mod threads;
 
 pub use crews::{CallersBack, Part};

@@ -1,10 +1,8 @@
-use Rattle.std.specs.Prelude.{slice_get}
-use Rattle.std.proofs.Common.{◌≡◌, ◌+◌, Some, map, sym, ◌∙◌, ap, subst, arith}
-use Rattle.std.proofs.lemmas.Result.{err_from_is_err_and}
+use Rattle.std.proofs.Common.{map, subst, arith}
 use Rattle.tty_calls.specs.Plain.{call_of, answer_of}
 use Rattle.port_cell.specs.Knowledge.{list_seen}
 use Rattle.tty_port.specs.Calls.{Answers, Pauses}
-use Rattle.many_threads.proofs.PartLemmas.{call_there, call_number, call_bytes, no_calls, answered_more, paused_more}
+use Rattle.many_threads.proofs.PartLemmas.{call_there, call_number, call_bytes, answered_more, paused_more}
 use Rattle.many_threads.proofs.callers.make_calls.Goals as goal
 
 pub call-requires-clause-number : goal.call-requires-clause-number

@@ -1,4 +1,4 @@
-use Rattle.std.proofs.Common.{◌≡◌, ◌+◌, length, map, sym, ◌∙◌, ap, subst}
+use Rattle.std.proofs.Common.{◌≡◌, ◌+◌, length, map, sym, subst}
 use Rattle.tty_calls.specs.Plain.{call_of}
 use Rattle.port_cell.specs.Knowledge.{list_seen}
 use Rattle.tty_port.specs.Seen.{IsBetween, standing_at}

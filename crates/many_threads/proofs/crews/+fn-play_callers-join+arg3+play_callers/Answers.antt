@@ -1,10 +1,8 @@
-use Rattle.std.specs.Prelude.{IfOk}
-use Rattle.std.proofs.Common.{rules, arith, ◌≡◌, ◌+◌, ◌++◌, ◌∷◌, [], length, length-append, map, Option, Some, None, Ok, sym, ◌∙◌, ap, subst}
+use Rattle.std.proofs.Common.{rules, arith, ◌≡◌, ◌+◌, ◌++◌, ◌∷◌, [], length, length-append, map, Some, None, Ok, ◌∙◌, ap}
 use Rattle.tty_calls.specs.Plain.{call_of}
 use Rattle.port_cell.specs.Knowledge.{list_seen}
 use Rattle.many_threads.specs.Comings.{CallerComes}
 use Rattle.many_threads.specs.Crews.{plain_parts, CallersCome, IsTold}
-use Rattle.many_threads.specs.declared.crews.CallersBack.{CallersBack}
 use Rattle.many_threads.proofs.CrewLemmas.{splits, crew_needs, crew_none, crew_more, both_ok, at_back}
 use Rattle.many_threads.proofs.crews.+fn-play_callers-join+arg3+play_callers.Goals as goal
 

@@ -1,4 +1,4 @@
-use Rattle.std.proofs.Common.{◌≤◌, ◌+◌, rules}
+use Rattle.std.proofs.Common.{◌+◌, rules}
 use Rattle.tty_port.specs.Shared.{name_of_port}
 use Rattle.tty_port.proofs.Outcomes.{on_ok}
 use Rattle.many_threads.specs.Parts.{RunsLine}

@@ -1,4 +1,4 @@
-use Rattle.std.proofs.Common.{arith, ◌≡◌, length, sum, sym, ap, subst}
+use Rattle.std.proofs.Common.{arith, ◌≡◌, sum, sym, ap, subst}
 use Rattle.tty_port.specs.Inside.{Name}
 use Rattle.tty_port.specs.Shared.{name_of_port}
 use Rattle.many_threads.specs.Crews.{plain_parts}

@@ -1,4 +1,4 @@
-use Rattle.std.proofs.Common.{◌≡◌, ◌≤◌, ◌+◌, length}
+use Rattle.std.proofs.Common.{◌≤◌, ◌+◌, length}
 use Rattle.tty_calls.specs.Sessions.{session_of}
 use Rattle.one_thread.specs.Phases.{AreFirstPlayed}
 use Rattle.many_threads.proofs.playing.end_all.Given as goal

@@ -1,13 +1,12 @@
-use Rattle.std.proofs.Common.{rules, ◌≡◌, ◌<◌, ◌+◌, ℕ, List, None, length, map, replicate, refl, sym, ap, ◌∙◌, subst, arith}
+use Rattle.std.proofs.Common.{rules, ◌≡◌, ◌<◌, ◌+◌, ℕ, List, length, map, refl, sym, ap, ◌∙◌, subst}
 use Rattle.std.specs.Prelude.{All, sum}
 use Rattle.std.specs.Vec.{with_items}
 use Rattle.std.proofs.lemmas.List.{with_items_is}
 use Rattle.tty_calls.specs.Limits.{IsWithinLimits}
 use Rattle.tty_calls.specs.Sessions.{session_of, line_on, ticks_on, counts_on}
 use Rattle.journal_check.specs.Legal.{phase_at}
-use Rattle.one_thread.specs.Roles.{Scene, scene_of, names_in, role_in, AreRolesOf, AreFirstSteps}
+use Rattle.one_thread.specs.Roles.{Scene, scene_of, names_in, role_in, AreFirstSteps}
 use Rattle.one_thread.specs.Casting.{scripts_at, steps_after}
-use Rattle.one_thread.specs.declared.roles.Role.{Role}
 use Rattle.one_thread.proofs.RoleLemmas.{cast_in, roles_in_scene, roles_within, roles_few, moved_on}
 use Rattle.many_threads.specs.Crews.{plain_parts}
 use Rattle.many_threads.specs.Stations.{IsAtPhase, AreParts}

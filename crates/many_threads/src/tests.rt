@@ -1,0 +1,121 @@
+ghost use Rattle.std.specs.Prelude.{◌≡◌, ◌∷◌, [], IfOk, map};
+ghost use Rattle.tty_calls.specs.Plain.{call_of};
+ghost use Rattle.tty_calls.specs.Limits.{IsWithinLimits};
+ghost use Rattle.tty_calls.specs.Sessions.{session_of, phase_of};
+
+use super::*;
+use arrayvec::ArrayString;
+use std::alloc::Global;
+use std::test::Fail;
+use tty_base::{Buffer, Counts, Flag, Flagged, LineStep, NoMemory};
+use tty_calls::{Access, Answer, Call, Entry, Event, Phase, Script, Session, When, Who};
+use tty_modes::Word;
+use tty_port::OpenGate;
+
+/// A phase of one port, with these steps of its line and calls of its caller.
+fn phase_of(
+    alloc: Global,
+    name: ArrayString<16>,
+    steps: Vec<LineStep>,
+    calls: Vec<Call>,
+) -> Result<Phase, NoMemory>
+    ensures { IfOk result (λ phase. phase_of phase ≡ record { lines = steps.items ∷ []; ticks = 0 ∷ []; callers = record { port = 0; name = name.bytes; calls = map call_of calls.items } ∷ [] }) }
+{
+    let script = Script {
+        port: 0,
+        name,
+        calls: Buffer::from_vec(calls),
+    };
+    Ok(Phase {
+        lines: Buffer::from_vec(vec![in alloc; Buffer::from_vec(steps)]?),
+        ticks: Buffer::from_vec(vec![in alloc; 0]?),
+        callers: Buffer::from_vec(vec![in alloc; script]?),
+    })
+}
+
+fn rx(byte: u8) -> LineStep
+    ensures { result ≡ LineStep.Rx (record { byte = byte; flag = Flag.Normal }) }
+{
+    LineStep::Rx(Flagged {
+        byte,
+        flag: Flag::Normal,
+    })
+}
+
+/// A caller opens the port; then three characters arrive; then the caller reads them and closes the port.
+fn three_bytes(alloc: Global) -> Result<Session, NoMemory>
+    ensures { IfOk result (λ session. IsWithinLimits (session_of session)) }
+{
+    let name = ArrayString::from("a").unwrap_or(ArrayString::new());
+    let open = Call::Open {
+        h: 0,
+        access: Access::Rw,
+        nonblock: true,
+    };
+    let raw = Call::SetModes {
+        h: 0,
+        when: When::Now,
+        words: Buffer::from_vec(vec![in alloc; Word::Raw]?),
+    };
+    let opens = phase_of(alloc, name, Vec::new(alloc), vec![in alloc; open, raw]?)?;
+    let steps = vec![in alloc; rx(0x68), rx(0x69), rx(0x0a)]?;
+    let arrives = phase_of(alloc, name, steps, Vec::new(alloc))?;
+    let calls = vec![in alloc; Call::Read { h: 0, n: 64 }, Call::Close { h: 0 }]?;
+    let reads = phase_of(alloc, name, Vec::new(alloc), calls)?;
+    Ok(Session {
+        version: 1,
+        ports: 1,
+        flips: Buffer::from_vec(vec![in alloc; 4096]?),
+        phases: Buffer::from_vec(vec![in alloc; opens, arrives, reads]?),
+    })
+}
+
+/// The answer of a step of the caller.
+fn answer_at(entries: &[Entry], step: u32) -> Option<&Answer> {
+    for entry in entries {
+        if entry.who == Who::Caller(0) && entry.step == step {
+            if let Event::Answer(answer, _) = &entry.event {
+                return Some(answer);
+            }
+        }
+    }
+    None
+}
+
+fn is_done(entries: &[Entry], step: u32) -> bool {
+    matches!(answer_at(entries, step), Some(Answer::Done))
+}
+
+fn is_got(entries: &[Entry], step: u32, wanted: &[u8]) -> bool {
+    match answer_at(entries, step) {
+        Some(Answer::Got(bytes)) => bytes.as_slice() == wanted,
+        _ => false,
+    }
+}
+
+#[test]
+fn three_bytes_are_read_in_the_phase_after_they_came(rt: HostRuntime) -> Result<(), Fail> {
+    let alloc = rt.alloc();
+    let session = three_bytes(alloc)?;
+    let played = play(&rt, alloc, &session, &OpenGate)?;
+    let (Some(run), Some(end)) = (
+        played.runs.as_slice().first(),
+        played.ends.as_slice().first(),
+    ) else {
+        unreachable!()
+    };
+    let entries = run.journal.as_slice();
+    assert!(rt; is_done(entries, 0));
+    assert!(rt; is_done(entries, 1));
+    assert!(rt; is_got(entries, 2, b"hi\n"));
+    assert!(rt; is_done(entries, 3));
+    assert_eq!(rt; run.line.arrived, 3);
+    assert_eq!(rt; run.line.fifo_lost, 0);
+    assert_eq!(rt; run.line.sent, 3);
+    assert_eq!(rt; run.line.overruns.len(), 0);
+    assert_eq!(rt; end.counts, Counts::default());
+    assert_eq!(rt; end.signals.len(), 0);
+    assert_eq!(rt; end.generation, 2);
+    assert_eq!(rt; end.wire.len(), 0);
+    Ok(())
+}
