@@ -1,15 +1,11 @@
 -- What the history of a closed port tells of the threads of the phase.
-use Rattle.std.proofs.Common.{◌≡◌, ◌≢◌, ℕ, ◌+◌, ◌≤◌, List, [], ◌∷◌, ◌++◌, Bool, true, false, if◌then◌else◌, length, refl, sym, ◌∙◌, ap, subst, arith, append_assoc}
-use Rattle.std.proofs.lemmas.Bool.Decides.{nat_tests}
+use Rattle.std.proofs.Common.{◌≡◌, ◌≢◌, ℕ, ◌+◌, ◌≤◌, List, [], ◌∷◌, ◌++◌, true, length, sym, ◌∙◌, ap, subst, arith, append_assoc}
 use Rattle.std.proofs.lemmas.List.{append_cancel_left}
 use Rattle.tty_base.specs.declared.characters.Flagged.{Flagged}
 use Rattle.tty_base.specs.declared.lines.LineStep.{LineStep}
 use Rattle.word_ring.specs.Ends.{PutterState}
 use Rattle.uart_line.specs.LineState.{LineState}
-use Rattle.tty_calls.specs.declared.journals.Who.{Who}
-use Rattle.tty_calls.specs.declared.journals.Who.TheVariants.{Caller}
-use Rattle.tty_calls.specs.Plain.{PlainCall, PlainEvent, line_ended, clock_ended, caller_ended, PlainEntry, is_caller}
-use Rattle.tty_terminal.specs.Standing.{Standing, standing_after, standing_after_own, standing_after_other}
+use Rattle.tty_calls.specs.Plain.{PlainEvent, line_ended, clock_ended}
 use Rattle.tty_terminal.specs.Marks.{Marks, marks_after}
 use Rattle.port_cell.specs.declared.kept.Stamped.{Stamped}
 use Rattle.port_cell.specs.Entries as histories
@@ -17,13 +13,12 @@ use Rattle.port_cell.specs.Entries.{Keeps, Begins}
 use Rattle.port_cell.specs.Knowledge.{list_seen}
 use Rattle.port_cell.proofs.Histories.{each_right}
 use Rattle.tty_port.specs.Inside.{EntryWithCall}
-use Rattle.tty_port.specs.Seen.{standing_at, marks_at}
+use Rattle.tty_port.specs.Seen.{marks_at}
 use Rattle.tty_port.specs.Placed.{ArePlaced}
 use Rattle.tty_port.specs.Calls.{PortSeat}
-use Rattle.tty_port.proofs.Histories.{standing_append, marks_append}
-use Rattle.tty_port.proofs.Keeping.{standing_kept}
-use Rattle.tty_port.proofs.PhaseLaws.{phase_kept, standing_in_phase, line_in_phase, clock_in_phase}
-use Rattle.many_threads.specs.Parts.{PlaysCaller, StopsClock, PlaysClock, PlaysLine}
+use Rattle.tty_port.proofs.Histories.{marks_append}
+use Rattle.tty_port.proofs.PhaseLaws.{phase_kept, line_in_phase, clock_in_phase}
+use Rattle.many_threads.specs.Parts.{StopsClock, PlaysClock, PlaysLine}
 use Rattle.many_threads.proofs.PartLemmas.{begins_on, begins_kept, begins_one, placed_left, tick_kept}
 
 -- what a seat has not made since the start it has not made since
@@ -39,45 +34,6 @@ placed_before m n zs ys placed k = placed_left m n zs k.0 (subst (ArePlaced m n)
 -- the phase has not ended since the start
 pub same_phase : (m n : ℕ) (xs zs ys : List (Stamped EntryWithCall)) → ArePlaced m n ys → Keeps (m + 3) xs ys → Begins xs zs → Begins zs ys → (marks_at ys).phase ≡ (marks_at zs).phase
 same_phase m n xs zs ys placed session b k = phase_kept m n zs ys placed (since (m + 3) xs zs ys session b k)
-
--- ---- a caller
-
-is_self : (c : ℕ) (who : Who) → who ≡ Caller c → is_caller who c ≡ true
-is_self c who h = ap (λ (w : Who). is_caller w c) h ∙ (grind (arith, nat_tests))
-
-if_true : {A : Type 0} (b : Bool) (x y : A) → b ≡ true → (if b then x else y) ≡ x
-if_true true x y e = refl
-if_true false x y e = absurd (cc)
-
-ended : (c : ℕ) (e : PlainEntry) (s : Standing) → e.who ≡ Caller c → e.event ≡ caller_ended → standing_after c e s ≡ record s { over = true }
-ended c e s who is =
-    if_true (is_caller e.who c) (standing_after_own e.event e.generation s) (standing_after_other e.event s) (is_self c e.who who)
-    ∙ ap (λ (x : PlainEvent). standing_after_own x e.generation s) is
-
--- the caller is over, and its next step is this one
-pub record IsOverAt (c step : ℕ) (xs : List (Stamped EntryWithCall)) : Type 0 where
-  pub next : (standing_at c xs).next ≡ step
-  pub over : (standing_at c xs).over ≡ true
-  pub not_begun : (standing_at c xs).begun ≡ false
-
-pub caller_is_over : (m n c first : ℕ) (calls : List PlainCall) (xs ys : List (Stamped EntryWithCall)) (s : PortSeat) → ArePlaced m n ys → Keeps (m + 3) xs ys → Keeps c (list_seen s) ys → PlaysCaller c first calls xs s → IsOverAt c (first + length calls) ys
-caller_is_over m n c first calls xs ys s placed session keeps h =
-    let zs = list_seen s in
-    let to_before = begins_on xs h.seen h.before h.begins (begins_kept c h.seen h.before h.found) in
-    let on = begins_one h.before zs h.last h.added in
-    let begins = begins_on xs h.before zs to_before on in
-    let rest = begins_kept c zs ys keeps in
-    let placed_here = placed_before m n h.before ys placed (begins_on h.before zs ys on rest) in
-    let was : standing_at c h.before ≡ standing_at c h.seen = standing_kept m n c h.seen h.before placed_here h.found h.answered.not_over in
-    let now : standing_at c zs ≡ record (standing_at c h.before) { over = true } =
-    ap (standing_at c) h.added ∙ standing_append c h.before (h.last ∷ []) ∙ ended c h.last.what.entry (standing_at c h.before) h.ends.who h.ends.happened in
-    let last : standing_at c ys ≡ standing_at c zs = standing_in_phase m n c zs ys placed keeps (same_phase m n xs zs ys placed session begins rest) in
-    let all = last ∙ (now ∙ ap (λ (q : Standing). record q { over = true }) was) in
-    record {
-      next = ap (λ (q : Standing). q.next) all ∙ h.answered.next;
-      over = ap (λ (q : Standing). q.over) all;
-      not_begun = ap (λ (q : Standing). q.begun) all ∙ h.answered.not_begun;
-    }
 
 -- ---- the line
 

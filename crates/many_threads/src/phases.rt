@@ -1,6 +1,6 @@
 //! A phase of a port on threads: the port is shared for it, and whole again at its end.
 
-ghost use Rattle.std.specs.Prelude.{◌≡◌, ◌+◌, ◌-◌, ◌<◌, ◌≤◌, ◌^◌, ◌||◌, true, false, IsTrue, IfOk, List, All, length, sum};
+ghost use Rattle.std.specs.Prelude.{◌≡◌, ◌+◌, ◌-◌, ◌<◌, ◌≤◌, ◌^◌, true, false, IsTrue, IfOk, List, All, length, sum};
 ghost use Rattle.tty_base.specs.Lines.{is_step, arrival_count};
 ghost use Rattle.tty_base.specs.declared.lines.LineStep.{LineStep};
 ghost use Rattle.uart_line.specs.LineState.{HasDone};
@@ -10,7 +10,6 @@ ghost use Rattle.tty_terminal.specs.Steps.{may_end};
 ghost use Rattle.journal_check.specs.Legal.{phase_at};
 ghost use Rattle.one_thread.specs.Roles.{Scene};
 ghost use Rattle.one_thread.specs.LineInside.{KnowsTaken};
-ghost use Rattle.port_cell.specs.Knowledge.{list_seen};
 ghost use Rattle.tty_port.specs.Seen.{marks_at, next_run};
 ghost use Rattle.tty_port.specs.Shared.{name_of_port, opening_history};
 ghost use Rattle.many_threads.specs.Crews.{plain_parts, CanPlayAll};
