@@ -1,9 +1,10 @@
-ghost use Rattle.std.specs.Prelude.{◌≡◌, ◌+◌, ◌<◌, ◌^◌, [], IfOk, length, sum};
+ghost use Rattle.std.specs.Prelude.{◌≡◌, ◌+◌, ◌<◌, ◌^◌, [], IfOk, IfSome, length, sum};
 ghost use Rattle.std.specs.Thread.{IsSync};
 ghost use Rattle.tty_calls.specs.Plain.{call_of, handle_of};
 ghost use Rattle.tty_calls.specs.Limits.{byte_count};
 ghost use Rattle.port_cell.specs.Knowledge.{list_seen};
-ghost use Rattle.tty_port.specs.Seen.{IsBetween};
+ghost use Rattle.tty_port.specs.Seen.{IsBetween, next_run};
+ghost use Rattle.tty_port.specs.Flushing.{run_past};
 ghost use Rattle.tty_port.specs.Shared.{IsHere, AreHere, name_of_port, opening_history};
 
 use super::*;
@@ -11,10 +12,12 @@ use flip_buffer::{FlipIn, flip};
 use port_core::Port;
 use std::alloc::Global;
 use std::sync::Wait;
+use std::sync::atomic::{AtomicU64, Ordering};
 use std::test::Fail;
-use std::thread::{Threads, join};
-use tty_base::{Bytes, Flag, Flagged, NoMemory, Put};
-use tty_calls::{Access, Call, Entry, Event, Who};
+use std::thread::{Threads, join, yield_now};
+use tty_base::{Bytes, Errno, Flag, Flagged, NoMemory, Put};
+use tty_calls::{Access, Answer, Call, Denied, Entry, Event, When, Who, Words};
+use tty_modes::Word;
 
 fn moves<T: Send>() {}
 
@@ -30,6 +33,7 @@ fn a_shared_port_and_its_seats_cross_threads() {
 fn share(alloc: Global) -> Result<(FlipIn, SharedPort, Vec<Seat>), NoMemory>
     ensures callers { IfOk result (λ r. ((name_of_port r.1).callers ≡ 2) × (sum (name_of_port r.1).counts ≡ 2)) }
     ensures seats { IfOk result (λ r. AreHere r.1 [] 0 r.2.items × (length r.2.items ≡ 6)) }
+    ensures ring { IfOk result (λ r. r.0.ring ≡ (name_of_port r.1).ring) }
 {
     let (mut input, output) = flip(alloc, 64)?;
     let _put = input.put(Flagged {
@@ -244,5 +248,329 @@ fn changes_beside_writes(rt: HostRuntime) -> Result<(), Fail> {
     assert_eq!(rt; answered(entries, 0), Some(1000));
     assert_eq!(rt; answered(entries, 1), Some(1000));
     assert_eq!(rt; port.generation(), 999);
+    Ok(())
+}
+
+/// Makes a caller's next call; `None` where it is denied.
+fn make<R: Wait, G: Gate>(
+    rt: &R,
+    shared: &SharedPort,
+    seat: &mut Seat,
+    caller: u16,
+    step: u32,
+    call: &Call,
+    gate: &G,
+) -> Option<Answer>
+    requires seat { IsHere shared.now caller seat.old }
+    requires known { (caller < 2) × (sum (name_of_port shared.now).counts ≡ 2) }
+    requires number { handle_of (call_of call.now) < 32 }
+    requires bytes { byte_count (call_of call.now) < 2 ^ 32 }
+    requires between { IsBetween caller step (list_seen seat.old) }
+    ensures seat { IsHere shared.now caller seat.new }
+    ensures between { IfSome result (λ _. IsBetween caller (step + 1) (list_seen seat.new)) }
+{
+    shared.call(rt, seat, caller, step, call, gate).ok()
+}
+
+/// Opens the first handle for the first caller, which waits for nothing through it.
+fn open_first<R: Wait>(rt: &R, shared: &SharedPort, seat: &mut Seat) -> Option<Answer>
+    requires seat { IsHere shared.now 0 seat.old × (list_seen seat.old ≡ []) }
+    requires callers { sum (name_of_port shared.now).counts ≡ 2 }
+    ensures seat { IsHere shared.now 0 seat.new }
+    ensures between { IfSome result (λ _. IsBetween 0 1 (list_seen seat.new)) }
+{
+    let open = Call::Open {
+        h: 0,
+        access: Access::Rw,
+        nonblock: true,
+    };
+    make(rt, shared, seat, 0, 0, &open, &OpenGate)
+}
+
+/// Opens the port, makes it raw, and reads what a flush run handed over before the line's end. Tells
+/// how many characters that were, and what the read was answered.
+fn read_early<R: Wait>(
+    rt: &R,
+    shared: &SharedPort,
+    caller: &mut Seat,
+    flusher: &mut Seat,
+    raw: &Call,
+) -> Option<(u32, Answer)>
+    requires caller { IsHere shared.now 0 caller.old × (list_seen caller.old ≡ []) }
+    requires flusher { IsHere shared.now 2 flusher.old × (list_seen flusher.old ≡ []) }
+    requires callers { ((name_of_port shared.now).callers ≡ 2) × (sum (name_of_port shared.now).counts ≡ 2) }
+    requires number { handle_of (call_of raw.now) < 32 }
+    requires bytes { byte_count (call_of raw.now) < 2 ^ 32 }
+    ensures caller { IsHere shared.now 0 caller.new }
+    ensures flusher { IsHere shared.now 2 flusher.new }
+    ensures between { IfSome result (λ _. IsBetween 0 3 (list_seen caller.new)) }
+    ensures next { IfSome result (λ told. next_run (list_seen flusher.new) ≡ run_past 0 told.0) }
+{
+    let Some(_opened) = open_first(rt, shared, caller) else {
+        return None;
+    };
+    let Some(_changed) = make(rt, shared, caller, 0, 1, raw, &OpenGate) else {
+        return None;
+    };
+    let Ok(count) = shared.flush_run(rt, flusher, 0) else {
+        return None;
+    };
+    let read = Call::Read { h: 0, n: 8 };
+    let Some(answer) = make(rt, shared, caller, 0, 2, &read, &OpenGate) else {
+        return None;
+    };
+    Some((count, answer))
+}
+
+/// Ends line and clock.
+fn end_line_and_clock<R: Wait>(
+    rt: &R,
+    shared: &SharedPort,
+    line: &mut Seat,
+    putter: &mut FlipIn,
+    clock: &mut Seat,
+) -> Result<(), Denied>
+    requires line { IsHere shared.now 3 line.old × (list_seen line.old ≡ []) }
+    requires clock { IsHere shared.now 4 clock.old × (list_seen clock.old ≡ []) }
+    requires callers { (name_of_port shared.now).callers ≡ 2 }
+    requires ring { putter.old.ring ≡ (name_of_port shared.now).ring }
+    ensures line { IsHere shared.now 3 line.new }
+    ensures clock { IsHere shared.now 4 clock.new }
+{
+    shared.line_end(rt, line, putter)?;
+    shared.clock_end(rt, clock)
+}
+
+/// Ends both callers.
+fn end_callers<R: Wait>(
+    rt: &R,
+    shared: &SharedPort,
+    first: &mut Seat,
+    second: &mut Seat,
+) -> Result<(), Denied>
+    requires first { IsHere shared.now 0 first.old × IsBetween 0 3 (list_seen first.old) }
+    requires second { IsHere shared.now 1 second.old × (list_seen second.old ≡ []) }
+    requires callers { sum (name_of_port shared.now).counts ≡ 2 }
+    ensures first { IsHere shared.now 0 first.new }
+    ensures second { IsHere shared.now 1 second.new }
+{
+    shared.caller_end(rt, first, 0)?;
+    shared.caller_end(rt, second, 1)
+}
+
+/// What one thread found that used all seats of a port.
+#[derive(Drop)]
+struct Found {
+    /// How many characters two flush runs handed over.
+    handed: (u32, u32),
+    answer: Answer,
+    /// Whether the phase might end before and after its callers' end.
+    ended: (bool, bool),
+    port: Port,
+}
+
+/// The number of the flush run after the first, which handed over so many characters.
+fn next_after(count: u32) -> u32
+    ensures { result ≡ run_past 0 count }
+{
+    if count == 0 { 0 } else { 1 }
+}
+
+/// Plays a phase on one thread.
+fn play_alone<R: Wait>(rt: &R, alloc: Global) -> Option<Found> {
+    let words = Words::from_vec(vec![in alloc; Word::Raw].ok()?);
+    let raw = Call::SetModes {
+        h: 0,
+        when: When::Now,
+        words,
+    };
+    let Ok((mut putter, shared, mut seats)) = share(alloc) else {
+        return None;
+    };
+    let mut session = last(&shared, &mut seats);
+    let mut clock = last(&shared, &mut seats);
+    let mut line = last(&shared, &mut seats);
+    let mut flusher = last(&shared, &mut seats);
+    let mut second = last(&shared, &mut seats);
+    let mut first = last(&shared, &mut seats);
+    let Some((count, answer)) = read_early(rt, &shared, &mut first, &mut flusher, &raw) else {
+        return None;
+    };
+    end_line_and_clock(rt, &shared, &mut line, &mut putter, &mut clock).ok()?;
+    let early = shared.ended(rt, &mut session);
+    end_callers(rt, &shared, &mut first, &mut second).ok()?;
+    let rest = shared.flush_run(rt, &mut flusher, next_after(count)).ok()?;
+    let ended = shared.ended(rt, &mut session);
+    let port = end(
+        alloc,
+        shared,
+        (first, second),
+        flusher,
+        (line, clock, session),
+    );
+    Some(Found {
+        handed: (count, rest),
+        answer,
+        ended: (early, ended),
+        port: port.ok()?,
+    })
+}
+
+#[test]
+fn each_seat_makes_its_entries(rt: HostRuntime) -> Result<(), Fail> {
+    let found = play_alone(&rt, rt.alloc()).ok_or("denied")?;
+    assert_eq!(rt; found.handed, (1, 0));
+    assert!(rt; matches!(&found.answer, Answer::Got(bytes) if bytes.as_slice() == b"x".as_slice()));
+    assert_eq!(rt; found.ended, (false, true));
+    let makers = [
+        (Who::Caller(0), 0),
+        (Who::Caller(0), 1),
+        (Who::Flusher, 0),
+        (Who::Caller(0), 2),
+        (Who::Line, 0),
+        (Who::Clock, 0),
+        (Who::Caller(0), 3),
+        (Who::Caller(1), 0),
+    ];
+    let entries = found.port.journal().as_slice();
+    assert_eq!(rt; entries.len(), makers.len());
+    for (entry, maker) in entries.iter().zip(&makers) {
+        assert_eq!(rt; (entry.who, entry.step), *maker);
+    }
+    Ok(())
+}
+
+/// Holds the second caller's first call until the first caller's write has taken a part, and the write
+/// from there on until the second caller's next call has come; but nobody for ever.
+#[derive(Drop)]
+struct BetweenParts {
+    parted: AtomicU64,
+    came: AtomicU64,
+}
+
+/// Waits for a while until a word is set.
+fn await_word(word: &AtomicU64) {
+    for _ in 0..10_000_000 {
+        if word.load(Ordering::SeqCst) == 1 {
+            return;
+        }
+        yield_now();
+    }
+}
+
+impl Gate for BetweenParts {
+    fn pass<R: Wait>(&self, _rt: &R, who: Who, step: u32, part: u32) {
+        match (who, step, part) {
+            (Who::Caller(0), 1, 1) => {
+                self.parted.store(1, Ordering::SeqCst);
+                await_word(&self.came);
+            }
+            (Who::Caller(1), 0, 0) => await_word(&self.parted),
+            (Who::Caller(1), 1, 0) => self.came.store(1, Ordering::SeqCst),
+            _ => {}
+        }
+    }
+}
+
+/// The first caller writes.
+fn write<R: Wait, G: Gate>(
+    rt: &R,
+    shared: &SharedPort,
+    mut seat: Seat,
+    call: &Call,
+    gate: &G,
+) -> Seat
+    requires seat { IsHere shared.now 0 seat × IsBetween 0 1 (list_seen seat) }
+    requires callers { sum (name_of_port shared.now).counts ≡ 2 }
+    requires number { handle_of (call_of call.now) < 32 }
+    requires bytes { byte_count (call_of call.now) < 2 ^ 32 }
+    ensures { IsHere shared.now 0 result }
+{
+    let _answer = make(rt, shared, &mut seat, 0, 1, call, gate);
+    seat
+}
+
+/// The second caller reads, and then asks for the discipline.
+fn read_and_ask<R: Wait, G: Gate>(rt: &R, shared: &SharedPort, mut seat: Seat, gate: &G) -> Seat
+    requires seat { IsHere shared.now 1 seat × (list_seen seat ≡ []) }
+    requires callers { sum (name_of_port shared.now).counts ≡ 2 }
+    ensures { IsHere shared.now 1 result }
+{
+    let read = Call::Read { h: 0, n: 8 };
+    let Some(_read) = make(rt, shared, &mut seat, 1, 0, &read, gate) else {
+        return seat;
+    };
+    let asked = Call::GetDisc { h: 0 };
+    let _answer = make(rt, shared, &mut seat, 1, 1, &asked, gate);
+    seat
+}
+
+/// Both callers beside one another, held by the gate.
+fn both<R: Threads + Wait + Sync>(
+    rt: &R,
+    shared: &SharedPort,
+    seats: (Seat, Seat),
+    call: &Call,
+    gate: &BetweenParts,
+) -> (Seat, Seat)
+    requires first { IsHere shared.now 0 seats.0 × IsBetween 0 1 (list_seen seats.0) }
+    requires second { IsHere shared.now 1 seats.1 × (list_seen seats.1 ≡ []) }
+    requires callers { sum (name_of_port shared.now).counts ≡ 2 }
+    requires number { handle_of (call_of call.now) < 32 }
+    requires bytes { byte_count (call_of call.now) < 2 ^ 32 }
+    ensures first { IsHere shared.now 0 result.0 }
+    ensures second { IsHere shared.now 1 result.1 }
+{
+    let (one, two) = seats;
+    join(
+        rt,
+        move || -> Seat
+            requires { IsSync R.row × IsHere shared.now 0 one × IsBetween 0 1 (list_seen one) × (sum (name_of_port shared.now).counts ≡ 2) × (handle_of (call_of call.now) < 32) × (byte_count (call_of call.now) < 2 ^ 32) }
+            ensures { IsHere shared.entry.now 0 result }
+        { write(rt, shared, one, call, gate) },
+        move || -> Seat
+            requires { IsSync R.row × IsHere shared.now 1 two × (list_seen two ≡ []) × (sum (name_of_port shared.now).counts ≡ 2) }
+            ensures { IsHere shared.entry.now 1 result }
+        { read_and_ask(rt, shared, two, gate) },
+    )
+}
+
+/// Plays both callers on threads, after the clock's first tick.
+fn play_between<R: Threads + Wait + Sync>(rt: &R, alloc: Global, call: &Call) -> Option<Port>
+    requires number { handle_of (call_of call.now) < 32 }
+    requires bytes { byte_count (call_of call.now) < 2 ^ 32 }
+{
+    let gate = BetweenParts {
+        parted: AtomicU64::new(0),
+        came: AtomicU64::new(0),
+    };
+    let Ok((_putter, shared, mut seats)) = share(alloc) else {
+        return None;
+    };
+    let session = last(&shared, &mut seats);
+    let mut clock = last(&shared, &mut seats);
+    let line = last(&shared, &mut seats);
+    let flusher = last(&shared, &mut seats);
+    let second = last(&shared, &mut seats);
+    let mut first = last(&shared, &mut seats);
+    let Some(_opened) = open_first(rt, &shared, &mut first) else {
+        return None;
+    };
+    shared.tick(rt, &mut clock).ok()?;
+    let callers = both(rt, &shared, (first, second), call, &gate);
+    end(alloc, shared, callers, flusher, (line, clock, session)).ok()
+}
+
+#[test]
+fn a_read_is_answered_between_the_parts_of_a_write(rt: HostRuntime) -> Result<(), Fail> {
+    let bytes = Bytes::from_vec(vec![in rt.alloc(); b'a'; 200]?);
+    let write = Call::Write { h: 0, bytes };
+    let port = play_between(&rt, rt.alloc(), &write).ok_or("denied")?;
+    let entries = port.journal().as_slice();
+    assert_eq!(rt; entries.len(), 8);
+    let (part, read) = (&entries[2], &entries[3]);
+    assert!(rt; part.who == Who::Caller(0) && matches!(part.event, Event::Part(64)));
+    assert!(rt; read.who == Who::Caller(1));
+    assert!(rt; matches!(read.event, Event::Answer(Answer::Refused(Errno::EAGAIN), _)));
     Ok(())
 }
