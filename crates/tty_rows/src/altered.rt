@@ -1,6 +1,7 @@
 //! Journals that are legal, and what is told of them when they are altered.
 
-use super::rows::{Told, told_of, written_out};
+use super::rows::{Told, told_of};
+use super::texts::written_out;
 use std::alloc::{AllocError, Global};
 use std::process::Abort;
 use std::test::Fail;

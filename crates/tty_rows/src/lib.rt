@@ -1,4 +1,4 @@
-//! Worked sessions with their reports, as tests over the top call. Nothing stands on this crate.
+//! Worked sessions with their reports, as tests over the top call, and what such tests need of texts.
 #![tactic(auto)]
 
 #[cfg(test)]
@@ -23,7 +23,10 @@ mod rows;
 mod summaries;
 #[cfg(test)]
 mod switching;
+mod texts;
 #[cfg(test)]
 mod threads;
 #[cfg(test)]
 mod waiting;
+
+pub use texts::{with_journals, written_out};

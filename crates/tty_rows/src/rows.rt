@@ -1,5 +1,6 @@
 //! How a session with its report is tried.
 
+use super::texts::{with_journals, written_out};
 use std::alloc::{AllocError, Global};
 use std::process::Abort;
 use std::test::Fail;
@@ -62,56 +63,6 @@ pub(crate) fn plays(
 fn judged_of(alloc: Global, session: &str) -> Result<Told, AllocError> {
     let words = ["run", "--one", "--journal"];
     let played = told_of(alloc, &words, written_out(alloc, session)?)?;
-    judged_in(alloc, session, played.text.as_slice())
-}
-
-/// What is told of the journals in the text of a session that was played.
-pub(crate) fn judged_in(alloc: Global, session: &str, played: &[u8]) -> Result<Told, AllocError> {
-    let heading = b"journals\n".as_slice();
-    let before = played
-        .windows(heading.len())
-        .take_while(|piece| *piece != heading)
-        .count();
-    let mut text = written_out(alloc, session)?;
-    for byte in played.iter().skip(before) {
-        text.push(*byte)?;
-    }
+    let text = with_journals(alloc, session, played.text.as_slice())?;
     told_of(alloc, &["check"], text)
-}
-
-/// The text with its repeated bytes written out.
-pub(crate) fn written_out(alloc: Global, text: &str) -> Result<Vec<u8>, AllocError> {
-    let mut whole = Vec::new(alloc);
-    let mut times = Vec::new(alloc);
-    let mut inside = false;
-    for byte in text.bytes() {
-        match byte {
-            b'[' => inside = true,
-            b']' => {
-                put_times(&mut whole, times.as_slice())?;
-                times.clear();
-                inside = false;
-            }
-            _ if inside => times.push(byte)?,
-            _ => whole.push(byte)?,
-        }
-    }
-    Ok(whole)
-}
-
-/// Adds what `61*4095` stands for.
-fn put_times(whole: &mut Vec<u8>, times: &[u8]) -> Result<(), AllocError> {
-    let piece = times.iter().take_while(|byte| **byte != b'*').count();
-    let mut count = 0usize;
-    for digit in times.iter().skip(piece + 1) {
-        count = count
-            .saturating_mul(10)
-            .saturating_add(usize::from(digit.wrapping_sub(b'0')));
-    }
-    for _ in 0..count {
-        for byte in times.iter().take(piece) {
-            whole.push(*byte)?;
-        }
-    }
-    Ok(())
 }

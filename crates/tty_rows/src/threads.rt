@@ -1,6 +1,7 @@
 //! Sessions that are played on threads.
 
-use super::rows::{PIECE, ROOM, Told, judged_in, written_out};
+use super::rows::{PIECE, ROOM, Told};
+use super::texts::written_out;
 use super::{editing, output, overruns, receiving, switching, waiting};
 use std::alloc::{AllocError, Global};
 use std::sync::Wait;
@@ -9,29 +10,6 @@ use std::thread::Threads;
 use tty_base::{Bytes, MemSink, MemSource};
 use tty_port::OpenGate;
 use tty_run::{Ran, tty_run};
-
-/// Callers that write, change the discipline and hang the port up while it receives.
-const UNDER_LOAD: &str = "tty-session 1
-ports 1
-phase
-caller a 0
-open 0 rw
-modes 0 now raw
-phase
-line 0
-rx [61*300]
-caller a 0
-write 0 [61*200]
-caller b 0
-read 0 64
-setd 0 1
-setd 0 0
-caller c 0
-write 0 [62*200]
-caller d 0
-vhangup 0
-end
-";
 
 /// What is told of a text that is played on threads with these words.
 fn told_on_threads<R: Threads + Wait + Sync>(
@@ -74,20 +52,6 @@ fn what_no_schedule_changes_is_told_as_on_one_thread(rt: HostRuntime) -> Result<
         let report = written_out(alloc, row.report)?;
         let same = told.text == report;
         assert!(rt; same, "another report of {session}");
-    }
-    Ok(())
-}
-
-#[test]
-fn journals_of_threads_are_legal(rt: HostRuntime) -> Result<(), Fail> {
-    let alloc = rt.alloc();
-    for play in 0..100 {
-        let text = written_out(alloc, UNDER_LOAD)?;
-        let told = told_on_threads(&rt, alloc, &["run", "--journal"], text)?;
-        assert_eq!(rt; told.status, 0, "at play {play}");
-        let judged = judged_in(alloc, UNDER_LOAD, told.text.as_slice())?;
-        assert_eq!(rt; judged.status, 0, "at play {play}");
-        assert_eq!(rt; judged.text.as_slice(), b"legal\n".as_slice());
     }
     Ok(())
 }

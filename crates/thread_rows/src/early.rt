@@ -1,0 +1,65 @@
+//! Input that is flushed while the line still runs.
+
+use super::places::{Place, answers, are_in_order};
+use super::plays::played_behind;
+use std::sync::Wait;
+use std::test::Fail;
+use tty_calls::{Entry, Event, Who};
+use tty_port::Gate;
+
+/// A caller waits for characters of the line.
+const A_READ_BESIDE_THE_LINE: &str = "tty-session 1
+ports 1
+phase
+caller a 0
+open 0 rw
+modes 0 now raw
+phase
+line 0
+rx 68690a
+caller a 0
+read 0 8
+getd 0
+end
+";
+
+/// Holds the line of the second phase before its end until the reader has come to its next call.
+#[derive(Drop)]
+struct BeforeLineEnd {
+    after_the_read: Place,
+}
+
+impl Gate for BeforeLineEnd {
+    fn pass<R: Wait>(&self, _rt: &R, who: Who, step: u32, _part: u32) {
+        match (who, step) {
+            (Who::Line, 1) => self.after_the_read.wait(),
+            (Who::Caller(0), 3) => self.after_the_read.reach(),
+            _ => {}
+        }
+    }
+}
+
+fn is_flush(entry: &Entry) -> bool {
+    matches!(entry.event, Event::Flush(_))
+}
+
+/// Whether an entry is the end of this phase's line.
+fn is_line_end(entry: &Entry, phase: u32) -> bool {
+    entry.step == phase && matches!(entry.event, Event::LineEnd(_))
+}
+
+#[test]
+fn flush_early(rt: HostRuntime) -> Result<(), Fail> {
+    let gate = BeforeLineEnd {
+        after_the_read: Place::new(),
+    };
+    let played = played_behind(&rt, rt.alloc(), A_READ_BESIDE_THE_LINE, &gate)?;
+    assert_eq!(rt; played.status, 0);
+    assert!(rt; gate.after_the_read.was_met());
+    let entries = played.entries();
+    let flush = entries.iter().position(|entry| is_flush(entry));
+    let read = entries.iter().position(|entry| answers(entry, 0, 2));
+    let end = entries.iter().position(|entry| is_line_end(entry, 1));
+    assert!(rt; are_in_order(flush, read, end));
+    Ok(())
+}

@@ -1,0 +1,71 @@
+//! Two callers whose turns mix within a write.
+
+use super::places::{Place, answers, are_in_order};
+use super::plays::played_behind;
+use std::sync::Wait;
+use std::test::Fail;
+use tty_calls::{Entry, Event, Who};
+use tty_port::Gate;
+
+/// One caller writes in four parts, and another reads, beside it.
+const A_WRITE_AND_A_READ: &str = "tty-session 1
+ports 1
+phase
+caller a 0
+open 0 rw nonblock
+phase
+caller a 0
+write 0 [61*200]
+caller b 0
+read 0 8
+getd 0
+end
+";
+
+/// Holds the read until the write stands before its second turn, and the write there until the reader
+/// has come to its next call.
+#[derive(Drop)]
+struct BetweenParts {
+    after_a_part: Place,
+    after_the_read: Place,
+}
+
+impl Gate for BetweenParts {
+    fn pass<R: Wait>(&self, _rt: &R, who: Who, step: u32, part: u32) {
+        match (who, step, part) {
+            (Who::Caller(1), 0, 0) => self.after_a_part.wait(),
+            (Who::Caller(0), 1, 1) => {
+                self.after_a_part.reach();
+                self.after_the_read.wait();
+            }
+            (Who::Caller(1), 1, 0) => self.after_the_read.reach(),
+            _ => {}
+        }
+    }
+}
+
+/// Whether an entry is this part of the write.
+fn is_part(entry: &Entry, part: u32) -> bool {
+    entry.who == Who::Caller(0)
+        && entry.step == 1
+        && entry.part == part
+        && matches!(entry.event, Event::Part(_))
+}
+
+#[test]
+fn two_in_flight(rt: HostRuntime) -> Result<(), Fail> {
+    let gate = BetweenParts {
+        after_a_part: Place::new(),
+        after_the_read: Place::new(),
+    };
+    let played = played_behind(&rt, rt.alloc(), A_WRITE_AND_A_READ, &gate)?;
+    assert_eq!(rt; played.status, 0);
+    assert!(rt; gate.after_a_part.was_met());
+    assert!(rt; gate.after_the_read.was_met());
+    let entries = played.entries();
+    let first = entries.iter().position(|entry| is_part(entry, 0));
+    let read = entries.iter().position(|entry| answers(entry, 1, 0));
+    let second = entries.iter().position(|entry| is_part(entry, 1));
+    assert!(rt; are_in_order(first, read, second));
+    Ok(())
+}

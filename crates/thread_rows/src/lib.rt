@@ -1,0 +1,15 @@
+//! Sessions that are played on threads, as tests over the top call. Nothing stands on this crate.
+#![tactic(auto)]
+
+#[cfg(test)]
+mod alike;
+#[cfg(test)]
+mod early;
+#[cfg(test)]
+mod flight;
+#[cfg(test)]
+mod load;
+#[cfg(test)]
+mod places;
+#[cfg(test)]
+mod plays;

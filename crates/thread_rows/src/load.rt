@@ -1,0 +1,81 @@
+//! Plays under load, with a change of discipline and a hangup, and how their journals are judged.
+
+use super::plays::played;
+use std::alloc::Global;
+use std::process::Abort;
+use std::sync::Wait;
+use std::test::Fail;
+use std::thread::Threads;
+use tty_port::OpenGate;
+use tty_rows::{with_journals, written_out};
+
+/// How often each session is played.
+const PLAYS: u32 = 10;
+
+/// Two callers write, one changes the discipline, and one hangs the port up.
+const SHORT: &str = "tty-session 1
+ports 1
+phase
+caller a 0
+open 0 rw
+phase
+line 0
+rx 68690a
+caller a 0
+write 0 [61*200]
+caller b 0
+write 0 [62*200]
+caller c 0
+setd 0 1
+caller d 0
+vhangup 0
+end
+";
+
+/// Callers that read and write, there and back to the discipline, and a hangup, while characters come.
+const LONG: &str = "tty-session 1
+ports 1
+phase
+caller a 0
+open 0 rw
+modes 0 now raw
+phase
+line 0
+rx [61*300]
+caller a 0
+write 0 [61*200]
+caller b 0
+read 0 64
+setd 0 1
+setd 0 0
+caller c 0
+write 0 [62*200]
+caller d 0
+vhangup 0
+end
+";
+
+/// The journals of each play are legal.
+fn are_legal<R: Threads + Wait + Abort + Sync>(
+    rt: &R,
+    alloc: Global,
+    session: &str,
+) -> Result<(), Fail> {
+    for play in 0..PLAYS {
+        let text = written_out(alloc, session)?;
+        let told = played(rt, alloc, &["run", "--journal"], text, &OpenGate)?;
+        assert_eq!(rt; told.status, 0, "at play {play}");
+        let text = with_journals(alloc, session, told.text.as_slice())?;
+        let judged = played(rt, alloc, &["check"], text, &OpenGate)?;
+        assert_eq!(rt; judged.status, 0, "at play {play}");
+        assert_eq!(rt; judged.text.as_slice(), b"legal\n".as_slice());
+    }
+    Ok(())
+}
+
+#[test]
+fn plays_under_load_are_legal(rt: HostRuntime) -> Result<(), Fail> {
+    let alloc = rt.alloc();
+    are_legal(&rt, alloc, SHORT)?;
+    are_legal(&rt, alloc, LONG)
+}

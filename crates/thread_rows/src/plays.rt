@@ -1,0 +1,62 @@
+//! How a session is played.
+
+use std::alloc::{AllocError, Global};
+use std::sync::Wait;
+use std::thread::Threads;
+use tty_base::{Bytes, MemSink, MemSource};
+use tty_calls::Entry;
+use tty_port::Gate;
+use tty_rows::written_out;
+use tty_run::{Ran, Runs, tty_run};
+
+/// How many bytes a source or a sink moves at most in one call.
+const PIECE: usize = 4_096;
+
+/// How many bytes a sink takes in all: more than is told of any of these sessions.
+const ROOM: usize = 65_536;
+
+/// What a call of the program came to: its status, the text that it gave, and the runs of the ports.
+#[derive(Drop)]
+pub(crate) struct Played {
+    pub(crate) status: u8,
+    pub(crate) text: Vec<u8>,
+    runs: Runs,
+}
+
+impl Played {
+    /// The journal of the first port.
+    pub(crate) fn entries(&self) -> &[Entry] {
+        match self.runs.as_slice().first() {
+            Some(run) => run.journal.as_slice(),
+            None => &[],
+        }
+    }
+}
+
+/// What becomes of a text with these words.
+pub(crate) fn played<R: Threads + Wait + Sync, G: Gate + Sync>(
+    rt: &R,
+    alloc: Global,
+    words: &[&str],
+    text: Vec<u8>,
+    gate: &G,
+) -> Result<Played, AllocError> {
+    let mut source = MemSource::new(Bytes::from_vec(text), PIECE, Vec::new(alloc));
+    let Ok(mut sink) = MemSink::new(alloc, PIECE, ROOM, Vec::new(alloc)) else {
+        return Err(AllocError);
+    };
+    let Ran { status, runs } = tty_run(rt, alloc, words, &mut source, &mut sink, gate);
+    let text = sink.given().to_vec(alloc)?;
+    Ok(Played { status, text, runs })
+}
+
+/// What becomes of a session that is played on threads.
+pub(crate) fn played_behind<R: Threads + Wait + Sync, G: Gate + Sync>(
+    rt: &R,
+    alloc: Global,
+    session: &str,
+    gate: &G,
+) -> Result<Played, AllocError> {
+    let text = written_out(alloc, session)?;
+    played(rt, alloc, &["run"], text, gate)
+}
