@@ -17,13 +17,13 @@ const ROOM: usize = 65_536;
 
 /// What a call of the program came to: its status, the text that it gave, and the runs of the ports.
 #[derive(Drop)]
-pub(crate) struct Played {
+pub(crate) struct Outcome {
     pub(crate) status: u8,
     pub(crate) text: Vec<u8>,
     runs: Runs,
 }
 
-impl Played {
+impl Outcome {
     /// The journal of the first port.
     pub(crate) fn entries(&self) -> &[Entry] {
         match self.runs.as_slice().first() {
@@ -40,14 +40,14 @@ pub(crate) fn played<R: Threads + Wait + Sync, G: Gate + Sync>(
     words: &[&str],
     text: Vec<u8>,
     gate: &G,
-) -> Result<Played, AllocError> {
+) -> Result<Outcome, AllocError> {
     let mut source = MemSource::new(Bytes::from_vec(text), PIECE, Vec::new(alloc));
     let Ok(mut sink) = MemSink::new(alloc, PIECE, ROOM, Vec::new(alloc)) else {
         return Err(AllocError);
     };
     let Ran { status, runs } = tty_run(rt, alloc, words, &mut source, &mut sink, gate);
     let text = sink.given().to_vec(alloc)?;
-    Ok(Played { status, text, runs })
+    Ok(Outcome { status, text, runs })
 }
 
 /// What becomes of a session that is played on threads.
@@ -56,7 +56,7 @@ pub(crate) fn played_behind<R: Threads + Wait + Sync, G: Gate + Sync>(
     alloc: Global,
     session: &str,
     gate: &G,
-) -> Result<Played, AllocError> {
+) -> Result<Outcome, AllocError> {
     let text = written_out(alloc, session)?;
     played(rt, alloc, &["run"], text, gate)
 }
