@@ -18,8 +18,9 @@ answer_on None answer = NO_TERMINAL
 answer_on (Some t) answer = answer t
 
 -- A call on the terminal of a handle answers and leaves what it answers and leaves of that terminal. Without a terminal it
--- answers so, and does nothing; without memory it does nothing either.
+-- answers so, and does nothing; with one, but without memory, it does nothing either.
 pub record Calls (answer : Embedded → ℤ) (after : Embedded → Embedded) (old new : Option Embedded) (result : ℤ) : Type 0 where
+  pub unmade : old ≡ None → result ≡ NO_TERMINAL
   pub answered : result ≢ NO_MEMORY → result ≡ answer_on old answer
   pub left : result ≢ NO_MEMORY → new ≡ option_map after old
   pub kept : result ≡ NO_MEMORY → new ≡ old

@@ -1,6 +1,6 @@
 //! The calls of a program in C.
 
-ghost use Rattle.std.specs.Prelude.{◌≡◌, ◌≢◌, pos, None, Some, is_some, length, take, IfOk, if◌then◌else◌};
+ghost use Rattle.std.specs.Prelude.{◌≡◌, ◌≢◌, pos, None, Some, is_some, option_map, length, take, IfOk, if◌then◌else◌};
 ghost use Rattle.tty_modes.specs.Reading.{word_of};
 ghost use Rattle.n_tty.specs.States.{unread_count};
 ghost use Rattle.n_tty.specs.Writing.{piece_size};
@@ -70,7 +70,8 @@ pub extern "C" fn jw_receive(alloc: Global, handle: &mut Handle, byte: u8, flag:
 /// Sets the clock, in tenths of a second. It does not go back.
 #[unsafe(no_mangle)]
 pub extern "C" fn jw_advance(alloc: Global, handle: &mut Handle, tick: u64) -> i64
-    ensures { Calls (λ _. pos 0) (λ t. after_advance t tick) (terminal_of handle.old) (terminal_of handle.new) result }
+    ensures answer { result ≡ answer_on (terminal_of handle.old) (λ _. pos 0) }
+    ensures after { terminal_of handle.new ≡ option_map (λ t. after_advance t tick) (terminal_of handle.old) }
 {
     let Some(mut tty) = taken(alloc, handle) else {
         return NO_TERMINAL;
@@ -89,7 +90,8 @@ pub extern "C" fn jw_ready(
     since: u64,
     n: usize,
 ) -> i64
-    ensures { Calls (λ t. of_truth (is_ready_for t nonblock since n)) (λ t. t) (terminal_of handle.old) (terminal_of handle.new) result }
+    ensures answer { result ≡ answer_on (terminal_of handle.old) (λ t. of_truth (is_ready_for t nonblock since n)) }
+    ensures same { terminal_of handle.new ≡ terminal_of handle.old }
 {
     let Some(tty) = taken(alloc, handle) else {
         return NO_TERMINAL;
@@ -178,7 +180,8 @@ pub extern "C" fn jw_take_signal(alloc: Global, handle: &mut Handle) -> i64
 /// How many bytes are unread.
 #[unsafe(no_mangle)]
 pub extern "C" fn jw_unread(alloc: Global, handle: &mut Handle) -> i64
-    ensures { Calls (λ t. pos (unread_count t.port.tty)) (λ t. t) (terminal_of handle.old) (terminal_of handle.new) result }
+    ensures answer { result ≡ answer_on (terminal_of handle.old) (λ t. pos (unread_count t.port.tty)) }
+    ensures same { terminal_of handle.new ≡ terminal_of handle.old }
 {
     let Some(tty) = taken(alloc, handle) else {
         return NO_TERMINAL;
