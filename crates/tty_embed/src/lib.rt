@@ -5,6 +5,3 @@ mod places;
 mod terminal;
 
 pub use terminal::Tty;
-
-#[cfg(test)]
-mod tests;

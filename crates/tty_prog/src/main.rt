@@ -15,12 +15,17 @@ fn main(rt: HostRuntime) -> ExitCode {
     let mut sink = StdSink::new(io::writer(&rt));
     let mut given: Vec<String> = Vec::new(alloc);
     let mut words: Vec<&str> = Vec::new(alloc);
-    if let Ok(all) = env::args(&rt) {
-        for word in all.skip(1) {
-            if given.push(word).is_err() {
-                return ExitCode::from(5);
+    match env::args(&rt) {
+        Ok(all) => {
+            for word in all.skip(1) {
+                if given.push(word).is_err() {
+                    return ExitCode::from(5);
+                }
             }
         }
+        Err(fault) if fault.kind() == io::ErrorKind::OutOfMemory => return ExitCode::from(5),
+        // A word that is not UTF-8 is none that is known.
+        Err(_) => {}
     }
     for word in &given {
         if words.push(word.as_str()).is_err() {
