@@ -122,6 +122,18 @@ impl FlipOut {
         count
     }
 
+    /// Takes the next character, which a look has shown.
+    pub fn take_next(&mut self) -> Flagged
+        requires { length self.old.taken < self.old.floor }
+        ensures moves { self.new ≡ with_taken (with_shown self.old self.new.floor) (result ∷ []) }
+        ensures rises { self.old.floor ≤ self.new.floor }
+        ensures most { self.new.floor ≤ length self.old.taken + self.old.capacity }
+        ensures ended { self.old.ended ≡ true → self.new.floor ≡ length self.old.sent }
+        ensures begins { self.old.ended ≡ true → IsPrefix self.new.taken self.old.sent }
+    {
+        character_of(self.taker.take_next())
+    }
+
     /// Looks once, takes what that look shows, or the first `most` of it, and adds these characters to
     /// `out`.
     pub fn drop_all(&mut self, most: usize, out: &mut Chars) -> usize

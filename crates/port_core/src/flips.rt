@@ -8,7 +8,6 @@ ghost use Rattle.tty_terminal.specs.Receiving.{accepts, after_characters, Accept
 ghost use Rattle.tty_terminal.specs.Meeting.{room_for_characters};
 ghost use Rattle.port_core.specs.Flips.{shown_count, TakesOut, DropsShown, after_meeting, MeetsTaker};
 
-use arrayvec::ArrayVec;
 use flip_buffer::{FlipIn, FlipOut};
 use tty_base::{Chars, Flagged, Put};
 use tty_terminal::Terminal;
@@ -78,9 +77,7 @@ fn next_of(flip: &mut FlipOut) -> Flagged
     requires { length flip.old.taken < flip.old.floor }
     ensures { TakesOut flip.old flip.new (result ∷ []) }
 {
-    let mut next = ArrayVec::new();
-    flip.take(1, &mut next);
-    next.as_slice()[0]
+    flip.take_next()
 }
 
 /// Takes out all that one look shows, and lists it in room that was reserved.

@@ -4,7 +4,7 @@ use mathlib.Core.List.{IsPrefix}
 use Rattle.std.proofs.lemmas.Bool.{cases_lt}
 use Rattle.std.proofs.lemmas.Grind.{same_number_lists}
 use Rattle.std.proofs.lemmas.List.{get_or-take, get_or-drop, drop-append-le}
-use Rattle.std.proofs.Math.ListN.{get_or-append}
+use Rattle.std.proofs.Math.ListN.{get_or-append, drop_of_length-le}
 use Rattle.std.proofs.Math.Numerals.{add-one}
 use Rattle.std.proofs.Math.Seq.{get_or-append_right}
 use Rattle.word_ring.specs.Lanes.{lane, lanes, whole_words}
@@ -51,3 +51,12 @@ shown_next tail read word more begins few fits =
     ∙ (sym (get_or-drop (length read % 4) (lanes word (length read % 4 + more)) (i - length read) 0)
     ∙ sym (get_or-append_right read next i 0 above)))))))
     (cases_lt i (length read)))
+
+-- the next lane follows what was read
+pub shown_one : (tail : ℕ) (read : List ℕ) (word : ℕ) → IsPrefix read (shown_of tail read word) → length read < tail
+    → take (length read + 1) (shown_of tail read word) ≡ read ++ lane word (length read % 4) ∷ []
+shown_one tail read word begins lt =
+    let l = length read % 4 in
+    let none : drop l (lanes word l) ≡ [] = drop_of_length-le (lanes word l) (omega (arith, lanes_length word l)) in
+    shown_next tail read word 1 begins (omega arith) (omega arith)
+    ∙ ap (λ (z : List ℕ). read ++ z) (drop_lanes word l l (omega arith) ∙ ap (λ (z : List ℕ). z ++ lane word l ∷ []) none)

@@ -1,13 +1,14 @@
 //! The end that takes numbers out, and its notes.
-ghost use Rattle.std.specs.Prelude.{◌≡◌, ℕ, ◌+◌, ◌-◌, ◌<◌, ◌≤◌, true, List, ◌++◌, length, min, max, All};
+ghost use Rattle.std.specs.Prelude.{◌≡◌, ℕ, ◌+◌, ◌-◌, ◌<◌, ◌≤◌, true, List, [], ◌∷◌, ◌++◌, length, min, max, All};
 ghost use mathlib.Core.List.{IsPrefix};
 ghost use Rattle.arrayvec.specs.ArrayVec.{array_vec_len};
 ghost use Rattle.word_ring.specs.Ends.{IsOneWithin, AreReleased, with_shown, with_taken};
 
+use crate::lanes::lane_of;
 use crate::putter::{Note, Putter};
-use crate::steps::read;
+use crate::steps::{read, word_of};
 use crate::table::{
-    Board, Compare, Ended, HEAD, HeadNoted, LoadTail, Noted, Place, StoreHead, TAIL,
+    Board, Compare, Ended, HEAD, HeadNoted, LoadLanes, LoadTail, Noted, Place, StoreHead, TAIL,
 };
 use arrayvec::ArrayVec;
 use std::alloc::Global;
@@ -134,6 +135,24 @@ impl Taker {
         shared.store::<StoreHead>(&mut self.seat, HEAD, head);
         self.taken = head;
         count as usize
+    }
+
+    /// Takes the next number, which a look has shown.
+    pub fn take_next(&mut self) -> u16
+        requires { length self.old.taken < self.old.floor }
+        ensures moves { self.new ≡ with_taken (with_shown self.old self.new.floor) (result ∷ []) }
+        ensures rises { self.old.floor ≤ self.new.floor }
+        ensures most { self.new.floor ≤ length self.old.taken + self.old.capacity }
+        ensures ended { self.old.ended ≡ true → self.new.floor ≡ length self.old.sent }
+        ensures begins { self.old.ended ≡ true → IsPrefix self.new.taken self.old.sent }
+    {
+        let shared = &self.board.shared;
+        shared.load::<LoadTail>(&mut self.seat, TAIL);
+        let at = self.taken;
+        let word = shared.load::<LoadLanes>(&mut self.seat, word_of(self.capacity, at / 4));
+        shared.store::<StoreHead>(&mut self.seat, HEAD, at + 1);
+        self.taken = at + 1;
+        lane_of(word, at % 4)
     }
 
     /// Takes over the putter, which first pushes, and answers how many numbers were put. From then on

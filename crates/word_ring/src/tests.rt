@@ -106,6 +106,7 @@ fn ring_of_two(rt: HostRuntime) -> Result<(), Fail> {
     assert_eq!(rt; taker.look(), 0);
     putter.push();
     assert_eq!(rt; taker.look(), 1);
+    assert_eq!(rt; taker.take_next(), 7);
     Ok(())
 }
 
