@@ -11,6 +11,7 @@ use Rattle.journal_check.specs.Legal.{phase_at, is_phase_end, ClockMark, ticks, 
 use Rattle.journal_check.specs.Short.{is_tick, tick_count_in, after_phases, IsCutShort}
 use Rattle.journal_bound.proofs.Spent.{bit}
 use Rattle.journal_bound.proofs.Ends.{ticks_in}
+use Rattle.journal_check.proofs.ReplayLemmas.{phase_same}
 
 -- ---- the entries of a part
 
@@ -29,18 +30,6 @@ inside clock_ended others h = record { goes_on = refl; rest = h }
 inside caller_ended others h = record { goes_on = refl; rest = h }
 inside phase_ended others h = absurd (cc)
 inside (hung_up dropped) others h = absurd (cc)
-
-same_phase : (event : PlainEvent) (k : ℕ) → is_phase_end event ≡ false → phase_after event k ≡ k
-same_phase (answered a dropped) k h = refl
-same_phase (parted n) k h = refl
-same_phase waited k h = refl
-same_phase (flushed chars) k h = refl
-same_phase ticked k h = refl
-same_phase (line_ended n) k h = refl
-same_phase clock_ended k h = refl
-same_phase caller_ended k h = refl
-same_phase phase_ended k h = absurd (cc)
-same_phase (hung_up dropped) k h = refl
 
 -- what stands after the phases stands after those behind a part
 after_part : (n : ℕ) (part es : List PlainEntry) → session_events_in part ≡ [] → after_phases (suc n) (part ++ es) ≡ after_phases (suc n) es
@@ -100,7 +89,7 @@ part_ticks : (k j : ℕ) (part es : List PlainEntry) → session_events_in part 
 part_ticks k j [] es h = omega (arith, none_there (j == k))
 part_ticks k j (x ∷ part) es h =
     let here = inside x.event (session_events_in part) h in
-    let phase : tick_count_in k (phase_after x.event j) (part ++ es) ≡ tick_count_in k j (part ++ es) = ap (λ (l : ℕ). tick_count_in k l (part ++ es)) (same_phase x.event j here.goes_on) in
+    let phase : tick_count_in k (phase_after x.event j) (part ++ es) ≡ tick_count_in k j (part ++ es) = ap (λ (l : ℕ). tick_count_in k l (part ++ es)) (phase_same x.event j here.goes_on) in
     let first : tick_count_in k j (x ∷ (part ++ es)) ≡ tick_where (is_tick x.event) (j == k) + tick_count_in k (phase_after x.event j) (part ++ es) = refl in
     omega (arith, first, phase, part_ticks k j part es here.rest, one_more (is_tick x.event) (j == k) (ticks_in part))
 

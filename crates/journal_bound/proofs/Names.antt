@@ -3,7 +3,7 @@ use Rattle.std.proofs.Common.{◌≡◌, ℕ, zero, suc, ◌+◌, ◌≤◌, Boo
 use Rattle.std.specs.Prelude.{slice_get, sum_by, fold}
 use Rattle.std.specs.List.{list_any}
 use Rattle.std.specs.Str.{bytes_eq}
-use Rattle.std.proofs.lemmas.Bool.{false≢true}
+use Rattle.std.proofs.lemmas.Bool.{false≢true, or_parts}
 use Rattle.std.proofs.lemmas.List.Folds.{list_any-append}
 use Rattle.std.proofs.lemmas.List.Sums.{sum_by-cons, sum_by-append}
 use Rattle.std.proofs.lemmas.Slice.Eq.{bytes_eq-Decides}
@@ -11,23 +11,12 @@ use Rattle.tty_calls.specs.Plain.{PlainCall}
 use Rattle.tty_calls.specs.Sessions.{PlainScript, PlainPhase, scripts_on, scripts_over, with_name, names_of, calls_under, calls_of}
 use Rattle.journal_check.specs.Legal.{has_script}
 use Rattle.journal_bound.proofs.Totals.{total, total_shift, total_plus, total_none}
-
-neither_of : (a b : Bool) → (a || b) ≡ false → (a ≡ false) × (b ≡ false)
-neither_of true b h = absurd (false≢true (sym h))
-neither_of false b h = (refl, h)
+use Rattle.journal_check.proofs.NameLemmas.{other_way}
 
 both_false : (a b : Bool) → a ≡ false → b ≡ false → (a || (b || false)) ≡ false
 both_false true b h k = absurd (false≢true (sym h))
 both_false false true h k = absurd (false≢true (sym k))
 both_false false false h k = refl
-
-other_way : (a b : List ℕ) (c : Bool) → bytes_eq a b ≡ c → bytes_eq b a ≡ c
-other_way a b true h = (bytes_eq-Decides b a).1 (sym ((bytes_eq-Decides a b).0 h))
-other_way a b false h = not_true (bytes_eq b a) (λ k. false≢true (sym h ∙ (bytes_eq-Decides a b).1 (sym ((bytes_eq-Decides b a).0 k))))
-  where
-    not_true : (x : Bool) → (x ≡ true → ⊥) → x ≡ false
-    not_true true no_way = absurd (no_way refl)
-    not_true false no_way = refl
 
 -- ---- names
 
@@ -38,7 +27,7 @@ OwnNames (n ∷ ns) = (list_any (bytes_eq n) ns ≡ false) × OwnNames ns
 own_more : (ns : List (List ℕ)) (name : List ℕ) → OwnNames ns → list_any (bytes_eq name) ns ≡ false → OwnNames (ns ++ name ∷ [])
 own_more [] name own none = (refl, tt)
 own_more (n ∷ ns) name own none =
-    let parts = neither_of (bytes_eq name n) (list_any (bytes_eq name) ns) none in
+    let parts = or_parts (bytes_eq name n) (list_any (bytes_eq name) ns) none in
     (list_any-append (bytes_eq n) ns (name ∷ []) ∙ both_false (list_any (bytes_eq n) ns) (bytes_eq n name) own.0 (other_way name n false parts.0), own_more ns name own.1 parts.1)
 
 own_with : (b : Bool) (ns : List (List ℕ)) (name : List ℕ) → list_any (bytes_eq name) ns ≡ b → OwnNames ns → OwnNames (if b then ns else ns ++ name ∷ [])
@@ -64,8 +53,8 @@ worth_of w (s ∷ ss) o = worth o s (w s) + worth_of w ss o
 
 no_name : (ns : List (List ℕ)) (s : PlainScript) (x c : ℕ) → list_any (bytes_eq s.name) ns ≡ false → worth (slice_get ns c) s x ≡ 0
 no_name [] s x c none = refl
-no_name (n ∷ ns) s x zero none = ap (λ (b : Bool). if b then x else 0) (neither_of (bytes_eq s.name n) (list_any (bytes_eq s.name) ns) none).0
-no_name (n ∷ ns) s x (suc c) none = no_name ns s x c (neither_of (bytes_eq s.name n) (list_any (bytes_eq s.name) ns) none).1
+no_name (n ∷ ns) s x zero none = ap (λ (b : Bool). if b then x else 0) (or_parts (bytes_eq s.name n) (list_any (bytes_eq s.name) ns) none).0
+no_name (n ∷ ns) s x (suc c) none = no_name ns s x c (or_parts (bytes_eq s.name n) (list_any (bytes_eq s.name) ns) none).1
 
 -- a script is of one name at most
 one_name : (ns : List (List ℕ)) (s : PlainScript) (x n : ℕ) → OwnNames ns → total (λ c. worth (slice_get ns c) s x) n ≤ x

@@ -1,8 +1,7 @@
 -- A journal whose entries are fine is finished exactly where it goes well from its front.
-use Rattle.std.proofs.Common.{◌≡◌, ◌⊎◌, inl, inr, ℕ, zero, suc, ◌+◌, ◌-◌, ◌<◌, ◌≤◌, nat_lt, nat_le, Bool, true, false, ◌&&◌, if◌then◌else◌, List, [], ◌∷◌, ◌++◌, Option, None, Some, length, refl, sym, ◌∙◌, ap, subst, arith, append_assoc, append-nil, length-append}
+use Rattle.std.proofs.Common.{◌≡◌, ◌⊎◌, inl, inr, ℕ, zero, suc, ◌+◌, ◌-◌, ◌<◌, ◌≤◌, nat_le, Bool, true, false, ◌&&◌, if◌then◌else◌, List, [], ◌∷◌, ◌++◌, Option, length, refl, sym, ◌∙◌, ap, subst, arith, append_assoc, append-nil, length-append}
 use Rattle.std.specs.Prelude.{count_by, sum}
-use Rattle.std.proofs.lemmas.Bool.{false≢true, and_parts, eqb-true, eq-eqb, cases_lt}
-use Rattle.std.proofs.lemmas.Bool.Decides.{nat_tests}
+use Rattle.std.proofs.lemmas.Bool.{false≢true, and_parts, eqb-true, eq-eqb, cases_lt, and_from, le-ltb, leb-true, lt-ltb}
 use Rattle.std.proofs.lemmas.Grind.{flat_map-append}
 use Rattle.std.proofs.lemmas.List.{get_or-map, length-replicate}
 use Rattle.std.proofs.lemmas.Option.{slice_get_past}
@@ -11,7 +10,7 @@ use Rattle.tty_base.specs.declared.lines.Overrun.{Overrun}
 use Rattle.tty_calls.specs.declared.journals.Who.{Who}
 use Rattle.tty_calls.specs.declared.journals.Who.TheVariants as who
 use Rattle.tty_calls.specs.Plain.{PlainCall, PlainEvent, answered, parted, waited, flushed, ticked, line_ended, clock_ended, caller_ended, phase_ended, hung_up, PlainEntry, is_caller}
-use Rattle.tty_calls.specs.Sessions.{PlainPhase, PlainSession, ticks_on, scripts_on, scripts_over, names_of, calls_of, call_at, counts_on}
+use Rattle.tty_calls.specs.Sessions.{PlainPhase, PlainSession, ticks_on, scripts_on, scripts_over, names_of, call_at, counts_on}
 use Rattle.tty_terminal.specs.Terminals.{Terminal, caller_at, idle_caller, is_over}
 use Rattle.tty_terminal.specs.declared.callers.CallerState.{CallerState}
 use Rattle.tty_terminal.proofs.CallerLists.{all_idle}
@@ -27,11 +26,12 @@ use Rattle.journal_check.specs.Legal.{phase_at, name_at, has_script, is_caller_e
 use Rattle.journal_check.specs.Phases.{BeginsPhase, HasPlayed, CompletesPhase}
 use Rattle.journal_check.specs.Verdicts.{AreFine, opening_of, HasNoWrong}
 use Rattle.journal_check.specs.Finishing.{may_go, ticks_after, is_hangup, is_none, goes_well}
-use Rattle.journal_check.proofs.NameLemmas.{first_next, all_distinct, names_few, length_over}
+use Rattle.journal_check.proofs.NameLemmas.{first_next, all_distinct, names_few, length_over, no_calls_yet}
 use Rattle.journal_check.proofs.TurnLemmas.{first_stays}
 use Rattle.journal_check.proofs.PhaseLemmas.{phase-after}
 use Rattle.journal_check.proofs.MarkLemmas.{LineOf, ClockOf, phase_part, line_marks, clock_marks_of}
 use Rattle.journal_check.proofs.OverLemmas.{all_over}
+use Rattle.journal_check.proofs.Truths.{nothing_first, nothing_rest}
 
 -- ---- kinds of entries
 
@@ -94,14 +94,6 @@ quiet_phase phase_ended k none = cc
 quiet_phase (hung_up dropped) k none = refl
 
 -- ---- parts of a journal
-
-pub nothing_first : {X : Type 0} (xs ys : List X) → xs ++ ys ≡ [] → xs ≡ []
-nothing_first [] ys e = refl
-nothing_first (x ∷ xs) ys e = cc
-
-pub nothing_rest : {X : Type 0} (xs ys : List X) → xs ++ ys ≡ [] → ys ≡ []
-nothing_rest [] ys e = e
-nothing_rest (x ∷ xs) ys e = cc
 
 -- the first end of a phase, or hangup, is at one place
 first_end : (sofar part : List PlainEntry) (e last : PlainEntry) (es rest : List PlainEntry) → session_events_in sofar ≡ [] → session_events_in part ≡ [] → (session_events e.event ≡ [] → ⊥) → (session_events last.event ≡ [] → ⊥) → sofar ++ e ∷ es ≡ part ++ last ∷ rest
@@ -308,9 +300,6 @@ three_true true true false d h = absurd (false≢true h)
 three_true true false c d h = absurd (false≢true h)
 three_true false b c d h = absurd (false≢true h)
 
-le_true : (m n : ℕ) → nat_le m n ≡ true → m ≤ n
-le_true m n h = grind (arith, nat_tests)
-
 over_has : (b : Bool) (first count next : ℕ) (over : Bool) → Plays b first count next over → over ≡ true → b ≡ true
 over_has true first count next over h is = refl
 over_has false first count next over h is = absurd (false≢true (sym h.1 ∙ is))
@@ -333,7 +322,7 @@ callers_complete p session k t lt phase many plays may c =
     let parts = three_true t.line_over t.clock_over (nat_le (callers_in (counts_on p session) t.phase) (count_by is_over t.callers)) (nothing_to_flush t) may in
     let count : callers_in (counts_on p session) t.phase ≡ length scripts =
     ap (callers_in (counts_on p session)) phase ∙ get_or-map (λ (phase : PlainPhase). length (scripts_on p phase)) session.phases k (record { lines = []; ticks = []; callers = [] }) 0 lt in
-    let all : length scripts ≤ count_by is_over t.callers = omega (arith, le_true (callers_in (counts_on p session) t.phase) (count_by is_over t.callers) parts.2, count) in
+    let all : length scripts ≤ count_by is_over t.callers = omega (arith, leb-true (callers_in (counts_on p session) t.phase) (count_by is_over t.callers) parts.2, count) in
     played (has_script scripts (name_at p session c)) _ _ _ _ (plays c) (λ is.
     all_over (names_of (scripts_over p session.phases)) scripts t.callers c (all_distinct (scripts_over p session.phases))
     (λ d over. over_has (has_script scripts (name_at p session d)) _ _ _ _ (plays d) over) all (named_within p session k c (length t.callers) many is) is)
@@ -407,21 +396,15 @@ opens_next p session overruns k passed t0 sofar t e h allowed ends complete =
 
 -- ---- from the front to the end
 
-lt_true : (k n : ℕ) → k < n → nat_lt k n ≡ true
-lt_true k n h = grind (arith, nat_tests)
-
-lt_false : (k n : ℕ) → n ≤ k → nat_lt k n ≡ false
-lt_false k n h = grind (arith, nat_tests)
-
 record Asks (p : ℕ) (session : PlainSession) (overruns : List Overrun) (sents asked : ℕ → ℕ) : Type 0 where
   sent : (k : ℕ) → k < length session.phases → sents k ≡ sent_by p session overruns k
   tick : (k : ℕ) → asked k ≡ ticks_on p (phase_at session k)
 
 pub within : (sents asked : ℕ → ℕ) (n k passed : ℕ) (e : PlainEntry) (es : List PlainEntry) → k < n → goes_well sents asked n k passed (e ∷ es) ≡ (may_go e.event (sents k) (asked k) passed && goes_well sents asked n (phase_after e.event k) (ticks_after e.event passed) es)
-within sents asked n k passed e es lt = ap (λ b. if b then may_go e.event (sents k) (asked k) passed && goes_well sents asked n (phase_after e.event k) (ticks_after e.event passed) es else (is_hangup e.event && is_none es)) (lt_true k n lt)
+within sents asked n k passed e es lt = ap (λ b. if b then may_go e.event (sents k) (asked k) passed && goes_well sents asked n (phase_after e.event k) (ticks_after e.event passed) es else (is_hangup e.event && is_none es)) (lt-ltb k n lt)
 
 pub beyond : (sents asked : ℕ → ℕ) (n k passed : ℕ) (e : PlainEntry) (es : List PlainEntry) → n ≤ k → goes_well sents asked n k passed (e ∷ es) ≡ (is_hangup e.event && is_none es)
-beyond sents asked n k passed e es past = ap (λ b. if b then may_go e.event (sents k) (asked k) passed && goes_well sents asked n (phase_after e.event k) (ticks_after e.event passed) es else (is_hangup e.event && is_none es)) (lt_false k n past)
+beyond sents asked n k passed e es past = ap (λ b. if b then may_go e.event (sents k) (asked k) passed && goes_well sents asked n (phase_after e.event k) (ticks_after e.event passed) es else (is_hangup e.event && is_none es)) (le-ltb k n past)
 
 record IsHungUp (event : PlainEvent) : Type 0 where
   dropped : List Flagged
@@ -560,10 +543,6 @@ finished_then p session overruns sents asked es on_rest before k t u [] opens co
 finished_then p session overruns sents asked es on_rest before k t u (phase ∷ phases) opens count fine finished =
     on_rest before k 0 t [] t u phases (midway_first p session overruns k t (omega (arith, count)) opens) (omega (arith, count)) fine finished
 
-true_both : (a b : Bool) → a ≡ true → b ≡ true → (a && b) ≡ true
-true_both true b p q = q
-true_both false b p q = absurd (false≢true p)
-
 well_if_ends : (p : ℕ) (session : PlainSession) (overruns : List Overrun) (sents asked : ℕ → ℕ) → Asks p session overruns sents asked → (es : List PlainEntry) → EndsThen p session overruns sents asked es
 well_if_ends p session overruns sents asked asks [] before k passed t0 sofar t u phases h count fine ends =
     let more = part_past sofar ends.part [] ends.rest ends.last h.inside (no_end ends.last.event ends.ends) ends.parts in
@@ -587,7 +566,7 @@ well_if_ends p session overruns sents asked asks (e ∷ es) before k passed t0 s
           well_if_ends p session overruns sents asked asks es (before ++ e ∷ []) k (ticks_after e.event passed) t0 (sofar ++ e ∷ []) (after f t e) u phases on count fine.1
           (subst (λ (xs : List PlainEntry). EndsPhase p session overruns k xs (IsFinishedFrom p session overruns (k + 1) phases)) (sym (append_assoc sofar (e ∷ []) es)) ends) in
           within sents asked (length session.phases) k passed e es h.lt
-          ∙ true_both (may_go e.event (sents k) (asked k) passed) (goes_well sents asked (length session.phases) (phase_after e.event k) (ticks_after e.event passed) es)
+          ∙ and_from (may_go e.event (sents k) (asked k) passed) (goes_well sents asked (length session.phases) (phase_after e.event k) (ticks_after e.event passed) es)
           ((λ i. may_go e.event (asks.sent k h.lt i) (asks.tick k i) passed) ∙ may)
           (ap (λ (n : ℕ). goes_well sents asked (length session.phases) n (ticks_after e.event passed) es) (quiet_phase e.event k none) ∙ rest))
       | inr other ↦ elim other [
@@ -599,7 +578,7 @@ well_if_ends p session overruns sents asked asks (e ∷ es) before k passed t0 s
             (opens_next p session overruns k passed t0 sofar t e h fine.0.step end complete) count fine.1
             (subst (IsFinishedFrom p session overruns (k + 1) phases) (sym split.2) ends.goes_on) in
             within sents asked (length session.phases) k passed e es h.lt
-            ∙ true_both (may_go e.event (sents k) (asked k) passed) (goes_well sents asked (length session.phases) (phase_after e.event k) (ticks_after e.event passed) es)
+            ∙ and_from (may_go e.event (sents k) (asked k) passed) (goes_well sents asked (length session.phases) (phase_after e.event k) (ticks_after e.event passed) es)
             (ap (λ (event : PlainEvent). may_go event (sents k) (asked k) passed) end)
             ((λ i. goes_well sents asked (length session.phases) (phase_after (end i) k) (ticks_after (end i) passed) es) ∙ rest))
         | inr hangs ↦ (let split = first_end sofar ends.part e ends.last es ends.rest h.inside ends.is_part.inside (no_hangup e.event hangs) (no_end ends.last.event ends.ends) ends.parts in
@@ -608,10 +587,6 @@ well_if_ends p session overruns sents asked asks (e ∷ es) before k passed t0 s
     ]
 
 -- ---- a whole journal
-
-no_calls_yet : (name : Option (List ℕ)) → length (calls_of [] name) ≡ 0
-no_calls_yet None = refl
-no_calls_yet (Some name) = refl
 
 opens_first : (p : ℕ) (session : PlainSession) → Opens p session 0 (opening_of p session)
 opens_first p session = record {

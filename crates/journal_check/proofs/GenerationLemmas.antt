@@ -1,6 +1,6 @@
 -- Whether one more entry leaves each flush run, and each call between its waits, in one generation.
-use Rattle.std.proofs.Common.{◌≡◌, ◌⊎◌, inl, inr, ℕ, ◌+◌, ◌<◌, ◌≤◌, ◌==◌, nat_lt, Bool, true, false, ◌&&◌, IsTrue, MatchBool, if◌then◌else◌, List, [], ◌∷◌, ◌++◌, Option, None, Some, is_some, refl, sym, ◌∙◌, ap, subst, arith, append_assoc}
-use Rattle.std.proofs.lemmas.Bool.{false≢true, cases_lt, and_parts, or_cases, eqb-true, eq-eqb}
+use Rattle.std.proofs.Common.{◌≡◌, ◌⊎◌, inl, inr, ℕ, ◌+◌, ◌<◌, ◌≤◌, ◌==◌, nat_lt, Bool, true, false, ◌&&◌, IsTrue, if◌then◌else◌, List, [], ◌∷◌, ◌++◌, Option, None, Some, is_some, refl, sym, ◌∙◌, ap, subst, arith, append_assoc}
+use Rattle.std.proofs.lemmas.Bool.{false≢true, cases_lt, and_parts, or_cases, eqb-true, eq-eqb, and_from}
 use Rattle.std.proofs.lemmas.Bool.Decides.{nat_tests}
 use Rattle.tty_calls.specs.declared.journals.Who.{Who}
 use Rattle.tty_calls.specs.declared.journals.Who.TheVariants.{Caller, Flusher, Line, Clock, Session}
@@ -19,6 +19,7 @@ use Rattle.tty_terminal.proofs.OneRun.{leads_runs}
 use Rattle.tty_terminal.proofs.MarkLaws.{step_marks}
 use Rattle.tty_terminal.proofs.StandingLaws.{step_stands}
 use Rattle.journal_check.specs.Replaying.{HasPiece, IsRunOf, latest_after}
+use Rattle.journal_check.proofs.Truths.{on_false, on_true}
 
 -- ---- flush runs
 
@@ -46,10 +47,6 @@ run_more : (run generation : ℕ) (es : List PlainEntry) (e : PlainEntry) → Ru
 run_more run generation [] e h last = (last, tt)
 run_more run generation (x ∷ es) e h last = (h.0, run_more run generation es e h.1 last)
 
-and_both : (a b : Bool) → a ≡ true → b ≡ true → (a && b) ≡ true
-and_both true b p q = q
-and_both false b p q = absurd (false≢true p)
-
 -- a further piece of the latest run is of that run's generation
 pub piece_stays : (es : List PlainEntry) (run generation : ℕ) (e : PlainEntry) → HasPiece es run generation → OneGeneration (es ++ e ∷ []) → is_flush e.event ≡ true → e.step ≡ run → generation ≡ e.generation
 piece_stays es run generation e has one is at =
@@ -57,7 +54,7 @@ piece_stays es run generation e has one is at =
     ap (λ (xs : List PlainEntry). xs ++ e ∷ []) has.parts ∙ append_assoc has.before (has.piece ∷ has.later) (e ∷ []) in
     let rest : OneGeneration (has.piece ∷ (has.later ++ e ∷ [])) = one_rest has.before (has.piece ∷ (has.later ++ e ∷ [])) (subst OneGeneration parts one) in
     let goes : RunHas has.piece.step has.piece.generation (has.later ++ e ∷ []) = flush_goes has.piece.event has.piece.who has.piece.step has.piece.generation (has.later ++ e ∷ []) has.is_piece rest.0 in
-    let same : e.generation ≡ has.piece.generation = run_last has.piece.step has.piece.generation has.later e goes (and_both (is_flush e.event) (e.step == has.piece.step) is (eq-eqb e.step has.piece.step (at ∙ sym has.of_run))) in
+    let same : e.generation ≡ has.piece.generation = run_last has.piece.step has.piece.generation has.later e goes (and_from (is_flush e.event) (e.step == has.piece.step) is (eq-eqb e.step has.piece.step (at ∙ sym has.of_run))) in
     sym (same ∙ has.in_generation)
 
 latest_of_flush : (event : PlainEvent) (step part : ℕ) (m : Marks) → is_flush event ≡ true → (marks_after event step part m).latest ≡ Some (record { run = step; part = part })
@@ -237,18 +234,10 @@ all_three true true d p q r = r
 all_three true false d p q r = absurd (false≢true q)
 all_three false b d p q r = absurd (false≢true p)
 
-first_of : (b : Bool) (P Q : Type 0) → b ≡ true → MatchBool b P Q → P
-first_of true P Q is m = m
-first_of false P Q is m = absurd (false≢true is)
-
-second_of : (b : Bool) (P Q : Type 0) → b ≡ false → MatchBool b P Q → Q
-second_of true P Q is m = absurd (false≢true (sym is))
-second_of false P Q is m = m
-
 next_last : (c step generation : ℕ) (es : List PlainEntry) (e : PlainEntry) → Silent c es → NextHas c step generation (es ++ e ∷ []) → (is_of_call e.event && is_caller e.who c && (e.step == step)) ≡ true → e.generation ≡ generation
-next_last c step generation [] e silent has is = first_of (is_of_call e.event && is_caller e.who c && (e.step == step)) _ _ is has
+next_last c step generation [] e silent has is = on_true (is_of_call e.event && is_caller e.who c && (e.step == step)) _ _ is has
 next_last c step generation (x ∷ es) e silent has is =
-    next_last c step generation es e silent.1 (second_of (is_of_call x.event && is_caller x.who c && (x.step == step)) _ _ (not_third (is_of_call x.event) (is_caller x.who c) (x.step == step) silent.0) has) is
+    next_last c step generation es e silent.1 (on_false (is_of_call x.event && is_caller x.who c && (x.step == step)) _ _ (not_third (is_of_call x.event) (is_caller x.who c) (x.step == step) silent.0) has) is
 
 record SameCall (s u : Standing) : Type 0 where
   next : u.next ≡ s.next

@@ -1,5 +1,5 @@
 -- A port's journal from its first entry on.
-use Rattle.std.proofs.Common.{◌≡◌, ℕ, suc, ◌+◌, ◌*◌, ◌^◌, ◌<◌, ◌≤◌, ◌==◌, Bool, true, false, MatchBool, List, [], ◌∷◌, ◌++◌, Option, None, Some, length, take, drop, map, get_or, replicate, refl, sym, ◌∙◌, ap, subst, arith, drop-cons}
+use Rattle.std.proofs.Common.{◌≡◌, ℕ, suc, ◌+◌, ◌*◌, ◌^◌, ◌<◌, ◌≤◌, ◌==◌, Bool, true, false, MatchBool, List, [], ◌∷◌, ◌++◌, Option, length, take, drop, map, get_or, replicate, refl, sym, ◌∙◌, ap, subst, arith, drop-cons}
 use Rattle.std.specs.Prelude.{sum, filter}
 use Rattle.std.proofs.lemmas.Bool.{false≢true}
 use Rattle.std.proofs.lemmas.List.{get_or-map, get_or-replicate, length-replicate, length-map, length-take-le, take-append-drop, take_all, map_more}
@@ -13,7 +13,7 @@ use Rattle.tty_calls.specs.declared.journals.Entry.{Entry}
 use Rattle.tty_calls.specs.declared.journals.Who.{Who}
 use Rattle.tty_calls.specs.declared.journals.Who.TheVariants as who
 use Rattle.tty_calls.specs.Plain.{PlainCall, PlainEvent, answered, parted, waited, flushed, ticked, line_ended, clock_ended, caller_ended, phase_ended, hung_up, PlainEntry, entry_of, entries_of}
-use Rattle.tty_calls.specs.Sessions.{PlainSession, script_of, phase_of, session_of, scripts_on, scripts_over, calls_of, call_at, counts_on}
+use Rattle.tty_calls.specs.Sessions.{PlainSession, script_of, phase_of, session_of, scripts_on, scripts_over, call_at, counts_on}
 use Rattle.tty_calls.specs.Limits.{IsPhaseWithin, IsWithinLimits}
 use Rattle.tty_terminal.specs.Terminals.{Terminal, opening}
 use Rattle.tty_terminal.specs.Outcomes.{Outcome, unknown, waits, takes, gives}
@@ -30,14 +30,10 @@ use Rattle.journal_check.specs.Legal.{flip_on}
 use Rattle.journal_check.specs.Verdicts.{IsFine, AreFineTo, HasNoWrong, IsFirstWrong}
 use Rattle.journal_check.specs.Scripts.{no_turn, IsIdle, AreIdle}
 use Rattle.journal_check.specs.Replaying.{IsReady, Follows}
-use Rattle.journal_check.proofs.NameLemmas.{names_few, length_over}
+use Rattle.journal_check.proofs.NameLemmas.{names_few, length_over, no_calls_yet}
 use Rattle.journal_check.proofs.ReplayLemmas.{follows_leads}
 
 -- ---- the first turns
-
-no_calls_yet : (name : Option (List ℕ)) → length (calls_of [] name) ≡ 0
-no_calls_yet None = refl
-no_calls_yet (Some name) = refl
 
 pub first_idle : (p : ℕ) (session : PlainSession) (callers : ℕ) (turns : List Turn) → callers ≡ sum (counts_on p session) → turns ≡ replicate callers no_turn → AreIdle p session 0 turns
 first_idle p session callers turns count is =

@@ -1,3 +1,4 @@
+pub mod Truths
 pub mod PhaseLemmas
 pub mod FineLemmas
 pub mod VerdictLemmas

@@ -15,16 +15,9 @@ use Rattle.tty_terminal.specs.Marks.{Marks, marks_of, marks_after}
 use Rattle.tty_terminal.proofs.MarkLaws.{step_marks}
 use Rattle.tty_terminal.proofs.StandingLaws.{step_stands}
 use Rattle.journal_check.specs.Legal.{phase_at, name_at, has_script, first_step, steps_in, IsPhasePart, line_ends, line_ends_in, ClockMark, ticks, clock_ends, clock_marks, clock_marks_in, CallerMark, answers, caller_ends, caller_marks, caller_marks_in, session_events, session_events_in, answers_from, ticks_of}
+use Rattle.journal_check.proofs.Truths.{nothing_first, nothing_rest}
 
 -- ---- entries within a phase
-
-none_first : {X : Type 0} (xs ys : List X) → xs ++ ys ≡ [] → xs ≡ []
-none_first [] ys e = refl
-none_first (x ∷ xs) ys e = cc
-
-none_rest : {X : Type 0} (xs ys : List X) → xs ++ ys ≡ [] → ys ≡ []
-none_rest [] ys e = e
-none_rest (x ∷ xs) ys e = cc
 
 -- ---- the line
 
@@ -83,9 +76,9 @@ pub line_marks : (calls : ℕ → ℕ → Option PlainCall) (counts : List ℕ) 
     → LineOf t.line_over t.sent u.line_over u.sent (line_ends_in es)
 line_marks calls counts t [] u leads inside = subst (λ (v : Terminal). LineOf t.line_over t.sent v.line_over v.sent []) (sym leads) (line_none t.line_over t.sent)
 line_marks calls counts t (e ∷ es) u leads inside =
-    let rest = line_marks calls counts (after calls t e) es u leads.1 (none_rest (session_events e.event) (session_events_in es) inside) in
+    let rest = line_marks calls counts (after calls t e) es u leads.1 (nothing_rest (session_events e.event) (session_events_in es) inside) in
     line_join e.event e.step e.part (marks_of t) u.line_over u.sent (line_ends_in es) (line_guard calls counts t e.who e.step e.part e.event leads.0.1)
-    (none_first (session_events e.event) (session_events_in es) inside)
+    (nothing_first (session_events e.event) (session_events_in es) inside)
     (subst (λ (m : Marks). LineOf m.line_over m.sent u.line_over u.sent (line_ends_in es)) (step_marks calls counts t e leads.0) rest)
 
 -- ---- the clock
@@ -156,9 +149,9 @@ pub clock_marks_of : (calls : ℕ → ℕ → Option PlainCall) (counts : List �
     → ClockOf t.clock_over t.tick u.clock_over u.tick (clock_marks_in es)
 clock_marks_of calls counts t [] u leads inside = subst (λ (v : Terminal). ClockOf t.clock_over t.tick v.clock_over v.tick []) (sym leads) (clock_none t.clock_over t.tick)
 clock_marks_of calls counts t (e ∷ es) u leads inside =
-    let rest = clock_marks_of calls counts (after calls t e) es u leads.1 (none_rest (session_events e.event) (session_events_in es) inside) in
+    let rest = clock_marks_of calls counts (after calls t e) es u leads.1 (nothing_rest (session_events e.event) (session_events_in es) inside) in
     clock_join e.event e.step e.part (marks_of t) u.clock_over u.tick (clock_marks_in es) (clock_guard calls counts t e.who e.step e.part e.event leads.0.1)
-    (none_first (session_events e.event) (session_events_in es) inside)
+    (nothing_first (session_events e.event) (session_events_in es) inside)
     (subst (λ (m : Marks). ClockOf m.clock_over m.tick u.clock_over u.tick (clock_marks_in es)) (step_marks calls counts t e leads.0) rest)
 
 -- ---- a caller
@@ -267,10 +260,10 @@ pub caller_marks_of : (calls : ℕ → ℕ → Option PlainCall) (counts : List 
 caller_marks_of calls counts t [] u c leads inside =
     subst (λ (v : Terminal). CallerOf (caller_at t c).over (caller_at t c).next (caller_at v c).over (caller_at v c).next []) (sym leads) (caller_none (caller_at t c).over (caller_at t c).next)
 caller_marks_of calls counts t (e ∷ es) u c leads inside =
-    let rest = caller_marks_of calls counts (after calls t e) es u c leads.1 (none_rest (session_events e.event) (session_events_in es) inside) in
+    let rest = caller_marks_of calls counts (after calls t e) es u c leads.1 (nothing_rest (session_events e.event) (session_events_in es) inside) in
     caller_join (is_caller e.who c) e.event e.step e.generation (standing_of (caller_at t c)) (caller_at u c).over (caller_at u c).next (caller_marks_in c es)
     (caller_guard calls counts t e.who e.step e.part e.event c leads.0.1)
-    (none_first (session_events e.event) (session_events_in es) inside)
+    (nothing_first (session_events e.event) (session_events_in es) inside)
     (subst (λ (s : Standing). CallerOf s.over s.next (caller_at u c).over (caller_at u c).next (caller_marks_in c es)) (step_stands calls counts t e leads.0 c) rest)
 
 -- ---- a whole phase

@@ -1,9 +1,9 @@
 -- Callers by their names, and their calls by phase.
-use Rattle.std.proofs.Common.{◌≡◌, ◌⊎◌, inl, inr, ℕ, zero, suc, ◌+◌, ◌<◌, ◌≤◌, Bool, true, false, ◌||◌, if◌then◌else◌, List, [], ◌∷◌, ◌++◌, Option, None, Some, length, take, drop, map, refl, sym, ◌∙◌, ap, arith, append-nil, length-append}
+use Rattle.std.proofs.Common.{◌≡◌, ◌⊎◌, inl, inr, ℕ, zero, suc, ◌+◌, ◌<◌, ◌≤◌, Bool, true, false, if◌then◌else◌, List, [], ◌∷◌, ◌++◌, Option, None, Some, length, take, drop, map, refl, sym, ◌∙◌, ap, arith, append-nil, length-append}
 use Rattle.std.specs.Prelude.{slice_get, fold, sum}
 use Rattle.std.specs.List.{list_any}
 use Rattle.std.specs.Str.{bytes_eq}
-use Rattle.std.proofs.lemmas.Bool.{false≢true}
+use Rattle.std.proofs.lemmas.Bool.{false≢true, or_left, or_right}
 use Rattle.std.proofs.lemmas.List.{take_more, take-append-drop}
 use Rattle.std.proofs.lemmas.List.Sums.{sum_by-cons}
 use Rattle.std.proofs.lemmas.Grind.{flat_map-append}
@@ -42,17 +42,9 @@ names_keep (s ∷ ss) ns c x h = names_keep ss (with_name ns s.name) c x (named_
 pub record Distinct (ns : List (List ℕ)) : Type 0 where
   pub one_place : (c d : ℕ) (x : List ℕ) → slice_get ns c ≡ Some x → slice_get ns d ≡ Some x → c ≡ d
 
-pub either_true : (a b : Bool) → a ≡ true → (a || b) ≡ true
-either_true true b h = refl
-either_true false b h = absurd (false≢true h)
-
-pub or_right : (a b : Bool) → b ≡ true → (a || b) ≡ true
-or_right true b h = refl
-or_right false b h = h
-
 pub any_at : (ns : List (List ℕ)) (name : List ℕ) (c : ℕ) → slice_get ns c ≡ Some name → list_any (bytes_eq name) ns ≡ true
 any_at [] name c h = absurd (cc)
-any_at (y ∷ ns) name zero h = let same : name ≡ y = cc in either_true (bytes_eq name y) (list_any (bytes_eq name) ns) ((bytes_eq-Decides name y).1 same)
+any_at (y ∷ ns) name zero h = let same : name ≡ y = cc in or_left (bytes_eq name y) (list_any (bytes_eq name) ns) ((bytes_eq-Decides name y).1 same)
 any_at (y ∷ ns) name (suc c) h = or_right (bytes_eq name y) (list_any (bytes_eq name) ns) (any_at ns name c h)
 
 pub not_there : (ns : List (List ℕ)) (name : List ℕ) (c : ℕ) → list_any (bytes_eq name) ns ≡ false → slice_get ns c ≡ Some name → ⊥
@@ -120,3 +112,15 @@ length_over p [] = refl
 length_over p (x ∷ xs) =
     length-append (scripts_on p x) (scripts_over p xs) ∙ ap (λ n. length (scripts_on p x) + n) (length_over p xs)
     ∙ sym (sum_by-cons (λ n. n) (length (scripts_on p x)) (map (λ phase. length (scripts_on p phase)) xs))
+
+pub other_way : (a b : List ℕ) (c : Bool) → bytes_eq a b ≡ c → bytes_eq b a ≡ c
+other_way a b true h = (bytes_eq-Decides b a).1 (sym ((bytes_eq-Decides a b).0 h))
+other_way a b false h = not_true (bytes_eq b a) (λ k. false≢true (sym h ∙ (bytes_eq-Decides a b).1 (sym ((bytes_eq-Decides b a).0 k))))
+  where
+    not_true : (x : Bool) → (x ≡ true → ⊥) → x ≡ false
+    not_true true no_way = absurd (no_way refl)
+    not_true false no_way = refl
+
+pub no_calls_yet : (name : Option (List ℕ)) → length (calls_of [] name) ≡ 0
+no_calls_yet None = refl
+no_calls_yet (Some name) = refl

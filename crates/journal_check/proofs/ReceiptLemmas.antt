@@ -24,7 +24,7 @@ use Rattle.journal_check.proofs.AccountLemmas.{walk_append}
 abbrev no_phase : PlainPhase
 no_phase = record { lines = []; ticks = []; callers = [] }
 
-script_more : (lines : List (List LineStep)) (steps : List LineStep) → script (lines ++ steps ∷ []) ≡ script lines ++ closed_script steps
+pub script_more : (lines : List (List LineStep)) (steps : List LineStep) → script (lines ++ steps ∷ []) ≡ script lines ++ closed_script steps
 unfolding script
 script_more [] steps = append-nil (closed_script steps)
 script_more (line ∷ lines) steps = ap (λ (xs : List LineStep). closed_script line ++ xs) (script_more lines steps) ∙ sym (append_assoc (closed_script line) (script lines) (closed_script steps))
@@ -33,7 +33,7 @@ script_none : script [] ≡ []
 unfolding script
 script_none = refl
 
-received_none : received_list [] ≡ []
+pub received_none : received_list [] ≡ []
 unfolding received_list received_list_after
 received_none = refl
 

@@ -137,7 +137,7 @@ phase_more f t who step part caller_ended is = absurd (false≢true is)
 phase_more f t who step part phase_ended is = refl
 phase_more f t who step part (hung_up dropped) is = absurd (false≢true is)
 
-phase_same : (event : PlainEvent) (phase : ℕ) → is_phase_end event ≡ false → phase_after event phase ≡ phase
+pub phase_same : (event : PlainEvent) (phase : ℕ) → is_phase_end event ≡ false → phase_after event phase ≡ phase
 phase_same (answered a dropped) phase is = refl
 phase_same (parted n) phase is = refl
 phase_same waited phase is = refl

@@ -1,6 +1,6 @@
 -- How many characters a journal had taken before a phase and before the end of its line, and what an overrun has seen.
 use Rattle.std.proofs.Common.{◌≡◌, inl, inr, ℕ, zero, suc, ◌+◌, ◌-◌, ◌<◌, ◌≤◌, ◌==◌, nat_lt, nat_le, Bool, true, false, ◌&&◌, if◌then◌else◌, List, [], ◌∷◌, ◌++◌, length, get_or, drop, map, reverse, refl, sym, ◌∙◌, ap, subst, arith, length-append, length-drop, append_assoc}
-use Rattle.std.proofs.lemmas.Bool.{false≢true, cases_lt, and_parts}
+use Rattle.std.proofs.lemmas.Bool.{false≢true, cases_lt, and_parts, le-leb, leb-true, lt-ltb, ltb-true}
 use Rattle.std.proofs.lemmas.Bool.Decides.{nat_tests}
 use Rattle.std.proofs.lemmas.Grind.{flat_map-append}
 use Rattle.std.proofs.lemmas.List.{reverse-append, take_all}
@@ -16,13 +16,14 @@ use Rattle.journal_check.specs.Receipts.{received_count}
 use Rattle.journal_check.specs.Seen.{phase_starts, line_stops, phase_from, are_between}
 use Rattle.journal_check.proofs.AccountLemmas.{shown_cons}
 use Rattle.journal_check.proofs.ReceiptLemmas.{first_more}
+use Rattle.journal_check.proofs.Truths.{all_four, nothing_first, nothing_rest}
 
 size_cons : (e : PlainEntry) (es : List PlainEntry) → length (chars_of (e ∷ es)) ≡ length (chars_in e.event) + length (chars_of es)
 size_cons e es = length-append (chars_in e.event) (chars_of es)
 
 -- ---- where phases begin
 
-none_before : (es : List PlainEntry) → before_phase 0 es ≡ []
+pub none_before : (es : List PlainEntry) → before_phase 0 es ≡ []
 none_before [] = refl
 none_before (e ∷ es) = refl
 
@@ -58,7 +59,7 @@ one_of caller_ended is = absurd (false≢true (sym is))
 one_of phase_ended is = absurd (false≢true (sym is))
 one_of (hung_up dropped) is = absurd (false≢true (sym is))
 
-no_phase_end : (event : PlainEvent) → session_events event ≡ [] → is_phase_end event ≡ false
+pub no_phase_end : (event : PlainEvent) → session_events event ≡ [] → is_phase_end event ≡ false
 no_phase_end (answered a dropped) none = refl
 no_phase_end (parted n) none = refl
 no_phase_end waited none = refl
@@ -69,14 +70,6 @@ no_phase_end clock_ended none = refl
 no_phase_end caller_ended none = refl
 no_phase_end phase_ended none = cc
 no_phase_end (hung_up dropped) none = refl
-
-nothing_first : {X : Type 0} (xs ys : List X) → xs ++ ys ≡ [] → xs ≡ []
-nothing_first [] ys e = refl
-nothing_first (x ∷ xs) ys e = cc
-
-nothing_rest : {X : Type 0} (xs ys : List X) → xs ++ ys ≡ [] → ys ≡ []
-nothing_rest [] ys e = e
-nothing_rest (x ∷ xs) ys e = cc
 
 line_step : (b : Bool) (n : ℕ) (xs ys : List ℕ) → b ≡ true → (if b then xs else ys) ≡ xs
 line_step true n xs ys is = refl
@@ -337,24 +330,6 @@ record SeenBy (P : Type 0) (b : Bool) : Type 0 where
   to : b ≡ true → P
   of : P → b ≡ true
 
-le_is : (a b : ℕ) → a ≤ b → nat_le a b ≡ true
-le_is a b h = grind (arith, nat_tests)
-
-is_le : (a b : ℕ) → nat_le a b ≡ true → a ≤ b
-is_le a b h = grind (arith, nat_tests)
-
-lt_is : (a b : ℕ) → a < b → nat_lt a b ≡ true
-lt_is a b h = grind (arith, nat_tests)
-
-is_lt : (a b : ℕ) → nat_lt a b ≡ true → a < b
-is_lt a b h = grind (arith, nat_tests)
-
-all_four : (a b c d : Bool) → a ≡ true → b ≡ true → c ≡ true → d ≡ true → (a && (b && (c && d))) ≡ true
-all_four true true true d p q r s = s
-all_four true true false d p q r s = absurd (false≢true r)
-all_four true false c d p q r s = absurd (false≢true q)
-all_four false b c d p q r s = absurd (false≢true p)
-
 -- the overruns are between exactly where they have seen what they must
 pub seen_as_between : (p : ℕ) (session : PlainSession) (journal : List PlainEntry) (ends starts stops : List ℕ) (capacity i floor k : ℕ) (os : List Overrun) → KnowsWhen p session journal ends starts stops → AreShown capacity i floor os → k ≤ length session.phases → received_count p session k ≤ floor
     → (are_between ends starts stops k os ≡ true → AreSeen p session journal os) × (AreSeen p session journal os → are_between ends starts stops k os ≡ true)
@@ -368,10 +343,10 @@ seen_as_between p session journal ends starts stops capacity i floor k (o ∷ os
           (let first = and_parts (nat_lt r (length ends)) (nat_le (get_or starts r 0) o.seen && (nat_le o.seen (get_or stops r 0) && are_between ends starts stops r os)) h in
           let second = and_parts (nat_le (get_or starts r 0) o.seen) (nat_le o.seen (get_or stops r 0) && are_between ends starts stops r os) first.1 in
           let third = and_parts (nat_le o.seen (get_or stops r 0)) (are_between ends starts stops r os) second.1 in
-          let lt : phase_from k (drop k ends) o.at < length session.phases = omega (arith, is_lt r (length ends) first.0, knows.many) in
+          let lt : phase_from k (drop k ends) o.at < length session.phases = omega (arith, ltb-true r (length ends) first.0, knows.many) in
           let most = at.ended lt in
-          let least = is_le (get_or starts r 0) o.seen second.0 in
-          let last = is_le o.seen (get_or stops r 0) third.0 in
+          let least = leb-true (get_or starts r 0) o.seen second.0 in
+          let last = leb-true o.seen (get_or stops r 0) third.0 in
           let starts_at = knows.starts_at r lt in
           let stops_at = knows.stops_at r lt in (
             record {
@@ -384,9 +359,9 @@ seen_as_between p session journal ends starts stops capacity i floor k (o ∷ os
       λ h. elim (cases_lt (phase_from k (drop k ends) o.at) (length session.phases)) [
         | inl lt ↦ (let of : IsOfPhase p session r o = (at.begun, at.ended lt) in
             all_four (nat_lt r (length ends)) (nat_le (get_or starts r 0) o.seen) (nat_le o.seen (get_or stops r 0)) (are_between ends starts stops r os)
-            (lt_is r (length ends) (omega (arith, lt, knows.many)))
-            (le_is (get_or starts r 0) o.seen (omega (arith, h.0.from_before r of, knows.starts_at r lt)))
-            (le_is o.seen (get_or stops r 0) (omega (arith, h.0.by_line_end r of, knows.stops_at r lt)))
+            (lt-ltb r (length ends) (omega (arith, lt, knows.many)))
+            (le-leb (get_or starts r 0) o.seen (omega (arith, h.0.from_before r of, knows.starts_at r lt)))
+            (le-leb o.seen (get_or stops r 0) (omega (arith, h.0.by_line_end r of, knows.stops_at r lt)))
             (rest.1 h.1))
         | inr past ↦ absurd (omega (arith, h.0.at_character, script_whole p session, at.begun, mono p session (length session.phases) r past))
       ],

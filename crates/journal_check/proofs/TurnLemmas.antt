@@ -3,7 +3,7 @@ use Rattle.std.proofs.Common.{◌≡◌, inl, inr, ℕ, zero, suc, ◌+◌, ◌-
 use Rattle.std.specs.Prelude.{slice_get, option_map, sum_by}
 use Rattle.std.specs.List.{list_any, position_from}
 use Rattle.std.specs.Str.{bytes_eq}
-use Rattle.std.proofs.lemmas.Bool.{false≢true, eqb-true, eq-eqb, cases_lt}
+use Rattle.std.proofs.lemmas.Bool.{false≢true, eqb-true, eq-eqb, cases_lt, false_from_ne_true, or_left}
 use Rattle.std.proofs.lemmas.List.{length-map, get_or_past, take_all}
 use Rattle.std.proofs.lemmas.List.Elements.{filter_more, All-get_or}
 use Rattle.std.proofs.lemmas.List.Folds.{list_any-append}
@@ -16,15 +16,16 @@ use Rattle.tty_calls.specs.declared.calls.Call.{Call}
 use Rattle.tty_calls.specs.declared.sessions.Script.{Script}
 use Rattle.tty_calls.specs.declared.journals.Who.{Who}
 use Rattle.tty_calls.specs.declared.journals.Who.TheVariants.{Caller, Flusher, Line, Clock, Session}
-use Rattle.tty_calls.specs.Plain.{PlainCall, opens, closes, reads, writes, gets_modes, sets_modes, gets_disc, sets_disc, flushes, steers, counts_input, counts_output, excludes, admits, drains, gets_counts, hangs_up, sends_packet, takes_packet, PlainEvent, call_of}
+use Rattle.tty_calls.specs.Plain.{PlainCall, PlainEvent, call_of}
 use Rattle.tty_calls.specs.Sessions.{PlainScript, PlainPhase, PlainSession, script_of, scripts_on, scripts_over, names_of, number_in, calls_of, call_at}
-use Rattle.tty_calls.specs.Limits.{byte_count, IsCallWithin, IsScriptWithin, IsPhaseWithin, IsWithinLimits, call_count}
+use Rattle.tty_calls.specs.Limits.{IsCallWithin, IsScriptWithin, IsPhaseWithin, IsWithinLimits, call_count}
 use Rattle.journal_check.specs.declared.turns.Turn.{Turn}
 use Rattle.tty_terminal.specs.Runs.{is_of_call}
 use Rattle.journal_check.specs.Trying.{IsSmallCall}
 use Rattle.journal_check.specs.Legal.{phase_at, name_at, has_script, first_step, steps_in, is_caller_end, IsInPhase}
 use Rattle.journal_check.specs.Scripts.{no_turn, turns_with_next, IsOpen, IsIdle, scripts_for, IsTurnAmong, AreTurnsAmong, AreTurns, AreIdle, AreSmallTurns}
-use Rattle.journal_check.proofs.NameLemmas.{get_append, get_past, same_name, Distinct, either_true, all_distinct, calls_append, first_next, call_of_phase}
+use Rattle.journal_check.proofs.NameLemmas.{get_append, get_past, same_name, Distinct, all_distinct, calls_append, first_next, call_of_phase}
+use Rattle.journal_check.proofs.Truths.{on_false, when_true}
 
 abbrev is_of : ℕ → PlainScript → Bool
 is_of p s = s.port == p
@@ -42,7 +43,7 @@ no_calls [] (Some name) none = refl
 no_calls (x ∷ xs) (Some name) none = either (bytes_eq x.name name) refl (no_calls xs (Some name))
   where
     either : (b : Bool) → bytes_eq x.name name ≡ b → (has_script xs (Some name) ≡ false → calls_of xs (Some name) ≡ []) → calls_of (x ∷ xs) (Some name) ≡ []
-    either true is rest = absurd (false≢true (sym none ∙ either_true (bytes_eq x.name name) (list_any (λ s. bytes_eq s.name name) xs) is))
+    either true is rest = absurd (false≢true (sym none ∙ or_left (bytes_eq x.name name) (list_any (λ s. bytes_eq s.name name) xs) is))
     either false is rest =
         ap (λ b. (if b then x.calls else []) ++ calls_of xs (Some name)) is
         ∙ rest (sym (ap (λ b. b || list_any (λ s. bytes_eq s.name name) xs) is) ∙ none)
@@ -62,10 +63,6 @@ named_at (x ∷ xs) name is = either (bytes_eq x.name name) refl (named_at xs na
         let later = rest (sym (ap (λ b. b || list_any (λ s. bytes_eq s.name name) xs) other) ∙ is) in
         record { place = suc later.place; within = (let below = later.within in omega arith); named = later.named }
 
-not_true : (b : Bool) → (b ≡ true → ⊥) → b ≡ false
-not_true true none = absurd (none refl)
-not_true false none = refl
-
 -- in a list in which each name stands once, no other script has the name of this one
 abbrev AreApart : List PlainScript → Type 0
 AreApart ss = names_of ss ≡ map (λ s. s.name) ss
@@ -84,7 +81,7 @@ own_place before after s =
 
 pub none_before : (before after : List PlainScript) (s : PlainScript) → AreApart (before ++ s ∷ after) → has_script before (Some s.name) ≡ false
 none_before before after s apart =
-    not_true (has_script before (Some s.name)) (λ is.
+    false_from_ne_true (has_script before (Some s.name)) (λ is.
     let at = named_at before s.name is in
     let there : slice_get (map (λ x. x.name) (before ++ s ∷ after)) at.place ≡ Some s.name =
     ap (λ (ns : List (List ℕ)). slice_get ns at.place) (map_append before (s ∷ after)) ∙ get_append (map (λ x. x.name) before) (s.name ∷ map (λ x. x.name) after) at.place s.name at.named in
@@ -93,7 +90,7 @@ none_before before after s apart =
 
 none_after : (before after : List PlainScript) (s : PlainScript) → AreApart (before ++ s ∷ after) → has_script after (Some s.name) ≡ false
 none_after before after s apart =
-    not_true (has_script after (Some s.name)) (λ is.
+    false_from_ne_true (has_script after (Some s.name)) (λ is.
     let at = named_at after s.name is in
     let far : ℕ = length before + suc at.place in
     let there : slice_get (map (λ x. x.name) (before ++ s ∷ after)) far ≡ Some s.name =
@@ -124,7 +121,7 @@ split_at p (x ∷ xs) (suc i) s at of = either (is_of p x) (split_at p xs i s at
     either true rest = ap (λ (ys : List PlainScript). x ∷ ys) rest
     either false rest = rest
 
-phase_within : (session : PlainSession) (k : ℕ) → IsWithinLimits session → k < length session.phases → IsPhaseWithin session.ports (phase_at session k)
+pub phase_within : (session : PlainSession) (k : ℕ) → IsWithinLimits session → k < length session.phases → IsPhaseWithin session.ports (phase_at session k)
 phase_within session k limits lt = All-get_or (IsPhaseWithin session.ports) session.phases k (record { lines = []; ticks = []; callers = [] }) lt limits.phases
 
 -- ---- how many calls there are
@@ -233,7 +230,7 @@ place_from name i (n ∷ ns) c at none = either (bytes_eq name n) refl c at (λ 
 nowhere : (names : List (List ℕ)) (name : List ℕ) (c : ℕ) → number_in names name ≡ None → slice_get names c ≡ Some name → ⊥
 nowhere names name c none at = place_from name 0 names c at (sym (position_from-zero (bytes_eq name) names) ∙ none)
 
-at_number : (names : List (List ℕ)) (name : List ℕ) (c : ℕ) → number_in names name ≡ Some c → slice_get names c ≡ Some name
+pub at_number : (names : List (List ℕ)) (name : List ℕ) (c : ℕ) → number_in names name ≡ Some c → slice_get names c ≡ Some name
 at_number names name c is =
     let place = position-Some (bytes_eq name) names c [] is in
     slice_get-get_or names c [] place.0 ∙ ap (λ n. Some n) (sym ((bytes_eq-Decides name (get_or names c [])).0 place.1))
@@ -248,14 +245,14 @@ other_name xs s None other = refl
 other_name xs s (Some name) other =
     has_append xs (s ∷ []) (Some name)
     ∙ or_false (has_script xs (Some name)) (has_script (s ∷ []) (Some name))
-    (or_false (bytes_eq s.name name) false refl ∙ not_true (bytes_eq s.name name) (λ is. other (ap (λ n. Some n) (sym ((bytes_eq-Decides s.name name).0 is)))))
+    (or_false (bytes_eq s.name name) false refl ∙ false_from_ne_true (bytes_eq s.name name) (λ is. other (ap (λ n. Some n) (sym ((bytes_eq-Decides s.name name).0 is)))))
 
 own_name : (xs : List PlainScript) (s : PlainScript) → has_script (xs ++ s ∷ []) (Some s.name) ≡ true
 own_name xs s = has_append xs (s ∷ []) (Some s.name) ∙ either (has_script xs (Some s.name))
   where
     either : (b : Bool) → (b || has_script (s ∷ []) (Some s.name)) ≡ true
     either true = refl
-    either false = either_true (bytes_eq s.name s.name) false (same_name s.name)
+    either false = or_left (bytes_eq s.name s.name) false (same_name s.name)
 
 -- a script of the port is its caller's turn
 record IsNext (p : ℕ) (session : PlainSession) (k i : ℕ) (s : PlainScript) : Type 0 where
@@ -279,14 +276,6 @@ is_next p session k i s limits lt at of =
       none = none_before before (scripts_for p (drop (suc i) ss)) s (subst AreApart (split_at p ss i s at of) ((phase_within session k limits lt).own_names p));
     }
 
-idle_turn : (b : Bool) (P Q : Type 0) → b ≡ false → MatchBool b P Q → Q
-idle_turn true P Q is m = absurd (false≢true (sym is))
-idle_turn false P Q is m = m
-
-make_open : (b : Bool) (P Q : Type 0) → b ≡ true → P → MatchBool b P Q
-make_open true P Q is h = h
-make_open false P Q is h = absurd (false≢true is)
-
 same_turn : (a b : Bool) (P Q : Type 0) → a ≡ b → MatchBool b P Q → MatchBool a P Q
 same_turn a b P Q is m = subst (λ (x : Bool). MatchBool x P Q) (sym is) m
 
@@ -307,9 +296,9 @@ opens_by p session k i turns s (Some d) n is among =
     let old = get_or turns d no_turn in
     let new : Turn = record { begun = k + 1; first = old.first + old.steps; steps = length s.calls; script = i } in
     let front : has_script before (name_at p session d) ≡ false = ap (λ name. has_script before name) named ∙ n.none in
-    let was : IsIdle p session k d old = idle_turn (has_script before (name_at p session d)) _ _ front (among.each d there) in
+    let was : IsIdle p session k d old = on_false (has_script before (name_at p session d)) _ _ front (among.each d there) in
     let own : IsTurnAmong p session k (take (i + 1) (phase_at session k).callers) d new =
-    make_open (has_script (scripts_for p (take (i + 1) (phase_at session k).callers)) (name_at p session d)) _ _
+    when_true (has_script (scripts_for p (take (i + 1) (phase_at session k).callers)) (name_at p session d)) _ _
     (ap (λ (xs : List PlainScript). has_script xs (name_at p session d)) n.more ∙ ap (λ name. has_script (before ++ s ∷ []) name) named ∙ own_name before s)
     (record { begun = refl; first = was.first; script = s; found = n.at; on_port = n.on_port; named = named; steps = refl }) in
     record {
@@ -484,7 +473,7 @@ skipped_turns p session k i turns after scripts script are script_is place other
     let at : slice_get (phase_at session k).callers i ≡ Some (script_of script) =
     ap (λ (ss : List PlainScript). slice_get ss i) (sym are) ∙ (slice_get-map script_of scripts i ∙ ap (option_map script_of) (slice_get_read scripts (length scripts) i script refl place script_is)) in
     subst (AreTurnsAmong p session k (take (i + 1) (phase_at session k).callers)) (sym after_is)
-    (skips p session k i turns (script_of script) at (not_true (script.port == p) (λ is. other (eqb-true script.port p is))) among)
+    (skips p session k i turns (script_of script) at (false_from_ne_true (script.port == p) (λ is. other (eqb-true script.port p is))) among)
 
 -- ---- a caller in its phase
 

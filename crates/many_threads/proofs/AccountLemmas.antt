@@ -28,7 +28,7 @@ use Rattle.tty_port.proofs.Keeping.{by_another}
 use Rattle.many_threads.specs.Parts as parts
 use Rattle.many_threads.specs.Parts.{IsOfCalls, IsOfRole, MakesInRole}
 use Rattle.many_threads.specs.Crews.{MadeAs}
-use Rattle.many_threads.specs.Stations.{AreParts}
+use Rattle.many_threads.specs.Stations.{IsCast}
 
 -- ---- what a seat made
 
@@ -122,34 +122,34 @@ AllInRoles rs rest = (c : ℕ) (r : Option PlainRole) → slice_get rs c ≡ Som
 role_there : (rs : List (Option PlainRole)) (c : ℕ) → c < length rs → (r : Option PlainRole) × (slice_get rs c ≡ Some r)
 role_there rs c lt = (get_or rs c None, slice_get-get_or rs c None lt)
 
-by_caller : (s : Scene) (k m : ℕ) (rs : List (Option PlainRole)) (c : ℕ) (x : Stamped EntryWithCall) → AreParts s k m rs → c < m → x.seat ≡ c → ((r : Option PlainRole) → slice_get rs c ≡ Some r → x.seat ≡ c → IsIn r c x) → IsOfPhase s k x
-by_caller s k m rs c x parts known seat story =
-    let found = role_there rs c (omega (arith, parts.count)) in
+by_caller : (s : Scene) (k m : ℕ) (rs : List (Option PlainRole)) (c : ℕ) (x : Stamped EntryWithCall) → IsCast s k m rs → c < m → x.seat ≡ c → ((r : Option PlainRole) → slice_get rs c ≡ Some r → x.seat ≡ c → IsIn r c x) → IsOfPhase s k x
+by_caller s k m rs c x cast known seat story =
+    let found = role_there rs c (omega (arith, cast.count)) in
     of_found found.0 found.1 (story found.0 found.1 seat)
   where
     of_found : (r : Option PlainRole) → slice_get rs c ≡ Some r → IsIn r c x → IsOfPhase s k x
     of_found None at h = absurd h
-    of_found (Some r) at h = let role = parts.roles c r at in in_role s k c r x role.0 role.1 h
+    of_found (Some r) at h = let role = cast.roles c r at in in_role s k c r x role.0 role.1 h
 
 -- an entry by its maker
-of_maker : (s : Scene) (k m : ℕ) (rs : List (Option PlainRole)) (x : Stamped EntryWithCall) (event : PlainEvent) → AreParts s k m rs → x.seat ≡ seat_of m x.what.entry.who → ((c : ℕ) (r : Option PlainRole) → slice_get rs c ≡ Some r → x.seat ≡ c → IsIn r c x)
+of_maker : (s : Scene) (k m : ℕ) (rs : List (Option PlainRole)) (x : Stamped EntryWithCall) (event : PlainEvent) → IsCast s k m rs → x.seat ≡ seat_of m x.what.entry.who → ((c : ℕ) (r : Option PlainRole) → slice_get rs c ≡ Some r → x.seat ≡ c → IsIn r c x)
     → x.what.entry.event ≡ event → IsByItsMaker (λ (c step : ℕ). x.what.call) m x.what.entry.who x.what.entry.step event → IsOfPhase s k x
-of_maker s k m rs x (answered a dropped) parts seat story is by = by_caller s k m rs by.caller x parts by.known (seat ∙ ap (seat_of m) by.by_caller) (story by.caller)
-of_maker s k m rs x (parted n) parts seat story is by = by_caller s k m rs by.caller x parts by.known (seat ∙ ap (seat_of m) by.by_caller) (story by.caller)
-of_maker s k m rs x waited parts seat story is by = by_caller s k m rs by.caller x parts by.known (seat ∙ ap (seat_of m) by.by_caller) (story by.caller)
-of_maker s k m rs x (flushed chars) parts seat story is by = by_no_caller s k x (ap is_of_call is) (subst (λ (w : Who). IsInPhase s.port s.session k w x.what.entry.step x.what.entry.event) (sym by) tt)
-of_maker s k m rs x ticked parts seat story is by = by_no_caller s k x (ap is_of_call is) (subst (λ (w : Who). IsInPhase s.port s.session k w x.what.entry.step x.what.entry.event) (sym by) tt)
-of_maker s k m rs x (line_ended n) parts seat story is by = by_no_caller s k x (ap is_of_call is) (subst (λ (w : Who). IsInPhase s.port s.session k w x.what.entry.step x.what.entry.event) (sym by) tt)
-of_maker s k m rs x clock_ended parts seat story is by = by_no_caller s k x (ap is_of_call is) (subst (λ (w : Who). IsInPhase s.port s.session k w x.what.entry.step x.what.entry.event) (sym by) tt)
-of_maker s k m rs x caller_ended parts seat story is by = by_caller s k m rs by.caller x parts by.known (seat ∙ ap (seat_of m) by.by_caller) (story by.caller)
-of_maker s k m rs x phase_ended parts seat story is by = by_no_caller s k x (ap is_of_call is) (subst (λ (w : Who). IsInPhase s.port s.session k w x.what.entry.step x.what.entry.event) (sym by) tt)
-of_maker s k m rs x (hung_up dropped) parts seat story is by = by_no_caller s k x (ap is_of_call is) (subst (λ (w : Who). IsInPhase s.port s.session k w x.what.entry.step x.what.entry.event) (sym by) tt)
+of_maker s k m rs x (answered a dropped) cast seat story is by = by_caller s k m rs by.caller x cast by.known (seat ∙ ap (seat_of m) by.by_caller) (story by.caller)
+of_maker s k m rs x (parted n) cast seat story is by = by_caller s k m rs by.caller x cast by.known (seat ∙ ap (seat_of m) by.by_caller) (story by.caller)
+of_maker s k m rs x waited cast seat story is by = by_caller s k m rs by.caller x cast by.known (seat ∙ ap (seat_of m) by.by_caller) (story by.caller)
+of_maker s k m rs x (flushed chars) cast seat story is by = by_no_caller s k x (ap is_of_call is) (subst (λ (w : Who). IsInPhase s.port s.session k w x.what.entry.step x.what.entry.event) (sym by) tt)
+of_maker s k m rs x ticked cast seat story is by = by_no_caller s k x (ap is_of_call is) (subst (λ (w : Who). IsInPhase s.port s.session k w x.what.entry.step x.what.entry.event) (sym by) tt)
+of_maker s k m rs x (line_ended n) cast seat story is by = by_no_caller s k x (ap is_of_call is) (subst (λ (w : Who). IsInPhase s.port s.session k w x.what.entry.step x.what.entry.event) (sym by) tt)
+of_maker s k m rs x clock_ended cast seat story is by = by_no_caller s k x (ap is_of_call is) (subst (λ (w : Who). IsInPhase s.port s.session k w x.what.entry.step x.what.entry.event) (sym by) tt)
+of_maker s k m rs x caller_ended cast seat story is by = by_caller s k m rs by.caller x cast by.known (seat ∙ ap (seat_of m) by.by_caller) (story by.caller)
+of_maker s k m rs x phase_ended cast seat story is by = by_no_caller s k x (ap is_of_call is) (subst (λ (w : Who). IsInPhase s.port s.session k w x.what.entry.step x.what.entry.event) (sym by) tt)
+of_maker s k m rs x (hung_up dropped) cast seat story is by = by_no_caller s k x (ap is_of_call is) (subst (λ (w : Who). IsInPhase s.port s.session k w x.what.entry.step x.what.entry.event) (sym by) tt)
 
-pub all_of_phase : (s : Scene) (k m : ℕ) (rs : List (Option PlainRole)) (rest : List (Stamped EntryWithCall)) → AreParts s k m rs → ArePlaced m m rest → AllInRoles rs rest → parts.Each (IsOfPhase s k) rest
-all_of_phase s k m rs [] parts placed story = tt
-all_of_phase s k m rs (x ∷ rest) parts placed story = (
-  of_maker s k m rs x x.what.entry.event parts placed.0.seat (λ c r at. (story c r at).0) refl placed.0.maker,
-  all_of_phase s k m rs rest parts placed.1 (λ c r at. (story c r at).1),
+pub all_of_phase : (s : Scene) (k m : ℕ) (rs : List (Option PlainRole)) (rest : List (Stamped EntryWithCall)) → IsCast s k m rs → ArePlaced m m rest → AllInRoles rs rest → parts.Each (IsOfPhase s k) rest
+all_of_phase s k m rs [] cast placed story = tt
+all_of_phase s k m rs (x ∷ rest) cast placed story = (
+  of_maker s k m rs x x.what.entry.event cast placed.0.seat (λ c r at. (story c r at).0) refl placed.0.maker,
+  all_of_phase s k m rs rest cast placed.1 (λ c r at. (story c r at).1),
 )
 
 pub calls_of_phase : (s : Scene) (k : ℕ) (rest : List (Stamped EntryWithCall)) → parts.Each (IsOfPhase s k) rest → HaveCalls (call_at s.port s.session) rest

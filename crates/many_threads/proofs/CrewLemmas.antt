@@ -7,7 +7,7 @@ use Rattle.tty_calls.specs.declared.sessions.Script.{Script}
 use Rattle.tty_calls.specs.declared.calls.Call.{Call}
 use Rattle.tty_calls.specs.Plain.{PlainCall, call_of}
 use Rattle.tty_calls.specs.Limits.{IsCallWithin}
-use Rattle.one_thread.specs.Roles.{PlainRole, calls_in}
+use Rattle.one_thread.specs.Roles.{PlainRole, role_in, calls_in}
 use Rattle.port_cell.specs.Knowledge.{list_seen}
 use Rattle.tty_port.specs.Inside.{Name}
 use Rattle.tty_port.specs.Seen.{IsBetween}
@@ -18,21 +18,21 @@ use Rattle.tty_port.specs.declared.shared.SharedPort.{SharedPort}
 use Rattle.tty_port.proofs.Seating.{here_front}
 use Rattle.many_threads.specs.Parts.{MakesInRole, PlaysCaller}
 use Rattle.many_threads.specs.Comings.{CallerComes}
-use Rattle.many_threads.specs.Crews.{plain_part, plain_parts, CanPlay, CanPlayAll, IsPlayable, IsBack, PlayedAs, EachCaller, SomeSawFull, CallersCome, IsTold}
+use Rattle.many_threads.specs.Crews.{plain_role, plain_cast, CanPlay, CanPlayAll, IsPlayable, IsBack, PlayedAs, EachCaller, SomeSawFull, CallersCome, IsTold}
 use Rattle.many_threads.specs.declared.threads.SeatBack.{SeatBack}
-use Rattle.many_threads.specs.declared.crews.Part.{Part}
+use Rattle.one_thread.specs.declared.roles.Role.{Role}
 use Rattle.many_threads.specs.declared.crews.CallersBack.{CallersBack}
 use Rattle.many_threads.proofs.PartLemmas.{calls_length}
 
 -- ---- lists
 
-pub parts_last : (scripts : List Script) (before : List (Option Part)) (last : Option Part) → plain_parts scripts (before ++ last ∷ []) ≡ plain_parts scripts before ++ plain_part scripts last ∷ []
-parts_last scripts [] last = refl
-parts_last scripts (x ∷ before) last = ap (λ rs. plain_part scripts x ∷ rs) (parts_last scripts before last)
+pub cast_last : (scripts : List Script) (before : List (Option Role)) (last : Option Role) → plain_cast scripts (before ++ last ∷ []) ≡ plain_cast scripts before ++ plain_role scripts last ∷ []
+cast_last scripts [] last = refl
+cast_last scripts (x ∷ before) last = ap (λ rs. plain_role scripts x ∷ rs) (cast_last scripts before last)
 
-pub parts_length : (scripts : List Script) (parts : List (Option Part)) → length (plain_parts scripts parts) ≡ length parts
-parts_length scripts [] = refl
-parts_length scripts (x ∷ parts) = ap (λ n. suc n) (parts_length scripts parts)
+pub cast_length : (scripts : List Script) (cast : List (Option Role)) → length (plain_cast scripts cast) ≡ length cast
+cast_length scripts [] = refl
+cast_length scripts (x ∷ cast) = ap (λ n. suc n) (cast_length scripts cast)
 
 pub can_play_front : (p : SharedPort) (n : ℕ) (rs : List (Option PlainRole)) (r : Option PlainRole) → CanPlayAll p n (rs ++ r ∷ []) → CanPlayAll p n rs × CanPlay p (n + length rs) r
 can_play_front p n [] r h = (tt, subst (λ (k : ℕ). CanPlay p k r) (let e : n ≡ n + 0 = omega arith in e) h.0)
@@ -117,24 +117,24 @@ callers_more p roles r back now one k h seats full told comes =
 
 -- ---- the last caller, and those before it
 
-pub record Splits (p : SharedPort) (scripts : List Script) (parts before : List (Option Part)) (last : Option Part) (ss : List PortSeat) (seat : PortSeat) : Type 0 where
-  pub roles : plain_parts scripts parts ≡ plain_parts scripts before ++ plain_part scripts last ∷ []
+pub record Splits (p : SharedPort) (scripts : List Script) (cast before : List (Option Role)) (last : Option Role) (ss : List PortSeat) (seat : PortSeat) : Type 0 where
+  pub roles : plain_cast scripts cast ≡ plain_cast scripts before ++ plain_role scripts last ∷ []
   pub others : AreHere p (opening_history p) 0 ss
-  pub here : IsHere p (length (plain_parts scripts before)) seat
+  pub here : IsHere p (length (plain_cast scripts before)) seat
   pub seen : list_seen seat ≡ opening_history p
   pub count : length ss ≡ length before
-  pub can_others : CanPlayAll p 0 (plain_parts scripts before)
-  pub can : CanPlay p (length (plain_parts scripts before)) (plain_part scripts last)
+  pub can_others : CanPlayAll p 0 (plain_cast scripts before)
+  pub can : CanPlay p (length (plain_cast scripts before)) (plain_role scripts last)
 
-pub splits : (p : SharedPort) (scripts : List Script) (parts before : List (Option Part)) (last : Option Part) (seats ss : List PortSeat) (seat : PortSeat) → parts ≡ before ++ last ∷ [] → seats ≡ ss ++ seat ∷ [] → AreHere p (opening_history p) 0 seats → length seats ≡ length parts → CanPlayAll p 0 (plain_parts scripts parts) → Splits p scripts parts before last ss seat
-splits p scripts parts before last seats ss seat at are here count can =
+pub splits : (p : SharedPort) (scripts : List Script) (cast before : List (Option Role)) (last : Option Role) (seats ss : List PortSeat) (seat : PortSeat) → cast ≡ before ++ last ∷ [] → seats ≡ ss ++ seat ∷ [] → AreHere p (opening_history p) 0 seats → length seats ≡ length cast → CanPlayAll p 0 (plain_cast scripts cast) → Splits p scripts cast before last ss seat
+splits p scripts cast before last seats ss seat at are here count can =
     let xs = opening_history p in
-    let rs = plain_parts scripts before in
-    let roles = ap (plain_parts scripts) at ∙ parts_last scripts before last in
+    let rs = plain_cast scripts before in
+    let roles = ap (plain_cast scripts) at ∙ cast_last scripts before last in
     let front = here_front p xs 0 ss seat (subst (AreHere p xs 0) are here) in
     let same : length ss ≡ length before = omega (arith, ap length at, ap length are, length-append before (last ∷ []), length-append ss (seat ∷ [])) in
-    let number : 0 + length ss ≡ length rs = omega (arith, parts_length scripts before) in
-    let play = can_play_front p 0 rs (plain_part scripts last) (subst (CanPlayAll p 0) roles can) in
+    let number : 0 + length ss ≡ length rs = omega (arith, cast_length scripts before) in
+    let play = can_play_front p 0 rs (plain_role scripts last) (subst (CanPlayAll p 0) roles can) in
     record {
       roles = roles;
       others = front.0;
@@ -142,55 +142,51 @@ splits p scripts parts before last seats ss seat at are here count can =
       seen = front.1.1;
       count = same;
       can_others = play.0;
-      can = subst (λ (n : ℕ). CanPlay p n (plain_part scripts last)) (zero-add (length rs)) play.1;
+      can = subst (λ (n : ℕ). CanPlay p n (plain_role scripts last)) (zero-add (length rs)) play.1;
     }
 
--- the role of a part
-abbrev pub role_of : List Script → Part → PlainRole
-role_of scripts part = record { number = part.number; first = part.first; calls = calls_in (slice_get scripts part.place) }
-
-pub crew_can : (p : SharedPort) (scripts : List Script) (parts before : List (Option Part)) (last : Option Part) (part : Part) (ss : List PortSeat) (seat : PortSeat) → Splits p scripts parts before last ss seat → last ≡ Some part → IsPlayable p (length (plain_parts scripts before)) (role_of scripts part)
-crew_can p scripts parts before last part ss seat h is = subst (λ (o : Option Part). CanPlay p (length (plain_parts scripts before)) (plain_part scripts o)) is h.can
+pub crew_can : (p : SharedPort) (scripts : List Script) (cast before : List (Option Role)) (last : Option Role) (role : Role) (ss : List PortSeat) (seat : PortSeat) → Splits p scripts cast before last ss seat → last ≡ Some role → IsPlayable p (length (plain_cast scripts before)) (role_in scripts role)
+crew_can p scripts cast before last role ss seat h is = subst (λ (o : Option Role). CanPlay p (length (plain_cast scripts before)) (plain_role scripts o)) is h.can
 
 -- what the last caller's thread needs
-pub record Needs (p : SharedPort) (part : Part) (calls : List PlainCall) (count : ℕ) (seat : PortSeat) : Type 0 where
-  pub here : IsHere p part.number seat
-  pub known : part.number < sum (name_of_port p).counts
+pub record Needs (p : SharedPort) (role : Role) (calls : List PlainCall) (count : ℕ) (seat : PortSeat) : Type 0 where
+  pub here : IsHere p role.number seat
+  pub known : role.number < sum (name_of_port p).counts
   pub within : All IsCallWithin calls
-  pub few : part.first + count < 2 ^ 32
-  pub between : IsBetween part.number part.first (list_seen seat)
+  pub few : role.first + count < 2 ^ 32
+  pub between : IsBetween role.number role.first (list_seen seat)
 
-pub crew_needs : (p : SharedPort) (scripts : List Script) (parts before : List (Option Part)) (last : Option Part) (part : Part) (ss : List PortSeat) (seat : PortSeat) (calls : List Call) → Splits p scripts parts before last ss seat → last ≡ Some part → map call_of calls ≡ calls_in (slice_get scripts part.place) → Needs p part (map call_of calls) (length calls) seat
-crew_needs p scripts parts before last part ss seat calls h is same =
-    let n = length (plain_parts scripts before) in
-    let can = crew_can p scripts parts before last part ss seat h is in
-    let few : part.first + length (calls_in (slice_get scripts part.place)) < 2 ^ 32 = can.few in
-    let size : length calls ≡ length (calls_in (slice_get scripts part.place)) = sym (calls_length calls) ∙ ap length same in
-    let number : part.number ≡ n = can.number in
+pub crew_needs : (p : SharedPort) (scripts : List Script) (cast before : List (Option Role)) (last : Option Role) (role : Role) (ss : List PortSeat) (seat : PortSeat) (calls : List Call) → Splits p scripts cast before last ss seat → last ≡ Some role → map call_of calls ≡ calls_in (slice_get scripts role.place) → Needs p role (map call_of calls) (length calls) seat
+crew_needs p scripts cast before last role ss seat calls h is same =
+    let n = length (plain_cast scripts before) in
+    let can = crew_can p scripts cast before last role ss seat h is in
+    let few : role.first + length (calls_in (slice_get scripts role.place)) < 2 ^ 32 = can.few in
+    let size : length calls ≡ length (calls_in (slice_get scripts role.place)) = sym (calls_length calls) ∙ ap length same in
+    let number : role.number ≡ n = can.number in
     record {
       here = subst (λ (k : ℕ). IsHere p k seat) (sym number) h.here;
       known = subst (λ (k : ℕ). k < sum (name_of_port p).counts) (sym number) can.known;
       within = subst (All IsCallWithin) (sym same) can.within;
       few = omega arith;
-      between = subst (λ (k : ℕ). IsBetween k part.first (list_seen seat)) (sym number) (subst (IsBetween n part.first) (sym h.seen) can.between);
+      between = subst (λ (k : ℕ). IsBetween k role.first (list_seen seat)) (sym number) (subst (IsBetween n role.first) (sym h.seen) can.between);
     }
 
-pub crew_none : (p : SharedPort) (scripts : List Script) (parts before : List (Option Part)) (last : Option Part) (ss : List PortSeat) (seat : PortSeat) (back now : CallersBack) → Splits p scripts parts before last ss seat → last ≡ None → CallersCome p (plain_parts scripts before) back → now.seats.items ≡ back.seats.items ++ seat ∷ [] → now.full ≡ (back.full || false) → CallersCome p (plain_parts scripts parts) now
-crew_none p scripts parts before last ss seat back now h is come seats full =
-    let rs = plain_parts scripts before in
-    subst (λ (roles : List (Option PlainRole)). CallersCome p roles now) (sym (h.roles ∙ ap (λ (o : Option Part). rs ++ plain_part scripts o ∷ []) is))
+pub crew_none : (p : SharedPort) (scripts : List Script) (cast before : List (Option Role)) (last : Option Role) (ss : List PortSeat) (seat : PortSeat) (back now : CallersBack) → Splits p scripts cast before last ss seat → last ≡ None → CallersCome p (plain_cast scripts before) back → now.seats.items ≡ back.seats.items ++ seat ∷ [] → now.full ≡ (back.full || false) → CallersCome p (plain_cast scripts cast) now
+crew_none p scripts cast before last ss seat back now h is come seats full =
+    let rs = plain_cast scripts before in
+    subst (λ (roles : List (Option PlainRole)). CallersCome p roles now) (sym (h.roles ∙ ap (λ (o : Option Role). rs ++ plain_role scripts o ∷ []) is))
     (callers_none p rs back now seat come seats full h.here h.seen)
 
-pub crew_more : (p : SharedPort) (scripts : List Script) (parts before : List (Option Part)) (last : Option Part) (part : Part) (ss : List PortSeat) (seat : PortSeat) (calls : List Call) (back now : CallersBack) (one : SeatBack) (k : Bool) → Splits p scripts parts before last ss seat → last ≡ Some part → map call_of calls ≡ calls_in (slice_get scripts part.place)
-    → CallersCome p (plain_parts scripts before) back → CallerComes p part.number part.first (map call_of calls) (list_seen seat) one → IsTold one.result k → now.seats.items ≡ back.seats.items ++ one.seat ∷ [] → now.full ≡ (back.full || k) → CallersCome p (plain_parts scripts parts) now
-crew_more p scripts parts before last part ss seat calls back now one k h is same come comes told seats full =
-    let rs = plain_parts scripts before in
-    let r = role_of scripts part in
-    let can = crew_can p scripts parts before last part ss seat h is in
-    let first = subst (λ (n : ℕ). CallerComes p n part.first (map call_of calls) (list_seen seat) one) can.number comes in
-    let second = subst (λ (cs : List PlainCall). CallerComes p (length rs) part.first cs (list_seen seat) one) same first in
-    let third = subst (λ xs. CallerComes p (length rs) part.first r.calls xs one) h.seen second in
-    subst (λ (roles : List (Option PlainRole)). CallersCome p roles now) (sym (h.roles ∙ ap (λ (o : Option Part). rs ++ plain_part scripts o ∷ []) is))
+pub crew_more : (p : SharedPort) (scripts : List Script) (cast before : List (Option Role)) (last : Option Role) (role : Role) (ss : List PortSeat) (seat : PortSeat) (calls : List Call) (back now : CallersBack) (one : SeatBack) (k : Bool) → Splits p scripts cast before last ss seat → last ≡ Some role → map call_of calls ≡ calls_in (slice_get scripts role.place)
+    → CallersCome p (plain_cast scripts before) back → CallerComes p role.number role.first (map call_of calls) (list_seen seat) one → IsTold one.result k → now.seats.items ≡ back.seats.items ++ one.seat ∷ [] → now.full ≡ (back.full || k) → CallersCome p (plain_cast scripts cast) now
+crew_more p scripts cast before last role ss seat calls back now one k h is same come comes told seats full =
+    let rs = plain_cast scripts before in
+    let r = role_in scripts role in
+    let can = crew_can p scripts cast before last role ss seat h is in
+    let first = subst (λ (n : ℕ). CallerComes p n role.first (map call_of calls) (list_seen seat) one) can.number comes in
+    let second = subst (λ (cs : List PlainCall). CallerComes p (length rs) role.first cs (list_seen seat) one) same first in
+    let third = subst (λ xs. CallerComes p (length rs) role.first r.calls xs one) h.seen second in
+    subst (λ (roles : List (Option PlainRole)). CallersCome p roles now) (sym (h.roles ∙ ap (λ (o : Option Role). rs ++ plain_role scripts o ∷ []) is))
     (callers_more p rs r back now one k come seats full told third)
 
 pub both_ok : {E : Type 0} (r : Result CallersBack E) (A B C : CallersBack → Type 0) → ((x : CallersBack) → A x → B x → C x) → IfOk r A → IfOk r B → IfOk r C

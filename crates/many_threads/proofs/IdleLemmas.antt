@@ -1,6 +1,6 @@
 -- Where a phase may end nothing happens any more but its end; and how its callers come there.
 use Rattle.std.proofs.Common.{◌≡◌, inl, inr, ℕ, List, [], ◌∷◌, ◌++◌, Bool, true, false, ◌==◌, if◌then◌else◌, Option, length, refl, sym, ◌∙◌, ap, subst, arith}
-use Rattle.std.proofs.lemmas.Bool.{false≢true, eqb-true}
+use Rattle.std.proofs.lemmas.Bool.{false≢true, eqb-true, or_cases}
 use Rattle.tty_base.specs.declared.characters.Flagged.{Flagged}
 use Rattle.tty_calls.specs.declared.journals.Who.{Who}
 use Rattle.tty_calls.specs.declared.journals.Who.TheVariants.{Caller, Flusher, Line, Clock, Session}
@@ -13,14 +13,14 @@ use Rattle.tty_terminal.specs.Runs.{Leads, is_of_call, phase_after}
 use Rattle.tty_terminal.specs.Standing.{Standing, standing_of, standing_after_own, standing_after_other, standing_after}
 use Rattle.tty_terminal.proofs.StandingLaws.{step_stands}
 use Rattle.journal_check.specs.Legal.{phase_at, name_at, has_script, IsCallerOf, IsInPhase, AreInPhases, session_events, session_events_in}
-use Rattle.journal_check.proofs.FinishLemmas.{quiet_phase, nothing_first, nothing_rest, other_stays, who_is, PlaysAt, plays_more}
+use Rattle.journal_check.proofs.FinishLemmas.{quiet_phase, other_stays, who_is, PlaysAt, plays_more}
 use Rattle.one_thread.proofs.LineSteps.{not_stuck}
-use Rattle.one_thread.proofs.NameLemmas.{either_of}
 use Rattle.port_cell.specs.declared.kept.Stamped.{Stamped}
 use Rattle.tty_port.specs.Inside.{EntryWithCall}
 use Rattle.tty_port.specs.Histories.{call_by}
 use Rattle.tty_port.specs.Seen.{entries_in, led_to}
 use Rattle.tty_port.specs.Placed.{HaveCalls}
+use Rattle.journal_check.proofs.Truths.{nothing_first, nothing_rest}
 
 -- ---- the terminal that a history tells
 
@@ -69,7 +69,7 @@ pub record IsIdle (p : ℕ) (session : PlainSession) (k : ℕ) (t : Terminal) : 
   pub nothing : nothing_to_flush t ≡ true
 
 no_flush : (t : Terminal) (step part : ℕ) (chars : List Flagged) → t.line_over ≡ true → nothing_to_flush t ≡ true → IsFlush t step part chars → ⊥
-no_flush t step part chars over nothing h = elim (either_of (t.taken == t.sent) _ nothing) [
+no_flush t step part chars over nothing h = elim (or_cases (t.taken == t.sent) _ nothing) [
   | inl all ↦ (let same : t.taken ≡ t.sent = eqb-true t.taken t.sent all in omega (arith, same, h.some, h.sent over))
   | inr stuck ↦ not_stuck t chars h.live h.accepted h.some stuck
 ]

@@ -26,7 +26,6 @@ use Rattle.one_thread.specs.Lines as lines
 use Rattle.one_thread.specs.Phases as phases
 use Rattle.one_thread.specs.Phases.{HavePlayed, IsPortOf, IsFullRun, IsAtEnd, IsUpTo}
 use Rattle.one_thread.specs.declared.phases.Station.{Station}
-use Rattle.one_thread.proofs.NameLemmas.{get_append, get_past}
 use Rattle.one_thread.proofs.PhaseLemmas.{PlaysPart, played_more}
 use Rattle.one_thread.proofs.StationLemmas.{full_in_phase}
 use Rattle.one_thread.proofs.PortLemmas.{last_or, some_is}
@@ -36,6 +35,7 @@ use Rattle.many_threads.specs.Phases.{IsBeforePhase, StandsBefore, CanEnd}
 use Rattle.many_threads.specs.declared.phases.Ends.{Ends}
 use Rattle.many_threads.specs.declared.phases.PhaseEnd.{PhaseEnd}
 use Rattle.many_threads.specs.declared.phases.PhaseEnd.TheVariants.{Over, Full}
+use Rattle.journal_check.proofs.NameLemmas.{get_append, get_past}
 
 -- ---- at the beginning
 

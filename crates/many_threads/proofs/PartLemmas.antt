@@ -35,6 +35,7 @@ use Rattle.tty_port.proofs.FlushSteps.{run_kept}
 use Rattle.tty_port.proofs.Keeping.{clock_kept, placed_right, by_another}
 use Rattle.many_threads.specs.Parts as parts
 use Rattle.many_threads.specs.Parts.{IsOfCalls, IsOfRole, MakesInRole, PlaysCaller, MakesTicks, StopsClock, PlaysClock, RunsLine, PlaysLine, RunMade, FlushesRuns}
+use Rattle.one_thread.proofs.Ready.{same_bytes}
 
 pub each_both : (P : Stamped EntryWithCall → Type 0) (xs ys : List (Stamped EntryWithCall)) → parts.Each P xs → parts.Each P ys → parts.Each P (xs ++ ys)
 each_both P [] ys h k = k
@@ -137,27 +138,6 @@ caller_plays c first step calls start mid new number at h between one =
     }
 
 -- ---- the calls of a script
-
-same_bytes : (call : PlainCall) → byte_count call ≡ limits.byte_count call
-same_bytes (opens h access nonblock) = refl
-same_bytes (closes h) = refl
-same_bytes (reads h n) = refl
-same_bytes (writes h bytes) = refl
-same_bytes (gets_modes h) = refl
-same_bytes (sets_modes h when words) = refl
-same_bytes (gets_disc h) = refl
-same_bytes (sets_disc h n) = refl
-same_bytes (flushes h queue) = refl
-same_bytes (steers h act) = refl
-same_bytes (counts_input h) = refl
-same_bytes (counts_output h) = refl
-same_bytes (excludes h) = refl
-same_bytes (admits h) = refl
-same_bytes (drains h) = refl
-same_bytes (gets_counts h) = refl
-same_bytes (hangs_up h) = refl
-same_bytes (sends_packet h bytes) = refl
-same_bytes (takes_packet h) = refl
 
 pub call_there : (calls : List Call) (i : ℕ) (x : Call) → i < length calls → x ≡ get_or calls i x → slice_get (map call_of calls) i ≡ Some (call_of x)
 call_there calls i x within is = slice_get-map call_of calls i ∙ ap (option_map call_of) (slice_get_read calls (length calls) i x refl within is)

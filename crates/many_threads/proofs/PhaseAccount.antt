@@ -25,7 +25,7 @@ use Rattle.tty_terminal.specs.Marks.{Marks, marks_of}
 use Rattle.tty_terminal.proofs.Runs.{run_callers}
 use Rattle.journal_check.specs.Legal.{phase_at, name_at, has_script, first_step, steps_in, script_of_first, session_events, session_events_in, received_before, AreInPhases}
 use Rattle.journal_check.specs.Phases.{HasPlayed, CompletesPhase}
-use Rattle.journal_check.proofs.FinishLemmas.{nothing_first, nothing_rest, PlaysAt, plays_first, callers_complete, three_true}
+use Rattle.journal_check.proofs.FinishLemmas.{PlaysAt, plays_first, callers_complete, three_true}
 use Rattle.port_core.specs.Flips.{MeetsTaker}
 use Rattle.port_core.specs.Ports.{PortValue}
 use Rattle.one_thread.specs.Roles.{Scene, PlainRole}
@@ -35,7 +35,7 @@ use Rattle.one_thread.proofs.JournalLemmas.{leads_both, none_ends}
 use Rattle.one_thread.proofs.LineSteps.{has_put_met, has_put_at}
 use Rattle.one_thread.proofs.NameLemmas.{few_names}
 use Rattle.one_thread.proofs.PhaseLemmas.{phase_stays}
-use Rattle.one_thread.proofs.ReceivedLemmas.{script_next, kept_later}
+use Rattle.one_thread.proofs.ReceivedLemmas.{kept_later}
 use Rattle.one_thread.proofs.RoleLemmas.{sum_counts}
 use Rattle.port_cell.specs.declared.kept.Stamped.{Stamped}
 use Rattle.port_cell.specs.Entries.{Keeps, Begins}
@@ -59,7 +59,7 @@ use Rattle.many_threads.specs.declared.phases.PhaseEnd.TheVariants.{Over, Full}
 use Rattle.many_threads.specs.Parts as parts
 use Rattle.many_threads.specs.Parts.{StopsClock, PlaysClock, RunsLine, PlaysLine, PlaysFlusher}
 use Rattle.many_threads.specs.Crews.{EachCaller, IsBack, SomeSawFull}
-use Rattle.many_threads.specs.Stations.{IsAtPhase, AreParts, StopsPhase}
+use Rattle.many_threads.specs.Stations.{IsAtPhase, IsCast, StopsPhase}
 use Rattle.many_threads.specs.Ends.{all_seats, IsShared, IsClosed, ArePlayed, AreStopped, Tells, ThreadsCome, PlaysThreads, ThreadsLeave}
 use Rattle.many_threads.proofs.PartLemmas.{placed_left, flusher_begins}
 use Rattle.many_threads.proofs.ClosingLemmas.{line_is_over, clock_is_over, clock_stops}
@@ -68,6 +68,8 @@ use Rattle.many_threads.proofs.LineAccount.{has_put_runs, HasSeen, overruns_seen
 use Rattle.many_threads.proofs.PortAccount.{IsPartOf, leads_split, part_of, have, run_v}
 use Rattle.many_threads.proofs.LineEnds.{none_of_line, line_parts, chars_before}
 use Rattle.many_threads.proofs.IdleLemmas.{led_as_run, have_left, IsIdle, none_follow, in_phases_left, in_phases_right, plays_on, RestsAt, rests_on, at_rest, rested}
+use Rattle.journal_check.proofs.ReceiptLemmas.{first_more}
+use Rattle.journal_check.proofs.Truths.{nothing_first, nothing_rest}
 
 -- ---- seats
 
@@ -142,7 +144,7 @@ sent_meets met now taken meets = ap (λ (p : PutterState Flagged). p.sent) meets
 module _ (s : Scene) (p : SharedPort) (rs : List (Option PlainRole)) (v w : PortValue) (dealt : Seats) (back : PhaseBack) (steps : List LineStep) (ticks run : ℕ) (line : LineState) (putter : PutterState Flagged)
     (within : v.terminal.phase < length s.session.phases) (start : IsAtPhase s v.terminal.phase v putter line run) (knows : KnowsTaken (length v.flip.taken) putter.heads)
     (script : steps ≡ line_on s.port (phase_at s.session v.terminal.phase)) (asked : ticks ≡ ticks_on s.port (phase_at s.session v.terminal.phase))
-    (shared : IsShared (name_of_port p).callers v p dealt) (all : (name_of_port p).callers ≡ sum v.counts) (are : AreParts s v.terminal.phase (name_of_port p).callers rs)
+    (shared : IsShared (name_of_port p).callers v p dealt) (all : (name_of_port p).callers ≡ sum v.counts) (are : IsCast s v.terminal.phase (name_of_port p).callers rs)
     (come : ThreadsCome p rs steps ticks run line putter dealt back) (closed : IsClosed p back.seats w) where
   abbrev m : ℕ
   m = (name_of_port p).callers
@@ -225,7 +227,7 @@ module _ (s : Scene) (p : SharedPort) (rs : List (Option PlainRole)) (v w : Port
   from_start P h = subst P shared.opening h
 
   next_script : script_of_first s.port s.session (k + 1) ≡ before ++ closed_script steps
-  next_script = script_next s.port s.session k within ∙ ap (λ (l : List LineStep). before ++ closed_script l) (sym script)
+  next_script = first_more s.port s.session k within ∙ ap (λ (l : List LineStep). before ++ closed_script l) (sym script)
 
   -- ---- what the line put
 
@@ -481,7 +483,7 @@ module _ (s : Scene) (p : SharedPort) (rs : List (Option PlainRole)) (v w : Port
 pub threads_leave : (s : Scene) (p : SharedPort) (rs : List (Option PlainRole)) (old : Ends) (w : PortValue) (dealt : Seats) (back : PhaseBack) (steps : List LineStep) (ticks run : ℕ)
     → old.port.terminal.phase < length s.session.phases → IsAtPhase s old.port.terminal.phase old.port old.receiver.putter old.receiver.line run → KnowsTaken (length old.port.flip.taken) old.receiver.putter.heads
     → steps ≡ line_on s.port (phase_at s.session old.port.terminal.phase) → ticks ≡ ticks_on s.port (phase_at s.session old.port.terminal.phase)
-    → IsShared (name_of_port p).callers old.port p dealt → (name_of_port p).callers ≡ sum old.port.counts → AreParts s old.port.terminal.phase (name_of_port p).callers rs
+    → IsShared (name_of_port p).callers old.port p dealt → (name_of_port p).callers ≡ sum old.port.counts → IsCast s old.port.terminal.phase (name_of_port p).callers rs
     → ThreadsCome p rs steps ticks run old.receiver.line old.receiver.putter dealt back → IsClosed p back.seats w
     → (end : PhaseEnd) → Tells p rs steps ticks run old.receiver.line old.receiver.putter dealt back end → ThreadsLeave s old (record { port = w; receiver = back.receiver }) end
 threads_leave s p rs old w dealt back steps ticks run within start knows script asked shared all are come closed (Over next) h =

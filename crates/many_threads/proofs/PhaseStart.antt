@@ -17,7 +17,7 @@ use Rattle.port_core.specs.Ports.{PortValue}
 use Rattle.one_thread.specs.Roles.{Scene, PlainRole, IsRoleOf}
 use Rattle.one_thread.proofs.LineSteps.{has_put_met, has_put_at, sent_met}
 use Rattle.one_thread.proofs.ReceivedLemmas.{arrivals_fit}
-use Rattle.one_thread.proofs.RoleLemmas.{first_next, few_scripts, few_steps, sum_counts}
+use Rattle.one_thread.proofs.RoleLemmas.{few_scripts, sum_counts}
 use Rattle.tty_port.specs.Inside.{Name}
 use Rattle.tty_port.specs.Seen.{standing_at, marks_at, next_run, run_after, IsBetween}
 use Rattle.tty_port.specs.Shared.{name_of_port, opening_history}
@@ -25,8 +25,10 @@ use Rattle.tty_port.specs.declared.shared.SharedPort.{SharedPort}
 use Rattle.tty_port.proofs.Histories.{port_stands, port_marks}
 use Rattle.many_threads.specs.declared.stations.Seats.{Seats}
 use Rattle.many_threads.specs.Crews.{CanPlay, CanPlayAll, IsPlayable}
-use Rattle.many_threads.specs.Stations.{IsOfSession, IsAtPhase, AreParts}
+use Rattle.many_threads.specs.Stations.{IsOfSession, IsAtPhase, IsCast}
 use Rattle.many_threads.specs.Ends.{IsShared}
+use Rattle.journal_check.proofs.NameLemmas.{first_next}
+use Rattle.journal_check.proofs.TurnLemmas.{first_few}
 
 -- ---- both ends meet before the phase
 
@@ -93,7 +95,7 @@ module _ (s : Scene) (k m : ℕ) (v : PortValue) (p : SharedPort) (seats : Seats
   playable : (c : ℕ) (r : PlainRole) → IsWithinLimits s.session → k < length s.session.phases → IsRoleOf s k r → r.number ≡ c → IsPlayable p c r
   playable c r limits within role number =
       let next = first_next s.port s.session k r.number within in
-      let few = few_steps s.port s.session (k + 1) r.number limits in
+      let few = first_few s.port s.session (k + 1) r.number limits in
       let first = role.first in
       let count = role.count in
       let counts : sum (name_of_port p).counts ≡ sum (counts_on s.port s.session) = ap (λ (n : Name). sum n.counts) shared.name ∙ ap sum start.of_session.counts in
@@ -117,5 +119,5 @@ module _ (s : Scene) (k m : ℕ) (v : PortValue) (p : SharedPort) (seats : Seats
       either None h = tt
       either (Some q) h = let role = h q refl in playable n q limits within role.0 (role.1 ∙ (let e : n + 0 ≡ n = omega arith in e))
 
-  pub can_play : (callers : ℕ) (rs : List (Option PlainRole)) → IsWithinLimits s.session → k < length s.session.phases → AreParts s k callers rs → CanPlayAll p 0 rs
+  pub can_play : (callers : ℕ) (rs : List (Option PlainRole)) → IsWithinLimits s.session → k < length s.session.phases → IsCast s k callers rs → CanPlayAll p 0 rs
   can_play callers rs limits within are = can_play_from 0 rs limits within (λ i r at. let role = are.roles i r at in (role.0, role.1 ∙ sym (zero-add i)))

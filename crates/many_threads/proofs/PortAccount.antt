@@ -22,14 +22,11 @@ use Rattle.tty_port.specs.Placed.{ArePlaced, HaveCalls, IsHistoryOf}
 use Rattle.tty_port.proofs.Histories.{entries_append}
 use Rattle.tty_port.proofs.Keeping.{placed_right}
 use Rattle.many_threads.specs.Parts as parts
-use Rattle.many_threads.specs.Stations.{IsOfSession, AreParts}
+use Rattle.many_threads.specs.Stations.{IsOfSession, IsCast}
 use Rattle.many_threads.proofs.AccountLemmas.{IsOfPhase, AllInRoles, all_of_phase, calls_of_phase, none_of_session, phases_of_phase}
+use Rattle.journal_check.proofs.Truths.{if_true}
 
 -- ---- calls
-
-if_true : {A : Type 0} (b : Bool) (x y : A) → b ≡ true → (if b then x else y) ≡ x
-if_true true x y e = refl
-if_true false x y e = absurd (cc)
 
 calls_same : (f g : ℕ → ℕ → Option PlainCall) (who : Who) (step : ℕ) (event : PlainEvent) → is_of_call event ≡ true → AgreesAt f g who step event → call_by g who step ≡ call_by f who step
 calls_same f g (Caller c) step event of agrees = agrees c of (eq-eqb c c refl)
@@ -83,7 +80,7 @@ pub record IsPartOf (s : Scene) (v w : PortValue) (part : List PlainEntry) : Typ
 module _ (s : Scene) (m : ℕ) (rs : List (Option PlainRole)) (v w : PortValue)
     (old : IsOfSession s v) (port_v : IsPort v) (port_w : IsPort w) (name : name_in m w ≡ name_in m v) (all : m ≡ sum v.counts)
     (was : IsHistoryOf m v (history_in m v)) (now : IsHistoryOf m w (history_in m w)) (session : Keeps (m + 3) (history_in m v) (history_in m w))
-    (are : AreParts s v.terminal.phase m rs) (story : AllInRoles rs session.0) where
+    (are : IsCast s v.terminal.phase m rs) (story : AllInRoles rs session.0) where
   abbrev pub rest : List (Stamped EntryWithCall)
   rest = session.0
 

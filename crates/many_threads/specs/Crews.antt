@@ -1,10 +1,11 @@
 -- The callers of a port in a phase: what each can play, and what comes of all.
-use Rattle.std.specs.Prelude.{◌≡◌, ◌⊎◌, ℕ, ◌+◌, ◌<◌, ◌^◌, List, [], ◌∷◌, Bool, true, false, Option, None, Some, Result, Ok, Err, MatchBool, All, length, map, sum, slice_get}
+use Rattle.std.specs.Prelude.{◌≡◌, ◌⊎◌, ℕ, ◌+◌, ◌<◌, ◌^◌, List, [], ◌∷◌, Bool, true, false, Option, None, Some, Result, Ok, Err, MatchBool, All, length, map, sum}
 use Rattle.tty_calls.specs.declared.answers.Denied.{Denied}
 use Rattle.tty_calls.specs.declared.answers.Denied.TheVariants.{NoMemory, Full}
 use Rattle.tty_calls.specs.declared.sessions.Script.{Script}
 use Rattle.tty_calls.specs.Limits.{IsCallWithin}
-use Rattle.one_thread.specs.Roles.{PlainRole, calls_in}
+use Rattle.one_thread.specs.Roles.{PlainRole, role_in}
+use Rattle.one_thread.specs.declared.roles.Role.{Role}
 use Rattle.port_cell.specs.Knowledge.{list_seen}
 use Rattle.tty_port.specs.Inside.{Name}
 use Rattle.tty_port.specs.Seen.{IsBetween}
@@ -12,16 +13,15 @@ use Rattle.tty_port.specs.Calls.{PortSeat}
 use Rattle.tty_port.specs.Shared.{IsHere, name_of_port, opening_history}
 use Rattle.tty_port.specs.declared.shared.SharedPort.{SharedPort}
 use Rattle.many_threads.specs.Parts.{MakesInRole, PlaysCaller}
-use Rattle.many_threads.specs.declared.crews.Part.{Part}
 use Rattle.many_threads.specs.declared.crews.CallersBack.{CallersBack}
 
 -- the role of each caller of the port, where it has one in the phase
-abbrev pub plain_part : List Script → Option Part → Option PlainRole
-plain_part scripts None = None
-plain_part scripts (Some part) = Some (record { number = part.number; first = part.first; calls = calls_in (slice_get scripts part.place) })
+abbrev pub plain_role : List Script → Option Role → Option PlainRole
+plain_role scripts None = None
+plain_role scripts (Some role) = Some (role_in scripts role)
 
-abbrev pub plain_parts : List Script → List (Option Part) → List (Option PlainRole)
-plain_parts scripts parts = map (plain_part scripts) parts
+abbrev pub plain_cast : List Script → List (Option Role) → List (Option PlainRole)
+plain_cast scripts cast = map (plain_role scripts) cast
 
 -- the caller with the number n can play the role once the port is shared
 pub record IsPlayable (p : SharedPort) (n : ℕ) (r : PlainRole) : Type 0 where

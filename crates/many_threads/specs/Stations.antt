@@ -28,7 +28,7 @@ pub record IsOfSession (s : Scene) (v : PortValue) : Type 0 where
   pub in_phases : AreInPhases s.port s.session 0 v.journal
 
 -- the roles of so many callers of the port in phase k, by number: each caller of the phase has its own
-pub record AreParts (s : Scene) (k callers : ℕ) (rs : List (Option PlainRole)) : Type 0 where
+pub record IsCast (s : Scene) (k callers : ℕ) (rs : List (Option PlainRole)) : Type 0 where
   pub count : length rs ≡ callers
   pub roles : (c : ℕ) (r : PlainRole) → slice_get rs c ≡ Some (Some r) → IsRoleOf s k r × (r.number ≡ c)
   pub all : (c : ℕ) → IsCallerOf s.port s.session k c → (r : PlainRole) × (slice_get rs c ≡ Some (Some r))

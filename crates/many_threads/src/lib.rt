@@ -12,12 +12,12 @@ mod playing;
 mod ports;
 mod running;
 mod seating;
+mod starting;
+mod starts;
 mod stations;
-#[cfg(test)]
-mod tests;
 mod threads;
 
-pub use crews::{CallersBack, Part};
+pub use crews::CallersBack;
 pub use playing::play;
 pub use running::run_threads;
 pub use threads::{FlusherBack, LineBack, Receiver, SeatBack};

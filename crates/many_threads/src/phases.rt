@@ -12,16 +12,17 @@ ghost use Rattle.one_thread.specs.Roles.{Scene};
 ghost use Rattle.one_thread.specs.LineInside.{KnowsTaken};
 ghost use Rattle.tty_port.specs.Seen.{marks_at, next_run};
 ghost use Rattle.tty_port.specs.Shared.{name_of_port, opening_history};
-ghost use Rattle.many_threads.specs.Crews.{plain_parts, CanPlayAll};
+ghost use Rattle.many_threads.specs.Crews.{plain_cast, CanPlayAll};
 ghost use Rattle.many_threads.specs.Dealing.{AreDealt};
-ghost use Rattle.many_threads.specs.Stations.{IsAtPhase, AreParts};
+ghost use Rattle.many_threads.specs.Stations.{IsAtPhase, IsCast};
 ghost use Rattle.many_threads.specs.Ends.{AreBack, IsShared, IsClosed, IsNextTold, end_of, AreTaken, ThreadsCome, ThreadsLeave, EndsOrStops, PhaseComes};
 
-use crate::crews::{CallersBack, Part, is_full};
+use crate::crews::{CallersBack, is_full};
 use crate::running::run_threads;
 use crate::stations::{Seats, deal, gather};
 use crate::threads::{FlusherBack, LineBack, Receiver, SeatBack};
 use flip_buffer::FlipIn;
+use one_thread::Role;
 use port_core::Port;
 use std::alloc::Global;
 use std::sync::Wait;
@@ -133,7 +134,7 @@ fn play_together<R: Threads + Wait + Sync, G: Gate + Sync>(
     phase: u32,
     ticks: u32,
     run: u32,
-    parts: &[Option<Part>],
+    cast: &[Option<Role>],
     scripts: &[Script],
 ) -> Result<PhaseBack, NoMemory>
     requires dealt { AreDealt shared.now dealt }
@@ -146,9 +147,9 @@ fn play_together<R: Threads + Wait + Sync, G: Gate + Sync>(
     requires put { receiver.line.most ≤ (2 ^ 63 - length receiver.putter.sent) + receiver.line.handed }
     requires clock_not_over { (marks_at (opening_history shared.now)).clock_over ≡ false }
     requires next { run ≡ next_run (opening_history shared.now) }
-    requires count { length parts.now ≡ (name_of_port shared.now).callers }
-    requires parts { CanPlayAll shared.now 0 (plain_parts scripts.now parts.now) }
-    ensures { IfOk result (ThreadsCome shared.now (plain_parts scripts.now parts.now) steps.now ticks run receiver.line receiver.putter dealt) }
+    requires count { length cast.now ≡ (name_of_port shared.now).callers }
+    requires cast { CanPlayAll shared.now 0 (plain_cast scripts.now cast.now) }
+    ensures { IfOk result (ThreadsCome shared.now (plain_cast scripts.now cast.now) steps.now ticks run receiver.line receiver.putter dealt) }
 {
     let Seats {
         callers,
@@ -158,10 +159,10 @@ fn play_together<R: Threads + Wait + Sync, G: Gate + Sync>(
         session,
     } = dealt;
     let (line, (clock, (flusher, callers))) = run_threads(
-        rt, shared, gate, line, receiver, steps, phase, clock, ticks, flusher, run, callers, parts,
+        rt, shared, gate, line, receiver, steps, phase, clock, ticks, flusher, run, callers, cast,
         scripts,
-    );
-    take_together(line, clock, flusher, callers?, session)
+    )?;
+    take_together(line, clock, flusher, callers, session)
 }
 
 /// Shares a port for the threads of its phase, and has it whole again after them.
@@ -171,7 +172,7 @@ fn play_threads<R: Threads + Wait + Sync, G: Gate + Sync>(
     gate: &G,
     ends: Ends,
     run: u32,
-    parts: &[Option<Part>],
+    cast: &[Option<Role>],
     scripts: &[Script],
     steps: &[LineStep],
     ticks: u32,
@@ -184,14 +185,14 @@ fn play_threads<R: Threads + Wait + Sync, G: Gate + Sync>(
     requires steps { steps.now ≡ line_on scene.port (phase_at scene.session ends.port.terminal.phase) }
     requires good { All (λ step. IsTrue (is_step step)) steps.now }
     requires ticks { ticks ≡ ticks_on scene.port (phase_at scene.session ends.port.terminal.phase) }
-    requires roles { AreParts scene ends.port.terminal.phase (sum ends.port.counts) (plain_parts scripts.now parts.now) }
+    requires roles { IsCast scene ends.port.terminal.phase (sum ends.port.counts) (plain_cast scripts.now cast.now) }
     ensures { IfOk result (λ r. ThreadsLeave scene ends r.0 r.1) }
 {
     let Ends { port, receiver } = ends;
     let phase = port.phase();
-    let (shared, dealt) = share(alloc, port, parts.len())?;
+    let (shared, dealt) = share(alloc, port, cast.len())?;
     let back = play_together(
-        rt, &shared, gate, dealt, receiver, steps, phase, ticks, run, parts, scripts,
+        rt, &shared, gate, dealt, receiver, steps, phase, ticks, run, cast, scripts,
     )?;
     let PhaseBack {
         seats,
@@ -223,7 +224,7 @@ pub(crate) fn play_shared<R: Threads + Wait + Sync, G: Gate + Sync>(
     gate: &G,
     ends: Ends,
     run: u32,
-    parts: &[Option<Part>],
+    cast: &[Option<Role>],
     scripts: &[Script],
     steps: &[LineStep],
     ticks: u32,
@@ -235,7 +236,7 @@ pub(crate) fn play_shared<R: Threads + Wait + Sync, G: Gate + Sync>(
     requires steps { steps.now ≡ line_on scene.port (phase_at scene.session ends.port.terminal.phase) }
     requires good { All (λ step. IsTrue (is_step step)) steps.now }
     requires ticks { ticks ≡ ticks_on scene.port (phase_at scene.session ends.port.terminal.phase) }
-    requires roles { AreParts scene ends.port.terminal.phase (sum ends.port.counts) (plain_parts scripts.now parts.now) }
+    requires roles { IsCast scene ends.port.terminal.phase (sum ends.port.counts) (plain_cast scripts.now cast.now) }
     ensures { IfOk result (λ r. PhaseComes scene ends r.0 r.1) }
 {
     let Ends {
@@ -249,7 +250,7 @@ pub(crate) fn play_shared<R: Threads + Wait + Sync, G: Gate + Sync>(
         gate,
         Ends { port, receiver },
         run,
-        parts,
+        cast,
         scripts,
         steps,
         ticks,

@@ -95,7 +95,7 @@ fn play_on<R: Threads + Wait + Sync, G: Gate + Sync>(
     } = station;
     let scripts = scripts_of(session, k);
     let roles = roles_of(alloc, session, number, k, &names, steps.as_slice())?;
-    let parts = seat(alloc, roles.as_slice(), callers)?;
+    let cast = seat(alloc, roles.as_slice(), callers)?;
     let ends = Ends {
         port,
         receiver: Receiver { line, putter },
@@ -106,7 +106,7 @@ fn play_on<R: Threads + Wait + Sync, G: Gate + Sync>(
         gate,
         ends,
         run,
-        parts.as_slice(),
+        cast.as_slice(),
         scripts,
         steps_of(session, number, k),
         ticks_of(session, number, k),

@@ -1,6 +1,6 @@
-//! The threads of a phase: what each is given, and what it brings back.
+//! The threads of a phase: what each is given, and what it brings back. None acts before all are made.
 
-ghost use Rattle.std.specs.Prelude.{◌≡◌, ◌+◌, ◌-◌, ◌<◌, ◌≤◌, ◌^◌, false, IsTrue, List, All, length, map, sum};
+ghost use Rattle.std.specs.Prelude.{◌≡◌, ◌+◌, ◌-◌, ◌<◌, ◌≤◌, ◌^◌, false, IsTrue, IfOk, List, All, length, map, sum};
 ghost use Rattle.tty_base.specs.Lines.{is_step, arrival_count};
 ghost use Rattle.tty_base.specs.declared.lines.LineStep.{LineStep};
 ghost use Rattle.uart_line.specs.LineState.{HasDone};
@@ -15,9 +15,10 @@ use crate::callers::play_caller;
 use crate::clocks::play_clock;
 use crate::flushers::play_flusher;
 use crate::lines::play_line;
+use crate::starts::Start;
 use flip_buffer::FlipIn;
 use std::sync::Wait;
-use tty_base::LineStep;
+use tty_base::{LineStep, NoMemory};
 use tty_calls::{Call, Denied};
 use tty_port::{Gate, Seat, SharedPort};
 use uart_line::Line;
@@ -56,50 +57,56 @@ pub(crate) fn caller_thread<R: Wait, G: Gate>(
     rt: &R,
     shared: &SharedPort,
     gate: &G,
+    start: &Start,
     mut seat: Seat,
     caller: u16,
     first: u32,
     calls: &[Call],
-) -> SeatBack
+) -> Result<SeatBack, NoMemory>
     requires seat { IsHere shared.now caller seat }
     requires known { caller < sum (name_of_port shared.now).counts }
     requires within { All IsCallWithin (map call_of calls.now) }
     requires few { first + length calls.now < 2 ^ 32 }
     requires between { IsBetween caller first (list_seen seat) }
-    ensures { CallerComes shared.now caller first (map call_of calls.now) (list_seen seat) result }
+    ensures { IfOk result (CallerComes shared.now caller first (map call_of calls.now) (list_seen seat)) }
 {
+    start.wait(rt)?;
     let result = play_caller(rt, shared, &mut seat, caller, first, calls, gate);
-    SeatBack { seat, result }
+    Ok(SeatBack { seat, result })
 }
 
 /// The clock's thread.
 pub(crate) fn clock_thread<R: Wait>(
     rt: &R,
     shared: &SharedPort,
+    start: &Start,
     mut seat: Seat,
     ticks: u32,
-) -> SeatBack
+) -> Result<SeatBack, NoMemory>
     requires seat { IsHere shared.now ((name_of_port shared.now).callers + 2) seat }
     requires not_over { (marks_at (list_seen seat)).clock_over ≡ false }
-    ensures { ClockComes shared.now ticks (list_seen seat) result }
+    ensures { IfOk result (ClockComes shared.now ticks (list_seen seat)) }
 {
+    start.wait(rt)?;
     let result = play_clock(rt, shared, &mut seat, ticks);
-    SeatBack { seat, result }
+    Ok(SeatBack { seat, result })
 }
 
 /// The flusher's thread.
 pub(crate) fn flusher_thread<R: Wait>(
     rt: &R,
     shared: &SharedPort,
+    start: &Start,
     mut seat: Seat,
     run: u32,
-) -> FlusherBack
+) -> Result<FlusherBack, NoMemory>
     requires seat { IsHere shared.now (name_of_port shared.now).callers seat }
     requires next { run ≡ next_run (list_seen seat) }
-    ensures { FlusherComes shared.now run seat result }
+    ensures { IfOk result (FlusherComes shared.now run seat) }
 {
+    start.wait(rt)?;
     let result = play_flusher(rt, shared, &mut seat, run);
-    FlusherBack { seat, result }
+    Ok(FlusherBack { seat, result })
 }
 
 /// The line's thread.
@@ -107,11 +114,12 @@ pub(crate) fn line_thread<R: Wait, G: Gate>(
     rt: &R,
     shared: &SharedPort,
     gate: &G,
+    start: &Start,
     mut seat: Seat,
     receiver: Receiver,
     steps: &[LineStep],
     phase: u32,
-) -> LineBack
+) -> Result<LineBack, NoMemory>
     requires seat { IsHere shared.now ((name_of_port shared.now).callers + 1) seat }
     requires not_over { (marks_at (list_seen seat)).line_over ≡ false }
     requires ring { receiver.putter.ring ≡ (name_of_port shared.now).ring }
@@ -120,8 +128,9 @@ pub(crate) fn line_thread<R: Wait, G: Gate>(
     requires good { All (λ step. IsTrue (is_step step)) steps.now }
     requires room { receiver.line.report.arrived + arrival_count steps.now ≤ receiver.line.most }
     requires put { receiver.line.most ≤ (2 ^ 63 - length receiver.putter.sent) + receiver.line.handed }
-    ensures { LineComes shared.now steps.now receiver.line receiver.putter (list_seen seat) result }
+    ensures { IfOk result (LineComes shared.now steps.now receiver.line receiver.putter (list_seen seat)) }
 {
+    start.wait(rt)?;
     let Receiver {
         mut line,
         mut putter,
@@ -136,9 +145,9 @@ pub(crate) fn line_thread<R: Wait, G: Gate>(
         phase,
         gate,
     );
-    LineBack {
+    Ok(LineBack {
         seat,
         receiver: Receiver { line, putter },
         result,
-    }
+    })
 }

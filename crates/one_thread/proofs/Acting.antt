@@ -30,11 +30,11 @@ use Rattle.one_thread.specs.Turns.{role_numbers, turn_with, IsTurn, standing_at,
 use Rattle.one_thread.specs.declared.roles.Role.{Role}
 use Rattle.one_thread.specs.declared.after_line.Stand.{Stand}
 use Rattle.one_thread.specs.declared.after_line.Turn.TheVariants as turn
-use Rattle.one_thread.proofs.Ranks.{if_true, if_false}
 use Rattle.one_thread.proofs.Entries.{IsMore, more_of, plays_more}
 use Rattle.one_thread.proofs.Passing.{runs_rest, stands_at, marks_at}
 use Rattle.one_thread.proofs.Kept.{kept_still, kept_own, kept_grows}
 use Rattle.one_thread.proofs.Calling.{role_of, role_number, same_place, MayAct, may_act, called, wait_test, part_generation}
+use Rattle.journal_check.proofs.Truths.{if_false, if_true}
 
 -- ---- callers after an entry of one of them
 

@@ -37,8 +37,10 @@ use Rattle.one_thread.specs.declared.after_line.Turn.TheVariants as turn
 use Rattle.one_thread.proofs.Ranks.{session_turn}
 use Rattle.one_thread.proofs.Entries.{more_of, IsRunOf, scene_more, by_turn, numbers_same}
 use Rattle.one_thread.proofs.Passing.{runs_rest, stands_at, marks_at}
-use Rattle.one_thread.proofs.Calling.{role_of, role_number, enough, all_four}
-use Rattle.one_thread.proofs.Starting.{first_next, no_steps, at_rest}
+use Rattle.one_thread.proofs.Calling.{role_of, role_number, enough}
+use Rattle.one_thread.proofs.Starting.{no_steps, at_rest}
+use Rattle.journal_check.proofs.NameLemmas.{first_next}
+use Rattle.journal_check.proofs.Truths.{all_four}
 
 -- the player, since the line's end
 pub record Playing (s : Scene) (scripts : List Script) (roles : List Role) (start v : PortValue) (ticks : ℕ) (stand : Stand) : Type 0 where

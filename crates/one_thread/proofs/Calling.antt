@@ -1,9 +1,9 @@
 -- A caller's turn: what its call may come to.
-use Rattle.std.proofs.Common.{◌≡◌, ◌≢◌, ◌≤◌, ◌<◌, ℕ, ◌+◌, ◌-◌, List, Bool, true, false, not, ◌&&◌, ◌||◌, Option, None, Some, length, map, refl, sym, ◌∙◌, ap, subst, inl, inr, arith}
+use Rattle.std.proofs.Common.{◌≡◌, ◌≢◌, ◌<◌, ℕ, ◌+◌, ◌-◌, List, Bool, true, false, not, ◌&&◌, ◌||◌, Option, None, Some, length, map, refl, sym, ◌∙◌, ap, subst, inl, inr, arith}
 use Rattle.std.specs.Prelude.{slice_index, slice_get, nat_le, nat_lt, All, AllPairs, count_by}
 use Rattle.std.proofs.lemmas.List.{length-map}
 use Rattle.std.proofs.lemmas.Option.{get_or_from_slice_get, slice_get_within, slice_get-map, same_Some}
-use Rattle.std.proofs.lemmas.Bool.{false≢true, cases_lt}
+use Rattle.std.proofs.lemmas.Bool.{false≢true, cases_lt, le-leb}
 use Rattle.std.proofs.lemmas.Bool.Decides.{nat_tests}
 use Rattle.tty_calls.specs.declared.sessions.Script.{Script}
 use Rattle.tty_calls.specs.declared.journals.Who.TheVariants.{Caller}
@@ -26,6 +26,7 @@ use Rattle.one_thread.specs.declared.after_line.Turn.TheVariants as turn
 use Rattle.one_thread.proofs.Ranks.{number_at, NothingGoesOn, caller_turn}
 use Rattle.one_thread.proofs.Entries.{numbers_same, can_same}
 use Rattle.one_thread.proofs.Counting.{at_least}
+use Rattle.journal_check.proofs.Truths.{all_four}
 
 -- ---- roles
 
@@ -78,15 +79,6 @@ rests true waits must e = refl
 rests false true must e = refl
 rests false false must e = absurd (false≢true (sym e))
 
-le_test : (n m : ℕ) → n ≤ m → nat_le n m ≡ true
-le_test n m le = grind (arith, nat_tests)
-
-pub all_four : (a b c d : Bool) → a ≡ true → b ≡ true → c ≡ true → d ≡ true → (a && (b && (c && d))) ≡ true
-all_four true true true d ea eb ec ed = ed
-all_four true true false d ea eb ec ed = absurd (false≢true ec)
-all_four true false c d ea eb ec ed = absurd (false≢true eb)
-all_four false b c d ea eb ec ed = absurd (false≢true ea)
-
 -- as many callers of the phase pass a test as it has, where each of them passes
 pub enough : (s : Scene) (scripts : List Script) (roles : List Role) (v : PortValue) (stand : Stand) (p : CallerState → Bool) → Plays s scripts roles v stand → p idle_caller ≡ false
     → ((i : ℕ) → i < length (role_numbers roles) → p (caller_at v.terminal (slice_index (role_numbers roles) i)) ≡ true) → nat_le (callers_in v.counts v.terminal.phase) (count_by p v.terminal.callers) ≡ true
@@ -97,7 +89,7 @@ enough s scripts roles v stand p plays idle all =
     let many = length-map roles (λ (r : Role). r.number) in
     let mapped = length-map roles (role_in scripts) in
     let count : callers_in v.counts v.terminal.phase ≡ length roles = ap (λ (cs : List ℕ). callers_in cs v.terminal.phase) plays.of_scene.counts ∙ (sym are.count ∙ mapped) in
-    le_test (callers_in v.counts v.terminal.phase) (count_by p v.terminal.callers) (omega arith)
+    le-leb (callers_in v.counts v.terminal.phase) (count_by p v.terminal.callers) (omega arith)
 
 pub quiet_of : (s : Scene) (scripts : List Script) (roles : List Role) (v : PortValue) (stand : Stand) → Plays s scripts roles v stand
     → NothingGoesOn (role_numbers roles) stand.going (nothing_to_flush v.terminal) v.terminal.clock_over (can_go_on (call_in v.kept) v.terminal) → quiet v.counts v.terminal ≡ true

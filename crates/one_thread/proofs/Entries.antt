@@ -1,8 +1,7 @@
 -- A port that plays a scene, with one entry more.
-use Rattle.std.proofs.Common.{◌≡◌, ◌<◌, ℕ, ◌+◌, List, [], ◌∷◌, ◌++◌, Bool, true, false, not, ◌&&◌, ◌||◌, Option, Some, if◌then◌else◌, length, map, refl, sym, ◌∙◌, ap, subst, arith}
+use Rattle.std.proofs.Common.{◌≡◌, ◌<◌, ℕ, ◌+◌, List, [], ◌∷◌, ◌++◌, Bool, true, false, not, ◌&&◌, ◌||◌, Option, Some, if◌then◌else◌, length, map, refl, sym, ◌∙◌, ap, subst}
 use Rattle.std.specs.Prelude.{slice_index, nat_le}
-use Rattle.std.proofs.lemmas.Bool.{false≢true}
-use Rattle.std.proofs.lemmas.Bool.Decides.{nat_tests}
+use Rattle.std.proofs.lemmas.Bool.{false≢true, lt-leb}
 use Rattle.tty_base.specs.declared.characters.Flagged.{Flagged}
 use Rattle.word_ring.specs.Ends.{TakerState}
 use Rattle.tty_calls.specs.declared.sessions.Script.{Script}
@@ -108,9 +107,6 @@ can_same s scripts roles v stand plays c =
     let same = kept_is s v c (caller_at v.terminal c).next plays.of_scene.known (plays.callers.kept c begun) in
     ap (λ (o : Option PlainCall). is_wait (outcome_of v.terminal (caller_at v.terminal c) o)) same)
 
-not_past : (n m : ℕ) → m < n → nat_le n m ≡ false
-not_past n m lt = grind (arith, nat_tests)
-
 third : (a b : Bool) (x y z : Who) → a ≡ false → b ≡ true → z ≡ (if a then x else if not b then y else z)
 third true b x y z e f = absurd (false≢true (sym e))
 third false true x y z e f = refl
@@ -134,7 +130,7 @@ by_turn s scripts roles v stand who plays is =
     (is ∙ ap (λ (w : Who). turn_with numbers stand.going w) (same ∙ there)) ∙ sym (plays.settled (turn_by_rank (call_at s.port s.session) (callers_of s.port s.session place.terminal.phase) place.terminal)) in
     ranked
     ∙ third (nat_le (length s.session.phases) place.terminal.phase) place.terminal.line_over Session _ _
-    (not_past (length s.session.phases) place.terminal.phase (subst (λ (t : Terminal). t.phase < length s.session.phases) (sym at) plays.within))
+    (lt-leb (length s.session.phases) place.terminal.phase (subst (λ (t : Terminal). t.phase < length s.session.phases) (sym at) plays.within))
     (ap (λ (t : Terminal). t.line_over) at ∙ plays.line)
 
 pub plays_more : (s : Scene) (scripts : List Script) (roles : List Role) (v w : PortValue) (stand now : Stand) (e : PlainEntry) → Plays s scripts roles v stand → IsMore s v w e

@@ -1,6 +1,6 @@
 -- Journals by their phases: what the walks over a journal give where it goes on.
 use Rattle.std.proofs.Common.{◌≡◌, inl, inr, ℕ, zero, suc, ◌+◌, ◌<◌, ◌≤◌, Bool, true, false, ◌&&◌, ◌==◌, if◌then◌else◌, List, [], ◌∷◌, ◌++◌, Option, length, refl, sym, ◌∙◌, ap, subst, arith, append-nil, append_assoc, length-append, zero-add, add-zero}
-use Rattle.std.proofs.lemmas.Bool.{false≢true, eq-eqb, ne_eqb}
+use Rattle.std.proofs.lemmas.Bool.{eq-eqb, ne_eqb}
 use Rattle.tty_base.specs.declared.characters.Flagged.{Flagged}
 use Rattle.tty_calls.specs.Plain.{PlainCall, PlainEvent, answered, parted, waited, flushed, ticked, line_ended, clock_ended, caller_ended, phase_ended, hung_up, PlainEntry}
 use Rattle.tty_terminal.specs.Terminals.{Terminal}
@@ -11,16 +11,11 @@ use Rattle.tty_terminal.proofs.MarkLaws.{step_marks}
 use Rattle.journal_check.specs.Legal.{line_ends, line_ends_in, session_events, session_events_in, is_phase_end, before_phase, before_line_end}
 use Rattle.journal_check.specs.Short.{is_tick, tick_count_in, after_phases}
 use Rattle.one_thread.specs.Phases.{phase_count, IsUpTo}
+use Rattle.journal_check.proofs.ReplayLemmas.{phase_same}
+use Rattle.journal_check.proofs.SeenLemmas.{no_phase_end}
+use Rattle.journal_check.proofs.Truths.{nothing_first, nothing_rest}
 
 -- ---- lists
-
-none_first : {X : Type 0} (xs ys : List X) → xs ++ ys ≡ [] → xs ≡ []
-none_first [] ys e = refl
-none_first (x ∷ xs) ys e = cc
-
-none_rest : {X : Type 0} (xs ys : List X) → xs ++ ys ≡ [] → ys ≡ []
-none_rest [] ys e = e
-none_rest (x ∷ xs) ys e = cc
 
 -- ---- phase ends
 
@@ -115,23 +110,11 @@ up_count k journal (inr (before, last, comes)) =
 
 -- ---- a part of a phase
 
-no_end : (event : PlainEvent) → session_events event ≡ [] → is_phase_end event ≡ false
-no_end (answered a dropped) h = refl
-no_end (parted taken) h = refl
-no_end waited h = refl
-no_end (flushed chars) h = refl
-no_end ticked h = refl
-no_end (line_ended n) h = refl
-no_end clock_ended h = refl
-no_end caller_ended h = refl
-no_end phase_ended h = absurd (cc)
-no_end (hung_up dropped) h = refl
-
 pub none_ends : (part : List PlainEntry) → session_events_in part ≡ [] → phase_count part ≡ 0
 none_ends [] h = refl
 none_ends (e ∷ es) h =
-    ap (λ b. (if b then 1 else 0) + phase_count es) (no_end e.event (none_first (session_events e.event) (session_events_in es) h))
-    ∙ zero-add (phase_count es) ∙ none_ends es (none_rest (session_events e.event) (session_events_in es) h)
+    ap (λ b. (if b then 1 else 0) + phase_count es) (no_phase_end e.event (nothing_first (session_events e.event) (session_events_in es) h))
+    ∙ zero-add (phase_count es) ∙ none_ends es (nothing_rest (session_events e.event) (session_events_in es) h)
 
 -- one more phase
 pub up_more : (k : ℕ) (journal part : List PlainEntry) (last : PlainEntry) → IsUpTo k journal → session_events_in part ≡ [] → last.event ≡ phase_ended → IsUpTo (k + 1) (journal ++ (part ++ last ∷ []))
@@ -149,12 +132,8 @@ up_more k journal part last up inside ends = inr (
 pub line_part : (flushes : List PlainEntry) (last : PlainEntry) (n : ℕ) (rest : List PlainEntry) → line_ends_in flushes ≡ [] → last.event ≡ line_ended n → before_line_end 0 (flushes ++ last ∷ rest) ≡ flushes
 line_part [] last n rest none ends = ap (λ (event : PlainEvent). if length (line_ends event) == 0 then last ∷ before_line_end 0 rest else []) ends
 line_part (e ∷ es) last n rest none ends =
-    ap (λ (xs : List ℕ). if length xs == 0 then e ∷ before_line_end 0 (es ++ last ∷ rest) else []) (none_first (line_ends e.event) (line_ends_in es) none)
-    ∙ ap (λ xs. e ∷ xs) (line_part es last n rest (none_rest (line_ends e.event) (line_ends_in es) none) ends)
-
-pub first_of_phase : (rest : List PlainEntry) → before_phase 0 rest ≡ []
-first_of_phase [] = refl
-first_of_phase (e ∷ es) = refl
+    ap (λ (xs : List ℕ). if length xs == 0 then e ∷ before_line_end 0 (es ++ last ∷ rest) else []) (nothing_first (line_ends e.event) (line_ends_in es) none)
+    ∙ ap (λ xs. e ∷ xs) (line_part es last n rest (nothing_rest (line_ends e.event) (line_ends_in es) none) ends)
 
 -- a journal that stops within a phase
 pub stops_within : (k n : ℕ) (journal part : List PlainEntry) → IsUpTo k journal → session_events_in part ≡ [] → k < n → after_phases n (journal ++ part) ≡ []
@@ -194,18 +173,6 @@ tick_event caller_ended step part m = sym (add-zero m.tick)
 tick_event phase_ended step part m = sym (add-zero m.tick)
 tick_event (hung_up dropped) step part m = sym (add-zero m.tick)
 
-stays_in : (event : PlainEvent) (k : ℕ) → is_phase_end event ≡ false → phase_after event k ≡ k
-stays_in (answered a dropped) k h = refl
-stays_in (parted taken) k h = refl
-stays_in waited k h = refl
-stays_in (flushed chars) k h = refl
-stays_in ticked k h = refl
-stays_in (line_ended n) k h = refl
-stays_in clock_ended k h = refl
-stays_in caller_ended k h = refl
-stays_in phase_ended k h = absurd (false≢true (sym h))
-stays_in (hung_up dropped) k h = refl
-
 and_true : (b : Bool) → (b && true) ≡ b
 and_true true = refl
 and_true false = refl
@@ -221,20 +188,20 @@ one_if b = if b then 1 else 0
 pub ticks_between : (calls : ℕ → ℕ → Option PlainCall) (counts : List ℕ) (k : ℕ) (t : Terminal) (part : List PlainEntry) (u : Terminal) → Leads calls counts t part u → session_events_in part ≡ [] → u.tick ≡ t.tick + tick_count_in k k part
 ticks_between calls counts k t [] u leads inside = ap (λ (v : Terminal). v.tick) leads ∙ sym (add-zero t.tick)
 ticks_between calls counts k t (e ∷ es) u leads inside =
-    let first = none_first (session_events e.event) (session_events_in es) inside in
-    let rest = ticks_between calls counts k (after calls t e) es u leads.1 (none_rest (session_events e.event) (session_events_in es) inside) in
+    let first = nothing_first (session_events e.event) (session_events_in es) inside in
+    let rest = ticks_between calls counts k (after calls t e) es u leads.1 (nothing_rest (session_events e.event) (session_events_in es) inside) in
     let one : (after calls t e).tick ≡ t.tick + one_if (is_tick e.event) = ap (λ (m : Marks). m.tick) (step_marks calls counts t e leads.0) ∙ tick_event e.event e.step e.part (marks_of t) in
     let here : one_if (is_tick e.event && (k == k)) ≡ one_if (is_tick e.event) = ap (λ b. one_if (is_tick e.event && b)) (eq-eqb k k refl) ∙ ap one_if (and_true (is_tick e.event)) in
-    let later : tick_count_in k (phase_after e.event k) es ≡ tick_count_in k k es = ap (λ j. tick_count_in k j es) (stays_in e.event k (no_end e.event first)) in
+    let later : tick_count_in k (phase_after e.event k) es ≡ tick_count_in k k es = ap (λ j. tick_count_in k j es) (phase_same e.event k (no_phase_end e.event first)) in
     omega (arith, rest, one, here, later)
 
 -- of other phases there are none
 pub other_ticks : (j k : ℕ) (part : List PlainEntry) → session_events_in part ≡ [] → (k ≡ j → ⊥) → tick_count_in j k part ≡ 0
 other_ticks j k [] inside h = refl
 other_ticks j k (e ∷ es) inside h =
-    let first = none_first (session_events e.event) (session_events_in es) inside in
+    let first = nothing_first (session_events e.event) (session_events_in es) inside in
     let here : one_if (is_tick e.event && (k == j)) ≡ 0 = ap (λ b. one_if (is_tick e.event && b)) (ne_eqb k j h) ∙ ap one_if (and_false (is_tick e.event)) in
-    let later : tick_count_in j (phase_after e.event k) es ≡ 0 = ap (λ i. tick_count_in j i es) (stays_in e.event k (no_end e.event first)) ∙ other_ticks j k es (none_rest (session_events e.event) (session_events_in es) inside) h in
+    let later : tick_count_in j (phase_after e.event k) es ≡ 0 = ap (λ i. tick_count_in j i es) (phase_same e.event k (no_phase_end e.event first)) ∙ other_ticks j k es (nothing_rest (session_events e.event) (session_events_in es) inside) h in
     omega (arith, here, later)
 
 pub phase_is : (event : PlainEvent) (k : ℕ) → phase_after event k ≡ (if is_phase_end event then 1 else 0) + k

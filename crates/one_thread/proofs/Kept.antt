@@ -1,11 +1,11 @@
 -- The calls that a port keeps, with one more.
 use Rattle.std.proofs.Common.{◌≡◌, ℕ, List, [], ◌∷◌, ◌++◌, Bool, true, false, ◌==◌, ◌&&◌, ◌⊎◌, Option, None, Some, if◌then◌else◌, refl, sym, ◌∙◌, ap, inl, inr}
-use Rattle.std.proofs.lemmas.Bool.{false≢true, eqb-true, eq-eqb}
+use Rattle.std.proofs.lemmas.Bool.{eqb-true, eq-eqb, and_parts}
 use Rattle.tty_calls.specs.Plain.{PlainCall}
 use Rattle.tty_terminal.specs.Runs.{Grows}
 use Rattle.port_core.specs.Ports.{PlainKept, call_in, kept_with}
 use Rattle.one_thread.specs.Turns.{IsKept}
-use Rattle.one_thread.proofs.Ranks.{if_true, if_false}
+use Rattle.journal_check.proofs.Truths.{if_false, if_true}
 
 some_same : (x y : PlainCall) → Some x ≡ Some y → x ≡ y
 some_same x y e = cc
@@ -18,16 +18,12 @@ found_case : (b : Bool) (call x : PlainCall) (rest : Option PlainCall) → (if b
 found_case true call x rest e = inl (refl, some_same call x e)
 found_case false call x rest e = inr (refl, e)
 
-both : (a b : Bool) → (a && b) ≡ true → (a ≡ true) × (b ≡ true)
-both true b e = (refl, e)
-both false b e = absurd (false≢true e)
-
 pub push_found : (ks : List PlainKept) (k : PlainKept) (c step : ℕ) (x : PlainCall) → call_in (ks ++ k ∷ []) c step ≡ Some x
     → (call_in ks c step ≡ Some x) ⊎ ((k.caller ≡ c) × (k.step ≡ step) × (k.call ≡ x))
 push_found [] k c step x e =
     elim (found_case ((k.caller == c) && (k.step == step)) k.call x None e) [
       | inl h ↦
-          let parts = both (k.caller == c) (k.step == step) h.0 in
+          let parts = and_parts (k.caller == c) (k.step == step) h.0 in
           inr (eqb-true k.caller c parts.0, eqb-true k.step step parts.1, h.1)
       | inr h ↦ absurd (none_some x h.1)
     ]

@@ -25,11 +25,12 @@ use Rattle.port_core.specs.Ports.{PortValue, IsPort, is_stuck, flush_entry}
 use Rattle.one_thread.specs.Order.{cuts_in, cuts_after, due, front_to_flush, IsInTurn}
 use Rattle.one_thread.specs.Stages.{BeginsRun, place_of}
 use Rattle.one_thread.specs.LineInside.{LineStart, steps_before, steps_of, IsInLine, KnowsTaken, SeesFrom, IsCaughtUp, IsBetweenSteps, run_after, FlushesCut}
-use Rattle.one_thread.proofs.LineLists.{if_false, true_or_false, handed_list, handed_is, handed_few, no_cut, is_cut_here, cuts_same, cuts_more, cut_is_next, loaded_since, knows_more, none_refused, refusals_see}
+use Rattle.one_thread.proofs.LineLists.{true_or_false, handed_list, handed_is, handed_few, no_cut, is_cut_here, cuts_same, cuts_more, cut_is_next, loaded_since, knows_more, none_refused, refusals_see}
 use Rattle.one_thread.proofs.AfterLine.{run_of_port}
 use Rattle.one_thread.proofs.Entries.{place_is}
 use Rattle.one_thread.proofs.LineTurns.{front_taken, front_live, due_at, flush_in_turn}
-use Rattle.one_thread.proofs.LineSteps.{empty_is, on_true, on_false, StepsTo, in_line_steps, sent_met, knows_met, in_line_met, terminal_is, in_line_flushed, run_flushed, cuts_flushed_is, stuck_flushed, not_stuck}
+use Rattle.one_thread.proofs.LineSteps.{empty_is, StepsTo, in_line_steps, sent_met, knows_met, in_line_met, terminal_is, in_line_flushed, run_flushed, cuts_flushed_is, stuck_flushed, not_stuck}
+use Rattle.journal_check.proofs.Truths.{if_false, on_false, on_true}
 
 run_met : (run : ℕ) (v : PortValue) (putter : PutterState Flagged) → BeginsRun run v → BeginsRun run (record v { flip = after_meeting v.flip putter })
 run_met run v putter r = record { follows = r.follows; below = r.below; few = r.few }

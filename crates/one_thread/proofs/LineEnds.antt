@@ -1,9 +1,9 @@
 -- How the line of a phase begins, ends, and stops at a full journal.
-use Rattle.std.proofs.Common.{◌≡◌, ◌⊎◌, ℕ, ◌+◌, ◌<◌, ◌≤◌, Bool, true, false, ◌||◌, ◌==◌, List, [], ◌∷◌, ◌++◌, length, get_or, reverse, refl, sym, ◌∙◌, ap, subst, arith, append_assoc, append-nil, length-append, inl, inr, Option, Some, IsTrue}
+use Rattle.std.proofs.Common.{◌≡◌, ◌⊎◌, ℕ, ◌+◌, ◌<◌, ◌≤◌, true, ◌==◌, List, [], ◌∷◌, ◌++◌, length, get_or, reverse, refl, sym, ◌∙◌, ap, subst, arith, append_assoc, append-nil, length-append, inl, inr, Option, Some, IsTrue}
 use Rattle.std.specs.List.{All}
 use mathlib.Core.List.{IsPrefix}
 use Rattle.std.proofs.lemmas.Bool.Decides.{nat_tests}
-use Rattle.std.proofs.lemmas.Bool.{false≢true}
+use Rattle.std.proofs.lemmas.Bool.{false≢true, or_cases}
 use Rattle.std.proofs.lemmas.List.Elements.{All-nil, All-push}
 use Rattle.tty_base.specs.declared.characters.Flagged.{Flagged}
 use Rattle.tty_base.specs.declared.lines.LineStep.{LineStep}
@@ -31,16 +31,13 @@ use Rattle.one_thread.specs.Roles.{Scene}
 use Rattle.one_thread.specs.Stages.{IsOfScene, BeginsRun, RunsBelow, IsAfterLine, caller_at_rest, place_of}
 use Rattle.one_thread.specs.Lines.{HasPut, IsAtPhase, SeesIn, PlaysLine, StopsInLine, StopsLine}
 use Rattle.one_thread.specs.LineInside.{LineStart, steps_before, steps_of, IsInLine, SeesFrom, IsCaughtUp, IsBetweenSteps, DeniesCut}
-use Rattle.one_thread.proofs.LineLists.{no_cut_left, script_of_next, All_later, overruns_see_most}
+use Rattle.one_thread.proofs.LineLists.{no_cut_left, All_later, overruns_see_most}
 use Rattle.one_thread.proofs.Places.{in_phases_more, place_more, turns_more}
 use Rattle.one_thread.proofs.AfterLine.{run_of_port}
 use Rattle.one_thread.proofs.Entries.{place_is}
 use Rattle.one_thread.proofs.LineTurns.{front_stuck, front_of_none, due_at, line_in_turn}
 use Rattle.one_thread.proofs.LineSteps.{sent_met, knows_met, has_put_met, has_put_at, in_line_met, StepsTo, in_line_steps}
-
-either_of : (a b : Bool) → (a || b) ≡ true → (a ≡ true) ⊎ (b ≡ true)
-either_of true b h = inl refl
-either_of false b h = inr h
+use Rattle.journal_check.proofs.ReceiptLemmas.{first_more}
 
 same_number : (m n : ℕ) → (m == n) ≡ true → m ≡ n
 same_number m n h = grind (arith, nat_tests)
@@ -88,7 +85,7 @@ module _ (s : Scene) (v : PortValue) (putter met : PutterState Flagged) (line : 
       }
 
   open_or_stuck_first : (nothing_to_flush v.terminal ≡ true) → IsCaughtUp (start_of s v line) v met [] [] ⊎ (is_stuck v.terminal ≡ true)
-  open_or_stuck_first h = elim (either_of (v.terminal.taken == v.terminal.sent) (is_stuck v.terminal) h) [ inl all ↦ inl (open_first all) | inr stuck ↦ inr stuck ]
+  open_or_stuck_first h = elim (or_cases (v.terminal.taken == v.terminal.sent) (is_stuck v.terminal) h) [ inl all ↦ inl (open_first all) | inr stuck ↦ inr stuck ]
 
   pub begins_line : IsBetweenSteps (start_of s v line) (record v { flip = after_meeting v.flip putter }) met line [] run
   begins_line =
@@ -126,7 +123,7 @@ stops_in_line b v putter line steps left script i full = record {
   capacity = i.capacity;
   steps = steps_before b ++ steps;
   left = left;
-  script = script_of_next b.scene.port b.scene.session b.phase i.within ∙ ap (λ (l : List LineStep). steps_before b ++ l) script ∙ sym (append_assoc (steps_before b) steps left);
+  script = first_more b.scene.port b.scene.session b.phase i.within ∙ ap (λ (l : List LineStep). steps_before b ++ l) script ∙ sym (append_assoc (steps_before b) steps left);
   has_put = i.has_put;
 }
 
@@ -224,7 +221,7 @@ module _ (b : LineStart) (v w : PortValue) (putter now : PutterState Flagged) (l
 
   has_put_end : HasPut w now line (script_of_first b.scene.port b.scene.session (b.phase + 1))
   has_put_end =
-      subst (λ (l : List LineStep). HasPut w now line l) (sym (script_of_next b.scene.port b.scene.session b.phase i.in_line.within))
+      subst (λ (l : List LineStep). HasPut w now line l) (sym (first_more b.scene.port b.scene.session b.phase i.in_line.within))
       (has_put_at v w now line (steps_before b ++ steps_of b) (ap (λ (f : TakerState Flagged). f.ring) x.flip) (ap (λ (f : TakerState Flagged). f.capacity) x.flip)
       (has_put_met v putter now line (steps_before b ++ steps_of b) i.in_line.has_put x.meets))
 
@@ -238,7 +235,7 @@ module _ (b : LineStart) (v w : PortValue) (putter now : PutterState Flagged) (l
       let low = i.seen j d lt in
       let high = mine j d lt in
       let reach : length (received_list (steps_before b ++ steps_of b)) ≡ received_before b.scene.port b.scene.session (b.phase + 1) =
-      ap (λ (l : List LineStep). length (received_list l)) (sym (script_of_next b.scene.port b.scene.session b.phase i.in_line.within)) in
+      ap (λ (l : List LineStep). length (received_list l)) (sym (first_more b.scene.port b.scene.session b.phase i.in_line.within)) in
       record {
         from = low.from;
         below = omega (arith, low.below, reach);

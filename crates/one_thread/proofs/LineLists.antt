@@ -1,31 +1,22 @@
 -- What a step of a line hands over: the characters of one cut, or none.
-use Rattle.std.proofs.Common.{◌≡◌, ◌⊎◌, ℕ, suc, ◌+◌, ◌<◌, ◌≤◌, Bool, true, false, nat_lt, if◌then◌else◌, List, [], ◌∷◌, ◌++◌, length, take, get_or, map, reverse, refl, sym, ◌∙◌, ap, subst, arith, append_assoc, append-nil, length-append, length-take, inl, inr}
+use Rattle.std.proofs.Common.{◌≡◌, ◌⊎◌, ℕ, suc, ◌+◌, ◌<◌, ◌≤◌, Bool, true, false, nat_lt, if◌then◌else◌, List, [], ◌∷◌, ◌++◌, length, take, get_or, reverse, refl, sym, ◌∙◌, ap, subst, arith, append_assoc, append-nil, length-append, length-take, inl, inr}
 use Rattle.std.specs.List.{All}
 use Rattle.std.specs.List.Sorted.{IsNonDecreasing}
 use Rattle.std.proofs.lemmas.Bool.Decides.{nat_tests}
-use Rattle.std.proofs.lemmas.List.{reverse-append, append_cancel_left, get_or-append-add, get_or_past, take_more, map_push}
+use Rattle.std.proofs.lemmas.List.{reverse-append, append_cancel_left, get_or-append-add, get_or_past}
 use Rattle.std.proofs.lemmas.List.Elements.{All-nil, All-cons, All-head, All-tail, All-weaker}
 use Rattle.tty_base.specs.declared.characters.Flagged.{Flagged}
 use Rattle.tty_base.specs.declared.lines.LineStep.{LineStep}
 use Rattle.tty_base.specs.declared.lines.Overrun.{Overrun}
 use Rattle.tty_base.specs.Lines.{arrival}
-use Rattle.tty_calls.specs.Sessions.{PlainPhase, PlainSession, line_on}
-use Rattle.uart_line.specs.Received.{is_cut, window, window_output, overrun_mark, received_list, waiting_list, closed_script, script}
+use Rattle.uart_line.specs.Received.{is_cut, window, window_output, overrun_mark, received_list, waiting_list}
 use Rattle.uart_line.specs.Offered.{PutAnswer, accepts, refuses, accepted_list, overrun_list, IsFullAt, AreAmong, HandsOver}
 use Rattle.uart_line.proofs.Steps.{cut_after, received_list-step}
-use Rattle.journal_check.specs.Legal.{phase_at, script_of_first}
 use Rattle.one_thread.specs.Order.{cuts_after}
 use Rattle.one_thread.specs.LineInside.{KnowsTaken, SeesFrom}
+use Rattle.journal_check.proofs.Truths.{if_false, if_true}
 
 -- ---- choices
-
-pub if_true : {A : Type 0} (b : Bool) (x y : A) → b ≡ true → (if b then x else y) ≡ x
-if_true true x y h = refl
-if_true false x y h = absurd (cc)
-
-pub if_false : {A : Type 0} (b : Bool) (x y : A) → b ≡ false → (if b then x else y) ≡ y
-if_false true x y h = absurd (cc)
-if_false false x y h = refl
 
 pub true_or_false : (b : Bool) → (b ≡ true) ⊎ (b ≡ false)
 true_or_false true = inl refl
@@ -154,18 +145,6 @@ pub no_cut_left : (cuts : List (List Flagged)) (n : ℕ) → n ≡ length cuts �
 no_cut_left cuts n e = get_or_past cuts n [] (omega arith)
 
 -- ---- the script of the phases
-
-script_more : (phases : List (List LineStep)) (steps : List LineStep) → script (phases ++ steps ∷ []) ≡ script phases ++ closed_script steps
-unfolding script
-script_more [] steps = append-nil (closed_script steps)
-script_more (x ∷ phases) steps = ap (λ (r : List LineStep). closed_script x ++ r) (script_more phases steps) ∙ sym (append_assoc (closed_script x) (script phases) (closed_script steps))
-
-pub script_of_next : (p : ℕ) (session : PlainSession) (k : ℕ) → k < length session.phases
-    → script_of_first p session (k + 1) ≡ script_of_first p session k ++ closed_script (line_on p (phase_at session k))
-script_of_next p session k h =
-    ap (λ (phases : List PlainPhase). script (map (line_on p) phases)) (take_more session.phases k (record { lines = []; ticks = []; callers = [] }) h)
-    ∙ ap script (map_push (line_on p) (take k session.phases) (phase_at session k))
-    ∙ script_more (map (line_on p) (take k session.phases)) (line_on p (phase_at session k))
 
 -- ---- heads
 

@@ -1,5 +1,5 @@
 -- What a step of a line, and a flush after it, come to.
-use Rattle.std.proofs.Common.{◌≡◌, ℕ, ◌+◌, ◌-◌, ◌^◌, ◌<◌, ◌≤◌, Bool, true, false, not, ◌||◌, ◌&&◌, ◌==◌, List, [], ◌∷◌, ◌++◌, length, get_or, refl, sym, ◌∙◌, ap, subst, arith, append_assoc, append-nil, length-append, Option, Some, IsTrue, MatchBool}
+use Rattle.std.proofs.Common.{◌≡◌, ℕ, ◌+◌, ◌-◌, ◌^◌, ◌<◌, ◌≤◌, Bool, true, false, not, ◌||◌, ◌&&◌, ◌==◌, List, [], ◌∷◌, ◌++◌, length, get_or, refl, sym, ◌∙◌, ap, subst, arith, append_assoc, append-nil, length-append, Option, Some, IsTrue}
 use Rattle.std.specs.List.{flat_map}
 use Rattle.std.specs.List.Sorted.{IsNonDecreasing}
 use Rattle.std.proofs.lemmas.Bool.Decides.{nat_tests}
@@ -33,8 +33,8 @@ use Rattle.one_thread.specs.Roles.{Scene}
 use Rattle.one_thread.specs.Stages.{IsOfScene, BeginsRun, RunsBelow, place_of}
 use Rattle.one_thread.specs.Lines.{HasPut}
 use Rattle.one_thread.specs.LineInside.{LineStart, steps_before, IsInLine, KnowsTaken}
-use Rattle.one_thread.proofs.LineLists.{if_false}
 use Rattle.one_thread.proofs.Places.{in_phases_more, place_more, turns_more}
+use Rattle.journal_check.proofs.Truths.{if_false}
 
 -- ---- small facts
 
@@ -48,14 +48,6 @@ or_true false = refl
 
 pub no_more_of : {A : Type 0} (f : PlainEntry → List A) (es : List PlainEntry) (e : PlainEntry) → flat_map f es ≡ [] → f e ≡ [] → flat_map f (es ++ e ∷ []) ≡ []
 no_more_of f es e h k = sym (flat_map_more f [] es e) ∙ (λ i. h i ++ k i)
-
-pub on_true : (b : Bool) (A B : Type 0) → b ≡ true → MatchBool b A B → A
-on_true true A B h k = k
-on_true false A B h k = absurd (cc)
-
-pub on_false : (b : Bool) (A B : Type 0) → b ≡ false → MatchBool b A B → B
-on_false true A B h k = absurd (cc)
-on_false false A B h k = k
 
 -- rings of one name are one ring
 names_tell : NamesTellRings

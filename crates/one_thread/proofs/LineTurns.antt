@@ -10,7 +10,7 @@ use Rattle.tty_terminal.specs.Terminals.{Terminal, live_count}
 use Rattle.tty_terminal.specs.Receiving.{accepts, after_character, after_characters, AcceptsAll}
 use Rattle.port_core.specs.Ports.{is_stuck}
 use Rattle.one_thread.specs.Order.{Place, cuts_in, accepted_front, front_to_flush, due, turn, turn_after, turn_by_rank, callers_of, IsInTurn}
-use Rattle.one_thread.proofs.LineLists.{if_true, if_false}
+use Rattle.journal_check.proofs.Truths.{if_false, if_true}
 
 -- ---- what is due
 

@@ -3,46 +3,20 @@ use Rattle.std.proofs.Common.{◌≡◌, ◌⊎◌, inl, inr, ℕ, zero, suc, �
 use Rattle.std.specs.Prelude.{slice_get, slice_index_or, fold}
 use Rattle.std.specs.List.{list_any, position_from}
 use Rattle.std.specs.Str.{bytes_eq}
-use Rattle.std.proofs.lemmas.Bool.{false≢true}
+use Rattle.std.proofs.lemmas.Bool.{false≢true, or_cases, or_left, or_parts, or_right}
 use Rattle.std.proofs.lemmas.List.{length-map}
 use Rattle.std.proofs.lemmas.List.Folds.{list_any-append}
-use Rattle.std.proofs.lemmas.List.Quantifiers.{position-Some}
 use Rattle.std.proofs.lemmas.Iterator.Adapters.{position_from-zero}
 use Rattle.std.proofs.lemmas.Slice.Eq.{bytes_eq-Decides}
 use Rattle.tty_calls.specs.Plain.{PlainCall}
 use Rattle.tty_calls.specs.Sessions.{PlainScript, with_name, names_of, number_in, calls_under}
+use Rattle.journal_check.proofs.NameLemmas.{any_at, last_cases, names_few, not_there, same_name}
+use Rattle.journal_check.proofs.TurnLemmas.{at_number}
 
 -- ---- names
 
-pub same_name : (name : List ℕ) → bytes_eq name name ≡ true
-same_name name = (bytes_eq-Decides name name).1 refl
-
 pub eq_name : (a b : List ℕ) → bytes_eq a b ≡ true → a ≡ b
 eq_name a b h = (bytes_eq-Decides a b).0 h
-
-other_way : (a b : List ℕ) (c : Bool) → bytes_eq a b ≡ c → bytes_eq b a ≡ c
-other_way a b true h = (bytes_eq-Decides b a).1 (sym (eq_name a b h))
-other_way a b false h = not_true (bytes_eq b a) (λ k. false≢true (sym h ∙ (bytes_eq-Decides a b).1 (sym (eq_name b a k))))
-  where
-    not_true : (b : Bool) → (b ≡ true → ⊥) → b ≡ false
-    not_true true h = absurd (h refl)
-    not_true false h = refl
-
-pub or_left : (a b : Bool) → a ≡ true → (a || b) ≡ true
-or_left true b h = refl
-or_left false b h = absurd (false≢true h)
-
-pub or_right : (a b : Bool) → b ≡ true → (a || b) ≡ true
-or_right true b h = refl
-or_right false b h = h
-
-pub either_of : (a b : Bool) → (a || b) ≡ true → (a ≡ true) ⊎ (b ≡ true)
-either_of true b h = inl refl
-either_of false b h = inr h
-
-pub neither_of : (a b : Bool) → (a || b) ≡ false → (a ≡ false) × (b ≡ false)
-neither_of true b h = absurd (false≢true (sym h))
-neither_of false b h = (refl, h)
 
 -- ---- places
 
@@ -56,27 +30,11 @@ get_at [] i d h = absurd (omega (arith, h))
 get_at (x ∷ xs) zero d h = refl
 get_at (x ∷ xs) (suc i) d h = get_at xs i d (omega (arith, h))
 
-pub get_append : {X : Type 0} (xs ys : List X) (i : ℕ) (x : X) → slice_get xs i ≡ Some x → slice_get (xs ++ ys) i ≡ Some x
-get_append [] ys i x h = absurd (cc)
-get_append (y ∷ xs) ys zero x h = h
-get_append (y ∷ xs) ys (suc i) x h = get_append xs ys i x h
-
-pub get_past : {X : Type 0} (xs ys : List X) (j i : ℕ) → j ≡ length xs + i → slice_get (xs ++ ys) j ≡ slice_get ys i
-get_past [] ys j i e = let same : j ≡ i = omega (arith, e) in ap (λ n. slice_get ys n) same
-get_past (x ∷ xs) ys zero i e = absurd (omega (arith, e))
-get_past (x ∷ xs) ys (suc j) i e = get_past xs ys j i (omega (arith, e))
-
-last_cases : (ns : List (List ℕ)) (name : List ℕ) (c : ℕ) (x : List ℕ) → slice_get (ns ++ name ∷ []) c ≡ Some x → (slice_get ns c ≡ Some x) ⊎ ((c ≡ length ns) × (name ≡ x))
-last_cases [] name zero x h = inr (refl, cc)
-last_cases [] name (suc c) x h = absurd (cc)
-last_cases (y ∷ ns) name zero x h = inl h
-last_cases (y ∷ ns) name (suc c) x h = elim (last_cases ns name c x h) [ inl p ↦ inl p | inr p ↦ inr (ap (λ n. suc n) p.0, p.1) ]
-
 -- ---- the number of a name
 
 some_place : (p : List ℕ → Bool) (i : ℕ) (ns : List (List ℕ)) → list_any p ns ≡ true → (n : ℕ) × (position_from p i ns ≡ Some n)
 some_place p i [] h = absurd (false≢true h)
-some_place p i (x ∷ ns) h = elim (either_of (p x) (list_any p ns) h) [
+some_place p i (x ∷ ns) h = elim (or_cases (p x) (list_any p ns) h) [
   | inl yes_ ↦ (i, ap (λ b. cond b (Some i) (position_from p (i + 1) ns)) yes_)
   | inr later ↦ first_or (p x) i (position_from p (i + 1) ns) (some_place p (i + 1) ns later)
 ]
@@ -91,23 +49,9 @@ has_number ns name h =
     let found = some_place (bytes_eq name) 0 ns h in
     (found.0, position_from-zero (bytes_eq name) ns ∙ found.1)
 
--- which is its place
-pub number_is_place : (ns : List (List ℕ)) (name : List ℕ) (n : ℕ) → number_in ns name ≡ Some n → slice_get ns n ≡ Some name
-number_is_place ns name n h =
-    let at = position-Some (bytes_eq name) ns n [] h in
-    get_at ns n [] at.0 ∙ ap (λ (x : List ℕ). Some x) (sym (eq_name name (slice_index_or ns n []) at.1))
-
-any_at : (ns : List (List ℕ)) (name : List ℕ) (c : ℕ) → slice_get ns c ≡ Some name → list_any (bytes_eq name) ns ≡ true
-any_at [] name c h = absurd (cc)
-any_at (y ∷ ns) name zero h = let same : name ≡ y = cc in or_left (bytes_eq name y) (list_any (bytes_eq name) ns) ((bytes_eq-Decides name y).1 same)
-any_at (y ∷ ns) name (suc c) h = or_right (bytes_eq name y) (list_any (bytes_eq name) ns) (any_at ns name c h)
-
 -- no name has two places
 pub record HasOwnPlaces (ns : List (List ℕ)) : Type 0 where
   pub one_place : (c d : ℕ) (x : List ℕ) → slice_get ns c ≡ Some x → slice_get ns d ≡ Some x → c ≡ d
-
-not_there : (ns : List (List ℕ)) (name : List ℕ) (c : ℕ) → list_any (bytes_eq name) ns ≡ false → slice_get ns c ≡ Some name → ⊥
-not_there ns name c none h = false≢true (sym none ∙ any_at ns name c h)
 
 two_places : (ns : List (List ℕ)) (name : List ℕ) (c d : ℕ) (x : List ℕ) → HasOwnPlaces ns → list_any (bytes_eq name) ns ≡ false → (slice_get ns c ≡ Some x) ⊎ ((c ≡ length ns) × (name ≡ x)) → (slice_get ns d ≡ Some x) ⊎ ((d ≡ length ns) × (name ≡ x)) → c ≡ d
 two_places ns name c d x h none (inl p) (inl q) = h.one_place c d x p q
@@ -130,7 +74,7 @@ own_places scripts = names_own scripts [] (record { one_place = λ c d x p q. ab
 pub number_at : (scripts : List PlainScript) (name : List ℕ) (c : ℕ) → slice_get (names_of scripts) c ≡ Some name → number_in (names_of scripts) name ≡ Some c
 number_at scripts name c h =
     let found = has_number (names_of scripts) name (any_at (names_of scripts) name c h) in
-    found.1 ∙ ap (λ (n : ℕ). Some n) ((own_places scripts).one_place found.0 c name (number_is_place (names_of scripts) name found.0 found.1) h)
+    found.1 ∙ ap (λ (n : ℕ). Some n) ((own_places scripts).one_place found.0 c name (at_number (names_of scripts) name found.0 found.1) h)
 
 -- ---- scripts by name
 
@@ -151,7 +95,7 @@ named_there false ns name is = list_any-append (bytes_eq name) ns (name ∷ []) 
 
 names_have : (scripts : List PlainScript) (ns : List (List ℕ)) (x : List ℕ) → has_name scripts x ≡ true → list_any (bytes_eq x) (fold (λ names s. with_name names s.name) ns scripts) ≡ true
 names_have [] ns x h = absurd (false≢true h)
-names_have (s ∷ ss) ns x h = elim (either_of (bytes_eq s.name x) (has_name ss x) h) [
+names_have (s ∷ ss) ns x h = elim (or_cases (bytes_eq s.name x) (has_name ss x) h) [
   | inl here ↦ subst (λ (y : List ℕ). list_any (bytes_eq y) (fold (λ names s. with_name names s.name) (with_name ns s.name) ss) ≡ true) (eq_name s.name x here)
       (names_keep ss (with_name ns s.name) s.name (named_there (list_any (bytes_eq s.name) ns) ns s.name refl))
   | inr later ↦ names_have ss (with_name ns s.name) x later
@@ -160,15 +104,6 @@ names_have (s ∷ ss) ns x h = elim (either_of (bytes_eq s.name x) (has_name ss 
 -- the name of a script has a number
 pub script_has_number : (scripts : List PlainScript) (name : List ℕ) → has_name scripts name ≡ true → (n : ℕ) × (number_in (names_of scripts) name ≡ Some n)
 script_has_number scripts name h = has_number (names_of scripts) name (names_have scripts [] name h)
-
--- there are no more names than scripts
-named_few : (b : Bool) (ns : List (List ℕ)) (name : List ℕ) → length (if b then ns else ns ++ name ∷ []) ≤ length ns + 1
-named_few true ns name = omega arith
-named_few false ns name = omega (arith, length-append ns (name ∷ []))
-
-names_few : (scripts : List PlainScript) (ns : List (List ℕ)) → length (fold (λ names s. with_name names s.name) ns scripts) ≤ length ns + length scripts
-names_few [] ns = omega arith
-names_few (s ∷ ss) ns = omega (arith, names_few ss (with_name ns s.name), named_few (list_any (bytes_eq s.name) ns) ns s.name)
 
 pub few_names : (scripts : List PlainScript) → length (names_of scripts) ≤ length scripts
 few_names scripts = let few : length (names_of scripts) ≤ 0 + length scripts = names_few scripts [] in omega arith
@@ -221,7 +156,7 @@ own_names scripts h =
 pub no_calls : (scripts : List PlainScript) (name : List ℕ) → has_name scripts name ≡ false → calls_under name scripts ≡ []
 no_calls [] name h = refl
 no_calls (s ∷ ss) name h =
-    let none = neither_of (bytes_eq s.name name) (has_name ss name) h in
+    let none = or_parts (bytes_eq s.name name) (has_name ss name) h in
     ap (λ b. (if b then s.calls else []) ++ calls_under name ss) none.0 ∙ no_calls ss name none.1
 
 pub has_at : (scripts : List PlainScript) (k : ℕ) (x : PlainScript) → k < length scripts → slice_index_or scripts k x ≡ x → has_name scripts x.name ≡ true

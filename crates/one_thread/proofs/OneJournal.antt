@@ -3,7 +3,7 @@ use Rattle.std.proofs.Common.{◌≡◌, ◌≤◌, ℕ, ◌+◌, List, [], ◌�
 use Rattle.std.specs.Prelude.{nat_le, IsTrue, MatchBool}
 use Rattle.std.proofs.lemmas.List.{append_cancel_left}
 use Rattle.std.proofs.lemmas.List.Concat.{flat_map-append}
-use Rattle.std.proofs.lemmas.Bool.{eq-eqb}
+use Rattle.std.proofs.lemmas.Bool.{eq-eqb, le-leb}
 use Rattle.std.proofs.lemmas.Bool.Decides.{nat_tests}
 use Rattle.tty_base.specs.declared.characters.Flagged.{Flagged}
 use Rattle.tty_base.specs.declared.lines.Overrun.{Overrun}
@@ -21,9 +21,9 @@ use Rattle.tty_terminal.specs.Runs.{Leads, chars_in, chars_of, phase_after}
 use Rattle.journal_check.proofs.PhaseLemmas.{phase-after}
 use Rattle.journal_check.specs.Legal.{phase_at, ClockMark, clock_ends, clock_marks, clock_marks_in, line_ends, line_ends_in, session_events, session_events_in, ticks_of, sent_by, script_on, IsInPhase, AreInPhases, IsFinishedFrom, IsLegal, IsLegalOn}
 use Rattle.one_thread.specs.Order.{Place, first_place, next_place, is_after_flush, IsPieceOf, IsInTurn, AreInTurn, IsInOneOrder}
-use Rattle.one_thread.proofs.Ranks.{if_true}
 use Rattle.one_thread.proofs.Places.{phase_from}
 use Rattle.one_thread.proofs.TheEntry.{the_event, coming_with, event_is}
+use Rattle.journal_check.proofs.Truths.{if_true, nothing_first, nothing_rest}
 
 -- ---- step and part
 
@@ -162,15 +162,12 @@ session_hangs who k n calls counts t step part caller_ended h is past within = a
 session_hangs who k n calls counts t step part phase_ended h is past within = absurd (omega arith)
 session_hangs who k n calls counts t step part (hung_up dropped) h is past within = omega arith
 
-at_most_test : (n m : ℕ) → n ≤ m → nat_le n m ≡ true
-at_most_test n m le = grind (arith, nat_tests)
-
 nothing_more : (p : ℕ) (session : PlainSession) (s : Place) (e : PlainEntry) (es : List PlainEntry) → IsRest p session s [] → IsRest p session s (e ∷ es) → hangs (e ∷ es) ≡ 0 → ⊥
 nothing_more p session s e es h h' none =
     let end : s.terminal.phase ≡ length session.phases = h.ends in
     let may = may_come p session s e es h' in
     let past : length session.phases ≤ s.terminal.phase = omega arith in
-    let is : e.who ≡ Session = may.in_turn.by_turn ∙ if_true (nat_le (length session.phases) s.terminal.phase) Session _ (at_most_test (length session.phases) s.terminal.phase past) in
+    let is : e.who ≡ Session = may.in_turn.by_turn ∙ if_true (nat_le (length session.phases) s.terminal.phase) Session _ (le-leb (length session.phases) s.terminal.phase past) in
     let some = session_hangs e.who s.terminal.phase (length session.phases) (call_at p session) (counts_on p session) s.terminal e.step e.part e.event may.allowed.1 is past may.within in
     absurd (omega arith)
 
@@ -215,14 +212,6 @@ record Comes (p : ℕ) (session : PlainSession) (overruns : List Overrun) (k : �
   hangups : hangs journal ≡ 1
   ends : (m : ℕ) → phase_from m journal ≡ m + length phases
 
-none_before : {X : Type 0} (xs ys : List X) → xs ++ ys ≡ [] → xs ≡ []
-none_before [] ys e = refl
-none_before (x ∷ xs) ys e = cc
-
-none_later : {X : Type 0} (xs ys : List X) → xs ++ ys ≡ [] → ys ≡ []
-none_later [] ys e = e
-none_later (x ∷ xs) ys e = cc
-
 quiet_event : (event : PlainEvent) → session_events event ≡ [] → (hang_of event ≡ 0) × ((m : ℕ) → phase_after event m ≡ m)
 quiet_event (answered a dropped) e = (refl, λ m. refl)
 quiet_event (parted n) e = (refl, λ m. refl)
@@ -238,8 +227,8 @@ quiet_event (hung_up dropped) e = absurd (cc)
 quiet_part : (part rest : List PlainEntry) → session_events_in part ≡ [] → (hangs (part ++ rest) ≡ hangs rest) × ((m : ℕ) → phase_from m (part ++ rest) ≡ phase_from m rest)
 quiet_part [] rest e = (refl, λ m. refl)
 quiet_part (x ∷ part) rest e =
-    let here = quiet_event x.event (none_before (session_events x.event) (session_events_in part) e) in
-    let later = quiet_part part rest (none_later (session_events x.event) (session_events_in part) e) in
+    let here = quiet_event x.event (nothing_first (session_events x.event) (session_events_in part) e) in
+    let later = quiet_part part rest (nothing_rest (session_events x.event) (session_events_in part) e) in
     let none = here.0 in
     let same = later.0 in
     let sum_is : hang_of x.event + hangs (part ++ rest) ≡ hangs rest = omega arith in

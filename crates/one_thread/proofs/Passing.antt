@@ -1,9 +1,9 @@
 -- Entries of no caller: a tick, the end of the clock, and a flush.
-use Rattle.std.proofs.Common.{◌≡◌, ◌≤◌, ◌<◌, ℕ, ◌+◌, ◌-◌, zero, suc, ◌≢◌, List, [], ◌∷◌, ◌++◌, Bool, true, false, not, ◌==◌, ◌&&◌, ◌||◌, ◌⊎◌, Option, None, Some, length, map, min, refl, sym, ◌∙◌, ap, subst, inl, inr, arith}
-use Rattle.std.specs.Prelude.{slice_get, IsTrue, MatchBool}
+use Rattle.std.proofs.Common.{◌≡◌, ◌≤◌, ◌<◌, ℕ, ◌+◌, ◌-◌, zero, suc, ◌≢◌, List, [], ◌∷◌, ◌++◌, Bool, true, false, not, ◌==◌, ◌||◌, ◌⊎◌, Option, None, Some, length, map, min, refl, sym, ◌∙◌, ap, subst, inl, inr, arith}
+use Rattle.std.specs.Prelude.{slice_get, IsTrue}
 use Rattle.std.proofs.lemmas.List.{length-append}
 use Rattle.std.proofs.lemmas.List.Elements.{All-push, All-weaker, All-head, All-tail}
-use Rattle.std.proofs.lemmas.Bool.{false≢true, eqb-true, eq-eqb, cases_lt}
+use Rattle.std.proofs.lemmas.Bool.{false≢true, eqb-true, eq-eqb, cases_lt, and_parts, or_right}
 use Rattle.std.proofs.lemmas.Bool.Decides.{nat_tests}
 use Rattle.tty_base.specs.declared.characters.Flagged.{Flagged}
 use Rattle.tty_calls.specs.declared.sessions.Script.{Script}
@@ -32,8 +32,9 @@ use Rattle.one_thread.specs.Turns.{role_numbers, turn_with, IsTurn, standing_at,
 use Rattle.one_thread.specs.declared.roles.Role.{Role}
 use Rattle.one_thread.specs.declared.after_line.Stand.{Stand}
 use Rattle.one_thread.specs.declared.after_line.Turn.TheVariants as turn
-use Rattle.one_thread.proofs.Ranks.{if_true, clock_turn, flusher_turn}
+use Rattle.one_thread.proofs.Ranks.{clock_turn, flusher_turn}
 use Rattle.one_thread.proofs.Entries.{IsMore, more_of, place_is, plays_more}
+use Rattle.journal_check.proofs.Truths.{if_true, when_true}
 
 -- ---- flush runs
 
@@ -64,16 +65,12 @@ runs_rest v w before run part e runs more same other =
       after_flush = other;
     }
 
-both_true : (a b : Bool) → (a && b) ≡ true → (a ≡ true) × (b ≡ true)
-both_true true b e = (refl, e)
-both_true false b e = absurd (false≢true e)
-
 no_piece : (run generation : ℕ) (journal : List PlainEntry) → RunsBelow run journal → RunHas run generation journal
 no_piece run generation [] h = tt
 no_piece run generation (e ∷ es) h =
     let P : PlainEntry → Type 0 = λ x. IsTrue (is_flush x.event) → x.step < run in (
       (λ f.
-          let both = both_true (is_flush e.event) (e.step == run) f in
+          let both = and_parts (is_flush e.event) (e.step == run) f in
           let lt : e.step < run = All-head P e es h both.0 in
           let same : e.step ≡ run = eqb-true e.step run both.1 in
           absurd (omega arith)),
@@ -181,17 +178,13 @@ runs_flush v w before run part chars runs more latest same =
 pub flush_turn_of : (v : PortValue) (numbers : List ℕ) (going : Option ℕ) → IsTurn v numbers going turn.Flush → (going ≡ None) × (nothing_to_flush v.terminal ≡ false)
 flush_turn_of v numbers going is = flusher_turn numbers going (nothing_to_flush v.terminal) v.terminal.clock_over (can_go_on (call_in v.kept) v.terminal) (is_waiting v.terminal) is.who
 
-or_true : (a b : Bool) → b ≡ true → (a || b) ≡ true
-or_true true b e = refl
-or_true false b e = e
-
 most_case : (len taken sent : ℕ) (accepting : Bool) → ((len ≡ 64) ⊎ ((taken + len ≡ sent) ⊎ (accepting ≡ false))) → ((len == 64) || ((taken + len == sent) || not accepting)) ≡ true
 most_case len taken sent accepting h =
     elim h [
       | inl e ↦ ap (λ (b : Bool). b || ((taken + len == sent) || not accepting)) (eq-eqb len 64 e)
-      | inr k ↦ or_true (len == 64) _ (elim k [
+      | inr k ↦ or_right (len == 64) _ (elim k [
         | inl e ↦ ap (λ (b : Bool). b || not accepting) (eq-eqb (taken + len) sent e)
-        | inr e ↦ or_true (taken + len == sent) _ (ap (λ (b : Bool). not b) e)
+        | inr e ↦ or_right (taken + len == sent) _ (ap (λ (b : Bool). not b) e)
       ])
     ]
 
@@ -218,10 +211,6 @@ most_of v w run part n port line taken takes same =
           let is : length takes.chars ≡ 64 = omega arith in
           inl is
     ])
-
-when_true : (b : Bool) (P Q : Type 0) → b ≡ true → P → MatchBool b P Q
-when_true true P Q e h = h
-when_true false P Q e h = absurd (false≢true e)
 
 not_twice : (a b : Bool) → a ≡ not b → b ≡ not a
 not_twice a true e = sym (ap (λ (x : Bool). not x) e)

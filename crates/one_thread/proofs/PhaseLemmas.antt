@@ -19,8 +19,9 @@ use Rattle.one_thread.specs.Order.{SeesAll, AllSeeAll}
 use Rattle.one_thread.specs.Roles.{Scene}
 use Rattle.one_thread.specs.Lines.{SeesIn}
 use Rattle.one_thread.specs.Phases.{phase_count, IsUpTo, HasFewTicks, SeesWithin, HavePlayed, HaveSeenAll, HavePlayedInOrder}
-use Rattle.one_thread.proofs.JournalLemmas.{up_before, up_line, up_count, up_ticks, up_more, line_part, first_of_phase, more_chars, ticks_between, other_ticks, ticks_both, end_adds_none, phase_is}
+use Rattle.one_thread.proofs.JournalLemmas.{up_before, up_line, up_count, up_ticks, up_more, line_part, more_chars, ticks_between, other_ticks, ticks_both, end_adds_none, phase_is}
 use Rattle.one_thread.proofs.ReceivedLemmas.{received_within, received_rises, one_phase_of}
+use Rattle.journal_check.proofs.SeenLemmas.{none_before}
 
 -- ---- the numbers of ticks
 
@@ -69,7 +70,7 @@ seen_one s k journal front last n later o up none ends sees =
     from_is j same =
         let begins : before_phase j (journal ++ (front ++ last ∷ later)) ≡ journal =
         ap (λ i. before_phase i (journal ++ (front ++ last ∷ later))) (same ∙ sym (add-zero k)) ∙ up_before k 0 journal (front ++ last ∷ later) up
-        ∙ ap (λ (x : List PlainEntry). journal ++ x) (first_of_phase (front ++ last ∷ later)) ∙ append-nil journal in
+        ∙ ap (λ (x : List PlainEntry). journal ++ x) (none_before (front ++ last ∷ later)) ∙ append-nil journal in
         let count = ap (λ (x : List PlainEntry). length (chars_of x)) begins in
         let seen = sees.sees_least in
         omega (arith, count, seen)

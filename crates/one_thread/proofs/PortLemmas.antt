@@ -1,7 +1,7 @@
 -- A port from its opening to its end.
-use Rattle.std.proofs.Common.{◌≡◌, ◌⊎◌, inl, inr, ℕ, zero, suc, ◌+◌, ◌<◌, ◌≤◌, Bool, true, false, ◌&&◌, ◌==◌, if◌then◌else◌, List, [], ◌∷◌, ◌++◌, Option, None, Some, length, drop, replicate, refl, sym, ◌∙◌, ap, subst, arith, append-nil, append_assoc, length-append, add-zero}
+use Rattle.std.proofs.Common.{◌≡◌, ◌⊎◌, inl, inr, ℕ, zero, suc, ◌+◌, ◌<◌, ◌≤◌, false, ◌&&◌, ◌==◌, List, [], ◌∷◌, ◌++◌, Option, None, Some, length, drop, replicate, refl, sym, ◌∙◌, ap, subst, arith, append-nil, append_assoc, length-append, add-zero}
 use Rattle.std.specs.Prelude.{IsTrue, slice_get, slice_index_or, nat_le, sum}
-use Rattle.std.proofs.lemmas.Bool.{false≢true, le-leb}
+use Rattle.std.proofs.lemmas.Bool.{le-leb}
 use Rattle.std.proofs.lemmas.List.{drop_all, length-map, length-replicate}
 use Rattle.std.proofs.lemmas.List.Elements.{All-nil}
 use mathlib.Core.List.{IsPrefix}
@@ -12,7 +12,7 @@ use Rattle.tty_base.specs.declared.lines.LineReport.{LineReport}
 use Rattle.word_ring.specs.Ends.{PutterState, TakerState}
 use Rattle.uart_line.specs.LineState.{LineState, HasDone}
 use Rattle.tty_base.specs.Lines.{arrival_count}
-use Rattle.uart_line.specs.Received.{received_list_after, received_list, lost_count, script}
+use Rattle.uart_line.specs.Received.{received_list, lost_count, script}
 use Rattle.uart_line.specs.Offered.{HandsOver, AreShown, kept_list}
 use Rattle.uart_line.proofs.OfferedLemmas.{HandsOver-kept, HandsOver-shown}
 use Rattle.uart_line.proofs.Steps.{HandsOver-none}
@@ -21,7 +21,7 @@ use Rattle.tty_calls.specs.declared.journals.PortRun.{PortRun}
 use Rattle.tty_calls.specs.declared.journals.Who.{Who}
 use Rattle.tty_calls.specs.declared.journals.Who.TheVariants.{Session}
 use Rattle.tty_calls.specs.Plain.{PlainCall, PlainEvent, PlainEntry, hung_up, entry_of, entries_of}
-use Rattle.tty_calls.specs.Sessions.{PlainPhase, PlainSession, call_at, counts_on, ticks_on, scripts_on, calls_of}
+use Rattle.tty_calls.specs.Sessions.{PlainPhase, PlainSession, call_at, counts_on, ticks_on, scripts_on}
 use Rattle.tty_calls.specs.Limits.{character_count}
 use Rattle.tty_terminal.specs.Terminals.{Terminal, opening}
 use Rattle.tty_terminal.specs.Steps.{Allowed, after}
@@ -41,6 +41,9 @@ use Rattle.one_thread.specs.Phases.{phase_count, HasFewTicks, HavePlayed, HaveSe
 use Rattle.one_thread.proofs.Places.{leads_place, turns_more}
 use Rattle.one_thread.proofs.JournalLemmas.{one_if, all_phases_after, up_after, ticks_both, leads_both}
 use Rattle.one_thread.proofs.ReceivedLemmas.{script_whole, kept_front, overruns_within, all_counted, list_grows}
+use Rattle.journal_check.proofs.NameLemmas.{no_calls_yet}
+use Rattle.journal_check.proofs.ReceiptLemmas.{received_none}
+use Rattle.journal_check.proofs.Truths.{if_true}
 
 -- ---- journals that lead to a terminal
 
@@ -61,10 +64,6 @@ place_terminal s v of_scene port =
 phases_more : (p : ℕ) (session : PlainSession) (k : ℕ) (es : List PlainEntry) (e : PlainEntry) → e.who ≡ Session → AreInPhases p session k es → AreInPhases p session k (es ++ e ∷ [])
 phases_more p session k [] e who h = (subst (λ (w : Who). IsInPhase p session k w e.step e.event) (sym who) tt, tt)
 phases_more p session k (x ∷ xs) e who h = (h.0, phases_more p session (phase_after x.event k) xs e who h.1)
-
-if_true : {X : Type 0} (b : Bool) (x y : X) → b ≡ true → (if b then x else y) ≡ x
-if_true true x y h = refl
-if_true false x y h = absurd (false≢true h)
 
 session_turn : (p : ℕ) (session : PlainSession) (s : Place) → length session.phases ≤ s.terminal.phase → turn p session s ≡ Session
 session_turn p session s past = if_true (nat_le (length session.phases) s.terminal.phase) Session _ (le-leb (length session.phases) s.terminal.phase past)
@@ -267,12 +266,8 @@ hung_in_order s v flip now w line run end of_scene port past see_all hang left o
 
 -- ---- the beginning
 
-names_none : (o : Option (List ℕ)) → length (calls_of [] o) ≡ 0
-names_none None = refl
-names_none (Some name) = refl
-
 pub first_none : (p : ℕ) (session : PlainSession) (c : ℕ) → first_step p session 0 c ≡ 0
-first_none p session c = names_none (name_at p session c)
+first_none p session c = no_calls_yet (name_at p session c)
 
 abbrev pub zeros : ℕ → List ℕ
 zeros n = replicate n 0
@@ -285,10 +280,6 @@ no_steps (suc n) (suc c) = no_steps n c
 script_none : (p : ℕ) (session : PlainSession) → script_of_first p session 0 ≡ []
 unfolding script
 script_none p session = refl
-
-received_none : received_list [] ≡ []
-unfolding received_list received_list_after
-received_none = refl
 
 -- a port that was opened for the scene
 pub opened_at : (s : Scene) (counts : List ℕ) (flip : TakerState Flagged) (putter : PutterState Flagged) (line : LineState)

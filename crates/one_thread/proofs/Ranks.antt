@@ -2,20 +2,12 @@
 use Rattle.std.proofs.Common.{◌≡◌, ℕ, zero, suc, ◌+◌, ◌<◌, ◌⊎◌, List, [], ◌∷◌, Bool, true, false, not, Option, None, Some, if◌then◌else◌, length, drop, get_or, refl, sym, ◌∙◌, ap, inl, inr, arith}
 use Rattle.std.specs.Prelude.{slice_index}
 use Rattle.std.proofs.lemmas.List.{drop_more, get_or-map, length-map}
-use Rattle.std.proofs.lemmas.Bool.{false≢true}
 use Rattle.tty_calls.specs.declared.journals.Who.{Who}
 use Rattle.tty_calls.specs.declared.journals.Who.TheVariants.{Caller, Flusher, Clock, Session}
 use Rattle.one_thread.specs.Order.{first_of}
 use Rattle.one_thread.specs.Turns.{role_numbers, turn_with, IsFirst, IsGoing}
 use Rattle.one_thread.specs.declared.roles.Role.{Role}
-
-pub if_true : {A : Type 0} (b : Bool) (x y : A) → b ≡ true → (if b then x else y) ≡ x
-if_true true x y e = refl
-if_true false x y e = absurd (false≢true e)
-
-pub if_false : {A : Type 0} (b : Bool) (x y : A) → b ≡ false → (if b then x else y) ≡ y
-if_false true x y e = absurd (false≢true (sym e))
-if_false false x y e = refl
+use Rattle.journal_check.proofs.Truths.{if_false, if_true}
 
 -- ---- the first of some
 

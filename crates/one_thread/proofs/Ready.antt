@@ -1,5 +1,5 @@
 -- What an attempt of a role's next call needs, and what it comes to.
-use Rattle.std.proofs.Common.{◌≡◌, ◌≤◌, ◌<◌, ℕ, ◌+◌, ◌-◌, zero, suc, List, [], ◌∷◌, Bool, true, false, Option, None, Some, is_some, length, get_or, refl, sym, ◌∙◌, ap, subst, arith}
+use Rattle.std.proofs.Common.{◌≡◌, ◌≤◌, ◌<◌, ℕ, ◌+◌, ◌-◌, zero, suc, List, [], ◌∷◌, false, Option, None, Some, is_some, length, get_or, refl, sym, ◌∙◌, ap, subst, arith}
 use Rattle.std.specs.Prelude.{slice_get, All, sum}
 use Rattle.std.proofs.lemmas.Option.{slice_get-get_or, get_or_from_slice_get, slice_get_within}
 use Rattle.std.proofs.lemmas.List.{length-map}
@@ -19,8 +19,9 @@ use Rattle.one_thread.specs.declared.after_line.Turn.TheVariants as turn
 use Rattle.one_thread.proofs.Entries.{kept_is}
 use Rattle.one_thread.proofs.Calling.{role_of, may_act, called}
 use Rattle.one_thread.proofs.Acting.{Turns, Calls, tried_more, ended_more}
+use Rattle.std.proofs.lemmas.Bool.{false_from_ne_true}
 
-same_bytes : (call : PlainCall) → byte_count call ≡ limits.byte_count call
+pub same_bytes : (call : PlainCall) → byte_count call ≡ limits.byte_count call
 same_bytes (opens h access nonblock) = refl
 same_bytes (closes h) = refl
 same_bytes (reads h n) = refl
@@ -129,10 +130,6 @@ pub record HasNone (s : Scene) (scripts : List Script) (v : PortValue) (r : Role
   pub between : has_begun (caller_at v.terminal r.number) ≡ false
   pub all : r.first + length (calls_in (slice_get scripts r.place)) ≤ (standing_at v r.number).next
 
-not_so : (b : Bool) → (b ≡ true → ⊥) → b ≡ false
-not_so false h = refl
-not_so true h = absurd (h refl)
-
 none_past : (calls : List PlainCall) (i : ℕ) → slice_get calls i ≡ None → length calls ≤ i
 none_past [] i e = omega arith
 none_past (x ∷ calls) zero e = absurd (cc)
@@ -147,7 +144,7 @@ has_none s scripts roles v stand place r state h at none =
     let all : r.first + length (calls_in (slice_get scripts r.place)) ≤ (standing_at v r.number).next = omega arith in
     record {
       not_over = (may_act s scripts roles v stand place r h.plays h.is h.turn_is).not_over;
-      between = not_so (has_begun (caller_at v.terminal r.number)) (λ begun. let below = in_role.calling begun in absurd (omega arith));
+      between = false_from_ne_true (has_begun (caller_at v.terminal r.number)) (λ begun. let below = in_role.calling begun in absurd (omega arith));
       all = all;
     }
 

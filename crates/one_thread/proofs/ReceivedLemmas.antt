@@ -3,7 +3,7 @@ use Rattle.std.proofs.Common.{◌≡◌, ◌⊎◌, inl, inr, ℕ, suc, ◌+◌,
 use Rattle.std.specs.Prelude.{All}
 use Rattle.std.specs.List.{list_any}
 use Rattle.std.proofs.lemmas.Bool.{ne_eqb}
-use Rattle.std.proofs.lemmas.List.{reverse-append, take_more, take-append-drop, take_all, take-take, map-append}
+use Rattle.std.proofs.lemmas.List.{reverse-append, take-append-drop, take_all, take-take, map-append}
 use Rattle.std.proofs.lemmas.List.Elements.{All-head, All-tail, All-nil, All-cons, All-weaker}
 use Rattle.std.proofs.lemmas.List.Folds.{list_any-append}
 use Rattle.std.proofs.lemmas.List.Sums.{sum_by-cons, sum_by-take-le}
@@ -18,6 +18,7 @@ use Rattle.uart_line.proofs.Steps.{arrival_count-append}
 use Rattle.tty_calls.specs.Limits.{character_count}
 use Rattle.tty_calls.specs.Sessions.{PlainPhase, PlainSession, line_on}
 use Rattle.journal_check.specs.Legal.{phase_at, script_of_first, script_on, received_before, IsOfPhase}
+use Rattle.journal_check.proofs.ReceiptLemmas.{first_more}
 
 -- ---- scripts
 
@@ -29,14 +30,6 @@ script_both (x ∷ xs) ys = ap (λ (steps : List LineStep). closed_script x ++ s
 script_one : (x : List LineStep) → script (x ∷ []) ≡ closed_script x
 unfolding script
 script_one x = append-nil (closed_script x)
-
--- the script of one phase more
-pub script_next : (p : ℕ) (s : PlainSession) (k : ℕ) → k < length s.phases → script_of_first p s (k + 1) ≡ script_of_first p s k ++ closed_script (line_on p (phase_at s k))
-script_next p s k h =
-    ap (λ (x : List PlainPhase). script (map (line_on p) x)) (take_more s.phases k (record { lines = []; ticks = []; callers = [] }) h)
-    ∙ ap script (map-append (line_on p) (take k s.phases) (phase_at s k ∷ []))
-    ∙ script_both (map (line_on p) (take k s.phases)) (line_on p (phase_at s k) ∷ [])
-    ∙ ap (λ (x : List LineStep). script_of_first p s k ++ x) (script_one (line_on p (phase_at s k)))
 
 -- the script of all phases begins with that of the first
 pub script_parts : (p : ℕ) (s : PlainSession) (k : ℕ) → script_on p s ≡ script_of_first p s k ++ script (map (line_on p) (drop k s.phases))
@@ -239,7 +232,7 @@ script_arrivals p (x ∷ xs) =
 -- there is room for the arrivals of phase k beside those before it
 pub arrivals_fit : (p : ℕ) (s : PlainSession) (k : ℕ) → k < length s.phases → arrival_count (script_of_first p s k) + arrival_count (line_on p (phase_at s k)) ≤ character_count p s.phases
 arrivals_fit p s k h =
-    let next = ap arrival_count (script_next p s k h) ∙ arrival_count-append (script_of_first p s k) (closed_script (line_on p (phase_at s k))) in
+    let next = ap arrival_count (first_more p s k h) ∙ arrival_count-append (script_of_first p s k) (closed_script (line_on p (phase_at s k))) in
     let closed = closed_arrivals (line_on p (phase_at s k)) in
     let all = script_arrivals p (take (k + 1) s.phases) in
     let most = sum_by-take-le (λ (phase : PlainPhase). arrival_count (line_on p phase)) s.phases (k + 1) in

@@ -1,14 +1,14 @@
 -- The roles of a phase, from the session.
-use Rattle.std.proofs.Common.{◌≡◌, ◌≢◌, ◌⊎◌, inl, inr, ℕ, zero, suc, ◌+◌, ◌<◌, ◌≤◌, Bool, true, false, ◌||◌, ◌==◌, cond, if◌then◌else◌, List, [], ◌∷◌, ◌++◌, Option, None, Some, length, take, drop, map, refl, sym, ◌∙◌, ap, subst, arith, append-nil, length-append, add-zero}
+use Rattle.std.proofs.Common.{◌≡◌, ◌≢◌, ◌⊎◌, inl, inr, ℕ, zero, suc, ◌+◌, ◌<◌, ◌≤◌, Bool, true, false, ◌||◌, ◌==◌, cond, if◌then◌else◌, List, [], ◌∷◌, ◌++◌, Option, None, Some, length, take, drop, map, refl, sym, ◌∙◌, ap, subst, arith, length-append, add-zero}
 use Rattle.std.specs.Prelude.{slice_get, slice_index_or, slice_set, All, AllPairs, Contains, IsSome, filter, flat_map, sum, sum_by, option_to_list}
 use Rattle.std.specs.Str.{bytes_eq}
-use Rattle.std.proofs.lemmas.Bool.{false≢true}
-use Rattle.std.proofs.lemmas.List.{take_more, take-append-drop, length-map, length-set, get_or-set_same, get_or-set_other}
+use Rattle.std.proofs.lemmas.Bool.{false≢true, cases_eq, or_cases, or_left, or_right}
+use Rattle.std.proofs.lemmas.List.{take-append-drop, length-map, length-set, get_or-set_same, get_or-set_other}
 use Rattle.std.proofs.lemmas.List.Concat.{length-flat_map}
-use Rattle.std.proofs.lemmas.List.Elements.{All-weaker, All-contains_itself, All-map, All-get_or, All-tail, All-head, All-contains, All-filter, All-nil, All-cons, Contains-append_right}
+use Rattle.std.proofs.lemmas.List.Elements.{All-weaker, All-contains_itself, All-map, All-tail, All-head, All-contains, All-filter, All-nil, All-cons, Contains-append_right}
 use Rattle.std.proofs.lemmas.List.Folds.{list_any-append}
 use Rattle.std.proofs.lemmas.List.Kept.{AllPairs-cons}
-use Rattle.std.proofs.lemmas.List.Sums.{sum-map, sum_by-cons, sum_by-append, sum_by-le, sum_by-take-le}
+use Rattle.std.proofs.lemmas.List.Sums.{sum-map, sum_by-cons, sum_by-append, sum_by-le}
 use Rattle.std.proofs.lemmas.Grind.{flat_map-append}
 use Rattle.tty_calls.specs.declared.sessions.Script.{Script}
 use Rattle.tty_calls.specs.declared.sessions.Session.{Session}
@@ -16,49 +16,21 @@ use Rattle.tty_calls.specs.Plain.{PlainCall}
 use Rattle.tty_calls.specs.Limits.{IsScriptWithin, IsPhaseWithin, IsWithinLimits, call_count}
 use Rattle.tty_calls.specs.Sessions.{PlainScript, PlainPhase, PlainSession, session_of, scripts_on, scripts_over, number_in, calls_under, calls_of, call_at, counts_on}
 use Rattle.tty_terminal.specs.Steps.{callers_in}
-use Rattle.journal_check.specs.Legal.{phase_at, name_at, has_script, first_step, steps_in, IsCallerOf}
+use Rattle.journal_check.specs.Legal.{phase_at, name_at, has_script, first_step, IsCallerOf}
 use Rattle.one_thread.specs.declared.roles.Role.{Role}
 use Rattle.one_thread.specs.Roles.{Scene, scene_of, PlainRole, numbers_in, IsRoleOf, AreRolesOf, role_in, names_in, AreFirstSteps}
 use Rattle.one_thread.specs.Casting.{number_or, role_for, IsNumbered, own_scripts, cast_of, steps_after, scripts_at}
-use Rattle.one_thread.proofs.NameLemmas.{get_within, get_append, get_past, number_is_place, number_at, script_has_number, few_names, has_name, HaveOwnNames, own_names, own_calls, no_calls, has_at, either_of, or_left, or_right, same_name, eq_name}
+use Rattle.one_thread.proofs.NameLemmas.{get_within, number_at, script_has_number, few_names, has_name, HaveOwnNames, own_names, own_calls, has_at, eq_name}
+use Rattle.journal_check.proofs.NameLemmas.{call_of_phase, first_next, over_next, same_name}
+use Rattle.journal_check.proofs.TurnLemmas.{at_number, first_few, no_calls, phase_within}
 
 -- ---- the scripts of the phases
-
-calls_append : (xs ys : List PlainScript) (name : Option (List ℕ)) → calls_of (xs ++ ys) name ≡ calls_of xs name ++ calls_of ys name
-calls_append xs ys None = refl
-calls_append xs ys (Some name) = flat_map-append (λ s. if bytes_eq s.name name then s.calls else []) xs ys
-
--- those of the phases before this one, of this one, and of those after it
-pub over_next : (p : ℕ) (s : PlainSession) (k : ℕ) → k < length s.phases → scripts_over p (take (k + 1) s.phases) ≡ scripts_over p (take k s.phases) ++ scripts_on p (phase_at s k)
-over_next p s k h =
-    ap (scripts_over p) (take_more s.phases k (record { lines = []; ticks = []; callers = [] }) h)
-    ∙ flat_map-append (scripts_on p) (take k s.phases) (phase_at s k ∷ [])
-    ∙ ap (λ (x : List PlainScript). scripts_over p (take k s.phases) ++ x) (append-nil (scripts_on p (phase_at s k)))
 
 over_all : (p : ℕ) (s : PlainSession) (k : ℕ) → scripts_over p s.phases ≡ scripts_over p (take (k + 1) s.phases) ++ scripts_over p (drop (k + 1) s.phases)
 over_all p s k = ap (scripts_over p) (sym (take-append-drop (k + 1) s.phases)) ∙ flat_map-append (scripts_on p) (take (k + 1) s.phases) (drop (k + 1) s.phases)
 
 pub over_parts : (p : ℕ) (s : PlainSession) (k : ℕ) → k < length s.phases → scripts_over p s.phases ≡ (scripts_over p (take k s.phases) ++ scripts_on p (phase_at s k)) ++ scripts_over p (drop (k + 1) s.phases)
 over_parts p s k h = over_all p s k ∙ ap (λ (x : List PlainScript). x ++ scripts_over p (drop (k + 1) s.phases)) (over_next p s k h)
-
-pub first_next : (p : ℕ) (s : PlainSession) (k c : ℕ) → k < length s.phases → first_step p s (k + 1) c ≡ first_step p s k c + steps_in p s k c
-first_next p s k c h =
-    ap (λ (x : List PlainScript). length (calls_of x (name_at p s c))) (over_next p s k h)
-    ∙ ap (λ (x : List PlainCall). length x) (calls_append (scripts_over p (take k s.phases)) (scripts_on p (phase_at s k)) (name_at p s c))
-    ∙ length-append (calls_of (scripts_over p (take k s.phases)) (name_at p s c)) (calls_of (scripts_on p (phase_at s k)) (name_at p s c))
-
-call_of_phase : (p : ℕ) (s : PlainSession) (k c i : ℕ) (call : PlainCall) → k < length s.phases → slice_get (calls_of (scripts_on p (phase_at s k)) (name_at p s c)) i ≡ Some call → call_at p s c (first_step p s k c + i) ≡ Some call
-call_of_phase p s k c i call within h =
-    let name : Option (List ℕ) = name_at p s c in
-    let first : List PlainCall = calls_of (scripts_over p (take k s.phases)) name in
-    let own : List PlainCall = calls_of (scripts_on p (phase_at s k)) name in
-    let later : List PlainCall = calls_of (scripts_over p (drop (k + 1) s.phases)) name in
-    let all : calls_of (scripts_over p s.phases) name ≡ (first ++ own) ++ later =
-    ap (λ (x : List PlainScript). calls_of x name) (over_all p s k)
-    ∙ calls_append (scripts_over p (take (k + 1) s.phases)) (scripts_over p (drop (k + 1) s.phases)) name
-    ∙ ap (λ (x : List PlainCall). x ++ later) (ap (λ (x : List PlainScript). calls_of x name) (over_next p s k within) ∙ calls_append (scripts_over p (take k s.phases)) (scripts_on p (phase_at s k)) name) in
-    ap (λ (x : List PlainCall). slice_get x (first_step p s k c + i)) all
-    ∙ get_append (first ++ own) later (first_step p s k c + i) call (get_past first own (first_step p s k c + i) i refl ∙ h)
 
 -- a script of a phase is one of the session
 has_later : (xs ys zs : List PlainScript) (name : List ℕ) → has_name ys name ≡ true → has_name ((xs ++ ys) ++ zs) name ≡ true
@@ -84,9 +56,6 @@ count_at p (x ∷ xs) (suc k) d h = count_at p xs k d (omega (arith, h))
 pub callers_count : (p : ℕ) (s : PlainSession) (k : ℕ) → k < length s.phases → callers_in (counts_on p s) k ≡ length (scripts_on p (phase_at s k))
 callers_count p s k h = count_at p s.phases k (record { lines = []; ticks = []; callers = [] }) h
 
-pub phase_within : (s : PlainSession) (k : ℕ) → IsWithinLimits s → k < length s.phases → IsPhaseWithin s.ports (phase_at s k)
-phase_within s k limits h = All-get_or (IsPhaseWithin s.ports) s.phases k (record { lines = []; ticks = []; callers = [] }) h limits.phases
-
 -- ---- a role
 
 numbered : (o : Option ℕ) (n : ℕ) → o ≡ Some n → number_or o ≡ n
@@ -107,7 +76,7 @@ has_number_of : (s : Scene) (k : ℕ) (x : PlainScript) → k < length s.session
 has_number_of s k x within there =
     let found = script_has_number (scripts_over s.port s.session.phases) x.name (has_over s.port s.session k x.name within there) in
     let at : number_in (names_in s) x.name ≡ Some (number_or (number_in (names_in s) x.name)) = found.1 ∙ ap (λ (n : ℕ). Some n) (sym (numbered (number_in (names_in s) x.name) found.0 found.1)) in
-    let place = number_is_place (names_in s) x.name (number_or (number_in (names_in s) x.name)) at in
+    let place = at_number (names_in s) x.name (number_or (number_in (names_in s) x.name)) at in
     record { at = at; name = place; below = get_within (names_in s) (number_or (number_in (names_in s) x.name)) x.name place }
 
 -- what is asked of the phase of a scene
@@ -170,9 +139,9 @@ some_same a b h = ap name_or h
 same_number : (names : List (List ℕ)) (x y : PlainScript) → IsNumbered names x → IsNumbered names y → number_or (number_in names x.name) ≡ number_or (number_in names y.name) → x.name ≡ y.name
 same_number names x y hx hy e =
     some_same x.name y.name
-    (sym (number_is_place names x.name (number_or (number_in names x.name)) (some_of (number_in names x.name) hx))
+    (sym (at_number names x.name (number_or (number_in names x.name)) (some_of (number_in names x.name) hx))
     ∙ ap (λ (n : ℕ). slice_get names n) e
-    ∙ number_is_place names y.name (number_or (number_in names y.name)) (some_of (number_in names y.name) hy))
+    ∙ at_number names y.name (number_or (number_in names y.name)) (some_of (number_in names y.name) hy))
 
 own_first : (names : List (List ℕ)) (x : PlainScript) (xs : List PlainScript) → IsNumbered names x → All (IsNumbered names) xs → has_name xs x.name ≡ false → All (λ n. number_or (number_in names x.name) ≢ n) (map (λ s. number_or (number_in names s.name)) xs)
 own_first names x [] hx hxs none = All-nil (λ n. number_or (number_in names x.name) ≢ n)
@@ -206,7 +175,7 @@ later_or n ns c h = Contains-append_right (n ∷ []) ns c h
 
 caller_among : (names : List (List ℕ)) (scripts : List PlainScript) (name : List ℕ) (c : ℕ) → number_in names name ≡ Some c → has_name scripts name ≡ true → Contains (map (λ s. number_or (number_in names s.name)) scripts) c
 caller_among names [] name c at h = absurd (false≢true h)
-caller_among names (x ∷ xs) name c at h = elim (either_of (bytes_eq x.name name) (has_name xs name) h) [
+caller_among names (x ∷ xs) name c at h = elim (or_cases (bytes_eq x.name name) (has_name xs name) h) [
   | inl here ↦ here_or (number_or (number_in names x.name)) (map (λ s. number_or (number_in names s.name)) xs) c
       (ap (λ (y : List ℕ). number_or (number_in names y)) (eq_name x.name name here) ∙ numbered (number_in names name) c at)
   | inr later ↦ later_or (number_or (number_in names x.name)) (map (λ s. number_or (number_in names s.name)) xs) c (caller_among names xs name c at later)
@@ -272,12 +241,6 @@ calls_over p [] = omega arith
 calls_over p (x ∷ xs) =
     omega (arith, sum_by-append (λ (script : PlainScript). length script.calls) (scripts_on p x) (scripts_over p xs), port_calls p x.callers, calls_over p xs, sum_by-cons (λ (phase : PlainPhase). sum_by (λ script. length script.calls) phase.callers) x xs)
 
--- so each caller's first step in a phase is a number of 32 bits
-pub few_steps : (p : ℕ) (s : PlainSession) (k c : ℕ) → IsWithinLimits s → first_step p s k c ≤ 65536
-few_steps p s k c limits =
-    let few = limits.few_calls in
-    omega (arith, calls_few (scripts_over p (take k s.phases)) (name_at p s c), calls_over p (take k s.phases), sum_by-take-le (λ (phase : PlainPhase). sum_by (λ script. length script.calls) phase.callers) s.phases k, few)
-
 -- ---- the roles of a phase of a session
 
 pub roles_found : (s : Scene) (k : ℕ) (steps : List ℕ) (names : List (List ℕ)) (scripts : List PlainScript) (roles : List PlainRole) → IsWithinLimits s.session → k < length s.session.phases → AreFirstSteps s k steps
@@ -296,11 +259,8 @@ record MovesOn (s : Scene) (k : ℕ) (count : ℕ) (r : PlainRole) : Type 0 wher
   below : r.number < count
   moves : r.first + length r.calls ≡ first_step s.port s.session (k + 1) r.number
 
-same_or_not : (n c : ℕ) → (n ≡ c) ⊎ (n ≡ c → ⊥)
-same_or_not n c = grind arith
-
 stays_moved : (s : Scene) (k c : ℕ) (r : PlainRole) (steps : List ℕ) → MovesOn s k (length steps) r → step_of steps c ≡ first_step s.port s.session (k + 1) c → step_of (slice_set steps r.number (r.first + length r.calls)) c ≡ first_step s.port s.session (k + 1) c
-stays_moved s k c r steps moves there = elim (same_or_not r.number c) [
+stays_moved s k c r steps moves there = elim (cases_eq r.number c) [
   | inl same ↦ ap (step_of (slice_set steps r.number (r.first + length r.calls))) (sym same) ∙ get_or-set_same steps r.number (r.first + length r.calls) 0 moves.below ∙ moves.moves ∙ ap (first_step s.port s.session (k + 1)) same
   | inr other ↦ get_or-set_other steps r.number c (r.first + length r.calls) 0 (λ e. other (sym e)) ∙ there
 ]
@@ -333,10 +293,6 @@ length_after : (rs : List PlainRole) (steps : List ℕ) → length (steps_after 
 length_after [] steps = refl
 length_after (r ∷ rs) steps = length_after rs (slice_set steps r.number (r.first + length r.calls)) ∙ length-set steps r.number (r.first + length r.calls)
 
-no_script : (scripts : List PlainScript) (o : Option (List ℕ)) → has_script scripts o ≡ false → calls_of scripts o ≡ []
-no_script scripts None h = refl
-no_script scripts (Some name) h = no_calls scripts name h
-
 -- what `move_on` asks for
 pub roles_within : (s : Scene) (k : ℕ) (steps : List ℕ) (roles : List PlainRole) → IsCastIn s k steps → AreRolesOf s k roles → All (λ r. r.number < length steps) roles
 roles_within s k steps roles cast are = All-weaker (IsRoleOf s k) (λ r. r.number < length steps) (λ r h. caller_known s k r.number steps cast h.caller) roles are.each
@@ -352,7 +308,7 @@ role_moves s k r within h = let next = first_next s.port s.session k r.number wi
 
 pub roles_few : (s : Scene) (k : ℕ) (steps : List ℕ) (roles : List PlainRole) → IsCastIn s k steps → AreRolesOf s k roles → All (λ r. r.first + length r.calls < 4294967296) roles
 roles_few s k steps roles cast are =
-    All-weaker (IsRoleOf s k) (λ r. r.first + length r.calls < 4294967296) (λ r h. let few = few_steps s.port s.session (k + 1) r.number cast.limits in omega (arith, role_moves s k r cast.within h, few)) roles are.each
+    All-weaker (IsRoleOf s k) (λ r. r.first + length r.calls < 4294967296) (λ r h. let few = first_few s.port s.session (k + 1) r.number cast.limits in omega (arith, role_moves s k r cast.within h, few)) roles are.each
 
 -- and what it comes to
 pub moved_on : (s : Scene) (k : ℕ) (steps : List ℕ) (roles : List PlainRole) → IsCastIn s k steps → AreRolesOf s k roles → AreFirstSteps s (k + 1) (steps_after roles steps)
@@ -373,7 +329,7 @@ moved_on s k steps roles cast are =
     each_moved : (s : Scene) (k c : ℕ) (steps : List ℕ) (roles : List PlainRole) → IsCastIn s k steps → AreRolesOf s k roles → All (MovesOn s k (length steps)) roles → (b : Bool) → has_script (scripts_on s.port (phase_at s.session k)) (name_at s.port s.session c) ≡ b → step_of (steps_after roles steps) c ≡ first_step s.port s.session (k + 1) c
     each_moved s k c steps roles cast are all true is = one_moved s k c roles steps all (are.all c is)
     each_moved s k c steps roles cast are all false is =
-        let none = ap (λ (xs : List PlainCall). length xs) (no_script (scripts_on s.port (phase_at s.session k)) (name_at s.port s.session c) is) in
+        let none = ap (λ (xs : List PlainCall). length xs) (no_calls (scripts_on s.port (phase_at s.session k)) (name_at s.port s.session c) is) in
         all_moved s k c roles steps all (cast.first.each c ∙ sym (first_next s.port s.session k c cast.within ∙ ap (λ n. first_step s.port s.session k c + n) none ∙ add-zero (first_step s.port s.session k c)))
 
 pub roles_same : (s : Scene) (k : ℕ) (scripts scripts' : List Script) (rs rs' : List Role) → scripts ≡ scripts' → rs ≡ rs' → AreRolesOf s k (map (role_in scripts') rs') → AreRolesOf s k (map (role_in scripts) rs)

@@ -1,42 +1,25 @@
 -- The callers of a phase at its beginning and at its end.
-use Rattle.std.proofs.Common.{◌≡◌, ◌<◌, ℕ, ◌+◌, List, [], ◌∷◌, ◌++◌, Bool, true, false, ◌||◌, Option, None, Some, is_some, if◌then◌else◌, length, take, refl, sym, ◌∙◌, ap}
+use Rattle.std.proofs.Common.{◌≡◌, ℕ, List, [], ◌∷◌, ◌++◌, Bool, true, false, Option, None, Some, is_some, if◌then◌else◌, length, refl, sym, ap}
 use Rattle.std.specs.Str.{bytes_eq}
 use Rattle.std.specs.List.{list_any}
-use Rattle.std.proofs.lemmas.List.{take_more, append-nil, length-append}
 use Rattle.std.proofs.lemmas.List.Concat.{flat_map-append}
-use Rattle.std.proofs.lemmas.Bool.{false≢true}
+use Rattle.std.proofs.lemmas.Bool.{false≢true, or_parts}
 use Rattle.tty_calls.specs.Plain.{PlainCall}
-use Rattle.tty_calls.specs.Sessions.{PlainScript, PlainPhase, PlainSession, scripts_on, scripts_over, calls_under, calls_of}
+use Rattle.tty_calls.specs.Sessions.{PlainScript, PlainSession, scripts_on, calls_under, calls_of}
 use Rattle.tty_terminal.specs.declared.callers.Bound.{Bound}
 use Rattle.tty_terminal.specs.declared.callers.CallerState.{CallerState}
 use Rattle.tty_terminal.specs.Terminals.{is_bound}
 use Rattle.tty_terminal.specs.Standing.{Standing, standing_of}
-use Rattle.journal_check.specs.Legal.{phase_at, name_at, has_script, first_step, steps_in}
+use Rattle.journal_check.specs.Legal.{phase_at, name_at, has_script, steps_in}
 use Rattle.one_thread.specs.Stages.{caller_at_rest}
 use Rattle.one_thread.specs.Turns.{standing_at_rest}
+use Rattle.journal_check.proofs.TurnLemmas.{no_calls}
 
 -- ---- first steps
 
 calls_over : (name : Option (List ℕ)) (xs ys : List PlainScript) → calls_of (xs ++ ys) name ≡ calls_of xs name ++ calls_of ys name
 calls_over None xs ys = refl
 calls_over (Some name) xs ys = flat_map-append (λ s. if bytes_eq s.name name then s.calls else []) xs ys
-
-over_next : (p : ℕ) (session : PlainSession) (k : ℕ) → k < length session.phases → scripts_over p (take (k + 1) session.phases) ≡ scripts_over p (take k session.phases) ++ scripts_on p (phase_at session k)
-over_next p session k lt =
-    let empty : PlainPhase = record { lines = []; ticks = []; callers = [] } in
-    ap (λ phases. scripts_over p phases) (take_more session.phases k empty lt)
-    ∙ (flat_map-append (scripts_on p) (take k session.phases) (phase_at session k ∷ []) ∙ ap (λ ss. scripts_over p (take k session.phases) ++ ss) (append-nil (scripts_on p (phase_at session k))))
-
--- a caller's first step in the next phase
-pub first_next : (p : ℕ) (session : PlainSession) (k c : ℕ) → k < length session.phases → first_step p session (k + 1) c ≡ first_step p session k c + steps_in p session k c
-first_next p session k c lt =
-    ap (λ ss. length (calls_of ss (name_at p session c))) (over_next p session k lt)
-    ∙ (ap (λ (cs : List PlainCall). length cs) (calls_over (name_at p session c) (scripts_over p (take k session.phases)) (scripts_on p (phase_at session k)))
-    ∙ length-append (calls_of (scripts_over p (take k session.phases)) (name_at p session c)) (calls_of (scripts_on p (phase_at session k)) (name_at p session c)))
-
-neither : (a b : Bool) → (a || b) ≡ false → (a ≡ false) × (b ≡ false)
-neither true b e = absurd (false≢true (sym e))
-neither false b e = (refl, e)
 
 none_here : (b : Bool) (calls rest : List PlainCall) → b ≡ false → rest ≡ [] → (if b then calls else []) ++ rest ≡ []
 none_here true calls rest e f = absurd (false≢true (sym e))
@@ -45,16 +28,12 @@ none_here false calls rest e f = f
 none_under : (name : List ℕ) (scripts : List PlainScript) → list_any (λ s. bytes_eq s.name name) scripts ≡ false → calls_under name scripts ≡ []
 none_under name [] e = refl
 none_under name (s ∷ scripts) e =
-    let both = neither (bytes_eq s.name name) (list_any (λ x. bytes_eq x.name name) scripts) e in
+    let both = or_parts (bytes_eq s.name name) (list_any (λ x. bytes_eq x.name name) scripts) e in
     none_here (bytes_eq s.name name) s.calls (calls_under name scripts) both.0 (none_under name scripts both.1)
-
-none_of : (scripts : List PlainScript) (name : Option (List ℕ)) → has_script scripts name ≡ false → calls_of scripts name ≡ []
-none_of scripts None e = refl
-none_of scripts (Some name) e = none_under name scripts e
 
 -- one that is no caller of a phase has no step in it
 pub no_steps : (p : ℕ) (session : PlainSession) (k c : ℕ) → has_script (scripts_on p (phase_at session k)) (name_at p session c) ≡ false → steps_in p session k c ≡ 0
-no_steps p session k c e = ap (λ (cs : List PlainCall). length cs) (none_of (scripts_on p (phase_at session k)) (name_at p session c) e)
+no_steps p session k c e = ap (λ (cs : List PlainCall). length cs) (no_calls (scripts_on p (phase_at session k)) (name_at p session c) e)
 
 -- ---- a caller at rest
 

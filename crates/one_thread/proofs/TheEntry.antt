@@ -1,9 +1,8 @@
 -- The entry that the order of one thread asks for: there is at most one.
-use Rattle.std.proofs.Common.{◌≡◌, ◌≤◌, ◌<◌, ℕ, ◌+◌, ◌-◌, zero, suc, List, [], ◌∷◌, ◌++◌, Bool, true, false, not, ◌==◌, ◌&&◌, ◌||◌, ◌⊎◌, Option, is_some, if◌then◌else◌, length, take, min, refl, sym, ◌∙◌, ap, subst, inl, inr, arith}
+use Rattle.std.proofs.Common.{◌≡◌, ◌≤◌, ℕ, ◌+◌, ◌-◌, zero, suc, List, [], ◌∷◌, ◌++◌, Bool, true, false, not, ◌==◌, ◌&&◌, ◌||◌, ◌⊎◌, Option, is_some, if◌then◌else◌, length, take, min, refl, sym, ◌∙◌, ap, subst, inl, inr, arith}
 use Rattle.std.specs.Prelude.{nat_le, IsTrue, MatchBool}
 use Rattle.std.proofs.lemmas.List.{length-map}
-use Rattle.std.proofs.lemmas.Bool.{false≢true, eqb-true}
-use Rattle.std.proofs.lemmas.Bool.Decides.{nat_tests}
+use Rattle.std.proofs.lemmas.Bool.{false≢true, eqb-true, le-leb, lt-leb}
 use Rattle.tty_base.specs.declared.characters.Flagged.{Flagged}
 use Rattle.tty_calls.specs.declared.journals.Who.{Who}
 use Rattle.tty_calls.specs.declared.journals.Who.TheVariants.{Caller, Flusher, Line, Clock, Session}
@@ -17,7 +16,7 @@ use Rattle.tty_terminal.specs.Steps.{quiet, Answers, Drops, MustWait, TakesPart,
 use Rattle.tty_terminal.specs.Runs.{chars_in, phase_after}
 use Rattle.journal_check.specs.Legal.{ClockMark, ticks, clock_ends, clock_marks, line_ends, first_step, steps_in, IsInPhase}
 use Rattle.one_thread.specs.Order.{Place, accepted_front, due, turn, is_most, is_after_flush, IsPieceOf}
-use Rattle.one_thread.proofs.Ranks.{if_true, if_false}
+use Rattle.journal_check.proofs.Truths.{if_false, if_true}
 
 -- ---- what a flush takes
 
@@ -78,12 +77,6 @@ the_event p session s to_come Clock = clock_event to_come.marks
 the_event p session s to_come Session = if nat_le (length session.phases) s.terminal.phase then hung_up (take (s.terminal.sent - s.terminal.taken) to_come.chars) else phase_ended
 
 -- ---- that an entry is it
-
-le_false : (n m : ℕ) → m < n → nat_le n m ≡ false
-le_false n m lt = grind (arith, nat_tests)
-
-le_true : (n m : ℕ) → n ≤ m → nat_le n m ≡ true
-le_true n m le = grind (arith, nat_tests)
 
 front_taken : (xs ys : List Flagged) (n : ℕ) → length xs ≡ n → xs ≡ take n (xs ++ ys)
 front_taken [] ys zero e = refl
@@ -155,25 +148,25 @@ event_is p session s (Caller c) step part (answered a dropped) chars lines marks
     answer_is s.terminal (is_some (caller_at s.terminal c).waits) (quiet (counts_on p session) s.terminal) (outcome_of s.terminal (caller_at s.terminal c) (call_at p session c (caller_at s.terminal c).next)) a dropped chars
     (subst (λ (n : ℕ). Answers (is_some (caller_at s.terminal c).waits && quiet (counts_on p session) s.terminal) (outcome_of s.terminal (caller_at s.terminal c) (call_at p session c n)) a) at h.answer)
     (subst (λ (n : ℕ). Drops s.terminal (outcome_of s.terminal (caller_at s.terminal c) (call_at p session c n)) (length dropped)) at h.drops) (caller_over p session s c turned)
-    ∙ sym (if_false (nat_le _ (caller_at s.terminal c).next) _ _ (le_false _ (caller_at s.terminal c).next (omega arith)))
+    ∙ sym (if_false (nat_le _ (caller_at s.terminal c).next) _ _ (lt-leb _ (caller_at s.terminal c).next (omega arith)))
 event_is p session s (Caller c) step part (parted n) chars lines marks h turned piece phase after =
     let of_phase = phase.1 refl in
     let below = of_phase.1 in
     let at = h.next.at_step in
     part_is s.terminal (is_some (caller_at s.terminal c).waits) (outcome_of s.terminal (caller_at s.terminal c) (call_at p session c (caller_at s.terminal c).next)) n chars
     (subst (λ (k : ℕ). TakesPart (outcome_of s.terminal (caller_at s.terminal c) (call_at p session c k)) n) at h.takes)
-    ∙ sym (if_false (nat_le _ (caller_at s.terminal c).next) _ _ (le_false _ (caller_at s.terminal c).next (omega arith)))
+    ∙ sym (if_false (nat_le _ (caller_at s.terminal c).next) _ _ (lt-leb _ (caller_at s.terminal c).next (omega arith)))
 event_is p session s (Caller c) step part waited chars lines marks h turned piece phase after =
     let of_phase = phase.1 refl in
     let below = of_phase.1 in
     let at = h.next.at_step in
     wait_is s.terminal (is_some (caller_at s.terminal c).waits) (outcome_of s.terminal (caller_at s.terminal c) (call_at p session c (caller_at s.terminal c).next)) chars (ap (λ (o : Option ℕ). is_some o) h.first)
     (subst (λ (k : ℕ). MustWait (outcome_of s.terminal (caller_at s.terminal c) (call_at p session c k))) at h.must)
-    ∙ sym (if_false (nat_le _ (caller_at s.terminal c).next) _ _ (le_false _ (caller_at s.terminal c).next (omega arith)))
+    ∙ sym (if_false (nat_le _ (caller_at s.terminal c).next) _ _ (lt-leb _ (caller_at s.terminal c).next (omega arith)))
 event_is p session s (Caller c) step part caller_ended chars lines marks h turned piece phase after =
     let all = phase.2 refl in
     let at = h.at_step in
-    sym (if_true (nat_le _ (caller_at s.terminal c).next) _ _ (le_true _ (caller_at s.terminal c).next (omega arith)))
+    sym (if_true (nat_le _ (caller_at s.terminal c).next) _ _ (le-leb _ (caller_at s.terminal c).next (omega arith)))
 event_is p session s Flusher step part (answered a dropped) chars lines marks h turned piece phase after = absurd h
 event_is p session s Line step part (answered a dropped) chars lines marks h turned piece phase after = absurd h
 event_is p session s Clock step part (answered a dropped) chars lines marks h turned piece phase after = absurd h
@@ -204,10 +197,10 @@ event_is p session s who step part clock_ended chars lines marks h turned piece 
     subst Goal (sym h.0) refl
 event_is p session s who step part phase_ended chars lines marks h turned piece phase after =
     let Goal : Who → Type 0 = λ w. phase_ended ≡ the_event p session s (coming_with phase_ended chars lines marks) w in
-    subst Goal (sym h.0) (sym (if_false (nat_le (length session.phases) s.terminal.phase) _ _ (le_false (length session.phases) s.terminal.phase (omega arith))))
+    subst Goal (sym h.0) (sym (if_false (nat_le (length session.phases) s.terminal.phase) _ _ (lt-leb (length session.phases) s.terminal.phase (omega arith))))
 event_is p session s who step part (hung_up dropped) chars lines marks h turned piece phase after =
     let Goal : Who → Type 0 = λ w. hung_up dropped ≡ the_event p session s (coming_with (hung_up dropped) chars lines marks) w in
     let past = h.1.after in
     let many = length-map session.phases (λ x. length (scripts_on p x)) in
     subst Goal (sym h.0)
-    (ap (λ (cs : List Flagged). hung_up cs) (front_taken dropped chars (s.terminal.sent - s.terminal.taken) h.1.all) ∙ sym (if_true (nat_le (length session.phases) s.terminal.phase) _ _ (le_true (length session.phases) s.terminal.phase (omega arith))))
+    (ap (λ (cs : List Flagged). hung_up cs) (front_taken dropped chars (s.terminal.sent - s.terminal.taken) h.1.all) ∙ sym (if_true (nat_le (length session.phases) s.terminal.phase) _ _ (le-leb (length session.phases) s.terminal.phase (omega arith))))

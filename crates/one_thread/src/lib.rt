@@ -13,7 +13,7 @@ mod rows;
 pub use laws::a_session_has_one_journal;
 pub use phases::{Station, scripts_of, steps_of, ticks_of};
 pub use playing::{Played, play};
-pub use ports::{hang_up, open_port, stop};
+pub use ports::{JOURNAL_LIMIT, hang_up, open_port, stop};
 pub use roles::{Role, counts_of, move_on, roles_of};
 pub use rows::{
     moved_three_bytes_are_not_in_order, moved_waiters_are_not_in_order, three_bytes_are_in_order,

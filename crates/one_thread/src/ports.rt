@@ -20,7 +20,7 @@ use tty_calls::{Denied, Names, PortEnd, PortRun, Session};
 use uart_line::Line;
 
 /// How many entries a port's journal may have.
-const JOURNAL: u32 = 4_194_304;
+pub const JOURNAL_LIMIT: u32 = 4_194_304;
 
 /// How many characters arrive in a step.
 fn arrivals_of(step: LineStep) -> u32
@@ -73,7 +73,7 @@ pub fn open_port(
     let (putter, taker) = flip(alloc, capacity)?;
     let counts = counts_of(alloc, session, number)?;
     Ok(Station {
-        port: Port::new(alloc, counts.as_slice(), JOURNAL, taker)?,
+        port: Port::new(alloc, counts.as_slice(), JOURNAL_LIMIT, taker)?,
         putter,
         line: Line::new(alloc, characters_on(session, number))?,
         steps: vec![in alloc; 0; names.len()]?,

@@ -10,6 +10,3 @@ mod ports;
 pub use ports::Port;
 pub use ports::attempting::Tried;
 pub use ports::flushing::Flushed;
-
-#[cfg(test)]
-mod tests;

@@ -1,10 +1,10 @@
 -- In a finished journal each call is answered once.
-use Rattle.std.proofs.Common.{◌≡◌, ⊎_elim, ℕ, zero, suc, ◌+◌, ◌<◌, ◌≤◌, Bool, true, false, ◌&&◌, ◌||◌, ◌==◌, if◌then◌else◌, cond, List, [], ◌∷◌, ◌++◌, Option, None, Some, length, refl, sym, ap, ◌∙◌, arith, eqb-true, eq-eqb, length-append, append-nil, append_assoc}
+use Rattle.std.proofs.Common.{◌≡◌, ⊎_elim, ℕ, zero, suc, ◌+◌, ◌<◌, ◌≤◌, Bool, true, false, ◌&&◌, ◌==◌, if◌then◌else◌, cond, List, [], ◌∷◌, ◌++◌, Option, None, Some, length, refl, sym, ap, ◌∙◌, arith, eqb-true, eq-eqb, length-append, append-nil, append_assoc}
 use Rattle.std.specs.Prelude.{option_to_list, flat_map}
 use Rattle.std.specs.Str.{bytes_eq}
 use Rattle.std.specs.List.{list_any}
 use Rattle.std.specs.Option.{option_or}
-use Rattle.std.proofs.lemmas.Bool.{false≢true, cases_lt}
+use Rattle.std.proofs.lemmas.Bool.{cases_lt, or_parts}
 use Rattle.std.proofs.lemmas.List.{take_all}
 use Rattle.std.proofs.lemmas.Grind.{flat_map-append}
 use Rattle.std.proofs.lemmas.Option.{slice_get_within}
@@ -15,8 +15,8 @@ use Rattle.tty_terminal.specs.Terminals.{Terminal}
 use Rattle.session_print.specs.Report.{answer_of_event, answer_by, answer_in}
 use Rattle.tty_base.specs.declared.lines.Overrun.{Overrun}
 use Rattle.journal_check.specs.Legal.{phase_at, name_at, has_script, first_step, steps_in, CallerMark, answers, caller_ends, caller_marks, caller_marks_in, answers_from, caller_part, IsFinishedFrom, IsLegal}
-use Rattle.one_thread.proofs.Starting.{first_next}
 use Rattle.tty_one.specs.Outcome.{answers_to, IsAnsweredOnce}
+use Rattle.journal_check.proofs.NameLemmas.{first_next}
 
 -- how often a step is answered
 abbrev chosen : Bool → ℕ
@@ -103,16 +103,12 @@ among_them a (suc n) x low high =
     omega (arith, here, among_them (a + 1) n x later (omega arith)))
     (cases_lt x (a + 1))
 
-both_false : (a b : Bool) → (a || b) ≡ false → (a ≡ false) × (b ≡ false)
-both_false true b h = absurd (false≢true (sym h))
-both_false false b h = (refl, h)
-
 -- a caller without a script has no calls
 no_script : (scripts : List PlainScript) (name : Option (List ℕ)) → has_script scripts name ≡ false → length (calls_of scripts name) ≡ 0
 no_script scripts None h = refl
 no_script [] (Some name) h = refl
 no_script (s ∷ ss) (Some name) h =
-    let parts = both_false (bytes_eq s.name name) (list_any (λ x. bytes_eq x.name name) ss) h in
+    let parts = or_parts (bytes_eq s.name name) (list_any (λ x. bytes_eq x.name name) ss) h in
     ap (λ b. length ((if b then s.calls else []) ++ calls_of ss (Some name))) parts.0 ∙ no_script ss (Some name) parts.1
 
 part_either : (b : Bool) (x a n : ℕ) → (b ≡ false → n ≡ 0) → count x (if b then answers_from a n ++ caller_ends ∷ [] else []) ≡ count x (answers_from a n)

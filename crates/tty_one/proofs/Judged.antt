@@ -1,7 +1,7 @@
 -- Runs that were read and judged.
-use Rattle.std.proofs.Common.{◌≡◌, ◌≢◌, ◌⊎◌, ◌≤◌, ℕ, zero, suc, List, [], ◌∷◌, Option, None, Some, IfSome, inl, inr, refl, sym, ap, subst, ◌∙◌, map, length, arith}
+use Rattle.std.proofs.Common.{◌≡◌, ◌≢◌, ◌⊎◌, ℕ, zero, suc, List, [], ◌∷◌, Option, None, Some, inl, inr, refl, sym, ap, subst, ◌∙◌, map, length}
 use Rattle.std.specs.Prelude.{slice_get}
-use Rattle.tty_base.specs.Outside.{Rose, LeavesRest}
+use Rattle.tty_base.specs.Outside.{Rose}
 use Rattle.tty_calls.specs.declared.journals.PortRun.{PortRun}
 use Rattle.tty_calls.specs.Sessions.{PlainSession}
 use Rattle.session_text.specs.declared.faults.BadLine.{BadLine}
@@ -10,9 +10,9 @@ use Rattle.check_text.specs.Reading.{refusal as refusal_of_runs}
 use Rattle.check_text.specs.Runs.{PlainRun, run_of}
 use Rattle.check_text.proofs.Spelled.{spelled_once, spelled_fault}
 use Rattle.journal_check.specs.Legal.{IsFinished, AreSeen, IsOnTheWay, IsLegalOn, flip_on, script_on}
-use Rattle.journal_check.specs.Verdicts.{AreLegal, Fits}
+use Rattle.journal_check.specs.Verdicts.{AreLegal}
 use Rattle.journal_check.specs.declared.verdicts.Verdict.{Verdict}
-use Rattle.journal_check.specs.declared.verdicts.Verdict.TheVariants.{Legal, Wrong, Account}
+use Rattle.journal_check.specs.declared.verdicts.Verdict.TheVariants.{Legal}
 use Rattle.journal_check.proofs.VerdictLemmas.{one_verdict}
 use Rattle.uart_line.specs.Received.{received_list, lost_count}
 use Rattle.uart_line.specs.Offered.{kept_list, AreShown}
@@ -22,8 +22,8 @@ use Rattle.tty_one.specs.declared.words.Command.TheVariants.{Check}
 use Rattle.tty_one.specs.declared.works.Ending.{Ending}
 use Rattle.tty_one.specs.declared.works.Ending.TheVariants.{Done, BadSession, BadWords, ReadFault, TooLong, NotLegal, JournalFull}
 use Rattle.tty_one.specs.Endings.{status_of, IsOfSource, IsShort}
-use Rattle.tty_one.specs.Outcome.{IsAllOf, IsJudged, IsToldVerdict, IsRefused, CompletesCheck}
-use Rattle.tty_one.specs.Works.{IsIllegal, IsJudgedText, IsWork}
+use Rattle.tty_one.specs.Outcome.{IsAllOf, IsJudged, IsRefused, CompletesCheck}
+use Rattle.tty_one.specs.Works.{IsJudgedText, IsWork}
 use Rattle.tty_one.proofs.Refused.{line_from}
 
 -- ---- what a run is legal by

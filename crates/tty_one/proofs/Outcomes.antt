@@ -1,5 +1,5 @@
 -- What each status says of the work that ended with it.
-use Rattle.std.proofs.Common.{◌≡◌, ◌≢◌, ◌⊎◌, ◌+◌, ◌≤◌, take, drop, length, codes, get_or, arith, ℕ, Bool, true, false, List, [], ◌∷◌, ◌++◌, Option, None, Some, IfSome, inl, inr, refl, sym, ap, subst, ◌∙◌}
+use Rattle.std.proofs.Common.{◌≡◌, ◌⊎◌, ◌+◌, ◌≤◌, take, drop, length, codes, get_or, arith, ℕ, Bool, true, false, List, [], ◌∷◌, ◌++◌, Option, None, Some, IfSome, inl, inr, refl, sym, ap, subst, ◌∙◌}
 use Rattle.std.proofs.lemmas.Bool.{false≢true}
 use Rattle.tty_base.specs.Contents.{Contents}
 use Rattle.tty_base.specs.Outside.{Rose, LeavesRest, TookCount}
@@ -9,16 +9,14 @@ use Rattle.session_text.specs.declared.faults.BadLine.{BadLine}
 use Rattle.session_text.specs.Refusals.{refusal}
 use Rattle.session_text.specs.Grammar.{Spells}
 use Rattle.session_text.proofs.Spelled.{spelled_fault}
-use Rattle.session_gen.specs.Generated.{generated_session}
 use Rattle.tty_one.specs.declared.words.Command.{Command}
 use Rattle.tty_one.specs.declared.words.Command.TheVariants.{Run, RunOne, Gen, Check}
 use Rattle.tty_one.specs.declared.playing.Telling.{Telling}
-use Rattle.tty_one.specs.declared.playing.Telling.TheVariants.{Report, Summary}
-use Rattle.tty_one.specs.declared.works.Work.{Work}
+use Rattle.tty_one.specs.declared.playing.Telling.TheVariants.{Report}
 use Rattle.tty_one.specs.declared.works.Ending.{Ending}
 use Rattle.tty_one.specs.declared.works.Ending.TheVariants.{Done, BadSession, BadWords, ReadFault, TooLong, NotLegal, JournalFull}
-use Rattle.tty_one.specs.Endings.{Ask, AskRun, AskRunOne, AskCheck, AreKnown, AreOfOne, IsOfOne, AreRun, AreRunOne, AreGen, line_of, status_of, text_of, bad_session_line, verdict_line, IsOfSource, IsShort, IsTold}
-use Rattle.tty_one.specs.Outcome.{IsOrdered, IsInAnyOrder, has_full_journal, IsPlayedText, IsRefused, refusal_by, IsReported, AreCutShort, Completes, CompletesGen, CompletesCheck, WasGiven, WasGivenFront, IsDone, IsFull, IsToldRefused, IsToldIllegal, IsBroken, breaks_line, breaks_refusal, breaks_text, breaks_verdict, breaks_full}
+use Rattle.tty_one.specs.Endings.{Ask, AskRun, AskRunOne, AskCheck, AreKnown, AreOfOne, AreRun, AreRunOne, AreGen, line_of, status_of, text_of, bad_session_line, IsOfSource, IsTold}
+use Rattle.tty_one.specs.Outcome.{IsOrdered, IsInAnyOrder, IsPlayedText, IsRefused, IsReported, AreCutShort, Completes, CompletesGen, CompletesCheck, WasGiven, WasGivenFront, IsDone, IsFull, IsToldRefused, IsToldIllegal, IsBroken, breaks_line, breaks_refusal, breaks_text, breaks_verdict, breaks_full}
 use Rattle.tty_one.specs.Works.{IsWork, CanEnd, ReadsNothing}
 use Rattle.tty_one.proofs.Judged.{completes_check}
 

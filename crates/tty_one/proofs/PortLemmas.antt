@@ -1,8 +1,8 @@
 -- What became of the ports of a session that was played, as it is reported.
-use Rattle.std.proofs.Common.{◌≡◌, ◌≢◌, ◌≤◌, ◌==◌, ◌||◌, length, arith, zero, suc, ℕ, Bool, true, false, List, [], ◌∷◌, Some, refl, sym, ap, subst, ◌∙◌, map, eq-eqb}
+use Rattle.std.proofs.Common.{◌≡◌, ◌≢◌, ◌==◌, length, arith, zero, suc, ℕ, false, List, [], ◌∷◌, Some, refl, sym, ap, subst, ◌∙◌, map, eq-eqb}
 use Rattle.std.specs.Prelude.{slice_get}
 use Rattle.std.specs.Prelude.{IfOk, Result, Ok, Err}
-use Rattle.std.proofs.lemmas.Bool.{false≢true}
+use Rattle.std.proofs.lemmas.Bool.{false≢true, or_parts}
 use Rattle.std.proofs.lemmas.List.{length-map}
 use Rattle.tty_base.specs.Contents.{Contents}
 use Rattle.tty_base.specs.declared.buffers.NoMemory.{NoMemory}
@@ -16,7 +16,7 @@ use Rattle.tty_one.specs.declared.playing.Telling.{Telling}
 use Rattle.tty_one.specs.declared.works.Work.{Work}
 use Rattle.tty_one.specs.declared.works.Ending.{Ending}
 use Rattle.tty_one.specs.declared.works.Ending.TheVariants.{Done, BadSession, BadWords, ReadFault, TooLong, NotLegal, JournalFull}
-use Rattle.tty_one.specs.Outcome.{end_at, has_full_journal, IsOrdered, IsWhole, IsPartly}
+use Rattle.tty_one.specs.Outcome.{end_at, has_full_journal, IsWhole, IsPartly}
 use Rattle.tty_one.specs.Works.{IsEndingOf, IsSessionWork}
 
 -- what is left of a terminal, as a report says it
@@ -28,22 +28,18 @@ end_is p s run end h =
     let wire = h.at_end.wire in
     cc
 
-either_false : (a b : Bool) → (a || b) ≡ false → (a ≡ false) × (b ≡ false)
-either_false true b h = absurd (false≢true (sym h))
-either_false false b h = (refl, h)
-
 -- where no journal is full, none of them is
 room_of : (runs : List PortRun) (p : ℕ) (run : PortRun) → has_full_journal runs ≡ false → slice_get runs p ≡ Some run → length run.journal.items ≢ 4194304
 room_of [] p run none is = absurd (cc)
 room_of (first ∷ runs) zero run none is = λ full.
-    let here : (length first.journal.items == 4194304) ≡ false = (either_false (length first.journal.items == 4194304) (has_full_journal runs) none).0 in
+    let here : (length first.journal.items == 4194304) ≡ false = (or_parts (length first.journal.items == 4194304) (has_full_journal runs) none).0 in
     let same : first ≡ run = some_same first run is in
     false≢true (sym here ∙ eq-eqb (length first.journal.items) 4194304 (ap (λ r. length r.journal.items) same ∙ full))
   where
     some_same : (a b : PortRun) → Some a ≡ Some b → a ≡ b
     some_same a b h = cc
 room_of (first ∷ runs) (suc p) run none is =
-    room_of runs p run ((either_false (length first.journal.items == 4194304) (has_full_journal runs) none).1) is
+    room_of runs p run ((or_parts (length first.journal.items == 4194304) (has_full_journal runs) none).1) is
 
 -- the end of a place is one of the plain ends there
 record HasEnd (ends : List PortEnd) (p : ℕ) (plain : PlainEnd) : Type 0 where

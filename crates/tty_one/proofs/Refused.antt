@@ -1,11 +1,11 @@
 -- What was read, and how work ends for want of it.
-use Rattle.std.proofs.Common.{◌≡◌, ℕ, List, [], Option, None, Some, Result, Ok, Err, sym, subst}
+use Rattle.std.proofs.Common.{◌≡◌, ℕ, List, [], Option, Some, Result, Ok, Err, sym, subst}
 use Rattle.std.specs.Prelude.{IfOk, OnErr}
 use Rattle.tty_base.specs.Contents.{Contents}
 use Rattle.tty_base.specs.declared.buffers.NoMemory.{NoMemory}
 use Rattle.tty_calls.specs.declared.journals.PortRun.{PortRun}
 use Rattle.tty_calls.specs.declared.sessions.Session.{Session}
-use Rattle.tty_calls.specs.Sessions.{PlainSession, session_of}
+use Rattle.tty_calls.specs.Sessions.{session_of}
 use Rattle.tty_calls.specs.Limits.{IsWithinLimits}
 use Rattle.session_text.proofs.Within.{spelled_within}
 use Rattle.session_text.specs.declared.faults.BadLine.{BadLine}
@@ -17,8 +17,8 @@ use Rattle.tty_one.specs.declared.works.Work.{Work}
 use Rattle.tty_one.specs.declared.works.Ending.{Ending}
 use Rattle.tty_one.specs.declared.works.Ending.TheVariants.{Done, BadSession, BadWords, ReadFault, TooLong, NotLegal, JournalFull}
 use Rattle.tty_one.specs.Endings.{IsOfSource, IsShort}
-use Rattle.tty_one.specs.Outcome.{IsAllOf, IsRefused, IsOrdered, refusal_by}
-use Rattle.tty_one.specs.Works.{IsLineOf, IsUnread, IsTextRead, IsReadAs, IsSessionRead, IsSessionIn, IsRefusal, IsSessionWork, IsWork}
+use Rattle.tty_one.specs.Outcome.{IsAllOf, refusal_by}
+use Rattle.tty_one.specs.Works.{IsLineOf, IsUnread, IsTextRead, IsSessionRead, IsSessionIn, IsRefusal, IsWork}
 
 -- the text that was read
 module _ (first_wrong : List ℕ → Option BadLine) (faults now : ℕ) (left rest : Option (List ℕ)) (reading : Reading (Contents ℕ)) where

@@ -1,9 +1,9 @@
 -- Words, compared one by one.
-use Rattle.std.proofs.Common.{◌≡◌, ◌↔◌, ℕ, List, [], ◌∷◌, Bool, true, ◌&&◌, Bor, refl, sym, ap, ◌∙◌}
+use Rattle.std.proofs.Common.{◌≡◌, ◌↔◌, ℕ, List, [], ◌∷◌, Bool, Bor, refl, sym, ◌∙◌}
 use Rattle.std.specs.Prelude.{IsTrue}
 use Rattle.std.specs.Bool.{Decides}
 use Rattle.std.specs.Cmp.Lexicographic.{pointwise}
-use Rattle.std.proofs.lemmas.Bool.{false≢true, and_parts}
+use Rattle.std.proofs.lemmas.Bool.{false≢true, and_parts, and_from}
 use Rattle.tty_one.specs.Endings.{texts_of}
 
 heads : (a b : List ℕ) (as' bs : List (List ℕ)) → a ∷ as' ≡ b ∷ bs → (a ≡ b) × (as' ≡ bs)
@@ -11,9 +11,6 @@ heads a b as' bs h = (cc, cc)
 
 no_words : (a : List ℕ) (as' : List (List ℕ)) → [] ≡ a ∷ as' → ⊥
 no_words a as' h = cc
-
-both_true : (a b : Bool) → a ≡ true → b ≡ true → (a && b) ≡ true
-both_true a b one two = ap (λ x. x && b) one ∙ two
 
 module _ {E : Bor (List ℕ) → Bor (List ℕ) → Bool} (same : (a b : Bor (List ℕ)) → Decides (E a b) (a.now ≡ b.now)) where
   texts_decide : (xs ys : List (Bor (List ℕ))) → Decides (pointwise E xs ys) (texts_of xs ≡ texts_of ys)
@@ -23,7 +20,7 @@ module _ {E : Bor (List ℕ) → Bor (List ℕ) → Bool} (same : (a b : Bor (Li
   texts_decide (x ∷ xs) (y ∷ ys) =
       let later = texts_decide xs ys in (
         λ h. let parts = and_parts (E x y) (pointwise E xs ys) h in cons_same (x.now) (y.now) (texts_of xs) (texts_of ys) ((same x y).0 parts.0) (later.0 parts.1),
-        λ h. let parts = heads x.now y.now (texts_of xs) (texts_of ys) h in both_true (E x y) (pointwise E xs ys) ((same x y).1 parts.0) (later.1 parts.1),
+        λ h. let parts = heads x.now y.now (texts_of xs) (texts_of ys) h in and_from (E x y) (pointwise E xs ys) ((same x y).1 parts.0) (later.1 parts.1),
       )
     where
       cons_same : (a b : List ℕ) (as' bs : List (List ℕ)) → a ≡ b → as' ≡ bs → a ∷ as' ≡ b ∷ bs

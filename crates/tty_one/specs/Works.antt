@@ -1,5 +1,5 @@
 -- What the work on a command came to, by its ending and its runs: for the functions below the top calls.
-use Rattle.std.specs.Prelude.{◌≡◌, ◌≢◌, ℕ, List, [], Bool, true, false, Option, Some, map}
+use Rattle.std.specs.Prelude.{◌≡◌, ◌≢◌, ℕ, List, [], true, false, Option, Some, map}
 use Rattle.tty_base.specs.Contents.{Contents}
 use Rattle.tty_calls.specs.declared.journals.PortRun.{PortRun}
 use Rattle.tty_calls.specs.declared.sessions.Session.{Session}
@@ -10,7 +10,7 @@ use Rattle.session_text.specs.Grammar.{Spells}
 use Rattle.session_print.specs.Ends.{end_of}
 use Rattle.check_text.specs.Reading.{refusal as refusal_of_runs}
 use Rattle.journal_check.specs.declared.verdicts.Verdict.{Verdict}
-use Rattle.journal_check.specs.declared.verdicts.Verdict.TheVariants.{Legal, Wrong, Account}
+use Rattle.journal_check.specs.declared.verdicts.Verdict.TheVariants.{Legal}
 use Rattle.one_thread.specs.declared.playing.Played.{Played}
 use Rattle.tty_one.specs.declared.words.Command.{Command}
 use Rattle.tty_one.specs.declared.words.Command.TheVariants.{Run, RunOne, Gen, Check}
@@ -20,7 +20,7 @@ use Rattle.tty_one.specs.declared.reading.Reading.TheVariants.{Of, Ended}
 use Rattle.tty_one.specs.declared.works.Ending.{Ending}
 use Rattle.tty_one.specs.declared.works.Ending.TheVariants.{Done, BadSession, BadWords, ReadFault, TooLong, NotLegal, JournalFull}
 use Rattle.tty_one.specs.Endings.{bad_session_line, verdict_line, IsShort, IsOfSource}
-use Rattle.tty_one.specs.Outcome.{text_by, IsReported, AreCutShort, IsAllOf, IsJudged, IsToldVerdict, IsToldBy, IsFullBy, IsRefused, refusal_by, has_full_journal}
+use Rattle.tty_one.specs.Outcome.{text_by, IsReported, AreCutShort, IsAllOf, IsToldVerdict, IsToldBy, IsFullBy, IsRefused, refusal_by, has_full_journal}
 
 -- ---- reading
 

@@ -14,15 +14,12 @@ ghost use Rattle.tty_one.specs.Works.{IsWork, IsSessionWork, IsEndingOf};
 
 use crate::reading::{Reading, read_session};
 use crate::works::{Ending, Work};
-use one_thread::{Played, play};
+use one_thread::{JOURNAL_LIMIT, Played, play};
 use session_gen::make;
 use session_print::{play_text, summary};
 use std::alloc::Global;
 use tty_base::{Bytes, NoMemory, Source};
 use tty_calls::{PortRun, Session};
-
-/// How many entries a port's journal can have.
-const JOURNAL: usize = 4_194_304;
 
 /// What is told of a session that was played.
 #[derive(Clone, Copy)]
@@ -115,5 +112,6 @@ fn text_by(
 fn has_full_journal(runs: &[PortRun]) -> bool
     ensures { result ≡ has_full_journal runs.now }
 {
-    runs.iter().any(|run| run.journal.len() == JOURNAL)
+    runs.iter()
+        .any(|run| run.journal.len() == JOURNAL_LIMIT as usize)
 }

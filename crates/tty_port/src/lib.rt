@@ -13,8 +13,6 @@ mod kept_port;
 mod laws;
 mod names;
 mod shared;
-#[cfg(test)]
-mod tests;
 mod turns;
 
 pub use gates::{Gate, OpenGate};

@@ -5,8 +5,8 @@ use Rattle.journal_check.specs.Legal.{phase_at}
 use Rattle.port_core.specs.Ports.{PortValue}
 use Rattle.one_thread.specs.LineInside.{KnowsTaken}
 use Rattle.one_thread.proofs.LineSteps.{knows_met}
-use Rattle.many_threads.specs.Crews.{plain_parts}
-use Rattle.many_threads.specs.Stations.{IsAtPhase, AreParts}
+use Rattle.many_threads.specs.Crews.{plain_cast}
+use Rattle.many_threads.specs.Stations.{IsAtPhase, IsCast}
 use Rattle.many_threads.specs.Ends.{ThreadsLeave}
 use Rattle.many_threads.proofs.PhaseStart.{phase_met}
 use Rattle.many_threads.proofs.PhaseEnds.{leaves_from, phase_comes}
@@ -39,7 +39,7 @@ play_threads-requires g c κs within =
                         r.1.1.1.1.0,
                         (
                           subst (λ (x : PortValue). c.args.ticks ≡ ticks_on g.scene.port (phase_at g.scene.session x.terminal.phase)) met r.1.1.1.1.1.0,
-                          subst (λ (x : PortValue). AreParts g.scene x.terminal.phase (sum x.counts) (plain_parts c.args.scripts.now c.args.parts.now)) met r.1.1.1.1.1.1,
+                          subst (λ (x : PortValue). IsCast g.scene x.terminal.phase (sum x.counts) (plain_cast c.args.scripts.now c.args.cast.now)) met r.1.1.1.1.1.1,
                         ),
                       ),
                     ),

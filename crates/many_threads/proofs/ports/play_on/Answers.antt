@@ -8,9 +8,9 @@ use Rattle.journal_check.specs.Legal.{phase_at}
 use Rattle.one_thread.specs.Roles.{Scene, scene_of, names_in, role_in, AreFirstSteps}
 use Rattle.one_thread.specs.Casting.{scripts_at, steps_after}
 use Rattle.one_thread.proofs.RoleLemmas.{cast_in, roles_in_scene, roles_within, roles_few, moved_on}
-use Rattle.many_threads.specs.Crews.{plain_parts}
-use Rattle.many_threads.specs.Stations.{IsAtPhase, AreParts}
-use Rattle.many_threads.proofs.Seated.{AreBelow, all_below, parts_are}
+use Rattle.many_threads.specs.Crews.{plain_cast}
+use Rattle.many_threads.specs.Stations.{IsAtPhase, IsCast}
+use Rattle.many_threads.proofs.Seated.{AreBelow, all_below, cast_is}
 use Rattle.many_threads.proofs.Onward.{stands_next}
 use Rattle.many_threads.proofs.ports.play_on.Goals as goal
 
@@ -28,7 +28,7 @@ play_shared-requires g c κs within =
     let below : c.args.k < length g.scene.session.phases = subst (λ (x : Scene). c.args.k < length x.session.phases) (sym e) c.requires.1.1.1.1.1.1.0 in
     let all : c.args.port.callers ≡ sum (counts_on g.scene.port g.scene.session) = subst (λ (x : Scene). c.args.port.callers ≡ sum (counts_on x.port x.session)) (sym e) c.requires.1.1.1.1.1.1.1.1.1.0 in
     let are = roles_in_scene g.scene c.args.number c.args.k c.args.session.now c.scripts_of-scripts.result.now c.as_slice-2.result.now c.in_ok-roles.roles.items e c.scripts_of-scripts.ensures c.as_slice-2.ensures.value c.in_ok-roles.ensures in
-    let parts = parts_are g.scene c.args.k c.scripts_of-scripts.result.now c.as_slice-2.result.now c.as_slice-3.result.now c.args.port.callers all are (c.as_slice-3.ensures.value ∙ c.in_ok-parts.ensures) in (
+    let cast = cast_is g.scene c.args.k c.scripts_of-scripts.result.now c.as_slice-2.result.now c.as_slice-3.result.now c.args.port.callers all are (c.as_slice-3.ensures.value ∙ c.in_ok-cast.ensures) in (
       search rules,
       (
         search rules,
@@ -50,8 +50,8 @@ play_shared-requires g c κs within =
                       (
                         subst (λ (x : Scene). c.ticks_of.result ≡ ticks_on x.port (phase_at x.session v.port.terminal.phase)) (sym e)
                             (subst (λ (n : ℕ). c.ticks_of.result ≡ ticks_on c.args.number (phase_at (session_of c.args.session.now) n)) (sym phase) c.ticks_of.ensures),
-                        subst (λ (n : ℕ). AreParts g.scene n (sum v.port.counts) (plain_parts c.scripts_of-scripts.result.now c.as_slice-3.result.now)) (sym phase)
-                            (subst (λ (n : ℕ). AreParts g.scene c.args.k n (plain_parts c.scripts_of-scripts.result.now c.as_slice-3.result.now)) (all ∙ sym (ap sum before.at_phase.of_session.counts)) parts),
+                        subst (λ (n : ℕ). IsCast g.scene n (sum v.port.counts) (plain_cast c.scripts_of-scripts.result.now c.as_slice-3.result.now)) (sym phase)
+                            (subst (λ (n : ℕ). IsCast g.scene c.args.k n (plain_cast c.scripts_of-scripts.result.now c.as_slice-3.result.now)) (all ∙ sym (ap sum before.at_phase.of_session.counts)) cast),
                       ),
                     ),
                   ),

@@ -3,4 +3,4 @@ use Rattle.many_threads.specs.Seating.{seated}
 use Rattle.many_threads.proofs.seating.seat.Given as goal
 
 abbrev pub invariant-loop-role : goal.invariant-loop-role
-invariant-loop-role l = seated (drop l.role-index l.roles) l.parts.items ≡ seated l.roles l.initial.parts.items
+invariant-loop-role l = seated (drop l.role-index l.roles) l.cast.items ≡ seated l.roles l.initial.cast.items

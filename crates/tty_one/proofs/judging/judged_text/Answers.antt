@@ -1,6 +1,5 @@
 use Rattle.std.proofs.Common.{length, map, ap, sym, ◌∙◌}
 use Rattle.std.proofs.lemmas.List.{length-map}
-use Rattle.tty_calls.specs.declared.journals.PortRun.{PortRun}
 use Rattle.tty_calls.specs.Sessions.{session_of}
 use Rattle.check_text.specs.Runs.{run_of}
 use Rattle.check_text.proofs.Within.{session_within, run_for_each}

@@ -2,8 +2,8 @@ ghost use Rattle.std.specs.Prelude.{◌≡◌, ◌≤◌, ◌<◌, ◌^◌, IsTr
 ghost use Rattle.tty_calls.specs.Plain.{call_of, handle_of};
 ghost use Rattle.tty_calls.specs.Limits.{byte_count};
 
-use super::*;
 use flip_buffer::flip;
+use port_core::{Port, Tried};
 use std::alloc::{AllocError, Global};
 use std::marker::Model;
 use std::test::Fail;

@@ -3,7 +3,7 @@ use Rattle.port_cell.specs.Cells.{opening_value}
 use Rattle.port_cell.specs.Seats.{HasAll}
 use Rattle.tty_port.specs.Calls.{PortSeat}
 use Rattle.tty_port.proofs.Seating.{AreNumbered, has_numbered}
-use Rattle.tty_port.proofs.tests.end.Goals as goal
+use Rattle.port_rows.proofs.shared.end.Goals as goal
 
 pub close-requires-clause-all : goal.close-requires-clause-all
 close-requires-clause-all c =

@@ -3,8 +3,8 @@ ghost use Rattle.tty_calls.specs.Plain.{call_of};
 ghost use Rattle.tty_calls.specs.Limits.{IsWithinLimits};
 ghost use Rattle.tty_calls.specs.Sessions.{session_of, phase_of};
 
-use super::*;
 use arrayvec::ArrayString;
+use many_threads::play;
 use std::alloc::Global;
 use std::test::Fail;
 use tty_base::{Buffer, Counts, Flag, Flagged, LineStep, NoMemory};

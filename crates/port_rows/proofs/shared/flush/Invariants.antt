@@ -2,7 +2,7 @@ use Rattle.std.proofs.Common.{◌≡◌}
 use Rattle.port_cell.specs.Knowledge.{list_seen}
 use Rattle.tty_port.specs.Seen.{next_run}
 use Rattle.tty_port.specs.Shared.{IsHere}
-use Rattle.tty_port.proofs.tests.flush.Given as goal
+use Rattle.port_rows.proofs.shared.flush.Given as goal
 
 abbrev pub invariant-loop : goal.invariant-loop
 invariant-loop g l =

@@ -7,7 +7,6 @@ ghost use Rattle.tty_port.specs.Seen.{IsBetween, next_run};
 ghost use Rattle.tty_port.specs.Flushing.{run_past};
 ghost use Rattle.tty_port.specs.Shared.{IsHere, AreHere, name_of_port, opening_history};
 
-use super::*;
 use flip_buffer::{FlipIn, flip};
 use port_core::Port;
 use std::alloc::Global;
@@ -18,6 +17,7 @@ use std::thread::{Threads, join, yield_now};
 use tty_base::{Bytes, Errno, Flag, Flagged, NoMemory, Put};
 use tty_calls::{Access, Answer, Call, Denied, Entry, Event, When, Who, Words};
 use tty_modes::Word;
+use tty_port::{Gate, OpenGate, Seat, SharedPort};
 
 fn moves<T: Send>() {}
 
@@ -59,7 +59,7 @@ fn last(shared: &SharedPort, seats: &mut Vec<Seat>) -> Seat
     seat
 }
 
-/// Opens a handle of the caller's own number, and then makes two calls in turn, 999 times.
+/// Opens a handle of the caller's own number, and then makes two calls in turn, 1,000 times in all.
 fn ask<R: Wait>(
     rt: &R,
     shared: &SharedPort,
@@ -84,7 +84,7 @@ fn ask<R: Wait>(
     {
         return seat;
     }
-    for step in 1..1000 {
+    for step in 1..1001 {
         let call = if step % 2 == 0 { calls.0 } else { calls.1 };
         if shared
             .call(rt, &mut seat, caller, step, call, &OpenGate)
@@ -227,9 +227,9 @@ fn two_callers_beside_a_flusher(rt: HostRuntime) -> Result<(), Fail> {
     let second = (&Call::Inq { h: 1 }, &Call::Outq { h: 1 });
     let port = play(&rt, rt.alloc(), first, second)?;
     let entries = port.journal().as_slice();
-    assert_eq!(rt; answered(entries, 0), Some(1000));
-    assert_eq!(rt; answered(entries, 1), Some(1000));
-    assert_eq!(rt; entries.len(), 2001);
+    assert_eq!(rt; answered(entries, 0), Some(1001));
+    assert_eq!(rt; answered(entries, 1), Some(1001));
+    assert_eq!(rt; entries.len(), 2003);
     Ok(())
 }
 
@@ -245,9 +245,9 @@ fn changes_beside_writes(rt: HostRuntime) -> Result<(), Fail> {
     );
     let port = play(&rt, rt.alloc(), first, (&write, &write))?;
     let entries = port.journal().as_slice();
-    assert_eq!(rt; answered(entries, 0), Some(1000));
-    assert_eq!(rt; answered(entries, 1), Some(1000));
-    assert_eq!(rt; port.generation(), 999);
+    assert_eq!(rt; answered(entries, 0), Some(1001));
+    assert_eq!(rt; answered(entries, 1), Some(1001));
+    assert_eq!(rt; port.generation(), 1000);
     Ok(())
 }
 

@@ -1,7 +1,7 @@
 use Rattle.std.proofs.Common.{[], subst, zero-add}
 use Rattle.tty_port.specs.Shared.{IsHere, AreHere}
 use Rattle.tty_port.proofs.Seating.{here_front}
-use Rattle.tty_port.proofs.tests.last.Goals as goal
+use Rattle.port_rows.proofs.shared.last.Goals as goal
 
 pub returns-clause-seat : goal.returns-clause-seat
 returns-clause-seat c =

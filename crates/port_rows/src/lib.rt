@@ -1,0 +1,10 @@
+//! A port alone, shared by threads, and played in phases, as tests of what no clause says: that calls
+//! succeed where memory is ample, and what they answer. Nothing stands on this crate.
+#![tactic(auto)]
+
+#[cfg(test)]
+mod alone;
+#[cfg(test)]
+mod phases;
+#[cfg(test)]
+mod shared;
