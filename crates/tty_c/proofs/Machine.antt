@@ -2,7 +2,7 @@
 --     loose_out, loose_in      a `Loose` is [the value in memory, with the right to free it; the allocator]
 --     slot_out, slot_in        a `Slot` is [what it owns beside its pointer]
 use Rattle.std.proofs.Common.{◌≡◌, ℕ, List, [], ◌∷◌, ◌++◌, refl, ap, ◌∙◌, lit<, Option}
-use mathlib.Core.Bool.{Bool, true, false, ◌&&◌}
+use mathlib.Core.Bool.{true, ◌&&◌}
 use lib.Dec.{T}
 use seplogic.Ra.Ura.{Ura}
 use mir.Syntax.{impl, tnil, dnil, ty_ptr}

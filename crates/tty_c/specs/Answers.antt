@@ -1,12 +1,33 @@
 -- What a call answers a program in C, and what it leaves.
-use Rattle.std.specs.Prelude.{◌≡◌, ◌≢◌, ℕ, ℤ, pos, Bool, true, false, ◌==◌, Option, None, Some, option_map, List, if◌then◌else◌}
+use Rattle.std.specs.Prelude.{◌≡◌, ◌≢◌, ℕ, ℤ, pos, negsuc, Bool, true, false, ◌==◌, Option, None, Some, option_map, List, if◌then◌else◌}
 use Rattle.tty_base.specs.declared.characters.Flag.{Flag}
 use Rattle.tty_base.specs.declared.characters.Flag.TheVariants as flag
 use Rattle.tty_base.specs.declared.counters.Signal.{Signal}
 use Rattle.tty_base.specs.declared.counters.Signal.TheVariants as signal
 use Rattle.tty_embed.specs.Embedded.{Embedded, accepts, after_receipt}
-use Rattle.tty_c.specs.declared.answers.TheConstants.{NO_MEMORY, NO_TERMINAL, WAITS, NO_FLAG}
 use Rattle.tty_c.specs.declared.handle.Handle.{Handle}
+
+-- What a call answers that has no number to answer. A program in C reads these numbers.
+
+-- no memory was left: -1
+abbrev pub no_memory : ℤ
+no_memory = negsuc 0
+
+-- the handle has no terminal: -2
+abbrev pub no_terminal : ℤ
+no_terminal = negsuc 1
+
+-- a read has to wait: -3
+abbrev pub waits : ℤ
+waits = negsuc 2
+
+-- a number is none of a flag: -4
+abbrev pub no_flag : ℤ
+no_flag = negsuc 3
+
+-- the handle has a terminal already: -5
+abbrev pub already_made : ℤ
+already_made = negsuc 4
 
 -- the terminal that a handle owns
 abbrev pub terminal_of : Handle → Option Embedded
@@ -14,16 +35,16 @@ terminal_of handle = handle.slot.tty
 
 -- what a call on a terminal answers, where the handle has one; without one it answers so
 abbrev pub answer_on : Option Embedded → (Embedded → ℤ) → ℤ
-answer_on None answer = NO_TERMINAL
+answer_on None answer = no_terminal
 answer_on (Some t) answer = answer t
 
 -- A call on the terminal of a handle answers and leaves what it answers and leaves of that terminal. Without a terminal it
 -- answers so, and does nothing; with one, but without memory, it does nothing either.
 pub record Calls (answer : Embedded → ℤ) (after : Embedded → Embedded) (old new : Option Embedded) (result : ℤ) : Type 0 where
-  pub unmade : old ≡ None → result ≡ NO_TERMINAL
-  pub answered : result ≢ NO_MEMORY → result ≡ answer_on old answer
-  pub left : result ≢ NO_MEMORY → new ≡ option_map after old
-  pub kept : result ≡ NO_MEMORY → new ≡ old
+  pub unmade : old ≡ None → result ≡ no_terminal
+  pub answered : result ≢ no_memory → result ≡ answer_on old answer
+  pub left : result ≢ no_memory → new ≡ option_map after old
+  pub kept : result ≡ no_memory → new ≡ old
 
 -- what stands in a place of C's into which a call on a terminal puts bytes
 abbrev pub place_on : Option Embedded → (Embedded → List ℕ) → (place : List ℕ) → List ℕ
@@ -47,7 +68,7 @@ flag_of n =
 
 -- whether a character was accepted; one whose number is none of a flag is refused
 abbrev pub receipt_answer : Option Flag → Embedded → ℤ
-receipt_answer None t = NO_FLAG
+receipt_answer None t = no_flag
 receipt_answer (Some flag) t = of_truth (accepts t)
 
 abbrev pub after_numbered_receipt : (byte : ℕ) → Option Flag → Embedded → Embedded
@@ -56,7 +77,7 @@ after_numbered_receipt byte (Some flag) t = after_receipt t (record { byte = byt
 
 -- how many bytes were read; a read that has to wait answers so
 abbrev pub count_or_wait : Option ℕ → ℤ
-count_or_wait None = WAITS
+count_or_wait None = waits
 count_or_wait (Some count) = pos count
 
 -- the number of a signal (signal.h); 0 is none

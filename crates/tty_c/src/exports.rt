@@ -1,11 +1,11 @@
 //! The calls of a program in C.
 
-ghost use Rattle.std.specs.Prelude.{◌≡◌, ◌≢◌, pos, None, Some, is_some, option_map, length, take, IfOk, if◌then◌else◌};
+ghost use Rattle.std.specs.Prelude.{◌≡◌, ◌≢◌, pos, true, None, Some, is_some, option_map, length, take, IfOk, if◌then◌else◌};
 ghost use Rattle.tty_modes.specs.Reading.{word_of};
 ghost use Rattle.n_tty.specs.States.{unread_count};
 ghost use Rattle.n_tty.specs.Writing.{piece_size};
 ghost use Rattle.tty_embed.specs.Embedded.{fresh, after_advance, is_ready_for, read_answer, place_after_read, after_reading, after_writing, after_setting, wire_of, taken_count, at_front, without_wire_front, first_signal, without_first_signal};
-ghost use Rattle.tty_c.specs.Answers.{terminal_of, answer_on, Calls, place_on, of_truth, flag_of, receipt_answer, after_numbered_receipt, count_or_wait, signal_number};
+ghost use Rattle.tty_c.specs.Answers.{no_memory, already_made, terminal_of, answer_on, Calls, place_on, of_truth, flag_of, receipt_answer, after_numbered_receipt, count_or_wait, signal_number};
 
 use crate::answers::{MADE, NO_MEMORY, NO_TERMINAL};
 use crate::handle::{Handle, put, taken, vacated};
@@ -17,7 +17,8 @@ use tty_embed::Tty;
 /// Makes a terminal for a handle that has none.
 #[unsafe(no_mangle)]
 pub extern "C" fn jw_new(alloc: Global, handle: &mut Handle) -> i64
-    ensures answer { result ≢ NO_MEMORY → result ≡ (if is_some (terminal_of handle.old) then MADE else pos 0) }
+    ensures answer { result ≢ no_memory → result ≡ (if is_some (terminal_of handle.old) then already_made else pos 0) }
+    ensures live { is_some (terminal_of handle.old) ≡ true → result ≡ already_made }
     ensures made { result ≡ pos 0 → terminal_of handle.new ≡ Some fresh }
     ensures kept { result ≢ pos 0 → terminal_of handle.new ≡ terminal_of handle.old }
 {
@@ -112,8 +113,8 @@ pub extern "C" fn jw_read(
 ) -> i64
     ensures calls { Calls (λ t. count_or_wait (read_answer t nonblock since (length place.old))) (λ t. after_reading t nonblock since (length place.old))
         (terminal_of handle.old) (terminal_of handle.new) result }
-    ensures place { result ≢ NO_MEMORY → place.new ≡ place_on (terminal_of handle.old) (λ t. place_after_read t nonblock since place.old) place.old }
-    ensures kept { result ≡ NO_MEMORY → place.new ≡ place.old }
+    ensures place { result ≢ no_memory → place.new ≡ place_on (terminal_of handle.old) (λ t. place_after_read t nonblock since place.old) place.old }
+    ensures kept { result ≡ no_memory → place.new ≡ place.old }
 {
     let Some(mut tty) = taken(alloc, handle) else {
         return NO_TERMINAL;
@@ -153,8 +154,8 @@ pub extern "C" fn jw_set(alloc: Global, handle: &mut Handle, word: &[u8]) -> i64
 #[unsafe(no_mangle)]
 pub extern "C" fn jw_take_wire(alloc: Global, handle: &mut Handle, place: &mut [u8]) -> i64
     ensures calls { Calls (λ t. pos (taken_count t place.old)) (λ t. without_wire_front (taken_count t place.old) t) (terminal_of handle.old) (terminal_of handle.new) result }
-    ensures place { result ≢ NO_MEMORY → place.new ≡ place_on (terminal_of handle.old) (λ t. at_front place.old (take (taken_count t place.old) (wire_of t))) place.old }
-    ensures kept { result ≡ NO_MEMORY → place.new ≡ place.old }
+    ensures place { result ≢ no_memory → place.new ≡ place_on (terminal_of handle.old) (λ t. at_front place.old (take (taken_count t place.old) (wire_of t))) place.old }
+    ensures kept { result ≡ no_memory → place.new ≡ place.old }
 {
     let Some(mut tty) = taken(alloc, handle) else {
         return NO_TERMINAL;

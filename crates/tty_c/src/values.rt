@@ -4,7 +4,7 @@ ghost use Rattle.std.specs.Prelude.{◌≡◌, ◌≢◌, pos, Some, None, lengt
 ghost use Rattle.tty_modes.specs.Reading.{word_of};
 ghost use Rattle.n_tty.specs.Writing.{piece_size};
 ghost use Rattle.tty_embed.specs.Embedded.{read_answer, place_after_read, after_reading, after_writing, after_setting, wire_of, taken_count, at_front, without_wire_front, first_signal, without_first_signal};
-ghost use Rattle.tty_c.specs.Answers.{of_truth, flag_of, receipt_answer, after_numbered_receipt, count_or_wait, signal_number};
+ghost use Rattle.tty_c.specs.Answers.{no_memory, of_truth, flag_of, receipt_answer, after_numbered_receipt, count_or_wait, signal_number};
 
 use crate::answers::{NO_FLAG, NO_MEMORY, WAITS};
 use tty_base::{Flag, NoMemory, Signal};
@@ -44,9 +44,9 @@ fn number_of(signal: Option<Signal>) -> i64
 }
 
 pub fn receive(tty: &mut Tty, byte: u8, flag: u8) -> i64
-    ensures answer { result ≢ NO_MEMORY → result ≡ receipt_answer (flag_of flag) tty.old }
-    ensures after { result ≢ NO_MEMORY → tty.new ≡ after_numbered_receipt byte (flag_of flag) tty.old }
-    ensures no_memory { result ≡ NO_MEMORY → tty.new ≡ tty.old }
+    ensures answer { result ≢ no_memory → result ≡ receipt_answer (flag_of flag) tty.old }
+    ensures after { result ≢ no_memory → tty.new ≡ after_numbered_receipt byte (flag_of flag) tty.old }
+    ensures no_memory { result ≡ no_memory → tty.new ≡ tty.old }
 {
     let Some(flag) = flag_of(flag) else {
         return NO_FLAG;
@@ -58,10 +58,10 @@ pub fn receive(tty: &mut Tty, byte: u8, flag: u8) -> i64
 }
 
 pub fn read(tty: &mut Tty, nonblock: bool, since: u64, place: &mut [u8]) -> i64
-    ensures answer { result ≢ NO_MEMORY → result ≡ count_or_wait (read_answer tty.old nonblock since (length place.old)) }
-    ensures place { result ≢ NO_MEMORY → place.new ≡ place_after_read tty.old nonblock since place.old }
-    ensures after { result ≢ NO_MEMORY → tty.new ≡ after_reading tty.old nonblock since (length place.old) }
-    ensures no_memory { result ≡ NO_MEMORY → (tty.new ≡ tty.old) × (place.new ≡ place.old) }
+    ensures answer { result ≢ no_memory → result ≡ count_or_wait (read_answer tty.old nonblock since (length place.old)) }
+    ensures place { result ≢ no_memory → place.new ≡ place_after_read tty.old nonblock since place.old }
+    ensures after { result ≢ no_memory → tty.new ≡ after_reading tty.old nonblock since (length place.old) }
+    ensures no_memory { result ≡ no_memory → (tty.new ≡ tty.old) × (place.new ≡ place.old) }
 {
     match tty.read(nonblock, since, place) {
         Ok(Some(count)) => count as i64,
@@ -71,9 +71,9 @@ pub fn read(tty: &mut Tty, nonblock: bool, since: u64, place: &mut [u8]) -> i64
 }
 
 pub fn write(tty: &mut Tty, bytes: &[u8]) -> i64
-    ensures answer { result ≢ NO_MEMORY → result ≡ pos (piece_size tty.old.modes tty.old.port.tty tty.old.port.output bytes.now) }
-    ensures after { result ≢ NO_MEMORY → tty.new ≡ after_writing tty.old bytes.now }
-    ensures no_memory { result ≡ NO_MEMORY → tty.new ≡ tty.old }
+    ensures answer { result ≢ no_memory → result ≡ pos (piece_size tty.old.modes tty.old.port.tty tty.old.port.output bytes.now) }
+    ensures after { result ≢ no_memory → tty.new ≡ after_writing tty.old bytes.now }
+    ensures no_memory { result ≡ no_memory → tty.new ≡ tty.old }
 {
     match tty.write(bytes) {
         Ok(count) => count as i64,
@@ -82,9 +82,9 @@ pub fn write(tty: &mut Tty, bytes: &[u8]) -> i64
 }
 
 pub fn set(tty: &mut Tty, word: &[u8]) -> i64
-    ensures answer { result ≢ NO_MEMORY → result ≡ of_truth (is_some (word_of word.now)) }
-    ensures after { result ≢ NO_MEMORY → tty.new ≡ after_setting tty.old (word_of word.now) }
-    ensures no_memory { result ≡ NO_MEMORY → tty.new ≡ tty.old }
+    ensures answer { result ≢ no_memory → result ≡ of_truth (is_some (word_of word.now)) }
+    ensures after { result ≢ no_memory → tty.new ≡ after_setting tty.old (word_of word.now) }
+    ensures no_memory { result ≡ no_memory → tty.new ≡ tty.old }
 {
     match tty.set(word) {
         Ok(known) => of_truth(known),
@@ -93,10 +93,10 @@ pub fn set(tty: &mut Tty, word: &[u8]) -> i64
 }
 
 pub fn take_wire(tty: &mut Tty, place: &mut [u8]) -> i64
-    ensures answer { result ≢ NO_MEMORY → result ≡ pos (taken_count tty.old place.old) }
-    ensures place { result ≢ NO_MEMORY → place.new ≡ at_front place.old (take (taken_count tty.old place.old) (wire_of tty.old)) }
-    ensures after { result ≢ NO_MEMORY → tty.new ≡ without_wire_front (taken_count tty.old place.old) tty.old }
-    ensures no_memory { result ≡ NO_MEMORY → (tty.new ≡ tty.old) × (place.new ≡ place.old) }
+    ensures answer { result ≢ no_memory → result ≡ pos (taken_count tty.old place.old) }
+    ensures place { result ≢ no_memory → place.new ≡ at_front place.old (take (taken_count tty.old place.old) (wire_of tty.old)) }
+    ensures after { result ≢ no_memory → tty.new ≡ without_wire_front (taken_count tty.old place.old) tty.old }
+    ensures no_memory { result ≡ no_memory → (tty.new ≡ tty.old) × (place.new ≡ place.old) }
 {
     match tty.take_wire(place) {
         Ok(count) => count as i64,
@@ -105,9 +105,9 @@ pub fn take_wire(tty: &mut Tty, place: &mut [u8]) -> i64
 }
 
 pub fn take_signal(tty: &mut Tty) -> i64
-    ensures answer { result ≢ NO_MEMORY → result ≡ signal_number (first_signal tty.old) }
-    ensures after { result ≢ NO_MEMORY → tty.new ≡ without_first_signal tty.old }
-    ensures no_memory { result ≡ NO_MEMORY → tty.new ≡ tty.old }
+    ensures answer { result ≢ no_memory → result ≡ signal_number (first_signal tty.old) }
+    ensures after { result ≢ no_memory → tty.new ≡ without_first_signal tty.old }
+    ensures no_memory { result ≡ no_memory → tty.new ≡ tty.old }
 {
     match tty.take_signal() {
         Ok(signal) => number_of(signal),

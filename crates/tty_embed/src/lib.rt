@@ -5,3 +5,6 @@ mod places;
 mod terminal;
 
 pub use terminal::Tty;
+
+#[cfg(test)]
+mod tests;

@@ -119,14 +119,13 @@ impl Tty {
         if !self.ready(nonblock, since, place.len()) {
             return Ok(None);
         }
-        let asked = place.len().min(MOST_READ) as u32;
-        let count = self.disc.read_len(asked, &self.modes) as usize;
-        make_room(&mut self.bytes, self.alloc, count)?;
+        let asked = place.len().min(MOST_READ);
+        make_room(&mut self.bytes, self.alloc, asked)?;
         self.wire.reserve(1)?;
-        let _count = self.disc.read(asked, &self.modes, &mut self.bytes);
+        let count = self.disc.read(asked as u32, &self.modes, &mut self.bytes);
         self.disc.ixoff(&self.modes, &mut self.wire);
         put_front(place, self.bytes.as_slice());
-        Ok(Some(count))
+        Ok(Some(count as usize))
     }
 
     /// Posts bytes of a write, 64 at most, up to the first that does not fit while output is halted. Answers how many.

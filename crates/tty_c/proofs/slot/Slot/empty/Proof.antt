@@ -1,6 +1,6 @@
 -- An empty slot owns nothing beside its pointer.
 use Rattle.std.proofs.Common.{[], ◌∷◌, refl}
-use types.Kit.{‵, raw, ◌⊛◌, ◌$◌, ◌∵◌, !, qed, keep, join, suffices, done}
+use types.Kit.{raw, ◌$◌, ◌∵◌, !, qed, keep, join, suffices, done}
 use types.Run.{enter, no_more, and_then, returns}
 use types.ByLocal.{alloc_all, pass_all, free_all, look_at, get, sets}
 use types.Part.{agg}

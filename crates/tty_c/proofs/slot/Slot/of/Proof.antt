@@ -1,9 +1,9 @@
 -- A slot owns what the pointer of a box owned.
-use Rattle.std.proofs.Common.{◌≡◌, ℕ, List, [], ◌∷◌, ◌++◌, refl, sym, subst}
+use Rattle.std.proofs.Common.{List, [], ◌∷◌, ◌++◌, refl, sym, subst}
 use Rattle.std.specs.Prelude.{Some}
 use mir.Val.{Val, vptr}
 use base.Logic.{SProp, ent, id⊢}
-use base.Fml.{Fml, ftrue}
+use base.Fml.{ftrue}
 use prog.Wp.{WpFn}
 use contract.Running.{tables}
 use types.Kit.{‵, raw, ◌⊛◌, ◌$◌, ◌∵◌, !, qed, move, keep, split, fsplit, fjoin, fpack, suffices, done}
