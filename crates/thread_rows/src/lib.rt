@@ -4,9 +4,13 @@
 #[cfg(test)]
 mod alike;
 #[cfg(test)]
+mod drawn;
+#[cfg(test)]
 mod early;
 #[cfg(test)]
 mod flight;
+#[cfg(test)]
+mod hangups;
 #[cfg(test)]
 mod load;
 #[cfg(test)]

@@ -1,13 +1,13 @@
-//! Plays under load, with a change of discipline and a hangup, and how their journals are judged.
+//! Plays under load, with a change of discipline and a hangup.
 
-use super::plays::played;
+use super::plays::{is_legal, played};
 use std::alloc::Global;
 use std::process::Abort;
 use std::sync::Wait;
 use std::test::Fail;
 use std::thread::Threads;
 use tty_port::OpenGate;
-use tty_rows::{with_journals, written_out};
+use tty_rows::written_out;
 
 /// How often each session is played.
 const PLAYS: u32 = 10;
@@ -65,10 +65,7 @@ fn are_legal<R: Threads + Wait + Abort + Sync>(
         let text = written_out(alloc, session)?;
         let told = played(rt, alloc, &["run", "--journal"], text, &OpenGate)?;
         assert_eq!(rt; told.status, 0, "at play {play}");
-        let text = with_journals(alloc, session, told.text.as_slice())?;
-        let judged = played(rt, alloc, &["check"], text, &OpenGate)?;
-        assert_eq!(rt; judged.status, 0, "at play {play}");
-        assert_eq!(rt; judged.text.as_slice(), b"legal\n".as_slice());
+        is_legal(rt, alloc, session, told.text.as_slice())?;
     }
     Ok(())
 }

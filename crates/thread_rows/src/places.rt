@@ -5,7 +5,7 @@ use std::thread;
 use tty_calls::{Entry, Event, Who};
 
 /// How many turns a thread waits at most.
-const MOST_TURNS: u32 = 10_000_000;
+pub(crate) const MOST_TURNS: u32 = 10_000_000;
 
 /// A place that one thread comes to, and another waits for.
 #[derive(Drop)]

@@ -1,12 +1,14 @@
 //! How a session is played.
 
 use std::alloc::{AllocError, Global};
+use std::process::Abort;
 use std::sync::Wait;
+use std::test::Fail;
 use std::thread::Threads;
 use tty_base::{Bytes, MemSink, MemSource};
 use tty_calls::Entry;
-use tty_port::Gate;
-use tty_rows::written_out;
+use tty_port::{Gate, OpenGate};
+use tty_rows::{with_journals, written_out};
 use tty_run::{Ran, Runs, tty_run};
 
 /// How many bytes a source or a sink moves at most in one call.
@@ -59,4 +61,18 @@ pub(crate) fn played_behind<R: Threads + Wait + Sync, G: Gate + Sync>(
 ) -> Result<Outcome, AllocError> {
     let text = written_out(alloc, session)?;
     played(rt, alloc, &["run"], text, gate)
+}
+
+/// The journals in what was told of a session are legal.
+pub(crate) fn is_legal<R: Threads + Wait + Abort + Sync>(
+    rt: &R,
+    alloc: Global,
+    session: &str,
+    told: &[u8],
+) -> Result<(), Fail> {
+    let text = with_journals(alloc, session, told)?;
+    let judged = played(rt, alloc, &["check"], text, &OpenGate)?;
+    assert_eq!(rt; judged.status, 0, "at {session}");
+    assert_eq!(rt; judged.text.as_slice(), b"legal\n".as_slice());
+    Ok(())
 }

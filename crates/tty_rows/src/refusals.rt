@@ -1,5 +1,6 @@
 //! Words, texts, sources and sinks that end a call of the program early.
 
+use super::rows::Told;
 use std::alloc::{AllocError, Global};
 use std::process::Abort;
 use std::test::Fail;
@@ -39,6 +40,12 @@ done
 /// How many bytes a source or a sink moves at most in one call.
 const PIECE: usize = 8;
 
+/// How often a source of the 130 bytes of the session is read: 17 times for its bytes, and once for its end.
+const READS: u32 = 18;
+
+/// How often a sink is given a piece of the 284 bytes of the report.
+const WRITES: usize = 36;
+
 /// How many bytes a sink takes in all: more than any text here has.
 const ROOM: usize = 65_536;
 
@@ -74,46 +81,6 @@ fn other_words_are_bad(rt: HostRuntime) -> Result<(), Fail> {
 }
 
 #[test]
-fn the_first_wrong_line_is_told(rt: HostRuntime) -> Result<(), Fail> {
-    let alloc = rt.alloc();
-    for (text, told) in [
-        ("", "bad session line 1: order\n"),
-        ("tty-session 3\n", "bad session line 1: header\n"),
-        (
-            "tty-session 1\nports 1\nphase\nline 0\nrx 686",
-            "bad session line 5: hex\n",
-        ),
-        (
-            "tty-session 1\nports 1\nphase\ncaller a 0\nread 0 01\n",
-            "bad session line 5: number\n",
-        ),
-        (
-            "tty-session 1\nports 1\nflip 0 64\n",
-            "bad session line 3: word\n",
-        ),
-        (
-            "tty-session 2\nports 1\nflip 0 63\n",
-            "bad session line 3: limit\n",
-        ),
-        (
-            "tty-session 2\nports 1\nflip 1 64\n",
-            "bad session line 3: limit\n",
-        ),
-        (
-            "tty-session 2\nports 1\nflip 0 64\nflip 0 64\n",
-            "bad session line 4: order\n",
-        ),
-    ] {
-        let mut source = source_of(alloc, text.as_bytes(), Vec::new(alloc))?;
-        let mut sink = MemSink::new(alloc, PIECE, ROOM, Vec::new(alloc))?;
-        let Ran { status, .. } = tty_one(alloc, &ONE, &mut source, &mut sink);
-        assert_eq!(rt; status, 1, "at {text:?}");
-        assert_eq!(rt; sink.given(), told.as_bytes());
-    }
-    Ok(())
-}
-
-#[test]
 fn one_byte_more_than_the_longest_text_is_too_long(rt: HostRuntime) -> Result<(), Fail> {
     let alloc = rt.alloc();
     for (more, ended, told) in [
@@ -130,16 +97,36 @@ fn one_byte_more_than_the_longest_text_is_too_long(rt: HostRuntime) -> Result<()
     Ok(())
 }
 
+/// What is told of three bytes where these reads and writes fail, and the sink has room for so many bytes.
+fn told_with(
+    alloc: Global,
+    reads: Vec<u32>,
+    writes: Vec<u32>,
+    room: usize,
+) -> Result<Told, AllocError> {
+    let mut source = source_of(alloc, THREE_BYTES.as_bytes(), reads)?;
+    let Ok(mut sink) = MemSink::new(alloc, PIECE, room, writes) else {
+        return Err(AllocError);
+    };
+    let Ran { status, .. } = tty_one(alloc, &ONE, &mut source, &mut sink);
+    let text = sink.given().to_vec(alloc)?;
+    Ok(Told { status, text })
+}
+
 #[test]
 fn a_source_that_fails_is_told_at_each_read(rt: HostRuntime) -> Result<(), Fail> {
     let alloc = rt.alloc();
-    for read in 0..=THREE_BYTES.len() / PIECE {
-        let fails = vec![in alloc; read as u32]?;
-        let mut source = source_of(alloc, THREE_BYTES.as_bytes(), fails)?;
-        let mut sink = MemSink::new(alloc, PIECE, ROOM, Vec::new(alloc))?;
-        let Ran { status, .. } = tty_one(alloc, &ONE, &mut source, &mut sink);
-        assert_eq!(rt; status, 3, "at read {read}");
-        assert_eq!(rt; sink.given(), b"read fault\n".as_slice());
+    for read in 0..=READS {
+        let fails = vec![in alloc; read]?;
+        let Told { status, text } = told_with(alloc, fails, Vec::new(alloc), ROOM)?;
+        // The last of these reads is not made.
+        let (ended, told) = if read < READS {
+            (3, "read fault\n")
+        } else {
+            (0, REPORT)
+        };
+        assert_eq!(rt; status, ended, "at read {read}");
+        assert_eq!(rt; text.as_slice(), told.as_bytes(), "at read {read}");
     }
     Ok(())
 }
@@ -147,24 +134,18 @@ fn a_source_that_fails_is_told_at_each_read(rt: HostRuntime) -> Result<(), Fail>
 #[test]
 fn a_sink_that_fails_has_the_front_of_the_report(rt: HostRuntime) -> Result<(), Fail> {
     let alloc = rt.alloc();
-    for write in 0..REPORT.len() / PIECE {
-        let mut source = source_of(alloc, THREE_BYTES.as_bytes(), Vec::new(alloc))?;
+    for write in 0..WRITES {
         let fails = vec![in alloc; write as u32]?;
-        let mut sink = MemSink::new(alloc, PIECE, ROOM, fails)?;
-        let Ran { status, .. } = tty_one(alloc, &ONE, &mut source, &mut sink);
+        let Told { status, text } = told_with(alloc, Vec::new(alloc), fails, ROOM)?;
         assert_eq!(rt; status, 4, "at write {write}");
         let front = REPORT.as_bytes().get(..write * PIECE);
-        assert!(rt; front == Some(sink.given()), "at write {write}");
+        assert!(rt; front == Some(text.as_slice()), "at write {write}");
     }
     for room in 0..REPORT.len() {
-        let mut source = source_of(alloc, THREE_BYTES.as_bytes(), Vec::new(alloc))?;
-        let mut sink = MemSink::new(alloc, PIECE, room, Vec::new(alloc))?;
-        let Ran { status, .. } = tty_one(alloc, &ONE, &mut source, &mut sink);
+        let Told { status, text } = told_with(alloc, Vec::new(alloc), Vec::new(alloc), room)?;
         assert_eq!(rt; status, 4, "with room for {room}");
-        assert!(rt;
-            REPORT.as_bytes().get(..room) == Some(sink.given()),
-            "with room for {room}"
-        );
+        let front = REPORT.as_bytes().get(..room);
+        assert!(rt; front == Some(text.as_slice()), "with room for {room}");
     }
     Ok(())
 }
