@@ -1,12 +1,9 @@
 -- Lists of numbers seen as characters.
-use Rattle.std.proofs.Common.{◌≡◌, ℕ, ◌<◌, ◌≤◌, List, [], ◌∷◌, ◌++◌, map, length, true, refl, sym, ap, subst, ◌∙◌, ⊎_elim, inl, inr, arith, append_assoc, length-append}
-use Rattle.std.proofs.lemmas.List.Elements.{All-nil, All-push}
+use Rattle.std.proofs.Common.{◌≡◌, ℕ, List, [], ◌∷◌, ◌++◌, map, length, true, refl, sym, ap, subst, ◌∙◌, ⊎_elim, inl, inr}
 use mathlib.Core.List.{IsPrefix, map-append}
 use Rattle.std.proofs.lemmas.List.{append-nil, length-map}
 use Rattle.tty_base.specs.declared.characters.Flagged.{Flagged}
-use Rattle.word_ring.specs.Ends.{TakerState, IsOneWithin, with_shown, with_taken}
-use Rattle.word_ring.proofs.Released.{below_push}
-use Rattle.flip_buffer.specs.Drops.{Releases}
+use Rattle.word_ring.specs.Ends.{TakerState, IsOneWithin, with_taken}
 use Rattle.flip_buffer.specs.Packed.{char_of, out_state}
 
 pub chars_begin : (xs ys : List ℕ) → IsPrefix xs ys → IsPrefix (map char_of xs) (map char_of ys)
@@ -25,7 +22,7 @@ out_taken t [] = refl
 out_taken t (x ∷ xs) =
     let both = map-append char_of t.taken (x ∷ xs) in
     let count : length (t.taken ++ x ∷ xs) ≡ length (map char_of t.taken ++ map char_of (x ∷ xs)) = sym (length-map (t.taken ++ x ∷ xs) char_of) ∙ ap length both in
-    λ i. record { ring = t.ring; capacity = t.capacity; taken = both i; released = t.released ++ count i ∷ []; tails = t.tails; floor = t.floor; ended = t.ended; sent = map char_of t.sent }
+    λ i. record { ring = t.ring; capacity = t.capacity; taken = both i; peeked = []; released = t.released ++ count i ∷ []; tails = t.tails; floor = t.floor; ended = t.ended; sent = map char_of t.sent }
 
 -- what taking some changes, and what stays
 pub record Took {A : Type 0} (t t' : TakerState A) (xs : List A) : Type 0 where
@@ -40,38 +37,3 @@ pub record Took {A : Type 0} (t t' : TakerState A) (xs : List A) : Type 0 where
 pub took : {A : Type 0} (t : TakerState A) (xs : List A) → Took t (with_taken t xs) xs
 took t [] = record { ring = refl; capacity = refl; taken = sym (append-nil t.taken); tails = refl; floor = refl; ended = refl; sent = refl }
 took t (x ∷ xs) = record { ring = refl; capacity = refl; taken = refl; tails = refl; floor = refl; ended = refl; sent = refl }
-
--- ---- the heads that are released
-
-pub releases_none : {A : Type 0} (t t' : TakerState A) → t'.released ≡ t.released → Releases t t'
-releases_none t t' same = record {
-  heads = [];
-  adds = same ∙ sym (append-nil t.released);
-  above = All-nil (λ (h : ℕ). length t.taken < h);
-  below = All-nil (λ (h : ℕ). h ≤ length t'.taken);
-}
-
--- one more piece is taken
-pub releases_more : {A : Type 0} (t0 t1 : TakerState A) (tail : ℕ) (xs : List A) → length t0.taken ≤ length t1.taken → Releases t0 t1 → Releases t0 (with_taken (with_shown t1 tail) xs)
-releases_more t0 t1 tail [] le r = record { heads = r.heads; adds = r.adds; above = r.above; below = r.below }
-releases_more t0 t1 tail (x ∷ xs) le r =
-    let head = length (t1.taken ++ x ∷ xs) in
-    let more : length t1.taken < head = omega (arith, length-append t1.taken (x ∷ xs)) in
-    record {
-      heads = r.heads ++ head ∷ [];
-      adds = ap (λ hs. hs ++ head ∷ []) r.adds ∙ append_assoc t0.released r.heads (head ∷ []);
-      above = All-push (λ (h : ℕ). length t0.taken < h) r.heads head r.above (omega arith);
-      below = below_push r.heads (length t1.taken) head r.below (omega arith);
-    }
-
--- numbers that were released are as many characters
-pub releases_characters : (t t' : TakerState ℕ) → Releases t t' → Releases (out_state t) (out_state t')
-releases_characters t t' r =
-    let old = length-map t.taken char_of in
-    let new = length-map t'.taken char_of in
-    record {
-      heads = r.heads;
-      adds = r.adds;
-      above = λ k d lt. (let a = r.above k d lt in omega arith);
-      below = λ k d lt. (let b = r.below k d lt in omega arith);
-    }

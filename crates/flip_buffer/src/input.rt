@@ -87,11 +87,28 @@ impl Moves for FlipIn {}
 impl Moves for FlipNote {}
 
 impl FlipIn {
+    /// How many characters the buffer has room for.
+    pub fn capacity(&self) -> usize
+        ensures { result ≡ self.now.capacity }
+    {
+        self.putter.capacity() as usize
+    }
+
     /// How many characters were put.
     pub fn sent(&self) -> u64
         ensures { result ≡ length self.now.sent }
     {
         self.putter.sent()
+    }
+
+    /// How many characters were put and, by the head that this call loads, not taken.
+    pub fn waiting(&mut self) -> u64
+        ensures same { self.new ≡ with_loaded self.old self.new.floor }
+        ensures count { result + self.new.floor ≡ length self.old.sent }
+        ensures rises { (self.old.floor ≤ self.new.floor) × (self.new.floor ≤ length self.old.pushed) }
+        ensures rise { IsNonDecreasing self.new.heads }
+    {
+        self.putter.waiting()
     }
 
     /// Pushes, and gives a note of what this end knows, which the other end can be told.
@@ -111,6 +128,7 @@ impl FlipIn {
         requires { note.ring ≡ self.old.ring }
         ensures same { self.new ≡ with_loaded self.old self.new.floor }
         ensures rises { (self.old.floor ≤ self.new.floor) × (note.taken ≤ self.new.floor) × (self.new.floor ≤ length self.old.pushed) }
+        ensures within { length self.old.pushed ≤ length self.old.sent }
         ensures rise { IsNonDecreasing self.new.heads }
     {
         self.putter.meet(note);

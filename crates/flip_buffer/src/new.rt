@@ -11,7 +11,7 @@ use word_ring::ring;
 pub fn flip(alloc: Global, n: usize) -> Result<(FlipIn, FlipOut), NoMemory>
     requires { (64 ≤ n) × (n ≤ 65536) }
     ensures input { IfOk result (λ e. e.0 ≡ record { ring = e.1.ring; capacity = n; sent = []; pushed = []; heads = []; floor = 0 }) }
-    ensures output { IfOk result (λ e. e.1 ≡ record { ring = e.1.ring; capacity = n; taken = []; released = []; tails = []; floor = 0; ended = false; sent = [] }) }
+    ensures output { IfOk result (λ e. e.1 ≡ record { ring = e.1.ring; capacity = n; taken = []; peeked = []; released = []; tails = []; floor = 0; ended = false; sent = [] }) }
 {
     let (putter, taker) = ring(alloc, n)?;
     Ok((FlipIn { putter }, FlipOut { taker, capacity: n }))

@@ -1,5 +1,5 @@
 //! The end that takes characters out.
-ghost use Rattle.std.specs.Prelude.{◌≡◌, ℕ, ◌+◌, ◌-◌, ◌<◌, ◌≤◌, true, List, [], ◌∷◌, ◌++◌, map, length, min, max, All};
+ghost use Rattle.std.specs.Prelude.{◌≡◌, ℕ, ◌+◌, ◌-◌, ◌<◌, ◌≤◌, true, List, [], ◌∷◌, ◌++◌, map, length, take, min, max, All};
 ghost use mathlib.Core.List.{IsPrefix};
 ghost use Rattle.arrayvec.specs.ArrayVec.{array_vec_len};
 ghost use Rattle.tty_base.specs.declared.characters.Flagged.{Flagged};
@@ -34,27 +34,6 @@ impl Model for FlipOut {
     ghost invariant = { HasCapacity };
 }
 
-/// Adds the characters of the numbers.
-fn add_all(numbers: &[u16], out: &mut ArrayVec<Flagged, 64>)
-    requires { array_vec_len out.old + length numbers.now ≤ 64 }
-    ensures items { out.new.items ≡ out.old.items ++ map char_of numbers.now }
-    ensures len { array_vec_len out.new ≡ array_vec_len out.old + length numbers.now }
-{
-    for x in numbers {
-        out.push(character_of(*x));
-    }
-}
-
-/// Adds the characters of the numbers, in room that was reserved.
-fn append_all(numbers: &[u16], out: &mut Chars)
-    requires { length numbers.now ≤ out.old.spare }
-    ensures { out.new ≡ record { items = out.old.items ++ map char_of numbers.now; spare = out.old.spare - length numbers.now } }
-{
-    for x in numbers {
-        out.add(character_of(*x));
-    }
-}
-
 impl Moves for FlipOut {}
 
 impl FlipOut {
@@ -82,10 +61,10 @@ impl FlipOut {
     }
 
     /// Is told what the other end had pushed, and the heads that it had loaded. From then on each
-    /// tail counts at least that.
+    /// tail counts at least that. What was peeked is forgotten.
     pub fn meet(&mut self, note: FlipNote)
         requires { note.ring ≡ self.old.ring }
-        ensures same { self.new ≡ record self.old { floor = max self.old.floor (length note.pushed) } }
+        ensures same { self.new ≡ record self.old { peeked = []; floor = max self.old.floor (length note.pushed) } }
         ensures compared { IsOneWithin self.old.taken note.pushed }
         ensures heads { AreReleased self.old.released note.heads × All (λ h. h ≤ length self.old.taken) note.heads }
     {
@@ -93,7 +72,8 @@ impl FlipOut {
         self.taker.meet(note);
     }
 
-    /// How many characters can be taken, by the tail that this call loads.
+    /// How many characters can be taken, by the tail that this call loads. What was peeked is
+    /// forgotten.
     pub fn look(&mut self) -> usize
         ensures same { self.new ≡ with_shown self.old self.new.floor }
         ensures count { length self.old.taken + result ≡ self.new.floor }
@@ -103,6 +83,38 @@ impl FlipOut {
         ensures begins { self.old.ended ≡ true → IsPrefix self.old.taken self.old.sent }
     {
         self.taker.look()
+    }
+
+    /// The next character after those that were taken or peeked, which a look or a note has shown. It
+    /// stays in the buffer until it is released.
+    pub fn peek_next(&mut self) -> Flagged
+        requires { length self.old.taken + length self.old.peeked < self.old.floor }
+        ensures { self.new ≡ record self.old { peeked = self.old.peeked ++ result ∷ [] } }
+    {
+        character_of(self.taker.peek_next())
+    }
+
+    /// So many characters after those that were taken or peeked, which a look or a note has shown, are
+    /// added to `out`. They stay in the buffer until they are released.
+    pub fn peek(&mut self, count: usize, out: &mut ArrayVec<Flagged, 64>)
+        requires shown { length self.old.taken + length self.old.peeked + count ≤ self.old.floor }
+        requires room { array_vec_len out.old + count ≤ 64 }
+        ensures peeks { (xs : List Flagged) × (length xs ≡ count) × (out.new.items ≡ out.old.items ++ xs) × (self.new ≡ record self.old { peeked = self.old.peeked ++ xs }) }
+        ensures len { array_vec_len out.new ≡ array_vec_len out.old + count }
+    {
+        for _ in 0..count {
+            out.push(self.peek_next());
+        }
+    }
+
+    /// Takes the first `n` characters that were peeked, by one store of the head, and the others are
+    /// forgotten. Where `n` is 0 nothing changes.
+    pub fn release(&mut self, n: usize)
+        requires { n ≤ length self.old.peeked }
+        ensures same { self.new ≡ with_taken self.old (take n self.old.peeked) }
+        ensures begins { self.old.ended ≡ true → IsPrefix self.new.taken self.old.sent }
+    {
+        self.taker.release(n);
     }
 
     /// Takes the oldest characters, at most so many and no more than the tail that this call loads
@@ -116,22 +128,10 @@ impl FlipOut {
         ensures ended { self.old.ended ≡ true → self.new.floor ≡ length self.old.sent }
         ensures begins { self.old.ended ≡ true → IsPrefix self.new.taken self.old.sent }
     {
-        let mut numbers = ArrayVec::new();
-        let count = self.taker.take(most, &mut numbers);
-        add_all(numbers.as_slice(), out);
+        let count = self.look().min(most);
+        self.peek(count, out);
+        self.release(count);
         count
-    }
-
-    /// Takes the next character, which a look has shown.
-    pub fn take_next(&mut self) -> Flagged
-        requires { length self.old.taken < self.old.floor }
-        ensures moves { self.new ≡ with_taken (with_shown self.old self.new.floor) (result ∷ []) }
-        ensures rises { self.old.floor ≤ self.new.floor }
-        ensures most { self.new.floor ≤ length self.old.taken + self.old.capacity }
-        ensures ended { self.old.ended ≡ true → self.new.floor ≡ length self.old.sent }
-        ensures begins { self.old.ended ≡ true → IsPrefix self.new.taken self.old.sent }
-    {
-        character_of(self.taker.take_next())
     }
 
     /// Looks once, takes what that look shows, or the first `most` of it, and adds these characters to
@@ -146,23 +146,20 @@ impl FlipOut {
         ensures ended { self.old.ended ≡ true → self.new.floor ≡ length self.old.sent }
         ensures begins { self.old.ended ≡ true → IsPrefix self.new.taken self.old.sent }
     {
-        let shown = self.taker.look().min(most);
-        let mut left = shown;
-        while left > 0 {
-            let mut numbers = ArrayVec::new();
-            let count = self.taker.take(left.min(64), &mut numbers);
-            append_all(numbers.as_slice(), out);
-            left -= count;
+        let shown = self.look().min(most);
+        for _ in 0..shown {
+            out.add(self.peek_next());
         }
+        self.release(shown);
         shown
     }
 
     /// Takes over the other end, which first pushes, and answers how many characters were put. From
-    /// then on each tail counts these.
+    /// then on each tail counts these. What was peeked is forgotten.
     pub fn end(&mut self, putter: FlipIn) -> u64
         requires { putter.ring ≡ self.old.ring }
         ensures sent { result ≡ length putter.sent }
-        ensures same { self.new ≡ record self.old { floor = length putter.sent; ended = true; sent = putter.sent } }
+        ensures same { self.new ≡ record self.old { peeked = []; floor = length putter.sent; ended = true; sent = putter.sent } }
         ensures compared { IsPrefix self.old.taken putter.sent }
         ensures heads { AreReleased self.old.released putter.heads }
         ensures floor { self.old.floor ≤ length putter.sent }

@@ -58,7 +58,9 @@ fn notes_and_the_end(rt: HostRuntime) -> Result<(), Fail> {
     let head = output.note();
     input.meet(head);
     assert_eq!(rt; output.look(), 1);
-    assert!(rt; output.take_next() == character(1));
+    assert!(rt; output.peek_next() == character(1));
+    output.release(1);
+    assert_eq!(rt; output.taken(), 1);
     assert_eq!(rt; output.end(input), 1);
     Ok(())
 }

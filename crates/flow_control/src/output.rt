@@ -90,6 +90,21 @@ impl Wire {
         true
     }
 
+    /// Sends one byte, as `send` does.
+    #[inline(always)]
+    pub fn send_byte(&mut self, byte: u8) -> bool
+        requires { 0 < self.old.spare }
+        ensures room { result ≡ has_room self.old (byte ∷ []) }
+        ensures sent { self.new ≡ after_try self.old (byte ∷ []) }
+        ensures spent { self.old.spare ≤ self.new.spare + 1 }
+    {
+        if self.halted() {
+            return self.send([byte].as_slice());
+        }
+        self.wire.add(byte);
+        true
+    }
+
     /// STOP halts output.
     pub fn stop(&mut self)
         ensures { self.new ≡ record self.old { stopped = true } }

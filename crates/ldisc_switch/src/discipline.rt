@@ -47,6 +47,7 @@ impl Disc {
     }
 
     /// Whether a character is accepted; N_SLIP accepts every one.
+    #[inline(always)]
     pub fn accepts(&self, modes: &Modes) -> bool
         ensures { result ≡ accepts_of modes.now self.now }
     {
@@ -80,6 +81,7 @@ impl Disc {
     }
 
     /// Receives a character at a tick, and then applies the rule for ixoff.
+    #[inline(always)]
     pub fn receive(
         &mut self,
         c: Flagged,

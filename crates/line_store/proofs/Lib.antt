@@ -1,4 +1,2 @@
-pub mod BitmapLemmas
-pub mod CircleLemmas
 pub mod ItemLemmas
-pub mod PlaceLemmas
+pub mod PieceLemmas

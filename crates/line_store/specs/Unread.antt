@@ -1,5 +1,5 @@
 -- Unread input: bytes, and the ends of its pieces.
-use Rattle.std.specs.Prelude.{◌≡◌, ℕ, suc, ◌≤◌, min, List, [], ◌∷◌, ◌++◌, length, take, drop, if◌then◌else◌, nat_le}
+use Rattle.std.specs.Prelude.{◌≡◌, ℕ, suc, min, List, [], ◌∷◌, ◌++◌, length, take, drop, if◌then◌else◌, nat_le}
 
 -- a byte, or the end of the piece before it
 pub data Item : Type 0 where
@@ -42,10 +42,3 @@ after_line most items =
     if nat_le (length (first_piece items)) most
     then drop (suc (length (first_piece items))) items
     else drop most items
-
--- what a store counts of its items
-pub record IsStore (items : List Item) (bytes lines : ℕ) : Type 0 where
-  pub bytes_count : bytes ≡ length (bytes_of items)
-  pub lines_count : lines ≡ end_count items
-  pub bytes_within : bytes ≤ 4096
-  pub lines_within : lines ≤ 4096

@@ -1,8 +1,7 @@
 //! Unread input of a terminal: bytes in pieces, and the ends of the pieces.
 #![tactic(auto)]
 
-mod bitmap;
-mod circle;
+mod queue;
 mod store;
 
 pub use store::Store;

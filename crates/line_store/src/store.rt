@@ -1,9 +1,8 @@
-ghost use Rattle.std.specs.Prelude.{◌≡◌, ◌+◌, ◌-◌, ◌<◌, ◌≤◌, ◌↔◌, false, IfOk, [], ◌∷◌, ◌++◌, length, map, take, drop};
-ghost use Rattle.tty_base.specs.Contents.{Contents};
-ghost use Rattle.line_store.specs.Unread.{Byte, End, bytes_of, end_count, first_piece, EndsInByte, read_size, line_of, after_line};
-ghost use Rattle.line_store.specs.Places.{place_bytes, items_of};
+ghost use Rattle.std.specs.Prelude.{◌≡◌, ◌+◌, ◌-◌, ◌<◌, ◌≤◌, ◌↔◌, IfOk, [], ◌∷◌, ◌++◌, length, map, take, drop, slice_index};
+ghost use Rattle.line_store.specs.Unread.{Byte, End, bytes_of, end_count, first_piece, read_size, line_of, after_line};
+ghost use Rattle.line_store.specs.Pieces.{after_front};
 
-use super::circle::{Circle, Place};
+use super::queue::Queue;
 use std::alloc::Global;
 use std::marker::Model;
 use tty_base::{Bytes, NoMemory};
@@ -15,22 +14,21 @@ const MOST: usize = 4096;
 /// by its delimiter, the last byte, or by an EOF mark. Contracts see the list of bytes and ends.
 #[derive(Drop)]
 pub struct Store {
-    circle: Circle,
-    bytes: usize,
-    lines: usize,
+    bytes: Queue<u8>,
+    lengths: Queue<u16>,
+    unended: usize,
 }
 
 impl Model for Store {
     ghost use Rattle.std.specs.Prelude.{List};
-    ghost use Rattle.line_store.specs.Unread.{Item, IsStore};
+    ghost use Rattle.line_store.specs.Unread.{Item};
+    ghost use Rattle.line_store.specs.Pieces.{items_of, IsStore};
 
     ghost Value = { List Item };
 
-    ghost use Rattle.line_store.specs.Places.{items_of};
+    ghost view = { λ s. items_of s.lengths s.bytes };
 
-    ghost view = { λ s. items_of s.circle };
-
-    ghost invariant = { λ s. IsStore (items_of s.circle) s.bytes s.lines };
+    ghost invariant = { λ s. IsStore s.lengths s.bytes s.unended };
 }
 
 impl Store {
@@ -38,11 +36,10 @@ impl Store {
     pub fn new(alloc: Global) -> Result<Store, NoMemory>
         ensures { IfOk result (λ store. store ≡ []) }
     {
-        let circle = Circle::new(alloc)?;
         Ok(Store {
-            circle,
-            bytes: 0,
-            lines: 0,
+            bytes: Queue::new(alloc)?,
+            lengths: Queue::new(alloc)?,
+            unended: 0,
         })
     }
 
@@ -51,25 +48,33 @@ impl Store {
         requires { length (bytes_of self.old) < 4096 }
         ensures { self.new ≡ self.old ++ Byte b ∷ [] }
     {
-        self.circle.push(Place::Inner(b));
-        self.bytes += 1;
+        self.bytes.push(b);
+        self.unended += 1;
     }
 
-    /// Ends the last piece: with an EOF mark, or by its last byte, the delimiter.
-    pub fn end_line(&mut self, eof: bool)
-        requires room { end_count self.old < 4096 }
-        requires delimiter { eof ≡ false → EndsInByte self.old }
+    /// Stores bytes.
+    pub fn append(&mut self, bytes: &[u8])
+        requires { length (bytes_of self.old) + length bytes.now ≤ 4096 }
+        ensures { self.new ≡ self.old ++ map Byte bytes.now }
+    {
+        self.bytes.append(bytes);
+        self.unended += bytes.len();
+    }
+
+    /// Ends the last piece: by its last byte, the delimiter, or with an EOF mark.
+    pub fn end_line(&mut self)
+        requires { end_count self.old < 4096 }
         ensures { self.new ≡ self.old ++ End ∷ [] }
     {
-        end_piece(&mut self.circle, eof);
-        self.lines += 1;
+        self.lengths.push(self.unended as u16);
+        self.unended = 0;
     }
 
     /// How many bytes `take_line` gives where it is asked for at most `n`.
     pub fn line_len(&self, n: u32) -> u32
         ensures { result ≡ length (line_of (read_size n) self.now) }
     {
-        self.circle.run((n as usize).min(MOST)).bytes as u32
+        (n as usize).min(MOST).min(self.first_len()) as u32
     }
 
     /// Takes at most `n` bytes of the first piece, and at most 4,096, adds them to `out`, and answers
@@ -84,19 +89,17 @@ impl Store {
         } }
         ensures left { self.new ≡ after_line (read_size n) self.old }
     {
-        let run = self.circle.run((n as usize).min(MOST));
-        copy_front(&self.circle, run.bytes, out);
-        self.circle.skip(run.places);
-        self.bytes -= run.bytes;
-        self.lines -= usize::from(run.ended);
-        run.bytes as u32
+        let count = (n as usize).min(MOST).min(self.first_len());
+        move_front(&mut self.bytes, count, out);
+        shorten_first(&mut self.lengths, count);
+        count as u32
     }
 
     /// How many bytes `take_raw` gives where it is asked for at most `n`.
     pub fn raw_len(&self, n: u32) -> u32
         ensures { result ≡ length (take (read_size n) (bytes_of self.now)) }
     {
-        (n as usize).min(MOST).min(self.bytes) as u32
+        (n as usize).min(MOST).min(self.bytes.len()) as u32
     }
 
     /// Takes at most `n` bytes and at most 4,096 of a store without ends, adds them to `out`, and
@@ -111,10 +114,9 @@ impl Store {
         } }
         ensures left { self.new ≡ drop (read_size n) self.old }
     {
-        let count = (n as usize).min(MOST).min(self.bytes);
-        copy_front(&self.circle, count, out);
-        self.circle.skip(count);
-        self.bytes -= count;
+        let count = (n as usize).min(MOST).min(self.bytes.len());
+        move_front(&mut self.bytes, count, out);
+        self.unended -= count;
         count as u32
     }
 
@@ -122,19 +124,17 @@ impl Store {
     pub fn plain(&mut self)
         ensures { self.new ≡ map Byte (bytes_of self.old) }
     {
-        if self.lines > 0 {
-            self.circle.close_up();
-            self.lines = 0;
-        }
+        self.lengths.clear();
+        self.unended = self.bytes.len();
     }
 
     /// Forgets all bytes and ends.
     pub fn clear(&mut self)
         ensures { self.new ≡ [] }
     {
-        self.circle.truncate(0);
-        self.bytes = 0;
-        self.lines = 0;
+        self.bytes.clear();
+        self.lengths.clear();
+        self.unended = 0;
     }
 
     /// How many bytes are unread.
@@ -142,7 +142,7 @@ impl Store {
         ensures len { result ≡ length (bytes_of self.now) }
         ensures most { result ≤ 4096 }
     {
-        self.bytes
+        self.bytes.len()
     }
 
     /// How many ends stand: how many pieces are complete.
@@ -150,54 +150,59 @@ impl Store {
         ensures lines { result ≡ end_count self.now }
         ensures most { result ≤ 4096 }
     {
-        self.lines
+        self.lengths.len()
     }
 
-    /// Some of the first unread bytes, lent without a copy. There is none only where an EOF mark
+    /// The bytes of the first piece, lent without a copy. There is none only where an EOF mark
     /// comes first, or nothing is unread.
     pub fn front(&self) -> &[u8]
         ensures prefix { result.now ≡ take (length result.now) (bytes_of self.now) }
         ensures empty { (result.now ≡ []) ↔ (first_piece self.now ≡ []) }
     {
-        self.circle.bytes(self.first_len()).0
+        front_of(self.bytes.as_slice(), self.first_len())
     }
 
     /// How many bytes the first piece has.
     fn first_len(&self) -> usize
-        ensures { result ≡ length (first_piece self.now) }
+        ensures len { result ≡ length (first_piece self.now) }
+        ensures within { result ≤ length (bytes_of self.now) }
     {
-        if self.lines == 0 {
-            self.bytes
-        } else {
-            self.circle.run(self.bytes).bytes
+        match self.lengths.as_slice() {
+            [first, ..] => usize::from(*first),
+            [] => self.bytes.len(),
         }
     }
 }
 
-/// Adds the bytes of the first `count` places, which hold no EOF mark.
-fn copy_front(circle: &Circle, count: usize, out: &mut Bytes)
-    requires within { count ≤ length circle.now }
-    requires each { length (place_bytes (take count circle.now)) ≡ count }
-    requires room { count ≤ out.old.spare }
-    ensures { out.new ≡ record {
-      items = out.old.items ++ place_bytes (take count circle.now);
-      spare = out.old.spare - count;
-    } }
+/// The lengths of pieces after so many bytes of the first piece went: where these were all, it went with its end.
+fn shorten_first(lengths: &mut Queue<u16>, count: usize)
+    requires some { 0 < length lengths.old }
+    requires within { count ≤ slice_index lengths.old 0 }
+    ensures { lengths.new ≡ after_front count lengths.old }
 {
-    let (front, back) = circle.bytes(count);
-    out.append(front);
-    out.append(back);
+    let first = usize::from(lengths.as_slice()[0]);
+    if count == first {
+        lengths.skip(1);
+    } else {
+        lengths.set_first((first - count) as u16);
+    }
 }
 
-/// Ends the piece of the last place: with an EOF mark, or by its byte.
-fn end_piece(circle: &mut Circle, eof: bool)
-    requires room { length circle.old < 8192 }
-    requires delimiter { eof ≡ false → EndsInByte (items_of circle.old) }
-    ensures { items_of circle.new ≡ items_of circle.old ++ End ∷ [] }
+/// The first bytes, so many.
+fn front_of(bytes: &[u8], count: usize) -> &[u8]
+    requires { count ≤ length bytes.now }
+    ensures { result.now ≡ take count bytes.now }
 {
-    if eof {
-        circle.push(Place::Eof);
-    } else {
-        circle.end_last();
-    }
+    &bytes[..count]
+}
+
+/// Moves the first bytes, so many, to the end of `out`.
+fn move_front(bytes: &mut Queue<u8>, count: usize, out: &mut Bytes)
+    requires within { count ≤ length bytes.old }
+    requires room { count ≤ out.old.spare }
+    ensures rest { bytes.new ≡ drop count bytes.old }
+    ensures front { out.new ≡ record { items = out.old.items ++ take count bytes.old; spare = out.old.spare - count } }
+{
+    out.append(front_of(bytes.as_slice(), count));
+    bytes.skip(count);
 }

@@ -60,7 +60,7 @@ fn push(both: &mut Both, b: u8, delimiter: bool) -> Result<(), AllocError> {
         both.store.push(b);
         both.plain.bytes.push(b)?;
         if delimiter && both.store.lines() < 4096 {
-            both.store.end_line(false);
+            both.store.end_line();
             both.plain.end()?;
         }
     }
@@ -69,7 +69,7 @@ fn push(both: &mut Both, b: u8, delimiter: bool) -> Result<(), AllocError> {
 
 fn end(both: &mut Both) -> Result<(), AllocError> {
     if both.store.lines() < 4096 {
-        both.store.end_line(true);
+        both.store.end_line();
         both.plain.end()?;
     }
     Ok(())
@@ -138,12 +138,12 @@ fn several_eof_marks_come_round(rt: HostRuntime) -> Result<(), Fail> {
         store.push(0x61);
         for _ in 0..2 {
             assert!(rt; store.lines() < 4096);
-            store.end_line(true);
+            store.end_line();
         }
         assert!(rt; store.len() < 4096);
         store.push(0x62);
         assert!(rt; store.lines() < 4096);
-        store.end_line(false);
+        store.end_line();
         for want in [1, 0, 1] {
             out.reserve(store.line_len(8) as usize)?;
             assert!(rt; store.lines() > 0);

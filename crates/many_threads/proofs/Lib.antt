@@ -12,3 +12,4 @@ pub mod PhaseAccount
 pub mod PhaseStart
 pub mod PhaseEnds
 pub mod Gathering
+mod SendLemmas

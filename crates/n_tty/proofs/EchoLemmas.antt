@@ -1,10 +1,11 @@
 -- The echo of a byte that is shown.
-use Rattle.std.proofs.Common.{◌≡◌, ℕ, ◌≤◌, Bool, true, false, cond, not, ◌&&◌, ◌||◌, ◌==◌, nat_le, nat_lt, bit_xor, List, [], ◌∷◌, ap, sym, ◌∙◌, refl, inl, inr, arith, append-nil, ne_eqb, le-ltb, le-leb}
+use Rattle.std.proofs.Common.{◌≡◌, ℕ, ◌+◌, ◌≤◌, Bool, true, false, cond, not, ◌&&◌, ◌||◌, ◌==◌, nat_le, nat_lt, bit_xor, List, [], ◌∷◌, ap, sym, ◌∙◌, refl, inl, inr, arith, append-nil, ne_eqb, le-ltb, le-leb}
 use Rattle.std.proofs.lemmas.Bool.{cases_Bool}
 use Rattle.tty_modes.specs.Settings.{Settings, has_flag}
-use Rattle.tty_modes.specs.declared.places.TheConstants.{ECHO, ECHOCTL}
+use Rattle.tty_modes.specs.declared.places.TheConstants.{ECHO, ECHOCTL, IUTF8}
 use Rattle.echo_out.specs.Echo.{shown_bytes}
 use Rattle.echo_out.specs.declared.EchoEvent.TheVariants as event
+use Rattle.opost_out.proofs.Columns.{plain_posted, plain_column}
 use Rattle.opost_out.specs.Posted.{posted_bytes}
 use Rattle.flow_control.specs.Output.{Output, is_halted, has_room, room_of, after_try}
 use Rattle.flow_control.specs.Counting.{with_count}
@@ -15,11 +16,11 @@ use Rattle.n_tty.specs.Posting.{column_after_try, all_posted_bytes, tally_after_
 use Rattle.n_tty.specs.Receiving.{with_echo}
 use Rattle.n_tty.proofs.PostingLemmas.{after_send-nil}
 
-either_way : {X : Type 0} (b : Bool) (x : X) → cond b x x ≡ x
+pub either_way : {X : Type 0} (b : Bool) (x : X) → cond b x x ≡ x
 either_way true x = refl
 either_way false x = refl
 
-never_both : (b : Bool) → (b && false) ≡ false
+pub never_both : (b : Bool) → (b && false) ≡ false
 never_both true = refl
 never_both false = refl
 
@@ -52,12 +53,21 @@ shown_plainly modes b low high =
     ap (λ t. cond (has_flag modes ECHOCTL && t) (94 ∷ bit_xor b 64 ∷ []) (b ∷ [])) control
     ∙ ap (λ t. cond t (94 ∷ bit_xor b 64 ∷ []) (b ∷ [])) (never_both (has_flag modes ECHOCTL))
 
-pub echoed_plainly : (modes : Settings) (b : ℕ) (tty : NTtyState) (output : Output) (tally : Tally) → has_flag modes ECHO ≡ true → 32 ≤ b → b ≤ 126
+echoed_as_posted : (modes : Settings) (b : ℕ) (tty : NTtyState) (output : Output) (tally : Tally) → has_flag modes ECHO ≡ true → 32 ≤ b → b ≤ 126
     → on_port (record tty { column = column_after_try modes output tty.column (posted_bytes modes tty.column b) }) (after_try output (posted_bytes modes tty.column b)) (tally_after_try output (posted_bytes modes tty.column b) tally)
     ≡ with_echo modes (event.Plain b) (on_port tty output tally)
-echoed_plainly modes b tty output tally echoes low high =
+echoed_as_posted modes b tty output tally echoes low high =
     let port : OnPort = on_port tty output tally in
     let text : posted_bytes modes tty.column b ≡ all_posted_bytes modes tty.column (b ∷ []) = sym (append-nil (posted_bytes modes tty.column b)) in
     ap (λ (text : List ℕ). on_port (record tty { column = column_after_try modes output tty.column text }) (after_try output text) (tally_after_try output text tally)) text
     ∙ ap (λ bytes. after_echo modes bytes port) (sym (shown_plainly modes b low high))
     ∙ ap (λ e. after_echo modes (cond e (shown_bytes modes b) []) port) (sym echoes)
+
+-- what the echo of a printed byte leaves
+pub echoed_plainly : (modes : Settings) (b : ℕ) (tty : NTtyState) (output : Output) (tally : Tally) → has_flag modes ECHO ≡ true → 32 ≤ b → b ≤ 126
+    → on_port (record tty { column = cond (has_room output (b ∷ [])) (tty.column + 1) tty.column }) (after_try output (b ∷ [])) (tally_after_try output (b ∷ []) tally)
+    ≡ with_echo modes (event.Plain b) (on_port tty output tally)
+echoed_plainly modes b tty output tally echoes low high =
+    ap (λ (column : ℕ). on_port (record tty { column = cond (has_room output (b ∷ [])) column tty.column }) (after_try output (b ∷ [])) (tally_after_try output (b ∷ []) tally)) (plain_column tty.column b (has_flag modes IUTF8) low high)
+    ∙ ap (λ (text : List ℕ). on_port (record tty { column = column_after_try modes output tty.column text }) (after_try output text) (tally_after_try output text tally)) (plain_posted modes tty.column b low high)
+    ∙ echoed_as_posted modes b tty output tally echoes low high

@@ -3,6 +3,7 @@ pub mod EchoLemmas
 pub mod ErasedLemmas
 pub mod FitsLemmas
 pub mod KillLemmas
+pub mod PlainLemmas
 pub mod PostingLemmas
 pub mod RoomLemmas
 pub mod RunLemmas

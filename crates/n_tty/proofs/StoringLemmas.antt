@@ -1,5 +1,6 @@
 -- Bytes that are stored, and the ends of pieces.
-use Rattle.std.proofs.Common.{◌≡◌, ℕ, ◌+◌, List, [], ◌∷◌, ◌++◌, length, map, ap, ◌∙◌, arith, length-append}
+use Rattle.std.proofs.Common.{◌≡◌, ℕ, ◌+◌, ◌<◌, cond, nat_le, List, [], ◌∷◌, ◌++◌, length, map, ap, ◌∙◌, arith, length-append, le-leb}
+use Rattle.n_tty_edit.specs.Line.{AddBytes, after_change}
 use Rattle.line_store.specs.Unread.{Item, Byte, bytes_of, end_count}
 use Rattle.line_store.proofs.ItemLemmas.{bytes_of-append, bytes_of-plain, end_count-append, end_count-plain}
 
@@ -27,3 +28,8 @@ length-bytes_of-piece items line tail =
     ap length (bytes_of-append (map Byte line) tail ∙ ap (λ bs. bs ++ bytes_of tail) (bytes_of-plain line))
     ∙ length-append line (bytes_of tail)
     )
+
+-- a byte joins a line that has room for it
+pub length-joined : (line : List ℕ) (b : ℕ) → length line < 4095 → length (after_change line (AddBytes (b ∷ []))) ≡ length line + 1
+length-joined line b room =
+    ap (λ t. length (cond t (line ++ b ∷ []) line)) (le-leb (length line + length (b ∷ [])) 4095 (omega arith)) ∙ length-append line (b ∷ [])

@@ -1,9 +1,9 @@
 -- What a character is for, by the modes (termios(3), special characters).
-use Rattle.std.specs.Prelude.{ℕ, Bool, not, ◌&&◌, ◌==◌, Option, None, Some, if◌then◌else◌}
+use Rattle.std.specs.Prelude.{◌≡◌, ◌≢◌, ◌≤◌, ℕ, Bool, false, not, ◌&&◌, ◌==◌, Option, None, Some, if◌then◌else◌}
 use Rattle.tty_base.specs.declared.counters.Signal.{Signal}
 use Rattle.tty_base.specs.declared.counters.Signal.TheVariants.{Int, Quit, Susp}
 use Rattle.tty_modes.specs.Settings.{Settings, has_flag, character}
-use Rattle.tty_modes.specs.declared.places.TheConstants.{ISIG, IEXTEN, INLCR, IGNCR, ICRNL, VINTR, VQUIT, VSUSP, VERASE, VKILL, VWERASE, VLNEXT, VEOF, VEOL, VEOL2}
+use Rattle.tty_modes.specs.declared.places.TheConstants.{ISTRIP, IXON, IXANY, ISIG, ICANON, ECHO, PARMRK, IEXTEN, INLCR, IGNCR, ICRNL, VINTR, VQUIT, VSUSP, VERASE, VKILL, VWERASE, VLNEXT, VEOF, VEOL, VEOL2}
 use Rattle.n_tty.specs.declared.roles.Role.{Role}
 use Rattle.n_tty.specs.declared.roles.Role.TheVariants.{Erase, Kill, WordErase, Quote, Newline, Eof, Delimiter, Ordinary}
 
@@ -43,3 +43,17 @@ role_of modes byte =
     else if is_character modes VEOL byte then Delimiter
     else if is_extended modes VEOL2 byte then Delimiter
     else Ordinary
+
+-- whether no rule concerns a good byte: none is stripped, steers output, raises a signal, is mapped, edits, is doubled or echoed
+abbrev pub is_raw : Settings → Bool
+is_raw modes =
+    not (has_flag modes ISTRIP) && not (has_flag modes IXON) && not (has_flag modes ISIG) && not (has_flag modes INLCR)
+    && not (has_flag modes IGNCR) && not (has_flag modes ICRNL) && not (has_flag modes ICANON) && not (has_flag modes PARMRK)
+    && not (has_flag modes ECHO)
+
+-- a byte from blank to tilde that no rule but those of storing and echo concerns
+pub record IsPlain (modes : Settings) (byte : ℕ) : Type 0 where
+  pub low : 32 ≤ byte
+  pub high : byte ≤ 126
+  pub apart : (place : ℕ) → byte ≢ character modes place
+  pub steady : has_flag modes IXANY ≡ false

@@ -1,24 +1,26 @@
-ghost use Rattle.std.specs.Prelude.{◌≡◌, ◌↔◌, IsTrue, ◌+◌, ◌-◌, ◌*◌, ◌%◌, ◌<◌, ◌≤◌, ◌^◌, IfOk, true, not, ◌&&◌, ◌++◌, [], ◌∷◌, length, take, nat_lt, if◌then◌else◌};
+ghost use Rattle.std.specs.Prelude.{◌≡◌, ◌+◌, ◌-◌, ◌*◌, ◌%◌, ◌<◌, ◌≤◌, ◌^◌, IfOk, true, not, ◌&&◌, ◌||◌, ◌++◌, [], ◌∷◌, length, take, nat_le, nat_lt, if◌then◌else◌};
 ghost use Rattle.tty_modes.specs.Settings.{has_flag};
 ghost use Rattle.tty_modes.specs.declared.places.TheConstants.{ICANON};
 ghost use Rattle.line_store.specs.Unread.{end_count};
 ghost use Rattle.flow_control.specs.Output.{Output, after_start, after_send};
 ghost use Rattle.echo_out.specs.Echo.{echo_of, FitsEcho};
-ghost use Rattle.n_tty.specs.States.{NTtyState, fresh_tty, on_port, is_accepting, unread_count, has_piece, FitsModes};
-ghost use Rattle.n_tty.specs.Storing.{most_stored, after_store, without_input, after_recast};
+ghost use Rattle.n_tty.specs.States.{NTtyState, fresh_tty, on_port, is_accepting, most_unread, unread_count, has_piece, FitsModes};
+ghost use Rattle.n_tty.specs.Storing.{most_stored, with_plain_bytes, after_store, without_input, after_recast};
 ghost use Rattle.n_tty.specs.Editing.{after_erase, after_word_erase, after_kill};
 ghost use Rattle.n_tty.specs.Flow.{after_signal, after_ixoff_rule};
 ghost use Rattle.n_tty.specs.Receiving.{after_character, after_flagged, after_good, after_unquoted, after_mapped, after_signal_character, after_role, after_ordinary, after_delimiter, after_break, after_bad, with_echo};
-ghost use Rattle.n_tty.specs.Roles.{mapped_byte, role_of};
+ghost use Rattle.n_tty.specs.Roles.{mapped_byte, role_of, is_raw};
 ghost use Rattle.n_tty.specs.Reading.{bytes_read, after_read, is_readable, ready_count};
 ghost use Rattle.n_tty.specs.Spending.{pending_count};
 ghost use Rattle.n_tty.specs.Writing.{piece_size, piece_text, after_write};
 
 use crate::erasing::echo_erased;
 use crate::flow::apply_ixoff_rule;
-use crate::posting::{echo_byte, echo_bytes, fits_any, post_fitting};
-use crate::roles::{Role, is_character, mapped_byte, role_of, signal_of};
-use crate::storing::{MOST_LINE, add_all, end_with, end_with_eof, push_all, start_of};
+use crate::posting::{echo_bytes, echo_printed, fits_any, post_fitting};
+use crate::roles::{
+    Role, is_character, is_plain, is_printed, is_raw, mapped_byte, role_of, signal_of,
+};
+use crate::storing::{MOST_LINE, add_all, end_with, end_with_eof, start_of};
 use echo_out::{EchoEvent, EraseKind, echo};
 use flow_control::{Counter, Tally, Wire};
 use line_store::Store;
@@ -29,8 +31,8 @@ use std::marker::Model;
 use tty_base::{Bytes, Flag, Flagged, Moves, NoMemory, Signal};
 use tty_modes::Modes;
 use tty_modes::places::{
-    BRKINT, ECHO, ICANON, IGNBRK, IGNPAR, INPCK, ISTRIP, IUTF8, IXANY, IXON, NOFLSH, PARMRK, VMIN,
-    VSTART, VSTOP, VTIME,
+    BRKINT, ECHO, ICANON, IGNBRK, IGNPAR, INPCK, ISTRIP, IUTF8, IXANY, IXOFF, IXON, NOFLSH, PARMRK,
+    VMIN, VSTART, VSTOP, VTIME,
 };
 
 /// How many ends of pieces stand at most.
@@ -88,16 +90,26 @@ impl NTty {
     }
 
     /// Whether a character is accepted: there is room for it, or in canonical mode no piece is complete.
+    #[inline(always)]
     pub fn accepts(&self, modes: &Modes) -> bool
         ensures { result ≡ is_accepting modes.now self.now }
     {
+        self.store.lines() < MOST_ENDS && (self.unread() <= 4092 || self.has_room(modes))
+    }
+
+    /// Whether there is room for the bytes of one more character, or in canonical mode no piece is complete.
+    #[inline(never)]
+    fn has_room(&self, modes: &Modes) -> bool
+        ensures { result ≡ (nat_le (unread_count self.now) (most_unread modes.now)
+            || (has_flag modes.now ICANON && not (has_piece self.now))) }
+    {
         let most = if modes.has(PARMRK) { 4092 } else { 4094 };
-        self.store.lines() < MOST_ENDS
-            && (self.unread() <= most || modes.has(ICANON) && self.store.lines() == 0)
+        self.unread() <= most || modes.has(ICANON) && self.store.lines() == 0
     }
 
     /// Receives a character at a tick: stores it, edits with it, echoes it, steers output or raises a
     /// signal; then applies the rule for ixoff.
+    #[inline(always)]
     pub fn receive(
         &mut self,
         c: Flagged,
@@ -121,9 +133,14 @@ impl NTty {
         ensures moved { self.new.column ≤ self.old.column + 2 ^ 22 }
         ensures past { self.old.last ≤ now → self.new.last ≤ now }
     {
-        prove!(self.edit.bytes().len() <= MOST_LINE);
-        self.take(c, now, modes, wire, tally);
-        self.ixoff(modes, wire);
+        if let Flag::Normal = c.flag {
+            // in raw mode nothing but the byte is touched
+            if !self.quoted && is_raw(modes) && !modes.has(IXOFF) && !wire.noted() {
+                self.store_raw(c.byte, now, modes);
+                return;
+            }
+        }
+        self.receive_by_rules(c, now, modes, wire, tally);
     }
 
     /// Whether a read of at most `n` bytes is ready, which has waited since a tick, by MIN and TIME or by
@@ -211,11 +228,11 @@ impl NTty {
     {
         if modes_leave(old, new) {
             self.store.plain();
-            push_all(&mut self.store, self.edit.bytes());
+            self.store.append(self.edit.bytes());
             let _count = self.edit.kill();
             self.quoted = false;
         } else if modes_leave(new, old) && self.store.len() > 0 {
-            self.store.end_line(true);
+            self.store.end_line();
         }
     }
 
@@ -276,7 +293,37 @@ impl NTty {
         apply_ixoff_rule(self.unread(), self.store.lines() > 0, modes, wire);
     }
 
+    /// The same by all rules.
+    #[inline(always)]
+    fn receive_by_rules(
+        &mut self,
+        c: Flagged,
+        now: u64,
+        modes: &Modes,
+        wire: &mut Wire,
+        tally: &mut Tally,
+    )
+        requires accepting { is_accepting modes.now self.old ≡ true }
+        requires fitting { FitsModes modes.now self.old }
+        requires room { pending_count self.old wire.old + CHARACTER_ROOM ≤ wire.old.spare }
+        requires signal { 0 < tally.old.signals.spare }
+        requires column { self.old.column < 2 ^ 62 }
+        ensures after { on_port self.new wire.new tally.new
+            ≡ after_character modes.now now c (on_port self.old wire.old tally.old) }
+        ensures fits { FitsModes modes.now self.new }
+        ensures spent { wire.old.spare + pending_count self.new wire.new
+            ≤ wire.new.spare + (pending_count self.old wire.old + CHARACTER_ROOM) }
+        ensures signals { tally.old.signals.spare ≤ tally.new.signals.spare + 1 }
+        ensures moved { self.new.column ≤ self.old.column + 2 ^ 22 }
+        ensures past { self.old.last ≤ now → self.new.last ≤ now }
+    {
+        prove!(self.edit.bytes().len() <= MOST_LINE);
+        self.take(c, now, modes, wire, tally);
+        self.ixoff(modes, wire);
+    }
+
     /// Takes a character by its flag.
+    #[inline(always)]
     fn take(&mut self, c: Flagged, now: u64, modes: &Modes, wire: &mut Wire, tally: &mut Tally)
         requires accepting { is_accepting modes.now self.old ≡ true }
         requires fitting { FitsModes modes.now self.old }
@@ -288,6 +335,30 @@ impl NTty {
     {
         match c.flag {
             Flag::Normal => self.take_good(c.byte, now, modes, wire, tally),
+            _ => self.take_flagged(c, now, modes, wire, tally),
+        }
+    }
+
+    /// The same, for all flags.
+    #[inline(never)]
+    fn take_flagged(
+        &mut self,
+        c: Flagged,
+        now: u64,
+        modes: &Modes,
+        wire: &mut Wire,
+        tally: &mut Tally,
+    )
+        requires accepting { is_accepting modes.now self.old ≡ true }
+        requires fitting { FitsModes modes.now self.old }
+        requires room { pending_count self.old wire.old + 40 ≤ wire.old.spare }
+        requires signal { 0 < tally.old.signals.spare }
+        requires column { self.old.column < 2 ^ 62 }
+        ensures after { on_port self.new wire.new tally.new
+            ≡ after_flagged modes.now now c.flag c.byte (on_port self.old wire.old tally.old) }
+    {
+        match c.flag {
+            Flag::Normal => self.take_by_rules(c.byte, now, modes, wire, tally),
             Flag::Break => {
                 tally.count(Counter::Break, 1);
                 self.take_break(now, modes, wire, tally);
@@ -335,7 +406,7 @@ impl NTty {
             ≡ after_bad modes.now now b (on_port self.old wire.old tally.old) }
     {
         if !modes.has(INPCK) {
-            self.take_good(b, now, modes, wire, tally);
+            self.take_by_rules(b, now, modes, wire, tally);
         } else if modes.has(IGNPAR) {
             return;
         } else if modes.has(PARMRK) {
@@ -345,8 +416,42 @@ impl NTty {
         }
     }
 
-    /// Takes a good character: a quoted one is ordinary.
+    /// Takes a good character. Where it is not quoted and no rule can concern it, it is stored and echoed at once.
+    #[inline(always)]
     fn take_good(&mut self, b: u8, now: u64, modes: &Modes, wire: &mut Wire, tally: &mut Tally)
+        requires accepting { is_accepting modes.now self.old ≡ true }
+        requires fitting { FitsModes modes.now self.old }
+        requires room { pending_count self.old wire.old + 40 ≤ wire.old.spare }
+        requires signal { 0 < tally.old.signals.spare }
+        requires column { self.old.column < 2 ^ 62 }
+        ensures after { on_port self.new wire.new tally.new
+            ≡ after_good modes.now now b (on_port self.old wire.old tally.old) }
+    {
+        if self.quoted {
+            self.take_by_rules(b, now, modes, wire, tally);
+        } else if is_raw(modes) {
+            self.store_raw(b, now, modes);
+        } else if is_plain(b, modes) {
+            self.take_ordinary(b, now, modes, wire, tally);
+        } else {
+            self.take_by_rules(b, now, modes, wire, tally);
+        }
+    }
+
+    /// Stores a byte where no rule concerns it.
+    #[inline(always)]
+    fn store_raw(&mut self, b: u8, now: u64, modes: &Modes)
+        requires accepting { is_accepting modes.now self.old ≡ true }
+        requires raw { is_raw modes.now ≡ true }
+        ensures after { self.new ≡ with_plain_bytes now (b ∷ []) self.old }
+    {
+        self.store.push(b);
+        self.last = now;
+    }
+
+    /// Takes a good character by all rules: a quoted one is ordinary.
+    #[inline(never)]
+    fn take_by_rules(&mut self, b: u8, now: u64, modes: &Modes, wire: &mut Wire, tally: &mut Tally)
         requires accepting { is_accepting modes.now self.old ≡ true }
         requires fitting { FitsModes modes.now self.old }
         requires room { pending_count self.old wire.old + 40 ≤ wire.old.spare }
@@ -454,6 +559,7 @@ impl NTty {
     }
 
     /// Stores an ordinary byte, and echoes it also where it was cut.
+    #[inline(always)]
     fn take_ordinary(&mut self, b: u8, now: u64, modes: &Modes, wire: &mut Wire, tally: &mut Tally)
         requires accepting { is_accepting modes.now self.old ≡ true }
         requires fitting { FitsModes modes.now self.old }
@@ -569,7 +675,7 @@ impl NTty {
         ensures column { self.new.column ≡ self.old.column }
     {
         if !modes.has(ICANON) {
-            push_all(&mut self.store, bytes);
+            self.store.append(bytes);
             self.last = now;
         } else if self.edit.bytes().len() + bytes.len() <= MOST_LINE {
             self.start = start_of(&self.edit, self.start, self.out.column());
@@ -581,6 +687,7 @@ impl NTty {
     }
 
     /// Stores the one byte of a character.
+    #[inline(always)]
     fn store_byte(&mut self, b: u8, now: u64, modes: &Modes, tally: &mut Tally)
         requires accepting { is_accepting modes.now self.old ≡ true }
         requires fitting { FitsModes modes.now self.old }
@@ -593,7 +700,7 @@ impl NTty {
             self.last = now;
         } else if self.edit.bytes().len() < MOST_LINE {
             self.start = start_of(&self.edit, self.start, self.out.column());
-            add_all(&mut self.edit, [b].as_slice());
+            let _joined = self.edit.add(b);
             self.last = now;
         } else {
             tally.count(Counter::Cut, 1);
@@ -616,6 +723,7 @@ impl NTty {
     }
 
     /// Posts the echo of a byte that is shown.
+    #[inline(always)]
     fn echo_shown(&mut self, b: u8, modes: &Modes, wire: &mut Wire, tally: &mut Tally)
         requires room { 24 ≤ wire.old.spare }
         requires column { self.old.column < 2 ^ 62 }
@@ -626,7 +734,7 @@ impl NTty {
             return;
         }
         if is_printed(b) {
-            echo_byte(&mut self.out, b, modes, wire, tally);
+            echo_printed(&mut self.out, b, wire, tally);
             return;
         }
         self.echo(EchoEvent::Plain(b), modes, wire, tally);
@@ -655,13 +763,6 @@ fn modes_leave(old: &Modes, new: &Modes) -> bool
     ensures { result ≡ (has_flag old.now ICANON && not (has_flag new.now ICANON)) }
 {
     old.has(ICANON) && !new.has(ICANON)
-}
-
-/// Whether a byte is shown as itself under all modes.
-fn is_printed(b: u8) -> bool
-    ensures { IsTrue result ↔ ((32 ≤ b) × (b ≤ 126)) }
-{
-    b' ' <= b && b <= b'~'
 }
 
 /// The bytes that one piece of a write takes at most.

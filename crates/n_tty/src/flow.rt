@@ -15,7 +15,22 @@ const LOW_WATER: usize = 128;
 
 /// Applies the rule for ixoff once, with so many bytes unread, and whether a piece is complete: STOP is sent
 /// past a halt where input fills, and START where it has room again.
+#[inline(always)]
 pub fn apply_ixoff_rule(unread: usize, complete: bool, modes: &Modes, wire: &mut Wire)
+    requires { 0 < wire.old.spare }
+    ensures after { wire.new ≡ after_ixoff_rule modes.now unread complete wire.old }
+    ensures held { wire.new.held ≡ wire.old.held }
+    ensures spent { wire.old.spare ≤ wire.new.spare + 1 }
+{
+    // without ixoff, which is the rule, there is nothing to do
+    if modes.has(IXOFF) || wire.noted() {
+        steer_sender(unread, complete, modes, wire);
+    }
+}
+
+/// The same where ixoff is set, or STOP was sent.
+#[inline(never)]
+fn steer_sender(unread: usize, complete: bool, modes: &Modes, wire: &mut Wire)
     requires { 0 < wire.old.spare }
     ensures after { wire.new ≡ after_ixoff_rule modes.now unread complete wire.old }
     ensures held { wire.new.held ≡ wire.old.held }

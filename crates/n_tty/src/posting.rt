@@ -1,6 +1,6 @@
 //! Posting bytes: output processing at the column, and echo that is posted whole or dropped whole.
 
-ghost use Rattle.std.specs.Prelude.{◌≡◌, ◌+◌, ◌*◌, ◌<◌, ◌≤◌, ◌^◌, ℕ, List, true, length, nat_lt, slice_index, take, drop};
+ghost use Rattle.std.specs.Prelude.{◌≡◌, ◌+◌, ◌*◌, ◌<◌, ◌≤◌, ◌^◌, ℕ, List, [], ◌∷◌, true, length, if◌then◌else◌, nat_lt, slice_index, take, drop};
 ghost use Rattle.opost_out.specs.Posted.{posted_bytes};
 ghost use Rattle.flow_control.specs.Output.{has_room, after_send, after_try};
 ghost use Rattle.n_tty.specs.Posting.{column_past_text, column_after_try, all_posted_bytes, tally_after_try};
@@ -159,19 +159,18 @@ pub fn echo_bytes(out: &mut Out, echo: &[u8], modes: &Modes, wire: &mut Wire, ta
     }
 }
 
-/// Posts an echo of one byte, or where what is posted for it does not fit counts that.
-pub fn echo_byte(out: &mut Out, byte: u8, modes: &Modes, wire: &mut Wire, tally: &mut Tally)
+/// Posts the echo of a printed byte, which is that byte under all modes, or where it does not fit counts it.
+#[inline(always)]
+pub fn echo_printed(out: &mut Out, byte: u8, wire: &mut Wire, tally: &mut Tally)
     requires column { out.old < 2 ^ 62 + 2 ^ 32 }
-    requires spare { 8 ≤ wire.old.spare }
-    ensures column { out.new ≡ column_after_try modes.now wire.old out.old (posted_bytes modes.now out.old byte) }
-    ensures wire { wire.new ≡ after_try wire.old (posted_bytes modes.now out.old byte) }
-    ensures tally { tally.new ≡ tally_after_try wire.old (posted_bytes modes.now out.old byte) tally.old }
+    requires spare { 0 < wire.old.spare }
+    ensures column { out.new ≡ (if has_room wire.old (byte ∷ []) then out.old + 1 else out.old) }
+    ensures wire { wire.new ≡ after_try wire.old (byte ∷ []) }
+    ensures tally { tally.new ≡ tally_after_try wire.old (byte ∷ []) tally.old }
 {
-    let mut ahead = *out;
-    let piece = ahead.post(byte, modes);
-    if wire.send(piece.as_slice()) {
-        *out = ahead;
-        return;
+    if wire.send_byte(byte) {
+        out.pass(1);
+    } else {
+        tally.count(Counter::Echo, 1);
     }
-    tally.count(Counter::Echo, piece.len() as u64);
 }

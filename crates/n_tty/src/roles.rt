@@ -1,13 +1,13 @@
 //! What a character is for.
 
-ghost use Rattle.std.specs.Prelude.{◌≡◌};
-ghost use Rattle.n_tty.specs.Roles.{is_character, is_extended, signal_of, mapped_byte, role_of};
+ghost use Rattle.std.specs.Prelude.{◌≡◌, ◌↔◌, ◌≤◌, IsTrue};
+ghost use Rattle.n_tty.specs.Roles.{is_character, is_extended, signal_of, mapped_byte, role_of, is_raw, IsPlain};
 
 use tty_base::Signal;
 use tty_modes::Modes;
 use tty_modes::places::{
-    ICRNL, IEXTEN, IGNCR, INLCR, ISIG, VEOF, VEOL, VEOL2, VERASE, VINTR, VKILL, VLNEXT, VQUIT,
-    VSUSP, VWERASE,
+    ECHO, ICANON, ICRNL, IEXTEN, IGNCR, INLCR, ISIG, ISTRIP, IXANY, IXON, PARMRK, VEOF, VEOL,
+    VEOL2, VERASE, VINTR, VKILL, VLNEXT, VQUIT, VSUSP, VWERASE,
 };
 
 pub const NL: u8 = b'\n';
@@ -33,6 +33,35 @@ pub enum Role {
     Delimiter,
     /// Joins the line.
     Ordinary,
+}
+
+/// Whether good bytes are stored as they come, and nothing else is done with them.
+pub fn is_raw(modes: &Modes) -> bool
+    ensures { result ≡ is_raw modes.now }
+{
+    !modes.has(ISTRIP)
+        && !modes.has(IXON)
+        && !modes.has(ISIG)
+        && !modes.has(INLCR)
+        && !modes.has(IGNCR)
+        && !modes.has(ICRNL)
+        && !modes.has(ICANON)
+        && !modes.has(PARMRK)
+        && !modes.has(ECHO)
+}
+
+/// Whether a byte is from blank to tilde, and no rule but those of storing and echo concerns it, where it is not quoted.
+pub fn is_plain(b: u8, modes: &Modes) -> bool
+    ensures { IsTrue result → IsPlain modes.now b }
+{
+    is_printed(b) && modes.are_unprinted() && !modes.has(IXANY)
+}
+
+/// Whether a byte is from blank to tilde, which is shown as itself under all modes.
+pub fn is_printed(b: u8) -> bool
+    ensures { IsTrue result ↔ ((32 ≤ b) × (b ≤ 126)) }
+{
+    b' ' <= b && b <= b'~'
 }
 
 /// Whether a byte is the control character at a place. One of 0 is disabled.

@@ -10,20 +10,6 @@ use n_tty_edit::Edit;
 /// How many bytes the edited line has at most.
 pub const MOST_LINE: usize = 4095;
 
-/// Stores bytes as unread input.
-pub fn push_all(store: &mut Store, bytes: &[u8])
-    requires { length (bytes_of store.old) + length bytes.now ≤ 4096 }
-    ensures { store.new ≡ store.old ++ map Byte bytes.now }
-{
-    if let [byte] = bytes {
-        store.push(*byte);
-        return;
-    }
-    for byte in bytes {
-        store.push(*byte);
-    }
-}
-
 /// The column in which a line began: that of now, while it is empty.
 pub fn start_of(edit: &Edit, start: usize, column: u64) -> usize
     ensures { result ≡ start_of edit.now start column }
@@ -56,9 +42,9 @@ pub fn end_with(store: &mut Store, edit: &mut Edit, delimiter: u8)
     ensures store { store.new ≡ store.old ++ (map Byte edit.old ++ Byte delimiter ∷ End ∷ []) }
     ensures edit { edit.new ≡ [] }
 {
-    push_all(store, edit.bytes());
+    store.append(edit.bytes());
     store.push(delimiter);
-    store.end_line(false);
+    store.end_line();
     let _count = edit.kill();
 }
 
@@ -69,7 +55,7 @@ pub fn end_with_eof(store: &mut Store, edit: &mut Edit)
     ensures store { store.new ≡ store.old ++ (map Byte edit.old ++ End ∷ []) }
     ensures edit { edit.new ≡ [] }
 {
-    push_all(store, edit.bytes());
-    store.end_line(true);
+    store.append(edit.bytes());
+    store.end_line();
     let _count = edit.kill();
 }

@@ -51,6 +51,7 @@ impl Edit {
     }
 
     /// Adds a byte. A line of 4,095 bytes stays as it is.
+    #[inline(always)]
     pub fn add(&mut self, b: u8) -> bool
         ensures room { IsTrue result ↔ (length self.old < 4095) }
         ensures line { self.new ≡ after_change self.old (AddBytes (b ∷ [])) }

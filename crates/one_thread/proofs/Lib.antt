@@ -16,6 +16,7 @@ pub mod LineSteps
 pub mod LineCuts
 pub mod LineEnds
 pub mod LineLoop
+pub mod LineWindows
 pub mod TheEntry
 pub mod OneJournal
 pub mod NameLemmas

@@ -28,11 +28,11 @@ abbrev pub closing : List LineStep
 closing = Unmask ∷ Idle 4 ∷ []
 
 module _ (b : LineStart) (steps : List LineStep) (is : steps ≡ line_on b.scene.port (phase_at b.scene.session b.phase)) where
-  pub script_at : (j : ℕ) (d : LineStep) → j < length steps → steps_of b ≡ take j steps ++ get_or steps j d ∷ (drop (j + 1) steps ++ closing)
-  script_at j d lt =
+  pub script_from : (j : ℕ) → steps_of b ≡ take j steps ++ (drop j steps ++ closing)
+  script_from j =
       ap closed_script (sym is)
-      ∙ ap (λ (l : List LineStep). l ++ closing) (sym (take-append-drop j steps) ∙ ap (λ (l : List LineStep). take j steps ++ l) (drop_more steps j d lt))
-      ∙ append_assoc (take j steps) (get_or steps j d ∷ drop (j + 1) steps) closing
+      ∙ ap (λ (l : List LineStep). l ++ closing) (sym (take-append-drop j steps))
+      ∙ append_assoc (take j steps) (drop j steps) closing
 
   -- after all of them
   pub script_done : (j : ℕ) → length steps ≤ j → steps_of b ≡ take j steps ++ Unmask ∷ Idle 4 ∷ []
@@ -43,16 +43,12 @@ module _ (b : LineStart) (steps : List LineStep) (is : steps ≡ line_on b.scene
 
 module _ (b : LineStart) (v : PortValue) (putter : PutterState Flagged) (line : LineState) (steps : List LineStep) (j : ℕ)
     (room : b.line.report.arrived + arrival_count steps ≤ b.line.most) where
-  pub room_at : (d : LineStep) → j < length steps → IsInLine b v putter line (take j steps) → line.report.arrived + length (arrival (get_or steps j d)) ≤ line.most
-  room_at d lt i = omega (arith, i.arrived, i.most, room, arrival_count-take steps j d lt, arrival_count-take-≤ steps (j + 1))
+  pub room_left : IsInLine b v putter line (take j steps) → line.report.arrived + arrival_count (drop j steps) ≤ line.most
+  room_left i =
+      omega (arith, i.arrived, i.most, room, arrival_count-append (take j steps) (drop j steps), ap arrival_count (take-append-drop j steps))
 
   pub room_closing : IsInLine b v putter line (take j steps ++ Unmask ∷ []) → line.report.arrived + 0 ≤ line.most
   room_closing i = omega (arith, i.arrived, i.most, room, arrival_count-take-≤ steps j, arrival_count-append (take j steps) (Unmask ∷ []))
-
--- one more step of them
-pub one_more : (b : LineStart) (v : PortValue) (putter : PutterState Flagged) (line : LineState) (steps : List LineStep) (j run : ℕ) (d : LineStep) → j < length steps
-    → IsBetweenSteps b v putter line (take j steps ++ get_or steps j d ∷ []) run → IsBetweenSteps b v putter line (take (j + 1) steps) run
-one_more b v putter line steps j run d lt i = subst (λ (l : List LineStep). IsBetweenSteps b v putter line l run) (sym (take_more steps j d lt)) i
 
 -- these are all steps, and none is left
 pub script_whole : (all steps : List LineStep) → all ≡ steps → all ≡ steps ++ []

@@ -50,7 +50,7 @@ pub no_more_of : {A : Type 0} (f : PlainEntry → List A) (es : List PlainEntry)
 no_more_of f es e h k = sym (flat_map_more f [] es e) ∙ (λ i. h i ++ k i)
 
 -- rings of one name are one ring
-names_tell : NamesTellRings
+pub names_tell : NamesTellRings
 names_tell ring other same =
     let words : ring.words ≡ other.words = cc in
     let slots : ring.slots ≡ other.slots = cc in

@@ -76,6 +76,7 @@ fn first_to_wait(port: &Port, roles: &[Role]) -> Option<usize>
 }
 
 /// Whose turn it is.
+#[inline(always)]
 fn turn_of(port: &Port, roles: &[Role], going: Option<usize>) -> Turn
     requires known { All (λ r. r.number < sum port.now.counts) roles.now }
     requires place { (i : ℕ) → going ≡ Some i → i < length roles.now }

@@ -1,6 +1,6 @@
-//! The line of a phase: each of its steps is followed by a flush of what it has put.
+//! The line of a phase: its steps, each window of them followed by a flush of what it has put.
 
-ghost use Rattle.std.specs.Prelude.{◌≡◌, ◌≤◌, ◌<◌, ◌+◌, ◌-◌, ◌^◌, List, [], ◌∷◌, ◌++◌, IsTrue, IfOk, IfErr, All, length};
+ghost use Rattle.std.specs.Prelude.{◌≡◌, ◌≤◌, ◌<◌, ◌+◌, ◌-◌, ◌^◌, List, [], ◌∷◌, ◌++◌, IsTrue, IfOk, IfErr, All, length, take, drop};
 ghost use Rattle.tty_base.specs.declared.lines.LineStep.{LineStep};
 ghost use Rattle.tty_base.specs.Lines.{arrival, arrival_count, is_step};
 ghost use Rattle.tty_calls.specs.Sessions.{line_on};
@@ -40,8 +40,11 @@ pub(crate) fn play_line(
     port.numbers_tell();
     port.meet(putter);
     let mut next = run;
-    for step in steps {
-        next = play_step(port, putter, line, *step, next)?;
+    let mut at = 0;
+    while at < steps.len() {
+        let passed = play_window(port, putter, line, steps_from(steps, at), next)?;
+        at += passed.steps;
+        next = passed.run;
     }
     next = play_step(port, putter, line, LineStep::Unmask, next)?;
     next = play_step(port, putter, line, LineStep::Idle(TIMEOUT), next)?;
@@ -50,7 +53,52 @@ pub(crate) fn play_line(
     Ok(next)
 }
 
-/// A step of the line. Where it put characters, as many of them are flushed as can be.
+/// What the next steps of a line came to.
+#[derive(Clone, Copy)]
+struct Passed {
+    /// How many steps that were.
+    steps: usize,
+    /// The number of the next flush run.
+    run: u32,
+}
+
+/// The next of these steps of the line, or a whole window of them. Where they put characters, as many
+/// of these are flushed as can be.
+fn play_window(
+    port: &mut Port,
+    putter: &mut FlipIn,
+    line: &mut Line,
+    steps: &[LineStep],
+    run: u32,
+) -> Result<Passed, Denied>
+    requires some { 0 < length steps.now }
+    requires good { All (λ step. IsTrue (is_step step)) steps.now }
+    requires room { line.old.report.arrived + arrival_count steps.now ≤ line.old.most }
+    requires put { line.old.most ≤ (2 ^ 63 - length putter.old.sent) + line.old.handed }
+    requires ring { putter.old.ring ≡ port.old.flip.ring }
+    requires run { BeginsRun run port.old }
+    ensures count { IfOk result (λ passed. (0 < passed.steps) × (passed.steps ≤ length steps.now)) }
+    ensures ok { (b : LineStart) (done left : List LineStep) → steps_of b ≡ done ++ (steps.now ++ left)
+        → IsBetweenSteps b port.old putter.old line.old done run
+        → IfOk result (λ passed. IsBetweenSteps b port.new putter.new line.new (done ++ take passed.steps steps.now) passed.run) }
+    ensures err { (b : LineStart) (done left : List LineStep) → steps_of b ≡ done ++ (steps.now ++ left)
+        → IsBetweenSteps b port.old putter.old line.old done run
+        → IfErr result (λ d. StopsLine d b.scene b.phase b.port port.new putter.new line.new) }
+{
+    let before = putter.sent();
+    let count = line.step_window(steps, putter);
+    let put = putter.sent().saturating_sub(before).min(PIECE) as u32;
+    if put == 0 {
+        return Ok(Passed { steps: count, run });
+    }
+    let next = flush_cut(port, putter, run, put)?;
+    Ok(Passed {
+        steps: count,
+        run: next,
+    })
+}
+
+/// A step of the line, and a flush of what it has put.
 fn play_step(
     port: &mut Port,
     putter: &mut FlipIn,
@@ -70,14 +118,16 @@ fn play_step(
         → IsBetweenSteps b port.old putter.old line.old done run
         → IfErr result (λ d. StopsLine d b.scene b.phase b.port port.new putter.new line.new) }
 {
-    let before = putter.sent();
-    line.step(step, putter);
-    let put = putter.sent().saturating_sub(before).min(PIECE) as u32;
-    if put == 0 {
-        return Ok(run);
-    }
-    let next = flush_cut(port, putter, run, put)?;
-    Ok(next)
+    let passed = play_window(port, putter, line, &[step], run)?;
+    Ok(passed.run)
+}
+
+/// The steps from the place `at` on.
+fn steps_from(steps: &[LineStep], at: usize) -> &[LineStep]
+    requires { at ≤ length steps.now }
+    ensures { result.now ≡ drop at steps.now }
+{
+    &steps[at..]
 }
 
 /// Flushes what was put last, so many characters at most. Answers the number of the next flush run.

@@ -9,6 +9,7 @@ ghost use Rattle.port_cell.specs.Joining.{Finds, PartOf, HasNumber, FindsJoined}
 use crate::kept::Kept;
 use crate::plays::{Deal, TakeIn};
 use crate::rule::{CellRule, Opening};
+use crate::sleepers::Sleepers;
 use crate::view::View;
 use atomic_table::{Refused, Table};
 use std::alloc::Global;
@@ -37,6 +38,8 @@ pub(crate) const COUNT: usize = 2;
 #[derive(Drop)]
 pub struct Cell<V: Kept> {
     pub(crate) table: Board<V>,
+    pub(crate) for_turn: Sleepers,
+    pub(crate) for_change: Sleepers,
     ghost counted: { (table.shared.table_id.words ≡ 3) × (table.shared.table_id.slots ≡ 1) },
 }
 
@@ -64,7 +67,11 @@ impl<V: Kept> Cell<V> {
         let Ok((table, first)) = Table::new(alloc, &words, slots, &about) else {
             return Err(NoMemory);
         };
-        let cell = Cell { table };
+        let cell = Cell {
+            table,
+            for_turn: Sleepers::new(),
+            for_change: Sleepers::new(),
+        };
         let all = cell.deal(alloc, first, seats)?;
         Ok((cell, all))
     }
@@ -133,7 +140,11 @@ impl<V: Kept> Cell<V> {
         ensures list { GoesOn (λ k. k < seat_count self) (V.list (opening_value self)) (V.list result) }
         ensures generation { generation_of (V.list result) ≡ generation_of (V.list (opening_value self)) + installs_of seat.me.0 }
     {
-        let Cell { table } = self;
+        let Cell {
+            table,
+            for_turn: _,
+            for_change: _,
+        } = self;
         let mut closed = table.close_with(seat);
         let place = closed.take(0);
         closed.free();

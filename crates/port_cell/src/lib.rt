@@ -13,6 +13,7 @@ mod laws;
 mod plays;
 mod references;
 mod rule;
+mod sleepers;
 #[cfg(test)]
 mod tests;
 mod turns;

@@ -98,8 +98,10 @@ impl<V: Kept> Cell<V> {
         requires counted { user_part (user_of seat.old) ≡ 1 }
         ensures { Becomes seat.old seat.new (with_user Free seat.old.me.0) }
     {
-        self.table.shared.fetch_sub::<Leave>(seat, REFERENCES, USER);
-        self.wake();
+        let word = self.table.shared.fetch_sub::<Leave>(seat, REFERENCES, USER);
+        if is_changing(word) {
+            self.wake();
+        }
     }
 
     /// Sets the changing bit, which keeps others from entering. `Changing` comes exactly where the word
@@ -198,8 +200,10 @@ impl<V: Kept> Cell<V> {
         self.wake();
     }
 
-    // Wakes those who wait for a change.
-    pub(crate) fn wake(&self) {
-        self.table.shared.wake_all(COUNT);
+    /// Wakes those who wait for a change.
+    pub fn wake(&self) {
+        if self.for_change.any() {
+            self.table.shared.wake_all(COUNT);
+        }
     }
 }

@@ -13,12 +13,16 @@ ghost use Rattle.port_cell.specs.Joining.{Becomes};
 use crate::cell::{COUNT, Cell, Seat, TURN};
 use crate::kept::Kept;
 use crate::plays::{Give, Note, Take, Told};
+use std::hint::spin_loop;
 use std::marker::Brand;
 use std::sync::Wait;
 use std::time::Duration;
 
 // The longest that a seat waits for a change without a look, in milliseconds.
 const PATIENCE: u64 = 1;
+
+// How often a seat looks for the turn before it sleeps: for about as long as a turn lasts.
+const LOOKS: u32 = 64;
 
 /// The value, while its seat has the turn. It has to be given back.
 pub struct Turn<V> {
@@ -57,9 +61,22 @@ impl<V: Kept> Cell<V> {
             if let Some(value) = self.take(seat) {
                 return Turn { value };
             }
-            self.table.shared.park(rt, TURN, 1);
+            self.await_turn(rt);
         }
         unreachable!()
+    }
+
+    // Waits until the turn was given back.
+    fn await_turn<R: Wait>(&self, rt: &R) {
+        for _ in 0..LOOKS {
+            if self.table.shared.peek(TURN) == 0 {
+                return;
+            }
+            spin_loop();
+        }
+        self.for_turn.begin();
+        self.table.shared.park(rt, TURN, 1);
+        self.for_turn.end();
     }
 
     // Takes the turn where nobody has it.
@@ -77,7 +94,7 @@ impl<V: Kept> Cell<V> {
 
     /// Stores the count of entries, after the value was changed. The list begins with the one that this
     /// turn found or last noted, and the rest is this seat's. Its generation is the installed one, or, by
-    /// a seat that is alone, the next.
+    /// a seat that is alone, the next. Those who wait for a change are not woken: `wake` does that.
     pub fn note(&self, seat: &mut Seat<V>, turn: &mut Turn<V>)
         requires seat { IsSeat (identity_of self.now) seat.old }
         requires turn { has_turn seat.old ≡ true }
@@ -94,7 +111,6 @@ impl<V: Kept> Cell<V> {
         ensures value { turn.new ≡ turn.old }
     {
         self.tell::<Brand>(seat, &turn.value);
-        self.wake();
     }
 
     fn tell<T: Told<V::Entry>>(&self, seat: &mut Seat<V>, value: &V)
@@ -128,7 +144,9 @@ impl<V: Kept> Cell<V> {
         let place = self.table.shared.exchange(seat, 0, Some(value));
         let None = place else { unreachable!() };
         self.table.shared.store::<Give>(seat, TURN, 0);
-        self.table.shared.wake_one(TURN);
+        if self.for_turn.any() {
+            self.table.shared.wake_one(TURN);
+        }
     }
 
     /// Waits until something may have changed: an entry, a reference, or the generation. It comes back
@@ -141,6 +159,8 @@ impl<V: Kept> Cell<V> {
         let _seat = &*seat;
         let count = (self.table.shared.peek(COUNT) % (1 << 32)) as u32;
         let patience = Duration::from_millis(PATIENCE);
+        self.for_change.begin();
         self.table.shared.park_timeout(rt, COUNT, count, patience);
+        self.for_change.end();
     }
 }

@@ -20,14 +20,6 @@ use Rattle.port_core.specs.Inside.{KeepsPlaces}
 use Rattle.port_core.proofs.GoingOn.{plainly, port_taken, port_in_line}
 use Rattle.port_core.proofs.Taking.{looks_first}
 
-pub received_more : (t : Terminal) (xs : List Flagged) (c : Flagged) → after_characters t (xs ++ c ∷ []) ≡ after_character (after_characters t xs) c
-received_more t [] c = refl
-received_more t (x ∷ xs) c = received_more (after_character t x) xs c
-
-pub accepts_more : (t : Terminal) (xs : List Flagged) (c : Flagged) → AcceptsAll t xs → IsTrue (accepts (after_characters t xs)) → AcceptsAll t (xs ++ c ∷ [])
-accepts_more t [] c all more = (more, tt)
-accepts_more t (x ∷ xs) c all more = (all.0, accepts_more (after_character t x) xs c all.1 more)
-
 or_false : (a b : Bool) → (a || b) ≡ false → (a ≡ false) × (b ≡ false)
 or_false true b h = absurd (false≢true (sym h))
 or_false false b h = (refl, h)

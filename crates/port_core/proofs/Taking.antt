@@ -22,6 +22,21 @@ nothing_out f =
       sent = refl;
     }
 
+-- of what was peeked some are taken
+pub takes_peeked : (f : TakerState Flagged) (peeked xs : List Flagged) → TakesOut f (with_taken (record f { peeked = peeked }) xs) xs
+takes_peeked f peeked [] = record { ring = refl; capacity = refl; taken = sym (append-nil f.taken); floor = omega arith; tails = begins_itself f.tails; released = begins_itself f.released; ended = refl; sent = refl }
+takes_peeked f peeked (x ∷ xs) =
+    record {
+      ring = refl;
+      capacity = refl;
+      taken = refl;
+      floor = omega arith;
+      tails = begins_itself f.tails;
+      released = begins_more f.released (length (f.taken ++ x ∷ xs) ∷ []);
+      ended = refl;
+      sent = refl;
+    }
+
 -- a take, which looks first
 pub takes_out_of : (f : TakerState Flagged) (floor : ℕ) (xs : List Flagged) → f.floor ≤ floor → TakesOut f (with_taken (with_shown f floor) xs) xs
 takes_out_of f floor [] rises =
@@ -94,20 +109,19 @@ last_holds P [] x all = all 0 x (omega arith)
 last_holds P (y ∷ ys) x all = last_holds P ys x (λ k d lt. all (suc k) d (omega arith))
 
 -- both ends told each other what they know
-pub ends_meet : (f : TakerState Flagged) (p0 p1 p2 p3 : PutterState Flagged) (pushed : List Flagged) (heads : List ℕ) → p1 ≡ record p0 { pushed = p0.sent } → p2 ≡ with_loaded p1 p2.floor → p3 ≡ record p2 { pushed = p2.sent }
-    → p1.floor ≤ p2.floor → length f.taken ≤ p2.floor → p2.floor ≤ length p1.pushed → IsNonDecreasing p3.heads → pushed ≡ p2.sent → heads ≡ p2.heads → IsOneWithin f.taken pushed → All (λ h. h ≤ length f.taken) heads → MeetsTaker f p0 p3
-ends_meet f p0 p1 p2 p3 pushed heads push met note rises least most rise pushed_is heads_are one below =
-    let p2_is : p2 ≡ with_loaded (record p0 { pushed = p0.sent }) p2.floor = met ∙ ap (λ (p : PutterState Flagged). with_loaded p p2.floor) push in
-    let heads_now : heads ≡ p0.heads ++ p2.floor ∷ [] = heads_are ∙ ap (λ (p : PutterState Flagged). p.heads) p2_is in
-    let high : p2.floor ≤ length f.taken = last_holds (λ h. h ≤ length f.taken) p0.heads p2.floor (subst (λ (hs : List ℕ). All (λ h. h ≤ length f.taken) hs) heads_now below) in
-    let floor_is : p2.floor ≡ length f.taken = omega arith in
-    let p3_is : p3 ≡ with_loaded (record p0 { pushed = p0.sent }) p2.floor = note ∙ ap (λ (p : PutterState Flagged). record p { pushed = p.sent }) p2_is in
-    let sent_is : pushed ≡ p0.sent = pushed_is ∙ ap (λ (p : PutterState Flagged). p.sent) p2_is in
-    let within : length f.taken ≤ length p0.sent = omega (arith, ap (λ (p : PutterState Flagged). length p.pushed) push) in
+pub ends_meet : (f : TakerState Flagged) (p0 p1 p2 : PutterState Flagged) (pushed : List Flagged) (heads : List ℕ) → p1 ≡ with_loaded p0 p1.floor → p2 ≡ record p1 { pushed = p1.sent }
+    → p0.floor ≤ p1.floor → length f.taken ≤ p1.floor → p1.floor ≤ length p0.pushed → length p0.pushed ≤ length p0.sent → IsNonDecreasing p2.heads → pushed ≡ p1.sent → heads ≡ p1.heads → IsOneWithin f.taken pushed → All (λ h. h ≤ length f.taken) heads → MeetsTaker f p0 p2
+ends_meet f p0 p1 p2 pushed heads met note rises least most known rise pushed_is heads_are one below =
+    let heads_now : heads ≡ p0.heads ++ p1.floor ∷ [] = heads_are ∙ ap (λ (p : PutterState Flagged). p.heads) met in
+    let high : p1.floor ≤ length f.taken = last_holds (λ h. h ≤ length f.taken) p0.heads p1.floor (subst (λ (hs : List ℕ). All (λ h. h ≤ length f.taken) hs) heads_now below) in
+    let floor_is : p1.floor ≡ length f.taken = omega arith in
+    let p2_is : p2 ≡ with_loaded (record p0 { pushed = p0.sent }) p1.floor = note ∙ ap (λ (p : PutterState Flagged). record p { pushed = p.sent }) met in
+    let sent_is : pushed ≡ p0.sent = pushed_is ∙ ap (λ (p : PutterState Flagged). p.sent) met in
+    let within : length f.taken ≤ length p0.sent = omega arith in
     record {
-      putter = p3_is ∙ ap (λ (n : ℕ). with_loaded (record p0 { pushed = p0.sent }) n) floor_is;
+      putter = p2_is ∙ ap (λ (n : ℕ). with_loaded (record p0 { pushed = p0.sent }) n) floor_is;
       begins = shorter_begins f.taken p0.sent (subst (λ (z : List Flagged). IsOneWithin f.taken z) sent_is one) within;
-      heads = subst (λ (hs : List ℕ). All (λ h. h ≤ length f.taken) hs) (heads_now ∙ sym (ap (λ (p : PutterState Flagged). p.heads) p3_is)) below;
+      heads = subst (λ (hs : List ℕ). All (λ h. h ≤ length f.taken) hs) (heads_now ∙ sym (ap (λ (p : PutterState Flagged). p.heads) p2_is)) below;
       rise = rise;
-      rises = omega (arith, ap (λ (p : PutterState Flagged). p.floor) push);
+      rises = omega arith;
     }

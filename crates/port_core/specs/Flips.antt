@@ -1,5 +1,5 @@
 -- The flip buffer of a port: what a look shows, what is taken out, and what its two ends tell each other.
-use Rattle.std.specs.Prelude.{◌≡◌, ℕ, List, ◌++◌, ◌-◌, ◌≤◌, if◌then◌else◌, length, min, max}
+use Rattle.std.specs.Prelude.{◌≡◌, ℕ, List, [], ◌++◌, ◌-◌, ◌≤◌, if◌then◌else◌, length, min, max}
 use Rattle.std.specs.List.{All}
 use Rattle.std.specs.List.Sorted.{IsNonDecreasing}
 use mathlib.Core.List.{IsPrefix}
@@ -30,9 +30,10 @@ pub record DropsShown (t : Terminal) (old new : TakerState Flagged) (dropped : L
   pub looks : LooksAt old new tail
   pub all : length dropped ≡ shown_count t tail
 
--- the end that takes out, once it was told of all that this putter has put: a later look counts at least that
+-- the end that takes out, once it was told of all that this putter has put: a later look counts at least that, and what was
+-- peeked is forgotten
 abbrev pub after_meeting : TakerState Flagged → PutterState Flagged → TakerState Flagged
-after_meeting flip putter = record flip { floor = max flip.floor (length putter.sent) }
+after_meeting flip putter = record flip { peeked = []; floor = max flip.floor (length putter.sent) }
 
 -- The putter, before and after it met the end that takes out: all that it put is pushed, and it loaded one head, which is
 -- the number taken. What was taken begins what it put, and each head that it loaded is at most the number taken.

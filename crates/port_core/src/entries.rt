@@ -39,6 +39,7 @@ pub(crate) struct Prepared {
 }
 
 /// Takes the memory for one entry, or notes that none is left.
+#[inline(always)]
 pub(crate) fn reserve_entry(journal: &mut Journal, starved: &mut bool) -> Result<(), Denied>
     ensures items { journal.new.items ≡ journal.old.items }
     ensures room { OnOk result (0 < journal.new.spare) }
@@ -52,6 +53,7 @@ pub(crate) fn reserve_entry(journal: &mut Journal, starved: &mut bool) -> Result
 }
 
 /// An empty list with room for so many bytes.
+#[inline(always)]
 pub(crate) fn room_for_bytes(
     alloc: Global,
     starved: &mut bool,
@@ -98,6 +100,7 @@ pub(crate) fn trimmed(alloc: Global, chars: Chars) -> Chars
 }
 
 /// A copy of a call that has not begun, and room to keep it.
+#[inline(always)]
 pub(crate) fn copy_unless_begun(
     alloc: Global,
     kept: &mut Buffer<KeptCall>,
@@ -121,6 +124,7 @@ pub(crate) fn copy_unless_begun(
 }
 
 /// A copy of a call, and room to keep it.
+#[inline(always)]
 fn copy_to_keep(alloc: Global, kept: &mut Buffer<KeptCall>, call: &Call) -> Result<Call, NoMemory>
     ensures items { kept.new.items ≡ kept.old.items }
     ensures room { OnOk result (0 < kept.new.spare) }
@@ -131,6 +135,7 @@ fn copy_to_keep(alloc: Global, kept: &mut Buffer<KeptCall>, call: &Call) -> Resu
 }
 
 /// What the terminal needs for a call.
+#[inline(always)]
 fn room_for_call(alloc: Global, terminal: &mut Terminal, call: &Call) -> Result<Room, NoMemory>
     ensures same { terminal.new.terminal ≡ terminal.old.terminal }
     ensures room { IfOk result (λ room. IsRoomFor terminal.new.terminal (call_of call.now) room) }
@@ -141,6 +146,7 @@ fn room_for_call(alloc: Global, terminal: &mut Terminal, call: &Call) -> Result<
 }
 
 /// What a call needs that is answered or takes a part.
+#[inline(always)]
 pub(crate) fn prepare(
     alloc: Global,
     terminal: &mut Terminal,
@@ -189,6 +195,7 @@ pub(crate) fn entry_of_call(
 
 /// Adds an entry of a caller's call, in room that was reserved, and keeps the call with it where it has
 /// not begun.
+#[inline(always)]
 pub(crate) fn add_entry_of_call(
     journal: &mut Journal,
     kept: &mut Buffer<KeptCall>,

@@ -1,6 +1,6 @@
 //! The flip buffer of a port, as the port's calls use it.
 
-ghost use Rattle.std.specs.Prelude.{◌≡◌, ℕ, ◌+◌, ◌-◌, ◌*◌, ◌^◌, ◌≤◌, ◌<◌, [], ◌∷◌, ◌++◌, true, false, length};
+ghost use Rattle.std.specs.Prelude.{◌≡◌, ℕ, ◌+◌, ◌-◌, ◌*◌, ◌^◌, ◌≤◌, ◌<◌, [], ◌∷◌, ◌++◌, true, false, length, take};
 ghost use Rattle.word_ring.specs.Ends.{AreReleased, with_shown};
 ghost use Rattle.flip_buffer.specs.Drops.{LooksAt};
 ghost use Rattle.ldisc_switch.specs.Disciplines.{column_in};
@@ -8,23 +8,25 @@ ghost use Rattle.tty_terminal.specs.Receiving.{accepts, after_characters, Accept
 ghost use Rattle.tty_terminal.specs.Meeting.{room_for_characters};
 ghost use Rattle.port_core.specs.Flips.{shown_count, TakesOut, DropsShown, after_meeting, MeetsTaker};
 
+use arrayvec::ArrayVec;
 use flip_buffer::{FlipIn, FlipOut};
-use tty_base::{Chars, Flagged, Put};
+use tty_base::{Chars, Flagged};
 use tty_terminal::Terminal;
 
 /// Both ends are told what the other knows: all that was put is pushed, and both know it; and the
 /// putter knows what was taken.
+#[inline(always)]
 pub(crate) fn tell_each_other(flip: &mut FlipOut, putter: &mut FlipIn)
     requires { putter.old.ring ≡ flip.old.ring }
     ensures flip { flip.new ≡ after_meeting flip.old putter.old }
     ensures meets { MeetsTaker flip.old putter.old putter.new }
 {
-    putter.push();
     putter.meet(flip.note());
     flip.meet(putter.note());
 }
 
 /// How many characters one look shows; once the line is over, none past those that it sent.
+#[inline(always)]
 pub(crate) fn look_at(flip: &mut FlipOut, terminal: &Terminal) -> usize
     requires { terminal.now.terminal.taken ≡ length flip.old.taken }
     ensures same { flip.new ≡ with_shown flip.old flip.new.floor }
@@ -40,8 +42,9 @@ pub(crate) fn look_at(flip: &mut FlipOut, terminal: &Terminal) -> usize
     }
 }
 
-/// Takes characters out one by one, at most so many and as long as the discipline accepts, hands them
-/// over, and lists them in room that was reserved.
+/// Hands over the characters that a look has shown, so many as far as the discipline accepts, lists
+/// those that it received in room that was reserved, and takes them out all at once.
+#[inline(always)]
 pub(crate) fn hand_over(
     terminal: &mut Terminal,
     flip: &mut FlipOut,
@@ -49,6 +52,7 @@ pub(crate) fn hand_over(
     chars: &mut Chars,
 )
     requires few { count ≤ 64 }
+    requires looked { flip.old.peeked ≡ [] }
     requires empty { chars.old.items ≡ [] }
     requires spare { count ≤ chars.old.spare }
     requires there { length flip.old.taken + count ≤ flip.old.floor }
@@ -63,21 +67,19 @@ pub(crate) fn hand_over(
     ensures stops { length chars.new.items < count → accepts terminal.new.terminal ≡ false }
     ensures column { column_in terminal.new.terminal.disc ≤ column_in terminal.old.terminal.disc + 2 ^ 22 * count }
 {
-    let mut left = count;
-    while left > 0 && terminal.accepts() {
-        let c = next_of(flip);
-        terminal.receive(c);
-        chars.add(c);
-        left -= 1;
-    }
+    let mut peeked = ArrayVec::new();
+    flip.peek(count, &mut peeked);
+    let received = terminal.receive_all(peeked.as_slice());
+    chars.append(front_of(peeked.as_slice(), received));
+    flip.release(received);
 }
 
-/// Takes out the next character, which is known to be there.
-fn next_of(flip: &mut FlipOut) -> Flagged
-    requires { length flip.old.taken < flip.old.floor }
-    ensures { TakesOut flip.old flip.new (result ∷ []) }
+/// The first `n` characters.
+fn front_of(chars: &[Flagged], n: usize) -> &[Flagged]
+    requires { n ≤ length chars.now }
+    ensures { result.now ≡ take n chars.now }
 {
-    flip.take_next()
+    &chars[..n]
 }
 
 /// Takes out all that one look shows, and lists it in room that was reserved.

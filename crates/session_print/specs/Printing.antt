@@ -1,5 +1,5 @@
 -- How the printer goes on: for private functions alone.
-use Rattle.std.specs.Prelude.{ℕ, List, [], ◌∷◌, ◌++◌, ◌+◌, Option, None, Some, Bool, ◌&&◌, ◌==◌, if◌then◌else◌, codes, filter, flat_map, length, map, slice_index, slice_index_or, slice_set}
+use Rattle.std.specs.Prelude.{ℕ, List, [], ◌∷◌, ◌++◌, ◌+◌, Option, None, Some, Bool, ◌&&◌, ◌==◌, if◌then◌else◌, codes, decimal, filter, flat_map, length, map, slice_index, slice_index_or, slice_set}
 use Rattle.std.specs.List.{range_with_len}
 use Rattle.std.specs.Option.{option_map}
 use denote.Ref.{Bor}
@@ -13,8 +13,10 @@ use Rattle.tty_modes.specs.Word.{word_text}
 use Rattle.tty_modes.specs.declared.words.Word.TheVariants.{Cc}
 use Rattle.tty_calls.specs.declared.answers.Answer.{Answer}
 use Rattle.tty_calls.specs.declared.sessions.Script.{Script}
-use Rattle.tty_calls.specs.Plain.{PlainAnswer, answer_of}
+use Rattle.tty_calls.specs.Plain.{PlainCall, PlainAnswer, answer_of}
 use Rattle.tty_calls.specs.Sessions.{PlainScript, script_of, number_in}
+use Rattle.session_print.specs.Words.{verb_of, answer_text}
+use Rattle.session_print.specs.Lines.{newline}
 use Rattle.session_print.specs.Report.{Told, told_from}
 use Rattle.session_print.specs.declared.answers.Turn.{Turn}
 
@@ -29,6 +31,13 @@ noted_answer answers c step = option_map (λ a. answer_of a.now) (get same_turn 
 abbrev pub entry_answer : Option (Turn × Bor Answer) → ℕ → ℕ → Option PlainAnswer
 entry_answer None c step = None
 entry_answer (Some answer) c step = if same_turn answer.0 (record { caller = c; step = step }) then Some (answer_of answer.1.now) else None
+
+-- what the line of a call begins with, and how it goes on
+abbrev pub call_head : ℕ → List ℕ → List ℕ
+call_head p name = decimal p ++ (codes "." ++ (name ++ codes "."))
+
+abbrev pub call_rest : ℕ → PlainCall → PlainAnswer → List ℕ
+call_rest step call answer = decimal step ++ (codes " " ++ (verb_of call ++ (codes " " ++ (answer_text answer ++ newline))))
 
 -- the scripts of a port's callers
 abbrev pub scripts_for : ℕ → List Script → List PlainScript

@@ -1,4 +1,4 @@
-ghost use Rattle.std.specs.Prelude.{◌≡◌, ℕ, IfOk};
+ghost use Rattle.std.specs.Prelude.{◌≡◌, ◌≤◌, ℕ, IfOk, length};
 ghost use Rattle.tty_calls.specs.Plain.{entry_of, entries_of};
 ghost use Rattle.session_print.specs.Report.{answer_in, answer_by};
 ghost use Rattle.session_print.specs.Printing.{noted_answer, entry_answer};
@@ -22,13 +22,26 @@ pub(crate) fn answers_of(
 ) -> Result<HashMap<Turn, &Answer>, NoMemory>
     ensures { IfOk result (λ answers. (c step : ℕ) → noted_answer answers c step ≡ answer_in (entries_of entries.now) c step) }
 {
-    let mut answers = HashMap::new(alloc);
+    let mut answers = HashMap::with_capacity(alloc, count_answers(entries))?;
     for entry in entries {
         if let Some((turn, answer)) = answer_of(entry) {
             answers.insert(turn, answer)?;
         }
     }
     Ok(answers)
+}
+
+/// How many entries answer, which is the room that their answers take.
+fn count_answers(entries: &[Entry]) -> usize
+    ensures { result ≤ length entries.now }
+{
+    let mut count = 0;
+    for entry in entries {
+        if matches!(entry.event, Event::Answer(..)) {
+            count += 1;
+        }
+    }
+    count
 }
 
 /// What an entry answers, and to which step.

@@ -1,11 +1,11 @@
-ghost use Rattle.std.specs.Prelude.{◌≡◌, ◌++◌, ◌+◌, ◌<◌, ◌^◌, Some, OnOk, flat_map, length, map, string_bytes};
+ghost use Rattle.std.specs.Prelude.{◌≡◌, ◌++◌, ◌+◌, ◌<◌, ◌^◌, Some, IfOk, OnOk, flat_map, length, map, string_bytes};
 ghost use Rattle.tty_calls.specs.Plain.{call_of, answer_of};
 ghost use Rattle.tty_calls.specs.Sessions.{script_of, number_in, session_of};
-ghost use Rattle.session_print.specs.Lines.{call_line};
 ghost use Rattle.session_print.specs.Report.{calls_text, told_line, told_from};
-ghost use Rattle.session_print.specs.Printing.{noted_answer, scripts_for, told_script, steps_then, told_scripts, steps_after};
+ghost use Rattle.session_print.specs.Printing.{call_head, call_rest, noted_answer, scripts_for, told_script, steps_then, told_scripts, steps_after};
 
 use super::answers::{Turn, answers_of};
+use super::digits::put_number;
 use super::words::{put_answer, verb_of};
 use std::alloc::{AllocError, Global};
 use std::collections::HashMap;
@@ -100,10 +100,11 @@ impl Teller<'_> {
         ensures { OnOk result (string_bytes text.new ≡ string_bytes text.old
             ++ flat_map (told_line self.now.port (noted_answer self.now.answers)) (told_from name.now (Some first.caller) first.step (map call_of calls.now))) }
     {
+        let head = head_of(*text.allocator(), self.port, name)?;
         let mut turn = first;
         for call in calls {
             if let Some(answer) = self.answers.get(&turn) {
-                put_call(text, self.port, name, turn.step, call, answer)?;
+                put_call(text, head.as_str(), turn.step, call, answer)?;
             }
             turn.step += 1;
         }
@@ -111,19 +112,28 @@ impl Teller<'_> {
     }
 }
 
-/// Adds the line of a call and its answer.
+/// What the line of a call begins with.
+fn head_of(alloc: Global, port: usize, name: &str) -> Result<String, AllocError>
+    ensures { IfOk result (λ head. string_bytes head ≡ call_head port name.now) }
+{
+    let mut head = String::new(alloc);
+    write!(head, "{port}.{name}.")?;
+    Ok(head)
+}
+
+/// Adds the line of a call and its answer, after what it begins with.
 fn put_call(
     text: &mut String,
-    port: usize,
-    name: &str,
+    head: &str,
     step: usize,
     call: &Call,
     answer: &Answer,
 ) -> Result<(), AllocError>
-    ensures { OnOk result (string_bytes text.new ≡ string_bytes text.old ++ call_line port name.now step (call_of call.now) (answer_of answer.now)) }
+    ensures { OnOk result (string_bytes text.new ≡ string_bytes text.old ++ (head.now ++ call_rest step (call_of call.now) (answer_of answer.now))) }
 {
-    let verb = verb_of(call);
-    write!(text, "{port}.{name}.{step} {verb} ")?;
+    text.push_str(head)?;
+    put_number(text, step as u64)?;
+    text.push_str(verb_of(call))?;
     put_answer(text, answer)?;
     text.push_str("\n")
 }

@@ -1,4 +1,4 @@
-ghost use Rattle.std.specs.Prelude.{◌≡◌, ◌++◌, ◌<◌, ◌∷◌, [], OnOk, slice_index_or, string_bytes};
+ghost use Rattle.std.specs.Prelude.{◌≡◌, ◌++◌, ◌<◌, ◌∷◌, [], OnOk, decimal, slice_index_or, string_bytes};
 ghost use Rattle.hex.specs.Hex.{encode_lower};
 ghost use Rattle.session_print.specs.Printing.{digit_texts};
 
@@ -11,7 +11,17 @@ const DIGITS: [&str; 16] = [
 /// How many bytes are turned into digits at a time.
 const PIECE: usize = 4096;
 
+/// Adds a number in decimal digits.
+#[inline(always)]
+pub(crate) fn put_number(text: &mut String, number: u64) -> Result<(), AllocError>
+    ensures { OnOk result (string_bytes text.new ≡ string_bytes text.old ++ decimal number) }
+{
+    let mut buffer = itoa::Buffer::new();
+    text.push_str(buffer.format(number))
+}
+
 /// Adds bytes in hexadecimal.
+#[inline(always)]
 pub(crate) fn put_hex(text: &mut String, bytes: &[u8]) -> Result<(), AllocError>
     ensures { OnOk result (string_bytes text.new ≡ string_bytes text.old ++ encode_lower bytes.now) }
 {

@@ -17,6 +17,3 @@ pub use journals::journal_text;
 pub use laws::each_call_has_its_line;
 pub use summaries::summary;
 pub use texts::{answer_text, play_text, report};
-
-#[cfg(test)]
-mod tests;

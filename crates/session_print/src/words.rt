@@ -1,8 +1,8 @@
-ghost use Rattle.std.specs.Prelude.{◌≡◌, ◌++◌, OnOk, string_bytes};
+ghost use Rattle.std.specs.Prelude.{◌≡◌, ◌++◌, OnOk, codes, string_bytes};
 ghost use Rattle.tty_calls.specs.Plain.{call_of, answer_of};
 ghost use Rattle.session_print.specs.Words.{verb_of as verb_in, errno_name as name_of_errno, signal_name as name_of_signal, counts_text, got_text, answer_text};
 
-use super::digits::put_hex;
+use super::digits::{put_hex, put_number};
 use super::modes::put_modes;
 use std::alloc::AllocError;
 use tty_base::{Counts, Errno, Signal};
@@ -14,9 +14,9 @@ pub(crate) fn put_answer(text: &mut String, answer: &Answer) -> Result<(), Alloc
 {
     match answer {
         Answer::Done => text.push_str("ok"),
-        Answer::Count(taken) => write!(text, "{taken}"),
+        Answer::Count(taken) => put_number(text, u64::from(*taken)),
         Answer::Got(bytes) => put_got(text, bytes.as_slice()),
-        Answer::Number(number) => write!(text, "{number}"),
+        Answer::Number(number) => put_number(text, u64::from(*number)),
         Answer::ModesAre(modes) => put_modes(text, modes),
         Answer::CountsAre(counts) => put_counts(text, counts),
         Answer::Refused(errno) => text.push_str(errno_name(*errno)),
@@ -31,8 +31,8 @@ fn put_got(text: &mut String, bytes: &[u8]) -> Result<(), AllocError>
     if bytes.is_empty() {
         return text.push_str("0");
     }
-    let count = bytes.len();
-    write!(text, "{count} ")?;
+    put_number(text, bytes.len() as u64)?;
+    text.push_str(" ")?;
     put_hex(text, bytes)
 }
 
@@ -58,29 +58,30 @@ pub(crate) fn put_counts(text: &mut String, counts: &Counts) -> Result<(), Alloc
     )
 }
 
+/// The verb of a call, between blanks.
 pub(crate) fn verb_of(call: &Call) -> &'static str
-    ensures { result.now ≡ verb_in (call_of call.now) }
+    ensures { result.now ≡ codes " " ++ (verb_in (call_of call.now) ++ codes " ") }
 {
     match call {
-        Call::Open { .. } => "open",
-        Call::Close { .. } => "close",
-        Call::Read { .. } => "read",
-        Call::Write { .. } => "write",
-        Call::GetModes { .. } => "getm",
-        Call::SetModes { .. } => "modes",
-        Call::GetDisc { .. } => "getd",
-        Call::SetDisc { .. } => "setd",
-        Call::Flush { .. } => "flush",
-        Call::Xonc { .. } => "xonc",
-        Call::Inq { .. } => "inq",
-        Call::Outq { .. } => "outq",
-        Call::Excl { .. } => "excl",
-        Call::Nxcl { .. } => "nxcl",
-        Call::Drain { .. } => "drain",
-        Call::Counts { .. } => "counts",
-        Call::Vhangup { .. } => "vhangup",
-        Call::SendPacket { .. } => "send",
-        Call::TakePacket { .. } => "take",
+        Call::Open { .. } => " open ",
+        Call::Close { .. } => " close ",
+        Call::Read { .. } => " read ",
+        Call::Write { .. } => " write ",
+        Call::GetModes { .. } => " getm ",
+        Call::SetModes { .. } => " modes ",
+        Call::GetDisc { .. } => " getd ",
+        Call::SetDisc { .. } => " setd ",
+        Call::Flush { .. } => " flush ",
+        Call::Xonc { .. } => " xonc ",
+        Call::Inq { .. } => " inq ",
+        Call::Outq { .. } => " outq ",
+        Call::Excl { .. } => " excl ",
+        Call::Nxcl { .. } => " nxcl ",
+        Call::Drain { .. } => " drain ",
+        Call::Counts { .. } => " counts ",
+        Call::Vhangup { .. } => " vhangup ",
+        Call::SendPacket { .. } => " send ",
+        Call::TakePacket { .. } => " take ",
     }
 }
 

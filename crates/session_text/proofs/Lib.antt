@@ -1,6 +1,7 @@
 mod Added
 mod Bounds
 mod Fits
+mod FirstWords
 pub mod Fronts
 mod Heads
 mod Judged
@@ -8,4 +9,5 @@ mod Lists
 mod Rests
 mod Runs
 pub mod Spelled
+mod VerbWords
 pub mod Within

@@ -7,5 +7,6 @@ pub mod Reading
 pub mod Refusals
 pub mod Rows
 pub mod Stands
+pub mod VerbSlots
 pub mod Verbs
 pub mod Views

@@ -3,37 +3,36 @@ ghost use Rattle.std.specs.List.{filter_map};
 ghost use Rattle.tty_modes.specs.Reading.{word_of as mode_in};
 ghost use Rattle.tty_calls.specs.Plain.{call_of as call_view};
 ghost use Rattle.text_lines.specs.Lines.{words_of};
-ghost use Rattle.text_lines.specs.Values.{bytes_of as bytes_written};
+ghost use Rattle.text_lines.specs.Values.{is_hex, bytes_of as bytes_written};
 ghost use Rattle.session_text.specs.Stands.{is_good};
 ghost use Rattle.session_text.specs.Meaning.{rx_step, characters, steps_in, bare_call, call_on, call_in};
 
 use super::verbs::{CallVerb, LineVerb, Verb};
 use super::words::{access_of, act_of, mode_of, queue_of, when_of};
 use std::alloc::Global;
-use text_lines::{bytes_of, count_words, number_at, split_word, word_at};
+use text_lines::{Arguments, byte_in, bytes_in, count_bytes, split_word};
 use tty_base::{Buffer, Bytes, Flag, Flagged, LineStep, NoMemory};
 use tty_calls::{Access, Act, Call, Queue, When, Words};
 
 /// Adds what a line's item does.
 pub(crate) fn add_steps(
-    alloc: Global,
     line: &mut Buffer<LineStep>,
     ports: u8,
     verb: LineVerb,
-    arguments: &[u8],
+    arguments: &Arguments,
 ) -> Result<(), NoMemory>
-    requires { IsTrue (is_good ports (Verb.Step verb) (words_of arguments.now)) }
-    ensures { OnOk result (line.new.items ≡ line.old.items ++ steps_in verb (words_of arguments.now)) }
+    requires { IsTrue (is_good ports (Verb.Step verb) arguments.now) }
+    ensures { OnOk result (line.new.items ≡ line.old.items ++ steps_in verb arguments.now) }
 {
     match verb {
-        LineVerb::Rx => add_characters(alloc, line, Flag::Normal, word_at(arguments, 0)),
-        LineVerb::Rxp => add_characters(alloc, line, Flag::Parity, word_at(arguments, 0)),
-        LineVerb::Rxf => add_characters(alloc, line, Flag::Frame, word_at(arguments, 0)),
+        LineVerb::Rx => add_characters(line, Flag::Normal, arguments.first()),
+        LineVerb::Rxp => add_characters(line, Flag::Parity, arguments.first()),
+        LineVerb::Rxf => add_characters(line, Flag::Frame, arguments.first()),
         LineVerb::Break => add_step(line, LineStep::Break),
         LineVerb::Mask => add_step(line, LineStep::Mask),
         LineVerb::Unmask => add_step(line, LineStep::Unmask),
-        LineVerb::Idle => add_step(line, LineStep::Idle(number_at(arguments, 0) as u32)),
-        LineVerb::Trigger => add_step(line, LineStep::Trigger(number_at(arguments, 0) as u8)),
+        LineVerb::Idle => add_step(line, LineStep::Idle(arguments.first_number() as u32)),
+        LineVerb::Trigger => add_step(line, LineStep::Trigger(arguments.first_number() as u8)),
     }
 }
 
@@ -46,26 +45,25 @@ fn add_step(line: &mut Buffer<LineStep>, step: LineStep) -> Result<(), NoMemory>
 }
 
 /// Adds the characters that HEX writes.
-fn add_characters(
-    alloc: Global,
-    line: &mut Buffer<LineStep>,
-    flag: Flag,
-    digits: &[u8],
-) -> Result<(), NoMemory>
+fn add_characters(line: &mut Buffer<LineStep>, flag: Flag, digits: &[u8]) -> Result<(), NoMemory>
+    requires { IsTrue (is_hex digits.now) }
     ensures { OnOk result (line.new.items ≡ line.old.items ++ characters flag digits.now) }
 {
-    let bytes = bytes_of(alloc, digits)?;
-    line.reserve(bytes.len())?;
-    append_characters(line, flag, bytes.as_slice());
+    let count = count_bytes(digits);
+    line.reserve(count)?;
+    append_characters(line, flag, digits, count);
     Ok(())
 }
 
-fn append_characters(line: &mut Buffer<LineStep>, flag: Flag, bytes: &[u8])
-    requires { length bytes.now ≤ line.old.spare }
-    ensures { line.new.items ≡ line.old.items ++ map (rx_step flag) bytes.now }
+fn append_characters(line: &mut Buffer<LineStep>, flag: Flag, digits: &[u8], count: usize)
+    requires hex { IsTrue (is_hex digits.now) }
+    requires all { count ≡ length (bytes_written digits.now) }
+    requires room { count ≤ line.old.spare }
+    ensures { line.new.items ≡ line.old.items ++ map (rx_step flag) (bytes_written digits.now) }
 {
-    for byte in bytes {
-        line.add(LineStep::Rx(Flagged { byte: *byte, flag }));
+    for place in 0..count {
+        let byte = byte_in(digits, place);
+        line.add(LineStep::Rx(Flagged { byte, flag }));
     }
 }
 
@@ -74,26 +72,26 @@ pub(crate) fn call_of(
     alloc: Global,
     ports: u8,
     verb: CallVerb,
-    arguments: &[u8],
+    arguments: &Arguments,
 ) -> Result<Call, NoMemory>
-    requires { IsTrue (is_good ports (Verb.Call verb) (words_of arguments.now)) }
-    ensures { IfOk result (λ call. call_view call ≡ call_in verb (words_of arguments.now)) }
+    requires { IsTrue (is_good ports (Verb.Call verb) arguments.now) }
+    ensures { IfOk result (λ call. call_view call ≡ call_in verb arguments.now) }
 {
-    let h = number_at(arguments, 0) as u8;
-    let word = word_at(arguments, 1);
+    let h = arguments.first_number() as u8;
+    let word = arguments.second();
     match verb {
         CallVerb::Open => Ok(Call::Open {
             h,
             access: access_of(word).unwrap_or(Access::Rw),
-            nonblock: count_words(arguments) == 3,
+            nonblock: arguments.count() == 3,
         }),
         CallVerb::Read => Ok(Call::Read {
             h,
-            n: number_at(arguments, 1) as u32,
+            n: arguments.second_number() as u32,
         }),
         CallVerb::Write => Ok(Call::Write {
             h,
-            bytes: Bytes::from_vec(bytes_of(alloc, word)?),
+            bytes: Bytes::from_vec(bytes_in(alloc, word)?),
         }),
         CallVerb::SetModes => Ok(Call::SetModes {
             h,
@@ -102,7 +100,7 @@ pub(crate) fn call_of(
         }),
         CallVerb::SetDisc => Ok(Call::SetDisc {
             h,
-            number: number_at(arguments, 1) as u32,
+            number: arguments.second_number() as u32,
         }),
         CallVerb::Flush => Ok(Call::Flush {
             h,
@@ -114,7 +112,7 @@ pub(crate) fn call_of(
         }),
         CallVerb::Send => Ok(Call::SendPacket {
             h,
-            bytes: Bytes::from_vec(bytes_of(alloc, word)?),
+            bytes: Bytes::from_vec(bytes_in(alloc, word)?),
         }),
         _ => Ok(bare_call(verb, h)),
     }
@@ -140,22 +138,19 @@ fn bare_call(verb: CallVerb, h: u8) -> Call
 }
 
 /// The mode words after the handle and the moment.
-fn modes_of(alloc: Global, arguments: &[u8]) -> Result<Words, NoMemory>
-    ensures { IfOk result (λ modes. modes.items ≡ filter_map mode_in (drop 2 (words_of arguments.now))) }
+fn modes_of(alloc: Global, arguments: &Arguments) -> Result<Words, NoMemory>
+    ensures { IfOk result (λ modes. modes.items ≡ filter_map mode_in (drop 2 arguments.now)) }
 {
     let mut modes = Words::new(alloc);
-    if let Some((_, after_handle)) = split_word(arguments) {
-        if let Some((_, after_when)) = split_word(after_handle) {
-            add_modes(&mut modes, after_when)?;
-        }
-    }
+    modes.reserve(arguments.count())?;
+    add_modes(&mut modes, arguments.more())?;
     Ok(modes)
 }
 
-fn add_modes(modes: &mut Words, arguments: &[u8]) -> Result<(), NoMemory>
-    ensures { OnOk result (modes.new.items ≡ modes.old.items ++ filter_map mode_in (words_of arguments.now)) }
+fn add_modes(modes: &mut Words, line: &[u8]) -> Result<(), NoMemory>
+    ensures { OnOk result (modes.new.items ≡ modes.old.items ++ filter_map mode_in (words_of line.now)) }
 {
-    let mut rest = arguments;
+    let mut rest = line;
     while let Some((word, after)) = split_word(rest) {
         if let Some(mode) = mode_of(word) {
             modes.reserve(1)?;

@@ -1,7 +1,6 @@
 ghost use Rattle.std.specs.Prelude.{◌≡◌, ◌+◌, ◌∷◌, ◌++◌, [], Some, IfOk, OnOk, IsTrue, map, replicate, slice_index, slice_index_or, slice_set};
 ghost use Rattle.tty_calls.specs.Plain.{call_of as call_view};
 ghost use Rattle.tty_calls.specs.Sessions.{session_of as session_view, phase_of, script_of};
-ghost use Rattle.text_lines.specs.Lines.{words_of};
 ghost use Rattle.session_text.specs.Stands.{is_good};
 ghost use Rattle.session_text.specs.Meaning.{steps_in, empty_phase};
 ghost use Rattle.session_text.specs.Drafts.{first_draft, all_phases, session_with, with_call, with_open, phase_after, draft_after};
@@ -11,7 +10,7 @@ use super::calls::{add_steps, call_of};
 use super::stands::Stand;
 use super::verbs::{LineVerb, Verb};
 use std::alloc::Global;
-use text_lines::{name_of, number_at, word_at};
+use text_lines::{Arguments, name_of};
 use tty_base::{Buffer, LineStep, NoMemory};
 use tty_calls::{Call, Phase, Script, Session};
 
@@ -52,17 +51,17 @@ impl Draft {
         alloc: Global,
         stand: &Stand,
         verb: Verb,
-        arguments: &[u8],
+        arguments: &Arguments,
     ) -> Result<(), NoMemory>
-        requires { IsTrue (is_good stand.now.ports verb (words_of arguments.now)) }
-        ensures { OnOk result (draft_of self.new ≡ draft_after (stand_of stand.now) (draft_of self.old) verb (words_of arguments.now)) }
+        requires { IsTrue (is_good stand.now.ports verb arguments.now) }
+        ensures { OnOk result (draft_of self.new ≡ draft_after (stand_of stand.now) (draft_of self.old) verb arguments.now) }
     {
         match verb {
             Verb::Session | Verb::Line | Verb::Clock | Verb::End => Ok(()),
-            Verb::Ports => self.set_ports(alloc, number_at(arguments, 0)),
+            Verb::Ports => self.set_ports(alloc, arguments.first_number()),
             Verb::Flip => {
-                let capacity = number_at(arguments, 1) as u32;
-                set_flip(&mut self.flips, number_at(arguments, 0), capacity);
+                let capacity = arguments.second_number() as u32;
+                set_flip(&mut self.flips, arguments.first_number(), capacity);
                 Ok(())
             }
             Verb::Phase => self.begin_phase(alloc, stand.ports()),
@@ -104,10 +103,10 @@ impl Draft {
         alloc: Global,
         stand: &Stand,
         verb: Verb,
-        arguments: &[u8],
+        arguments: &Arguments,
     ) -> Result<(), NoMemory>
-        requires { IsTrue (is_good stand.now.ports verb (words_of arguments.now)) }
-        ensures { OnOk result (draft_of self.new ≡ with_open (draft_of self.old) (phase_after (stand_of stand.now) verb (words_of arguments.now))) }
+        requires { IsTrue (is_good stand.now.ports verb arguments.now) }
+        ensures { OnOk result (draft_of self.new ≡ with_open (draft_of self.old) (phase_after (stand_of stand.now) verb arguments.now)) }
     {
         match &mut self.open_phase {
             None => Ok(()),
@@ -159,28 +158,28 @@ impl OpenPhase {
         alloc: Global,
         stand: &Stand,
         verb: Verb,
-        arguments: &[u8],
+        arguments: &Arguments,
     ) -> Result<(), NoMemory>
-        requires { IsTrue (is_good stand.now.ports verb (words_of arguments.now)) }
-        ensures { OnOk result (phase_view self.new ≡ phase_after (stand_of stand.now) verb (words_of arguments.now) (phase_view self.old)) }
+        requires { IsTrue (is_good stand.now.ports verb arguments.now) }
+        ensures { OnOk result (phase_view self.new ≡ phase_after (stand_of stand.now) verb arguments.now (phase_view self.old)) }
     {
         let ports = stand.ports();
         match verb {
             Verb::Caller => {
                 let script = Script {
-                    port: number_at(arguments, 1) as u8,
-                    name: name_of(word_at(arguments, 0)),
+                    port: arguments.second_number() as u8,
+                    name: name_of(arguments.first()),
                     calls: Buffer::new(alloc),
                 };
                 Ok(self.callers.push(script)?)
             }
             Verb::Tick => {
-                let count = number_at(arguments, 0) as u32;
+                let count = arguments.first_number() as u32;
                 add_ticks(&mut self.ticks, stand.port(), count)
             }
             Verb::Step(step) => {
                 let port = stand.port();
-                add_to_line(alloc, &mut self.lines, port, ports, step, arguments)
+                add_to_line(&mut self.lines, port, ports, step, arguments)
             }
             Verb::Call(call) => {
                 let call = call_of(alloc, ports, call, arguments)?;
@@ -222,20 +221,19 @@ fn add_ticks(ticks: &mut [u32], port: u64, count: u32) -> Result<(), NoMemory>
 }
 
 fn add_to_line(
-    alloc: Global,
     lines: &mut [Buffer<LineStep>],
     port: u64,
     ports: u8,
     verb: LineVerb,
-    arguments: &[u8],
+    arguments: &Arguments,
 ) -> Result<(), NoMemory>
-    requires { IsTrue (is_good ports (Verb.Step verb) (words_of arguments.now)) }
+    requires { IsTrue (is_good ports (Verb.Step verb) arguments.now) }
     ensures { OnOk result (map (λ steps. steps.items) lines.new
-        ≡ slice_set (map (λ steps. steps.items) lines.old) port (slice_index_or (map (λ steps. steps.items) lines.old) port [] ++ steps_in verb (words_of arguments.now))) }
+        ≡ slice_set (map (λ steps. steps.items) lines.old) port (slice_index_or (map (λ steps. steps.items) lines.old) port [] ++ steps_in verb arguments.now)) }
 {
     let place = port as usize;
     if place < lines.len() {
-        add_steps(alloc, &mut lines[place], ports, verb, arguments)?;
+        add_steps(&mut lines[place], ports, verb, arguments)?;
     }
     Ok(())
 }

@@ -5,7 +5,7 @@ ghost use Rattle.session_text.specs.Kinds.{may_have, line_may_have, call_may_hav
 use super::faults::Reason;
 use super::verbs::{CallVerb, LineVerb, Verb};
 use super::words::{access_of, act_of, is_nonblock, mode_of, queue_of, when_of};
-use text_lines::{is_hex, is_name, is_number, number_of, split_word};
+use text_lines::{Arguments, is_hex, is_name, is_number, number_of, split_word};
 
 /// What an argument may be.
 #[derive(Clone, Copy, Debug, PartialEq, Eq)]
@@ -27,6 +27,7 @@ pub(crate) enum Kind {
 }
 
 /// Whether an item may have so many arguments.
+#[inline(always)]
 pub(crate) fn may_have(verb: Verb, count: usize) -> bool
     ensures { result ≡ may_have verb count }
 {
@@ -62,6 +63,7 @@ fn call_may_have(verb: CallVerb, count: usize) -> bool
 
 /// The kind of an item's argument at a place, counted from 0. Of an item without arguments any kind
 /// may be said.
+#[inline(always)]
 pub(crate) fn kind_at(verb: Verb, place: usize) -> Kind
     ensures { result ≡ kind_at verb place }
 {
@@ -102,6 +104,7 @@ fn line_kind(verb: LineVerb) -> Kind
 }
 
 /// The kind of an argument after the handle.
+#[inline(always)]
 fn call_kind(verb: CallVerb, place: usize) -> Kind
     ensures { result ≡ call_kind verb place }
 {
@@ -126,11 +129,32 @@ fn call_kind(verb: CallVerb, place: usize) -> Kind
 }
 
 /// What is wrong with the first wrong argument, if one is.
-pub(crate) fn fault_in(ports: u8, verb: Verb, arguments: &[u8]) -> Option<Reason>
-    ensures { result ≡ fault_from ports verb 0 (words_of arguments.now) }
+#[inline(always)]
+pub(crate) fn fault_in(ports: u8, verb: Verb, arguments: &Arguments) -> Option<Reason>
+    ensures { result ≡ fault_from ports verb 0 arguments.now }
 {
-    let mut rest = arguments;
-    let mut place = 0;
+    let count = arguments.count();
+    if count == 0 {
+        return None;
+    }
+    if let Some(reason) = fault_of(ports, kind_at(verb, 0), arguments.first()) {
+        return Some(reason);
+    }
+    if count == 1 {
+        return None;
+    }
+    if let Some(reason) = fault_of(ports, kind_at(verb, 1), arguments.second()) {
+        return Some(reason);
+    }
+    fault_behind(ports, verb, arguments.more())
+}
+
+/// The same of the arguments behind the second.
+fn fault_behind(ports: u8, verb: Verb, line: &[u8]) -> Option<Reason>
+    ensures { result ≡ fault_from ports verb 2 (words_of line.now) }
+{
+    let mut rest = line;
+    let mut place = 2;
     while let Some((word, after)) = split_word(rest) {
         if let Some(reason) = fault_of(ports, kind_at(verb, place), word) {
             return Some(reason);
@@ -141,6 +165,7 @@ pub(crate) fn fault_in(ports: u8, verb: Verb, arguments: &[u8]) -> Option<Reason
     None
 }
 
+#[inline(always)]
 fn fault_of(ports: u8, kind: Kind, word: &[u8]) -> Option<Reason>
     ensures { result ≡ fault_of ports kind word.now }
 {
@@ -205,6 +230,7 @@ fn is_trigger(number: u64) -> bool
     number == 1 || number == 4 || number == 8 || number == 14
 }
 
+#[inline(always)]
 fn hex_fault(word: &[u8], most: u64) -> Option<Reason>
     ensures { result ≡ hex_fault word.now most }
 {

@@ -22,6 +22,3 @@ pub use laws::{
     spells_one_session, worked_texts_are_refused_at_their_lines, worked_texts_spell_their_sessions,
 };
 pub use reader::{Reader, parse, parse_front};
-
-#[cfg(test)]
-mod tests;

@@ -12,7 +12,7 @@ use super::drafts::Draft;
 use super::faults::{BadLine, Reason, TextFault};
 use super::stands::{Place, Stand};
 use std::alloc::Global;
-use text_lines::{is_comment, split_line, split_word};
+use text_lines::{Arguments, is_comment, split_line, split_word};
 use tty_calls::Session;
 
 /// Where the reader of a text stands, and what it has read.
@@ -39,11 +39,11 @@ impl Reader {
     {
         match split_word(line) {
             None => Ok(()),
-            Some((word, arguments)) => {
+            Some((word, behind)) => {
                 if is_comment(word) {
                     return Ok(());
                 }
-                self.read_item(alloc, number, word, arguments)
+                self.read_item(alloc, number, word, &Arguments::of(behind))
             }
         }
     }
@@ -53,9 +53,9 @@ impl Reader {
         alloc: Global,
         number: u32,
         word: &[u8],
-        arguments: &[u8],
+        arguments: &Arguments,
     ) -> Result<(), TextFault>
-        ensures { Gives (λ _. reading_of self.new) result (reading_after_item (reading_of self.old) number (words_of arguments.now) (verdict_on (stand_of self.old.stand) word.now (words_of arguments.now))) }
+        ensures { Gives (λ _. reading_of self.new) result (reading_after_item (reading_of self.old) number arguments.now (verdict_on (stand_of self.old.stand) word.now arguments.now)) }
     {
         match self.stand.judge(word, arguments) {
             Ok(verb) => {

@@ -1,6 +1,5 @@
 ghost use Rattle.std.specs.Prelude.{◌≡◌, ◌-◌, ◌∷◌, ◌++◌, [], Some, OnOk, IsTrue, map, slice_set, slice_index, length};
 ghost use Rattle.std.specs.List.{list_any};
-ghost use Rattle.text_lines.specs.Lines.{words_of};
 ghost use Rattle.session_text.specs.Stands.{first_stand, may_stand, in_phase, holds, same_key, has_stood, callers_on, arrivals, has_many, is_over, is_good, late_fault, item_fault, verdict_on, verb_verdict, first_verdict, left_after, stand_after};
 ghost use Rattle.session_text.specs.Views.{stand_of, key_of};
 
@@ -10,7 +9,7 @@ use super::verbs::{CallVerb, LineVerb, Verb, verb_of};
 use super::words::is_same;
 use arrayvec::ArrayString;
 use std::alloc::Global;
-use text_lines::{count_words, name_of, number_at, word_at};
+use text_lines::{Arguments, name_of};
 use tty_base::{Buffer, NoMemory};
 
 const PHASES: u64 = 64;
@@ -120,8 +119,8 @@ impl Stand {
     }
 
     /// The verb of a line, from its first word and its arguments, or why the line is wrong.
-    pub(crate) fn judge(&self, word: &[u8], arguments: &[u8]) -> Result<Verb, Reason>
-        ensures { result ≡ verdict_on (stand_of self.now) word.now (words_of arguments.now) }
+    pub(crate) fn judge(&self, word: &[u8], arguments: &Arguments) -> Result<Verb, Reason>
+        ensures { result ≡ verdict_on (stand_of self.now) word.now arguments.now }
     {
         if matches!(self.place, Place::Start) {
             return self.judge_first(word, arguments);
@@ -133,8 +132,8 @@ impl Stand {
     }
 
     /// The first item has to be the header.
-    fn judge_first(&self, word: &[u8], arguments: &[u8]) -> Result<Verb, Reason>
-        ensures { result ≡ first_verdict (stand_of self.now) word.now (words_of arguments.now) }
+    fn judge_first(&self, word: &[u8], arguments: &Arguments) -> Result<Verb, Reason>
+        ensures { result ≡ first_verdict (stand_of self.now) word.now arguments.now }
     {
         if is_same(word, b"tty-session".as_slice())
             && is_good(self.ports, Verb::Session, arguments)
@@ -145,8 +144,8 @@ impl Stand {
         }
     }
 
-    fn judge_item(&self, verb: Verb, arguments: &[u8]) -> Result<Verb, Reason>
-        ensures { result ≡ verb_verdict (stand_of self.now) (Some verb) (words_of arguments.now) }
+    fn judge_item(&self, verb: Verb, arguments: &Arguments) -> Result<Verb, Reason>
+        ensures { result ≡ verb_verdict (stand_of self.now) (Some verb) arguments.now }
     {
         match self.item_fault(verb, arguments) {
             None => Ok(verb),
@@ -154,13 +153,13 @@ impl Stand {
         }
     }
 
-    fn item_fault(&self, verb: Verb, arguments: &[u8]) -> Option<Reason>
-        ensures { result ≡ item_fault (stand_of self.now) verb (words_of arguments.now) }
+    fn item_fault(&self, verb: Verb, arguments: &Arguments) -> Option<Reason>
+        ensures { result ≡ item_fault (stand_of self.now) verb arguments.now }
     {
         if !may_stand(verb, self.place) {
             return Some(Reason::Order);
         }
-        if !may_have(verb, count_words(arguments)) {
+        if !may_have(verb, arguments.count()) {
             return Some(Reason::Word);
         }
         match fault_in(self.ports, verb, arguments) {
@@ -169,8 +168,8 @@ impl Stand {
         }
     }
 
-    fn late_fault(&self, verb: Verb, arguments: &[u8]) -> Option<Reason>
-        ensures { result ≡ late_fault (stand_of self.now) verb (words_of arguments.now) }
+    fn late_fault(&self, verb: Verb, arguments: &Arguments) -> Option<Reason>
+        ensures { result ≡ late_fault (stand_of self.now) verb arguments.now }
     {
         if self.has_stood(verb, arguments) {
             return Some(Reason::Order);
@@ -182,29 +181,29 @@ impl Stand {
     }
 
     /// Whether an item that may stand once has stood.
-    fn has_stood(&self, verb: Verb, arguments: &[u8]) -> bool
-        ensures { result ≡ has_stood (stand_of self.now) verb (words_of arguments.now) }
+    fn has_stood(&self, verb: Verb, arguments: &Arguments) -> bool
+        ensures { result ≡ has_stood (stand_of self.now) verb arguments.now }
     {
         match verb {
-            Verb::Flip => holds(self.flips.as_slice(), number_at(arguments, 0)),
-            Verb::Line => holds(self.lines.as_slice(), number_at(arguments, 0)),
-            Verb::Clock => holds(self.clocks.as_slice(), number_at(arguments, 0)),
+            Verb::Flip => holds(self.flips.as_slice(), arguments.first_number()),
+            Verb::Line => holds(self.lines.as_slice(), arguments.first_number()),
+            Verb::Clock => holds(self.clocks.as_slice(), arguments.first_number()),
             Verb::Caller => {
-                let name = word_at(arguments, 0);
-                has_key(self.callers.as_slice(), name, number_at(arguments, 1))
+                let name = arguments.first();
+                has_key(self.callers.as_slice(), name, arguments.second_number())
             }
             _ => false,
         }
     }
 
     /// Whether an item passes a total.
-    fn is_over(&self, verb: Verb, arguments: &[u8]) -> bool
-        ensures { result ≡ is_over (stand_of self.now) verb (words_of arguments.now) }
+    fn is_over(&self, verb: Verb, arguments: &Arguments) -> bool
+        ensures { result ≡ is_over (stand_of self.now) verb arguments.now }
     {
         match verb {
             Verb::Phase => self.phases_left == 0,
             Verb::Caller => {
-                callers_on(number_at(arguments, 1), self.callers.as_slice()) >= CALLERS
+                callers_on(arguments.second_number(), self.callers.as_slice()) >= CALLERS
             }
             Verb::Step(step) => {
                 self.steps_left == 0
@@ -212,9 +211,9 @@ impl Stand {
             }
             Verb::Tick => {
                 self.steps_left == 0
-                    || left_on(&self.ticks_left, self.port) < number_at(arguments, 0)
+                    || left_on(&self.ticks_left, self.port) < arguments.first_number()
             }
-            Verb::Call(call) => self.steps_left == 0 || has_many(call, count_words(arguments)),
+            Verb::Call(call) => self.steps_left == 0 || has_many(call, arguments.count()),
             _ => false,
         }
     }
@@ -224,27 +223,27 @@ impl Stand {
         &mut self,
         alloc: Global,
         verb: Verb,
-        arguments: &[u8],
+        arguments: &Arguments,
     ) -> Result<(), NoMemory>
-        requires { IsTrue (is_good self.old.ports verb (words_of arguments.now)) }
-        ensures { OnOk result (stand_of self.new ≡ stand_after (stand_of self.old) verb (words_of arguments.now)) }
+        requires { IsTrue (is_good self.old.ports verb arguments.now) }
+        ensures { OnOk result (stand_of self.new ≡ stand_after (stand_of self.old) verb arguments.now) }
     {
         match verb {
             Verb::Session => {
-                self.version = number_at(arguments, 0) as u8;
+                self.version = arguments.first_number() as u8;
                 self.place = Place::Head;
             }
             Verb::Ports => {
-                self.ports = number_at(arguments, 0) as u8;
+                self.ports = arguments.first_number() as u8;
                 self.place = Place::Before;
             }
-            Verb::Flip => add_port(&mut self.flips, number_at(arguments, 0))?,
+            Verb::Flip => add_port(&mut self.flips, arguments.first_number())?,
             Verb::Phase => self.open_phase(alloc),
-            Verb::Line => self.open_line(number_at(arguments, 0))?,
-            Verb::Clock => self.open_clock(number_at(arguments, 0))?,
+            Verb::Line => self.open_line(arguments.first_number())?,
+            Verb::Clock => self.open_clock(arguments.first_number())?,
             Verb::Caller => self.open_caller(arguments)?,
             Verb::Step(step) => self.step(arrivals(step, arguments)),
-            Verb::Tick => self.tick(number_at(arguments, 0)),
+            Verb::Tick => self.tick(arguments.first_number()),
             Verb::Call(_) => self.steps_left = self.steps_left.saturating_sub(1),
             Verb::End => self.place = Place::Ended,
         }
@@ -279,12 +278,12 @@ impl Stand {
         Ok(())
     }
 
-    fn open_caller(&mut self, arguments: &[u8]) -> Result<(), NoMemory>
-        requires { IsTrue (is_good self.old.ports Verb.Caller (words_of arguments.now)) }
-        ensures { OnOk result (stand_of self.new ≡ stand_after (stand_of self.old) Verb.Caller (words_of arguments.now)) }
+    fn open_caller(&mut self, arguments: &Arguments) -> Result<(), NoMemory>
+        requires { IsTrue (is_good self.old.ports Verb.Caller arguments.now) }
+        ensures { OnOk result (stand_of self.new ≡ stand_after (stand_of self.old) Verb.Caller arguments.now) }
     {
-        let port = number_at(arguments, 1);
-        let name = name_of(word_at(arguments, 0));
+        let port = arguments.second_number();
+        let name = name_of(arguments.first());
         self.callers.reserve(1)?;
         self.callers.add(Key { name, port });
         self.place = Place::Caller;
@@ -307,10 +306,10 @@ impl Stand {
     }
 }
 
-fn is_good(ports: u8, verb: Verb, arguments: &[u8]) -> bool
-    ensures { result ≡ is_good ports verb (words_of arguments.now) }
+fn is_good(ports: u8, verb: Verb, arguments: &Arguments) -> bool
+    ensures { result ≡ is_good ports verb arguments.now }
 {
-    may_have(verb, count_words(arguments)) && fault_in(ports, verb, arguments).is_none()
+    may_have(verb, arguments.count()) && fault_in(ports, verb, arguments).is_none()
 }
 
 /// Whether an item may stand at a place. The header stands before the first place alone.
@@ -363,11 +362,11 @@ fn callers_on(port: u64, keys: &[Key]) -> usize
 }
 
 /// How many characters a line's item lets arrive.
-fn arrivals(verb: LineVerb, arguments: &[u8]) -> u64
-    ensures { result ≡ arrivals verb (words_of arguments.now) }
+fn arrivals(verb: LineVerb, arguments: &Arguments) -> u64
+    ensures { result ≡ arrivals verb arguments.now }
 {
     match verb {
-        LineVerb::Rx | LineVerb::Rxp | LineVerb::Rxf => word_at(arguments, 0).len() as u64 / 2,
+        LineVerb::Rx | LineVerb::Rxp | LineVerb::Rxf => arguments.first().len() as u64 / 2,
         LineVerb::Break => 1,
         _ => 0,
     }

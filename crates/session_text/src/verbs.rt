@@ -1,7 +1,6 @@
-ghost use Rattle.std.specs.Prelude.{◌≡◌};
-ghost use Rattle.session_text.specs.Verbs.{block_verb_of, line_verb_of, call_verb_of, rarer_call_verb_of, verb_of};
-
-use super::words::is_same;
+ghost use Rattle.std.specs.Prelude.{◌≡◌, ◌<◌, slice_index, slice_index_or};
+ghost use Rattle.session_text.specs.Verbs.{line_text, call_text, verb_text, verb_of};
+ghost use Rattle.session_text.specs.VerbSlots.{slot_of};
 
 /// The first word of a line of a session.
 #[derive(Clone, Copy, Debug, PartialEq, Eq)]
@@ -56,123 +55,163 @@ pub(crate) enum CallVerb {
     Take,
 }
 
+const VERBS: [Verb; 36] = [
+    Verb::Session,
+    Verb::Ports,
+    Verb::Flip,
+    Verb::Phase,
+    Verb::Line,
+    Verb::Clock,
+    Verb::Caller,
+    Verb::Tick,
+    Verb::End,
+    Verb::Step(LineVerb::Rx),
+    Verb::Step(LineVerb::Rxp),
+    Verb::Step(LineVerb::Rxf),
+    Verb::Step(LineVerb::Break),
+    Verb::Step(LineVerb::Mask),
+    Verb::Step(LineVerb::Unmask),
+    Verb::Step(LineVerb::Idle),
+    Verb::Step(LineVerb::Trigger),
+    Verb::Call(CallVerb::Open),
+    Verb::Call(CallVerb::Close),
+    Verb::Call(CallVerb::Read),
+    Verb::Call(CallVerb::Write),
+    Verb::Call(CallVerb::GetModes),
+    Verb::Call(CallVerb::SetModes),
+    Verb::Call(CallVerb::GetDisc),
+    Verb::Call(CallVerb::SetDisc),
+    Verb::Call(CallVerb::Flush),
+    Verb::Call(CallVerb::Xonc),
+    Verb::Call(CallVerb::Inq),
+    Verb::Call(CallVerb::Outq),
+    Verb::Call(CallVerb::Excl),
+    Verb::Call(CallVerb::Nxcl),
+    Verb::Call(CallVerb::Drain),
+    Verb::Call(CallVerb::Counts),
+    Verb::Call(CallVerb::Vhangup),
+    Verb::Call(CallVerb::Send),
+    Verb::Call(CallVerb::Take),
+];
+
+/// The place in `VERBS` of the verb whose text has this slot. Where none has it, any may stand there.
+const VERB_SLOTS: [u8; 128] = [
+    0, 0, 0, 13, 0, 0, 0, 0, 0, 0, 31, 1, 0, 0, 6, 0, 0, 0, 0, 0, 0, 0, 0, 0, 0, 15, 0, 0, 0, 28,
+    0, 0, 24, 0, 0, 0, 29, 18, 0, 0, 8, 0, 0, 5, 0, 20, 16, 12, 0, 3, 0, 0, 0, 0, 0, 0, 19, 35, 0,
+    0, 0, 4, 0, 0, 9, 0, 0, 0, 0, 0, 0, 0, 30, 0, 0, 0, 0, 0, 0, 0, 0, 0, 0, 0, 33, 0, 0, 22, 34,
+    0, 0, 14, 0, 0, 0, 7, 0, 27, 0, 0, 0, 0, 17, 0, 0, 0, 0, 26, 0, 0, 0, 0, 23, 0, 0, 0, 2, 0, 11,
+    0, 10, 21, 0, 32, 25, 0, 0, 0,
+];
+
 /// The verb that a word is in a text of this version.
 pub(crate) fn verb_of(version: u8, word: &[u8]) -> Option<Verb>
     ensures { result ≡ verb_of version word.now }
 {
-    if is_same(word, b"flip".as_slice()) {
-        return if version == 2 { Some(Verb::Flip) } else { None };
-    }
-    if let Some(verb) = block_verb_of(word) {
-        return Some(verb);
-    }
-    if let Some(verb) = line_verb_of(word) {
-        return Some(Verb::Step(verb));
-    }
-    match call_verb_of(word) {
-        Some(verb) => Some(Verb::Call(verb)),
-        None => None,
-    }
-}
-
-fn block_verb_of(word: &[u8]) -> Option<Verb>
-    ensures { result ≡ block_verb_of word.now }
-{
-    if is_same(word, b"tty-session".as_slice()) {
-        Some(Verb::Session)
-    } else if is_same(word, b"ports".as_slice()) {
-        Some(Verb::Ports)
-    } else if is_same(word, b"phase".as_slice()) {
-        Some(Verb::Phase)
-    } else if is_same(word, b"line".as_slice()) {
-        Some(Verb::Line)
-    } else if is_same(word, b"clock".as_slice()) {
-        Some(Verb::Clock)
-    } else if is_same(word, b"caller".as_slice()) {
-        Some(Verb::Caller)
-    } else if is_same(word, b"tick".as_slice()) {
-        Some(Verb::Tick)
-    } else if is_same(word, b"end".as_slice()) {
-        Some(Verb::End)
+    let verb = verb_near(slot_of(word));
+    if text_of(verb).as_bytes() == word {
+        in_version(version, verb)
     } else {
         None
     }
 }
 
-fn line_verb_of(word: &[u8]) -> Option<LineVerb>
-    ensures { result ≡ line_verb_of word.now }
+/// A number below 128 that three bytes of a word give: another one for each verb.
+fn slot_of(word: &[u8]) -> usize
+    ensures value { result ≡ slot_of word.now }
+    ensures small { result < 128 }
 {
-    if is_same(word, b"rx".as_slice()) {
-        Some(LineVerb::Rx)
-    } else if is_same(word, b"rxp".as_slice()) {
-        Some(LineVerb::Rxp)
-    } else if is_same(word, b"rxf".as_slice()) {
-        Some(LineVerb::Rxf)
-    } else if is_same(word, b"break".as_slice()) {
-        Some(LineVerb::Break)
-    } else if is_same(word, b"mask".as_slice()) {
-        Some(LineVerb::Mask)
-    } else if is_same(word, b"unmask".as_slice()) {
-        Some(LineVerb::Unmask)
-    } else if is_same(word, b"idle".as_slice()) {
-        Some(LineVerb::Idle)
-    } else if is_same(word, b"trigger".as_slice()) {
-        Some(LineVerb::Trigger)
-    } else {
-        None
+    let last = byte_at(word, word.len().saturating_sub(1));
+    (byte_at(word, 0) * 4 + byte_at(word, 2) * 12 + last) % 128
+}
+
+fn byte_at(word: &[u8], place: usize) -> usize
+    ensures value { result ≡ slice_index word.now place }
+    ensures small { result < 256 }
+{
+    usize::from(word.get(place).copied().unwrap_or(0))
+}
+
+/// The verb whose text may have this slot.
+fn verb_near(slot: usize) -> Verb
+    requires { slot < 128 }
+    ensures { result ≡ slice_index_or VERBS (slice_index VERB_SLOTS slot) Verb.Session }
+{
+    VERBS[usize::from(place_near(slot))]
+}
+
+fn place_near(slot: usize) -> u8
+    requires { slot < 128 }
+    ensures value { result ≡ slice_index VERB_SLOTS slot }
+    ensures small { result < 36 }
+{
+    VERB_SLOTS[slot]
+}
+
+/// The verb itself, if a text of this version has it.
+fn in_version(version: u8, verb: Verb) -> Option<Verb>
+    ensures { result ≡ verb_of version (verb_text verb) }
+{
+    if matches!(verb, Verb::Flip) && version != 2 {
+        return None;
+    }
+    Some(verb)
+}
+
+fn text_of(verb: Verb) -> &'static str
+    ensures { result.now ≡ verb_text verb }
+{
+    match verb {
+        Verb::Session => "tty-session",
+        Verb::Ports => "ports",
+        Verb::Flip => "flip",
+        Verb::Phase => "phase",
+        Verb::Line => "line",
+        Verb::Clock => "clock",
+        Verb::Caller => "caller",
+        Verb::Tick => "tick",
+        Verb::End => "end",
+        Verb::Step(verb) => line_text(verb),
+        Verb::Call(verb) => call_text(verb),
     }
 }
 
-fn call_verb_of(word: &[u8]) -> Option<CallVerb>
-    ensures { result ≡ call_verb_of word.now }
+fn line_text(verb: LineVerb) -> &'static str
+    ensures { result.now ≡ line_text verb }
 {
-    if is_same(word, b"open".as_slice()) {
-        Some(CallVerb::Open)
-    } else if is_same(word, b"close".as_slice()) {
-        Some(CallVerb::Close)
-    } else if is_same(word, b"read".as_slice()) {
-        Some(CallVerb::Read)
-    } else if is_same(word, b"write".as_slice()) {
-        Some(CallVerb::Write)
-    } else if is_same(word, b"getm".as_slice()) {
-        Some(CallVerb::GetModes)
-    } else if is_same(word, b"modes".as_slice()) {
-        Some(CallVerb::SetModes)
-    } else if is_same(word, b"getd".as_slice()) {
-        Some(CallVerb::GetDisc)
-    } else if is_same(word, b"setd".as_slice()) {
-        Some(CallVerb::SetDisc)
-    } else if is_same(word, b"flush".as_slice()) {
-        Some(CallVerb::Flush)
-    } else {
-        rarer_call_verb_of(word)
+    match verb {
+        LineVerb::Rx => "rx",
+        LineVerb::Rxp => "rxp",
+        LineVerb::Rxf => "rxf",
+        LineVerb::Break => "break",
+        LineVerb::Mask => "mask",
+        LineVerb::Unmask => "unmask",
+        LineVerb::Idle => "idle",
+        LineVerb::Trigger => "trigger",
     }
 }
 
-fn rarer_call_verb_of(word: &[u8]) -> Option<CallVerb>
-    ensures { result ≡ rarer_call_verb_of word.now }
+fn call_text(verb: CallVerb) -> &'static str
+    ensures { result.now ≡ call_text verb }
 {
-    if is_same(word, b"xonc".as_slice()) {
-        Some(CallVerb::Xonc)
-    } else if is_same(word, b"inq".as_slice()) {
-        Some(CallVerb::Inq)
-    } else if is_same(word, b"outq".as_slice()) {
-        Some(CallVerb::Outq)
-    } else if is_same(word, b"excl".as_slice()) {
-        Some(CallVerb::Excl)
-    } else if is_same(word, b"nxcl".as_slice()) {
-        Some(CallVerb::Nxcl)
-    } else if is_same(word, b"drain".as_slice()) {
-        Some(CallVerb::Drain)
-    } else if is_same(word, b"counts".as_slice()) {
-        Some(CallVerb::Counts)
-    } else if is_same(word, b"vhangup".as_slice()) {
-        Some(CallVerb::Vhangup)
-    } else if is_same(word, b"send".as_slice()) {
-        Some(CallVerb::Send)
-    } else if is_same(word, b"take".as_slice()) {
-        Some(CallVerb::Take)
-    } else {
-        None
+    match verb {
+        CallVerb::Open => "open",
+        CallVerb::Close => "close",
+        CallVerb::Read => "read",
+        CallVerb::Write => "write",
+        CallVerb::GetModes => "getm",
+        CallVerb::SetModes => "modes",
+        CallVerb::GetDisc => "getd",
+        CallVerb::SetDisc => "setd",
+        CallVerb::Flush => "flush",
+        CallVerb::Xonc => "xonc",
+        CallVerb::Inq => "inq",
+        CallVerb::Outq => "outq",
+        CallVerb::Excl => "excl",
+        CallVerb::Nxcl => "nxcl",
+        CallVerb::Drain => "drain",
+        CallVerb::Counts => "counts",
+        CallVerb::Vhangup => "vhangup",
+        CallVerb::Send => "send",
+        CallVerb::Take => "take",
     }
 }

@@ -1,24 +1,11 @@
 -- Hexadecimal digits and names, as the library's calls see them.
-use Rattle.std.proofs.Common.{nat_le, leb-true, ◌≤◌, ◌≡◌, ℕ, ◌<◌, ◌%◌, ◌==◌, ◌&&◌, Bool, true, false, cond, List, [], ◌∷◌, length, Some, None, Ok, Err, refl, sym, ap, ◌∙◌, arith, eq-eqb}
+use Rattle.std.proofs.Common.{nat_le, leb-true, ◌≤◌, ◌≡◌, ℕ, ◌<◌, ◌&&◌, true, List, [], ◌∷◌, length, arith}
 use Rattle.std.specs.List.{list_all}
-use Rattle.std.specs.Prelude.{Result}
-use Rattle.std.specs.Result.{result_unwrap_or}
 use Rattle.std.specs.Str.{IsAscii, IsUtf8}
-use Rattle.std.proofs.lemmas.Bool.{eqb-true, and_parts}
+use Rattle.std.proofs.lemmas.Bool.{and_parts}
 use Rattle.std.proofs.lemmas.Str.{IsUtf8-from_ascii}
 use Rattle.std.proofs.lemmas.Str.Ascii.{IsAscii-nil, IsAscii-cons}
-use Rattle.std.proofs.lemmas.List.Sums.{AllPass-from_list_all, list_all-from_AllPass}
-use Rattle.hex.specs.Hex.{decode_of, is_hex_digit}
-use Rattle.hex.specs.declared.error.FromHexError.{FromHexError}
-use Rattle.hex.proofs.HexLemmas.{decode_of-ok, decode_of-digits}
-use Rattle.text_lines.specs.Values.{is_digit, begins_number, is_number, bytes_of, begins_name, is_name, is_name_byte}
-
--- what decodes gives its bytes, and what does not gives none
-pub bytes_decoded : (digits bytes : List ℕ) → decode_of digits ≡ Ok bytes → bytes ≡ bytes_of digits
-bytes_decoded digits bytes e = sym (ap (λ (r : Result (List ℕ) FromHexError). result_unwrap_or r []) e)
-
-pub bytes_refused : (digits : List ℕ) (e : FromHexError) → decode_of digits ≡ Err e → [] ≡ bytes_of digits
-bytes_refused digits e refused = sym (ap (λ (r : Result (List ℕ) FromHexError). result_unwrap_or r []) refused)
+use Rattle.text_lines.specs.Values.{is_digit, begins_number, is_number, begins_name, is_name, is_name_byte}
 
 -- ---- names
 

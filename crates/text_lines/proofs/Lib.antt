@@ -1,4 +1,5 @@
 mod Digits
 mod Finds
 mod HexDigits
+mod HexPairs
 mod Splits

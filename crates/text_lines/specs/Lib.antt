@@ -1,3 +1,4 @@
 pub mod HexDigits
 pub mod Lines
+pub mod Parted
 pub mod Values

@@ -6,12 +6,14 @@
 //! hexadecimal digits in either case.
 #![tactic(auto)]
 
+mod arguments;
 mod hexadecimal;
 mod lines;
 mod names;
 mod numbers;
 
-pub use hexadecimal::{bytes_of, is_hex};
+pub use arguments::Arguments;
+pub use hexadecimal::{byte_in, bytes_in, bytes_of, count_bytes, is_hex};
 pub use lines::{count_words, is_comment, split_line, split_word, word_at};
 pub use names::{is_name, name_of};
 pub use numbers::{is_number, number_at, number_of};

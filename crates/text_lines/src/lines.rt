@@ -1,10 +1,11 @@
-ghost use Rattle.std.specs.Prelude.{◌≡◌, ◌<◌, [], ◌∷◌, position, not, length, slice_index_or, MatchOption};
+ghost use Rattle.std.specs.Prelude.{◌≡◌, ◌<◌, ◌≤◌, [], ◌∷◌, position, not, length, slice_index_or, MatchOption};
 ghost use Rattle.text_lines.specs.Lines.{is_newline, is_blank, first_is, lines_of, words_of};
 
 /// From this length on a line is searched by vectors.
 const LONG: usize = 64;
 
 /// The first line of a text, and what follows it; `None` where the text is empty.
+#[inline(always)]
 pub fn split_line(text: &[u8]) -> Option<(&[u8], &[u8])>
     ensures lines { MatchOption result (lines_of text.now ≡ []) (λ parts. lines_of text.now ≡ parts.0.now ∷ lines_of parts.1.now) }
     ensures shorter { MatchOption result (text.now ≡ []) (λ parts. length parts.1.now < length text.now) }
@@ -18,6 +19,7 @@ pub fn split_line(text: &[u8]) -> Option<(&[u8], &[u8])>
     }
 }
 
+#[inline(always)]
 fn newline_in(text: &[u8]) -> Option<usize>
     ensures { result ≡ position is_newline text.now }
 {
@@ -27,25 +29,37 @@ fn newline_in(text: &[u8]) -> Option<usize>
 fn is_blank(byte: u8) -> bool
     ensures { result ≡ is_blank byte }
 {
-    byte == b' ' || byte == b'\t' || byte == b'\r'
+    byte <= b' ' && (byte == b' ' || byte == b'\t' || byte == b'\r')
 }
 
+#[inline(always)]
 fn blank_in(line: &[u8]) -> Option<usize>
     ensures { result ≡ position is_blank line.now }
 {
     if line.len() < LONG {
-        return blank_near(line);
+        blank_near(line)
+    } else {
+        blank_far(line)
     }
+}
+
+/// The same of a long line. It stands apart, so that what splits short lines stays small.
+#[inline(never)]
+fn blank_far(line: &[u8]) -> Option<usize>
+    ensures { result ≡ position is_blank line.now }
+{
     memchr::memchr3(b' ', b'\t', b'\r', line)
 }
 
 /// The same of a short line, byte by byte.
+#[inline(always)]
 fn blank_near(line: &[u8]) -> Option<usize>
     ensures { result ≡ position is_blank line.now }
 {
     line.iter().position(|byte| is_blank(*byte))
 }
 
+#[inline(always)]
 fn word_in(line: &[u8]) -> Option<usize>
     ensures { result ≡ position (λ byte. not (is_blank byte)) line.now }
 {
@@ -53,6 +67,7 @@ fn word_in(line: &[u8]) -> Option<usize>
 }
 
 /// The first word of a line, and what follows it; `None` where the line has no word.
+#[inline(always)]
 pub fn split_word(line: &[u8]) -> Option<(&[u8], &[u8])>
     ensures words { MatchOption result (words_of line.now ≡ []) (λ parts. words_of line.now ≡ parts.0.now ∷ words_of parts.1.now) }
     ensures shorter { MatchOption result (words_of line.now ≡ []) (λ parts. length parts.1.now < length line.now) }
@@ -71,7 +86,8 @@ pub fn split_word(line: &[u8]) -> Option<(&[u8], &[u8])>
 
 /// How many words a line has.
 pub fn count_words(line: &[u8]) -> usize
-    ensures { result ≡ length (words_of line.now) }
+    ensures count { result ≡ length (words_of line.now) }
+    ensures few { result ≤ length line.now }
 {
     let mut count = 0;
     let mut rest = line;

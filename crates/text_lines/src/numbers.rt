@@ -1,4 +1,4 @@
-ghost use Rattle.std.specs.Prelude.{◌≡◌, ◌≤◌, ◌<◌, ◌^◌, ◌==◌, length, IsTrue};
+ghost use Rattle.std.specs.Prelude.{◌≡◌, ◌≤◌, ◌<◌, ◌^◌, ◌==◌, length, IsTrue, if◌then◌else◌};
 ghost use Rattle.std.specs.List.{list_all};
 ghost use Rattle.text_lines.specs.Lines.{first_is, words_of};
 ghost use Rattle.text_lines.specs.Values.{is_digit, begins_number, is_number, number_of, number_at};
@@ -58,6 +58,13 @@ fn value_of(digits: &[u8]) -> u64
 pub fn number_at(line: &[u8], place: usize) -> u64
     ensures { result ≡ number_at (words_of line.now) place }
 {
-    let word = word_at(line, place);
+    number_in(word_at(line, place))
+}
+
+/// The number that a word is, and 0 where it is none.
+#[inline(always)]
+pub(crate) fn number_in(word: &[u8]) -> u64
+    ensures { result ≡ (if is_number word.now then number_of word.now else 0) }
+{
     if is_number(word) { number_of(word) } else { 0 }
 }

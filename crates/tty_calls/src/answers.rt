@@ -46,6 +46,7 @@ impl Answer {
     }
 
     /// An equal answer, in room that was reserved for its bytes. It takes no memory.
+    #[inline(always)]
     pub fn copy_into(&self, mut room: Bytes) -> Answer
         requires empty { room.items ≡ [] }
         requires fits { length (bytes_in (answer_of self.now)) ≤ room.spare }

@@ -171,6 +171,7 @@ impl Call {
     }
 
     /// An equal call, with memory of its own.
+    #[inline(always)]
     pub fn copy(&self, alloc: Global) -> Result<Call, NoMemory>
         ensures { IfOk result (λ copy. call_of copy ≡ call_of self.now) }
     {

@@ -1,3 +1,6 @@
+pub mod ByteTexts
+pub mod CharacterWords
 pub mod FlagBits
+pub mod NameSlots
+pub mod PrintedLemmas
 pub mod WordTexts
-mod AsciiTexts

@@ -1,5 +1,5 @@
 -- Each mode word is read back from its text, and what is read spells the text.
-use Rattle.std.proofs.Common.{◌≡◌, ◌∙◌, ◌+◌, ◌<◌, ◌≤◌, ◌^◌, ℕ, zero, suc, Bool, true, false, eqb, ltb, cond, ◌&&◌, ◌||◌, ◌⊎◌, List, [], ◌∷◌, ◌++◌, length, get_or, drop, Option, Some, None, Result, Ok, Err, ◌≢◌, option_map, IfSome, refl, sym, ap, subst, arith, codes, bytes_eq, inl, inr, lit<, append_assoc, length-drop}
+use Rattle.std.proofs.Common.{◌≡◌, ◌∙◌, ◌+◌, ◌<◌, ◌≤◌, ◌^◌, ℕ, zero, suc, Bool, true, false, eqb, ltb, cond, ◌&&◌, ◌||◌, ◌⊎◌, List, [], ◌∷◌, ◌++◌, length, get_or, drop, Option, Some, None, option_map, IfSome, refl, sym, ap, subst, arith, codes, bytes_eq, inl, inr, lit<, append_assoc, length-drop}
 use Rattle.std.proofs.lemmas.Bool.{cases_eq, false≢true}
 use Rattle.std.specs.Fmt.{decimal}
 use Rattle.std.specs.List.{before_first, after_first, position_or_len}
@@ -7,10 +7,9 @@ use Rattle.std.specs.Option.{option_or}
 use Rattle.std.proofs.lemmas.List.Sums.{passes_at_first, split_at_first}
 use Rattle.std.proofs.lemmas.Slice.Eq.{bytes_eq-Decides}
 use Rattle.std.specs.Str.{all_ascii_digits}
-use Rattle.std.specs.Result.{OkIff, result_ok}
-use Rattle.std.specs.Str.Parse.{ParsesUnsigned, digits_value}
+use Rattle.std.specs.Str.Parse.{digits_value}
 use Rattle.std.proofs.lemmas.Fmt.{decimal_digit, digits_decimal, digits_value-decimal, decimal_nonempty, first_decimal, decimal-digits_value}
-use Rattle.std.proofs.lemmas.Str.Parse.{digit_at, parse_plain, IsNumeralModel, numerals_by_value, tells_all_ascii_digits}
+use Rattle.std.proofs.lemmas.Str.Parse.{IsNumeralModel, numerals_by_value, tells_all_ascii_digits}
 use Rattle.std.proofs.lemmas.Bool.Decides.{Decides-ltb, Decides-eqb}
 use Rattle.tty_modes.specs.declared.words.Word.{Word}
 use Rattle.tty_modes.specs.declared.words.Word.TheVariants.{On, Off, Cc, Raw, Sane}
@@ -23,7 +22,7 @@ abbrev AllFrom : (ℕ → Type 0) → ℕ → ℕ → Type 0
 AllFrom P first zero = Unit {0}
 AllFrom P first (suc count) = P first × AllFrom P (suc first) count
 
-at_each : (P : ℕ → Type 0) (first count : ℕ) → AllFrom P first count → (k : ℕ) → first ≤ k → k < first + count → P k
+pub at_each : (P : ℕ → Type 0) (first count : ℕ) → AllFrom P first count → (k : ℕ) → first ≤ k → k < first + count → P k
 at_each P first zero all k low high = absurd (omega arith)
 at_each P first (suc count) all k low high =
     elim (cases_eq k first) [
@@ -61,10 +60,6 @@ byte_of-decimal value small =
     let both : (is_decimal (decimal value) && ltb (digits_value 10 (decimal value)) 256) ≡ true = and_true (is_decimal (decimal value)) (ltb (digits_value 10 (decimal value)) 256) number below in
     ap (λ b. cond b (Some (digits_value 10 (decimal value))) None) both ∙ ap Some is
 
-or_right : (a b : Bool) → b ≡ true → (a || b) ≡ true
-or_right true b e = refl
-or_right false b e = e
-
 pub both_true : (a b : Bool) → (a && b) ≡ true → (a ≡ true) × (b ≡ true)
 both_true true b e = (refl, e)
 both_true false b e = absurd (false≢true e)
@@ -98,51 +93,6 @@ byte_text-tested text e =
       plain = no_zero_first text number.1;
       below = (Decides-ltb (digits_value 10 text) 256).0 whole.1;
     }
-
-first_digit : (text : List ℕ) → all_ascii_digits text ≡ true → 0 < length text → 48 ≤ get_or text 0 0
-first_digit text digits some = (digit_at text 0 (own.to text digits) some).0
-
-leads_if : (text : List ℕ) → 48 ≤ get_or text 0 0 → (get_or text 0 0 ≡ 48 → length text ≡ 1) → (ltb 48 (get_or text 0 0) || eqb (length text) 1) ≡ true
-leads_if text high plain =
-    elim (cases_eq (get_or text 0 0) 48) [
-      | inl zero_first ↦ or_right (ltb 48 (get_or text 0 0)) (eqb (length text) 1) ((Decides-eqb (length text) 1).1 (plain zero_first))
-      | inr other ↦ (let above : ltb 48 (get_or text 0 0) ≡ true = (Decides-ltb 48 (get_or text 0 0)).1 (omega arith) in rw above refl)
-    ]
-
-byte_text-test : (text : List ℕ) → IsByteText text → (is_decimal text && ltb (digits_value 10 text) 256) ≡ true
-byte_text-test text is =
-    let some : ltb 0 (length text) ≡ true = (Decides-ltb 0 (length text)).1 is.some in
-    let below : ltb (digits_value 10 text) 256 ≡ true = (Decides-ltb (digits_value 10 text) 256).1 is.below in
-    let lead = leads_if text (first_digit text is.digits is.some) is.plain in
-    and_true (is_decimal text) (ltb (digits_value 10 text) 256)
-    (and_true (ltb 0 (length text) && all_ascii_digits text) (ltb 48 (get_or text 0 0) || eqb (length text) 1)
-    (and_true (ltb 0 (length text)) (all_ascii_digits text) some is.digits) lead)
-    below
-
-byte_of-is : (text : List ℕ) → IsByteText text → byte_of text ≡ Some (digits_value 10 text)
-byte_of-is text is = ap (λ b. cond b (Some (digits_value 10 text)) None) (byte_text-test text is)
-
-none_if_not : (test : Bool) (n : ℕ) → ¬ (test ≡ true) → cond test (Some n) None ≡ None
-none_if_not true n never = absurd (never refl)
-none_if_not false n never = refl
-
-pub byte_of-none : (text : List ℕ) → ¬ (IsByteText text) → byte_of text ≡ None
-byte_of-none text never =
-    none_if_not (is_decimal text && ltb (digits_value 10 text) 256) (digits_value 10 text) (λ e. never (byte_text-tested text e))
-
--- a text that begins with a plus, or with a zero and more, or is empty, is no byte
-pub byte_of-not_plain : (text : List ℕ) → ¬ ((0 < length text) × (get_or text 0 0 ≢ 43) × (get_or text 0 0 ≡ 48 → length text ≡ 1)) → byte_of text ≡ None
-byte_of-not_plain text odd =
-    byte_of-none text (λ is. odd (is.some, (λ plus. absurd (omega (arith, first_digit text is.digits is.some, plus))), is.plain))
-
-parsed_if : {E : Type 0} (text : List ℕ) (r : Result ℕ E) → OkIff r ((all_ascii_digits text ≡ true) × (0 < length text) × (digits_value 10 text < 2 ^ 8)) (digits_value 10 text) → (get_or text 0 0 ≡ 48 → length text ≡ 1) → result_ok r ≡ byte_of text
-parsed_if text (Ok x) h plain =
-    ap Some h.1 ∙ sym (byte_of-is text (record { some = h.0.1; digits = h.0.0; plain = plain; below = h.0.2 }))
-parsed_if text (Err e) h plain = sym (byte_of-none text (λ is. h (is.digits, is.some, is.below)))
-
--- `parse` of a text that begins plainly
-pub byte_of-parsed : {E : Type 0} (text : List ℕ) (r : Result ℕ E) → ParsesUnsigned 8 10 text r → (get_or text 0 0 ≢ 43) → (get_or text 0 0 ≡ 48 → length text ≡ 1) → result_ok r ≡ byte_of text
-byte_of-parsed text r h no_plus plain = parsed_if text r (parse_plain own 8 text r h no_plus) plain
 
 byte_spelled_if : (text : List ℕ) (test : Bool) → (is_decimal text && ltb (digits_value 10 text) 256) ≡ test → IfSome (cond test (Some (digits_value 10 text)) None) (λ v. (v < 256) × (decimal v ≡ text))
 byte_spelled_if text false e = tt
@@ -206,7 +156,7 @@ place_found_if names text true e =
     (inside, (bytes_eq-Decides (get_or names place []) text).0 (passes_at_first (λ name. bytes_eq name text) names [] inside))
 
 -- the name at a place that is found is the text
-place_found : (names : List (List ℕ)) (text : List ℕ) → IfSome (place_of names text) (λ k. (k < length names) × (get_or names k [] ≡ text))
+pub place_found : (names : List (List ℕ)) (text : List ℕ) → IfSome (place_of names text) (λ k. (k < length names) × (get_or names k [] ≡ text))
 place_found names text = place_found_if names text (ltb (position_or_len (λ name. bytes_eq name text) names) (length names)) refl
 
 spelled_on : (text : List ℕ) (o : Option ℕ) (other : Option Word) → IfSome o (λ k. (k < 29) × (get_or flag_names k [] ≡ text)) → Spells text other → Spells text (option_or (option_map On o) other)

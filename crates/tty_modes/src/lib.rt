@@ -8,6 +8,7 @@ mod names;
 pub mod places;
 mod reading;
 mod settings;
+mod slots;
 mod words;
 
 pub use names::{character_name, flag_name};

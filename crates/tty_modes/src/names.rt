@@ -7,7 +7,7 @@ use crate::bits::ModeBits;
 use crate::places::{CHARACTER_COUNT, FLAG_COUNT};
 use bitflags::Flag;
 
-pub(crate) const CHARACTER_NAMES: [&str; 15] = [
+const CHARACTER_NAMES: [&str; 15] = [
     "intr", "quit", "erase", "kill", "eof", "time", "min", "start", "stop", "susp", "eol",
     "reprint", "werase", "lnext", "eol2",
 ];

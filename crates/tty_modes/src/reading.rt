@@ -1,14 +1,15 @@
 //! Mode words from their texts.
 
-ghost use Rattle.std.specs.Prelude.{◌≡◌, ◌≢◌, ℕ, List, Some, IfOk, OnErr, IfSome, ◌<◌, ◌↔◌, IsTrue, bytes_eq, length, slice_index};
+ghost use Rattle.std.specs.Prelude.{◌≡◌, ◌≢◌, ℕ, List, None, Some, IfOk, OnErr, IfSome, ◌+◌, ◌-◌, ◌*◌, ◌<◌, ◌&&◌, ◌==◌, ◌||◌, nat_lt, bytes_eq, codes, length, position, slice_index, if◌then◌else◌};
+ghost use Rattle.std.specs.Char.{is_ascii_digit};
 ghost use Rattle.std.specs.Result.{result_ok};
 ghost use Rattle.tty_modes.specs.declared.words.Word.{Word};
 ghost use Rattle.tty_modes.specs.Names.{flag_names, character_names};
 ghost use Rattle.tty_modes.specs.Reading.{place_of, byte_of, character_word_of, other_word, word_of};
 ghost use Rattle.tty_modes.specs.Word.{IsModeWord, word_text};
 
-use crate::bits::ModeBits;
-use crate::names::CHARACTER_NAMES;
+use crate::names::{character_name, flag_name};
+use crate::slots::{character_near, flag_near, slot_of};
 use crate::words::Word;
 
 /// A text that is no mode word.
@@ -24,7 +25,7 @@ pub fn set_word(text: &str) -> Result<Word, BadWord>
     ensures bad { OnErr result ((w : Word) → IsModeWord w → word_text w ≢ text.now) }
     ensures value { result_ok result ≡ word_of text.now }
 {
-    read_word(text).ok_or(BadWord)
+    set_word_bytes(text.as_bytes())
 }
 
 /// Reads a mode word as [`set_word`] does, from bytes that need not be a text.
@@ -34,10 +35,7 @@ pub fn set_word_bytes(bytes: &[u8]) -> Result<Word, BadWord>
     ensures bad { OnErr result ((w : Word) → IsModeWord w → word_text w ≢ bytes.now) }
     ensures value { result_ok result ≡ word_of bytes.now }
 {
-    match str::from_utf8(bytes) {
-        Ok(text) => set_word(text),
-        Err(_) => Err(BadWord),
-    }
+    read_word(bytes).ok_or(BadWord)
 }
 
 /// Each mode word is read back from its text, what is read spells the text, and different mode words have different texts.
@@ -47,13 +45,13 @@ pub fn words_are_their_texts()
     ensures distinct { (v w : Word) → IsModeWord v → IsModeWord w → word_text v ≡ word_text w → v ≡ w }
 {}
 
-fn read_word(text: &str) -> Option<Word>
+fn read_word(text: &[u8]) -> Option<Word>
     ensures { result ≡ word_of text.now }
 {
-    if is_same(text, "raw") {
+    if is_raw(text) {
         return Some(Word::Raw);
     }
-    if is_same(text, "sane") {
+    if is_sane(text) {
         return Some(Word::Sane);
     }
     if let Some(flag) = flag_place(text) {
@@ -62,80 +60,91 @@ fn read_word(text: &str) -> Option<Word>
     other_word(text)
 }
 
-// Most names differ in length, which costs no call.
-fn is_same(one: &str, other: &str) -> bool
-    ensures { result ≡ bytes_eq one.now other.now }
+fn is_raw(text: &[u8]) -> bool
+    ensures { result ≡ bytes_eq text.now (codes "raw") }
 {
-    if one.len() != other.len() {
-        return false;
-    }
-    one == other
+    text == b"raw".as_slice()
+}
+
+fn is_sane(text: &[u8]) -> bool
+    ensures { result ≡ bytes_eq text.now (codes "sane") }
+{
+    text == b"sane".as_slice()
 }
 
 // A word that clears a flag or sets a control character.
-fn other_word(text: &str) -> Option<Word>
+fn other_word(text: &[u8]) -> Option<Word>
     ensures { result ≡ other_word text.now }
 {
-    match text.strip_prefix('-') {
-        Some(name) => flag_place(name).map(|flag| Word::Off(flag)),
-        None => character_word(text),
+    if text.is_empty() || text[0] != b'-' {
+        return character_word(text);
     }
+    flag_place(&text[1..]).map(|flag| Word::Off(flag))
 }
 
-fn character_word(text: &str) -> Option<Word>
+fn character_word(text: &[u8]) -> Option<Word>
     ensures { result ≡ character_word_of text.now }
 {
-    let (name, digits) = text.split_once('=')?;
-    let place = character_place(name)?;
-    let value = byte_of(digits)?;
+    let at = equals_in(text)?;
+    let place = character_place(&text[..at])?;
+    let value = byte_of(&text[at + 1..])?;
     Some(Word::Cc(place, value))
 }
 
-fn flag_place(name: &str) -> Option<u32>
+fn equals_in(text: &[u8]) -> Option<usize>
+    ensures { result ≡ position (λ byte. byte == 61) text.now }
+{
+    text.iter().position(|byte| *byte == b'=')
+}
+
+fn flag_place(name: &[u8]) -> Option<u32>
     ensures { result ≡ place_of flag_names name.now }
 {
-    let place = flag_position(name)?;
-    Some(place as u32)
+    let flag = flag_near(slot_of(name));
+    if flag_name(flag).as_bytes() == name {
+        Some(flag)
+    } else {
+        None
+    }
 }
 
-fn flag_position(name: &str) -> Option<usize>
-    ensures value { result ≡ place_of flag_names name.now }
-    ensures bound { IfSome result (λ place. place < 29) }
-{
-    ModeBits::FLAGS
-        .iter()
-        .position(|flag| is_same(flag.name, name))
-}
-
-fn character_place(name: &str) -> Option<u8>
+fn character_place(name: &[u8]) -> Option<u8>
     ensures { result ≡ place_of character_names name.now }
 {
-    let place = character_position(name)?;
-    Some(place as u8)
+    let place = character_near(slot_of(name));
+    if character_name(place).as_bytes() == name {
+        Some(place)
+    } else {
+        None
+    }
 }
 
-fn character_position(name: &str) -> Option<usize>
-    ensures value { result ≡ place_of character_names name.now }
-    ensures bound { IfSome result (λ place. place < 15) }
-{
-    CHARACTER_NAMES
-        .iter()
-        .position(|known| is_same(*known, name))
-}
-
-fn byte_of(digits: &str) -> Option<u8>
+fn byte_of(digits: &[u8]) -> Option<u8>
     ensures { result ≡ byte_of digits.now }
 {
-    if !starts_plainly(digits.as_bytes()) {
+    if !starts_plainly(digits) {
         return None;
     }
-    digits.parse().ok()
+    let mut value = 0u8;
+    for digit in digits {
+        value = with_digit(value, *digit)?;
+    }
+    Some(value)
 }
 
-// No sign and no leading zero, which `parse` would take.
+// Some digit stands first, and no zero with more behind it.
 fn starts_plainly(digits: &[u8]) -> bool
-    ensures { IsTrue result
-        ↔ ((0 < length digits.now) × (slice_index digits.now 0 ≢ 43) × (slice_index digits.now 0 ≡ 48 → length digits.now ≡ 1)) }
+    ensures { result ≡ (nat_lt 0 (length digits.now) && (nat_lt 48 (slice_index digits.now 0) || length digits.now == 1)) }
 {
-    !digits.is_empty() && digits[0] != b'+' && (digits[0] != b'0' || digits.len() == 1)
+    !digits.is_empty() && (digits[0] > b'0' || digits.len() == 1)
+}
+
+// A number with one digit more, where that is a digit and the number still a byte.
+fn with_digit(value: u8, digit: u8) -> Option<u8>
+    ensures { result ≡ (if is_ascii_digit digit && nat_lt (value * 10 + (digit - 48)) 256 then Some (value * 10 + (digit - 48)) else None) }
+{
+    if !digit.is_ascii_digit() {
+        return None;
+    }
+    value.checked_mul(10)?.checked_add(digit - b'0')
 }

@@ -1,7 +1,8 @@
 //! Modes: which flags are set, and the control characters.
 
-ghost use Rattle.std.specs.Prelude.{◌≡◌, ◌↔◌, IsTrue};
+ghost use Rattle.std.specs.Prelude.{◌≡◌, ◌≢◌, ◌↔◌, ◌≤◌, ◌<◌, ℕ, List, IsTrue, length, slice_set};
 ghost use Rattle.tty_modes.specs.Settings.{has_flag, character, sane_modes};
+ghost use Rattle.tty_modes.specs.Printed.{is_printed, are_unprinted};
 
 use crate::bits::{ModeBits, bit};
 use crate::places::{CHARACTER_COUNT, FLAG_COUNT};
@@ -16,23 +17,26 @@ use std::marker::Model;
 pub struct Modes {
     bits: ModeBits,
     characters: [u8; 15],
+    unprinted: bool,
 }
 
 impl Model for Modes {
-    ghost use Rattle.std.specs.Prelude.{◌^◌, ◌<◌};
-    ghost use Rattle.std.proofs.Common.{ap};
+    ghost use Rattle.std.proofs.Common.{ap, sym, ◌∙◌};
     ghost use Rattle.tty_modes.specs.Bits.{flags_of, bits_of, bits_of-flags_of};
     ghost use Rattle.tty_modes.specs.Settings.{Settings};
+    ghost use Rattle.tty_modes.specs.Printed.{are_unprinted, IsKept};
 
     ghost Value = { Settings };
 
     ghost view = { λ m. record { flags = flags_of 29 m.bits.0; characters = m.characters } };
 
-    ghost invariant = { λ m. m.bits.0 < 2 ^ 29 };
+    ghost invariant = { λ m. IsKept m.bits.0 m.characters m.unprinted };
 
-    ghost inverse = { λ s. record { bits = record { 0 = bits_of s.flags }; characters = s.characters } };
+    ghost inverse = { λ s. record { bits = record { 0 = bits_of s.flags }; characters = s.characters; unprinted = are_unprinted s.characters } };
 
-    ghost inverse_ok = { λ m fits. ap (λ bits. record { bits = record { 0 = bits }; characters = m.characters }) (bits_of-flags_of 29 m.bits.0 fits) };
+    ghost inverse_ok = { λ m kept.
+        ap (λ bits. record { bits = record { 0 = bits }; characters = m.characters; unprinted = are_unprinted m.characters }) (bits_of-flags_of 29 m.bits.0 kept.fits)
+        ∙ ap (λ unprinted. record { bits = m.bits; characters = m.characters; unprinted = unprinted }) (sym kept.unprinted) };
 }
 
 impl PartialEq for Modes {
@@ -68,6 +72,7 @@ impl Modes {
         Modes {
             bits: ModeBits::SANE,
             characters: [3, 28, 127, 21, 4, 0, 1, 17, 19, 26, 0, 18, 23, 22, 0],
+            unprinted: true,
         }
     }
 
@@ -83,6 +88,15 @@ impl Modes {
         ensures { result ≡ character self.now place }
     {
         self.characters.get(place as usize).copied().unwrap_or(0)
+    }
+
+    /// Whether no control character is a byte from blank to tilde, as is the rule.
+    pub fn are_unprinted(&self) -> bool
+        ensures value { result ≡ are_unprinted self.now.characters }
+        // So a printed byte is none of them.
+        ensures apart { IsTrue result → (place byte : ℕ) → IsTrue (is_printed byte) → byte ≢ character self.now place }
+    {
+        self.unprinted
     }
 
     /// Makes one change. A place past its list changes nothing.
@@ -103,6 +117,7 @@ impl Modes {
             Word::Cc(place, value) => {
                 if place < CHARACTER_COUNT {
                     self.characters[place as usize] = value;
+                    self.unprinted = stay_unprinted(self.unprinted, value, &self.characters);
                 }
             }
             Word::Raw => self.bits.remove(ModeBits::RAW),
@@ -118,4 +133,34 @@ impl Modes {
             self.apply(*word);
         }
     }
+}
+
+/// Whether a byte is from blank to tilde.
+fn is_printed(b: u8) -> bool
+    ensures { result ≡ is_printed b }
+{
+    b' ' <= b && b <= b'~'
+}
+
+/// Whether none of these is from blank to tilde.
+fn are_unprinted(characters: &[u8]) -> bool
+    ensures { result ≡ are_unprinted characters.now }
+{
+    for c in characters {
+        if is_printed(*c) {
+            return false;
+        }
+    }
+    true
+}
+
+/// The same after one was changed to a value, from what it was before: where none was printed, the value alone counts.
+fn stay_unprinted(before: bool, value: u8, characters: &[u8]) -> bool
+    ensures { (old : List ℕ) (place : ℕ) → before ≡ are_unprinted old → place < length old → characters.now ≡ slice_set old place value →
+        result ≡ are_unprinted characters.now }
+{
+    if is_printed(value) {
+        return false;
+    }
+    before || are_unprinted(characters)
 }

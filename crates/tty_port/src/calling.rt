@@ -81,9 +81,10 @@ impl SharedPort {
         ensures full { IfErr result (λ d. IsFull (name_of_port self.now) d (list_seen seat.new)) }
     {
         let mut turns: u32 = 0;
+        let mut waits = false;
         for _ in rt.forever() {
             gate.pass(rt, Who::Caller(caller), step, turns);
-            match self.step_on(rt, seat, caller, step, call) {
+            match self.step_on(rt, seat, caller, step, call, &mut waits) {
                 Ok(Some(answer)) => return Ok(answer),
                 Ok(None) => turns = turns.saturating_add(1),
                 Err(denied) => return Err(denied),
@@ -93,7 +94,7 @@ impl SharedPort {
     }
 
     /// One attempt of a call under a reference. Where the call must wait, the reference is given back
-    /// for a while.
+    /// for a while; `waits` tells whether it has waited before.
     fn step_on<R: Wait>(
         &self,
         rt: &R,
@@ -101,6 +102,7 @@ impl SharedPort {
         caller: u16,
         step: u32,
         call: &Call,
+        waits: &mut bool,
     ) -> Result<Option<Answer>, Denied>
         requires seat { IsHolding self.now caller seat.old }
         requires found { changing_in (last_word seat.old) ≡ 0 }
@@ -124,7 +126,8 @@ impl SharedPort {
             Ok(Tried::Done(answer)) => Ok(Some(answer)),
             Ok(Tried::Part) => Ok(None),
             Ok(Tried::MustWait) => {
-                self.rest(rt, seat);
+                self.rest(rt, seat, *waits);
+                *waits = true;
                 Ok(None)
             }
             Err(denied) => Err(denied),
@@ -156,7 +159,18 @@ impl SharedPort {
         let mut turn = self.cell.turn(rt, seat);
         let found = turn.value().entry_count();
         let tried = turn.value().attempt(caller, step, call);
-        self.end_turn(seat, turn, found);
+        let wakes = may_end_waits(&tried);
+        self.end_turn(seat, turn, found, wakes);
         tried
+    }
+}
+
+/// Whether others may go on after an attempt: not where the call waits, or is told that all wait.
+fn may_end_waits(tried: &Result<Tried, Denied>) -> bool {
+    match tried {
+        Ok(Tried::Done(answer)) => !matches!(answer, Answer::Idle),
+        Ok(Tried::Part) => true,
+        Ok(Tried::MustWait) => false,
+        Err(_) => true,
     }
 }

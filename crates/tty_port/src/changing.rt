@@ -82,7 +82,7 @@ impl SharedPort {
         if raised {
             self.install(seat, turn);
         } else {
-            self.end_turn(seat, turn, found);
+            self.end_turn(seat, turn, found, true);
             self.cell.unmark(seat);
         }
     }

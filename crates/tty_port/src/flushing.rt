@@ -84,7 +84,8 @@ impl SharedPort {
         let mut turn = self.cell.turn(rt, seat);
         let found = turn.value().entry_count();
         let flushed = turn.value().flush_piece(run, part);
-        self.end_turn(seat, turn, found);
+        let wakes = !matches!(flushed, Ok(Flushed::Nothing));
+        self.end_turn(seat, turn, found, wakes);
         flushed
     }
 }

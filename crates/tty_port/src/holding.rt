@@ -38,8 +38,9 @@ impl SharedPort {
         self.cell.leave(seat);
     }
 
-    /// Gives the reference back until something may have changed.
-    pub(crate) fn rest<R: Wait>(&self, rt: &R, seat: &mut Seat)
+    /// Gives the reference back, and in a later rest of one call does so until something may have changed.
+    /// The first is short: when this call began to wait, nobody else was woken to see that all wait.
+    pub(crate) fn rest<R: Wait>(&self, rt: &R, seat: &mut Seat, again: bool)
         requires { IsHolding self.now (number_of seat.old) seat.old }
         ensures seat { IsHolding self.now (number_of seat.old) seat.new }
         ensures turn { KeepsTurn seat.old seat.new }
@@ -47,7 +48,9 @@ impl SharedPort {
         ensures clear { changing_in (last_word seat.new) ≡ 0 }
     {
         self.release(seat);
-        self.cell.park(rt, seat);
+        if again {
+            self.cell.park(rt, seat);
+        }
         self.hold(rt, seat);
     }
 

@@ -23,8 +23,15 @@ use std::sync::Wait;
 use tty_calls::Denied;
 
 impl SharedPort {
-    /// Notes what this turn added to so many entries, where that is anything, and gives the turn back.
-    pub(crate) fn end_turn(&self, seat: &mut Seat, mut turn: Turn<KeptPort>, found: u64)
+    /// Notes what this turn added to so many entries, where that is anything, and gives the turn back. Then,
+    /// where it may end a wait, wakes those who wait for a change.
+    pub(crate) fn end_turn(
+        &self,
+        seat: &mut Seat,
+        mut turn: Turn<KeptPort>,
+        found: u64,
+        wakes: bool,
+    )
         requires seat { IsSeat (table_of self.now) seat.old }
         requires turn { has_turn seat.old ≡ true }
         requires lowered { is_raised seat.old ≡ false }
@@ -44,6 +51,14 @@ impl SharedPort {
             self.cell.note(seat, &mut turn);
         }
         self.cell.give(seat, turn);
+        self.wake_where(wakes);
+    }
+
+    /// Wakes those who wait for a change, where it is to.
+    fn wake_where(&self, wakes: bool) {
+        if wakes {
+            self.cell.wake();
+        }
     }
 
     /// A tenth of a second passed.
@@ -60,7 +75,7 @@ impl SharedPort {
         let mut turn = self.cell.turn(rt, seat);
         let found = turn.value().entry_count();
         let result = turn.value().tick();
-        self.end_turn(seat, turn, found);
+        self.end_turn(seat, turn, found, true);
         result
     }
 
@@ -77,7 +92,7 @@ impl SharedPort {
         let mut turn = self.cell.turn(rt, seat);
         let found = turn.value().entry_count();
         let result = turn.value().clock_end();
-        self.end_turn(seat, turn, found);
+        self.end_turn(seat, turn, found, true);
         result
     }
 
@@ -103,7 +118,7 @@ impl SharedPort {
         let mut turn = self.cell.turn(rt, seat);
         let found = turn.value().entry_count();
         let result = turn.value().line_end(putter);
-        self.end_turn(seat, turn, found);
+        self.end_turn(seat, turn, found, true);
         result
     }
 
@@ -121,7 +136,7 @@ impl SharedPort {
         let mut turn = self.cell.turn(rt, seat);
         let found = turn.value().entry_count();
         let result = turn.value().caller_end(caller);
-        self.end_turn(seat, turn, found);
+        self.end_turn(seat, turn, found, true);
         result
     }
 

@@ -11,6 +11,7 @@ pub mod MarkLaws
 pub mod OneRun
 pub mod QuestionLemmas
 pub mod RoomLaws
+pub mod Received
 pub mod Runs
 pub mod StandingLaws
 pub mod StepLaws

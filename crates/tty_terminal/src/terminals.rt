@@ -1,4 +1,4 @@
-ghost use Rattle.std.specs.Prelude.{◌≡◌, ◌↔◌, ℕ, Some, true, ◌+◌, ◌*◌, ◌-◌, ◌≤◌, ◌<◌, ◌^◌, IsTrue, IfOk, OnOk, length};
+ghost use Rattle.std.specs.Prelude.{◌≡◌, ◌↔◌, ℕ, Some, true, false, ◌+◌, ◌*◌, ◌-◌, ◌≤◌, ◌<◌, ◌^◌, IsTrue, IfOk, OnOk, length, take};
 ghost use Rattle.tty_calls.specs.Plain.{handle_of, call_of};
 ghost use Rattle.ldisc_switch.specs.Disciplines.{fresh_of, column_in};
 ghost use Rattle.ldisc_switch.specs.declared.kinds.Kind.{Kind};
@@ -56,7 +56,7 @@ impl Model for Terminal {
 
 impl Terminal {
     ghost use Rattle.tty_terminal.specs.Terminals.{opening, handle_at, handle_for, caller_at, live_count as live};
-    ghost use Rattle.tty_terminal.specs.Receiving.{accepts, after_character, after_ixoff};
+    ghost use Rattle.tty_terminal.specs.Receiving.{accepts, after_character, after_characters, AcceptsAll, after_ixoff};
     ghost use Rattle.tty_terminal.specs.Generations.{after_hangup};
     ghost use Rattle.tty_terminal.specs.Calls.{outcome};
     ghost use Rattle.tty_terminal.specs.Steps.{left_by, nothing_to_flush, quiet_with, may_end_with, after_answer, after_wait, after_part, after_caller_end, bound_at, next_phase, with_dropped};
@@ -89,6 +89,7 @@ impl Terminal {
 
     /// Makes room for so many further bytes on the wire, and for so many signals. Room that is there
     /// is not made again. `NoMemory` leaves the terminal as it was, but for room.
+    #[inline(always)]
     pub fn reserve(&mut self, bytes: usize, signals: usize) -> Result<(), NoMemory>
         ensures same { self.new.terminal ≡ self.old.terminal }
         ensures wire { OnOk result (bytes ≤ self.new.wire_room) }
@@ -103,6 +104,7 @@ impl Terminal {
     // ---- characters
 
     /// Whether the discipline accepts a character.
+    #[inline(always)]
     pub fn accepts(&self) -> bool
         ensures { result ≡ accepts self.now.terminal }
     {
@@ -110,6 +112,7 @@ impl Terminal {
     }
 
     /// The discipline receives a character that it accepts.
+    #[inline(always)]
     pub fn receive(&mut self, c: Flagged)
         requires accepted { IsTrue (accepts self.old.terminal) }
         requires few { self.old.terminal.taken < 2 ^ 63 }
@@ -125,6 +128,26 @@ impl Terminal {
         self.taken += 1;
         self.disc
             .receive(c, self.tick, &self.modes, &mut self.wire, &mut self.tally);
+    }
+
+    /// The discipline receives characters from the front, as long as it accepts. Answers how many.
+    pub fn receive_all(&mut self, chars: &[Flagged]) -> usize
+        requires taken { self.old.terminal.taken + length chars.now < 2 ^ 63 }
+        requires wire { room_for_characters self.old.terminal (length chars.now) ≤ self.old.wire_room }
+        requires signals { length chars.now ≤ self.old.signal_room }
+        requires column { column_in self.old.terminal.disc + 2 ^ 22 * length chars.now < 2 ^ 62 }
+        ensures within { result ≤ length chars.now }
+        ensures received { self.new.terminal ≡ after_characters self.old.terminal (take result chars.now) }
+        ensures accepted { AcceptsAll self.old.terminal (take result chars.now) }
+        ensures stops { result < length chars.now → accepts self.new.terminal ≡ false }
+        ensures column { column_in self.new.terminal.disc ≤ column_in self.old.terminal.disc + 2 ^ 22 * length chars.now }
+    {
+        let mut done = 0;
+        while done < chars.len() && self.accepts() {
+            self.receive(chars[done]);
+            done += 1;
+        }
+        done
     }
 
     /// The room on the wire that so many characters need at most.
@@ -154,6 +177,7 @@ impl Terminal {
 
     /// Makes a call of a caller, as far as it changes the terminal beside that caller's own state: it
     /// is answered, takes a part, or must wait. The rule for ixoff follows an answer.
+    #[inline(always)]
     pub fn meet(&mut self, caller: u16, call: &Call, room: Room) -> Met
         requires known { caller < length self.old.terminal.callers }
         requires number { handle_of (call_of call.now) < 32 }

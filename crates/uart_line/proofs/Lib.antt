@@ -2,3 +2,4 @@ pub mod OfferedLemmas
 pub mod Windows
 pub mod Serving
 pub mod Steps
+pub mod GoodWindows

@@ -6,7 +6,7 @@ use Rattle.uart_line.specs.Received.{overrun_mark}
 use Rattle.uart_line.specs.LineState.{LineState}
 use Rattle.uart_line.specs.Offered.{Offers}
 use Rattle.uart_line.specs.Handler.{with_mark, reading_of, after_turn, IsReadOff, Serves}
-use Rattle.uart_line.specs.declared.Reading.{Reading}
+use Rattle.uart_regs.specs.declared.Reading.{Reading}
 use Rattle.uart_line.proofs.OfferedLemmas.{Offers-none, Offers-append}
 
 with_mark-false : (cs : List Flagged) → with_mark false cs ≡ cs

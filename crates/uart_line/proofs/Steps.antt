@@ -72,11 +72,9 @@ runs_at_cut line step before v d =
 reverse-step : (before : List LineStep) (step : LineStep) → reverse (before ++ step ∷ []) ≡ step ∷ reverse before
 reverse-step before step = reverse-append before (step ∷ [])
 
-pub HasDone-quiet : (line : LineState) (step : LineStep) (before : List LineStep) → IsReceiver (after_line_step line step).registers
-    → (not (after_line_step line step).masked && is_pending (after_line_step line step).registers) ≡ false
+pub HasDone-uncut : (line : LineState) (step : LineStep) (before : List LineStep) → cut_after before step ≡ false
     → HasDone line before → HasDone (after_line_step line step) (before ++ step ∷ [])
-HasDone-quiet line step before v quiet d =
-    let no_cut : cut_after before step ≡ false = sym (runs_at_cut line step before v d) ∙ quiet in
+HasDone-uncut line step before no_cut d =
     let k : Keeps line step = Keeps-after_line_step line step in
     let same_received : received_list (before ++ step ∷ []) ≡ received_list before =
     received_list-step before step ∙ (rw no_cut (append-nil (received_list before))) in
@@ -90,7 +88,12 @@ HasDone-quiet line step before v quiet d =
       sent = omega (arith, k.sent, ap (λ o. length o.items) k.overruns, k.handed, d.sent);
     }
 
-pub HandsOver-quiet : (capacity : ℕ) (line : LineState) (step : LineStep) (before : List LineStep) (sent : List Flagged) (heads : List ℕ)
+HasDone-quiet : (line : LineState) (step : LineStep) (before : List LineStep) → IsReceiver (after_line_step line step).registers
+    → (not (after_line_step line step).masked && is_pending (after_line_step line step).registers) ≡ false
+    → HasDone line before → HasDone (after_line_step line step) (before ++ step ∷ [])
+HasDone-quiet line step before v quiet d = HasDone-uncut line step before (sym (runs_at_cut line step before v d) ∙ quiet) d
+
+HandsOver-quiet : (capacity : ℕ) (line : LineState) (step : LineStep) (before : List LineStep) (sent : List Flagged) (heads : List ℕ)
     → IsReceiver (after_line_step line step).registers
     → (not (after_line_step line step).masked && is_pending (after_line_step line step).registers) ≡ false
     → HasDone line before
@@ -104,21 +107,18 @@ HandsOver-quiet capacity line step before sent heads v quiet d =
       offers = rw k.overruns (Offers-none capacity (length (received_list before)) sent heads heads [] line.report.overruns.items (sym (append-nil heads)));
     }
 
-pub HasDone-served : (capacity : ℕ) (line l2 : LineState) (step : LineStep) (before : List LineStep)
+-- a cut stands after the step, and the line was served this list, which its window gives
+pub HasDone-cut : (capacity : ℕ) (line l2 : LineState) (step : LineStep) (before : List LineStep) (list : List Flagged)
     (s0 s1 : List Flagged) (h0 h1 : List ℕ)
-    → IsReceiver (after_line_step line step).registers
-    → (not (after_line_step line step).masked && is_pending (after_line_step line step).registers) ≡ true
-    → Serves capacity (after_line_step line step) l2 (with_mark (after_line_step line step).registers.overrun (after_line_step line step).registers.fifo) s0 s1 h0 h1
+    → cut_after before step ≡ true → list ≡ window_output (waiting_list before ++ arrival step)
+    → Serves capacity (after_line_step line step) l2 list s0 s1 h0 h1
     → l2.registers.fifo ≡ [] → l2.registers.overrun ≡ false → l2.window ≡ 0
     → l2.report.fifo_lost ≡ (after_line_step line step).report.fifo_lost + ((after_line_step line step).window - 16)
     → l2.report.sent + length l2.report.overruns.items ≡ l2.handed
     → HasDone line before → HasDone l2 (before ++ step ∷ [])
-HasDone-served capacity line l2 step before s0 s1 h0 h1 v pending a no_fifo no_overrun no_window more_lost counted d =
-    let cut : cut_after before step ≡ true = sym (runs_at_cut line step before v d) ∙ pending in
+HasDone-cut capacity line l2 step before list s0 s1 h0 h1 cut all a no_fifo no_overrun no_window more_lost counted d =
     let k : Keeps line step = Keeps-after_line_step line step in
     let s : Stands (after_line_step line step) (step ∷ reverse before) (waiting_list before ++ arrival step) = stands_after line step before d in
-    let all : with_mark (after_line_step line step).registers.overrun (after_line_step line step).registers.fifo ≡ window_output (waiting_list before ++ arrival step) =
-    with_mark-window_output (after_line_step line step).registers (step ∷ reverse before) (waiting_list before ++ arrival step) s.registers in
     let more_received : received_list (before ++ step ∷ []) ≡ received_list before ++ window_output (waiting_list before ++ arrival step) =
     received_list-step before step ∙ rw cut in
     let none_waits : waiting_list (before ++ step ∷ []) ≡ [] = waiting_list-step before step ∙ rw cut in
@@ -142,7 +142,41 @@ HasDone-served capacity line l2 step before s0 s1 h0 h1 v pending a no_fifo no_o
       sent = counted;
     }
 
-pub HandsOver-served : (capacity : ℕ) (line l2 : LineState) (step : LineStep) (before : List LineStep)
+pub HandsOver-cut : (capacity : ℕ) (line l2 : LineState) (step : LineStep) (before : List LineStep) (list : List Flagged)
+    (s0 s1 : List Flagged) (h0 h1 : List ℕ)
+    → cut_after before step ≡ true → list ≡ window_output (waiting_list before ++ arrival step)
+    → Serves capacity (after_line_step line step) l2 list s0 s1 h0 h1
+    → HasDone line before
+    → HandsOver capacity (received_list before) (received_list (before ++ step ∷ [])) s0 s1 h0 h1 line.report.overruns.items l2.report.overruns.items
+HandsOver-cut capacity line l2 step before list s0 s1 h0 h1 cut all a d =
+    let k : Keeps line step = Keeps-after_line_step line step in
+    let place : (after_line_step line step).handed ≡ length (received_list before) = k.handed ∙ d.handed in
+    record {
+      list = window_output (waiting_list before ++ arrival step);
+      grows = received_list-step before step ∙ ap (λ b. received_list before ++ (if b then window_output (waiting_list before ++ arrival step) else [])) cut;
+      offers = rw (place, k.overruns, all) at a.offers;
+    }
+
+-- what the handler reads off after a step is what the window gives
+reads_window : (line : LineState) (step : LineStep) (before : List LineStep) → HasDone line before
+    → with_mark (after_line_step line step).registers.overrun (after_line_step line step).registers.fifo ≡ window_output (waiting_list before ++ arrival step)
+reads_window line step before d =
+    with_mark-window_output (after_line_step line step).registers (step ∷ reverse before) (waiting_list before ++ arrival step) (stands_after line step before d).registers
+
+HasDone-served : (capacity : ℕ) (line l2 : LineState) (step : LineStep) (before : List LineStep)
+    (s0 s1 : List Flagged) (h0 h1 : List ℕ)
+    → IsReceiver (after_line_step line step).registers
+    → (not (after_line_step line step).masked && is_pending (after_line_step line step).registers) ≡ true
+    → Serves capacity (after_line_step line step) l2 (with_mark (after_line_step line step).registers.overrun (after_line_step line step).registers.fifo) s0 s1 h0 h1
+    → l2.registers.fifo ≡ [] → l2.registers.overrun ≡ false → l2.window ≡ 0
+    → l2.report.fifo_lost ≡ (after_line_step line step).report.fifo_lost + ((after_line_step line step).window - 16)
+    → l2.report.sent + length l2.report.overruns.items ≡ l2.handed
+    → HasDone line before → HasDone l2 (before ++ step ∷ [])
+HasDone-served capacity line l2 step before s0 s1 h0 h1 v pending a no_fifo no_overrun no_window more_lost counted d =
+    HasDone-cut capacity line l2 step before (with_mark (after_line_step line step).registers.overrun (after_line_step line step).registers.fifo) s0 s1 h0 h1
+    (sym (runs_at_cut line step before v d) ∙ pending) (reads_window line step before d) a no_fifo no_overrun no_window more_lost counted d
+
+HandsOver-served : (capacity : ℕ) (line l2 : LineState) (step : LineStep) (before : List LineStep)
     (s0 s1 : List Flagged) (h0 h1 : List ℕ)
     → IsReceiver (after_line_step line step).registers
     → (not (after_line_step line step).masked && is_pending (after_line_step line step).registers) ≡ true
@@ -150,17 +184,8 @@ pub HandsOver-served : (capacity : ℕ) (line l2 : LineState) (step : LineStep) 
     → HasDone line before
     → HandsOver capacity (received_list before) (received_list (before ++ step ∷ [])) s0 s1 h0 h1 line.report.overruns.items l2.report.overruns.items
 HandsOver-served capacity line l2 step before s0 s1 h0 h1 v pending a d =
-    let cut : cut_after before step ≡ true = sym (runs_at_cut line step before v d) ∙ pending in
-    let k : Keeps line step = Keeps-after_line_step line step in
-    let s : Stands (after_line_step line step) (step ∷ reverse before) (waiting_list before ++ arrival step) = stands_after line step before d in
-    let all : with_mark (after_line_step line step).registers.overrun (after_line_step line step).registers.fifo ≡ window_output (waiting_list before ++ arrival step) =
-    with_mark-window_output (after_line_step line step).registers (step ∷ reverse before) (waiting_list before ++ arrival step) s.registers in
-    let place : (after_line_step line step).handed ≡ length (received_list before) = k.handed ∙ d.handed in
-    record {
-      list = window_output (waiting_list before ++ arrival step);
-      grows = received_list-step before step ∙ ap (λ b. received_list before ++ (if b then window_output (waiting_list before ++ arrival step) else [])) cut;
-      offers = rw (place, k.overruns, all) at a.offers;
-    }
+    HandsOver-cut capacity line l2 step before (with_mark (after_line_step line step).registers.overrun (after_line_step line step).registers.fifo) s0 s1 h0 h1
+    (sym (runs_at_cut line step before v d) ∙ pending) (reads_window line step before d) a d
 
 or_true : (a : Bool) → (a || true) ≡ true
 or_true true = refl

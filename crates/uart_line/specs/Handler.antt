@@ -1,16 +1,14 @@
 -- The steps of a line and the turns of its interrupt handler, on what contracts see of a line.
 use Rattle.std.specs.Prelude.{◌≡◌, ℕ, ◌+◌, ◌^◌, ◌≤◌, ◌<◌, Bool, true, false, not, ◌&&◌, if◌then◌else◌, List, [], ◌∷◌, length, Option, Some, None}
-use Rattle.tty_base.specs.declared.characters.Flag.{Flag}
-use Rattle.tty_base.specs.declared.characters.Flag.TheVariants as flag
 use Rattle.tty_base.specs.declared.characters.Flagged.{Flagged}
 use Rattle.tty_base.specs.declared.lines.LineStep.{LineStep}
 use Rattle.tty_base.specs.declared.lines.LineStep.TheVariants.{Rx, Break, Idle, Mask, Unmask, Trigger}
-use Rattle.uart_regs.specs.Registers.{Registers, after_arrival, after_idle, bit, is_set, is_pending}
+use Rattle.uart_regs.specs.Registers.{Registers, after_arrival, after_idle, bit, is_pending}
 use Rattle.uart_line.specs.Received.{overrun_mark}
 use Rattle.tty_base.specs.Lines.{break_character}
 use Rattle.uart_line.specs.LineState.{LineState}
 use Rattle.uart_line.specs.Offered.{Offers}
-use Rattle.uart_line.specs.declared.Reading.{Reading}
+use Rattle.uart_regs.specs.declared.Reading.{Reading}
 
 abbrev pub with_arrival : LineState → Flagged → LineState
 with_arrival line c = record line {
@@ -33,14 +31,6 @@ abbrev pub runs_handler : LineState → Bool
 runs_handler line = is_pending line.registers && not line.masked
 
 -- ---- one turn of the handler
-
--- the first that fits of break, parity error and framing error
-abbrev pub flag_of_status : ℕ → Flag
-flag_of_status status =
-    if is_set status 4 then flag.Break
-    else if is_set status 2 then flag.Parity
-    else if is_set status 3 then flag.Frame
-    else flag.Normal
 
 -- line status and the receiver buffer, read one after the other
 abbrev pub reading_of : Bool → List Flagged → Option Reading

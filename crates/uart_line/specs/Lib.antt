@@ -3,3 +3,4 @@ pub mod Offered
 pub mod LineState
 pub mod Handler
 pub mod Rows
+pub mod WholeWindow

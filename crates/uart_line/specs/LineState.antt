@@ -1,5 +1,5 @@
 -- What contracts see of a line, and which steps it has done.
-use Rattle.std.specs.Prelude.{◌≡◌, ℕ, ◌+◌, ◌<◌, min, Bool, nat_lt, List, length, take, reverse}
+use Rattle.std.specs.Prelude.{◌≡◌, ℕ, ◌+◌, ◌<◌, min, Bool, nat_lt, List, ◌++◌, length, take, reverse}
 use Rattle.tty_base.specs.declared.characters.Flagged.{Flagged}
 use Rattle.tty_base.specs.declared.lines.LineReport.{LineReport}
 use Rattle.tty_base.specs.declared.lines.LineStep.{LineStep}
@@ -51,3 +51,13 @@ pub record HasDone (line : LineState) (steps : List LineStep) : Type 0 where
   pub handed : line.handed ≡ length (received_list steps)
   pub lost : line.report.fifo_lost ≡ lost_count steps
   pub sent : line.report.sent + length line.report.overruns.items ≡ line.handed
+
+-- The line that has done these further steps, by which nothing more was handed over.
+pub record IsUncut (line : LineState) (before steps : List LineStep) : Type 0 where
+  pub there : LineState
+  pub done : HasDone there (before ++ steps)
+  pub same : received_list (before ++ steps) ≡ received_list before
+  pub handed : there.handed ≡ line.handed
+  pub most : there.most ≡ line.most
+  pub arrived : there.report.arrived ≡ line.report.arrived + arrival_count steps
+  pub overruns : there.report.overruns ≡ line.report.overruns

@@ -12,15 +12,14 @@ ghost use Rattle.tty_base.specs.declared.lines.Overrun.{Overrun};
 ghost use mathlib.Core.List.{IsPrefix};
 ghost use Rattle.uart_regs.specs.Registers.{Registers, IsReceiver, after_fifo_control, bit};
 
+mod whole_windows;
+
 use std::alloc::Global;
 use std::marker::Model;
 use tty_base::{
-    Chars, Flag, Flagged, LineReport, LineStep, Moves, NoMemory, Overrun, Overruns, Put,
+    Chars, Flag, Flagged, Full, LineReport, LineStep, Moves, NoMemory, Overrun, Overruns, Put,
 };
-use uart_regs::{
-    BREAK_INTERRUPT, DATA_READY, FIFO_DEPTH, FRAMING_ERROR, OVERRUN_ERROR, PARITY_ERROR, Reg,
-    TIMEOUT, Uart, is_set,
-};
+use uart_regs::{FIFO_DEPTH, Reading, Reg, TIMEOUT, Uart};
 
 /// A break is one character 00.
 const BREAK: Flagged = Flagged {
@@ -33,13 +32,6 @@ const OVERRUN_MARK: Flagged = Flagged {
     byte: 0,
     flag: Flag::Overrun,
 };
-
-/// What one turn of the handler reads off the receiver.
-#[derive(Clone, Copy)]
-struct Reading {
-    character: Flagged,
-    overrun: bool,
-}
 
 /// A serial line with its receiver, its interrupt handler and its report.
 #[derive(Drop)]
@@ -236,6 +228,7 @@ impl Line {
     }
 
     // The interrupt handler.
+    #[inline(never)]
     fn handle<P: Put>(&mut self, put: &mut P)
         requires { self.old.most ≤ P.room put.old + self.old.handed }
         ensures serves { Serves (P.capacity put.old) self.old self.new (with_mark self.old.registers.overrun self.old.registers.fifo)
@@ -280,6 +273,7 @@ impl Line {
     }
 
     // Hands over one character.
+    #[inline(always)]
     fn offer<P: Put>(&mut self, c: Flagged, put: &mut P)
         requires room { self.old.handed + length self.old.registers.fifo + bit self.old.registers.overrun < self.old.report.arrived }
         requires put { 0 < P.room put.old }
@@ -297,17 +291,27 @@ impl Line {
     {
         match put.put(c) {
             Ok(()) => self.report.sent += 1,
-            Err(full) => self.report.overruns.add(Overrun {
-                at: self.handed,
-                sent: full.sent,
-                seen: full.seen,
-            }),
+            Err(full) => add_overrun(&mut self.report.overruns, self.handed, full),
         }
         self.handed += 1;
     }
 
-    // The step alone, before the handler.
+    // The step alone, before the handler. Mostly a character arrives.
     fn receive(&mut self, step: LineStep)
+        requires good { IsTrue (is_step step) }
+        requires room { self.old.report.arrived + length (arrival step) ≤ self.old.most }
+        ensures { self.new ≡ after_line_step self.old step }
+    {
+        if let LineStep::Rx(c) = step {
+            self.arrive(c);
+        } else {
+            self.receive_any(step);
+        }
+    }
+
+    // The same for every step.
+    #[inline(never)]
+    fn receive_any(&mut self, step: LineStep)
         requires good { IsTrue (is_step step) }
         requires room { self.old.report.arrived + length (arrival step) ≤ self.old.most }
         ensures { self.new ≡ after_line_step self.old step }
@@ -338,19 +342,25 @@ impl Line {
         ensures after { self.new ≡ record self.old { registers = after_turn self.old.registers self.old.registers.fifo } }
         ensures line { IsLine self.old }
     {
-        let status = self.uart.read(Reg::R5);
-        if !is_set(status, DATA_READY) {
-            return None;
-        }
-        let byte = self.uart.read(Reg::R0);
-        Some(Reading {
-            character: Flagged {
-                byte,
-                flag: flag_of(status),
-            },
-            overrun: is_set(status, OVERRUN_ERROR),
-        })
+        let _ = &self.window;
+        self.uart.read_front()
     }
+}
+
+/// Adds a refused character at this place.
+#[inline(never)]
+fn add_overrun(overruns: &mut Overruns, at: u32, full: Full)
+    requires { 0 < overruns.old.spare }
+    ensures { overruns.new ≡ record {
+      items = overruns.old.items ++ (record { at = at; sent = full.sent; seen = full.seen }) ∷ [];
+      spare = overruns.old.spare - 1;
+    } }
+{
+    overruns.add(Overrun {
+        at,
+        sent: full.sent,
+        seen: full.seen,
+    });
 }
 
 /// Makes all that was put visible to the other end.
@@ -395,6 +405,8 @@ pub fn worked_scripts_are_received()
     ensures three_times { (received_list (burst_after_idle 3) ≡ one_window_output) × (lost_count (burst_after_idle 3) ≡ 3) }
 {}
 
+ghost use Rattle.tty_base.specs.Lines.{is_step};
+
 /// The FIFO control that sets this trigger.
 fn trigger_control(level: u8) -> u8
     requires { IsTrue (is_step (LineStep.Trigger level)) }
@@ -405,24 +417,6 @@ fn trigger_control(level: u8) -> u8
         4 => 0x41,
         8 => 0x81,
         _ => 0xc1,
-    }
-}
-
-ghost use Rattle.uart_line.specs.Handler.{flag_of_status};
-ghost use Rattle.tty_base.specs.Lines.{is_step};
-
-/// The flag that a line status gives the front character.
-fn flag_of(status: u8) -> Flag
-    ensures { result ≡ flag_of_status status }
-{
-    if is_set(status, BREAK_INTERRUPT) {
-        Flag::Break
-    } else if is_set(status, PARITY_ERROR) {
-        Flag::Parity
-    } else if is_set(status, FRAMING_ERROR) {
-        Flag::Frame
-    } else {
-        Flag::Normal
     }
 }
 

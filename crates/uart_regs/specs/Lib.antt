@@ -1,1 +1,3 @@
 pub mod Registers
+pub mod Reading
+pub mod Row

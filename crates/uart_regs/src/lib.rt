@@ -5,7 +5,10 @@
 ghost use Rattle.std.specs.Prelude.{◌≡◌, ◌≢◌, ◌*◌, ◌<◌, ◌≤◌};
 ghost use Rattle.tty_base.specs.declared.characters.Flag.TheVariants.{Overrun};
 
-use arrayvec::ArrayVec;
+mod fifo;
+
+pub use fifo::FIFO_DEPTH;
+use fifo::Fifo;
 use std::marker::Model;
 use tty_base::{Flag, Flagged, Moves};
 
@@ -29,9 +32,6 @@ pub enum Reg {
     /// Scratch (SCR).
     R7,
 }
-
-/// How many characters the receive FIFO keeps.
-pub const FIFO_DEPTH: usize = 16;
 
 /// The character times after which a FIFO that nobody reads asks for service.
 pub const TIMEOUT: u32 = 4;
@@ -88,10 +88,18 @@ const ERROR_IN_FIFO: u8 = 7;
 // MSR: carrier, data set ready and clear to send
 const MODEM_STATUS: u8 = 0xb0;
 
+/// What a driver reads of one character.
+#[derive(Clone, Copy, Debug, PartialEq, Eq)]
+pub struct Reading {
+    pub character: Flagged,
+    /// That the FIFO has lost characters behind it.
+    pub overrun: bool,
+}
+
 /// The receiver of a 16550 UART.
 #[derive(Drop)]
 pub struct Uart {
-    fifo: ArrayVec<Flagged, FIFO_DEPTH>,
+    fifo: Fifo,
     overrun: bool,
     idle: u32,
     trigger: u8,
@@ -109,7 +117,7 @@ impl Model for Uart {
     ghost Value = { Registers };
 
     ghost view = { λ u. record {
-      fifo = u.fifo.items;
+      fifo = u.fifo;
       overrun = u.overrun;
       idle = u.idle;
       trigger = u.trigger;
@@ -122,7 +130,7 @@ impl Model for Uart {
     } };
 
     ghost invariant = { λ u. IsReceiver record {
-      fifo = u.fifo.items;
+      fifo = u.fifo;
       overrun = u.overrun;
       idle = u.idle;
       trigger = u.trigger;
@@ -141,7 +149,8 @@ impl Uart {
     ghost use Rattle.uart_regs.specs.Registers.{IsReceiver, initial_registers, after_arrival, after_idle, read_value, after_read, after_write};
     ghost use Rattle.uart_regs.specs.Registers.{is_pending, interrupt_identification, interrupt_code, line_status};
     ghost use Rattle.uart_regs.specs.Registers.{is_line_status, is_data_available, is_timeout};
-    ghost use Rattle.uart_regs.specs.Registers.{selects_latches, front_flag, has_error, after_fifo_control};
+    ghost use Rattle.uart_regs.specs.Registers.{selects_latches, has_error, after_fifo_control};
+    ghost use Rattle.uart_regs.specs.Reading.{front_reading, after_front_reading};
 
     /// The receiver as the driver sets it up: FIFOs enabled with trigger 8, interrupts for received data
     /// and line status, no character.
@@ -149,7 +158,7 @@ impl Uart {
         ensures { result ≡ initial_registers }
     {
         Uart {
-            fifo: ArrayVec::new(),
+            fifo: Fifo::new(),
             overrun: false,
             idle: 0,
             trigger: 8,
@@ -167,10 +176,10 @@ impl Uart {
         requires { c.flag ≢ Overrun }
         ensures { self.new ≡ after_arrival self.old c }
     {
-        if self.fifo.is_full() {
-            self.overrun = true;
-        } else {
+        if self.fifo.has_room() {
             self.fifo.push(c);
+        } else {
+            self.overrun = true;
         }
         self.idle = 0;
     }
@@ -216,6 +225,41 @@ impl Uart {
         }
     }
 
+    /// Reads line status and, where it says that a character is ready, the receiver buffer: what a
+    /// driver does until none is ready.
+    pub fn read_front(&mut self) -> Option<Reading>
+        ensures reading { result ≡ front_reading self.old }
+        ensures after { self.new ≡ after_front_reading self.old }
+        ensures receiver { IsReceiver self.old }
+    {
+        let overrun = self.overrun;
+        self.overrun = false;
+        if self.fifo.is_empty() {
+            self.fifo.clear(); // the next one stands in the first place again
+            return None;
+        }
+        if self.selects_latches() {
+            let flag = self.fifo.front_flag();
+            self.fifo.clear_front();
+            let character = Flagged {
+                byte: self.divisor_low,
+                flag,
+            };
+            return Some(Reading { character, overrun });
+        }
+        self.idle = 0;
+        let character = self.fifo.take_front();
+        Some(Reading { character, overrun })
+    }
+
+    /// The trigger: how many characters ask for service.
+    pub fn trigger(&self) -> u8
+        ensures value { result ≡ self.now.trigger }
+        ensures receiver { IsReceiver self.now }
+    {
+        self.trigger
+    }
+
     /// Whether an interrupt is pending: bit 0 of the interrupt identification would read 0.
     pub fn pending(&self) -> bool
         ensures value { result ≡ is_pending self.now }
@@ -242,7 +286,7 @@ impl Uart {
         if self.fifo.is_empty() {
             return 0;
         }
-        self.fifo.remove(0).byte
+        self.fifo.take_front().byte
     }
 
     fn write_offset_0(&mut self, value: u8)
@@ -297,7 +341,8 @@ impl Uart {
     fn has_line_status(&self) -> bool
         ensures { result ≡ is_line_status self.now }
     {
-        is_set(self.interrupts, ENABLE_LINE_STATUS) && (self.overrun || is_error(self.front_flag()))
+        is_set(self.interrupts, ENABLE_LINE_STATUS)
+            && (self.overrun || is_error(self.fifo.front_flag()))
     }
 
     fn has_data_available(&self) -> bool
@@ -315,15 +360,6 @@ impl Uart {
             && self.idle >= TIMEOUT
     }
 
-    fn front_flag(&self) -> Flag
-        ensures { result ≡ front_flag self.now.fifo }
-    {
-        match self.fifo.as_slice().first() {
-            Some(front) => front.flag,
-            None => Flag::Normal,
-        }
-    }
-
     fn has_error(&self) -> bool
         ensures { result ≡ has_error self.now.fifo }
     {
@@ -333,7 +369,7 @@ impl Uart {
     fn line_status(&self) -> u8
         ensures { result ≡ line_status self.now }
     {
-        let front = self.front_flag();
+        let front = self.fifo.front_flag();
         TRANSMITTER_EMPTY
             + masked(!self.fifo.is_empty(), 1 << DATA_READY)
             + masked(self.overrun, 1 << OVERRUN_ERROR)
@@ -348,10 +384,8 @@ impl Uart {
         ensures after { self.new ≡ after_read self.old Reg.R5 }
     {
         let status = self.line_status();
-        self.overrun = false;
-        if let Some(front) = self.fifo.get_mut(0) {
-            front.flag = Flag::Normal;
-        }
+        self.overrun = false; // a read of line status clears it
+        self.fifo.clear_front();
         status
     }
 

@@ -171,18 +171,25 @@ loads_tail n slots id me takes s r _ here _ =
     let t : KnowsTakes n g id me.0 = k.takes takes in
     let w : View = with_tail me.0 h in
     let least = k.tail in
-    let read = t.known in
+    let taken_is : length me.0.taken ≡ length g.taken = ap length t.taken in
+    let cap = t.capacity in
+    let most = begins_length g.taken g.pushed r.taken in
     let known : Knows n g id w = record {
       noted = k.noted;
       noted_heads = k.noted_heads;
       head = k.head;
       tail = omega arith;
       puts = λ is. (let p = k.puts is in record { at = p.at; capacity = p.capacity; written = p.written; pushed = p.pushed; heads = p.heads });
-      takes = λ _. record { at = t.at; capacity = t.capacity; taken = t.taken; released = t.released; begins = t.begins; read = t.read; known = omega arith };
+      takes = λ _. record {
+        at = t.at;
+        capacity = t.capacity;
+        taken = t.taken;
+        released = t.released;
+        begins = begins_itself me.0.taken;
+        read = subst (λ (z : List ℕ). IsPrefix z g.pushed) (sym t.taken) r.taken;
+        known = omega arith;
+      };
     } in
-    let taken_is : length me.0.taken ≡ length g.taken = ap length t.taken in
-    let cap = t.capacity in
-    let most = begins_length g.taken g.pushed r.taken in
     let all = begins_length g.pushed g.written r.pushed in
     let fits = r.fits in
     (w, keeps, tt, loaded n s r 1 id w known, (refl, refl, omega arith, omega arith, omega arith, λ is. h_is ∙ sym (ap length (k.puts is).pushed)))
@@ -401,7 +408,12 @@ meets n id other v w s r here apart there =
       head = k.head;
       tail = omega arith;
       puts = λ is. (let p = k.puts is in record { at = p.at; capacity = p.capacity; written = p.written; pushed = p.pushed; heads = p.heads });
-      takes = λ is. (let t = k.takes is in let bound = t.known in record { at = t.at; capacity = t.capacity; taken = t.taken; released = t.released; begins = t.begins; read = t.read; known = omega arith });
+      takes = λ is. (
+          let t = k.takes is in
+          let bound = t.known in
+          let within = begins_length v.taken v.read t.begins in
+          record { at = t.at; capacity = t.capacity; taken = t.taken; released = t.released; begins = begins_itself v.taken; read = begins_through v.taken v.read g.pushed t.begins t.read; known = omega arith }
+          );
     } in
     viewed n s r g (set (set s.views id (with_note v w)) other blank_view) refl refl refl refl (each_join n g g s.views id other (with_note v w) r.each known (λ seat u a b old. old))
 
@@ -433,6 +445,7 @@ ends n id other v w takes puts s r here apart there =
     let on_ : GoesOn g g' = record { pushed = begins_itself g.pushed; released = λ hs a. a; taken = omega arith } in
     let mine = k.tail in
     let bound = t.known in
+    let within = begins_length v.taken v.read t.begins in
     let pushed_is : length w.pushed ≡ length g.pushed = ap length p.pushed in
     let known : Knows n g' id (with_putter v w) = record {
       noted = k.noted;
@@ -440,7 +453,7 @@ ends n id other v w takes puts s r here apart there =
       head = k.head;
       tail = omega arith;
       puts = λ is. record { at = refl; capacity = t.capacity; written = p.written; pushed = p.pushed; heads = p.heads };
-      takes = λ is. record { at = t.at; capacity = t.capacity; taken = t.taken; released = t.released; begins = t.begins; read = t.read; known = omega arith };
+      takes = λ is. record { at = t.at; capacity = t.capacity; taken = t.taken; released = t.released; begins = begins_itself v.taken; read = begins_through v.taken v.read g.pushed t.begins t.read; known = omega arith };
     } in
     let on : (seat : ℕ) (u : View) → seat ≢ id → seat ≢ other → Knows n g seat u → Knows n g' seat u = λ seat u a b old. knows_on n g g' seat u on_
     (λ q. absurd (b (q.at ∙ sym p.at)))

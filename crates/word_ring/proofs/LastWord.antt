@@ -1,9 +1,9 @@
 -- The word of the last numbers put.
-use Rattle.std.proofs.Common.{◌≡◌, ℕ, ◌+◌, ◌*◌, ◌/◌, ◌%◌, ◌<◌, ◌≤◌, List, [], ◌∷◌, ◌++◌, length, take, refl, sym, ap, ◌∙◌, arith, append_assoc, length-append}
+use Rattle.std.proofs.Common.{◌≡◌, ℕ, ◌+◌, ◌-◌, ◌*◌, ◌/◌, ◌%◌, ◌^◌, ◌<◌, ◌≤◌, List, [], ◌∷◌, ◌++◌, length, take, refl, sym, ap, ◌∙◌, arith, append_assoc, length-append}
 use mathlib.Core.List.{IsPrefix}
 use Rattle.std.proofs.lemmas.List.{append-nil}
 use Rattle.std.proofs.Math.Seq.{take-length}
-use Rattle.word_ring.specs.Lanes.{lanes, whole_words}
+use Rattle.word_ring.specs.Lanes.{lanes, top_lanes, whole_words}
 use Rattle.word_ring.proofs.Beginnings.{begins_whole}
 use Rattle.word_ring.proofs.Packing.{lanes_length, whole_length}
 
@@ -38,18 +38,18 @@ whole_none xs p = begins_whole xs (whole_words xs ++ []) p (let front : length (
 pub group_is : (xs : List ℕ) (word sent : ℕ) → sent ≡ length (whole_words xs ++ lanes word (sent % 4)) → sent / 4 ≡ length xs / 4
 group_is xs word sent is = let long = long_is xs word (sent % 4) in omega arith
 
-module _ (xs : List ℕ) (word word' sent x : ℕ) (laid : lanes word' (sent % 4 + 1) ≡ lanes word (sent % 4) ++ x ∷ []) where
+module _ (xs : List ℕ) (word word' sent x : ℕ) (laid : top_lanes word' (sent % 4 + 1) ≡ top_lanes word (sent % 4) ++ x ∷ []) where
   -- the number takes the next lane
-  pub put_next : whole_words xs ++ lanes word' (sent % 4 + 1) ≡ whole_words xs ++ lanes word (sent % 4) ++ x ∷ []
-  put_next = ap (λ ys. whole_words xs ++ ys) laid ∙ sym (append_assoc (whole_words xs) (lanes word (sent % 4)) (x ∷ []))
+  pub put_next : whole_words xs ++ top_lanes word' (sent % 4 + 1) ≡ whole_words xs ++ top_lanes word (sent % 4) ++ x ∷ []
+  put_next = ap (λ ys. whole_words xs ++ ys) laid ∙ sym (append_assoc (whole_words xs) (top_lanes word (sent % 4)) (x ∷ []))
 
-  pub put_short : sent % 4 < 3 → whole_words xs ++ lanes word' ((sent + 1) % 4) ≡ whole_words xs ++ lanes word (sent % 4) ++ x ∷ []
-  put_short lt = let is : (sent + 1) % 4 ≡ sent % 4 + 1 = omega arith in ap (λ (k : ℕ). whole_words xs ++ lanes word' k) is ∙ put_next
+  pub put_short : sent % 4 < 3 → whole_words xs ++ top_lanes word' ((sent + 1) % 4) ≡ whole_words xs ++ top_lanes word (sent % 4) ++ x ∷ []
+  put_short lt = let is : (sent + 1) % 4 ≡ sent % 4 + 1 = omega arith in ap (λ (k : ℕ). whole_words xs ++ top_lanes word' k) is ∙ put_next
 
-  pub put_full : 3 ≤ sent % 4 → whole_words xs ++ lanes word' 4 ≡ whole_words xs ++ lanes word (sent % 4) ++ x ∷ []
-  put_full ge = let is : 4 ≡ sent % 4 + 1 = omega arith in ap (λ (k : ℕ). whole_words xs ++ lanes word' k) is ∙ put_next
+  pub put_full : 3 ≤ sent % 4 → whole_words xs ++ top_lanes word' 4 ≡ whole_words xs ++ top_lanes word (sent % 4) ++ x ∷ []
+  put_full ge = let is : 4 ≡ sent % 4 + 1 = omega arith in ap (λ (k : ℕ). whole_words xs ++ top_lanes word' k) is ∙ put_next
 
   -- what stands after a full word was stored
-  pub put_stored : 3 ≤ sent % 4 → whole_words (whole_words xs ++ lanes word' 4) ++ lanes word' ((sent + 1) % 4) ≡ whole_words xs ++ lanes word (sent % 4) ++ x ∷ []
+  pub put_stored : 3 ≤ sent % 4 → whole_words (whole_words xs ++ top_lanes word' 4) ++ top_lanes word' ((sent + 1) % 4) ≡ whole_words xs ++ top_lanes word (sent % 4) ++ x ∷ []
   put_stored ge = let is : (sent + 1) % 4 ≡ 0 = omega arith in
-      ap (λ (k : ℕ). whole_words (whole_words xs ++ lanes word' 4) ++ lanes word' k) is ∙ (append-nil (whole_words (whole_words xs ++ lanes word' 4)) ∙ (whole_full xs word' ∙ put_full ge))
+      ap (λ (k : ℕ). whole_words (whole_words xs ++ top_lanes word' 4) ++ top_lanes word' k) is ∙ (append-nil (whole_words (whole_words xs ++ top_lanes word' 4)) ∙ (whole_full xs (word' / 65536 ^ (4 - 4)) ∙ put_full ge))

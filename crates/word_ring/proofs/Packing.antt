@@ -1,38 +1,45 @@
 -- Numbers in the lanes of a word.
-use Rattle.std.proofs.Common.{◌≡◌, ℕ, zero, suc, ◌+◌, ◌*◌, ◌/◌, ◌%◌, ◌<◌, List, [], ◌∷◌, ◌++◌, length, get_or, refl, sym, ap, ◌∙◌, subst, ⊎_elim, arith, length-append, length-take}
+use Rattle.std.proofs.Common.{◌≡◌, ℕ, zero, suc, ◌+◌, ◌-◌, ◌*◌, ◌/◌, ◌%◌, ◌^◌, ◌<◌, List, [], ◌∷◌, ◌++◌, length, get_or, refl, sym, ap, ◌∙◌, subst, ⊎_elim, arith, length-append, length-take}
 use Rattle.std.proofs.lemmas.Bool.{cases_lt}
 use Rattle.std.proofs.Math.ListN.{get_or-append}
 use Rattle.std.proofs.Math.Seq.{get_or-append_seam}
-use Rattle.word_ring.specs.Lanes.{lane, lanes, whole_words}
+use Rattle.word_ring.specs.Lanes.{lane, lanes, top_lanes, whole_words}
 
-pub lay_zero : (x : ℕ) → x < 65536 → lanes x 1 ≡ x ∷ []
+-- one more number in the last lane
+pub lay_next : (w x k : ℕ) → w < 2 ^ 64 → x < 65536 → k < 4 → top_lanes (w / 65536 + x * 281474976710656) (k + 1) ≡ top_lanes w k ++ x ∷ []
 unfolding lane
-lay_zero x h = let a : x / 1 % 65536 ≡ x = omega arith in λ i. a i ∷ []
-
-pub lay_one : (w x : ℕ) → x < 65536 → lanes (w % 65536 + x * 65536) 2 ≡ lanes w 1 ++ x ∷ []
-unfolding lane
-lay_one w x h =
-    let r : ℕ = w % 65536 + x * 65536 in
-    let a : (w % 65536 + x * 65536) / 1 % 65536 ≡ w / 1 % 65536 = omega arith in
-    let b : (w % 65536 + x * 65536) / 65536 % 65536 ≡ x = omega arith in
+lay_next w x zero small h lt =
+    let a : (w / 65536 + x * 281474976710656) / 281474976710656 / 1 % 65536 ≡ x = omega arith in
+    λ i. a i ∷ []
+lay_next w x (suc zero) small h lt =
+    let a : (w / 65536 + x * 281474976710656) / 4294967296 / 1 % 65536 ≡ w / 281474976710656 / 1 % 65536 = omega arith in
+    let b : (w / 65536 + x * 281474976710656) / 4294967296 / 65536 % 65536 ≡ x = omega arith in
     λ i. a i ∷ b i ∷ []
-
-pub lay_two : (w x : ℕ) → x < 65536 → lanes (w % 4294967296 + x * 4294967296) 3 ≡ lanes w 2 ++ x ∷ []
-unfolding lane
-lay_two w x h =
-    let a : (w % 4294967296 + x * 4294967296) / 1 % 65536 ≡ w / 1 % 65536 = omega arith in
-    let b : (w % 4294967296 + x * 4294967296) / 65536 % 65536 ≡ w / 65536 % 65536 = omega arith in
-    let d : (w % 4294967296 + x * 4294967296) / 4294967296 % 65536 ≡ x = omega arith in
+lay_next w x (suc (suc zero)) small h lt =
+    let a : (w / 65536 + x * 281474976710656) / 65536 / 1 % 65536 ≡ w / 4294967296 / 1 % 65536 = omega arith in
+    let b : (w / 65536 + x * 281474976710656) / 65536 / 65536 % 65536 ≡ w / 4294967296 / 65536 % 65536 = omega arith in
+    let d : (w / 65536 + x * 281474976710656) / 65536 / 4294967296 % 65536 ≡ x = omega arith in
     λ i. a i ∷ b i ∷ d i ∷ []
-
-pub lay_three : (w x : ℕ) → x < 65536 → lanes (w % 281474976710656 + x * 281474976710656) 4 ≡ lanes w 3 ++ x ∷ []
-unfolding lane
-lay_three w x h =
-    let a : (w % 281474976710656 + x * 281474976710656) / 1 % 65536 ≡ w / 1 % 65536 = omega arith in
-    let b : (w % 281474976710656 + x * 281474976710656) / 65536 % 65536 ≡ w / 65536 % 65536 = omega arith in
-    let d : (w % 281474976710656 + x * 281474976710656) / 4294967296 % 65536 ≡ w / 4294967296 % 65536 = omega arith in
-    let e : (w % 281474976710656 + x * 281474976710656) / 281474976710656 % 65536 ≡ x = omega arith in
+lay_next w x (suc (suc (suc zero))) small h lt =
+    let a : (w / 65536 + x * 281474976710656) / 1 / 1 % 65536 ≡ w / 65536 / 1 % 65536 = omega arith in
+    let b : (w / 65536 + x * 281474976710656) / 1 / 65536 % 65536 ≡ w / 65536 / 65536 % 65536 = omega arith in
+    let d : (w / 65536 + x * 281474976710656) / 1 / 4294967296 % 65536 ≡ w / 65536 / 4294967296 % 65536 = omega arith in
+    let e : (w / 65536 + x * 281474976710656) / 1 / 281474976710656 % 65536 ≡ x = omega arith in
     λ i. a i ∷ b i ∷ d i ∷ e i ∷ []
+lay_next w x (suc (suc (suc (suc k)))) small h lt = absurd (omega arith)
+
+-- all lanes
+pub top_all : (w : ℕ) → top_lanes w 4 ≡ lanes w 4
+top_all w = let is : w / 65536 ^ (4 - 4) ≡ w = omega arith in ap (λ (z : ℕ). lanes z 4) is
+
+-- a lane by the number that shifts it down
+pub lane_shift : (w l : ℕ) → l < 4 → w / 2 ^ (l * 16) % 65536 ≡ lane w l
+unfolding lane
+lane_shift w zero lt = refl
+lane_shift w (suc zero) lt = refl
+lane_shift w (suc (suc zero)) lt = refl
+lane_shift w (suc (suc (suc zero))) lt = refl
+lane_shift w (suc (suc (suc (suc l)))) lt = absurd (omega arith)
 
 -- the lanes of a word, one for each number
 pub lanes_length : (w k : ℕ) → length (lanes w k) ≡ k

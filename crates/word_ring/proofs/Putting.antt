@@ -1,8 +1,8 @@
 -- What a putter's seat knows fits its numbers after each step.
-use Rattle.std.proofs.Common.{◌≡◌, ℕ, ◌+◌, ◌/◌, ◌%◌, ◌<◌, ◌≤◌, List, [], ◌∷◌, ◌++◌, length, max, sym, ap, ◌∙◌, subst, arith, length-append}
+use Rattle.std.proofs.Common.{◌≡◌, ℕ, ◌+◌, ◌-◌, ◌/◌, ◌%◌, ◌^◌, ◌<◌, ◌≤◌, List, [], ◌∷◌, ◌++◌, length, max, sym, ap, ◌∙◌, subst, arith, length-append}
 use mathlib.Core.List.{IsPrefix}
 use Rattle.word_ring.specs.declared.table.View.{View}
-use Rattle.word_ring.specs.Lanes.{lanes, whole_words}
+use Rattle.word_ring.specs.Lanes.{top_lanes, whole_words}
 use Rattle.word_ring.specs.Plays.{with_head, with_written, with_all_pushed, with_head_note}
 use Rattle.word_ring.specs.PutterParts.{sent_of, IsPutting}
 use Rattle.word_ring.proofs.Beginnings.{begins_itself, begins_more, begins_through}
@@ -33,13 +33,13 @@ module _ (capacity sent word : ℕ) (v : View) (p : IsPutting capacity sent word
   }
 
   pub group : sent / 4 ≡ length v.written / 4
-  group = group_is v.written word sent p.count
+  group = group_is v.written (word / 65536 ^ (4 - sent % 4)) sent p.count
 
   -- all that was put is stored and pushed
   pub after_push : IsPutting capacity sent word (with_all_pushed (with_written v (sent_of sent word v)))
   after_push =
       let same : sent_of sent word (with_all_pushed (with_written v (sent_of sent word v))) ≡ sent_of sent word v =
-      ap (λ (xs : List ℕ). xs ++ lanes word (sent % 4)) (whole_again v.written word (sent % 4) (omega arith)) in
+      ap (λ (xs : List ℕ). xs ++ top_lanes word (sent % 4)) (whole_again v.written (word / 65536 ^ (4 - sent % 4)) (sent % 4) (omega arith)) in
       record {
         puts = p.puts;
         room = p.room;
@@ -51,9 +51,9 @@ module _ (capacity sent word : ℕ) (v : View) (p : IsPutting capacity sent word
       }
 
   pub pushed_same : sent_of sent word (with_all_pushed (with_written v (sent_of sent word v))) ≡ sent_of sent word v
-  pushed_same = ap (λ (xs : List ℕ). xs ++ lanes word (sent % 4)) (whole_again v.written word (sent % 4) (omega arith))
+  pushed_same = ap (λ (xs : List ℕ). xs ++ top_lanes word (sent % 4)) (whole_again v.written (word / 65536 ^ (4 - sent % 4)) (sent % 4) (omega arith))
 
-  module _ (word' x : ℕ) (laid : lanes word' (sent % 4 + 1) ≡ lanes word (sent % 4) ++ x ∷ []) (room : sent < v.head + capacity) where
+  module _ (word' x : ℕ) (laid : top_lanes word' (sent % 4 + 1) ≡ top_lanes word (sent % 4) ++ x ∷ []) (room : sent < v.head + capacity) where
     -- a number is put in the last word
     pub after_put : sent % 4 < 3 → IsPutting capacity (sent + 1) word' v
     after_put lt =
@@ -70,19 +70,19 @@ module _ (capacity sent word : ℕ) (v : View) (p : IsPutting capacity sent word
           most = p.most;
         }
 
-    pub full_is : 3 ≤ sent % 4 → whole_words v.written ++ lanes word' 4 ≡ sent_of sent word v ++ x ∷ []
+    pub full_is : 3 ≤ sent % 4 → whole_words v.written ++ top_lanes word' 4 ≡ sent_of sent word v ++ x ∷ []
     full_is ge = put_full v.written word word' sent x laid ge
 
-    pub full_begins : 3 ≤ sent % 4 → IsPrefix v.written (whole_words v.written ++ lanes word' 4)
+    pub full_begins : 3 ≤ sent % 4 → IsPrefix v.written (whole_words v.written ++ top_lanes word' 4)
     full_begins ge = subst (λ (xs : List ℕ). IsPrefix v.written xs) (sym (full_is ge)) (begins_through v.written (sent_of sent word v) (sent_of sent word v ++ x ∷ []) p.begins (begins_more (sent_of sent word v) (x ∷ [])))
 
-    pub full_fits : 3 ≤ sent % 4 → length (whole_words v.written ++ lanes word' 4) ≤ v.head + capacity
+    pub full_fits : 3 ≤ sent % 4 → length (whole_words v.written ++ top_lanes word' 4) ≤ v.head + capacity
     full_fits ge = let one = length-append (sent_of sent word v) (x ∷ []) in let count = p.count in let is = ap length (full_is ge) in omega arith
 
     -- the last word is full and was stored
-    pub after_store : 3 ≤ sent % 4 → IsPutting capacity (sent + 1) word' (with_written v (whole_words v.written ++ lanes word' 4))
+    pub after_store : 3 ≤ sent % 4 → IsPutting capacity (sent + 1) word' (with_written v (whole_words v.written ++ top_lanes word' 4))
     after_store ge =
-        let all : List ℕ = whole_words v.written ++ lanes word' 4 in
+        let all : List ℕ = whole_words v.written ++ top_lanes word' 4 in
         let next : sent_of (sent + 1) word' (with_written v all) ≡ sent_of sent word v ++ x ∷ [] = put_stored v.written word word' sent x laid ge in
         let one = length-append (sent_of sent word v) (x ∷ []) in
         let count = p.count in

@@ -2,6 +2,7 @@
 use Rattle.std.proofs.Common.{◌≡◌, ◌≢◌, ℕ, ◌+◌, ◌-◌, ◌*◌, ◌/◌, ◌%◌, ◌<◌, ◌≤◌, List, ◌++◌, length, get_or, set, sym, ap, ◌∙◌, ⊎_elim, arith, length-append, get_or-set_same, get_or-set_other}
 use mathlib.Core.List.{IsPrefix}
 use Rattle.atomic_table.proofs.Lists.{one_turn}
+use native.Mathlib.Nat.{add-mul, add-mul-mod_self_right, div-add-mod', mod-eq_of_lt, zero-mod}
 use Rattle.std.proofs.lemmas.Bool.{cases_lt}
 use Rattle.std.proofs.Math.Seq.{get_or-append_right}
 use Rattle.word_ring.specs.Lanes.{lane, lanes, whole_words}
@@ -11,6 +12,32 @@ use Rattle.word_ring.proofs.Packing.{lanes_length, lanes_at, whole_length}
 
 pub place_below : (n group : ℕ) → place n group < n / 4 + 4
 place_below n group = omega arith
+
+-- the first group stands in the first word
+pub place_first : (n : ℕ) → place n 0 ≡ 2
+place_first n = ap (λ (k : ℕ). 2 + k) (zero-mod (n / 4 + 2))
+
+-- the next group stands in the next word, or after the last word in the first
+pub place_next : (n group : ℕ) → place n group < n / 4 + 3 → place n (group + 1) ≡ place n group + 1
+place_next n group lt =
+    let m = n / 4 + 2 in
+    let parts = div-add-mod' group m in
+    let on : group % m + 1 + group / m * m ≡ group + 1 = omega arith in
+    let turn = add-mul-mod_self_right (group % m + 1) (group / m) m in
+    let last : (group % m + 1) % m ≡ group % m + 1 = mod-eq_of_lt (omega arith) in
+    let is : (group + 1) % m ≡ group % m + 1 = ap (λ (k : ℕ). k % m) (sym on) ∙ (turn ∙ last) in
+    omega arith
+
+pub place_round : (n group : ℕ) → n / 4 + 3 ≤ place n group → place n (group + 1) ≡ 2
+place_round n group ge =
+    let m = n / 4 + 2 in
+    let parts = div-add-mod' group m in
+    let below = place_below n group in
+    let whole : group % m + 1 ≡ m = omega arith in
+    let on : 0 + (group / m + 1) * m ≡ group + 1 = omega (arith, add-mul (group / m) 1 m) in
+    let turn = add-mul-mod_self_right 0 (group / m + 1) m in
+    let is : (group + 1) % m ≡ 0 = ap (λ (k : ℕ). k % m) (sym on) ∙ (turn ∙ zero-mod m) in
+    omega arith
 
 -- two groups less than a round apart stand in different words
 apart : (n a b : ℕ) → a < b → b < a + (n / 4 + 2) → place n a ≢ place n b

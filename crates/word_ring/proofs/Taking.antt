@@ -1,45 +1,256 @@
 -- What a taker's seat knows fits its numbers after each step.
-use Rattle.std.proofs.Common.{◌≡◌, ℕ, ◌≤◌, true, List, [], ◌∷◌, ◌++◌, length, max, refl, sym, ap, ◌∙◌, arith, length-take, take}
+use Rattle.std.proofs.Common.{◌≡◌, ◌⊎◌, ℕ, ◌+◌, ◌-◌, ◌*◌, ◌/◌, ◌%◌, ◌^◌, ◌<◌, ◌≤◌, true, List, [], ◌∷◌, ◌++◌, length, min, max, refl, sym, ap, ◌∙◌, subst, ⊎_elim, arith, take, drop, length-take, length-drop}
 use mathlib.Core.List.{IsPrefix}
+use Rattle.std.proofs.lemmas.Bool.{cases_lt}
+use Rattle.std.proofs.lemmas.List.{drop_all, drop-take, take_all, take_at, take-append-drop, take-take}
 use Rattle.word_ring.specs.declared.table.View.{View}
-use Rattle.atomic_table.specs.Seated.{TableId}
-use Rattle.word_ring.specs.Ends.{TakerState, with_shown, with_taken}
+use Rattle.word_ring.specs.declared.taker.Taker.TheInside.{Inside}
+use Rattle.word_ring.specs.Ends.{TakerState, with_taken}
+use Rattle.word_ring.specs.Lanes.{lane}
 use Rattle.word_ring.specs.Plays.{with_tail, with_read, with_taken_to, with_note, with_putter}
-use Rattle.word_ring.specs.TakerParts.{IsTaking}
-use Rattle.word_ring.proofs.Beginnings.{begins_through, begins_take}
+use Rattle.word_ring.specs.Rule.{place}
+use Rattle.word_ring.specs.TakerParts.{taker_state, IsTaker, IsTaking, HasLanes, peeked_of}
+use Rattle.word_ring.proofs.Beginnings.{begins_itself, begins_longer, begins_take, begins_through}
+use Rattle.word_ring.proofs.Reading.{shown_of, shown_length, shown_lanes, peeked_more}
 
-module _ (capacity taken : ℕ) (v : View) (t : IsTaking capacity taken v) where
-  pub after_look : (n : ℕ) → (v.puts ≡ true → n ≡ length v.pushed) → IsTaking capacity taken (with_tail v n)
-  after_look n all = record { takes = t.takes; room = t.room; count = t.count; read = t.read; ended = all; begins = t.begins }
+-- where nothing is peeked
+pub none_peeked : (taken : ℕ) (v : View) → length v.taken ≡ taken → v.read ≡ v.taken → peeked_of taken taken v ≡ []
+none_peeked taken v count is = drop_all taken (take taken v.read) (omega (arith, length-take taken v.read))
 
-  pub after_take : (w : View) (n : ℕ) → w.takes ≡ v.takes → w.capacity ≡ v.capacity → w.puts ≡ v.puts → w.tail ≡ v.tail → w.pushed ≡ v.pushed → (w.puts ≡ true → IsPrefix w.read w.pushed) → n ≤ length w.read → IsTaking capacity n (with_taken_to w n)
-  after_take w n takes room puts tail pushed begins fits = record {
-    takes = takes ∙ t.takes;
-    room = room ∙ t.room;
-    count = sym (length-take n w.read ∙ omega arith);
-    read = refl;
-    ended = λ is. tail ∙ (t.ended (sym puts ∙ is) ∙ ap length (sym pushed));
-    begins = λ is. begins_through (take n w.read) w.read w.pushed (begins_take n w.read) (begins is);
-  }
+-- a seat that has forgotten what it read fits
+pub clean : (capacity taken word start at : ℕ) (v : View) → v.takes ≡ true → v.capacity ≡ capacity → taken ≡ length v.taken → v.read ≡ v.taken → start ≡ place capacity (taken / 4) → v.tail < 2 ^ 64
+    → (v.puts ≡ true → v.tail ≡ length v.pushed) → (v.puts ≡ true → IsPrefix v.taken v.pushed) → IsTaking capacity taken taken word start at v
+clean capacity taken word start at v takes room count read start_is fits ended begins =
+    let long = ap length read in
+    record {
+      takes = takes;
+      room = room;
+      count = count;
+      goes_on = subst (λ (z : List ℕ). IsPrefix v.taken z) (sym read) (begins_itself v.taken);
+      order = omega arith;
+      peeked = omega arith;
+      none = λ _. omega arith;
+      some = λ lt. absurd (omega arith);
+      lanes = λ i low high. absurd (omega arith);
+      start_is = start_is;
+      at_is = λ lt. absurd (omega arith);
+      fits = fits;
+      ended = ended;
+      begins = λ is. subst (λ (z : List ℕ). IsPrefix z v.pushed) (sym read) (begins is);
+    }
+
+module _ (capacity taken next word start at : ℕ) (v : View) (t : IsTaking capacity taken next word start at v) where
+  -- what was taken begins what was put, where that is known
+  pub taken_begins : v.puts ≡ true → IsPrefix v.taken v.pushed
+  taken_begins is = begins_through v.taken v.read v.pushed t.goes_on (t.begins is)
+
+  pub after_look : (n : ℕ) → n < 2 ^ 64 → (v.puts ≡ true → n ≡ length v.pushed) → IsTaking capacity taken taken word start at (with_tail v n)
+  after_look n fits all = clean capacity taken word start at (with_tail v n) t.takes t.room t.count refl t.start_is fits all taken_begins
 
   -- it is told what was pushed, which it knew where the putter was taken over
-  pub after_told : (w : View) → (v.puts ≡ true → max v.tail w.tail ≤ length v.pushed) → IsTaking capacity taken (with_note v w)
-  after_told w most = record { takes = t.takes; room = t.room; count = t.count; read = t.read; ended = λ is. (let e = t.ended is in let m = most is in omega arith); begins = t.begins }
+  pub after_told : (w : View) → w.tail < 2 ^ 64 → (v.puts ≡ true → max v.tail w.tail ≤ length v.pushed) → IsTaking capacity taken taken word start at (with_note v w)
+  after_told w fits most =
+      let mine = t.fits in
+      clean capacity taken word start at (with_note v w) t.takes t.room t.count refl t.start_is (omega arith) (λ is. (let e = t.ended is in let m = most is in omega arith)) taken_begins
 
-  pub after_end : (w : View) → max v.tail (length w.pushed) ≤ length w.pushed → IsPrefix v.taken w.pushed → IsTaking capacity taken (with_putter v w)
-  after_end w most begins = record { takes = t.takes; room = t.room; count = t.count; read = t.read; ended = λ is. omega arith; begins = λ _. begins }
+  pub after_end : (w : View) → length w.pushed < 2 ^ 64 → max v.tail (length w.pushed) ≤ length w.pushed → IsPrefix v.taken w.pushed → IsTaking capacity taken taken word start at (with_putter v w)
+  after_end w fits most begins = clean capacity taken word start at (with_putter v w) t.takes t.room t.count refl t.start_is (omega arith) (λ is. omega arith) (λ _. begins)
 
--- what is seen of a taker whose seat knows this
-abbrev pub seen_as : TableId → ℕ → View → TakerState ℕ
-seen_as ring capacity v = record { ring = ring; capacity = capacity; taken = v.taken; released = v.released; tails = v.tails; floor = v.tail; ended = v.puts; sent = v.pushed }
+  -- ---- the next number
 
--- the tail was loaded, a word was read, and the first number of it is taken
-pub took_next : (ring now : TableId) (capacity n tail x : ℕ) (old v u w : View) → now ≡ ring → v ≡ with_tail old tail → u ≡ with_read v u.read → w ≡ with_taken_to u n
-    → take n u.read ≡ old.taken ++ x ∷ [] → n ≡ length (old.taken ++ x ∷ []) → seen_as now capacity w ≡ with_taken (with_shown (seen_as ring capacity old) w.tail) (x ∷ [])
-took_next ring now capacity n tail x old v u w same v_is u_is w_is taken count =
-    let read : List ℕ = u.read in
-    let whole : w ≡ with_taken_to (with_read (with_tail old tail) read) n = w_is ∙ ap (λ (z : View). with_taken_to z n) (u_is ∙ ap (λ (z : View). with_read z read) v_is) in
-    let tail_is : w.tail ≡ tail = ap (λ z. z.tail) whole in
-    ap (seen_as now capacity) whole
-    ∙ ((λ i. record { ring = same i; capacity = capacity; taken = taken i; released = old.released ++ count i ∷ []; tails = old.tails ++ tail ∷ []; floor = tail; ended = old.puts; sent = old.pushed })
-    ∙ ap (λ (k : ℕ). with_taken (with_shown (seen_as ring capacity old) k) (x ∷ [])) (sym tail_is))
+  -- all that was read is peeked, where its word has to be loaded
+  pub used_up : (next ≡ taken) ⊎ (next % 4 ≡ 0) → length v.read ≡ next
+  used_up why = ⊎_elim
+      (λ same. (let n = t.none same in omega arith))
+      (λ whole. ⊎_elim
+      (λ lt. (let s = t.some lt in let p = t.peeked in omega arith))
+      (λ le. (let o = t.order in let n = t.none (omega arith) in omega arith))
+      (cases_lt taken next))
+      why
+
+  module _ (w : View) (n at' : ℕ) (why : (next ≡ taken) ⊎ (next % 4 ≡ 0)) (more : next < v.tail) (loaded : w ≡ with_read v (shown_of v.tail v.read n)) (longer : IsPrefix v.read w.read)
+      (pushed : v.puts ≡ true → IsPrefix w.read v.pushed) (at_is : at' ≡ place capacity (next / 4)) where
+    long : length v.read ≡ next
+    long = used_up why
+
+    read_is : w.read ≡ shown_of v.tail v.read n
+    read_is = ap (λ z. z.read) loaded
+
+    size : length w.read ≡ min v.tail (next / 4 * 4 + 4)
+    size = ap length read_is ∙ (shown_length v.tail v.read n ∙ ap (λ (k : ℕ). min v.tail (k / 4 * 4 + 4)) long)
+
+    in_lanes : HasLanes n next w.read
+    in_lanes = subst (λ (z : List ℕ). HasLanes n next z) (sym read_is) (subst (λ (k : ℕ). HasLanes n k (shown_of v.tail v.read n)) long (shown_lanes v.tail v.read n))
+
+    -- of a loaded word
+    pub after_load : IsTaking capacity taken (next + 1) n start at' w
+    after_load =
+        let order = t.order in
+        let s = size in
+        let tail : w.tail ≡ v.tail = ap (λ z. z.tail) loaded in
+        record {
+          takes = ap (λ z. z.takes) loaded ∙ t.takes;
+          room = ap (λ z. z.capacity) loaded ∙ t.room;
+          count = t.count ∙ ap (λ z. length z.taken) (sym loaded);
+          goes_on = subst (λ (z : List ℕ). IsPrefix z w.read) (ap (λ z. z.taken) (sym loaded)) (begins_through v.taken v.read w.read t.goes_on longer);
+          order = omega arith;
+          peeked = omega arith;
+          none = λ same. absurd (omega arith);
+          some = λ lt. omega arith;
+          lanes = λ i low high. in_lanes i (omega arith) high;
+          start_is = t.start_is;
+          at_is = λ lt. (let is : next + 1 - 1 ≡ next = omega arith in at_is ∙ ap (λ (k : ℕ). place capacity (k / 4)) (sym is));
+          fits = (let f = t.fits in omega arith);
+          ended = λ is. tail ∙ (t.ended (ap (λ z. z.puts) (sym loaded) ∙ is) ∙ ap (λ z. length z.pushed) (sym loaded));
+          begins = λ is. subst (λ (z : List ℕ). IsPrefix w.read z) (ap (λ z. z.pushed) (sym loaded)) (pushed (ap (λ z. z.puts) (sym loaded) ∙ is));
+        }
+
+    pub peeks_loaded : peeked_of taken (next + 1) w ≡ peeked_of taken next v ++ lane n (next % 4) ∷ []
+    peeks_loaded =
+        let s = size in
+        let here : next < length w.read = omega arith in
+        let same : take next w.read ≡ take next v.read =
+        ap (take next) (sym longer.1) ∙ (take_at v.read longer.0 next (omega (arith, long)) ∙ sym (take_all next v.read (omega (arith, long)))) in
+        peeked_more taken next w.read (lane n (next % 4)) t.order here (in_lanes next (omega arith) here) ∙ ap (λ (z : List ℕ). drop taken z ++ lane n (next % 4) ∷ []) same
+
+  module _ (some : taken < next) (inside : 0 < next % 4) (more : next < v.tail) where
+    -- of the word that was loaded before
+    here : next < length v.read
+    here = let s = t.some some in omega arith
+
+    pub after_peek : IsTaking capacity taken (next + 1) word start at v
+    after_peek =
+        let h = here in
+        let s = t.some some in
+        record {
+          takes = t.takes;
+          room = t.room;
+          count = t.count;
+          goes_on = t.goes_on;
+          order = omega arith;
+          peeked = omega arith;
+          none = λ same. absurd (omega arith);
+          some = λ lt. omega arith;
+          lanes = λ i low high. t.lanes i (omega arith) high;
+          start_is = t.start_is;
+          at_is = λ lt. (let is : (next - 1) / 4 ≡ (next + 1 - 1) / 4 = omega arith in t.at_is some ∙ ap (place capacity) is);
+          fits = t.fits;
+          ended = t.ended;
+          begins = t.begins;
+        }
+
+    pub peeks_next : peeked_of taken (next + 1) v ≡ peeked_of taken next v ++ lane word (next % 4) ∷ []
+    peeks_next = peeked_more taken next v.read (lane word (next % 4)) t.order here (t.lanes next (omega arith) here)
+
+  -- ---- the first of what was peeked is taken
+
+  module _ (head : ℕ) (low : taken ≤ head) (high : head ≤ next) where
+    pub all_to : v.taken ++ peeked_of taken head v ≡ take head v.read
+    all_to =
+        let enough = t.peeked in
+        let count = t.count in
+        let within = begins_longer v.taken (take head v.read) v.read t.goes_on (begins_take head v.read) (omega (arith, length-take head v.read)) in
+        let front : take taken (take head v.read) ≡ v.taken = ap (take taken) (sym within.1) ∙ take_at v.taken within.0 taken (omega arith) in
+        ap (λ (z : List ℕ). z ++ drop taken (take head v.read)) (sym front) ∙ take-append-drop taken (take head v.read)
+
+    pub first_peeked : (n : ℕ) → head ≡ taken + n → take n (peeked_of taken next v) ≡ peeked_of taken head v
+    first_peeked n is =
+        sym (drop-take taken n (take next v.read)) ∙ ap (drop taken) (ap (λ (k : ℕ). take k (take next v.read)) (sym is) ∙ take-take head next v.read high)
+
+    pub after_release : (start' : ℕ) → start' ≡ place capacity (head / 4) → IsTaking capacity head head word start' at (with_taken_to v head)
+    after_release start' start_is =
+        let enough = t.peeked in
+        clean capacity head word start' at (with_taken_to v head) t.takes t.room (sym (length-take head v.read ∙ omega arith)) refl start_is t.fits t.ended
+        (λ is. begins_through (take head v.read) v.read v.pushed (begins_take head v.read) (t.begins is))
+
+pub begins_seen : (t : Inside) (u : TakerState ℕ) → IsTaker t → taker_state t ≡ u → u.ended ≡ true → IsPrefix u.taken u.sent
+begins_seen t u inner e = subst (λ (z : TakerState ℕ). z.ended ≡ true → IsPrefix z.taken z.sent) e (taken_begins _ _ _ _ _ _ _ inner.taking)
+
+-- a look has shown the next number
+pub more_shown : (t : Inside) (u : TakerState ℕ) → IsTaker t → taker_state t ≡ u → length u.taken + length u.peeked < u.floor → t.next < t.seat.me.0.tail
+more_shown t u inner e lt =
+    let v = t.seat.me.0 in
+    let count = inner.taking.count in
+    let order = inner.taking.order in
+    let enough = inner.taking.peeked in
+    let cut = length-take t.next v.read in
+    let rest : length (peeked_of t.taken t.next v) ≡ t.next - t.taken = length-drop t.taken (take t.next v.read) ∙ omega arith in
+    let shown : length v.taken + length (peeked_of t.taken t.next v) < v.tail = subst (λ (z : TakerState ℕ). length z.taken + length z.peeked < z.floor) (sym e) lt in
+    omega arith
+
+-- a taker whose word has the next number, which it has read
+pub record HasRead (old new : Inside) : Type 0 where
+  pub ring : new.seat.table_id ≡ old.seat.table_id
+  pub bare : new.seat.me.1 ≡ old.seat.me.1
+  pub view : new.seat.me.0 ≡ with_read old.seat.me.0 new.seat.me.0.read
+  pub same : new ≡ record old { seat = new.seat; word = new.word; at = new.at }
+  pub taking : IsTaking old.capacity old.taken (old.next + 1) new.word old.start new.at new.seat.me.0
+  pub peeks : peeked_of old.taken (old.next + 1) new.seat.me.0 ≡ peeked_of old.taken old.next old.seat.me.0 ++ lane new.word (old.next % 4) ∷ []
+
+module _ (old new : Inside) (h : HasRead old new) where
+  pub steps_on : record new { next = old.next + 1 } ≡ record old { seat = new.seat; word = new.word; at = new.at; next = old.next + 1 }
+  steps_on = ap (λ (t : Inside). record t { next = old.next + 1 }) h.same
+
+  pub still_taker : IsTaker old → IsTaker (record new { next = old.next + 1 })
+  still_taker inner = subst IsTaker (sym steps_on) (record {
+    table = h.ring ∙ inner.table;
+    key = inner.key;
+    words = ap (λ r. r.words) h.ring ∙ inner.words;
+    small = inner.small;
+    bare = h.bare ∙ inner.bare;
+    taking = h.taking;
+  })
+
+  pub peeks_one : (u : TakerState ℕ) (x : ℕ) → taker_state old ≡ u → x ≡ lane new.word (old.next % 4) → taker_state (record new { next = old.next + 1 }) ≡ record u { peeked = u.peeked ++ x ∷ [] }
+  peeks_one u x e is =
+      let peeked = h.peeks ∙ ap (λ (z : ℕ). peeked_of old.taken old.next old.seat.me.0 ++ z ∷ []) (sym is) in
+      let v = h.view in
+      ap taker_state steps_on
+      ∙ ((λ i. record { ring = h.ring i; capacity = old.capacity; taken = ap (λ z. z.taken) v i; peeked = peeked i; released = ap (λ z. z.released) v i; tails = ap (λ z. z.tails) v i; floor = ap (λ z. z.tail) v i; ended = ap (λ z. z.puts) v i; sent = ap (λ z. z.pushed) v i })
+      ∙ ap (λ (s : TakerState ℕ). record s { peeked = s.peeked ++ x ∷ [] }) e)
+
+-- where there are some, they are taken and their head is stored
+with_some : {A : Type 0} (t : TakerState A) (xs : List A) → 0 < length xs → with_taken t xs ≡ record t { taken = t.taken ++ xs; peeked = []; released = t.released ++ length (t.taken ++ xs) ∷ [] }
+with_some t [] lt = absurd (omega arith)
+with_some t (x ∷ xs) lt = refl
+
+-- the head is stored of the first that were peeked
+module _ (old new : Inside) (n : ℕ) (inner : IsTaker old) (some : 0 < n) (high : old.taken + n ≤ old.next) (ring : new.seat.table_id ≡ old.seat.table_id) (bare : new.seat.me.1 ≡ old.seat.me.1)
+    (view : new.seat.me.0 ≡ with_taken_to old.seat.me.0 (old.taken + n)) (same : new ≡ record old { seat = new.seat; taken = old.taken + n; next = old.taken + n; start = new.start }) where
+  pub released_taker : new.start ≡ place old.capacity ((old.taken + n) / 4) → IsTaker new
+  released_taker start_is = subst IsTaker (sym same) (record {
+    table = ring ∙ inner.table;
+    key = inner.key;
+    words = ap (λ r. r.words) ring ∙ inner.words;
+    small = inner.small;
+    bare = bare ∙ inner.bare;
+    taking = subst (IsTaking old.capacity (old.taken + n) (old.taken + n) old.word new.start old.at) (sym view) (after_release _ _ _ _ _ _ _ inner.taking (old.taken + n) (omega arith) high new.start start_is);
+  })
+
+  pub released_state : (u : TakerState ℕ) → taker_state old ≡ u → taker_state new ≡ with_taken u (take n u.peeked)
+  released_state u e =
+      let v = old.seat.me.0 in
+      let w = new.seat.me.0 in
+      let head = old.taken + n in
+      let enough = inner.taking.peeked in
+      let long : length (take head v.read) ≡ head = length-take head v.read ∙ omega arith in
+      let all = all_to _ _ _ _ _ _ _ inner.taking head (omega arith) high in
+      let none : peeked_of head head w ≡ [] = none_peeked head w (ap (λ z. length z.taken) view ∙ long) (ap (λ z. z.read) view ∙ sym (ap (λ z. z.taken) view)) in
+      let first : List ℕ = peeked_of old.taken head v in
+      let first_is : take n (peeked_of old.taken old.next v) ≡ first = first_peeked _ _ _ _ _ _ _ inner.taking head (omega arith) high n refl in
+      let several : 0 < length first = omega (arith, length-drop old.taken (take head v.read)) in
+      let count : head ≡ length (v.taken ++ first) = sym long ∙ sym (ap length all) in
+      ap taker_state same
+      ∙ ((λ i. record { ring = ring i; capacity = old.capacity; taken = ap (λ z. z.taken) view i; peeked = none i; released = ap (λ z. z.released) view i; tails = ap (λ z. z.tails) view i; floor = ap (λ z. z.tail) view i; ended = ap (λ z. z.puts) view i; sent = ap (λ z. z.pushed) view i })
+      ∙ ((λ i. record { ring = old.seat.table_id; capacity = old.capacity; taken = sym all i; peeked = []; released = v.released ++ count i ∷ []; tails = v.tails; floor = v.tail; ended = v.puts; sent = v.pushed })
+      ∙ (sym (with_some (taker_state old) first several) ∙ (ap (with_taken (taker_state old)) (sym first_is) ∙ ap (λ (s : TakerState ℕ). with_taken s (take n s.peeked)) e))))
+
+-- no more are peeked than were read
+pub peeked_within : (t : Inside) (u : TakerState ℕ) (n : ℕ) → IsTaker t → taker_state t ≡ u → n ≤ length u.peeked → t.taken + n ≤ t.next
+peeked_within t u n inner e le =
+    let order = inner.taking.order in
+    let enough = inner.taking.peeked in
+    let cut = length-take t.next t.seat.me.0.read in
+    let rest : length (peeked_of t.taken t.next t.seat.me.0) ≡ t.next - t.taken = length-drop t.taken (take t.next t.seat.me.0.read) ∙ omega arith in
+    let fits : n ≤ length (peeked_of t.taken t.next t.seat.me.0) = subst (λ (z : TakerState ℕ). n ≤ length z.peeked) (sym e) le in
+    omega arith

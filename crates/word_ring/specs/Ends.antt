@@ -21,8 +21,9 @@ pub record PutterState (A : Type 0) : Type 0 where
 pub record TakerState (A : Type 0) : Type 0 where
   pub ring : TableId
   pub capacity : ℕ
-  -- all that was taken, the oldest first
+  -- all that was taken, the oldest first, and what was peeked after it and is not yet released
   pub taken : List A
+  pub peeked : List A
   -- the heads that were stored
   pub released : List ℕ
   -- the tails that were loaded: how many were pushed at each
@@ -57,11 +58,11 @@ AreReleased released heads = All (λ h. (h ≡ 0) ⊎ Contains released h) heads
 abbrev pub with_loaded : {A : Type 0} → PutterState A → ℕ → PutterState A
 with_loaded p head = record p { heads = p.heads ++ head ∷ []; floor = head }
 
--- one more tail was loaded
+-- one more tail was loaded, and what was peeked is forgotten
 abbrev pub with_shown : {A : Type 0} → TakerState A → ℕ → TakerState A
-with_shown t tail = record t { tails = t.tails ++ tail ∷ []; floor = tail }
+with_shown t tail = record t { peeked = []; tails = t.tails ++ tail ∷ []; floor = tail }
 
 -- some were taken; where there were any, the head was stored
 abbrev pub with_taken : {A : Type 0} → TakerState A → List A → TakerState A
 with_taken t [] = t
-with_taken t (x ∷ xs) = record t { taken = t.taken ++ x ∷ xs; released = t.released ++ length (t.taken ++ x ∷ xs) ∷ [] }
+with_taken t (x ∷ xs) = record t { taken = t.taken ++ x ∷ xs; peeked = []; released = t.released ++ length (t.taken ++ x ∷ xs) ∷ [] }

@@ -1,5 +1,5 @@
 -- Four numbers of 16 bits in one word of 64.
-use Rattle.std.specs.Prelude.{ℕ, zero, suc, ◌*◌, ◌/◌, ◌%◌, ◌^◌, List, [], ◌∷◌, ◌++◌, length, take}
+use Rattle.std.specs.Prelude.{ℕ, zero, suc, ◌-◌, ◌*◌, ◌/◌, ◌%◌, ◌^◌, List, [], ◌∷◌, ◌++◌, length, take}
 
 -- the number in a lane of a word
 unfoldable pub lane : ℕ → ℕ → ℕ
@@ -9,6 +9,10 @@ lane word l = word / 65536 ^ l % 65536
 abbrev pub lanes : ℕ → ℕ → List ℕ
 lanes word zero = []
 lanes word (suc l) = lanes word l ++ lane word l ∷ []
+
+-- the numbers in the last lanes of a word
+abbrev pub top_lanes : ℕ → ℕ → List ℕ
+top_lanes word k = lanes (word / 65536 ^ (4 - k)) k
 
 -- the part of a list that fills whole words
 abbrev pub whole_words : List ℕ → List ℕ

@@ -26,8 +26,9 @@ with_written v xs = record v { written = xs }
 abbrev pub with_all_pushed : View → View
 with_all_pushed v = record v { pushed = v.written }
 
+-- what was read beyond what was taken is forgotten
 abbrev pub with_tail : View → ℕ → View
-with_tail v n = record v { tails = v.tails ++ n ∷ []; tail = n }
+with_tail v n = record v { read = v.taken; tails = v.tails ++ n ∷ []; tail = n }
 
 abbrev pub with_read : View → List ℕ → View
 with_read v xs = record v { read = xs }
@@ -79,12 +80,13 @@ note_of v = record blank_view { noted = v.pushed; noted_heads = v.heads; tail = 
 abbrev pub head_note_of : View → View
 head_note_of v = record blank_view { head = length v.taken }
 
+-- what was read beyond what was taken is forgotten
 abbrev pub with_note : View → View → View
-with_note v w = record v { noted = w.noted; noted_heads = w.noted_heads; tail = max v.tail w.tail }
+with_note v w = record v { read = v.taken; noted = w.noted; noted_heads = w.noted_heads; tail = max v.tail w.tail }
 
 abbrev pub with_head_note : View → View → View
 with_head_note v w = record v { head = max v.head w.head }
 
--- the taker takes over the putter's seat
+-- the taker takes over the putter's seat, and what was read beyond what was taken is forgotten
 abbrev pub with_putter : View → View → View
-with_putter v w = record v { puts = true; written = w.written; pushed = w.pushed; heads = w.heads; tail = max v.tail (length w.pushed) }
+with_putter v w = record v { puts = true; written = w.written; pushed = w.pushed; heads = w.heads; read = v.taken; tail = max v.tail (length w.pushed) }

@@ -1,5 +1,5 @@
 -- What a putter and its note have, and how contracts see them.
-use Rattle.std.specs.Prelude.{◌≡◌, ℕ, ◌+◌, ◌/◌, ◌%◌, ◌≤◌, true, List, [], ◌++◌, length, All}
+use Rattle.std.specs.Prelude.{◌≡◌, ℕ, ◌+◌, ◌/◌, ◌%◌, ◌^◌, ◌<◌, ◌≤◌, true, List, [], ◌++◌, length, All}
 use Rattle.std.specs.List.Sorted.{IsNonDecreasing}
 use Rattle.std.specs.Arc.{arc_value}
 use mathlib.Core.List.{IsPrefix}
@@ -7,11 +7,12 @@ use Rattle.word_ring.specs.declared.putter.Note.TheInside.{Inside as NoteInside}
 use Rattle.word_ring.specs.declared.putter.Putter.TheInside.{Inside}
 use Rattle.word_ring.specs.declared.table.View.{View}
 use Rattle.word_ring.specs.Ends.{PutterState, NoteState}
-use Rattle.word_ring.specs.Lanes.{lanes, whole_words}
+use Rattle.word_ring.specs.Rule.{place}
+use Rattle.word_ring.specs.Lanes.{top_lanes, whole_words}
 
--- the numbers of the words before the last, and those in its lanes
+-- the numbers of the words before the last, and those in its last lanes
 abbrev pub sent_of : ℕ → ℕ → View → List ℕ
-sent_of sent word v = whole_words v.written ++ lanes word (sent % 4)
+sent_of sent word v = whole_words v.written ++ top_lanes word (sent % 4)
 
 abbrev pub putter_state : Inside → PutterState ℕ
 putter_state p = record {
@@ -39,6 +40,7 @@ pub record IsPutter (p : Inside) : Type 0 where
   pub key : (arc_value p.board).shared.key ≡ p.capacity
   pub words : p.seat.table_id.words ≡ p.capacity / 4 + 4
   pub small : p.capacity ≤ 65536
+  pub at : p.at ≡ place p.capacity (p.sent / 4)
   pub bare : p.seat.me.1 ≡ []
   pub putting : IsPutting p.capacity p.sent p.word p.seat.me.0
 
@@ -48,3 +50,4 @@ note_state n = record { ring = n.seat.table_id; pushed = n.seat.me.0.noted; head
 pub record IsNote (n : NoteInside) : Type 0 where
   pub bare : n.seat.me.1 ≡ []
   pub tail : n.seat.me.0.tail ≡ length n.seat.me.0.noted
+  pub fits : n.seat.me.0.tail < 2 ^ 64

@@ -2,7 +2,8 @@
 //! waits, and nothing but making it asks for memory.
 //!
 //! Four numbers share a word of 64 bits. The putter stores a word once for each four numbers and
-//! at a push, and the tail at a push; the taker stores the head once for each take.
+//! at a push, and the tail at a push; the taker loads a word once for each four numbers that it
+//! peeks, and stores the head once for all of them.
 #![tactic(auto)]
 
 mod lanes;

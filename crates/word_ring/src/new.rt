@@ -12,7 +12,7 @@ use tty_base::NoMemory;
 pub fn ring(alloc: Global, n: usize) -> Result<(Putter, Taker), NoMemory>
     requires { (0 < n) × (n ≤ 65536) }
     ensures putter { IfOk result (λ e. e.0 ≡ record { ring = e.1.ring; capacity = n; sent = []; pushed = []; heads = []; floor = 0 }) }
-    ensures taker { IfOk result (λ e. e.1 ≡ record { ring = e.1.ring; capacity = n; taken = []; released = []; tails = []; floor = 0; ended = false; sent = [] }) }
+    ensures taker { IfOk result (λ e. e.1 ≡ record { ring = e.1.ring; capacity = n; taken = []; peeked = []; released = []; tails = []; floor = 0; ended = false; sent = [] }) }
 {
     let capacity = n as u64;
     let words = vec![in alloc; 0u64; n / 4 + 4]?;
@@ -26,12 +26,17 @@ pub fn ring(alloc: Global, n: usize) -> Result<(Putter, Taker), NoMemory>
         capacity,
         sent: 0,
         word: 0,
+        at: 2,
     };
     let taker = Taker {
         board: shared,
         seat: other,
         capacity,
         taken: 0,
+        next: 0,
+        word: 0,
+        start: 2,
+        at: 2,
     };
     Ok((putter, taker))
 }

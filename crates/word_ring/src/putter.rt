@@ -3,8 +3,8 @@ ghost use Rattle.std.specs.Prelude.{◌≡◌, ◌+◌, ◌<◌, ◌≤◌, ◌^
 ghost use Rattle.std.specs.List.Sorted.{IsNonDecreasing};
 ghost use Rattle.word_ring.specs.Ends.{with_loaded};
 
-use crate::lanes::with_lane;
-use crate::steps::{store_lanes, word_of};
+use crate::lanes::with_next;
+use crate::steps::{place_after, store_lanes};
 use crate::table::{Board, HEAD, HeadNoted, LoadHead, Noted, Place, StoreTail, TAIL};
 use crate::taker::HeadNote;
 use std::alloc::Global;
@@ -19,8 +19,10 @@ pub struct Putter {
     pub(crate) seat: Place,
     pub(crate) capacity: u64,
     pub(crate) sent: u64,
-    /// The word of the last numbers put, in its lanes below `sent % 4`.
+    /// The last numbers put, `sent % 4` of them, in its last lanes.
     pub(crate) word: u64,
+    /// The place of the word that has the next number.
+    pub(crate) at: usize,
 }
 
 impl Model for Putter {
@@ -60,11 +62,29 @@ impl Moves for Putter {}
 impl Moves for Note {}
 
 impl Putter {
+    /// How many numbers the ring has room for.
+    pub fn capacity(&self) -> u64
+        ensures { result ≡ self.now.capacity }
+    {
+        self.capacity
+    }
+
     /// How many numbers were put.
     pub fn sent(&self) -> u64
         ensures { result ≡ length self.now.sent }
     {
         self.sent
+    }
+
+    /// How many numbers were put and, by the head that this call loads, not taken.
+    pub fn waiting(&mut self) -> u64
+        ensures same { self.new ≡ with_loaded self.old self.new.floor }
+        ensures count { result + self.new.floor ≡ length self.old.sent }
+        ensures rises { (self.old.floor ≤ self.new.floor) × (self.new.floor ≤ length self.old.pushed) }
+        ensures rise { IsNonDecreasing self.new.heads }
+    {
+        let head = self.board.shared.load::<LoadHead>(&mut self.seat, HEAD);
+        self.sent - head
     }
 
     /// Puts a number. `Full` says how many were put and how many of these were taken, at the head
@@ -85,18 +105,13 @@ impl Putter {
         if sent - seen == self.capacity {
             return Err(Full { sent, seen });
         }
-        self.word = with_lane(self.word, sent % 4, x);
+        self.word = with_next(self.word, x);
         self.sent = sent + 1;
         if sent % 4 < 3 {
             return Ok(());
         }
-        store_lanes(
-            &self.board.shared,
-            &mut self.seat,
-            word_of(self.capacity, sent / 4),
-            self.word,
-            4,
-        );
+        store_lanes(&self.board.shared, &mut self.seat, self.at, self.word, 4);
+        self.at = place_after(self.capacity, sent + 1, self.at);
         Ok(())
     }
 
@@ -108,7 +123,7 @@ impl Putter {
         store_lanes(
             &self.board.shared,
             &mut self.seat,
-            word_of(self.capacity, self.sent / 4),
+            self.at,
             self.word,
             self.sent % 4,
         );
@@ -135,6 +150,7 @@ impl Putter {
         requires { note.ring ≡ self.old.ring }
         ensures same { self.new ≡ with_loaded self.old self.new.floor }
         ensures rises { (self.old.floor ≤ self.new.floor) × (note.taken ≤ self.new.floor) × (self.new.floor ≤ length self.old.pushed) }
+        ensures within { length self.old.pushed ≤ length self.old.sent }
         ensures rise { IsNonDecreasing self.new.heads }
     {
         let HeadNote { seat } = note;

@@ -1,70 +1,81 @@
-//! Stores and loads of many numbers.
-ghost use Rattle.std.specs.Prelude.{◌≡◌, ℕ, ◌+◌, ◌-◌, ◌/◌, ◌^◌, ◌<◌, ◌≤◌, true, List, ◌++◌, length, take};
+//! Where words stand, and stores of a word.
+ghost use Rattle.std.specs.Prelude.{◌≡◌, ℕ, ◌+◌, ◌-◌, ◌/◌, ◌%◌, ◌<◌, ◌≤◌, true, ◌++◌, length, IfSome, IsNone};
+ghost use Rattle.std.proofs.Common.{◌⊎◌};
 ghost use mathlib.Core.List.{IsPrefix};
-ghost use Rattle.arrayvec.specs.ArrayVec.{array_vec_len};
-ghost use Rattle.word_ring.specs.Lanes.{lanes, whole_words};
-ghost use Rattle.word_ring.specs.Plays.{with_written, with_read};
+ghost use Rattle.word_ring.specs.Lanes.{top_lanes, whole_words};
+ghost use Rattle.word_ring.specs.Plays.{with_written};
 ghost use Rattle.word_ring.specs.Rule.{place};
 
-use crate::lanes::add_lanes;
-use crate::table::{LoadLanes, Place, Steps, StoreLanes};
-use arrayvec::ArrayVec;
+use crate::table::{Place, Steps, StoreLanes};
 
-/// The word that has a group of four numbers.
-pub(crate) fn word_of(capacity: u64, group: u64) -> usize
-    requires { capacity ≤ 65536 }
-    ensures { result ≡ place capacity group }
+/// The place of the word that has number `next`, where the number before it is in the word at `at`.
+pub(crate) fn place_after(capacity: u64, next: u64, at: usize) -> usize
+    requires { (capacity ≤ 65536) × (0 < next) × (at ≡ place capacity ((next - 1) / 4)) }
+    ensures { result ≡ place capacity (next / 4) }
 {
-    (2 + group % (capacity / 4 + 2)) as usize
+    if next % 4 != 0 {
+        at
+    } else if at < (capacity / 4 + 3) as usize {
+        at + 1
+    } else {
+        2
+    }
 }
 
-/// Stores the word that has the last numbers put, with so many lanes. Where it has none there is
+/// The place of the word that has number `head`, not after `next`, where the number before `next` is in
+/// the word at `at`.
+pub(crate) fn place_of_head(capacity: u64, head: u64, next: u64, at: usize) -> usize
+    requires { (capacity ≤ 65536) × (0 < next) × (at ≡ place capacity ((next - 1) / 4)) }
+    ensures { result ≡ place capacity (head / 4) }
+{
+    if head == next {
+        place_after(capacity, next, at)
+    } else {
+        (2 + head / 4 % (capacity / 4 + 2)) as usize
+    }
+}
+
+/// The place of the word that has number `next`, unless it was loaded with the number before.
+pub(crate) fn place_to_load(
+    capacity: u64,
+    taken: u64,
+    next: u64,
+    start: usize,
+    at: usize,
+) -> Option<usize>
+    requires small { capacity ≤ 65536 }
+    requires order { taken ≤ next }
+    requires start { start ≡ place capacity (taken / 4) }
+    requires at { taken < next → at ≡ place capacity ((next - 1) / 4) }
+    ensures load { IfSome result (λ p. (p ≡ place capacity (next / 4)) × ((next ≡ taken) ⊎ (next % 4 ≡ 0))) }
+    ensures there { IsNone result → (taken < next) × (0 < next % 4) }
+{
+    if next == taken {
+        return Some(start);
+    }
+    if next % 4 == 0 {
+        return Some(place_after(capacity, next, at));
+    }
+    None
+}
+
+/// Stores the word in whose last lanes are the last numbers put, so many. Where it has none there is
 /// nothing to store.
 pub(crate) fn store_lanes(steps: &Steps, seat: &mut Place, at: usize, word: u64, count: u64)
     requires seat { (seat.old.table_id ≡ steps.now.table_id) × (seat.old.me.0.puts ≡ true) }
     requires words { (1 < at) × (at < steps.now.table_id.words) }
     requires at { at ≡ place seat.old.me.0.capacity (length seat.old.me.0.written / 4) }
     requires count { count ≤ 4 }
-    requires begins { IsPrefix seat.old.me.0.written (whole_words seat.old.me.0.written ++ lanes word count) }
-    requires fits { length (whole_words seat.old.me.0.written ++ lanes word count) ≤ seat.old.me.0.head + seat.old.me.0.capacity }
+    requires begins { IsPrefix seat.old.me.0.written (whole_words seat.old.me.0.written ++ top_lanes word count) }
+    requires fits { length (whole_words seat.old.me.0.written ++ top_lanes word count) ≤ seat.old.me.0.head + seat.old.me.0.capacity }
     ensures same { (seat.new.table_id ≡ seat.old.table_id) × (seat.new.id ≡ seat.old.id) × (seat.new.me.1 ≡ seat.old.me.1) }
-    ensures stored { seat.new.me.0 ≡ with_written seat.old.me.0 (whole_words seat.old.me.0.written ++ lanes word count) }
+    ensures stored { seat.new.me.0 ≡ with_written seat.old.me.0 (whole_words seat.old.me.0.written ++ top_lanes word count) }
 {
     match count {
         0 => {}
-        1 => steps.store::<StoreLanes<1>>(seat, at, word),
-        2 => steps.store::<StoreLanes<2>>(seat, at, word),
-        3 => steps.store::<StoreLanes<3>>(seat, at, word),
+        1 => steps.store::<StoreLanes<1>>(seat, at, word / 281474976710656),
+        2 => steps.store::<StoreLanes<2>>(seat, at, word / 4294967296),
+        3 => steps.store::<StoreLanes<3>>(seat, at, word / 65536),
         _ => steps.store::<StoreLanes<4>>(seat, at, word),
-    }
-}
-
-/// Reads so many numbers after those that were taken.
-pub(crate) fn read(
-    steps: &Steps,
-    seat: &mut Place,
-    from: u64,
-    count: u64,
-    capacity: u64,
-    out: &mut ArrayVec<u16, 64>,
-)
-    requires seat { (seat.old.table_id ≡ steps.now.table_id) × (seat.old.me.0.takes ≡ true) }
-    requires words { (steps.now.table_id.words ≡ capacity / 4 + 4) × (capacity ≤ 65536) × (seat.old.me.0.capacity ≡ capacity) }
-    requires start { (from ≡ length seat.old.me.0.taken) × (seat.old.me.0.read ≡ seat.old.me.0.taken) }
-    requires shown { from + count ≤ seat.old.me.0.tail }
-    requires ended { seat.old.me.0.puts ≡ true → IsPrefix seat.old.me.0.read seat.old.me.0.pushed }
-    requires range { from + count < 2 ^ 64 }
-    requires room { array_vec_len out.old + count ≤ 64 }
-    ensures same { (seat.new.table_id ≡ seat.old.table_id) × (seat.new.id ≡ seat.old.id) × (seat.new.me.1 ≡ seat.old.me.1) × (seat.new.me.0 ≡ with_read seat.old.me.0 seat.new.me.0.read) }
-    ensures reads { (xs : List ℕ) × (length xs ≡ count) × (out.new.items ≡ out.old.items ++ xs) × (take (from + count) seat.new.me.0.read ≡ seat.old.me.0.taken ++ xs) × (from + count ≤ length seat.new.me.0.read) }
-    ensures ended { seat.old.me.0.puts ≡ true → IsPrefix seat.new.me.0.read seat.old.me.0.pushed }
-{
-    let mut done = 0;
-    while done < count {
-        let lane = (from + done) % 4;
-        let more = (4 - lane).min(count - done);
-        let word = steps.load::<LoadLanes>(seat, word_of(capacity, (from + done) / 4));
-        add_lanes(word, lane, lane + more, out);
-        done += more;
     }
 }

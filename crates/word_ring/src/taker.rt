@@ -1,12 +1,12 @@
 //! The end that takes numbers out, and its notes.
-ghost use Rattle.std.specs.Prelude.{◌≡◌, ℕ, ◌+◌, ◌-◌, ◌<◌, ◌≤◌, true, List, [], ◌∷◌, ◌++◌, length, min, max, All};
+ghost use Rattle.std.specs.Prelude.{◌≡◌, ℕ, ◌+◌, ◌-◌, ◌<◌, ◌≤◌, true, List, [], ◌∷◌, ◌++◌, length, take, min, max, All};
 ghost use mathlib.Core.List.{IsPrefix};
 ghost use Rattle.arrayvec.specs.ArrayVec.{array_vec_len};
 ghost use Rattle.word_ring.specs.Ends.{IsOneWithin, AreReleased, with_shown, with_taken};
 
 use crate::lanes::lane_of;
 use crate::putter::{Note, Putter};
-use crate::steps::{read, word_of};
+use crate::steps::{place_of_head, place_to_load};
 use crate::table::{
     Board, Compare, Ended, HEAD, HeadNoted, LoadLanes, LoadTail, Noted, Place, StoreHead, TAIL,
 };
@@ -23,6 +23,14 @@ pub struct Taker {
     pub(crate) seat: Place,
     pub(crate) capacity: u64,
     pub(crate) taken: u64,
+    /// How many numbers were taken or are peeked.
+    pub(crate) next: u64,
+    /// The word that has the latest number that was peeked.
+    pub(crate) word: u64,
+    /// The place of the word that has the first number not taken.
+    pub(crate) start: usize,
+    /// The place of the word that has the latest number that was peeked.
+    pub(crate) at: usize,
 }
 
 impl Model for Taker {
@@ -80,10 +88,10 @@ impl Taker {
     }
 
     /// Is told what the putter had pushed, and the heads that it had loaded. From then on each tail
-    /// counts at least that.
+    /// counts at least that. What was peeked is forgotten.
     pub fn meet(&mut self, note: Note)
         requires { note.ring ≡ self.old.ring }
-        ensures same { self.new ≡ record self.old { floor = max self.old.floor (length note.pushed) } }
+        ensures same { self.new ≡ record self.old { peeked = []; floor = max self.old.floor (length note.pushed) } }
         ensures compared { IsOneWithin self.old.taken note.pushed }
         ensures heads { AreReleased self.old.released note.heads × All (λ h. h ≤ length self.old.taken) note.heads }
     {
@@ -91,9 +99,10 @@ impl Taker {
         let shared = &self.board.shared;
         shared.join_seat::<Noted>(&mut self.seat, seat);
         shared.load::<Compare>(&mut self.seat, HEAD);
+        self.next = self.taken;
     }
 
-    /// How many numbers can be taken, by the tail that this call loads.
+    /// How many numbers can be taken, by the tail that this call loads. What was peeked is forgotten.
     pub fn look(&mut self) -> usize
         ensures same { self.new ≡ with_shown self.old self.new.floor }
         ensures count { length self.old.taken + result ≡ self.new.floor }
@@ -103,7 +112,43 @@ impl Taker {
         ensures begins { self.old.ended ≡ true → IsPrefix self.old.taken self.old.sent }
     {
         let tail = self.board.shared.load::<LoadTail>(&mut self.seat, TAIL);
+        self.next = self.taken;
         (tail - self.taken) as usize
+    }
+
+    /// The next number after those that were taken or peeked, which a look or a note has shown. It stays
+    /// in the ring until it is released.
+    pub fn peek_next(&mut self) -> u16
+        requires { length self.old.taken + length self.old.peeked < self.old.floor }
+        ensures { self.new ≡ record self.old { peeked = self.old.peeked ++ result ∷ [] } }
+    {
+        let next = self.next;
+        if let Some(at) = place_to_load(self.capacity, self.taken, next, self.start, self.at) {
+            self.word = self.board.shared.load::<LoadLanes>(&mut self.seat, at);
+            self.at = at;
+        }
+        self.next = next + 1;
+        lane_of(self.word, next % 4)
+    }
+
+    /// Takes the first `n` numbers that were peeked, by one store of the head, and the others are
+    /// forgotten. Where `n` is 0 nothing changes.
+    pub fn release(&mut self, n: usize)
+        requires { n ≤ length self.old.peeked }
+        ensures same { self.new ≡ with_taken self.old (take n self.old.peeked) }
+        ensures begins { self.old.ended ≡ true → IsPrefix self.new.taken self.old.sent }
+    {
+        let taken = self.taken;
+        if n == 0 {
+            return;
+        }
+        let head = taken + n as u64;
+        self.board
+            .shared
+            .store::<StoreHead>(&mut self.seat, HEAD, head);
+        self.start = place_of_head(self.capacity, head, self.next, self.at);
+        self.taken = head;
+        self.next = head;
     }
 
     /// Takes the oldest numbers, at most so many and no more than the tail that this call loads
@@ -117,50 +162,20 @@ impl Taker {
         ensures ended { self.old.ended ≡ true → self.new.floor ≡ length self.old.sent }
         ensures begins { self.old.ended ≡ true → IsPrefix self.new.taken self.old.sent }
     {
-        let tail = self.board.shared.load::<LoadTail>(&mut self.seat, TAIL);
-        let count = (tail - self.taken).min(most as u64);
-        if count == 0 {
-            return 0;
+        let count = self.look().min(most);
+        for _ in 0..count {
+            out.push(self.peek_next());
         }
-        let head = self.taken + count;
-        let shared = &self.board.shared;
-        read(
-            shared,
-            &mut self.seat,
-            self.taken,
-            count,
-            self.capacity,
-            out,
-        );
-        shared.store::<StoreHead>(&mut self.seat, HEAD, head);
-        self.taken = head;
-        count as usize
-    }
-
-    /// Takes the next number, which a look has shown.
-    pub fn take_next(&mut self) -> u16
-        requires { length self.old.taken < self.old.floor }
-        ensures moves { self.new ≡ with_taken (with_shown self.old self.new.floor) (result ∷ []) }
-        ensures rises { self.old.floor ≤ self.new.floor }
-        ensures most { self.new.floor ≤ length self.old.taken + self.old.capacity }
-        ensures ended { self.old.ended ≡ true → self.new.floor ≡ length self.old.sent }
-        ensures begins { self.old.ended ≡ true → IsPrefix self.new.taken self.old.sent }
-    {
-        let shared = &self.board.shared;
-        shared.load::<LoadTail>(&mut self.seat, TAIL);
-        let at = self.taken;
-        let word = shared.load::<LoadLanes>(&mut self.seat, word_of(self.capacity, at / 4));
-        shared.store::<StoreHead>(&mut self.seat, HEAD, at + 1);
-        self.taken = at + 1;
-        lane_of(word, at % 4)
+        self.release(count);
+        count
     }
 
     /// Takes over the putter, which first pushes, and answers how many numbers were put. From then on
-    /// each tail counts these.
+    /// each tail counts these. What was peeked is forgotten.
     pub fn finish(&mut self, putter: Putter) -> u64
         requires { putter.ring ≡ self.old.ring }
         ensures sent { result ≡ length putter.sent }
-        ensures same { self.new ≡ record self.old { floor = length putter.sent; ended = true; sent = putter.sent } }
+        ensures same { self.new ≡ record self.old { peeked = []; floor = length putter.sent; ended = true; sent = putter.sent } }
         ensures compared { IsPrefix self.old.taken putter.sent }
         ensures heads { AreReleased self.old.released putter.heads }
         ensures floor { self.old.floor ≤ length putter.sent }
@@ -174,10 +189,12 @@ impl Taker {
             capacity: _,
             sent: _,
             word: _,
+            at: _,
         } = putter;
         let shared = &self.board.shared;
         shared.join_seat::<Ended>(&mut self.seat, seat);
         shared.load::<Compare>(&mut self.seat, HEAD);
+        self.next = self.taken;
         sent
     }
 }

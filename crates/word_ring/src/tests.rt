@@ -106,7 +106,9 @@ fn ring_of_two(rt: HostRuntime) -> Result<(), Fail> {
     assert_eq!(rt; taker.look(), 0);
     putter.push();
     assert_eq!(rt; taker.look(), 1);
-    assert_eq!(rt; taker.take_next(), 7);
+    assert_eq!(rt; taker.peek_next(), 7);
+    taker.release(1);
+    assert_eq!(rt; taker.taken(), 3);
     Ok(())
 }
 

@@ -154,6 +154,7 @@ impl Terminal {
         }
     }
 
+    #[inline(always)]
     fn write(&mut self, caller: u16, handle: Option<HandleState>, bytes: &[u8]) -> Met
         requires known { caller < length self.old.terminal.callers }
         requires short { length bytes.now < 2 ^ 32 }
@@ -467,6 +468,7 @@ impl Terminal {
     }
 
     /// Makes a call of a caller, without the rule for ixoff after it.
+    #[inline(always)]
     pub(super) fn act(&mut self, caller: u16, call: &Call, room: Room) -> Met
         requires known { caller < length self.old.terminal.callers }
         requires number { handle_of (call_of call.now) < 32 }
@@ -500,6 +502,7 @@ impl Terminal {
     }
 
     /// The calls on modes and disciplines.
+    #[inline(always)]
     fn act_on_modes(&mut self, caller: u16, call: &Call, room: Room) -> Met
         requires known { caller < length self.old.terminal.callers }
         requires number { handle_of (call_of call.now) < 32 }

@@ -124,6 +124,7 @@ impl Terminal {
     }
 
     /// What a call needs beside the terminal. It is made before the call, which then takes no memory.
+    #[inline(always)]
     pub fn make_room(&self, alloc: Global, call: &Call) -> Result<Room, NoMemory>
         ensures { IfOk result (λ room. IsRoomFor self.now.terminal (call_of call.now) room) }
     {
@@ -206,6 +207,7 @@ impl Terminal {
     }
 
     /// Whether a call of a caller must wait.
+    #[inline(always)]
     pub fn must_wait(&self, caller: u16, call: &Call) -> bool
         requires known { caller < length self.now.terminal.callers }
         requires number { handle_of (call_of call.now) < 32 }
@@ -237,6 +239,7 @@ impl Terminal {
     }
 
     /// Whether what waits in the flip buffer is dropped with the answer to a call.
+    #[inline(always)]
     pub fn drops(&self, caller: u16, call: &Call) -> bool
         requires known { caller < length self.now.terminal.callers }
         requires number { handle_of (call_of call.now) < 32 }

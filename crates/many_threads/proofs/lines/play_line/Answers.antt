@@ -1,15 +1,22 @@
-use Rattle.std.proofs.Common.{◌+◌, rules}
+use Rattle.std.proofs.Common.{◌+◌, ◌≤◌, length, subst, sym}
+use Rattle.port_cell.specs.Knowledge.{list_seen}
+use Rattle.tty_port.specs.Seen.{marks_at}
 use Rattle.tty_port.specs.Shared.{name_of_port}
+use Rattle.tty_port.specs.Calls.{PortSeat}
+use Rattle.tty_port.specs.Lines.{MakesOne, EndsLine}
 use Rattle.tty_port.proofs.Outcomes.{on_ok}
-use Rattle.many_threads.specs.Parts.{RunsLine}
 use Rattle.many_threads.proofs.PartLemmas.{puts_more, line_plays}
 use Rattle.many_threads.proofs.lines.play_line.Goals as goal
 
 pub line_end-requires-clause-sent : goal.line_end-requires-clause-sent
-line_end-requires-clause-sent g c = let h = c.requires.done in puts_more _ _ _ _ _ _ _ _ _ _ c.requires.sent (c.run.ensures.hands_over h.0 h.1)
+line_end-requires-clause-sent g c =
+    let h = c.requires.done in
+    let sent = subst (λ (s : PortSeat). (marks_at (list_seen s)).sent ≤ length c.args.putter.now.sent) (sym c.send.ensures.seat) c.requires.sent in
+    puts_more _ _ _ _ _ _ _ _ _ _ sent (c.send.ensures.runs.hands_over h.0 h.1)
 
 pub returns-clause-ok : goal.returns-clause-ok
 returns-clause-ok g c =
     let n = (name_of_port c.args.shared.now).callers + 1 in
-    let runs : RunsLine c.args.steps.now c.args.line.now c.run.new.self c.args.putter.now c.run.new.put = search rules in
-    on_ok c.line_end.result _ _ (λ one. line_plays n c.args.steps.now c.args.line.now c.run.new.self c.args.putter.now c.run.new.put c.line_end.new.putter c.args.seat.now c.line_end.new.seat c.requires.seat.number runs one) c.line_end.ensures.ok
+    on_ok c.line_end.result _ _ (λ one.
+    line_plays n c.args.steps.now c.args.line.now c.send.new.line c.args.putter.now c.send.new.putter c.line_end.new.putter c.args.seat.now c.line_end.new.seat c.requires.seat.number c.send.ensures.runs
+    (subst (λ (s : PortSeat). MakesOne (EndsLine n c.send.new.putter c.line_end.new.putter) s c.line_end.new.seat) c.send.ensures.seat one)) c.line_end.ensures.ok

@@ -3,6 +3,6 @@ use Rattle.line_store.specs.Unread.{end_count}
 use Rattle.n_tty.proofs.StoringLemmas.{end_count-with_plain}
 use Rattle.n_tty.proofs.storing.end_with_eof.Goals as goal
 
-pub end_line-requires-clause-room : goal.end_line-requires-clause-room
-end_line-requires-clause-room c =
-    omega (arith, ap end_count c.push_all.ensures, end_count-with_plain c.args.store.now c.bytes.result.now)
+pub end_line-requires : goal.end_line-requires
+end_line-requires c =
+    omega (arith, ap end_count c.append.ensures, end_count-with_plain c.args.store.now c.bytes.result.now)

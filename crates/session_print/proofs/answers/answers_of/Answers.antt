@@ -1,4 +1,7 @@
 use Rattle.std.proofs.Common.{◌∙◌, ap}
+use Rattle.std.proofs.lemmas.List.{take_all}
+use Rattle.tty_calls.specs.Plain.{entries_of}
+use Rattle.session_print.specs.Report.{answer_in}
 use Rattle.session_print.specs.Printing.{noted_answer}
 use Rattle.session_print.proofs.Answering.{none_told, some_told}
 use Rattle.session_print.proofs.answers.answers_of.Goals as goal
@@ -14,3 +17,8 @@ loop-entry-preserved c =
           ap (λ answers. noted_answer answers n step) w.answers-is
           ∙ none_told c.loop-entry.answers c.args.entries.now c.loop-entry.entry-index c.entry-item.result c.loop-entry-test.true c.entry-item.is w.in_default.ensures c.loop-entry.invariant n step
     ]
+
+pub returns : goal.returns
+returns c = λ n step.
+    c.loop-entry.invariant n step
+    ∙ ap (λ es. answer_in (entries_of es) n step) (take_all c.loop-entry.entry-index c.args.entries.now c.loop-entry-test.false)

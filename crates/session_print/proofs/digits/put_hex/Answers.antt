@@ -1,4 +1,4 @@
-use Rattle.std.proofs.Common.{string_bytes, arith}
+use Rattle.std.proofs.Common.{string_bytes}
 use Rattle.session_print.proofs.Pieces.{hex_more, hex_all}
 use Rattle.session_print.proofs.digits.put_hex.Goals as goal
 

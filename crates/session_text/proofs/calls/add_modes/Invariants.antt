@@ -5,7 +5,7 @@ use Rattle.text_lines.specs.Lines.{words_of}
 use Rattle.session_text.proofs.calls.add_modes.Given as goal
 
 abbrev pub invariant-loop-word : goal.invariant-loop-word
-invariant-loop-word l = l.modes.items ++ filter_map mode_in (words_of l.rest) ≡ l.fn.modes.items ++ filter_map mode_in (words_of l.arguments)
+invariant-loop-word l = l.modes.items ++ filter_map mode_in (words_of l.rest) ≡ l.fn.modes.items ++ filter_map mode_in (words_of l.line)
 
 abbrev pub decreases-loop-word : goal.decreases-loop-word
 decreases-loop-word l = length l.rest

@@ -1,6 +1,6 @@
 use Rattle.std.proofs.Common.{◌+◌, ap, sym, ◌∙◌, arith, length, take, ◌∷◌}
 use Rattle.std.proofs.lemmas.List.{take_rest, drop_all}
-use Rattle.text_lines.specs.Lines.{is_newline, lines_of}
+use Rattle.text_lines.specs.Lines.{lines_of}
 use Rattle.text_lines.proofs.Splits.{line_cut, line_whole}
 use Rattle.text_lines.proofs.lines.split_line.Goals as goal
 

@@ -1,16 +1,15 @@
-use Rattle.std.proofs.Common.{◌≡◌, ◌∙◌, Some, eqb, sym, ap, lit<}
-use Rattle.std.specs.List.{before_first, after_first}
-use Rattle.std.proofs.lemmas.Str.Pattern.{split_once_first}
-use Rattle.tty_modes.specs.Names.{character_names}
-use Rattle.tty_modes.specs.Reading.{place_of, byte_of, character_word}
+use Rattle.std.proofs.Common.{◌∙◌, sym}
+use Rattle.tty_modes.specs.Reading.{character_word}
+use Rattle.tty_modes.proofs.CharacterWords.{parted_at, no_value}
 use Rattle.tty_modes.proofs.reading.character_word.Goals as goal
+
+pub returns-in_err-value : goal.returns-in_err-value
+returns-in_err-value c =
+    c.from_residual-in_err-value.ensures
+    ∙ sym (no_value c.character_place.result c.byte_of.result c.in_err-value.was)
+    ∙ parted_at c.args.text.now c.in_ok-at.at c.character_place.result c.byte_of.result (sym c.in_ok-at.was ∙ c.equals_in.ensures) c.character_place.ensures c.byte_of.ensures
 
 pub returns : goal.returns
 returns c =
-    let split = split_once_first 61 c.args.text.now c.split_once.result c.split_once.ensures.cases (lit< tt) in
-    let parts = rw c.in_ok-name.was at split in
-    let place : place_of character_names (before_first (λ b. eqb b 61) c.args.text.now) ≡ Some c.in_ok-place.place =
-    ap (place_of character_names) (sym parts.1) ∙ sym c.character_place.ensures ∙ c.in_ok-place.was in
-    let value : byte_of (after_first (λ b. eqb b 61) c.args.text.now) ≡ Some c.in_ok-value.value =
-    ap byte_of (sym parts.2) ∙ sym c.byte_of.ensures ∙ c.in_ok-value.was in
-    sym (λ i. character_word (place i) (value i))
+    sym (λ i. character_word (c.in_ok-place.was i) (c.in_ok-value.was i))
+    ∙ parted_at c.args.text.now c.in_ok-at.at c.character_place.result c.byte_of.result (sym c.in_ok-at.was ∙ c.equals_in.ensures) c.character_place.ensures c.byte_of.ensures

@@ -1,23 +1,21 @@
-use Rattle.std.proofs.Common.{length, sym, ap, ◌∙◌, arith}
-use Rattle.std.proofs.lemmas.List.{take_all}
-use Rattle.line_store.specs.Places.{items_of}
-use Rattle.line_store.specs.Unread.{first_piece}
-use Rattle.line_store.proofs.ItemLemmas as unread
-use Rattle.line_store.proofs.PlaceLemmas as places
+use Rattle.std.proofs.Common.{get_or, ◌≡◌, ◌∙◌, ◌≤◌, ◌<◌, [], ◌++◌, length, map, min, take, drop, sym, ap, arith}
+use Rattle.line_store.specs.Unread.{Byte, bytes_of, first_piece, line_of, after_line, read_size}
+use Rattle.line_store.specs.Pieces.{items_of, total, after_front}
+use Rattle.line_store.proofs.ItemLemmas.{length-first_piece}
+use Rattle.line_store.proofs.PieceLemmas as pieces
 use Rattle.line_store.proofs.store.Store.first_len.Goals as goal
 
-pub returns-then-self-eq0 : goal.returns-then-self-eq0
-returns-then-self-eq0 c =
-    let items = items_of c.self.inside.circle in
-    c.self.invariant.bytes_count
-    ∙ sym (ap length (unread.first_piece_without_ends items (omega (arith, c.self.invariant.lines_count))))
-    ∙ ap (λ items. length (first_piece items)) c.self.view_is
+pub returns-in-empty-clause-len : goal.returns-in-empty-clause-len
+returns-in-empty-clause-len c =
+    c.len.ensures.len ∙ sym (pieces.first_in-none _ _ _ _ c.self.invariant c.self.view_is (omega (arith, ap length c.as_slice.ensures.items, c.in-empty.len_below)))
 
-pub returns-else-self-eq0 : goal.returns-else-self-eq0
-returns-else-self-eq0 c =
-    let s = c.self.inside in
-    let items = items_of s.circle in
-    ap (λ run. run.bytes) c.run.ensures
-    ∙ sym (places.length-line_of s.bytes s.circle)
-    ∙ ap length (take_all s.bytes (first_piece items) (omega (arith, unread.length-first_piece items, c.self.invariant.bytes_count)))
-    ∙ ap (λ items. length (first_piece items)) c.self.view_is
+pub returns-in-empty-clause-within : goal.returns-in-empty-clause-within
+returns-in-empty-clause-within c = omega (arith, ap length (pieces.bytes_in _ _ _ _ c.self.invariant c.self.view_is))
+
+pub returns-in-len1-up-clause-len : goal.returns-in-len1-up-clause-len
+returns-in-len1-up-clause-len c =
+    c.from.ensures ∙ ap (λ ns. get_or ns 0 0) c.as_slice.ensures.items
+    ∙ sym (pieces.first_in _ _ _ _ c.self.invariant c.self.view_is (omega (arith, ap length c.as_slice.ensures.items, c.in-len1-up.len_at_least)))
+
+pub returns-in-len1-up-clause-within : goal.returns-in-len1-up-clause-within
+returns-in-len1-up-clause-within c = omega (arith, returns-in-len1-up-clause-len c, length-first_piece c.args.self.now)

@@ -1,24 +1,14 @@
-use Rattle.std.proofs.Common.{List, [], ◌∷◌, ◌++◌, length, ap, ◌∙◌, arith}
-use Rattle.line_store.specs.declared.circle.Place.TheVariants.{Inner}
-use Rattle.line_store.specs.Places.{items_of}
-use Rattle.line_store.specs.Unread.{Item, Byte, bytes_of}
-use Rattle.line_store.proofs.PlaceLemmas as places
+use Rattle.std.proofs.Common.{◌≡◌, ◌∙◌, ◌≤◌, ◌<◌, [], ◌++◌, length, map, min, take, drop, sym, ap, arith}
+use Rattle.line_store.specs.Unread.{Byte, bytes_of, first_piece, line_of, after_line, read_size}
+use Rattle.line_store.specs.Pieces.{items_of, total, after_front}
+use Rattle.line_store.proofs.PieceLemmas as pieces
 use Rattle.line_store.proofs.store.Store.push.Goals as goal
 
 pub push-requires : goal.push-requires
-push-requires c =
-    let view = ap (λ items. length (bytes_of items)) c.self.view_is in
-    omega (arith, places.length_places_le c.self.inside.circle)
+push-requires c = omega (arith, ap length (pieces.bytes_in _ _ _ _ c.self.invariant c.self.view_is), c.requires)
 
 pub invariant_of-self : goal.invariant_of-self
-invariant_of-self c =
-    let s = c.self.inside in
-    let view = ap (λ items. length (bytes_of items)) c.self.view_is in
-    places.IsStore-push_byte (items_of s.circle) (items_of c.push.new.self) c.args.b s.bytes s.lines (ap items_of c.push.ensures ∙ places.items_of-append s.circle (Inner c.args.b ∷ [])) (omega arith) c.self.invariant
+invariant_of-self c = pieces.store_with_more _ _ _ _ c.self.invariant c.self.view_is _ _ c.push.ensures (omega (arith, c.requires))
 
 pub returns : goal.returns
-returns c =
-    let s = c.self.inside in
-    ap items_of c.push.ensures
-    ∙ places.items_of-append s.circle (Inner c.args.b ∷ [])
-    ∙ ap (λ (items : List Item). items ++ Byte c.args.b ∷ []) c.self.view_is
+returns c = pieces.more _ _ _ _ c.self.invariant c.self.view_is _ _ c.push.ensures

@@ -1,82 +1,39 @@
-use Rattle.std.proofs.Common.{◌≡◌, ◌-◌, ℕ, min, List, ◌++◌, length, take, drop, sym, ap, subst, ◌∙◌, arith, length-take}
-use Rattle.line_store.specs.declared.circle.Place.{Place}
-use Rattle.std.proofs.lemmas.List.{take_min, drop_min}
-use Rattle.line_store.specs.Places.{items_of}
-use Rattle.line_store.specs.Unread.{Item, bytes_of, end_count, read_size, IsStore}
+use Rattle.std.proofs.Common.{◌≡◌, ◌∙◌, ◌≤◌, ◌<◌, ◌+◌, ◌-◌, ◌++◌, ℕ, List, length, map, min, take, drop, sym, ap, arith}
+use Rattle.std.proofs.lemmas.List.{length-take}
 use Rattle.tty_base.specs.Contents.{Contents}
-use Rattle.line_store.proofs.PlaceLemmas as places
+use Rattle.line_store.specs.Unread.{Byte, bytes_of, first_piece, line_of, after_line, read_size}
+use Rattle.line_store.specs.Pieces.{items_of, total, after_front}
+use Rattle.line_store.proofs.PieceLemmas as pieces
 use Rattle.line_store.proofs.store.Store.take_raw.Goals as goal
 
 abbrev contents : List ℕ → ℕ → Contents ℕ
 contents items spare = record { items = items; spare = spare }
 
-pub copy_front-requires-clause-within : goal.copy_front-requires-clause-within
-copy_front-requires-clause-within c =
-    let ps = c.self.inside.circle in
-    let no_ends : end_count (items_of ps) ≡ 0 = ap end_count c.self.view_is ∙ c.requires.plain in
-    omega (arith, (places.raw_length ps no_ends).0)
+pub move_front-requires-clause-room : goal.move_front-requires-clause-room
+move_front-requires-clause-room c =
+    omega (arith, length-take (read_size c.args.n) (bytes_of c.args.self.now), ap length (pieces.bytes_in _ _ _ _ c.self.invariant c.self.view_is), c.min.ensures, c.min-count.ensures, c.len.ensures.len, c.requires.room)
 
-pub copy_front-requires-clause-each : goal.copy_front-requires-clause-each
-copy_front-requires-clause-each c =
-    let ps = c.self.inside.circle in
-    let n = c.min-count.result in
-    let no_ends : end_count (items_of ps) ≡ 0 = ap end_count c.self.view_is ∙ c.requires.plain in
-    ap length (places.raw_bytes ps n no_ends) ∙ omega (arith, length-take n (bytes_of (items_of ps)))
-
-pub copy_front-requires-clause-room : goal.copy_front-requires-clause-room
-copy_front-requires-clause-room c =
-    let view = ap (λ items. length (bytes_of items)) c.self.view_is in
-    omega (arith, length-take (read_size c.args.n) (bytes_of c.args.self.now), view, c.self.invariant.bytes_count, c.requires.room)
-
-pub skip-requires : goal.skip-requires
-skip-requires c =
-    let ps = c.self.inside.circle in
-    let no_ends : end_count (items_of ps) ≡ 0 = ap end_count c.self.view_is ∙ c.requires.plain in
-    omega (arith, (places.raw_length ps no_ends).0)
+pub overflow_sub-self : goal.overflow_sub-self
+overflow_sub-self c =
+    let is : c.min-count.result ≡ min (read_size c.args.n) (length c.self.inside.bytes) = omega (arith, c.min.ensures, c.min-count.ensures, c.len.ensures.len) in
+    pieces.plain_within _ _ _ _ c.self.invariant c.self.view_is (read_size c.args.n) c.min-count.result is c.requires.plain
 
 pub invariant_of-self : goal.invariant_of-self
 invariant_of-self c =
-    let s = c.self.inside in
-    let n = c.min-count.result in
-    let no_ends : end_count (items_of s.circle) ≡ 0 = ap end_count c.self.view_is ∙ c.requires.plain in
-    let P : List Place → Type 0 = λ ps. IsStore (items_of ps) (s.bytes - n) s.lines in
-    subst P (sym c.skip.ensures) (places.IsStore-after_raw s.circle s.bytes s.lines n no_ends (omega arith) c.self.invariant)
-
--- the bytes that are there, or as many as are asked for
-taken : (n bytes : ℕ) (xs : List ℕ) → bytes ≡ length xs → take (min (min n 4096) bytes) xs ≡ take (read_size n) xs
-taken n bytes xs e =
-    ap (λ k. take (min (read_size n) k) xs) e ∙ take_min (read_size n) xs
-
-left : (n bytes : ℕ) (items : List Item) → bytes ≡ length items → drop (min (min n 4096) bytes) items ≡ drop (read_size n) items
-left n bytes items e = ap (λ k. drop (min (read_size n) k) items) e ∙ drop_min (read_size n) items
+    let is : c.min-count.result ≡ min (read_size c.args.n) (length c.self.inside.bytes) = omega (arith, c.min.ensures, c.min-count.ensures, c.len.ensures.len) in
+    pieces.plain_store _ _ _ _ c.self.invariant c.self.view_is (read_size c.args.n) c.min-count.result is c.requires.plain _ c.move_front.ensures.rest
 
 pub returns-clause-count : goal.returns-clause-count
 returns-clause-count c =
-    let bytes = bytes_of c.args.self.now in
-    let view = ap (λ items. length (bytes_of items)) c.self.view_is in
-    omega (arith, length-take (read_size c.args.n) bytes, c.self.invariant.bytes_count)
+    omega (arith, length-take (read_size c.args.n) (bytes_of c.args.self.now), ap length (pieces.bytes_in _ _ _ _ c.self.invariant c.self.view_is), c.min.ensures, c.min-count.ensures, c.len.ensures.len)
 
 pub returns-clause-bytes : goal.returns-clause-bytes
 returns-clause-bytes c =
-    let s = c.self.inside in
-    let n = c.min-count.result in
-    let no_ends : end_count (items_of s.circle) ≡ 0 = ap end_count c.self.view_is ∙ c.requires.plain in
-    let count : n ≡ min (min c.args.n 4096) s.bytes = c.min-count.ensures ∙ ap (λ k. min k s.bytes) c.min.ensures in
-    c.copy_front.ensures ∙ ap (λ bytes. contents (c.args.out.now.items ++ bytes) (c.args.out.now.spare - n)) (
-    places.raw_bytes s.circle n no_ends
-    ∙ ap (λ k. take k (bytes_of (items_of s.circle))) count
-    ∙ taken c.args.n s.bytes (bytes_of (items_of s.circle)) c.self.invariant.bytes_count
-    ∙ ap (λ items. take (read_size c.args.n) (bytes_of items)) c.self.view_is
-    )
+    let is : c.min-count.result ≡ min (read_size c.args.n) (length c.self.inside.bytes) = omega (arith, c.min.ensures, c.min-count.ensures, c.len.ensures.len) in
+    c.move_front.ensures.front
+    ∙ ap (λ front. contents (c.args.out.now.items ++ front) (c.args.out.now.spare - c.min-count.result)) (pieces.plain_front _ _ _ _ c.self.invariant c.self.view_is (read_size c.args.n) c.min-count.result is c.requires.plain)
 
 pub returns-clause-left : goal.returns-clause-left
 returns-clause-left c =
-    let s = c.self.inside in
-    let n = c.min-count.result in
-    let no_ends : end_count (items_of s.circle) ≡ 0 = ap end_count c.self.view_is ∙ c.requires.plain in
-    let count : n ≡ min (min c.args.n 4096) s.bytes = c.min-count.ensures ∙ ap (λ k. min k s.bytes) c.min.ensures in
-    ap items_of c.skip.ensures
-    ∙ places.raw_left s.circle n no_ends
-    ∙ ap (λ k. drop k (items_of s.circle)) count
-    ∙ left c.args.n s.bytes (items_of s.circle) (omega (arith, c.self.invariant.bytes_count, (places.raw_length s.circle no_ends).1))
-    ∙ ap (drop (read_size c.args.n)) c.self.view_is
+    let is : c.min-count.result ≡ min (read_size c.args.n) (length c.self.inside.bytes) = omega (arith, c.min.ensures, c.min-count.ensures, c.len.ensures.len) in
+    pieces.plain_left _ _ _ _ c.self.invariant c.self.view_is (read_size c.args.n) c.min-count.result is c.requires.plain _ c.move_front.ensures.rest

@@ -19,7 +19,7 @@ returns-then-is_printed c =
     let tty : NTtyState = record { items = inside.store; edit = inside.edit; start = inside.start; quoted = inside.quoted; last = inside.last; column = inside.out } in
     record {
       after =
-          (λ i. on_port (record tty { column = c.echo_byte.ensures.column i }) (c.echo_byte.ensures.wire i) (c.echo_byte.ensures.tally i))
+          (λ i. on_port (record tty { column = c.echo_printed.ensures.column i }) (c.echo_printed.ensures.wire i) (c.echo_printed.ensures.tally i))
           ∙ echoed_plainly modes b tty c.args.wire.now c.args.tally.now (sym c.has.ensures ∙ c.if-not-has.false) printed.0 printed.1
           ∙ ap (λ t. with_echo modes (event.Plain b) (on_port t c.args.wire.now c.args.tally.now)) c.self.view_is;
     }

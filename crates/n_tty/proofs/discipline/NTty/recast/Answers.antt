@@ -17,15 +17,15 @@ alike false false left begun = refl
 alike true false left begun = left
 alike false true left begun = sym begun
 
-pub push_all-requires : goal.push_all-requires
-push_all-requires c =
+pub append-requires : goal.append-requires
+append-requires c =
     omega (arith, ap (λ items. length (bytes_of items)) c.plain.ensures, ap length (bytes_of-plain (bytes_of c.self.inside.store)), ap length c.bytes.ensures.bytes, c.self.invariant.within)
 
 pub invariant_of-self : goal.invariant_of-self
 invariant_of-self c =
     let left = ap length c.kill-count.ensures.line in
     record {
-      within = omega (arith, left, ap (λ items. length (bytes_of items)) c.push_all.ensures, length-bytes_of-plain c.plain.new.self c.bytes.result.now, ap (λ items. length (bytes_of items)) c.plain.ensures, ap length (bytes_of-plain (bytes_of c.self.inside.store)), ap length c.bytes.ensures.bytes, c.self.invariant.within);
+      within = omega (arith, left, ap (λ items. length (bytes_of items)) c.append.ensures, length-bytes_of-plain c.plain.new.self c.bytes.result.now, ap (λ items. length (bytes_of items)) c.plain.ensures, ap length (bytes_of-plain (bytes_of c.self.inside.store)), ap length c.bytes.ensures.bytes, c.self.invariant.within);
       line = omega (arith, left);
     }
 
@@ -40,7 +40,7 @@ pub returns-then-modes_leave-clause-fits : goal.returns-then-modes_leave-clause-
 returns-then-modes_leave-clause-fits c =
     let both = and_parts (has_flag c.args.old.now ICANON) (not (has_flag c.args.new.now ICANON)) (sym c.modes_leave.ensures ∙ c.if-modes_leave.true) in
     FitsModes-plain c.args.new.now _ (not-true (has_flag c.args.new.now ICANON) both.1)
-    (ap end_count c.push_all.ensures ∙ end_count-with_plain c.plain.new.self c.bytes.result.now ∙ ap end_count c.plain.ensures ∙ end_count-plain (bytes_of c.self.inside.store))
+    (ap end_count c.append.ensures ∙ end_count-with_plain c.plain.new.self c.bytes.result.now ∙ ap end_count c.plain.ensures ∙ end_count-plain (bytes_of c.self.inside.store))
     c.kill-count.ensures.line
 
 pub returns-then-len-gt0-clause-fits : goal.returns-then-len-gt0-clause-fits

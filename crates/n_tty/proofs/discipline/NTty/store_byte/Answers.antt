@@ -1,10 +1,10 @@
-use Rattle.std.proofs.Common.{◌≡◌, false, [], ◌∷◌, length, ap, sym, ◌∙◌, arith, length-append}
+use Rattle.std.proofs.Common.{◌≡◌, false, [], ◌∷◌, length, ap, sym, ◌∙◌, arith}
 use Rattle.tty_modes.specs.Settings.{has_flag}
 use Rattle.tty_modes.specs.declared.places.TheConstants.{ICANON}
 use Rattle.line_store.specs.Unread.{bytes_of}
 use Rattle.n_tty.specs.States.{NTtyState, unread_count}
 use Rattle.n_tty.proofs.RoomLemmas.{room_plain, room_line, one_stored}
-use Rattle.n_tty.proofs.StoringLemmas.{length-bytes_of-plain}
+use Rattle.n_tty.proofs.StoringLemmas.{length-bytes_of-plain, length-joined}
 use Rattle.n_tty.proofs.discipline.NTty.store_byte.Goals as goal
 
 pub push-requires : goal.push-requires
@@ -23,11 +23,10 @@ invariant_of-self c =
 pub invariant_of-self-then-bytes-lt-MOST_LINE : goal.invariant_of-self-then-bytes-lt-MOST_LINE
 invariant_of-self-then-bytes-lt-MOST_LINE c =
     let line = ap (λ (tty : NTtyState). length tty.edit) c.self.view_is in
-    let joined = ap length c.add_all.ensures in
-    let one = ap length c.as_slice.ensures in
-    let both = length-append c.self.inside.edit c.as_slice.result.now in
+    let joined = ap length c.add-joined.ensures.line in
     let short = ap length c.bytes.ensures.bytes in
+    let longer = length-joined c.self.inside.edit c.args.b (omega (arith, short, c.if-bytes-lt-MOST_LINE.true)) in
     record {
-      within = omega (arith, joined, one, both, ap unread_count c.self.view_is, room_line c.args.modes.now c.args.self.now 1 c.requires.accepting c.requires.fitting (one_stored c.args.modes.now) (omega (arith, line, short, c.if-bytes-lt-MOST_LINE.true)));
-      line = omega (arith, joined, one, both, short, c.if-bytes-lt-MOST_LINE.true);
+      within = omega (arith, joined, longer, ap unread_count c.self.view_is, room_line c.args.modes.now c.args.self.now 1 c.requires.accepting c.requires.fitting (one_stored c.args.modes.now) (omega (arith, line, short, c.if-bytes-lt-MOST_LINE.true)));
+      line = omega (arith, joined, longer, short, c.if-bytes-lt-MOST_LINE.true);
     }

@@ -11,7 +11,7 @@ pub invariant_of-self : goal.invariant_of-self
 invariant_of-self c =
     let plain : has_flag c.args.modes.now ICANON ≡ false = sym c.has.ensures ∙ c.if-not-has.true in
     record {
-      within = omega (arith, ap (λ items. length (bytes_of items)) c.push_all.ensures, length-bytes_of-plain c.self.inside.store c.args.bytes.now, ap unread_count c.self.view_is, room_plain c.args.modes.now c.args.self.now (length c.args.bytes.now) c.requires.accepting plain c.requires.few);
+      within = omega (arith, ap (λ items. length (bytes_of items)) c.append.ensures, length-bytes_of-plain c.self.inside.store c.args.bytes.now, ap unread_count c.self.view_is, room_plain c.args.modes.now c.args.self.now (length c.args.bytes.now) c.requires.accepting plain c.requires.few);
       line = c.self.invariant.line;
     }
 

@@ -1,11 +1,10 @@
 use Rattle.std.proofs.Common.{sym}
-use Rattle.text_lines.specs.Lines.{words_of}
 use Rattle.session_text.specs.Views.{stand_of}
 use Rattle.session_text.proofs.Fits.{judged_good}
 use Rattle.session_text.proofs.reader.Reader.read_item.Goals as goal
 
 pub add-requires : goal.add-requires
-add-requires c = judged_good (stand_of c.args.self.now.stand) c.args.word.now (words_of c.args.arguments.now) c.in-Ok.verb (sym c.in-Ok.ensures)
+add-requires c = judged_good (stand_of c.args.self.now.stand) c.args.word.now c.args.arguments.now c.in-Ok.verb (sym c.in-Ok.ensures)
 
 pub take-requires : goal.take-requires
-take-requires c = judged_good (stand_of c.args.self.now.stand) c.args.word.now (words_of c.args.arguments.now) c.in-Ok.verb (sym c.in-Ok.ensures)
+take-requires c = judged_good (stand_of c.args.self.now.stand) c.args.word.now c.args.arguments.now c.in-Ok.verb (sym c.in-Ok.ensures)

@@ -1,5 +1,4 @@
 use Rattle.std.proofs.Common.{◌≡◌, sym, subst}
-use Rattle.text_lines.specs.Lines.{words_of}
 use Rattle.session_text.specs.declared.verbs.Verb.{Verb}
 use Rattle.session_text.specs.Stands.{has_stood}
 use Rattle.session_text.specs.Views.{stand_of}
@@ -8,6 +7,6 @@ use Rattle.session_text.proofs.stands.Stand.has_stood.Goals as goal
 
 pub returns-in-Caller : goal.returns-in-Caller
 returns-in-Caller c =
-    subst (λ (v : Verb). c.has_key.result ≡ has_stood (stand_of c.args.self.now) v (words_of c.args.arguments.now)) (sym c.in-Caller.is)
-    (key_found c.has_key.result c.args.self.now.callers.items c.as_slice-in-Caller.result.now c.word_at-name.result.now _ c.number_at-in-Caller.result _ c.has_key.ensures
-    c.as_slice-in-Caller.ensures c.word_at-name.ensures c.number_at-in-Caller.ensures)
+    subst (λ (v : Verb). c.has_key.result ≡ has_stood (stand_of c.args.self.now) v c.args.arguments.now) (sym c.in-Caller.is)
+    (key_found c.has_key.result c.args.self.now.callers.items c.as_slice-in-Caller.result.now c.first-name.result.now _ c.second_number.result _ c.has_key.ensures
+    c.as_slice-in-Caller.ensures c.first-name.ensures c.second_number.ensures)

@@ -19,14 +19,24 @@ flags_changed before characters modes word given after view is step =
 
 pub invariant_of-self : goal.invariant_of-self
 invariant_of-self c =
-    rw (c.insert.ensures tt, c.bit.ensures) (set_fits c.self.inside.bits.0 c.in-On.flag c.self.invariant c.if-flag-lt-FLAG_COUNT.true)
+    record {
+      fits = rw (c.insert.ensures tt, c.bit.ensures) (set_fits c.self.inside.bits.0 c.in-On.flag c.self.invariant.fits c.if-flag-lt-FLAG_COUNT.true);
+      unprinted = c.self.invariant.unprinted;
+    }
 
 pub invariant_of-self-then-flag-lt-FLAG_COUNT-2 : goal.invariant_of-self-then-flag-lt-FLAG_COUNT-2
 invariant_of-self-then-flag-lt-FLAG_COUNT-2 c =
-    rw (c.remove.ensures tt) (clear_fits c.self.inside.bits.0 c.bit-then-flag-lt-FLAG_COUNT-2.result.0 c.self.invariant)
+    record {
+      fits = rw (c.remove.ensures tt) (clear_fits c.self.inside.bits.0 c.bit-then-flag-lt-FLAG_COUNT-2.result.0 c.self.invariant.fits);
+      unprinted = c.self.invariant.unprinted;
+    }
 
 pub invariant_of-self-in-Raw : goal.invariant_of-self-in-Raw
-invariant_of-self-in-Raw c = rw (c.remove-in-Raw.ensures tt) (clear_fits c.self.inside.bits.0 76420075 c.self.invariant)
+invariant_of-self-in-Raw c =
+    record {
+      fits = rw (c.remove-in-Raw.ensures tt) (clear_fits c.self.inside.bits.0 76420075 c.self.invariant.fits);
+      unprinted = c.self.invariant.unprinted;
+    }
 
 pub returns-then-flag-lt-FLAG_COUNT : goal.returns-then-flag-lt-FLAG_COUNT
 returns-then-flag-lt-FLAG_COUNT c =

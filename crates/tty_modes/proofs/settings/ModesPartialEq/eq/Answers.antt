@@ -34,7 +34,7 @@ same_then c =
     let yes : eqb c.self.inside.bits.0 c.other.inside.bits.0 ≡ true = sym c.eq.ensures ∙ c.if-eq.true in
     let both : (eqb c.self.inside.bits.0 c.other.inside.bits.0 && bytes_eq c.self.inside.characters c.other.inside.characters) ≡ bytes_eq c.self.inside.characters c.other.inside.characters = rw yes refl in
     c.eq-then-eq.ensures ∙ sym both
-    ∙ answered c.self.inside.bits.0 c.other.inside.bits.0 c.self.inside.characters c.other.inside.characters c.self.invariant c.other.invariant
+    ∙ answered c.self.inside.bits.0 c.other.inside.bits.0 c.self.inside.characters c.other.inside.characters c.self.invariant.fits c.other.invariant.fits
     c.args.self.now c.args.other.now c.self.view_is c.other.view_is
 
 same_else : (c : Else-eq) → c.eq.result ≡ same_modes c.args.self.now c.args.other.now
@@ -43,7 +43,7 @@ same_else c =
     let no : eqb c.self.inside.bits.0 c.other.inside.bits.0 ≡ false = sym c.eq.ensures ∙ c.if-eq.false in
     let both : (eqb c.self.inside.bits.0 c.other.inside.bits.0 && bytes_eq c.self.inside.characters c.other.inside.characters) ≡ false = rw no refl in
     c.if-eq.false ∙ sym both
-    ∙ answered c.self.inside.bits.0 c.other.inside.bits.0 c.self.inside.characters c.other.inside.characters c.self.invariant c.other.invariant
+    ∙ answered c.self.inside.bits.0 c.other.inside.bits.0 c.self.inside.characters c.other.inside.characters c.self.invariant.fits c.other.invariant.fits
     c.args.self.now c.args.other.now c.self.view_is c.other.view_is
 
 pub returns-then-eq-clause-value : goal.returns-then-eq-clause-value

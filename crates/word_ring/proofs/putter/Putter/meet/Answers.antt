@@ -17,7 +17,7 @@ loaded c =
     subst (IsPutting c.self.inside.capacity c.self.inside.sent c.self.inside.word) (sym c.load.ensures.2.0) (after_load _ _ _ _ told c.load.result c.load.ensures.2.2)
 
 pub invariant_of-self : goal.invariant_of-self
-invariant_of-self c = record { table = search rules; key = search rules; words = search rules; small = search rules; bare = search rules; putting = loaded c }
+invariant_of-self c = record { table = search rules; key = search rules; words = search rules; small = search rules; at = search rules; bare = search rules; putting = loaded c }
 
 pub returns-clause-rise : goal.returns-clause-rise
 returns-clause-rise c = let p = loaded c in p.rise

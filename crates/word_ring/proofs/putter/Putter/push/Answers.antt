@@ -12,7 +12,7 @@ use Rattle.word_ring.proofs.putter.Putter.push.Goals as goal
 pub store_lanes-requires-clause-at : goal.store_lanes-requires-clause-at
 store_lanes-requires-clause-at c =
     let p = c.self.invariant.putting in
-    c.word_of.ensures ∙ (ap (λ (z : ℕ). place z (c.self.inside.sent / 4)) (sym p.room) ∙ ap (place c.self.inside.seat.me.0.capacity) (group _ _ _ _ p))
+    c.self.invariant.at ∙ (ap (λ (z : ℕ). place z (c.self.inside.sent / 4)) (sym p.room) ∙ ap (place c.self.inside.seat.me.0.capacity) (group _ _ _ _ p))
 
 pub store-requires : goal.store-requires
 store-requires c =
@@ -32,6 +32,7 @@ invariant_of-self c =
       key = search rules;
       words = search rules;
       small = search rules;
+      at = search rules;
       bare = search rules;
       putting = subst (IsPutting c.self.inside.capacity c.self.inside.sent c.self.inside.word) (sym now) (after_push _ _ _ _ p);
     }

@@ -6,13 +6,13 @@ use Rattle.word_ring.proofs.taker.Taker.finish.Goals as goal
 pub join_seat-requires : goal.join_seat-requires
 join_seat-requires c = (search rules, search rules, search rules, search rules, ends _ _ _ _ _ c.self.invariant.taking.takes c.putter.invariant.putting.puts)
 
-pub load-requires : goal.load-requires
-load-requires c = (search rules, search rules, compares _ _ _ _ (ap (λ m. m.0.takes) c.join_seat.ensures.2 ∙ c.self.invariant.taking.takes))
+pub load-self-inside-requires : goal.load-self-inside-requires
+load-self-inside-requires c = (search rules, search rules, compares _ _ _ _ (ap (λ m. m.0.takes) c.join_seat.ensures.2 ∙ c.self.invariant.taking.takes))
 
 pub returns-clause-heads : goal.returns-clause-heads
 returns-clause-heads c =
     let met = c.join_seat.ensures.2 in
     let released = ap (λ m. m.0.released) met ∙ ap (λ s. s.released) c.self.view_is in
     let heads = ap (λ m. m.0.heads) met ∙ (ap (λ s. s.heads) c.putter.view_is ∙ ap (λ s. s.heads) c.push.ensures.same) in
-    let told = c.load.ensures.2.4 (ap (λ m. m.0.puts) met) in
+    let told = c.load-self-inside.ensures.2.4 (ap (λ m. m.0.puts) met) in
     subst (λ (z : List ℕ × List ℕ). AreReleased z.0 z.1) (λ i. (released i, heads i)) told.1

@@ -1,0 +1,8 @@
+use Rattle.std.proofs.Common.{◌≡◌, ◌∙◌, ◌≤◌, ◌<◌, [], ◌++◌, length, map, min, take, drop, sym, ap, arith}
+use Rattle.line_store.specs.Unread.{Byte, bytes_of, first_piece, line_of, after_line, read_size}
+use Rattle.line_store.specs.Pieces.{items_of, total, after_front}
+use Rattle.line_store.proofs.PieceLemmas as pieces
+use Rattle.line_store.proofs.store.Store.len.Goals as goal
+
+pub returns-clause-len : goal.returns-clause-len
+returns-clause-len c = c.len.ensures.len ∙ sym (ap length (pieces.bytes_in _ _ _ _ c.self.invariant c.self.view_is))

@@ -1,0 +1,212 @@
+-- The steps of a whole window, of which the last alone hands over.
+use Rattle.std.proofs.Common.{◌≡◌, ℕ, suc, zero, ◌+◌, ◌-◌, ◌^◌, min, ◌<◌, ◌≤◌, List, [], ◌∷◌, ◌++◌, length, take, drop, get_or, reverse, sym, ◌∙◌, ap, subst, arith, append_assoc, append-nil, inl, inr}
+use Rattle.std.specs.List.Sorted.{IsNonDecreasing}
+use Rattle.std.specs.List.{All}
+use Rattle.std.proofs.lemmas.List.{take_more, take-append-drop, drop_more}
+use Rattle.tty_base.specs.declared.characters.Flag.TheVariants.{Normal}
+use Rattle.tty_base.specs.declared.characters.Flagged.{Flagged}
+use Rattle.tty_base.specs.declared.lines.LineStep.{LineStep}
+use Rattle.tty_base.specs.declared.lines.LineStep.TheVariants.{Rx}
+use Rattle.tty_base.specs.declared.lines.Overrun.{Overrun}
+use Rattle.tty_base.specs.Lines.{arrival, arrival_count}
+use Rattle.word_ring.specs.Ends.{PutterState}
+use Rattle.word_ring.specs.Names.{name_of}
+use Rattle.uart_line.specs.LineState.{LineState, HasDone, IsUncut}
+use Rattle.uart_line.specs.Received.{received_list}
+use Rattle.uart_line.specs.Offered.{HandsOver}
+use Rattle.uart_line.proofs.Steps.{arrival_count-append, arrival_count-take, cut_after}
+use Rattle.tty_calls.specs.declared.answers.Denied.{Denied}
+use Rattle.journal_check.specs.Legal.{received_before}
+use Rattle.port_core.specs.Ports.{PortValue}
+use Rattle.one_thread.specs.Order.{cuts_after}
+use Rattle.one_thread.specs.Lines.{HasPut, StopsLine}
+use Rattle.one_thread.specs.LineInside.{LineStart, steps_before, steps_of, IsInLine, SeesFrom, IsCaughtUp, IsBetweenSteps, FlushesCut, DeniesCut}
+use Rattle.one_thread.proofs.LineLists.{handed_list, handed_is, no_cut, cuts_same}
+use Rattle.one_thread.proofs.LineSteps.{StepsTo}
+use Rattle.one_thread.proofs.LineCuts.{step_rests, step_flushes}
+use Rattle.one_thread.proofs.LineEnds.{stops_at_cut}
+use Rattle.one_thread.proofs.LineLoop.{none_put}
+
+-- what a read past the end would give
+abbrev pub nothing : LineStep
+nothing = Rx (record { byte = 0; flag = Normal })
+
+-- what the first `n` of these steps come to
+pub record WindowTo (putter now : PutterState Flagged) (line next : LineState) (before steps : List LineStep) (n : ℕ) : Type 0 where
+  pub some : 0 < n
+  pub within : n ≤ length steps
+  pub done : HasDone next (before ++ take n steps)
+  pub uncut : (k : ℕ) → k < n → IsUncut line before (take k steps)
+  pub hands_over : HandsOver putter.capacity (received_list before) (received_list (before ++ take n steps)) putter.sent now.sent putter.heads now.heads line.report.overruns.items next.report.overruns.items
+  pub capacity : now.capacity ≡ putter.capacity
+  pub name : name_of now.ring ≡ name_of putter.ring
+  pub room : next.most ≤ (2 ^ 63 - length now.sent) + next.handed
+  pub rise : IsNonDecreasing putter.heads → IsNonDecreasing now.heads
+  pub most : next.most ≡ line.most
+  pub arrived : next.report.arrived ≡ line.report.arrived + arrival_count (take n steps)
+
+module _ (b : LineStart) (v : PortValue) (putter : PutterState Flagged) (line : LineState) (done steps : List LineStep) (run n : ℕ)
+    (i : IsBetweenSteps b v putter line done run) (within : n ≤ length steps)
+    (uncut : (k : ℕ) → k < n → IsUncut line (steps_before b ++ done) (take k steps)) where
+  same_at : (k : ℕ) → k < n → received_list (steps_before b ++ (done ++ take k steps)) ≡ received_list (steps_before b ++ done)
+  same_at k lt = ap received_list (sym (append_assoc (steps_before b) done (take k steps))) ∙ (uncut k lt).same
+
+  taken_more : (k : ℕ) → k < length steps → done ++ take (k + 1) steps ≡ (done ++ take k steps) ++ get_or steps k nothing ∷ []
+  taken_more k lt =
+      ap (λ (l : List LineStep). done ++ l) (take_more steps k nothing lt)
+      ∙ sym (append_assoc done (take k steps) (get_or steps k nothing ∷ []))
+
+  cuts_next : (k : ℕ) → k + 1 < n
+      → length (cuts_after (reverse (steps_before b)) (done ++ take (k + 1) steps)) ≡ length (cuts_after (reverse (steps_before b)) (done ++ take k steps))
+  cuts_next k lt =
+      let step = get_or steps k nothing in
+      let before = steps_before b ++ (done ++ take k steps) in
+      let more : done ++ take (k + 1) steps ≡ (done ++ take k steps) ++ step ∷ [] = taken_more k (omega arith) in
+      let same : received_list (before ++ step ∷ []) ≡ received_list before ++ [] =
+      ap received_list (append_assoc (steps_before b) (done ++ take k steps) (step ∷ []) ∙ ap (λ (l : List LineStep). steps_before b ++ l) (sym more))
+      ∙ same_at (k + 1) lt ∙ sym (same_at k (omega arith)) ∙ sym (append-nil (received_list before)) in
+      let none : length (handed_list before step) ≡ 0 = ap length (sym (handed_is before step [] same)) in
+      ap (λ (l : List LineStep). length (cuts_after (reverse (steps_before b)) l)) more
+      ∙ cuts_same (steps_before b) (done ++ take k steps) step (no_cut before step none)
+
+  cuts_at : (k : ℕ) → k < n → length (cuts_after (reverse (steps_before b)) (done ++ take k steps)) ≡ length (cuts_after (reverse (steps_before b)) done)
+  cuts_at zero lt = ap (λ (l : List LineStep). length (cuts_after (reverse (steps_before b)) l)) (append-nil done)
+  cuts_at (suc k) lt =
+      let next : suc k ≡ k + 1 = omega arith in
+      ap (λ (m : ℕ). length (cuts_after (reverse (steps_before b)) (done ++ take m steps))) next
+      ∙ cuts_next k (omega arith) ∙ cuts_at k (omega arith)
+
+  module _ (k : ℕ) (lt : k < n) where
+    abbrev u : IsUncut line (steps_before b ++ done) (take k steps)
+    u = uncut k lt
+
+    abbrev here : List LineStep
+    here = steps_before b ++ (done ++ take k steps)
+
+    has_put_there : HasPut v putter u.there here
+    has_put_there = record {
+      ring = i.in_line.has_put.ring;
+      capacity = i.in_line.has_put.capacity;
+      done = subst (HasDone u.there) (append_assoc (steps_before b) done (take k steps)) u.done;
+      hands_over = rw (same_at k lt, u.overruns) i.in_line.has_put.hands_over;
+      room = omega (arith, i.in_line.has_put.room, u.most, u.handed);
+    }
+
+    in_line_there : IsInLine b v putter u.there (done ++ take k steps)
+    in_line_there = record {
+      of_scene = i.in_line.of_scene;
+      within = i.in_line.within;
+      phase = i.in_line.phase;
+      line_over = i.in_line.line_over;
+      clock_over = i.in_line.clock_over;
+      callers = i.in_line.callers;
+      flushes = i.in_line.flushes;
+      added = i.in_line.added;
+      leads = i.in_line.leads;
+      inside = i.in_line.inside;
+      no_end = i.in_line.no_end;
+      tick = i.in_line.tick;
+      sent = i.in_line.sent;
+      ring = i.in_line.ring;
+      capacity = i.in_line.capacity;
+      some_room = i.in_line.some_room;
+      has_put = has_put_there;
+      most = u.most ∙ i.in_line.most;
+      arrived = omega (arith, u.arrived, i.in_line.arrived, arrival_count-append done (take k steps));
+    }
+
+    -- the line has gone on alone
+    pub goes_on : IsBetweenSteps b v putter u.there (done ++ take k steps) run
+    goes_on =
+        let place : length (received_list here) ≡ length (received_list (steps_before b ++ done)) = ap length (same_at k lt) in
+        record {
+          in_line = in_line_there;
+          begins_run = i.begins_run;
+          knows = i.knows;
+          begins = i.begins;
+          overruns = i.overruns;
+          more_overruns = ap (λ o. o.items) u.overruns ∙ i.more_overruns;
+          floor = omega (arith, i.floor, place);
+          seen = subst (λ (m : ℕ). All (SeesFrom (received_before b.scene.port b.scene.session b.phase) m (length v.flip.taken)) i.overruns) (sym place) i.seen;
+          open_or_stuck = elim i.open_or_stuck [
+            | inl c ↦ inl (record { all = c.all; cuts = c.cuts ∙ sym (cuts_at k lt); none = c.none })
+            | inr stuck ↦ inr stuck
+          ];
+        }
+
+module _ (b : LineStart) (v : PortValue) (putter now : PutterState Flagged) (line next : LineState) (done steps left : List LineStep) (run n : ℕ)
+    (script : steps_of b ≡ done ++ (steps ++ left))
+    (i : IsBetweenSteps b v putter line done run)
+    (to : WindowTo putter now line next (steps_before b ++ done) steps n) where
+  abbrev k : ℕ
+  k = n - 1
+
+  last_is : n ≡ k + 1
+  last_is = omega (arith, to.some)
+
+  last_below : k < n
+  last_below = omega (arith, to.some)
+
+  last_inside : k < length steps
+  last_inside = omega (arith, to.some, to.within)
+
+  abbrev step : LineStep
+  step = get_or steps k nothing
+
+  abbrev front : List LineStep
+  front = done ++ take k steps
+
+  abbrev there : LineState
+  there = (to.uncut k last_below).there
+
+  whole : done ++ take n steps ≡ front ++ step ∷ []
+  whole =
+      ap (λ (m : ℕ). done ++ take m steps) last_is
+      ∙ taken_more b v putter line done steps run n i to.within to.uncut k last_inside
+
+  all_before : (steps_before b ++ done) ++ take n steps ≡ (steps_before b ++ front) ++ step ∷ []
+  all_before =
+      append_assoc (steps_before b) done (take n steps) ∙ ap (λ (l : List LineStep). steps_before b ++ l) whole
+      ∙ sym (append_assoc (steps_before b) front (step ∷ []))
+
+  at_last : IsBetweenSteps b v putter there front run
+  at_last = goes_on b v putter line done steps run n i to.within to.uncut k last_below
+
+  last_script : steps_of b ≡ front ++ step ∷ (drop (k + 1) steps ++ left)
+  last_script =
+      let parts : steps ≡ take k steps ++ step ∷ drop (k + 1) steps =
+      sym (take-append-drop k steps) ∙ ap (λ (l : List LineStep). take k steps ++ l) (drop_more steps k nothing last_inside) in
+      script ∙ ap (λ (l : List LineStep). done ++ (l ++ left)) parts
+      ∙ ap (λ (l : List LineStep). done ++ l) (append_assoc (take k steps) (step ∷ drop (k + 1) steps) left)
+      ∙ sym (append_assoc done (take k steps) (step ∷ (drop (k + 1) steps ++ left)))
+
+  steps_to : StepsTo putter now there next (steps_before b ++ front) step
+  steps_to =
+      let u = to.uncut k last_below in
+      let same : received_list (steps_before b ++ front) ≡ received_list (steps_before b ++ done) =
+      same_at b v putter line done steps run n i to.within to.uncut k last_below in
+      record {
+        done = subst (HasDone next) all_before to.done;
+        hands_over = rw (same, ← all_before, u.overruns) to.hands_over;
+        capacity = to.capacity;
+        name = to.name;
+        room = to.room;
+        rise = to.rise;
+        most = to.most ∙ sym u.most;
+        arrived = omega (arith, to.arrived, u.arrived, ap (λ (m : ℕ). arrival_count (take m steps)) last_is, arrival_count-take steps k nothing last_inside);
+      }
+
+  pub window_rests : (put : ℕ) → put ≡ min (length now.sent - length putter.sent) 64 → put ≡ 0 → IsBetweenSteps b v now next (done ++ take n steps) run
+  window_rests put is none =
+      subst (λ (l : List LineStep). IsBetweenSteps b v now next l run) (sym whole)
+      (step_rests b v putter now there next front (drop (k + 1) steps ++ left) step run last_script at_last steps_to
+      (none_put putter now there next (steps_before b ++ front) step put steps_to is none))
+
+  pub window_flushes : (w : PortValue) (after : PutterState Flagged) (most later : ℕ) → most ≡ min (length now.sent - length putter.sent) 64 → 1 ≤ most
+      → FlushesCut v w now after run most later → IsBetweenSteps b w after next (done ++ take n steps) later
+  window_flushes w after most later is some f =
+      subst (λ (l : List LineStep). IsBetweenSteps b w after next l later) (sym whole)
+      (step_flushes b v putter now there next front (drop (k + 1) steps ++ left) step run last_script at_last steps_to w after most later is some f)
+
+  pub window_stops : (d : Denied) (w : PortValue) (met : PutterState Flagged) → DeniesCut d v w now met → StopsLine d b.scene b.phase b.port w met next
+  window_stops d w met h = stops_at_cut d b v w putter now met there next front (drop (k + 1) steps ++ left) step last_script at_last.in_line steps_to h

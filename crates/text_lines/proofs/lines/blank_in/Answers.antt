@@ -1,5 +1,0 @@
-use Rattle.text_lines.proofs.Finds.{first_blank}
-use Rattle.text_lines.proofs.lines.blank_in.Goals as goal
-
-pub returns : goal.returns
-returns c = first_blank c.args.line.now c.memchr3.result c.memchr3.ensures

@@ -1,0 +1,378 @@
+use arrayvec::ArrayString;
+use session_print::{each_call_has_its_line, journal_text, play_text, report};
+use std::alloc::{AllocError, Global};
+use std::test::Fail;
+use tty_base::{Buffer, Bytes, Counts, Errno, Flag, Flagged, LineReport, Overrun, Signal};
+use tty_calls::{
+    Access, Answer, Call, Entry, Event, Phase, PortEnd, PortRun, Script, Session, When, Who,
+};
+use tty_modes::Modes;
+
+fn script_of(port: u8, name: &str, calls: Vec<Call>) -> Script {
+    Script {
+        port,
+        name: ArrayString::from(name).unwrap_or(ArrayString::new()),
+        calls: Buffer::from_vec(calls),
+    }
+}
+
+fn phase_of(alloc: Global, callers: Vec<Script>) -> Phase {
+    Phase {
+        lines: Buffer::new(alloc),
+        ticks: Buffer::new(alloc),
+        callers: Buffer::from_vec(callers),
+    }
+}
+
+fn entry_of(who: Who, step: u32, generation: u32, event: Event) -> Entry {
+    Entry {
+        who,
+        step,
+        part: 0,
+        generation,
+        event,
+    }
+}
+
+fn answer_of(alloc: Global, caller: u16, step: u32, answer: Answer) -> Entry {
+    entry_of(
+        Who::Caller(caller),
+        step,
+        0,
+        Event::Answer(answer, Buffer::new(alloc)),
+    )
+}
+
+fn run_of(alloc: Global, journal: Vec<Entry>) -> PortRun {
+    PortRun {
+        journal: Buffer::from_vec(journal),
+        line: LineReport {
+            arrived: 0,
+            fifo_lost: 0,
+            sent: 0,
+            overruns: Buffer::new(alloc),
+        },
+    }
+}
+
+fn end_of(alloc: Global) -> PortEnd {
+    PortEnd {
+        counts: Counts::default(),
+        signals: Buffer::new(alloc),
+        generation: 0,
+        wire: Bytes::new(alloc),
+    }
+}
+
+fn bytes_of(alloc: Global, bytes: &[u8]) -> Result<Bytes, AllocError> {
+    Ok(Bytes::from_vec(bytes.to_vec(alloc)?))
+}
+
+fn open() -> Call {
+    Call::Open {
+        h: 0,
+        access: Access::Rw,
+        nonblock: true,
+    }
+}
+
+/// Two callers, whose answers do not stand in the order of the text.
+fn two_callers(alloc: Global) -> Result<Session, AllocError> {
+    let read = Call::Read { h: 0, n: 8 };
+    let first = script_of(0, "a", vec![in alloc; open(), read]?);
+    let second = script_of(0, "b", vec![in alloc; Call::Read { h: 1, n: 8 }]?);
+    let third = script_of(0, "b", vec![in alloc; Call::Close { h: 0 }]?);
+    let fourth = script_of(0, "a", vec![in alloc; Call::Read { h: 0, n: 4 }]?);
+    let early = phase_of(alloc, vec![in alloc; first, second]?);
+    let late = phase_of(alloc, vec![in alloc; third, fourth]?);
+    Ok(Session {
+        version: 1,
+        ports: 1,
+        flips: Buffer::new(alloc),
+        phases: Buffer::from_vec(vec![in alloc; early, late]?),
+    })
+}
+
+fn run_of_two(alloc: Global) -> Result<PortRun, AllocError> {
+    let hi = Buffer::from_vec(vec![in alloc; Flagged::default(), Flagged::default()]?);
+    let journal = vec![in alloc;
+        answer_of(alloc, 1, 0, Answer::Refused(Errno::EBADF)),
+        answer_of(alloc, 0, 0, Answer::Done),
+        entry_of(Who::Flusher, 0, 0, Event::Flush(hi)),
+        answer_of(alloc, 0, 1, Answer::Got(bytes_of(alloc, b"hi")?)),
+        entry_of(Who::Caller(0), 2, 0, Event::CallerEnd),
+        answer_of(alloc, 0, 2, Answer::Idle),
+        answer_of(alloc, 1, 1, Answer::Done),
+    ]?;
+    Ok(run_of(alloc, journal))
+}
+
+#[test]
+fn each_call_is_told_with_the_answer_of_its_caller_and_step(rt: HostRuntime) -> Result<(), Fail> {
+    let alloc = rt.alloc();
+    each_call_has_its_line();
+    let end = PortEnd {
+        counts: Counts::default(),
+        signals: Buffer::from_vec(vec![in alloc; Signal::Int, Signal::Susp]?),
+        generation: 1,
+        wire: bytes_of(alloc, b"ok")?,
+    };
+    let text = report(alloc, &two_callers(alloc)?, &[run_of_two(alloc)?], &[end])?;
+    assert_eq!(rt;
+        text.as_slice(),
+        b"0.a.0 open ok\n0.a.1 read 2 6869\n0.b.0 read EBADF\n0.b.1 close ok\n0.a.2 read idle\nport 0 line arrived=0 lost=0 sent=0 overrun=0\nport 0 input taken=2 dropped=0\nport 0 counts mark=0 parity=0 frame=0 break=0 cut=0 echo=0 pin=0 pout=0 pbad=0 pfull=0\nport 0 signals INT SUSP\nport 0 generation 1\nport 0 wire 6f6b\ndone\n".as_slice()
+    );
+    Ok(())
+}
+
+/// One caller on the second of two ports, whose calls are answered in every way.
+fn every_answer(alloc: Global) -> Result<Session, AllocError> {
+    let calls = vec![in alloc;
+        Call::GetModes { h: 0 },
+        Call::Counts { h: 0 },
+        Call::Inq { h: 0 },
+        Call::Write {
+            h: 0,
+            bytes: bytes_of(alloc, b"hello")?
+        },
+        Call::TakePacket { h: 0 },
+        Call::Read { h: 0, n: 1 },
+        Call::SendPacket {
+            h: 0,
+            bytes: bytes_of(alloc, b"x")?
+        },
+        Call::Drain { h: 0 },
+        Call::SetModes {
+            h: 0,
+            when: When::Drain,
+            words: Buffer::new(alloc)
+        },
+        Call::GetDisc { h: 0 },
+    ]?;
+    let scripts = vec![in alloc; script_of(1, "all_1", calls)]?;
+    Ok(Session {
+        version: 2,
+        ports: 2,
+        flips: Buffer::from_vec(vec![in alloc; 4096, 64]?),
+        phases: Buffer::from_vec(vec![in alloc; phase_of(alloc, scripts)]?),
+    })
+}
+
+fn answers(alloc: Global) -> Result<PortRun, AllocError> {
+    let counts = Counts {
+        mark: 1,
+        parity: 2,
+        frame: 3,
+        breaks: 4,
+        cut: 5,
+        echo: 6,
+        pin: 7,
+        pout: 8,
+        pbad: 9,
+        pfull: 10,
+    };
+    let journal = vec![in alloc;
+        answer_of(alloc, 0, 0, Answer::ModesAre(Modes::sane())),
+        answer_of(alloc, 0, 1, Answer::CountsAre(counts)),
+        answer_of(alloc, 0, 2, Answer::Number(4_294_967_295)),
+        answer_of(alloc, 0, 3, Answer::Count(5)),
+        answer_of(alloc, 0, 4, Answer::Got(bytes_of(alloc, &[0, 0xaf])?)),
+        answer_of(alloc, 0, 5, Answer::Got(Bytes::new(alloc))),
+        answer_of(alloc, 0, 6, Answer::Refused(Errno::EMSGSIZE)),
+        answer_of(alloc, 0, 7, Answer::Idle),
+        answer_of(alloc, 0, 8, Answer::Done),
+    ]?;
+    Ok(run_of(alloc, journal))
+}
+
+#[test]
+fn every_answer_and_every_port_is_told(rt: HostRuntime) -> Result<(), Fail> {
+    let alloc = rt.alloc();
+    let runs = [run_of(alloc, Vec::new(alloc)), answers(alloc)?];
+    let ends = [end_of(alloc), end_of(alloc)];
+    let text = report(alloc, &every_answer(alloc)?, &runs, &ends)?;
+    assert_eq!(rt;
+        text.as_slice(),
+        b"1.all_1.0 getm icrnl ixon opost onlcr isig icanon echo echoe echok echoke echoctl iexten intr=3 quit=28 erase=127 kill=21 eof=4 time=0 min=1 start=17 stop=19 susp=26 eol=0 reprint=18 werase=23 lnext=22 eol2=0
+1.all_1.1 counts mark=1 parity=2 frame=3 break=4 cut=5 echo=6 pin=7 pout=8 pbad=9 pfull=10
+1.all_1.2 inq 4294967295
+1.all_1.3 write 5
+1.all_1.4 take 2 00af
+1.all_1.5 read 0
+1.all_1.6 send EMSGSIZE
+1.all_1.7 drain idle
+1.all_1.8 modes ok
+port 0 line arrived=0 lost=0 sent=0 overrun=0 flip=4096
+port 0 input taken=0 dropped=0
+port 0 counts mark=0 parity=0 frame=0 break=0 cut=0 echo=0 pin=0 pout=0 pbad=0 pfull=0
+port 0 signals -
+port 0 generation 0
+port 0 wire -
+port 1 line arrived=0 lost=0 sent=0 overrun=0 flip=64
+port 1 input taken=0 dropped=0
+port 1 counts mark=0 parity=0 frame=0 break=0 cut=0 echo=0 pin=0 pout=0 pbad=0 pfull=0
+port 1 signals -
+port 1 generation 0
+port 1 wire -
+done
+"
+            .as_slice()
+    );
+    Ok(())
+}
+
+/// One caller, who opens a port, makes it raw, reads three bytes and closes it.
+fn three_bytes(alloc: Global) -> Result<Session, AllocError> {
+    let modes = Call::SetModes {
+        h: 0,
+        when: When::Now,
+        words: Buffer::new(alloc),
+    };
+    let read = Call::Read { h: 0, n: 64 };
+    let first = script_of(0, "a", vec![in alloc; open(), modes]?);
+    let second = script_of(0, "a", vec![in alloc; read, Call::Close { h: 0 }]?);
+    let early = phase_of(alloc, vec![in alloc; first]?);
+    let late = phase_of(alloc, vec![in alloc; second]?);
+    Ok(Session {
+        version: 1,
+        ports: 1,
+        flips: Buffer::new(alloc),
+        phases: Buffer::from_vec(vec![in alloc; early, late]?),
+    })
+}
+
+fn good(byte: u8) -> Flagged {
+    Flagged {
+        byte,
+        flag: Flag::Normal,
+    }
+}
+
+fn run_of_three_bytes(alloc: Global) -> Result<PortRun, AllocError> {
+    let three = Buffer::from_vec(vec![in alloc; good(b'h'), good(b'i'), good(10)]?);
+    let caller = Who::Caller(0);
+    let journal = vec![in alloc;
+        entry_of(Who::Line, 0, 0, Event::LineEnd(0)),
+        answer_of(alloc, 0, 0, Answer::Done),
+        answer_of(alloc, 0, 1, Answer::Done),
+        entry_of(caller, 2, 0, Event::CallerEnd),
+        entry_of(Who::Clock, 0, 0, Event::ClockEnd),
+        entry_of(Who::Session, 0, 0, Event::PhaseEnd),
+        entry_of(Who::Flusher, 0, 0, Event::Flush(three)),
+        entry_of(Who::Line, 1, 0, Event::LineEnd(3)),
+        answer_of(alloc, 0, 2, Answer::Got(bytes_of(alloc, b"hi\n")?)),
+        answer_of(alloc, 0, 3, Answer::Done),
+        entry_of(caller, 4, 1, Event::CallerEnd),
+        entry_of(Who::Clock, 1, 1, Event::ClockEnd),
+        entry_of(Who::Session, 1, 1, Event::PhaseEnd),
+        entry_of(Who::Session, 2, 1, Event::Hangup(Buffer::new(alloc))),
+    ]?;
+    Ok(PortRun {
+        journal: Buffer::from_vec(journal),
+        line: LineReport {
+            arrived: 3,
+            fifo_lost: 0,
+            sent: 3,
+            overruns: Buffer::new(alloc),
+        },
+    })
+}
+
+#[test]
+fn the_journal_of_three_bytes_stands_before_done(rt: HostRuntime) -> Result<(), Fail> {
+    let alloc = rt.alloc();
+    let session = three_bytes(alloc)?;
+    let runs = [run_of_three_bytes(alloc)?];
+    let text = play_text(alloc, &session, &runs, &[end_of(alloc)], true)?;
+    assert_eq!(rt;
+        text.as_slice(),
+        b"0.a.0 open ok
+0.a.1 modes ok
+0.a.2 read 3 68690a
+0.a.3 close ok
+port 0 line arrived=3 lost=0 sent=3 overrun=0
+port 0 input taken=3 dropped=0
+port 0 counts mark=0 parity=0 frame=0 break=0 cut=0 echo=0 pin=0 pout=0 pbad=0 pfull=0
+port 0 signals -
+port 0 generation 0
+port 0 wire -
+journals
+journal 0 14
+*line 0 0 0 line_end 0
+a 0 0 0 answer ok
+a 1 0 0 answer ok
+a 2 0 0 caller_end
+*clock 0 0 0 clock_end
+*session 0 0 0 phase_end
+*flush 0 0 0 flush n68n69n0a
+*line 1 0 0 line_end 3
+a 2 0 0 answer 3 68690a
+a 3 0 0 answer ok
+a 4 0 1 caller_end
+*clock 1 0 1 clock_end
+*session 1 0 1 phase_end
+*session 2 0 1 hangup -
+overruns 0 0
+line 0 3 0 3
+done
+"
+            .as_slice()
+    );
+    Ok(())
+}
+
+fn flagged(flag: Flag) -> Flagged {
+    Flagged { byte: 0x0f, flag }
+}
+
+#[test]
+fn further_entries_and_overruns_are_told(rt: HostRuntime) -> Result<(), Fail> {
+    let alloc = rt.alloc();
+    let characters = Buffer::from_vec(vec![in alloc;
+        flagged(Flag::Normal),
+        flagged(Flag::Break),
+        flagged(Flag::Parity),
+        flagged(Flag::Frame),
+        flagged(Flag::Overrun),
+    ]?);
+    let dropped = Buffer::from_vec(vec![in alloc; good(b'x')]?);
+    let caller = Who::Caller(0);
+    let journal = vec![in alloc;
+        entry_of(caller, 0, 0, Event::Wait),
+        entry_of(caller, 0, 0, Event::Part(64)),
+        entry_of(Who::Clock, 0, 0, Event::Tick),
+        entry_of(caller, 0, 0, Event::Answer(Answer::Done, dropped)),
+        entry_of(Who::Session, 1, 0, Event::Hangup(characters)),
+    ]?;
+    let overrun = Overrun {
+        at: 64,
+        sent: 64,
+        seen: 0,
+    };
+    let run = PortRun {
+        journal: Buffer::from_vec(journal),
+        line: LineReport {
+            arrived: 70,
+            fifo_lost: 5,
+            sent: 64,
+            overruns: Buffer::from_vec(vec![in alloc; overrun]?),
+        },
+    };
+    let text = journal_text(alloc, &three_bytes(alloc)?, &[run])?;
+    assert_eq!(rt;
+        text.as_slice(),
+        b"journals
+journal 0 5
+a 0 0 0 wait
+a 0 0 0 part 64
+*clock 0 0 0 tick
+a 0 0 0 answer ok drop n78
+*session 1 0 0 hangup n0fb0fp0ff0fo0f
+overruns 0 1
+64 64 0
+line 0 70 5 64
+"
+            .as_slice()
+    );
+    Ok(())
+}

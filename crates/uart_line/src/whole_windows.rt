@@ -1,0 +1,124 @@
+//! Whole windows of good characters: where none wait and as many come as the trigger says, the handler
+//! takes each as it came, and no register has to be asked.
+ghost use Rattle.std.specs.Prelude.{◌≡◌, ◌<◌, ◌≤◌, ◌+◌, ℕ, true, List, [], ◌∷◌, ◌++◌, take, length, IsTrue};
+ghost use Rattle.std.proofs.Common.{◌⊎◌};
+ghost use Rattle.std.specs.List.{All, list_all, flat_map};
+ghost use Rattle.std.specs.List.Sorted.{IsNonDecreasing};
+ghost use Rattle.tty_base.specs.declared.lines.LineStep.{LineStep};
+ghost use Rattle.tty_base.specs.Lines.{arrival, arrival_count, is_step};
+ghost use Rattle.uart_line.specs.Received.{received_list};
+ghost use Rattle.uart_line.specs.LineState.{HasDone, IsUncut};
+ghost use Rattle.uart_line.specs.Offered.{HandsOver};
+ghost use Rattle.uart_line.specs.Handler.{Serves};
+ghost use Rattle.uart_line.specs.WholeWindow.{is_good_arrival, IsWholeWindow};
+
+use super::{Line, show};
+use tty_base::{Flag, Flagged, LineStep, Put};
+
+impl Line {
+    /// Does the first of these steps; or as many as bring a whole window of good characters, at the last
+    /// of which the handler runs. Answers how many.
+    pub fn step_window<P: Put>(&mut self, steps: &[LineStep], put: &mut P) -> usize
+        requires some { 0 < length steps.now }
+        requires good { All (λ step. IsTrue (is_step step)) steps.now }
+        requires room { self.old.report.arrived + arrival_count steps.now ≤ self.old.most }
+        requires put { self.old.most ≤ P.room put.old + self.old.handed }
+
+        ensures some { 0 < result }
+        ensures within { result ≤ length steps.now }
+        ensures done { (before : List LineStep) → HasDone self.old before → HasDone self.new (before ++ take result steps.now) }
+        ensures room { self.new.most ≡ self.old.most }
+        ensures arrived { self.new.report.arrived ≡ self.old.report.arrived + arrival_count (take result steps.now) }
+
+        // No cut stands before the last of them.
+        ensures uncut { (before : List LineStep) → HasDone self.old before
+            → (k : ℕ) → k < result → IsUncut self.old before (take k steps.now) }
+
+        ensures hands_over { (before : List LineStep) → HasDone self.old before
+            → HandsOver (P.capacity put.old) (received_list before) (received_list (before ++ take result steps.now))
+            (P.sent put.old) (P.sent put.new) (P.heads put.old) (P.heads put.new)
+            self.old.report.overruns.items self.new.report.overruns.items }
+        ensures shown { (put.new ≡ put.old) ⊎ P.visible put.new }
+        ensures capacity { P.capacity put.new ≡ P.capacity put.old }
+        ensures name { P.name put.new ≡ P.name put.old }
+        ensures put { self.new.most ≤ P.room put.new + self.new.handed }
+        ensures rise { IsNonDecreasing (P.heads put.old) → IsNonDecreasing (P.heads put.new) }
+    {
+        let count = self.window_in(steps);
+        if count == 0 {
+            self.advance(steps[0], put);
+            return 1;
+        }
+        self.pass_window(&steps[..count], put);
+        count
+    }
+
+    // How many of these steps bring a whole window of good characters, or 0.
+    fn window_in(&self, steps: &[LineStep]) -> usize
+        ensures within { result ≤ length steps.now }
+        ensures window { 0 < result → IsWholeWindow self.now (take result steps.now) }
+    {
+        let count = usize::from(self.uart.trigger());
+        if self.masked || self.window > 0 || steps.len() < count {
+            return 0;
+        }
+        if are_good_arrivals(&steps[..count]) {
+            count
+        } else {
+            0
+        }
+    }
+
+    // Hands over what arrives in these steps, as it came.
+    fn pass_window<P: Put>(&mut self, steps: &[LineStep], put: &mut P)
+        requires good { list_all is_good_arrival steps.now ≡ true }
+        requires few { length steps.now ≤ 14 }
+        requires room { self.old.report.arrived + length steps.now ≤ self.old.most }
+        requires put { self.old.most ≤ P.room put.old + self.old.handed }
+        ensures serves { Serves (P.capacity put.old) (record self.old { report = record self.old.report { arrived = self.old.report.arrived + length steps.now } })
+            self.new (flat_map arrival steps.now) (P.sent put.old) (P.sent put.new) (P.heads put.old) (P.heads put.new) }
+        ensures registers { self.new.registers ≡ self.old.registers }
+        ensures window { self.new.window ≡ self.old.window }
+        ensures lost { self.new.report.fifo_lost ≡ self.old.report.fifo_lost }
+        ensures count { self.new.report.sent + length self.new.report.overruns.items ≡ self.new.handed }
+        ensures visible { P.visible put.new }
+        ensures capacity { P.capacity put.new ≡ P.capacity put.old }
+        ensures name { P.name put.new ≡ P.name put.old }
+        ensures put { self.new.most ≤ P.room put.new + self.new.handed }
+        ensures rise { IsNonDecreasing (P.heads put.old) → IsNonDecreasing (P.heads put.new) }
+    {
+        self.report.arrived += steps.len() as u32;
+        for step in steps {
+            self.offer(good_character(*step), put);
+        }
+        let _ = &self.window;
+        show(put);
+    }
+}
+
+/// Whether a good character arrives in each of these steps.
+fn are_good_arrivals(steps: &[LineStep]) -> bool
+    ensures { result ≡ list_all is_good_arrival steps.now }
+{
+    steps.iter().all(|step| is_good_arrival(*step))
+}
+
+fn is_good_arrival(step: LineStep) -> bool
+    ensures { result ≡ is_good_arrival step }
+{
+    match step {
+        LineStep::Rx(c) => matches!(c.flag, Flag::Normal),
+        _ => false,
+    }
+}
+
+/// The good character that arrives in a step.
+fn good_character(step: LineStep) -> Flagged
+    requires { is_good_arrival step ≡ true }
+    ensures { arrival step ≡ result ∷ [] }
+{
+    match step {
+        LineStep::Rx(c) => c,
+        _ => unreachable!(),
+    }
+}

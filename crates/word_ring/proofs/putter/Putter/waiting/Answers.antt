@@ -1,0 +1,26 @@
+use Rattle.std.proofs.Common.{rules, sym, subst}
+use Rattle.std.specs.List.Sorted.{IsNonDecreasing}
+use Rattle.word_ring.specs.declared.table.View.{View}
+use Rattle.word_ring.specs.PutterParts.{IsPutting}
+use Rattle.word_ring.proofs.Keeps.{loads_head}
+use Rattle.word_ring.proofs.Putting.{after_load}
+use Rattle.word_ring.proofs.putter.Putter.waiting.Goals as goal
+
+pub load-head-requires : goal.load-head-requires
+load-head-requires c = (search rules, search rules, loads_head _ _ _ _ c.self.invariant.putting.puts)
+
+pub invariant_of-self : goal.invariant_of-self
+invariant_of-self c = record {
+  table = search rules;
+  key = search rules;
+  words = search rules;
+  small = search rules;
+  at = search rules;
+  bare = search rules;
+  putting = subst (IsPutting c.self.inside.capacity c.self.inside.sent c.self.inside.word) (sym c.load-head.ensures.2.0) (after_load _ _ _ _ c.self.invariant.putting c.load-head.result c.load-head.ensures.2.2);
+}
+
+pub returns-clause-rise : goal.returns-clause-rise
+returns-clause-rise c =
+    let p = after_load _ _ _ _ c.self.invariant.putting c.load-head.result c.load-head.ensures.2.2 in
+    subst (λ (v : View). IsNonDecreasing v.heads) (sym c.load-head.ensures.2.0) p.rise
