@@ -53,8 +53,11 @@ static struct rate library_input(const char *const *words) {
         check(jw_set(&tty, (const uint8_t *)*words, strlen(*words)) == 1, *words);
     struct rate start = now();
     for (size_t total = 0; total < TOTAL; total += PIECE) {
-        for (size_t i = 0; i < PIECE; i++)
-            check(jw_receive(&tty, text[i], JW_NORMAL) == 1, "jw_receive");
+        for (size_t done = 0; done < PIECE;) {
+            int64_t count = jw_receive_bytes(&tty, text + done, PIECE - done);
+            check(count > 0, "jw_receive_bytes");
+            done += (size_t)count;
+        }
         for (size_t got = 0; got < PIECE;) {
             int64_t count = jw_read(&tty, false, 0, place, sizeof place);
             check(count > 0, "jw_read");

@@ -1,7 +1,7 @@
 /* jinthwyr.h: the line discipline N_TTY, proved, for programs in C.
 
    A jw_tty is a terminal's line discipline with its modes, its output, the signals that it raised, and a clock. Characters
-   come in by jw_receive, programs read and write by jw_read and jw_write, and what goes out is taken by jw_take_wire.
+   come in by jw_receive and jw_receive_bytes, programs read and write by jw_read and jw_write, and what goes out is taken by jw_take_wire.
    It is termios(3) in the profile that the README of the repository tells.
 
    Link libtty_c.a, and heap.c or three functions like those in it. What a program owes, which nothing checks:
@@ -45,6 +45,10 @@ int64_t jw_free(jw_tty *tty);
 /* Receives one character from the line. Answers 1 where it was accepted, and 0 where there is no room for it until
    something is read: nothing has changed then, and it is to be offered again. */
 int64_t jw_receive(jw_tty *tty, uint8_t byte, uint8_t flag);
+
+/* Receives good characters, the first 64 at most, up to the first that is not accepted. Answers how many were: where fewer
+   than 64 and fewer than len, there is no room for the next until something is read. Want of memory refuses them all. */
+int64_t jw_receive_bytes(jw_tty *tty, const uint8_t *bytes, size_t len);
 
 /* Sets the clock to a tick, a tenth of a second, the unit of TIME. It does not go back. Answers 0. */
 int64_t jw_advance(jw_tty *tty, uint64_t tick);

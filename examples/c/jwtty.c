@@ -122,8 +122,8 @@ int main(int argc, char **argv) {
     uint64_t since = tick_of_now();
     for (bool at_keyboard = true, runs = true; runs;) {
         jw_advance(&tty, tick_of_now());
-        while (typed.at < typed.len && sure(jw_receive(&tty, typed.bytes[typed.at], JW_NORMAL)) == 1)
-            typed.at++;
+        for (int64_t n = 1; n > 0 && typed.at < typed.len; typed.at += (size_t)n)
+            n = sure(jw_receive_bytes(&tty, typed.bytes + typed.at, typed.len - typed.at));
         for (int64_t n = 1; n > 0 && written.at < written.len; written.at += (size_t)n)
             n = sure(jw_write(&tty, written.bytes + written.at, written.len - written.at));
         pass_on(&tty, child);

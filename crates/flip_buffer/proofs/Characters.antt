@@ -1,9 +1,10 @@
 -- Lists of numbers seen as characters.
-use Rattle.std.proofs.Common.{◌≡◌, ℕ, List, [], ◌∷◌, ◌++◌, map, length, true, refl, sym, ap, subst, ◌∙◌, ⊎_elim, inl, inr}
+use Rattle.std.proofs.Common.{arith, ◌/◌, ◌%◌, ◌≡◌, ℕ, List, [], ◌∷◌, ◌++◌, map, length, true, refl, sym, ap, subst, ◌∙◌, ⊎_elim, inl, inr}
 use mathlib.Core.List.{IsPrefix, map-append}
 use Rattle.std.proofs.lemmas.List.{append-nil, length-map}
 use Rattle.tty_base.specs.declared.characters.Flagged.{Flagged}
 use Rattle.word_ring.specs.Ends.{TakerState, IsOneWithin, with_taken}
+use Rattle.word_ring.specs.Lanes.{lane, lanes}
 use Rattle.flip_buffer.specs.Packed.{char_of, out_state}
 
 pub chars_begin : (xs ys : List ℕ) → IsPrefix xs ys → IsPrefix (map char_of xs) (map char_of ys)
@@ -37,3 +38,12 @@ pub record Took {A : Type 0} (t t' : TakerState A) (xs : List A) : Type 0 where
 pub took : {A : Type 0} (t : TakerState A) (xs : List A) → Took t (with_taken t xs) xs
 took t [] = record { ring = refl; capacity = refl; taken = sym (append-nil t.taken); tails = refl; floor = refl; ended = refl; sent = refl }
 took t (x ∷ xs) = record { ring = refl; capacity = refl; taken = refl; tails = refl; floor = refl; ended = refl; sent = refl }
+
+-- the characters of a word, added one by one
+pub add_four : (xs : List Flagged) (w : ℕ) (a b c d : Flagged) → a ≡ char_of (w % 65536) → b ≡ char_of (w / 65536 % 65536) → c ≡ char_of (w / 4294967296 % 65536) → d ≡ char_of (w / 281474976710656 % 65536)
+    → (((xs ++ a ∷ []) ++ b ∷ []) ++ c ∷ []) ++ d ∷ [] ≡ xs ++ map char_of (lanes w 4)
+unfolding lane
+add_four [] w a b c d p q r s =
+    let first : w % 65536 ≡ w / 1 % 65536 = omega arith in
+    λ i. (p ∙ ap char_of first) i ∷ q i ∷ r i ∷ s i ∷ []
+add_four (x ∷ xs) w a b c d p q r s = ap (λ ys. x ∷ ys) (add_four xs w a b c d p q r s)

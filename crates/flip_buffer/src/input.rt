@@ -1,5 +1,5 @@
 //! The end that puts characters in, and its notes.
-ghost use Rattle.std.specs.Prelude.{◌≡◌, ◌+◌, ◌<◌, ◌≤◌, ◌^◌, [], ◌∷◌, ◌++◌, length, OnOk, OnErr, MatchResult};
+ghost use Rattle.std.specs.Prelude.{◌≡◌, ◌+◌, ◌<◌, ◌≤◌, ◌^◌, ◌↔◌, [], ◌∷◌, ◌++◌, length, IsTrue, OnOk, OnErr, MatchResult};
 ghost use Rattle.std.specs.List.Sorted.{IsNonDecreasing};
 ghost use Rattle.word_ring.specs.Ends.{with_loaded};
 
@@ -43,7 +43,7 @@ impl Model for FlipNote {
 }
 
 impl Put for FlipIn {
-    ghost use Rattle.std.specs.Prelude.{◌≡◌, ◌-◌, ◌^◌, length};
+    ghost use Rattle.std.specs.Prelude.{◌≡◌, ◌+◌, ◌-◌, ◌^◌, length};
     ghost use Rattle.word_ring.specs.Names.{name_of};
 
     ghost sent = { λ f. f.sent };
@@ -58,6 +58,8 @@ impl Put for FlipIn {
 
     ghost room = { λ f. 2 ^ 63 - length f.sent };
 
+    ghost free = { λ f. f.floor + f.capacity - length f.sent };
+
     /// Puts a character. `Full` says how many were put and how many of these were taken, at the head
     /// that this call loaded, and comes where as many as the capacity are left.
     fn put(&mut self, c: Flagged) -> Result<(), Full>
@@ -71,6 +73,42 @@ impl Put for FlipIn {
         ensures rise { IsNonDecreasing self.new.heads }
     {
         self.putter.put(number_of(c))
+    }
+
+    /// Whether so many more characters find room, by the head that this call loads.
+    #[inline(always)]
+    fn has_room(&mut self, count: usize) -> bool
+        ensures same { self.new ≡ with_loaded self.old self.new.floor }
+        ensures room { IsTrue result ↔ length self.old.sent + count ≤ self.new.floor + self.old.capacity }
+        ensures fits { length self.old.sent ≤ self.new.floor + self.old.capacity }
+        ensures rises { (self.old.floor ≤ self.new.floor) × (self.new.floor ≤ length self.old.pushed) }
+        ensures rise { IsNonDecreasing self.new.heads }
+    {
+        let waiting = self.waiting();
+        count as u64 <= self.putter.capacity() - waiting
+    }
+
+    /// Puts a character for which there is room by the latest head that was loaded.
+    #[inline(always)]
+    fn put_known(&mut self, c: Flagged)
+        requires small { length self.old.sent < 2 ^ 63 }
+        requires room { length self.old.sent < self.old.floor + self.old.capacity }
+        ensures { self.new ≡ record self.old { sent = self.old.sent ++ c ∷ [] } }
+    {
+        self.putter.put_known(number_of(c));
+    }
+
+    /// Puts four characters for which there is room by the latest head that was loaded.
+    #[inline(always)]
+    fn put_four(&mut self, chars: [Flagged; 4])
+        requires small { length self.old.sent + 4 ≤ 2 ^ 63 }
+        requires room { length self.old.sent + 4 ≤ self.old.floor + self.old.capacity }
+        ensures same { self.new ≡ record self.old { sent = self.old.sent ++ chars } }
+        ensures count { length self.new.sent ≡ length self.old.sent + 4 }
+    {
+        let [a, b, c, d] = chars;
+        self.putter
+            .put_four([number_of(a), number_of(b), number_of(c), number_of(d)]);
     }
 
     /// Makes all that was put visible to the other end.
@@ -105,6 +143,7 @@ impl FlipIn {
     pub fn waiting(&mut self) -> u64
         ensures same { self.new ≡ with_loaded self.old self.new.floor }
         ensures count { result + self.new.floor ≡ length self.old.sent }
+        ensures most { result ≤ self.old.capacity }
         ensures rises { (self.old.floor ≤ self.new.floor) × (self.new.floor ≤ length self.old.pushed) }
         ensures rise { IsNonDecreasing self.new.heads }
     {

@@ -1,14 +1,15 @@
 //! The end that takes characters out.
-ghost use Rattle.std.specs.Prelude.{◌≡◌, ℕ, ◌+◌, ◌-◌, ◌<◌, ◌≤◌, true, List, [], ◌∷◌, ◌++◌, map, length, take, min, max, All};
+ghost use Rattle.std.specs.Prelude.{◌≡◌, ℕ, ◌+◌, ◌-◌, ◌*◌, ◌%◌, ◌<◌, ◌≤◌, true, List, [], ◌∷◌, ◌++◌, map, length, take, min, max, All};
 ghost use mathlib.Core.List.{IsPrefix};
 ghost use Rattle.arrayvec.specs.ArrayVec.{array_vec_len};
 ghost use Rattle.tty_base.specs.declared.characters.Flagged.{Flagged};
+ghost use Rattle.word_ring.specs.Lanes.{lanes};
 ghost use Rattle.word_ring.specs.Ends.{IsOneWithin, AreReleased, with_shown, with_taken};
 ghost use Rattle.flip_buffer.specs.Drops.{LooksAt, Releases};
 ghost use Rattle.flip_buffer.specs.Packed.{char_of};
 
 use crate::input::{FlipIn, FlipNote};
-use crate::packed::character_of;
+use crate::packed::{add_characters, character_of};
 use arrayvec::ArrayVec;
 use std::marker::Model;
 use tty_base::{Chars, Flagged, Moves};
@@ -102,9 +103,45 @@ impl FlipOut {
         ensures peeks { (xs : List Flagged) × (length xs ≡ count) × (out.new.items ≡ out.old.items ++ xs) × (self.new ≡ record self.old { peeked = self.old.peeked ++ xs }) }
         ensures len { array_vec_len out.new ≡ array_vec_len out.old + count }
     {
+        let lead = self.taker.before_word().min(count);
+        self.peek_each(lead, out);
+        self.peek_words((count - lead) / 4, out);
+        self.peek_each((count - lead) % 4, out);
+    }
+
+    // The same, one after the other.
+    fn peek_each(&mut self, count: usize, out: &mut ArrayVec<Flagged, 64>)
+        requires shown { length self.old.taken + length self.old.peeked + count ≤ self.old.floor }
+        requires room { array_vec_len out.old + count ≤ 64 }
+        ensures peeks { (xs : List Flagged) × (length xs ≡ count) × (out.new.items ≡ out.old.items ++ xs) × (self.new ≡ record self.old { peeked = self.old.peeked ++ xs }) }
+        ensures len { array_vec_len out.new ≡ array_vec_len out.old + count }
+    {
         for _ in 0..count {
             out.push(self.peek_next());
         }
+    }
+
+    // The same for so many words, the first of which begins with the next character.
+    fn peek_words(&mut self, words: usize, out: &mut ArrayVec<Flagged, 64>)
+        requires begins { 0 < words → (length self.old.taken + length self.old.peeked) % 4 ≡ 0 }
+        requires shown { length self.old.taken + length self.old.peeked + 4 * words ≤ self.old.floor }
+        requires room { array_vec_len out.old + 4 * words ≤ 64 }
+        ensures peeks { (xs : List Flagged) × (length xs ≡ 4 * words) × (out.new.items ≡ out.old.items ++ xs) × (self.new ≡ record self.old { peeked = self.old.peeked ++ xs }) }
+        ensures len { array_vec_len out.new ≡ array_vec_len out.old + 4 * words }
+    {
+        for _ in 0..words {
+            add_characters(self.peek_word(), out);
+        }
+    }
+
+    // The word of the next four characters, where the first of them begins it.
+    #[inline(always)]
+    fn peek_word(&mut self) -> u64
+        requires begins { (length self.old.taken + length self.old.peeked) % 4 ≡ 0 }
+        requires shown { length self.old.taken + length self.old.peeked + 4 ≤ self.old.floor }
+        ensures { self.new ≡ record self.old { peeked = self.old.peeked ++ map char_of (lanes result 4) } }
+    {
+        self.taker.peek_word()
     }
 
     /// Takes the first `n` characters that were peeked, by one store of the head, and the others are

@@ -1,9 +1,13 @@
 //! A character in a number of 16 bits.
-ghost use Rattle.std.specs.Prelude.{◌≡◌, ◌≤◌};
+ghost use Rattle.std.specs.Prelude.{◌≡◌, ◌+◌, ◌/◌, ◌%◌, ◌<◌, ◌≤◌, ◌++◌, map, IsTrue};
+ghost use Rattle.arrayvec.specs.ArrayVec.{array_vec_len};
+ghost use Rattle.word_ring.specs.Lanes.{lanes};
 ghost use Rattle.flip_buffer.specs.Packed.{char_of, flag_of_number};
 
+use arrayvec::ArrayVec;
 use tty_base::{Flag, Flagged};
 
+#[inline(always)]
 fn flag_number(flag: Flag) -> u16
     ensures fits { result ≤ 4 }
     ensures flag { flag_of_number result ≡ flag }
@@ -17,6 +21,7 @@ fn flag_number(flag: Flag) -> u16
     }
 }
 
+#[inline(always)]
 fn numbered_flag(number: u16) -> Flag
     ensures { result ≡ flag_of_number number }
 {
@@ -30,6 +35,7 @@ fn numbered_flag(number: u16) -> Flag
 }
 
 /// The number that stands for a character.
+#[inline(always)]
 pub(crate) fn number_of(c: Flagged) -> u16
     ensures { char_of result ≡ c }
 {
@@ -37,11 +43,65 @@ pub(crate) fn number_of(c: Flagged) -> u16
 }
 
 /// The character that a number stands for.
+#[inline(always)]
 pub(crate) fn character_of(x: u16) -> Flagged
     ensures { result ≡ char_of x }
 {
     Flagged {
         byte: (x % 256) as u8,
         flag: numbered_flag(x / 256),
+    }
+}
+
+/// Adds the characters that the numbers of a word stand for. Mostly all of them are good.
+#[inline(always)]
+pub(crate) fn add_characters(word: u64, out: &mut ArrayVec<Flagged, 64>)
+    requires { array_vec_len out.old + 4 ≤ 64 }
+    ensures items { out.new.items ≡ out.old.items ++ map char_of (lanes word 4) }
+    ensures len { array_vec_len out.new ≡ array_vec_len out.old + 4 }
+{
+    if are_good(word) {
+        out.push(good_character_of(word));
+        out.push(good_character_of(word / 65536));
+        out.push(good_character_of(word / 4294967296));
+        out.push(good_character_of(word / 281474976710656));
+    } else {
+        add_any_characters(word, out);
+    }
+}
+
+/// The same for any word.
+#[inline(never)]
+fn add_any_characters(word: u64, out: &mut ArrayVec<Flagged, 64>)
+    requires { array_vec_len out.old + 4 ≤ 64 }
+    ensures items { out.new.items ≡ out.old.items ++ map char_of (lanes word 4) }
+    ensures len { array_vec_len out.new ≡ array_vec_len out.old + 4 }
+{
+    out.push(character_of((word % 65536) as u16));
+    out.push(character_of((word / 65536 % 65536) as u16));
+    out.push(character_of((word / 4294967296 % 65536) as u16));
+    out.push(character_of((word / 281474976710656 % 65536) as u16));
+}
+
+/// Whether the numbers of a word all stand for good characters.
+#[inline(always)]
+fn are_good(word: u64) -> bool
+    ensures { IsTrue result → (word % 65536 < 256) × (word / 65536 % 65536 < 256) × (word / 4294967296 % 65536 < 256) × (word / 281474976710656 % 65536 < 256) }
+{
+    word / 256 % 256 == 0
+        && word / 16777216 % 256 == 0
+        && word / 1099511627776 % 256 == 0
+        && word / 72057594037927936 == 0
+}
+
+/// The good character that the first number of a word stands for.
+#[inline(always)]
+fn good_character_of(word: u64) -> Flagged
+    requires { word % 65536 < 256 }
+    ensures { result ≡ char_of (word % 65536) }
+{
+    Flagged {
+        byte: (word % 256) as u8,
+        flag: Flag::Normal,
     }
 }

@@ -265,10 +265,7 @@ fn hold(held: &mut Vec<u8>, bytes: &[u8])
     ensures capacity { vec_capacity held.old ≤ vec_capacity held.new }
 {
     if let [byte] = bytes {
-        match held.push(*byte) {
-            Ok(()) => {}
-            Err(_) => unreachable!(),
-        }
+        held.push_reserved(*byte);
         return;
     }
     match held.extend_from_slice(bytes) {

@@ -4,3 +4,4 @@ pub mod EchoLemmas
 pub mod TakingLemmas
 pub mod ColumnLemmas
 pub mod WithoutRoom
+pub mod RunLemmas

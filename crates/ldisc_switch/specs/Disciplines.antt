@@ -1,5 +1,5 @@
 -- A line discipline of a port: N_TTY or N_SLIP.
-use Rattle.std.specs.Prelude.{ℕ, ◌==◌, Bool, true, false, Option, Some, None, if◌then◌else◌}
+use Rattle.std.specs.Prelude.{◌≡◌, ℕ, ◌==◌, List, [], ◌∷◌, Bool, true, false, Option, Some, None, if◌then◌else◌}
 use Rattle.tty_base.specs.declared.characters.Flagged.{Flagged}
 use Rattle.tty_modes.specs.Settings.{Settings}
 use Rattle.flow_control.specs.Output.{Output, without_room}
@@ -85,6 +85,17 @@ after_character_of modes now c (disc.Tty tty) output tally = tty_on_port (after_
 after_character_of modes now c (disc.Slip slip) output tally =
     disc_on_port (disc.Slip (after_slip_character slip c)) (after_ixoff_rule_of modes (disc.Slip slip) output)
     (record tally { counts = counts_after_character slip c tally.counts })
+
+-- after these characters, one after the other
+abbrev pub after_characters_of : Settings → (now : ℕ) → List Flagged → DiscOnPort → DiscOnPort
+after_characters_of modes now [] port = port
+after_characters_of modes now (c ∷ cs) port = after_characters_of modes now cs (after_character_of modes now c port.disc port.output port.tally)
+
+-- each of these is accepted in its turn
+abbrev pub AcceptsAllOf : Settings → (now : ℕ) → List Flagged → DiscOnPort → Type 0
+AcceptsAllOf modes now [] port = Unit {0}
+AcceptsAllOf modes now (c ∷ cs) port =
+    (accepts_of modes port.disc ≡ true) × AcceptsAllOf modes now cs (after_character_of modes now c port.disc port.output port.tally)
 
 -- a discipline with its port as others see it: reserved room is no part of it
 abbrev pub disc_without_room : DiscOnPort → DiscOnPort

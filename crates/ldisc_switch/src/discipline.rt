@@ -1,6 +1,7 @@
-ghost use Rattle.std.specs.Prelude.{◌≡◌, ◌+◌, ◌^◌, ◌<◌, ◌≤◌, List, [], ◌∷◌, ◌++◌, IfOk, true};
+ghost use Rattle.std.specs.Prelude.{◌≡◌, ◌+◌, ◌*◌, ◌^◌, ◌<◌, ◌≤◌, List, length, take, [], ◌∷◌, ◌++◌, IfOk, true};
 ghost use Rattle.tty_modes.specs.Settings.{Settings};
-ghost use Rattle.ldisc_switch.specs.Disciplines.{kind_of, fresh_of, accepts_of, unread_of, Fits, column_in, last_in, pending_count_of, after_ixoff_rule_of, disc_on_port, after_character_of};
+ghost use Rattle.flow_control.specs.declared.tally.Tally.{Tally};
+ghost use Rattle.ldisc_switch.specs.Disciplines.{kind_of, fresh_of, accepts_of, unread_of, Fits, column_in, last_in, pending_count_of, after_ixoff_rule_of, disc_on_port, after_character_of, after_characters_of, AcceptsAllOf};
 ghost use Rattle.ldisc_switch.specs.Happenings.{Conditions, Happening, character, ixoff_rule, HasHappened};
 
 use crate::Kind;
@@ -113,6 +114,39 @@ impl Disc {
             Disc::Slip(slip) => {
                 slip.receive(c, tally);
                 apply_ixoff_rule(0, false, modes, wire);
+            }
+        }
+    }
+
+    /// Receives the characters at the front that concern few rules, all at once, and the rule for ixoff does nothing at them.
+    /// Answers how many; `receive` is for the next, if it is accepted.
+    #[inline(always)]
+    pub fn receive_run(
+        &mut self,
+        chars: &[Flagged],
+        now: u64,
+        modes: &Modes,
+        wire: &mut Wire,
+    ) -> usize
+        requires fitting { Fits modes.now self.old }
+        requires room { pending_count_of self.old wire.old + CHARACTER_ROOM * length chars.now ≤ wire.old.spare }
+        requires column { column_in self.old < 2 ^ 62 }
+        ensures within { result ≤ length chars.now }
+        ensures after { (tally : Tally) → disc_on_port self.new wire.new tally
+            ≡ after_characters_of modes.now now (take result chars.now) (disc_on_port self.old wire.old tally) }
+        ensures accepted { (tally : Tally) → AcceptsAllOf modes.now now (take result chars.now) (disc_on_port self.old wire.old tally) }
+        ensures fits { Fits modes.now self.new }
+        ensures spent { wire.old.spare + pending_count_of self.new wire.new
+            ≤ wire.new.spare + (pending_count_of self.old wire.old + CHARACTER_ROOM * result) }
+        ensures moved { column_in self.new ≤ column_in self.old + result }
+    {
+        match self {
+            Disc::Tty(tty) => tty.receive_run(chars, now, modes, wire),
+            Disc::Slip(slip) => {
+                if wire.noted() {
+                    return 0;
+                }
+                slip.receive_run(chars)
             }
         }
     }

@@ -1,8 +1,10 @@
-ghost use Rattle.std.specs.Prelude.{◌≡◌, ◌<◌, ◌≤◌, ◌+◌, IfOk, [], ◌∷◌, ◌++◌, length, drop, slice_set, vec_len, vec_capacity};
+ghost use Rattle.std.specs.Prelude.{◌≡◌, ◌<◌, ◌≤◌, ◌+◌, IfOk, [], ◌∷◌, ◌++◌, length, take, drop, slice_set, vec_len, vec_capacity};
+ghost use Rattle.std.specs.List.{AllByRecursion};
+ghost use Rattle.line_store.specs.Good.{IsGood, bytes_in};
 
 use std::alloc::Global;
 use std::marker::Model;
-use tty_base::NoMemory;
+use tty_base::{Flag, Flagged, NoMemory};
 
 /// How many items a queue holds at most.
 const MOST: usize = 4096;
@@ -39,14 +41,12 @@ impl<T: Copy> Queue<T> {
     }
 
     /// Adds an item at the end.
+    #[inline(always)]
     pub fn push(&mut self, item: T)
         requires { length self.old < 4096 }
         ensures { self.new ≡ self.old ++ item ∷ [] }
     {
-        match self.items.push(item) {
-            Ok(()) => {}
-            Err(_) => unreachable!(),
-        }
+        self.items.push_reserved(item);
     }
 
     /// Adds several items at the end.
@@ -117,4 +117,37 @@ fn close_up<T: Copy>(items: &mut Vec<T>, start: usize)
     let count = items.len() - start;
     items.rotate_left(start);
     items.truncate(count);
+}
+
+impl Queue<u8> {
+    /// Adds the bytes of the good characters at the front. Answers how many.
+    pub fn append_good(&mut self, chars: &[Flagged]) -> usize
+        requires { length self.old + length chars.now ≤ 4096 }
+        ensures within { result ≤ length chars.now }
+        ensures good { AllByRecursion IsGood (take result chars.now) }
+        ensures added { self.new ≡ self.old ++ bytes_in (take result chars.now) }
+    {
+        push_good(&mut self.items, chars)
+    }
+}
+
+/// Adds the bytes of the good characters at the front, in room that is there. Answers how many.
+#[inline(always)]
+fn push_good(items: &mut Vec<u8>, chars: &[Flagged]) -> usize
+    requires { vec_len items.old + length chars.now ≤ vec_capacity items.old }
+    ensures within { result ≤ length chars.now }
+    ensures good { AllByRecursion IsGood (take result chars.now) }
+    ensures items { items.new.items ≡ items.old.items ++ bytes_in (take result chars.now) }
+    ensures len { vec_len items.new ≡ vec_len items.old + result }
+    ensures capacity { vec_capacity items.new ≡ vec_capacity items.old }
+{
+    let mut count = 0;
+    for c in chars {
+        match c.flag {
+            Flag::Normal => items.push_reserved(c.byte),
+            _ => return count,
+        }
+        count += 1;
+    }
+    count
 }

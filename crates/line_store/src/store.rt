@@ -1,11 +1,13 @@
 ghost use Rattle.std.specs.Prelude.{◌≡◌, ◌+◌, ◌-◌, ◌<◌, ◌≤◌, ◌↔◌, IfOk, [], ◌∷◌, ◌++◌, length, map, take, drop, slice_index};
+ghost use Rattle.std.specs.List.{AllByRecursion};
+ghost use Rattle.line_store.specs.Good.{IsGood, bytes_in};
 ghost use Rattle.line_store.specs.Unread.{Byte, End, bytes_of, end_count, first_piece, read_size, line_of, after_line};
 ghost use Rattle.line_store.specs.Pieces.{after_front};
 
 use super::queue::Queue;
 use std::alloc::Global;
 use std::marker::Model;
-use tty_base::{Bytes, NoMemory};
+use tty_base::{Bytes, Flagged, NoMemory};
 
 /// How many bytes a read gets at most.
 const MOST: usize = 4096;
@@ -44,6 +46,7 @@ impl Store {
     }
 
     /// Stores a byte.
+    #[inline(always)]
     pub fn push(&mut self, b: u8)
         requires { length (bytes_of self.old) < 4096 }
         ensures { self.new ≡ self.old ++ Byte b ∷ [] }
@@ -59,6 +62,18 @@ impl Store {
     {
         self.bytes.append(bytes);
         self.unended += bytes.len();
+    }
+
+    /// Stores the bytes of the good characters at the front. Answers how many.
+    pub fn append_good(&mut self, chars: &[Flagged]) -> usize
+        requires { length (bytes_of self.old) + length chars.now ≤ 4096 }
+        ensures within { result ≤ length chars.now }
+        ensures good { AllByRecursion IsGood (take result chars.now) }
+        ensures stored { self.new ≡ self.old ++ map Byte (bytes_in (take result chars.now)) }
+    {
+        let count = self.bytes.append_good(chars);
+        self.unended += count;
+        count
     }
 
     /// Ends the last piece: by its last byte, the delimiter, or with an EOF mark.

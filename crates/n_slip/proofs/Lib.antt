@@ -1,2 +1,3 @@
 pub mod Packets
 pub mod Happenings
+pub mod TextRuns

@@ -58,3 +58,12 @@ counts_with_piece counts waiting Bad = with_count counts counter.PacketBad 1
 -- the counts after one character more
 abbrev pub counts_after_character : Slip → Flagged → Counts → Counts
 counts_after_character slip c counts = counts_with_piece (counts_with_flag counts c.flag) slip.packets (answer_to slip.piece c)
+
+-- after these characters, one after the other, and the counts after them
+abbrev pub after_characters : Slip → List Flagged → Slip
+after_characters slip [] = slip
+after_characters slip (c ∷ cs) = after_characters (after_character slip c) cs
+
+abbrev pub counts_after_characters : Slip → List Flagged → Counts → Counts
+counts_after_characters slip [] counts = counts
+counts_after_characters slip (c ∷ cs) counts = counts_after_characters (after_character slip c) cs (counts_after_character slip c counts)

@@ -1,3 +1,4 @@
 pub mod Queue
 pub mod Discipline
 pub mod History
+pub mod Kept

@@ -14,8 +14,7 @@ pub record Holds (lengths bytes : List ℕ) : Type 0 where
   pub whole : sum lengths ≡ length bytes
   pub few : length lengths ≤ 64
 
--- and there is room for 64 of the longest
+-- and there are places for 64
 pub record IsQueue (q : Inside) : Type 0 where
-  pub holds : Holds q.lengths.items q.bytes.items
-  pub room : 64384 ≤ deque_capacity q.bytes
+  pub holds : Holds q.lengths.items q.bytes
   pub places : 64 ≤ deque_capacity q.lengths

@@ -1,8 +1,9 @@
-ghost use Rattle.std.specs.Prelude.{◌≡◌, ◌+◌, ◌-◌, ◌<◌, ◌≤◌, [], ◌∷◌, ◌++◌, List, length, drop, nat_le, IfOk, if◌then◌else◌};
+ghost use Rattle.std.specs.Prelude.{◌≡◌, ◌+◌, ◌-◌, ◌<◌, ◌≤◌, [], ◌∷◌, ◌++◌, List, length, take, drop, nat_le, IfOk, if◌then◌else◌};
 ghost use Rattle.flow_control.specs.Output.{room_of, after_send};
+ghost use Rattle.tty_base.specs.declared.counters.Counts.{Counts};
 ghost use Rattle.flow_control.specs.Counting.{with_count};
 ghost use Rattle.flow_control.specs.declared.tally.Counter.TheVariants.{PacketOut};
-ghost use Rattle.n_slip.specs.Discipline.{fresh_slip, first_packet, after_character, counts_with_flag, counts_after_character};
+ghost use Rattle.n_slip.specs.Discipline.{fresh_slip, first_packet, after_character, after_characters, counts_with_flag, counts_after_character, counts_after_characters};
 ghost use Rattle.n_slip.specs.History.{Happening, HasSeen, character, packet_take, flush};
 
 use crate::queue::{MOST, Queue};
@@ -48,6 +49,16 @@ impl NSlip {
         ensures seen { (events : List Happening) → HasSeen self.old events → HasSeen self.new (events ++ character c ∷ []) }
     {
         self.step(c, tally)
+    }
+
+    /// Takes the characters at the front that stand for themselves within a piece, all at once. Answers how many; none of them
+    /// is counted.
+    pub fn receive_run(&mut self, chars: &[Flagged]) -> usize
+        ensures within { result ≤ length chars.now }
+        ensures after { self.new ≡ after_characters self.old (take result chars.now) }
+        ensures counts { (counts : Counts) → counts_after_characters self.old (take result chars.now) counts ≡ counts }
+    {
+        self.decoder.feed_run(chars)
     }
 
     /// How many packets wait.

@@ -2,6 +2,7 @@
 #![tactic(auto)]
 
 mod discipline;
+mod kept;
 mod queue;
 
 pub use discipline::NSlip;

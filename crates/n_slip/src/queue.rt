@@ -1,7 +1,6 @@
 ghost use Rattle.std.specs.Prelude.{◌≡◌, ◌+◌, ◌-◌, ◌*◌, ◌<◌, ◌≤◌, [], ◌∷◌, ◌++◌, length, take, drop, IfOk, slice_index_or};
-ghost use Rattle.std.specs.VecDeque.{deque_len, deque_capacity};
 
-use slip_frames::MAX_PACKET;
+use crate::kept::Kept;
 use std::alloc::Global;
 use std::collections::VecDeque;
 use std::marker::Model;
@@ -13,7 +12,7 @@ pub const MOST: usize = 64;
 /// The packets that wait, oldest first: their bytes one after another, and the length of each.
 #[derive(Drop)]
 pub struct Queue {
-    bytes: VecDeque<u8>,
+    bytes: Kept,
     lengths: VecDeque<u32>,
 }
 
@@ -24,7 +23,7 @@ impl Model for Queue {
 
     ghost use Rattle.n_slip.specs.Queue.{packets_of, IsQueue};
 
-    ghost view = { λ q. packets_of q.lengths.items q.bytes.items };
+    ghost view = { λ q. packets_of q.lengths.items q.bytes };
 
     ghost invariant = { IsQueue };
 }
@@ -35,7 +34,7 @@ impl Queue {
         ensures { IfOk result (λ q. q ≡ []) }
     {
         Ok(Queue {
-            bytes: VecDeque::with_capacity(alloc, MOST * MAX_PACKET)?,
+            bytes: Kept::new(alloc)?,
             lengths: VecDeque::with_capacity(alloc, MOST)?,
         })
     }
@@ -63,7 +62,7 @@ impl Queue {
         requires short { length packet.now ≤ 1006 }
         ensures { self.new ≡ self.old ++ packet.now ∷ [] }
     {
-        push_all(&mut self.bytes, packet);
+        self.bytes.append(packet);
         self.lengths.push_back_reserved(packet.len() as u32);
     }
 
@@ -77,7 +76,7 @@ impl Queue {
     {
         match self.lengths.pop_front() {
             Some(n) => {
-                move_front(&mut self.bytes, n, out);
+                self.bytes.move_front(n as usize, out);
                 n
             }
             None => unreachable!(),
@@ -89,32 +88,5 @@ impl Queue {
     {
         self.bytes.clear();
         self.lengths.clear();
-    }
-}
-
-fn push_all(bytes: &mut VecDeque<u8>, more: &[u8])
-    requires { deque_len bytes.old + length more.now ≤ deque_capacity bytes.old }
-    ensures items { bytes.new.items ≡ bytes.old.items ++ more.now }
-    ensures len { deque_len bytes.new ≡ deque_len bytes.old + length more.now }
-    ensures capacity { deque_capacity bytes.new ≡ deque_capacity bytes.old }
-{
-    for b in more {
-        bytes.push_back_reserved(*b);
-    }
-}
-
-fn move_front(bytes: &mut VecDeque<u8>, n: u32, out: &mut Bytes)
-    requires all { n ≤ deque_len bytes.old }
-    requires room { n ≤ out.old.spare }
-    ensures rest { bytes.new.items ≡ drop n bytes.old.items }
-    ensures len { deque_len bytes.new + n ≡ deque_len bytes.old }
-    ensures capacity { deque_capacity bytes.new ≡ deque_capacity bytes.old }
-    ensures out { out.new ≡ record { items = out.old.items ++ take n bytes.old.items; spare = out.old.spare - n } }
-{
-    for _ in 0..n {
-        match bytes.pop_front() {
-            Some(b) => out.add(b),
-            None => unreachable!(),
-        }
     }
 }

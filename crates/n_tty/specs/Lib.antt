@@ -6,6 +6,7 @@ pub mod Receiving
 pub mod Roles
 pub mod Room
 pub mod Rows
+pub mod Runs
 pub mod Spending
 pub mod States
 pub mod Storing

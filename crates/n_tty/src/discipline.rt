@@ -14,17 +14,17 @@ ghost use Rattle.n_tty.specs.Reading.{bytes_read, after_read, is_readable, ready
 ghost use Rattle.n_tty.specs.Spending.{pending_count};
 ghost use Rattle.n_tty.specs.Writing.{piece_size, piece_text, after_write};
 
+mod running;
+
 use crate::erasing::echo_erased;
 use crate::flow::apply_ixoff_rule;
 use crate::posting::{echo_bytes, echo_printed, fits_any, post_fitting};
-use crate::roles::{
-    Role, is_character, is_plain, is_printed, is_raw, mapped_byte, role_of, signal_of,
-};
+use crate::roles::{Role, is_character, is_plain, is_raw, mapped_byte, role_of, signal_of};
 use crate::storing::{MOST_LINE, add_all, end_with, end_with_eof, start_of};
 use echo_out::{EchoEvent, EraseKind, echo};
 use flow_control::{Counter, Tally, Wire};
 use line_store::Store;
-use n_tty_edit::Edit;
+use n_tty_edit::{Edit, is_printed};
 use opost_out::Out;
 use std::alloc::Global;
 use std::marker::Model;
@@ -145,6 +145,7 @@ impl NTty {
 
     /// Whether a read of at most `n` bytes is ready, which has waited since a tick, by MIN and TIME or by
     /// a complete piece.
+    #[inline(always)]
     pub fn ready(&self, n: u32, modes: &Modes, nonblock: bool, since: u64, now: u64) -> bool
         requires { FitsModes modes.now self.now }
         ensures { result ≡ is_readable modes.now nonblock n since now self.now }

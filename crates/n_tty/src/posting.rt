@@ -46,7 +46,7 @@ pub fn post_fitting(out: &mut Out, bytes: &[u8], modes: &Modes, wire: &mut Wire)
 }
 
 /// The bytes after so many.
-fn rest_of(bytes: &[u8], count: usize) -> &[u8]
+pub fn rest_of(bytes: &[u8], count: usize) -> &[u8]
     requires { count ≤ length bytes.now }
     ensures { result.now ≡ drop count bytes.now }
 {

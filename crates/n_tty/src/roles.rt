@@ -1,8 +1,11 @@
 //! What a character is for.
 
-ghost use Rattle.std.specs.Prelude.{◌≡◌, ◌↔◌, ◌≤◌, IsTrue};
+ghost use Rattle.std.specs.Prelude.{◌≡◌, ◌≤◌, ℕ, IsTrue, true};
+ghost use Rattle.tty_modes.specs.Settings.{has_flag};
+ghost use Rattle.tty_modes.specs.declared.places.TheConstants.{ICANON, ECHO};
 ghost use Rattle.n_tty.specs.Roles.{is_character, is_extended, signal_of, mapped_byte, role_of, is_raw, IsPlain};
 
+use n_tty_edit::is_printed;
 use tty_base::Signal;
 use tty_modes::Modes;
 use tty_modes::places::{
@@ -54,14 +57,23 @@ pub fn is_raw(modes: &Modes) -> bool
 pub fn is_plain(b: u8, modes: &Modes) -> bool
     ensures { IsTrue result → IsPlain modes.now b }
 {
-    is_printed(b) && modes.are_unprinted() && !modes.has(IXANY)
+    is_printed(b) && leaves_printed(modes)
 }
 
-/// Whether a byte is from blank to tilde, which is shown as itself under all modes.
-pub fn is_printed(b: u8) -> bool
-    ensures { IsTrue result ↔ ((32 ≤ b) × (b ≤ 126)) }
+/// Whether no rule but those of storing and echo concerns a byte from blank to tilde, where it is not quoted.
+pub fn leaves_printed(modes: &Modes) -> bool
+    ensures { IsTrue result → (byte : ℕ) → 32 ≤ byte → byte ≤ 126 → IsPlain modes.now byte }
 {
-    b' ' <= b && b <= b'~'
+    modes.are_unprinted() && !modes.has(IXANY)
+}
+
+/// Whether bytes from blank to tilde join the edited line and are echoed, and no other rule concerns them.
+pub fn are_typed(modes: &Modes) -> bool
+    ensures canonical { IsTrue result → has_flag modes.now ICANON ≡ true }
+    ensures echoes { IsTrue result → has_flag modes.now ECHO ≡ true }
+    ensures plain { IsTrue result → (byte : ℕ) → 32 ≤ byte → byte ≤ 126 → IsPlain modes.now byte }
+{
+    modes.has(ICANON) && modes.has(ECHO) && leaves_printed(modes)
 }
 
 /// Whether a byte is the control character at a place. One of 0 is disabled.

@@ -1,4 +1,4 @@
-ghost use Rattle.std.specs.Prelude.{◌≡◌, ◌-◌, length};
+ghost use Rattle.std.specs.Prelude.{◌≡◌, ◌-◌, ◌≤◌, ◌↔◌, IsTrue, length};
 ghost use Rattle.std.specs.List.{suffix_len};
 ghost use Rattle.n_tty_edit.specs.Bytes.{is_of};
 
@@ -35,4 +35,11 @@ impl Class {
         }
         start
     }
+}
+
+/// Whether a byte is from blank to tilde, which is shown as itself under all modes.
+pub fn is_printed(b: u8) -> bool
+    ensures { IsTrue result ↔ ((32 ≤ b) × (b ≤ 126)) }
+{
+    b' ' <= b && b <= b'~'
 }

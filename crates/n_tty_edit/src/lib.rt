@@ -6,6 +6,7 @@ mod bytes;
 mod line;
 mod widths;
 
+pub use bytes::is_printed;
 pub use line::{Edit, Gone, edited_by_the_last};
 
 #[cfg(test)]

@@ -1,5 +1,5 @@
 -- The calls that a port keeps, and the entries of a call.
-use Rattle.std.proofs.Common.{◌≡◌, ℕ, List, [], ◌∷◌, ◌++◌, Bool, true, false, ◌&&◌, ◌==◌, Option, None, Some, is_some, cond, if◌then◌else◌, ◌+◌, ◌-◌, ◌<◌, ◌≤◌, inl, inr, length, map, set, get_or, min, refl, sym, ◌∙◌, ap, subst, arith, add-zero, append_assoc, length-set, get_or-set_same, get_or-set_other}
+use Rattle.std.proofs.Common.{◌≡◌, ℕ, List, [], ◌∷◌, ◌++◌, Bool, true, false, ◌&&◌, ◌==◌, Option, None, Some, is_some, cond, if◌then◌else◌, ◌+◌, ◌-◌, ◌<◌, ◌≤◌, inl, inr, length, map, set, get_or, min, refl, sym, ◌∙◌, ap, subst, arith, add-zero, length-set, get_or-set_same, get_or-set_other}
 use Rattle.std.proofs.lemmas.Bool.{false≢true, eqb-true, eq-eqb}
 use Rattle.std.proofs.lemmas.Bool.Decides.{nat_tests, eqb_tells}
 use Rattle.std.proofs.lemmas.List.{map-append}
@@ -7,7 +7,7 @@ use Rattle.tty_base.specs.declared.characters.Flagged.{Flagged}
 use Rattle.word_ring.specs.Ends.{TakerState}
 use Rattle.tty_calls.specs.declared.calls.Call.{Call}
 use Rattle.tty_calls.specs.declared.answers.Answer.{Answer}
-use Rattle.tty_calls.specs.Plain.{PlainCall, handle_of, idle, answer_of, call_of, PlainEvent, answered, parted, waited, flushed, ticked, line_ended, clock_ended, caller_ended, phase_ended, hung_up, PlainEntry}
+use Rattle.tty_calls.specs.Plain.{PlainCall, handle_of, PlainAnswer, idle, answer_of, call_of, PlainEvent, answered, parted, waited, flushed, ticked, line_ended, clock_ended, caller_ended, phase_ended, hung_up, PlainEntry}
 use Rattle.ldisc_switch.specs.Disciplines.{column_in}
 use Rattle.tty_terminal.specs.declared.callers.Bound.{Bound}
 use Rattle.tty_terminal.specs.declared.callers.CallerState.{CallerState}
@@ -20,12 +20,12 @@ use Rattle.tty_terminal.specs.Standing.{Standing, standing_of, standing_after_ow
 use Rattle.tty_terminal.specs.Runs.{Grows, is_flush, is_of_call, chars_in}
 use Rattle.tty_terminal.proofs.StepLaws.{sent_of, begun_after}
 use Rattle.tty_terminal.proofs.StandingLaws.{step_stands}
-use Rattle.port_core.specs.declared.entries.KeptCall.{KeptCall}
-use Rattle.port_core.specs.Kept.{kept_of, IsCopyOf, kept_after, places_after}
+use Rattle.port_core.specs.declared.entries.Asked.{Asked}
+use Rattle.port_core.specs.Kept.{kept_of, asked_after}
 use Rattle.port_core.specs.Flips.{shown_count}
 use Rattle.port_core.specs.Ports.{PlainKept, PortValue, IsPort, call_in, kept_with, with_call, with_entry, AllBegun, caller_entry}
 use Rattle.port_core.specs.Attempts.{IsReady}
-use Rattle.port_core.specs.Inside.{IsPlaceOf, ArePlaces, KeepsPlaces}
+use Rattle.port_core.specs.Inside.{IsWaitingCall, AreWaitingCalls, KeepsCalls}
 use Rattle.port_core.proofs.GoingOn.{goes_on, begun_on}
 
 -- ---- the calls that are kept
@@ -81,13 +81,10 @@ begun_with : (b : Bool) (t : Terminal) (ks : List PlainKept) (c step : ℕ) (cal
 begun_with true t ks c step call all one = all
 begun_with false t ks c step call all one = begun_append t ks (record { caller = c; step = step; call = call }) all one
 
--- what the code keeps
-pub kept_is : (b : Bool) (ks : List KeptCall) (c step : ℕ) (call : PlainCall) (copy : Option Call) → IsCopyOf b call copy → map kept_of (kept_after ks c step copy) ≡ kept_with b (map kept_of ks) c step call
-kept_is true ks c step call None is = refl
-kept_is true ks c step call (Some copy) is = absurd is
-kept_is false ks c step call None is = absurd is
-kept_is false ks c step call (Some copy) is =
-    map-append kept_of ks (record { caller = c; step = step; call = copy } ∷ []) ∙ ap (λ (x : PlainCall). map kept_of ks ++ record { caller = c; step = step; call = x } ∷ []) is
+-- what the code notes
+pub kept_is : (b : Bool) (ks : List (Asked × Call)) (asked : Asked) (call : Call) → map kept_of (asked_after b ks asked call) ≡ kept_with b (map kept_of ks) asked.caller asked.step (call_of call)
+kept_is true ks asked call = refl
+kept_is false ks asked call = map-append kept_of ks ((asked, call) ∷ [])
 
 -- ---- outcomes and answers
 
@@ -161,12 +158,12 @@ with_none_dropped t = ap (λ (n : ℕ). record t { taken = n }) (add-zero t.take
 
 -- a call has begun, or is answered
 abbrev BeginsOrEnds : Standing → Standing → Type 0
-BeginsOrEnds s u = (s.next < (if u.begun then u.next + 1 else u.next)) × (u.begun ≡ true → u.next ≡ s.next)
+BeginsOrEnds s u = (s.next < (if u.begun then u.next + 1 else u.next)) × (u.waits ≡ true → u.next ≡ s.next)
 
 own_begins : (event : PlainEvent) (g : ℕ) (s : Standing) → is_of_call event ≡ true → BeginsOrEnds s (standing_after_own event g s)
-own_begins (answered a dropped) g s h = (omega arith, λ begun. absurd (false≢true begun))
-own_begins (parted n) g s h = (omega arith, λ begun. refl)
-own_begins waited g s h = (omega arith, λ begun. refl)
+own_begins (answered a dropped) g s h = (omega arith, λ waits. absurd (false≢true waits))
+own_begins (parted n) g s h = (omega arith, λ waits. refl)
+own_begins waited g s h = (omega arith, λ waits. refl)
 own_begins (flushed chars) g s h = absurd (false≢true h)
 own_begins ticked g s h = absurd (false≢true h)
 own_begins (line_ended n) g s h = absurd (false≢true h)
@@ -210,97 +207,87 @@ other_stands : (v : PortValue) (g : ℕ → ℕ → Option PlainCall) (c : ℕ) 
 other_stands v g c event allowed of_call d other =
     step_stands g v.counts v.terminal (caller_entry v c event) allowed d ∙ (choose_other (c == d) _ _ other ∙ other_call event (standing_of (caller_at v.terminal d)) of_call)
 
--- a place stays one where calls are added behind
-place_stays : (t u : Terminal) (ks : List KeptCall) (more : List KeptCall) (d place : ℕ) → (caller_at u d).next ≡ (caller_at t d).next → IsPlaceOf t ks d place → ((call : PlainCall) → call_in (map kept_of ks) d (caller_at t d).next ≡ Some call → call_in (map kept_of (ks ++ more)) d (caller_at t d).next ≡ Some call) → IsPlaceOf u (ks ++ more) d place
-place_stays t u ks more d place next was found =
+-- ---- the calls that callers wait with
+
+-- a copy of the call stands in the caller's slot
+pub record HasCopy (slots : List (Option Call)) (c : ℕ) (call : PlainCall) : Type 0 where
+  pub copy : Call
+  pub there : get_or slots c None ≡ Some copy
+  pub same : call_of copy ≡ call
+
+-- the slots before and after an entry of a call: where the call waits now, its caller's slot has a copy of it
+pub record HoldsCalls (slots later : List (Option Call)) (c : ℕ) (call : PlainCall) (event : PlainEvent) : Type 0 where
+  pub many : length later ≡ length slots
+  pub own : (generation : ℕ) (s : Standing) → (standing_after_own event generation s).waits ≡ true → HasCopy later c call
+  pub others : (d : ℕ) → (c == d) ≡ false → get_or later d None ≡ get_or slots d None
+
+pub answered_holds : (slots : List (Option Call)) (c : ℕ) (call : PlainCall) (a : PlainAnswer) (dropped : List Flagged) → HoldsCalls slots slots c call (answered a dropped)
+answered_holds slots c call a dropped = record { many = refl; own = λ g s h. absurd (false≢true h); others = λ d h. refl }
+
+pub parted_holds : (slots : List (Option Call)) (c : ℕ) (call : PlainCall) (n : ℕ) → HoldsCalls slots slots c call (parted n)
+parted_holds slots c call n = record { many = refl; own = λ g s h. absurd (false≢true h); others = λ d h. refl }
+
+pub waited_holds : (slots : List (Option Call)) (c : ℕ) (call : PlainCall) (copy : Call) → c < length slots → call_of copy ≡ call → HoldsCalls slots (set slots c (Some copy)) c call waited
+waited_holds slots c call copy known same =
     record {
-      kept = was.kept;
-      before = was.before;
-      later = was.later ++ more;
-      splits = ap (λ (xs : List KeptCall). xs ++ more) was.splits ∙ append_assoc was.before (was.kept ∷ was.later) more;
-      at_place = was.at_place;
-      found = ap (λ (n : ℕ). call_in (map kept_of (ks ++ more)) d n) next ∙ found (call_of was.kept.call) was.found;
-      number = was.number;
+      many = length-set slots c (Some copy);
+      own = λ g s h. record { copy = copy; there = get_or-set_same slots c (Some copy) None known; same = same };
+      others = λ d h. get_or-set_other slots c d (Some copy) None (λ e. false≢true (sym h ∙ eq-eqb c d (sym e)));
     }
 
-place_moves : (t u : Terminal) (ks : List KeptCall) (d place : ℕ) → (caller_at u d).next ≡ (caller_at t d).next → IsPlaceOf t ks d place → IsPlaceOf u ks d place
-place_moves t u ks d place next was =
-    record { kept = was.kept; before = was.before; later = was.later; splits = was.splits; at_place = was.at_place; found = ap (λ (n : ℕ). call_in (map kept_of ks) d n) next ∙ was.found; number = was.number }
-
-found_behind : (ks : List KeptCall) (k : KeptCall) (d n : ℕ) (call : PlainCall) → call_in (map kept_of ks) d n ≡ Some call → call_in (map kept_of (ks ++ k ∷ [])) d n ≡ Some call
-found_behind ks k d n call h = ap (λ (xs : List PlainKept). call_in xs d n) (map-append kept_of ks (k ∷ [])) ∙ call_in_more (map kept_of ks) (kept_of k) d n call h
-
-begun_before : (b : Bool) (call : PlainCall) → IsCopyOf b call None → b ≡ true
-begun_before true call is = refl
-begun_before false call is = absurd is
-
-copied : (b : Bool) (call : PlainCall) (copy : Call) → IsCopyOf b call (Some copy) → call_of copy ≡ call
-copied true call copy is = absurd is
-copied false call copy is = is
-
--- each caller's place after an entry of a call
-call_places : (t u : Terminal) (ks : List KeptCall) (places : List ℕ) (c step : ℕ) (call : PlainCall) (copy : Option Call) → c < length places → IsCopyOf (has_begun (caller_at t c)) call copy → step ≡ (caller_at t c).next
-    → call_in (map kept_of (kept_after ks c step copy)) c step ≡ Some call
-    → (has_begun (caller_at u c) ≡ true → (caller_at u c).next ≡ (caller_at t c).next)
-    → ((d : ℕ) → (c == d) ≡ false → ((caller_at u d).next ≡ (caller_at t d).next) × (has_begun (caller_at u d) ≡ has_begun (caller_at t d)))
-    → ArePlaces t ks places → handle_of call < 32 → ArePlaces u (kept_after ks c step copy) (places_after places ks c copy)
-call_places t u ks places c step call None known is at_step found own others are number = λ d begun.
+-- the calls that callers wait with, after an entry of a call
+calls_after : (t u : Terminal) (ks ms : List PlainKept) (slots later : List (Option Call)) (c step : ℕ) (call : PlainCall) → step ≡ (caller_at t c).next → call_in ms c step ≡ Some call → Grows (call_in ks) (call_in ms)
+    → (is_some (caller_at u c).waits ≡ true → (caller_at u c).next ≡ (caller_at t c).next) → (is_some (caller_at u c).waits ≡ true → HasCopy later c call)
+    → ((d : ℕ) → (c == d) ≡ false → ((caller_at u d).next ≡ (caller_at t d).next) × (is_some (caller_at u d).waits ≡ is_some (caller_at t d).waits))
+    → ((d : ℕ) → (c == d) ≡ false → get_or later d None ≡ get_or slots d None) → handle_of call < 32 → AreWaitingCalls t ks slots → AreWaitingCalls u ms later
+calls_after t u ks ms slots later c step call at_step found grows next own others slot number are = λ d waits.
     elim (eqb_tells c d) [
-      | inl h ↦ subst (λ (x : ℕ). has_begun (caller_at u x) ≡ true → IsPlaceOf u ks x (get_or places x 0)) h.1
-          (λ now. place_moves t u ks c (get_or places c 0) (own now) (are c (begun_before (has_begun (caller_at t c)) call is))) begun
-      | inr h ↦ place_moves t u ks d (get_or places d 0) (others d h.0).0 (are d (sym (others d h.0).1 ∙ begun))
-    ]
-call_places t u ks places c step call (Some copy) known is at_step found own others are number = λ d begun.
-    let k : KeptCall = record { caller = c; step = step; call = copy } in
-    elim (eqb_tells c d) [
-      | inl h ↦ subst (λ (x : ℕ). has_begun (caller_at u x) ≡ true → IsPlaceOf u (ks ++ k ∷ []) x (get_or (set places c (length ks)) x 0)) h.1
-          (λ now. record {
-            kept = k;
-            before = ks;
-            later = [];
-            splits = refl;
-            at_place = get_or-set_same places c (length ks) 0 known;
-            found = ap (λ (n : ℕ). call_in (map kept_of (ks ++ k ∷ [])) c n) (own now ∙ sym at_step) ∙ (found ∙ ap (λ (x : PlainCall). Some x) (sym (copied (has_begun (caller_at t c)) call copy is)));
-            number = subst (λ (x : PlainCall). handle_of x < 32) (sym (copied (has_begun (caller_at t c)) call copy is)) number;
-          }) begun
-      | inr h ↦ subst (λ (place : ℕ). IsPlaceOf u (ks ++ k ∷ []) d place) (sym (get_or-set_other places c d (length ks) 0 (λ e. h.1 (sym e))))
-          (place_stays t u ks (k ∷ []) d (get_or places d 0) (others d h.0).0 (are d (sym (others d h.0).1 ∙ begun)) (λ other. found_behind ks k d (caller_at t d).next other))
+      | inl h ↦ subst (λ (x : ℕ). is_some (caller_at u x).waits ≡ true → IsWaitingCall u ms x (get_or later x None)) h.1
+          (λ now. (let held = own now in record {
+            copy = held.copy;
+            there = held.there;
+            found = ap (λ (n : ℕ). call_in ms c n) (next now ∙ sym at_step) ∙ (found ∙ ap (λ (x : PlainCall). Some x) (sym held.same));
+            number = subst (λ (x : PlainCall). handle_of x < 32) (sym held.same) number;
+          })) waits
+      | inr h ↦ (let was = are d (sym (others d h.0).1 ∙ waits) in record {
+        copy = was.copy;
+        there = slot d h.0 ∙ was.there;
+        found = ap (λ (n : ℕ). call_in ms d n) (others d h.0).0 ∙ grows d (caller_at t d).next (call_of was.copy) was.found;
+        number = was.number;
+      })
     ]
 
 some_waits : {A : Type 0} (o : Option A) → is_some o ≡ false → o ≡ None
 some_waits None h = refl
 some_waits (Some x) h = absurd (false≢true (sym h))
 
-many_places : (places : List ℕ) (ks : List KeptCall) (c : ℕ) (copy : Option Call) → length (places_after places ks c copy) ≡ length places
-many_places places ks c None = refl
-many_places places ks c (Some copy) = length-set places c (length ks)
-
 -- an entry of a call keeps the port
-pub call_goes_on : (v now : PortValue) (ks : List KeptCall) (places : List ℕ) (c step : ℕ) (call : PlainCall) (copy : Option Call) (f : TakerState Flagged) (event : PlainEvent)
-    → KeepsPlaces v ks places → v.kept ≡ map kept_of ks → length v.journal < v.limit → IsReady v c step call → IsCopyOf (has_begun (caller_at v.terminal c)) call copy → is_of_call event ≡ true → is_flush event ≡ false
+pub call_goes_on : (v now : PortValue) (slots later : List (Option Call)) (c step : ℕ) (call : PlainCall) (f : TakerState Flagged) (event : PlainEvent)
+    → KeepsCalls v slots → length v.journal < v.limit → IsReady v c step call → is_of_call event ≡ true → is_flush event ≡ false
     → Allowed (call_in (kept_with (has_begun (caller_at v.terminal c)) v.kept c step call)) v.counts v.terminal (caller_entry v c event)
     → f.taken ≡ v.flip.taken ++ chars_in event → length (chars_in event) ≤ 65536 → f.capacity ≡ v.flip.capacity → sent_of event v.terminal.sent ≤ f.floor
     → column_in (after (call_in (kept_with (has_begun (caller_at v.terminal c)) v.kept c step call)) v.terminal (caller_entry v c event)).disc ≤ column_in v.terminal.disc + 4096
-    → now ≡ record (with_entry (with_call v c step call) (caller_entry v c event)) { flip = f } → KeepsPlaces now (kept_after ks c step copy) (places_after places ks c copy)
-call_goes_on v now ks places c step call copy f event keeps kept few ready is of_call other allowed taken some capacity sent column now_is =
+    → HoldsCalls slots later c call event
+    → now ≡ record (with_entry (with_call v c step call) (caller_entry v c event)) { flip = f } → KeepsCalls now later
+call_goes_on v now slots later c step call f event keeps few ready of_call other allowed taken some capacity sent column holds now_is =
     let t = v.terminal in
     let p = keeps.port in
     let b = has_begun (caller_at t c) in
-    let g = call_in (kept_with b v.kept c step call) in
+    let ms = kept_with b v.kept c step call in
+    let g = call_in ms in
     let e : PlainEntry = caller_entry v c event in
     let u : Terminal = after g t e in
     let own = own_stands v g c event allowed in
     let begins : BeginsOrEnds (standing_of (caller_at t c)) (standing_of (caller_at u c)) = subst (BeginsOrEnds (standing_of (caller_at t c))) (sym own) (own_begins event t.generation (standing_of (caller_at t c)) of_call) in
     let begun : step < begun_of (caller_at u c) = subst (λ n. n < begun_of (caller_at u c)) (sym ready.next) begins.0 in
-    let found : call_in (map kept_of (kept_after ks c step copy)) c step ≡ Some call =
-    ap (λ (xs : List PlainKept). call_in xs c step) (kept_is b ks c step call copy is ∙ ap (λ (xs : List PlainKept). kept_with b xs c step call) (sym kept)) ∙ known_call v c step call p ready in
-    let known : c < length places = omega (arith, keeps.many, ready.known) in
-    let others : (d : ℕ) → (c == d) ≡ false → ((caller_at u d).next ≡ (caller_at t d).next) × (has_begun (caller_at u d) ≡ has_begun (caller_at t d)) =
-    λ d apart. (let same = other_stands v g c event allowed of_call d apart in (ap (λ (s : Standing). s.next) same, ap (λ (s : Standing). s.begun) same)) in
-    subst (λ (w : PortValue). KeepsPlaces w (kept_after ks c step copy) (places_after places ks c copy)) (sym now_is) (record {
-      port = goes_on v (kept_with b v.kept c step call) f e p (record {
+    let grows : Grows (call_in v.kept) g = grows_kept b v.kept c step call in
+    let others : (d : ℕ) → (c == d) ≡ false → ((caller_at u d).next ≡ (caller_at t d).next) × (is_some (caller_at u d).waits ≡ is_some (caller_at t d).waits) =
+    λ d apart. (let same = other_stands v g c event allowed of_call d apart in (ap (λ (s : Standing). s.next) same, ap (λ (s : Standing). s.waits) same)) in
+    let copied : is_some (caller_at u c).waits ≡ true → HasCopy later c call = λ waits. holds.own t.generation (standing_of (caller_at t c)) (sym (ap (λ (s : Standing). s.waits) own) ∙ waits) in
+    subst (λ (w : PortValue). KeepsCalls w later) (sym now_is) (record {
+      port = goes_on v ms f e p (record {
         few = few;
-        grows = grows_kept b v.kept c step call;
+        grows = grows;
         allowed = allowed;
         begun = begun_with b u v.kept c step call (begun_on t u v.kept (begun_after g v.counts t e allowed) p.begun) begun;
         taken = taken;
@@ -312,8 +299,8 @@ call_goes_on v now ks places c step call copy f event keeps kept few ready is of
         generation = λ d h by parts waits. subst (λ (x : ℕ). 0 < (caller_at t x).parts → is_some (caller_at t x).waits ≡ false → (caller_at t x).generation ≡ t.generation) (eqb-true c d by)
             (λ parted_here waits_not. ready.generation (some_waits (caller_at t c).waits waits_not) parted_here) parts waits;
       });
-      many = many_places places ks c copy ∙ keeps.many;
-      places = call_places t u ks places c step call copy known is ready.next found begins.1 others keeps.places ready.number;
+      many = holds.many ∙ keeps.many;
+      calls = calls_after t u v.kept ms slots later c step call ready.next (known_call v c step call p ready) grows begins.1 copied others holds.others ready.number keeps.calls;
     })
 
 some_bound : (b : Option Bound) → is_some b ≡ is_bound b

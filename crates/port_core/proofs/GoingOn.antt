@@ -1,5 +1,5 @@
 -- A port goes on by an entry: what it keeps.
-use Rattle.std.proofs.Common.{◌≡◌, ℕ, List, [], ◌∷◌, ◌++◌, IsTrue, Bool, true, false, Option, ◌+◌, ◌^◌, ◌<◌, ◌≤◌, if◌then◌else◌, length, sum, refl, sym, ◌∙◌, ap, subst, arith, length-append, append-nil, map}
+use Rattle.std.proofs.Common.{◌≡◌, ℕ, List, [], ◌∷◌, ◌++◌, IsTrue, Bool, true, false, Option, ◌+◌, ◌^◌, ◌<◌, ◌≤◌, if◌then◌else◌, length, sum, refl, sym, ◌∙◌, ap, subst, arith, length-append, append-nil}
 use Rattle.std.proofs.lemmas.Bool.{false≢true}
 use Rattle.std.proofs.lemmas.List.{map-append}
 use Rattle.tty_base.specs.declared.characters.Flagged.{Flagged}
@@ -17,10 +17,9 @@ use Rattle.tty_terminal.proofs.StandingLaws.{step_stands}
 use Rattle.tty_terminal.proofs.Grown.{leads_grown}
 use Rattle.tty_terminal.proofs.Agreeing.{leads_agrees}
 use Rattle.tty_terminal.proofs.OneRun.{one_more}
-use Rattle.port_core.specs.declared.entries.KeptCall.{KeptCall}
+use Rattle.tty_calls.specs.declared.calls.Call.{Call}
 use Rattle.port_core.specs.Ports.{PlainKept, PortValue, IsPort, call_in, AllBegun, with_entry}
-use Rattle.port_core.specs.Kept.{kept_of}
-use Rattle.port_core.specs.Inside.{ArePlaces, KeepsPlaces}
+use Rattle.port_core.specs.Inside.{AreWaitingCalls, KeepsCalls}
 
 -- the port with more calls kept, this flip buffer, and one more entry
 abbrev pub entered : PortValue → List PlainKept → TakerState Flagged → PlainEntry → PortValue
@@ -74,9 +73,9 @@ no_call_goes_on t e none = λ c of_call by parts waits. absurd (false≢true (sy
 
 -- ---- where callers stand
 
--- an entry that is of no call leaves the caller's step, and whether it has begun
+-- an entry that is of no call leaves the caller's step, and whether it waits
 abbrev StaysAt : Standing → Standing → Type 0
-StaysAt s u = (u.next ≡ s.next) × (u.begun ≡ s.begun)
+StaysAt s u = (u.next ≡ s.next) × (u.waits ≡ s.waits)
 
 own_stays : (event : PlainEvent) (g : ℕ) (s : Standing) → is_of_call event ≡ false → StaysAt s (standing_after_own event g s)
 own_stays (answered a dropped) g s none = absurd (false≢true (sym none))
@@ -111,21 +110,21 @@ plain_stays f counts t e allowed none c =
     subst (StaysAt (standing_of (caller_at t c))) (sym (step_stands f counts t e allowed c))
     (choice_stays (is_caller e.who c) (standing_of (caller_at t c)) _ _ (own_stays e.event e.generation (standing_of (caller_at t c)) none) (other_stays e.event (standing_of (caller_at t c))))
 
-places_stay : (t u : Terminal) (ks : List KeptCall) (places : List ℕ) → ((c : ℕ) → StaysAt (standing_of (caller_at t c)) (standing_of (caller_at u c))) → ArePlaces t ks places → ArePlaces u ks places
-places_stay t u ks places stay are c begun =
-    let was = are c (sym (stay c).1 ∙ begun) in
-    record { kept = was.kept; before = was.before; later = was.later; splits = was.splits; at_place = was.at_place; found = ap (λ (n : ℕ). call_in (map kept_of ks) c n) (stay c).0 ∙ was.found; number = was.number }
+calls_stay : (t u : Terminal) (ks : List PlainKept) (slots : List (Option Call)) → ((c : ℕ) → StaysAt (standing_of (caller_at t c)) (standing_of (caller_at u c))) → AreWaitingCalls t ks slots → AreWaitingCalls u ks slots
+calls_stay t u ks slots stay are c waits =
+    let was = are c (sym (stay c).1 ∙ waits) in
+    record { copy = was.copy; there = was.there; found = ap (λ (n : ℕ). call_in ks c n) (stay c).0 ∙ was.found; number = was.number }
 
 -- ---- entries that are of no call
 
 -- such an entry keeps the port; what it takes out of the flip buffer is said
-pub plainly : (v now : PortValue) (ks : List KeptCall) (places : List ℕ) (f : TakerState Flagged) (e : PlainEntry) → KeepsPlaces v ks places → length v.journal < v.limit → Allowed (call_in v.kept) v.counts v.terminal e
+pub plainly : (v now : PortValue) (slots : List (Option Call)) (f : TakerState Flagged) (e : PlainEntry) → KeepsCalls v slots → length v.journal < v.limit → Allowed (call_in v.kept) v.counts v.terminal e
     → f.taken ≡ v.flip.taken ++ chars_in e.event → length (chars_in e.event) ≤ 65536 → f.capacity ≡ v.flip.capacity → sent_of e.event v.terminal.sent ≤ f.floor
     → is_of_call e.event ≡ false → (IsTrue (is_flush e.event) → 0 < e.part → RunHas e.step e.generation v.journal)
     → column_in (after (call_in v.kept) v.terminal e).disc ≤ column_in v.terminal.disc + 2 ^ 28
-    → now ≡ record (with_entry v e) { flip = f } → KeepsPlaces now ks places
-plainly v now ks places f e p few allowed taken some capacity sent none piece column now_is =
-    subst (λ (w : PortValue). KeepsPlaces w ks places) (sym now_is) (record {
+    → now ≡ record (with_entry v e) { flip = f } → KeepsCalls now slots
+plainly v now slots f e p few allowed taken some capacity sent none piece column now_is =
+    subst (λ (w : PortValue). KeepsCalls w slots) (sym now_is) (record {
       port = goes_on v v.kept f e p.port (record {
         few = few;
         grows = λ c s call h. h;
@@ -140,18 +139,18 @@ plainly v now ks places f e p few allowed taken some capacity sent none piece co
         generation = no_call_goes_on v.terminal e none;
       });
       many = p.many;
-      places = places_stay v.terminal (after (call_in v.kept) v.terminal e) ks places (plain_stays (call_in v.kept) v.counts v.terminal e allowed none) p.places;
+      calls = calls_stay v.terminal (after (call_in v.kept) v.terminal e) v.kept slots (plain_stays (call_in v.kept) v.counts v.terminal e allowed none) p.calls;
     })
 
 -- such an entry that takes nothing out of the flip buffer
-pub still : (v now : PortValue) (ks : List KeptCall) (places : List ℕ) (f : TakerState Flagged) (e : PlainEntry) → KeepsPlaces v ks places → length v.journal < v.limit → Allowed (call_in v.kept) v.counts v.terminal e
+pub still : (v now : PortValue) (slots : List (Option Call)) (f : TakerState Flagged) (e : PlainEntry) → KeepsCalls v slots → length v.journal < v.limit → Allowed (call_in v.kept) v.counts v.terminal e
     → f.taken ≡ v.flip.taken → f.capacity ≡ v.flip.capacity → sent_of e.event v.terminal.sent ≤ f.floor
     → chars_in e.event ≡ [] → is_of_call e.event ≡ false → is_flush e.event ≡ false → (after (call_in v.kept) v.terminal e).disc ≡ v.terminal.disc
-    → now ≡ record (with_entry v e) { flip = f } → KeepsPlaces now ks places
-still v now ks places f e p few allowed taken capacity sent chars none other disc now_is =
+    → now ≡ record (with_entry v e) { flip = f } → KeepsCalls now slots
+still v now slots f e p few allowed taken capacity sent chars none other disc now_is =
     let zero : length (chars_in e.event) ≡ 0 = ap (λ (cs : List Flagged). length cs) chars in
     let column : column_in (after (call_in v.kept) v.terminal e).disc ≡ column_in v.terminal.disc = ap column_in disc in
-    plainly v now ks places f e p few allowed (taken ∙ (sym (append-nil v.flip.taken) ∙ ap (λ (cs : List Flagged). v.flip.taken ++ cs) (sym chars))) (omega (arith, zero)) capacity sent none
+    plainly v now slots f e p few allowed (taken ∙ (sym (append-nil v.flip.taken) ∙ ap (λ (cs : List Flagged). v.flip.taken ++ cs) (sym chars))) (omega (arith, zero)) capacity sent none
     (λ h. absurd (false≢true (sym other ∙ h))) (omega (arith, column)) now_is
 
 -- a port whose parts are these

@@ -1,5 +1,5 @@
 -- Characters that are handed over one by one, and pieces of flush runs.
-use Rattle.std.proofs.Common.{◌≡◌, ℕ, List, [], ◌∷◌, ◌++◌, Bool, true, false, not, ◌||◌, ◌==◌, IsTrue, if◌then◌else◌, ◌+◌, ◌-◌, ◌*◌, ◌^◌, ◌<◌, ◌≤◌, ◌⊎◌, inl, inr, ⊎_elim, MatchBool, min, length, refl, sym, ◌∙◌, ap, subst, arith}
+use Rattle.std.proofs.Common.{◌≡◌, ℕ, List, Option, [], ◌∷◌, ◌++◌, Bool, true, false, not, ◌||◌, ◌==◌, IsTrue, if◌then◌else◌, ◌+◌, ◌-◌, ◌*◌, ◌^◌, ◌<◌, ◌≤◌, ◌⊎◌, inl, inr, ⊎_elim, MatchBool, min, length, refl, sym, ◌∙◌, ap, subst, arith}
 use Rattle.std.proofs.lemmas.Bool.{cases_lt, false≢true}
 use Rattle.std.proofs.lemmas.Bool.Decides.{nat_tests}
 use mathlib.Core.List.{IsPrefix}
@@ -10,13 +10,13 @@ use Rattle.flip_buffer.specs.Drops.{LooksAt}
 use Rattle.tty_calls.specs.Plain.{PlainEntry}
 use Rattle.ldisc_switch.specs.Disciplines.{column_in}
 use Rattle.tty_terminal.specs.Terminals.{Terminal, live_count}
-use Rattle.tty_terminal.specs.Receiving.{accepts, after_character, after_characters, AcceptsAll}
+use Rattle.tty_terminal.specs.Receiving.{accepts, after_characters, AcceptsAll}
 use Rattle.tty_terminal.specs.Steps.{Allowed}
-use Rattle.port_core.specs.declared.entries.KeptCall.{KeptCall}
+use Rattle.tty_calls.specs.declared.calls.Call.{Call}
 use Rattle.port_core.specs.Flips.{TakesOut, shown_count}
 use Rattle.port_core.specs.Flushes.{IsPieceOf, Takes, TakesNone}
 use Rattle.port_core.specs.Ports.{PortValue, IsPort, is_stuck, call_in, flush_entry, with_entry}
-use Rattle.port_core.specs.Inside.{KeepsPlaces}
+use Rattle.port_core.specs.Inside.{KeepsCalls}
 use Rattle.port_core.proofs.GoingOn.{plainly, port_taken, port_in_line}
 use Rattle.port_core.proofs.Taking.{looks_first}
 
@@ -74,11 +74,11 @@ why_stopped n count shown most P within is stops less =
     ⊎_elim (λ early. inr (stops early)) (λ late. inl (omega (arith, within, is, less, late))) (cases_lt n count)
 
 -- a piece of a flush run is handed over
-pub takes_piece : (v now : PortValue) (ks : List KeptCall) (places : List ℕ) (run part most count shown : ℕ) (f g : TakerState Flagged) (chars : List Flagged) (u : Terminal) → KeepsPlaces v ks places → length v.journal < v.limit → IsPieceOf v run part most → is_stuck v.terminal ≡ false
+pub takes_piece : (v now : PortValue) (slots : List (Option Call)) (run part most count shown : ℕ) (f g : TakerState Flagged) (chars : List Flagged) (u : Terminal) → KeepsCalls v slots → length v.journal < v.limit → IsPieceOf v run part most → is_stuck v.terminal ≡ false
     → f ≡ with_shown v.flip f.floor → LooksAt v.flip f f.floor → shown ≡ shown_count v.terminal f.floor → count ≡ min shown most → 0 < count
     → TakesOut f g chars → length chars ≤ count → u ≡ after_characters v.terminal chars → AcceptsAll v.terminal chars → (length chars < count → accepts u ≡ false) → column_in u.disc ≤ column_in v.terminal.disc + 2 ^ 22 * count
-    → now ≡ record (with_entry v (flush_entry v run part chars)) { flip = g } → KeepsPlaces now ks places × Takes v now run part most (length chars)
-takes_piece v now ks places run part most count shown f g chars u keeps few piece free same looks shown_is count_is some takes within is accepted stops column now_is =
+    → now ≡ record (with_entry v (flush_entry v run part chars)) { flip = g } → KeepsCalls now slots × Takes v now run part most (length chars)
+takes_piece v now slots run part most count shown f g chars u keeps few piece free same looks shown_is count_is some takes within is accepted stops column now_is =
     let t = v.terminal in
     let p = keeps.port in
     let loose = or_false (live_count t == 0) (not (accepts t)) free in
@@ -100,7 +100,7 @@ takes_piece v now ks places run part most count shown f g chars u keeps few piec
     let tails : IsPrefix f.tails g.tails = takes.tails in
     let least_taken = looks.least in
     let most_taken = looks.most in (
-      plainly v now ks places g e keeps few allowed out.taken (omega arith) out.capacity (omega arith) refl (λ h. piece.one) (omega (arith, piece.few)) now_is,
+      plainly v now slots g e keeps few allowed out.taken (omega arith) out.capacity (omega arith) refl (λ h. piece.one) (omega (arith, piece.few)) now_is,
       subst (λ (w : PortValue). Takes v w run part most n) (sym now_is) (record {
         chars = chars;
         count = refl;

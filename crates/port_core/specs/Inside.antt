@@ -1,11 +1,11 @@
 -- What the fields of a port stand for, and what they keep.
-use Rattle.std.specs.Prelude.{◌≡◌, ℕ, List, ◌∷◌, ◌++◌, ◌<◌, true, Some, length, map, sum, slice_index}
+use Rattle.std.specs.Prelude.{◌≡◌, ℕ, List, ◌<◌, true, Option, None, Some, is_some, length, map, sum, slice_index_or}
+use Rattle.tty_calls.specs.declared.calls.Call.{Call}
 use Rattle.tty_calls.specs.Plain.{entries_of, call_of, handle_of}
-use Rattle.tty_terminal.specs.Terminals.{Terminal, caller_at, has_begun}
+use Rattle.tty_terminal.specs.Terminals.{Terminal, caller_at}
 use Rattle.port_core.specs.Kept.{kept_of}
-use Rattle.port_core.specs.declared.entries.KeptCall.{KeptCall}
 use Rattle.port_core.specs.declared.ports.Port.TheInside.{Inside}
-use Rattle.port_core.specs.Ports.{PortValue, IsPort, call_in}
+use Rattle.port_core.specs.Ports.{PlainKept, PortValue, IsPort, call_in}
 
 abbrev pub value_of : Inside → PortValue
 value_of p =
@@ -19,24 +19,22 @@ value_of p =
       flip = p.flip;
     }
 
--- where a caller's call has begun, this is the place at which it is kept
-pub record IsPlaceOf (t : Terminal) (ks : List KeptCall) (c place : ℕ) : Type 0 where
-  pub kept : KeptCall
-  pub before : List KeptCall
-  pub later : List KeptCall
-  pub splits : ks ≡ before ++ kept ∷ later
-  pub at_place : place ≡ length before
-  pub found : call_in (map kept_of ks) c (caller_at t c).next ≡ Some (call_of kept.call)
-  pub number : handle_of (call_of kept.call) < 32
+-- this is a copy of the call that the caller waits with
+pub record IsWaitingCall (t : Terminal) (ks : List PlainKept) (c : ℕ) (slot : Option Call) : Type 0 where
+  pub copy : Call
+  pub there : slot ≡ Some copy
+  pub found : call_in ks c (caller_at t c).next ≡ Some (call_of copy)
+  pub number : handle_of (call_of copy) < 32
 
-abbrev pub ArePlaces : Terminal → List KeptCall → List ℕ → Type 0
-ArePlaces t ks places = (c : ℕ) → has_begun (caller_at t c) ≡ true → IsPlaceOf t ks c (slice_index places c)
+-- of each caller that waits its call is there
+abbrev pub AreWaitingCalls : Terminal → List PlainKept → List (Option Call) → Type 0
+AreWaitingCalls t ks slots = (c : ℕ) → is_some (caller_at t c).waits ≡ true → IsWaitingCall t ks c (slice_index_or slots c None)
 
--- a port, and for each of its callers a place
-pub record KeepsPlaces (v : PortValue) (ks : List KeptCall) (numbers : List ℕ) : Type 0 where
+-- a port, and for each of its callers the latest of its calls that waited
+pub record KeepsCalls (v : PortValue) (slots : List (Option Call)) : Type 0 where
   pub port : IsPort v
-  pub many : length numbers ≡ sum v.counts
-  pub places : ArePlaces v.terminal ks numbers
+  pub many : length slots ≡ sum v.counts
+  pub calls : AreWaitingCalls v.terminal v.kept slots
 
 abbrev pub IsSound : Inside → Type 0
-IsSound p = KeepsPlaces (value_of p) p.kept.items p.places.items
+IsSound p = KeepsCalls (value_of p) p.waiting.items

@@ -1,26 +1,14 @@
--- The calls that a port keeps.
-use Rattle.std.specs.Prelude.{◌≡◌, ℕ, List, [], ◌∷◌, ◌++◌, Bool, true, false, Option, None, Some, length, slice_set}
+-- The calls that a port was asked.
+use Rattle.std.specs.Prelude.{List, [], ◌∷◌, ◌++◌, Bool, if◌then◌else◌}
 use Rattle.tty_calls.specs.declared.calls.Call.{Call}
-use Rattle.tty_calls.specs.Plain.{PlainCall, call_of}
-use Rattle.port_core.specs.declared.entries.KeptCall.{KeptCall}
+use Rattle.tty_calls.specs.Plain.{call_of}
+use Rattle.port_core.specs.declared.entries.Asked.{Asked}
 use Rattle.port_core.specs.Ports.{PlainKept}
 
 -- as plain data
-abbrev pub kept_of : KeptCall → PlainKept
-kept_of k = record { caller = k.caller; step = k.step; call = call_of k.call }
+abbrev pub kept_of : Asked × Call → PlainKept
+kept_of k = record { caller = k.0.caller; step = k.0.step; call = call_of k.1 }
 
--- a copy of this call, where it has not begun
-abbrev pub IsCopyOf : Bool → PlainCall → Option Call → Type 0
-IsCopyOf true call None = Unit {0}
-IsCopyOf true call (Some copy) = ⊥
-IsCopyOf false call None = ⊥
-IsCopyOf false call (Some copy) = call_of copy ≡ call
-
--- what is kept with this copy, and where the caller's latest call is then found
-abbrev pub kept_after : List KeptCall → ℕ → ℕ → Option Call → List KeptCall
-kept_after ks c step None = ks
-kept_after ks c step (Some copy) = ks ++ record { caller = c; step = step; call = copy } ∷ []
-
-abbrev pub places_after : List ℕ → List KeptCall → ℕ → Option Call → List ℕ
-places_after places ks c None = places
-places_after places ks c (Some copy) = slice_set places c (length ks)
+-- a call is noted where it has not begun
+abbrev pub asked_after : Bool → List (Asked × Call) → Asked → Call → List (Asked × Call)
+asked_after begun ks asked call = if begun then ks else ks ++ (asked, call) ∷ []

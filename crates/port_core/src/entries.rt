@@ -1,23 +1,36 @@
 //! Memory for entries and kept calls. A call of a port takes all its memory by these functions before
 //! it changes anything.
 
-ghost use Rattle.std.specs.Prelude.{◌≡◌, ◌≤◌, ◌<◌, [], ◌∷◌, ◌++◌, true, false, IfOk, IfErr, OnOk, IsSome, vec_len};
+ghost use Rattle.std.specs.Prelude.{◌≡◌, ◌≤◌, ◌<◌, [], true, IfOk, IfErr, OnOk};
 ghost use Rattle.tty_calls.specs.declared.journals.Who.TheVariants.{Caller};
 ghost use Rattle.tty_calls.specs.Plain.{call_of};
 ghost use Rattle.tty_terminal.specs.Meeting.{IsRoomFor, room_for};
-ghost use Rattle.port_core.specs.Kept.{IsCopyOf, kept_after, places_after};
+ghost use Rattle.port_core.specs.Kept.{asked_after};
 
+use http_server::Log;
 use std::alloc::Global;
-use tty_base::{Buffer, Bytes, Chars, NoMemory};
+use tty_base::{Bytes, Chars, NoMemory};
 use tty_calls::{Call, Denied, Entry, Event, Journal, Who};
 use tty_terminal::{ROOM_FOR_CALL, Room, Terminal};
 
-/// A call that the port keeps from its first attempt on.
-#[derive(Drop)]
-pub struct KeptCall {
+/// A caller's step.
+#[derive(Clone, Copy)]
+pub struct Asked {
     pub caller: u16,
     pub step: u32,
-    pub call: Call,
+}
+
+/// The calls that a port was asked, each with its caller and step. Proofs alone read it.
+pub(crate) type AskedCalls = Log<Asked, Call>;
+
+/// Notes the call of a caller's step, where it has not begun.
+#[inline(always)]
+pub(crate) fn note_call(kept: &mut AskedCalls, begun: bool, asked: Asked, call: &Call)
+    ensures { kept.new.items ≡ asked_after begun kept.old.items asked call.now }
+{
+    if !begun {
+        *kept = kept.and(&asked, call);
+    }
 }
 
 /// Notes that no memory is left.
@@ -29,11 +42,10 @@ pub(crate) fn starve(starved: &mut bool) -> Denied
     Denied::NoMemory
 }
 
-/// What a call needs beside the port: its own copy, where it has not begun; room for the bytes of its
-/// answer, in the journal and for the caller; and what the terminal needs.
+/// What a call needs beside the port: room for the bytes of its answer, in the journal and for the
+/// caller; and what the terminal needs.
 #[derive(Drop)]
 pub(crate) struct Prepared {
-    pub(crate) copy: Option<Call>,
     pub(crate) bytes: Bytes,
     pub(crate) room: Room,
 }
@@ -99,39 +111,16 @@ pub(crate) fn trimmed(alloc: Global, chars: Chars) -> Chars
     }
 }
 
-/// A copy of a call that has not begun, and room to keep it.
-#[inline(always)]
-pub(crate) fn copy_unless_begun(
-    alloc: Global,
-    kept: &mut Buffer<KeptCall>,
-    starved: &mut bool,
-    begun: bool,
-    call: &Call,
-) -> Result<Option<Call>, Denied>
-    ensures items { kept.new.items ≡ kept.old.items }
-    ensures copy { IfOk result (λ copy. IsCopyOf begun (call_of call.now) copy) }
-    ensures spare { OnOk result (begun ≡ false → 0 < kept.new.spare) }
+/// A copy of a call that begins to wait.
+pub(crate) fn copy_of(alloc: Global, starved: &mut bool, call: &Call) -> Result<Call, Denied>
+    ensures copy { IfOk result (λ copy. call_of copy ≡ call_of call.now) }
     ensures ok { OnOk result (starved.new ≡ starved.old) }
     ensures err { IfErr result (λ d. (d ≡ Denied.NoMemory) × (starved.new ≡ true)) }
 {
-    if begun {
-        return Ok(None);
-    }
-    match copy_to_keep(alloc, kept, call) {
-        Ok(copy) => Ok(Some(copy)),
+    match call.copy(alloc) {
+        Ok(copy) => Ok(copy),
         Err(NoMemory) => Err(starve(starved)),
     }
-}
-
-/// A copy of a call, and room to keep it.
-#[inline(always)]
-fn copy_to_keep(alloc: Global, kept: &mut Buffer<KeptCall>, call: &Call) -> Result<Call, NoMemory>
-    ensures items { kept.new.items ≡ kept.old.items }
-    ensures room { OnOk result (0 < kept.new.spare) }
-    ensures copy { IfOk result (λ copy. call_of copy ≡ call_of call.now) }
-{
-    kept.reserve(1)?;
-    call.copy(alloc)
 }
 
 /// What the terminal needs for a call.
@@ -150,26 +139,20 @@ fn room_for_call(alloc: Global, terminal: &mut Terminal, call: &Call) -> Result<
 pub(crate) fn prepare(
     alloc: Global,
     terminal: &mut Terminal,
-    kept: &mut Buffer<KeptCall>,
     starved: &mut bool,
-    begun: bool,
     call: &Call,
 ) -> Result<Prepared, Denied>
     ensures terminal { terminal.new.terminal ≡ terminal.old.terminal }
     ensures wire { OnOk result (ROOM_FOR_CALL ≤ terminal.new.wire_room) }
-    ensures items { kept.new.items ≡ kept.old.items }
-    ensures kept { IfOk result (λ p. IsCopyOf begun (call_of call.now) p.copy) }
-    ensures spare { OnOk result (begun ≡ false → 0 < kept.new.spare) }
     ensures empty { IfOk result (λ p. p.bytes.items ≡ []) }
     ensures fits { IfOk result (λ p. room_for terminal.new.terminal (call_of call.now) ≤ p.bytes.spare) }
     ensures room { IfOk result (λ p. IsRoomFor terminal.new.terminal (call_of call.now) p.room) }
     ensures ok { OnOk result (starved.new ≡ starved.old) }
     ensures err { IfErr result (λ d. (d ≡ Denied.NoMemory) × (starved.new ≡ true)) }
 {
-    let copy = copy_unless_begun(alloc, kept, starved, begun, call)?;
     let bytes = room_for_bytes(alloc, starved, terminal.room_for(call))?;
     match room_for_call(alloc, terminal, call) {
-        Ok(room) => Ok(Prepared { copy, bytes, room }),
+        Ok(room) => Ok(Prepared { bytes, room }),
         Err(NoMemory) => Err(starve(starved)),
     }
 }
@@ -190,31 +173,5 @@ pub(crate) fn entry_of_call(
         part,
         generation,
         event,
-    }
-}
-
-/// Adds an entry of a caller's call, in room that was reserved, and keeps the call with it where it has
-/// not begun.
-#[inline(always)]
-pub(crate) fn add_entry_of_call(
-    journal: &mut Journal,
-    kept: &mut Buffer<KeptCall>,
-    places: &mut Vec<usize>,
-    copy: Option<Call>,
-    caller: u16,
-    entry: Entry,
-)
-    requires room { 0 < journal.old.spare }
-    requires kept { IsSome copy → 0 < kept.old.spare }
-    requires place { caller < vec_len places.old }
-    ensures journal { journal.new.items ≡ journal.old.items ++ entry ∷ [] }
-    ensures kept { kept.new.items ≡ kept_after kept.old.items caller entry.step copy }
-    ensures places { places.new.items ≡ places_after places.old.items kept.old.items caller copy }
-{
-    let step = entry.step;
-    journal.add(entry);
-    if let Some(call) = copy {
-        places[caller as usize] = kept.len();
-        kept.add(KeptCall { caller, step, call });
     }
 }

@@ -6,12 +6,13 @@ pub(crate) mod attempting;
 mod ending;
 pub(crate) mod flushing;
 
-use crate::entries::{KeptCall, reserve_entry};
+use crate::entries::{AskedCalls, reserve_entry};
 use flip_buffer::FlipOut;
+use http_server::Log;
 use std::alloc::Global;
 use std::marker::Model;
-use tty_base::{Buffer, Moves, NoMemory};
-use tty_calls::{Denied, Entry, Event, Journal, PortEnd, Who};
+use tty_base::{Moves, NoMemory};
+use tty_calls::{Call, Denied, Entry, Event, Journal, PortEnd, Who};
 use tty_terminal::{CallerState, Piece, Terminal};
 
 /// A port. Contracts see it as the record `PortValue`.
@@ -20,9 +21,9 @@ pub struct Port {
     alloc: Global,
     terminal: Terminal,
     journal: Journal,
-    kept: Buffer<KeptCall>,
-    /// For each caller the place in `kept` of its latest call.
-    places: Vec<usize>,
+    kept: AskedCalls,
+    /// For each caller the latest of its calls that waited.
+    waiting: Vec<Option<Call>>,
     counts: Vec<u8>,
     limit: u32,
     starved: bool,
@@ -51,6 +52,15 @@ fn total(callers: &[u8]) -> usize
     callers.iter().map(|count| *count as usize).sum()
 }
 
+/// A slot for a waiting call of each of so many callers.
+fn slots_for(alloc: Global, count: usize) -> Result<Vec<Option<Call>>, NoMemory>
+    ensures { IfOk result (λ slots. length slots.items ≡ count) }
+{
+    let mut slots = Vec::new(alloc);
+    slots.resize_with(count, || None)?;
+    Ok(slots)
+}
+
 impl Port {
     ghost use Rattle.tty_terminal.specs.Terminals.{opening, caller_at, has_begun};
     ghost use Rattle.tty_terminal.specs.Steps.{may_end, quiet, callers_in, nothing_to_flush};
@@ -74,8 +84,8 @@ impl Port {
             alloc,
             terminal: Terminal::new(alloc, count, flip.capacity() as u32)?,
             journal: Journal::new(alloc),
-            kept: Buffer::new(alloc),
-            places: vec![in alloc; 0; count]?,
+            kept: Log::new(),
+            waiting: slots_for(alloc, count)?,
             counts: callers.to_vec(alloc)?,
             limit,
             starved: false,
@@ -305,7 +315,7 @@ impl Port {
             terminal,
             journal,
             kept: _,
-            places: _,
+            waiting: _,
             counts: _,
             limit: _,
             starved: _,

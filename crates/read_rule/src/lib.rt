@@ -8,6 +8,7 @@ ghost use Rattle.read_rule.specs.Ready.{is_ready};
 /// termios(3). `unread` is the number of unread bytes, `since` the tick at which the read began to
 /// wait, `last` the tick at which the last byte was stored, and `now` the tick of now. A tick is a
 /// tenth of a second, the unit of TIME. From a tick that is still to come no time has passed.
+#[inline(always)]
 #[tactic(auto, unfolding(crate::specs::Ready::is_ready))]
 pub fn ready(n: u32, min: u8, time: u8, unread: u32, since: u64, last: u64, now: u64) -> bool
     ensures { result ≡ is_ready n min time unread since last now }

@@ -1,8 +1,13 @@
 -- Texts that grow piece by piece.
-use Rattle.std.proofs.Common.{◌≡◌, ℕ, true, nat_eq, zero, suc, List, [], ◌∷◌, ◌++◌, Option, None, Some, Result, Ok, Err, OnOk, is_ok, cond, ◌+◌, ◌/◌, ◌%◌, ◌<◌, ◌≤◌, length, take, drop, get_or, map, option_map, unwrap_or, refl, sym, ap, ◌∙◌, arith, append_assoc, append-nil, drop-cons, add-one}
+use Rattle.std.proofs.Common.{◌≡◌, ℕ, true, nat_eq, nat_lt, suc, List, [], ◌∷◌, ◌++◌, Option, None, Some, Result, Ok, Err, OnOk, is_ok, cond, ◌+◌, ◌*◌, ◌/◌, ◌%◌, ◌<◌, ◌≤◌, length, take, drop, get_or, set, map, option_map, unwrap_or, refl, sym, ap, ◌∙◌, arith, append_assoc, append-nil, drop-cons, add-one}
 use denote.Ref.{Bor}
-use Rattle.std.proofs.lemmas.Bool.{eqb-true}
-use Rattle.std.proofs.lemmas.List.{nil_from_length, length-drop, take-append-drop}
+use Rattle.std.proofs.lemmas.Bool.{and_parts, eqb-true, ltb-true}
+use Rattle.std.proofs.lemmas.List.{nil_from_length, length-drop, length-set, take-append-drop, take_more, take_more_set}
+use Rattle.std.proofs.lemmas.Str.{IsUtf8-from_ascii}
+use Rattle.std.proofs.lemmas.Str.Ascii.{IsAscii-nil, IsAscii-cons}
+use Rattle.std.specs.List.{list_all}
+use Rattle.std.specs.Str.{IsAscii, IsUtf8}
+use Rattle.hex.proofs.HexLemmas.{IsAscii-encode_with}
 use Rattle.hex.specs.Hex.{encode_lower, encode_with, lower_digits}
 use Rattle.tty_calls.specs.declared.answers.PortEnd.{PortEnd}
 use Rattle.tty_calls.specs.declared.journals.PortRun.{PortRun}
@@ -10,7 +15,6 @@ use Rattle.tty_calls.specs.Sessions.{PlainSession}
 use Rattle.session_print.specs.Ends.{end_of}
 use Rattle.session_print.specs.Lines.{port_text}
 use Rattle.session_print.specs.Report.{ports_from}
-use Rattle.session_print.specs.Printing.{digit_texts}
 
 -- a push that succeeded
 pub pushed : {T E : Type 0} (r : Result T E) (new old x : List ℕ) → new ≡ cond (is_ok r) (old ++ x) old → OnOk r (new ≡ old ++ x)
@@ -26,24 +30,44 @@ three first t u v a b c put then last =
 pub drop_all : {X : Type 0} (xs : List X) (i : ℕ) → length xs ≤ i → drop i xs ≡ []
 drop_all xs i h = nil_from_length (drop i xs) (omega (arith, length-drop i xs))
 
-digit_at : (xs : List ℕ) (k : ℕ) → k < length xs → get_or (map (λ digit. digit ∷ []) xs) k [] ≡ get_or xs k 0 ∷ []
-digit_at [] k h = absurd (omega arith)
-digit_at (x ∷ xs) zero h = refl
-digit_at (x ∷ xs) (suc k) h = digit_at xs k (omega arith)
+all_ascii : (bytes : List ℕ) → list_all (λ byte. nat_lt byte 128) bytes ≡ true → IsAscii bytes
+all_ascii [] h = IsAscii-nil
+all_ascii (byte ∷ bytes) h =
+    let parts = and_parts (nat_lt byte 128) (list_all (λ b. nat_lt b 128) bytes) h in
+    IsAscii-cons byte bytes (ltb-true byte 128 parts.0) (all_ascii bytes parts.1)
 
--- the two digits of a byte
-pub byte_digits : (byte : ℕ) → byte < 256 → get_or digit_texts (byte / 16) [] ++ get_or digit_texts (byte % 16) [] ≡ encode_lower (byte ∷ [])
+pub digits_are_text : (bytes : List ℕ) → IsUtf8 (encode_lower bytes)
+digits_are_text bytes = IsUtf8-from_ascii _ (IsAscii-encode_with lower_digits bytes (all_ascii lower_digits refl))
+
+pub no_digits : [] ≡ encode_lower []
 unfolding encode_with
-byte_digits byte small =
-    let high : byte / 16 < 16 = omega arith in
-    let low : byte % 16 < 16 = omega arith in
-    ap (λ xs. xs ++ get_or digit_texts (byte % 16) []) (digit_at lower_digits (byte / 16) high)
-    ∙ ap (λ xs. get_or lower_digits (byte / 16) 0 ∷ xs) (digit_at lower_digits (byte % 16) low)
+no_digits = refl
+
+byte_digits : (byte high low : ℕ) → high ≡ get_or lower_digits (byte / 16) 0 → low ≡ get_or lower_digits (byte % 16) 0 → high ∷ low ∷ [] ≡ encode_lower (byte ∷ [])
+unfolding encode_with
+byte_digits byte high low first second = ap (λ h. h ∷ low ∷ []) first ∙ ap (λ l. get_or lower_digits (byte / 16) 0 ∷ l ∷ []) second
 
 encode_append : (xs ys : List ℕ) → encode_lower (xs ++ ys) ≡ encode_lower xs ++ encode_lower ys
 unfolding encode_with
 encode_append [] ys = refl
 encode_append (b ∷ xs) ys = ap (λ zs. get_or lower_digits (b / 16) 0 ∷ get_or lower_digits (b % 16) 0 ∷ zs) (encode_append xs ys)
+
+-- the digits of a byte more
+pub digits_more : (bytes digits : List ℕ) (place high low : ℕ) → place < length bytes → 2 * place + 1 < length digits → high ≡ get_or lower_digits (get_or bytes place 0 / 16) 0 → low ≡ get_or lower_digits (get_or bytes place 0 % 16) 0
+    → take (2 * place) digits ≡ encode_lower (take place bytes)
+    → take (2 * (place + 1)) (set (set digits (2 * place) high) (2 * place + 1) low) ≡ encode_lower (take (place + 1) bytes)
+digits_more bytes digits place high low within room first second before =
+    let byte = get_or bytes place 0 in
+    let once = set digits (2 * place) high in
+    let next : 2 * (place + 1) ≡ 2 * place + 1 + 1 = omega arith in
+    let pair : high ∷ low ∷ [] ≡ encode_lower (byte ∷ []) = byte_digits byte high low first second in
+    ap (λ n. take n (set once (2 * place + 1) low)) next
+    ∙ take_more_set once (2 * place + 1) low (omega (arith, room, length-set digits (2 * place) high))
+    ∙ ap (λ xs. xs ++ low ∷ []) (take_more_set digits (2 * place) high (omega (arith, room)) ∙ ap (λ xs. xs ++ high ∷ []) before)
+    ∙ append_assoc (encode_lower (take place bytes)) (high ∷ []) (low ∷ [])
+    ∙ ap (λ xs. encode_lower (take place bytes) ++ xs) pair
+    ∙ sym (encode_append (take place bytes) (byte ∷ []))
+    ∙ ap encode_lower (sym (take_more bytes place 0 within))
 
 -- so many more bytes in hexadecimal
 pub hex_more : (first text new bytes piece after : List ℕ) (n : ℕ) → piece ≡ take n bytes → after ≡ drop n bytes → new ≡ text ++ encode_lower piece

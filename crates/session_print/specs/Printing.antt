@@ -3,10 +3,6 @@ use Rattle.std.specs.Prelude.{ℕ, List, [], ◌∷◌, ◌++◌, ◌+◌, Optio
 use Rattle.std.specs.List.{range_with_len}
 use Rattle.std.specs.Option.{option_map}
 use denote.Ref.{Bor}
-use Rattle.std.specs.HashMap.{HashMap, get}
-use Rattle.std.specs.declared.hash.FoldHasher.{FoldHasher}
-use Rattle.std.specs.declared.hash.BuildHasherDefault.{BuildHasherDefault}
-use Rattle.hex.specs.Hex.{lower_digits}
 use Rattle.tty_modes.specs.Names.{flag_names}
 use Rattle.tty_modes.specs.Settings.{Settings, has_flag, character}
 use Rattle.tty_modes.specs.Word.{word_text}
@@ -18,14 +14,16 @@ use Rattle.tty_calls.specs.Sessions.{PlainScript, script_of, number_in}
 use Rattle.session_print.specs.Words.{verb_of, answer_text}
 use Rattle.session_print.specs.Lines.{newline}
 use Rattle.session_print.specs.Report.{Told, told_from}
+use Rattle.session_print.specs.declared.answers.Answers.{Answers}
 use Rattle.session_print.specs.declared.answers.Turn.{Turn}
 
 abbrev pub same_turn : Turn → Turn → Bool
 same_turn a b = (a.caller == b.caller) && (a.step == b.step)
 
--- the answer of a caller and step
-abbrev pub noted_answer : HashMap Turn (Bor Answer) (BuildHasherDefault FoldHasher) → ℕ → ℕ → Option PlainAnswer
-noted_answer answers c step = option_map (λ a. answer_of a.now) (get same_turn answers (record { caller = c; step = step }))
+-- the answer of a caller and step: what stands at its place in the caller's row
+abbrev pub noted_answer : Answers → ℕ → ℕ → Option PlainAnswer
+noted_answer answers c step =
+    option_map (λ a. answer_of a.now) (slice_index_or (slice_index_or (map (λ row. row.items) answers.rows.items) c []) step None)
 
 -- what an entry answers to a caller's step
 abbrev pub entry_answer : Option (Turn × Bor Answer) → ℕ → ℕ → Option PlainAnswer
@@ -70,7 +68,3 @@ flags_text modes place count = flat_map (λ flag. slice_index_or flag_names flag
 abbrev pub characters_text : Settings → ℕ → ℕ → List ℕ
 characters_text modes place count =
     flat_map (λ at. codes " " ++ word_text (Cc at (character modes at))) (range_with_len place count)
-
--- the hexadecimal digits, as texts
-abbrev pub digit_texts : List (List ℕ)
-digit_texts = map (λ digit. digit ∷ []) lower_digits

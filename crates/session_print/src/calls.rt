@@ -4,11 +4,10 @@ ghost use Rattle.tty_calls.specs.Sessions.{script_of, number_in, session_of};
 ghost use Rattle.session_print.specs.Report.{calls_text, told_line, told_from};
 ghost use Rattle.session_print.specs.Printing.{call_head, call_rest, noted_answer, scripts_for, told_script, steps_then, told_scripts, steps_after};
 
-use super::answers::{Turn, answers_of};
+use super::answers::{Answers, Turn, answers_of};
 use super::digits::put_number;
 use super::words::{put_answer, verb_of};
 use std::alloc::{AllocError, Global};
-use std::collections::HashMap;
 use tty_base::NoMemory;
 use tty_calls::{Answer, Call, Names, PortRun, Script, Session};
 
@@ -39,7 +38,7 @@ pub(crate) fn put_calls(
 struct Teller<'a> {
     port: usize,
     names: Names,
-    answers: HashMap<Turn, &'a Answer>,
+    answers: Answers<'a>,
 }
 
 impl Teller<'_> {
@@ -103,7 +102,7 @@ impl Teller<'_> {
         let head = head_of(*text.allocator(), self.port, name)?;
         let mut turn = first;
         for call in calls {
-            if let Some(answer) = self.answers.get(&turn) {
+            if let Some(answer) = self.answers.get(turn) {
                 put_call(text, head.as_str(), turn.step, call, answer)?;
             }
             turn.step += 1;

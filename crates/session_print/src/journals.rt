@@ -4,7 +4,7 @@ ghost use Rattle.tty_calls.specs.Plain.{entry_of, event_of, entries_of};
 ghost use Rattle.tty_calls.specs.Sessions.{session_of};
 ghost use Rattle.session_print.specs.Journals.{journals_text, journal_on, heading, entry_line, who_text, event_text, chars_text, beside_text, char_text, flag_letter as letter_of_flag, overrun_line, line_numbers};
 
-use super::digits::put_byte;
+use super::digits::put_piece;
 use super::words::put_answer;
 use std::alloc::{AllocError, Global};
 use tty_base::{Bytes, Flag, Flagged, LineReport, NoMemory, Overrun};
@@ -146,7 +146,7 @@ fn put_each_character(text: &mut String, characters: &[Flagged]) -> Result<(), A
 {
     for character in characters {
         text.push_str(flag_letter(character.flag))?;
-        put_byte(text, character.byte)?;
+        put_piece(text, &[character.byte])?;
     }
     Ok(())
 }

@@ -12,6 +12,7 @@ use tty_modes::places::{CHARACTER_COUNT, FLAG_COUNT};
 use tty_modes::{Modes, character_name, flag_name};
 
 /// Adds the text of modes: the names of the set flags, and each control character.
+#[inline(never)]
 pub(crate) fn put_modes(text: &mut String, modes: &Modes) -> Result<(), AllocError>
     ensures { OnOk result (string_bytes text.new ≡ string_bytes text.old ++ modes_text modes.now) }
 {

@@ -9,6 +9,7 @@ use tty_base::{Counts, Errno, Signal};
 use tty_calls::{Answer, Call};
 
 /// Adds the text of an answer.
+#[inline(always)]
 pub(crate) fn put_answer(text: &mut String, answer: &Answer) -> Result<(), AllocError>
     ensures { OnOk result (string_bytes text.new ≡ string_bytes text.old ++ answer_text (answer_of answer.now)) }
 {
@@ -25,6 +26,7 @@ pub(crate) fn put_answer(text: &mut String, answer: &Answer) -> Result<(), Alloc
 }
 
 /// Adds how many bytes there are, and the bytes in hexadecimal.
+#[inline(never)]
 fn put_got(text: &mut String, bytes: &[u8]) -> Result<(), AllocError>
     ensures { OnOk result (string_bytes text.new ≡ string_bytes text.old ++ got_text bytes.now) }
 {
@@ -37,6 +39,7 @@ fn put_got(text: &mut String, bytes: &[u8]) -> Result<(), AllocError>
 }
 
 /// Adds the ten counts by their names.
+#[inline(never)]
 pub(crate) fn put_counts(text: &mut String, counts: &Counts) -> Result<(), AllocError>
     ensures { OnOk result (string_bytes text.new ≡ string_bytes text.old ++ counts_text counts.now) }
 {

@@ -6,6 +6,7 @@ pub mod Fronts
 mod Heads
 mod Judged
 mod Lists
+mod ModeWords
 mod Rests
 mod Runs
 pub mod Spelled

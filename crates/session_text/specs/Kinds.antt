@@ -1,7 +1,9 @@
 -- What the arguments of an item may be, and what is wrong with them.
-use Rattle.std.specs.Prelude.{ℕ, ◌+◌, ◌/◌, ◌==◌, ◌&&◌, ◌||◌, nat_le, nat_lt, Bool, List, [], ◌∷◌, length, Option, None, Some, is_some, codes, if◌then◌else◌}
+use Rattle.std.specs.Prelude.{ℕ, ◌+◌, ◌/◌, ◌==◌, ◌&&◌, ◌||◌, nat_le, nat_lt, Bool, List, [], ◌∷◌, drop, length, Option, None, Some, is_some, codes, if◌then◌else◌}
 use Rattle.std.specs.Str.{bytes_eq}
+use Rattle.std.specs.List.{filter_map}
 use Rattle.std.specs.Option.{option_or}
+use Rattle.tty_modes.specs.declared.words.Word.{Word}
 use Rattle.tty_modes.specs.Reading.{word_of as mode_of}
 use Rattle.tty_calls.specs.declared.calls.Access.{Access}
 use Rattle.tty_calls.specs.declared.calls.Access.TheVariants as access
@@ -60,6 +62,10 @@ act_of word = choice_of act_text (act.Ooff ∷ act.Oon ∷ act.Ioff ∷ act.Ion 
 
 abbrev pub is_nonblock : List ℕ → Bool
 is_nonblock word = bytes_eq word (codes "nonblock")
+
+-- the mode words among the arguments behind the second
+abbrev pub modes_in : List (List ℕ) → List Word
+modes_in arguments = filter_map mode_of (drop 2 arguments)
 
 -- ---- how many arguments, and of which kinds
 

@@ -1,21 +1,26 @@
-ghost use Rattle.std.specs.Prelude.{◌≡◌, [], ◌∷◌, ◌++◌, ◌≤◌, IfOk, OnOk, IsTrue, length, map, drop};
+ghost use Rattle.std.specs.Prelude.{◌≡◌, [], ◌∷◌, ◌++◌, ◌≤◌, IfOk, OnOk, IsTrue, length, map, take, drop};
 ghost use Rattle.std.specs.List.{filter_map};
 ghost use Rattle.tty_modes.specs.Reading.{word_of as mode_in};
 ghost use Rattle.tty_calls.specs.Plain.{call_of as call_view};
 ghost use Rattle.text_lines.specs.Lines.{words_of};
-ghost use Rattle.text_lines.specs.Values.{is_hex, bytes_of as bytes_written};
+ghost use Rattle.text_lines.specs.Values.{is_hex};
+ghost use Rattle.session_text.specs.Kinds.{modes_in};
 ghost use Rattle.session_text.specs.Stands.{is_good};
 ghost use Rattle.session_text.specs.Meaning.{rx_step, characters, steps_in, bare_call, call_on, call_in};
 
 use super::verbs::{CallVerb, LineVerb, Verb};
 use super::words::{access_of, act_of, mode_of, queue_of, when_of};
 use std::alloc::Global;
-use text_lines::{Arguments, byte_in, bytes_in, count_bytes, split_word};
+use text_lines::{Arguments, bytes_in, split_word};
 use tty_base::{Buffer, Bytes, Flag, Flagged, LineStep, NoMemory};
 use tty_calls::{Access, Act, Call, Queue, When, Words};
 
+/// How many characters are added at a time.
+const PIECE: usize = 32;
+
 /// Adds what a line's item does.
 pub(crate) fn add_steps(
+    alloc: Global,
     line: &mut Buffer<LineStep>,
     ports: u8,
     verb: LineVerb,
@@ -25,9 +30,9 @@ pub(crate) fn add_steps(
     ensures { OnOk result (line.new.items ≡ line.old.items ++ steps_in verb arguments.now) }
 {
     match verb {
-        LineVerb::Rx => add_characters(line, Flag::Normal, arguments.first()),
-        LineVerb::Rxp => add_characters(line, Flag::Parity, arguments.first()),
-        LineVerb::Rxf => add_characters(line, Flag::Frame, arguments.first()),
+        LineVerb::Rx => add_characters(alloc, line, Flag::Normal, arguments.first()),
+        LineVerb::Rxp => add_characters(alloc, line, Flag::Parity, arguments.first()),
+        LineVerb::Rxf => add_characters(alloc, line, Flag::Frame, arguments.first()),
         LineVerb::Break => add_step(line, LineStep::Break),
         LineVerb::Mask => add_step(line, LineStep::Mask),
         LineVerb::Unmask => add_step(line, LineStep::Unmask),
@@ -45,36 +50,64 @@ fn add_step(line: &mut Buffer<LineStep>, step: LineStep) -> Result<(), NoMemory>
 }
 
 /// Adds the characters that HEX writes.
-fn add_characters(line: &mut Buffer<LineStep>, flag: Flag, digits: &[u8]) -> Result<(), NoMemory>
+fn add_characters(
+    alloc: Global,
+    line: &mut Buffer<LineStep>,
+    flag: Flag,
+    digits: &[u8],
+) -> Result<(), NoMemory>
     requires { IsTrue (is_hex digits.now) }
     ensures { OnOk result (line.new.items ≡ line.old.items ++ characters flag digits.now) }
 {
-    let count = count_bytes(digits);
-    line.reserve(count)?;
-    append_characters(line, flag, digits, count);
+    let bytes = bytes_in(alloc, digits)?;
+    line.reserve(bytes.len())?;
+    append_characters(line, flag, &bytes);
     Ok(())
 }
 
-fn append_characters(line: &mut Buffer<LineStep>, flag: Flag, digits: &[u8], count: usize)
-    requires hex { IsTrue (is_hex digits.now) }
-    requires all { count ≡ length (bytes_written digits.now) }
-    requires room { count ≤ line.old.spare }
-    ensures { line.new.items ≡ line.old.items ++ map (rx_step flag) (bytes_written digits.now) }
+fn append_characters(line: &mut Buffer<LineStep>, flag: Flag, bytes: &[u8])
+    requires { length bytes.now ≤ line.old.spare }
+    ensures { line.new.items ≡ line.old.items ++ map (rx_step flag) bytes.now }
 {
-    for place in 0..count {
-        let byte = byte_in(digits, place);
-        line.add(LineStep::Rx(Flagged { byte, flag }));
+    let mut steps = [LineStep::Break; PIECE];
+    let mut rest = bytes;
+    while !rest.is_empty() {
+        let (piece, after) = rest.split_at(rest.len().min(PIECE));
+        set_steps(&mut steps, flag, piece);
+        line.append(first_steps(&steps, piece.len()));
+        rest = after;
     }
 }
 
-/// The call that a verb and its arguments are.
+/// Makes the first steps the arrivals of these bytes.
+fn set_steps(steps: &mut [LineStep; PIECE], flag: Flag, bytes: &[u8])
+    requires { length bytes.now ≤ 32 }
+    ensures { take (length bytes.now) steps.new ≡ map (rx_step flag) bytes.now }
+{
+    for place in 0..bytes.len() {
+        let byte = bytes[place];
+        steps[place] = LineStep::Rx(Flagged { byte, flag });
+    }
+}
+
+#[inline(always)]
+fn first_steps(steps: &[LineStep; PIECE], count: usize) -> &[LineStep]
+    requires { count ≤ 32 }
+    ensures { result.now ≡ take count steps.now }
+{
+    &steps[..count]
+}
+
+/// The call that a verb and its arguments are, which have these mode words.
 pub(crate) fn call_of(
     alloc: Global,
     ports: u8,
     verb: CallVerb,
     arguments: &Arguments,
+    modes: Words,
 ) -> Result<Call, NoMemory>
-    requires { IsTrue (is_good ports (Verb.Call verb) arguments.now) }
+    requires good { IsTrue (is_good ports (Verb.Call verb) arguments.now) }
+    requires modes { modes.items ≡ modes_in arguments.now }
     ensures { IfOk result (λ call. call_view call ≡ call_in verb arguments.now) }
 {
     let h = arguments.first_number() as u8;
@@ -96,7 +129,7 @@ pub(crate) fn call_of(
         CallVerb::SetModes => Ok(Call::SetModes {
             h,
             when: when_of(word).unwrap_or(When::Now),
-            words: modes_of(alloc, arguments)?,
+            words: modes,
         }),
         CallVerb::SetDisc => Ok(Call::SetDisc {
             h,
@@ -137,13 +170,15 @@ fn bare_call(verb: CallVerb, h: u8) -> Call
     }
 }
 
-/// The mode words after the handle and the moment.
-fn modes_of(alloc: Global, arguments: &Arguments) -> Result<Words, NoMemory>
-    ensures { IfOk result (λ modes. modes.items ≡ filter_map mode_in (drop 2 arguments.now)) }
+/// The mode words among the arguments behind the second.
+pub(crate) fn modes_of(alloc: Global, arguments: &Arguments) -> Result<Words, NoMemory>
+    ensures { IfOk result (λ modes. modes.items ≡ modes_in arguments.now) }
 {
     let mut modes = Words::new(alloc);
-    modes.reserve(arguments.count())?;
-    add_modes(&mut modes, arguments.more())?;
+    if arguments.count() > 2 {
+        modes.reserve(arguments.count() - 2)?;
+        add_modes(&mut modes, arguments.more())?;
+    }
     Ok(modes)
 }
 

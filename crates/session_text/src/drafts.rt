@@ -1,6 +1,7 @@
 ghost use Rattle.std.specs.Prelude.{◌≡◌, ◌+◌, ◌∷◌, ◌++◌, [], Some, IfOk, OnOk, IsTrue, map, replicate, slice_index, slice_index_or, slice_set};
 ghost use Rattle.tty_calls.specs.Plain.{call_of as call_view};
 ghost use Rattle.tty_calls.specs.Sessions.{session_of as session_view, phase_of, script_of};
+ghost use Rattle.session_text.specs.Kinds.{modes_in};
 ghost use Rattle.session_text.specs.Stands.{is_good};
 ghost use Rattle.session_text.specs.Meaning.{steps_in, empty_phase};
 ghost use Rattle.session_text.specs.Drafts.{first_draft, all_phases, session_with, with_call, with_open, phase_after, draft_after};
@@ -12,7 +13,7 @@ use super::verbs::{LineVerb, Verb};
 use std::alloc::Global;
 use text_lines::{Arguments, name_of};
 use tty_base::{Buffer, LineStep, NoMemory};
-use tty_calls::{Call, Phase, Script, Session};
+use tty_calls::{Call, Phase, Script, Session, Words};
 
 const FLIP: u32 = 4_096;
 
@@ -45,15 +46,17 @@ impl Draft {
         }
     }
 
-    /// Adds what an item means that is not wrong where the reader stands.
+    /// Adds what an item means that is not wrong where the reader stands, and that has these mode words.
     pub(crate) fn add(
         &mut self,
         alloc: Global,
         stand: &Stand,
         verb: Verb,
         arguments: &Arguments,
+        modes: Words,
     ) -> Result<(), NoMemory>
-        requires { IsTrue (is_good stand.now.ports verb arguments.now) }
+        requires good { IsTrue (is_good stand.now.ports verb arguments.now) }
+        requires modes { modes.items ≡ modes_in arguments.now }
         ensures { OnOk result (draft_of self.new ≡ draft_after (stand_of stand.now) (draft_of self.old) verb arguments.now) }
     {
         match verb {
@@ -66,7 +69,7 @@ impl Draft {
             }
             Verb::Phase => self.begin_phase(alloc, stand.ports()),
             Verb::Caller | Verb::Tick | Verb::Step(_) | Verb::Call(_) => {
-                self.add_to_phase(alloc, stand, verb, arguments)
+                self.add_to_phase(alloc, stand, verb, arguments, modes)
             }
         }
     }
@@ -104,13 +107,15 @@ impl Draft {
         stand: &Stand,
         verb: Verb,
         arguments: &Arguments,
+        modes: Words,
     ) -> Result<(), NoMemory>
-        requires { IsTrue (is_good stand.now.ports verb arguments.now) }
+        requires good { IsTrue (is_good stand.now.ports verb arguments.now) }
+        requires modes { modes.items ≡ modes_in arguments.now }
         ensures { OnOk result (draft_of self.new ≡ with_open (draft_of self.old) (phase_after (stand_of stand.now) verb arguments.now)) }
     {
         match &mut self.open_phase {
             None => Ok(()),
-            Some(phase) => phase.add(alloc, stand, verb, arguments),
+            Some(phase) => phase.add(alloc, stand, verb, arguments, modes),
         }
     }
 
@@ -152,15 +157,17 @@ impl OpenPhase {
         }
     }
 
-    /// Adds what an item of a phase's block means.
+    /// Adds what an item of a phase's block means, which has these mode words.
     fn add(
         &mut self,
         alloc: Global,
         stand: &Stand,
         verb: Verb,
         arguments: &Arguments,
+        modes: Words,
     ) -> Result<(), NoMemory>
-        requires { IsTrue (is_good stand.now.ports verb arguments.now) }
+        requires good { IsTrue (is_good stand.now.ports verb arguments.now) }
+        requires modes { modes.items ≡ modes_in arguments.now }
         ensures { OnOk result (phase_view self.new ≡ phase_after (stand_of stand.now) verb arguments.now (phase_view self.old)) }
     {
         let ports = stand.ports();
@@ -179,10 +186,10 @@ impl OpenPhase {
             }
             Verb::Step(step) => {
                 let port = stand.port();
-                add_to_line(&mut self.lines, port, ports, step, arguments)
+                add_to_line(alloc, &mut self.lines, port, ports, step, arguments)
             }
             Verb::Call(call) => {
-                let call = call_of(alloc, ports, call, arguments)?;
+                let call = call_of(alloc, ports, call, arguments, modes)?;
                 add_call(&mut self.callers, call)
             }
             _ => Ok(()),
@@ -221,6 +228,7 @@ fn add_ticks(ticks: &mut [u32], port: u64, count: u32) -> Result<(), NoMemory>
 }
 
 fn add_to_line(
+    alloc: Global,
     lines: &mut [Buffer<LineStep>],
     port: u64,
     ports: u8,
@@ -233,7 +241,7 @@ fn add_to_line(
 {
     let place = port as usize;
     if place < lines.len() {
-        add_steps(&mut lines[place], ports, verb, arguments)?;
+        add_steps(alloc, &mut lines[place], ports, verb, arguments)?;
     }
     Ok(())
 }

@@ -1,11 +1,11 @@
-ghost use Rattle.std.specs.Prelude.{◌≡◌, ◌/◌, nat_le, is_some, length};
+ghost use Rattle.std.specs.Prelude.{◌≡◌, ◌/◌, nat_le, is_some, drop, length};
 ghost use Rattle.text_lines.specs.Lines.{words_of};
-ghost use Rattle.session_text.specs.Kinds.{may_have, line_may_have, call_may_have, kind_at, line_kind, call_kind, fault_of, fault_from, word_fault, limit_fault, hex_fault, is_trigger};
+ghost use Rattle.session_text.specs.Kinds.{modes_in, may_have, line_may_have, call_may_have, kind_at, line_kind, call_kind, fault_of, fault_from, word_fault, limit_fault, hex_fault, is_trigger};
 
 use super::faults::Reason;
 use super::verbs::{CallVerb, LineVerb, Verb};
 use super::words::{access_of, act_of, is_nonblock, mode_of, queue_of, when_of};
-use text_lines::{Arguments, is_hex, is_name, is_number, number_of, split_word};
+use text_lines::{Arguments, is_hex, is_name, read_number, split_word};
 
 /// What an argument may be.
 #[derive(Clone, Copy, Debug, PartialEq, Eq)]
@@ -128,9 +128,11 @@ fn call_kind(verb: CallVerb, place: usize) -> Kind
     }
 }
 
-/// What is wrong with the first wrong argument, if one is.
+/// What is wrong with the first wrong argument, if one is. So many of the arguments behind the second
+/// are mode words.
 #[inline(always)]
-pub(crate) fn fault_in(ports: u8, verb: Verb, arguments: &Arguments) -> Option<Reason>
+pub(crate) fn fault_in(ports: u8, verb: Verb, arguments: &Arguments, modes: usize) -> Option<Reason>
+    requires { modes ≡ length (modes_in arguments.now) }
     ensures { result ≡ fault_from ports verb 0 arguments.now }
 {
     let count = arguments.count();
@@ -146,10 +148,39 @@ pub(crate) fn fault_in(ports: u8, verb: Verb, arguments: &Arguments) -> Option<R
     if let Some(reason) = fault_of(ports, kind_at(verb, 1), arguments.second()) {
         return Some(reason);
     }
-    fault_behind(ports, verb, arguments.more())
+    fault_past_two(ports, verb, arguments, modes)
 }
 
 /// The same of the arguments behind the second.
+#[inline(always)]
+fn fault_past_two(ports: u8, verb: Verb, arguments: &Arguments, modes: usize) -> Option<Reason>
+    requires { modes ≡ length (modes_in arguments.now) }
+    ensures { result ≡ fault_from ports verb 2 (drop 2 arguments.now) }
+{
+    match verb {
+        Verb::Call(call) => call_fault_past_two(ports, call, arguments, modes),
+        _ => fault_behind(ports, verb, arguments.more()),
+    }
+}
+
+/// The same of a call. Those of `modes` are good where all are mode words.
+#[inline(always)]
+fn call_fault_past_two(
+    ports: u8,
+    call: CallVerb,
+    arguments: &Arguments,
+    modes: usize,
+) -> Option<Reason>
+    requires { modes ≡ length (modes_in arguments.now) }
+    ensures { result ≡ fault_from ports (Verb.Call call) 2 (drop 2 arguments.now) }
+{
+    match call {
+        CallVerb::SetModes => word_fault(modes == arguments.count().saturating_sub(2)),
+        _ => fault_behind(ports, Verb::Call(call), arguments.more()),
+    }
+}
+
+/// What is wrong with the first wrong word of a line, whose words are those behind the second.
 fn fault_behind(ports: u8, verb: Verb, line: &[u8]) -> Option<Reason>
     ensures { result ≡ fault_from ports verb 2 (words_of line.now) }
 {
@@ -199,29 +230,28 @@ fn limit_fault(fits: bool) -> Option<Reason>
 fn port_fault(ports: u8, word: &[u8]) -> Option<Reason>
     ensures { result ≡ fault_of ports Kind.Port word.now }
 {
-    if !is_number(word) {
-        return Some(Reason::Number);
+    match read_number(word) {
+        None => Some(Reason::Number),
+        Some(number) => limit_fault(number < u64::from(ports)),
     }
-    limit_fault(number_of(word) < u64::from(ports))
 }
 
 fn range_fault(least: u64, most: u64, word: &[u8]) -> Option<Reason>
     ensures { result ≡ fault_of 0 (Kind.Number least most) word.now }
 {
-    if !is_number(word) {
-        return Some(Reason::Number);
+    match read_number(word) {
+        None => Some(Reason::Number),
+        Some(number) => limit_fault(least <= number && number <= most),
     }
-    let number = number_of(word);
-    limit_fault(least <= number && number <= most)
 }
 
 fn trigger_fault(word: &[u8]) -> Option<Reason>
     ensures { result ≡ fault_of 0 Kind.Trigger word.now }
 {
-    if !is_number(word) {
-        return Some(Reason::Number);
+    match read_number(word) {
+        None => Some(Reason::Number),
+        Some(number) => limit_fault(is_trigger(number)),
     }
-    limit_fault(is_trigger(number_of(word)))
 }
 
 fn is_trigger(number: u64) -> bool

@@ -8,6 +8,7 @@ ghost use Rattle.session_text.specs.Reading.{Gives, first_reading, reading_after
 ghost use Rattle.session_text.specs.Stands.{verdict_on, is_ended};
 ghost use Rattle.session_text.specs.Views.{stand_of, reading_of};
 
+use super::calls::modes_of;
 use super::drafts::Draft;
 use super::faults::{BadLine, Reason, TextFault};
 use super::stands::{Place, Stand};
@@ -57,9 +58,10 @@ impl Reader {
     ) -> Result<(), TextFault>
         ensures { Gives (λ _. reading_of self.new) result (reading_after_item (reading_of self.old) number arguments.now (verdict_on (stand_of self.old.stand) word.now arguments.now)) }
     {
-        match self.stand.judge(word, arguments) {
+        let modes = modes_of(alloc, arguments)?;
+        match self.stand.judge(word, arguments, modes.len()) {
             Ok(verb) => {
-                self.draft.add(alloc, &self.stand, verb, arguments)?;
+                self.draft.add(alloc, &self.stand, verb, arguments, modes)?;
                 self.stand.take(alloc, verb, arguments)?;
                 Ok(())
             }

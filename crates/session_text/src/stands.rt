@@ -1,16 +1,17 @@
 ghost use Rattle.std.specs.Prelude.{◌≡◌, ◌-◌, ◌∷◌, ◌++◌, [], Some, OnOk, IsTrue, map, slice_set, slice_index, length};
 ghost use Rattle.std.specs.List.{list_any};
+ghost use Rattle.session_text.specs.Kinds.{modes_in};
 ghost use Rattle.session_text.specs.Stands.{first_stand, may_stand, in_phase, holds, same_key, has_stood, callers_on, arrivals, has_many, is_over, is_good, late_fault, item_fault, verdict_on, verb_verdict, first_verdict, left_after, stand_after};
 ghost use Rattle.session_text.specs.Views.{stand_of, key_of};
 
 use super::faults::Reason;
 use super::kinds::{fault_in, may_have};
 use super::verbs::{CallVerb, LineVerb, Verb, verb_of};
-use super::words::is_same;
 use arrayvec::ArrayString;
 use std::alloc::Global;
 use text_lines::{Arguments, name_of};
 use tty_base::{Buffer, NoMemory};
+use tty_modes::is_same;
 
 const PHASES: u64 = 64;
 
@@ -118,25 +119,33 @@ impl Stand {
         self.port
     }
 
-    /// The verb of a line, from its first word and its arguments, or why the line is wrong.
-    pub(crate) fn judge(&self, word: &[u8], arguments: &Arguments) -> Result<Verb, Reason>
+    /// The verb of a line, from its first word and its arguments, or why the line is wrong. So many of
+    /// the arguments behind the second are mode words.
+    pub(crate) fn judge(
+        &self,
+        word: &[u8],
+        arguments: &Arguments,
+        modes: usize,
+    ) -> Result<Verb, Reason>
+        requires { modes ≡ length (modes_in arguments.now) }
         ensures { result ≡ verdict_on (stand_of self.now) word.now arguments.now }
     {
         if matches!(self.place, Place::Start) {
-            return self.judge_first(word, arguments);
+            return self.judge_first(word, arguments, modes);
         }
         match verb_of(self.version, word) {
             None => Err(Reason::Word),
-            Some(verb) => self.judge_item(verb, arguments),
+            Some(verb) => self.judge_item(verb, arguments, modes),
         }
     }
 
     /// The first item has to be the header.
-    fn judge_first(&self, word: &[u8], arguments: &Arguments) -> Result<Verb, Reason>
+    fn judge_first(&self, word: &[u8], arguments: &Arguments, modes: usize) -> Result<Verb, Reason>
+        requires { modes ≡ length (modes_in arguments.now) }
         ensures { result ≡ first_verdict (stand_of self.now) word.now arguments.now }
     {
         if is_same(word, b"tty-session".as_slice())
-            && is_good(self.ports, Verb::Session, arguments)
+            && is_good(self.ports, Verb::Session, arguments, modes)
         {
             Ok(Verb::Session)
         } else {
@@ -144,16 +153,18 @@ impl Stand {
         }
     }
 
-    fn judge_item(&self, verb: Verb, arguments: &Arguments) -> Result<Verb, Reason>
+    fn judge_item(&self, verb: Verb, arguments: &Arguments, modes: usize) -> Result<Verb, Reason>
+        requires { modes ≡ length (modes_in arguments.now) }
         ensures { result ≡ verb_verdict (stand_of self.now) (Some verb) arguments.now }
     {
-        match self.item_fault(verb, arguments) {
+        match self.item_fault(verb, arguments, modes) {
             None => Ok(verb),
             Some(reason) => Err(reason),
         }
     }
 
-    fn item_fault(&self, verb: Verb, arguments: &Arguments) -> Option<Reason>
+    fn item_fault(&self, verb: Verb, arguments: &Arguments, modes: usize) -> Option<Reason>
+        requires { modes ≡ length (modes_in arguments.now) }
         ensures { result ≡ item_fault (stand_of self.now) verb arguments.now }
     {
         if !may_stand(verb, self.place) {
@@ -162,7 +173,7 @@ impl Stand {
         if !may_have(verb, arguments.count()) {
             return Some(Reason::Word);
         }
-        match fault_in(self.ports, verb, arguments) {
+        match fault_in(self.ports, verb, arguments, modes) {
             Some(reason) => Some(reason),
             None => self.late_fault(verb, arguments),
         }
@@ -306,10 +317,11 @@ impl Stand {
     }
 }
 
-fn is_good(ports: u8, verb: Verb, arguments: &Arguments) -> bool
+fn is_good(ports: u8, verb: Verb, arguments: &Arguments, modes: usize) -> bool
+    requires { modes ≡ length (modes_in arguments.now) }
     ensures { result ≡ is_good ports verb arguments.now }
 {
-    may_have(verb, arguments.count()) && fault_in(ports, verb, arguments).is_none()
+    may_have(verb, arguments.count()) && fault_in(ports, verb, arguments, modes).is_none()
 }
 
 /// Whether an item may stand at a place. The header stands before the first place alone.

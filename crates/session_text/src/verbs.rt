@@ -2,6 +2,8 @@ ghost use Rattle.std.specs.Prelude.{◌≡◌, ◌<◌, slice_index, slice_index
 ghost use Rattle.session_text.specs.Verbs.{line_text, call_text, verb_text, verb_of};
 ghost use Rattle.session_text.specs.VerbSlots.{slot_of};
 
+use tty_modes::is_same;
+
 /// The first word of a line of a session.
 #[derive(Clone, Copy, Debug, PartialEq, Eq)]
 pub(crate) enum Verb {
@@ -108,7 +110,7 @@ pub(crate) fn verb_of(version: u8, word: &[u8]) -> Option<Verb>
     ensures { result ≡ verb_of version word.now }
 {
     let verb = verb_near(slot_of(word));
-    if text_of(verb).as_bytes() == word {
+    if is_same(text_of(verb).as_bytes(), word) {
         in_version(version, verb)
     } else {
         None

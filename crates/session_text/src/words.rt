@@ -3,17 +3,7 @@ ghost use Rattle.tty_modes.specs.Reading.{word_of};
 ghost use Rattle.session_text.specs.Kinds.{access_of, when_of, queue_of, act_of, is_nonblock};
 
 use tty_calls::{Access, Act, Queue, When};
-use tty_modes::{Word, set_word_bytes};
-
-/// Whether a word is this text. Most words differ from it in length, which costs no call.
-pub(crate) fn is_same(word: &[u8], text: &[u8]) -> bool
-    ensures { result ≡ bytes_eq word.now text.now }
-{
-    if word.len() != text.len() {
-        return false;
-    }
-    word == text
-}
+use tty_modes::{Word, is_same, set_word_bytes};
 
 pub(crate) fn access_of(word: &[u8]) -> Option<Access>
     ensures { result ≡ access_of word.now }

@@ -1,7 +1,8 @@
 -- What a decoder knows of the characters that it was fed, and what one more does to it.
-use Rattle.std.specs.Prelude.{◌≡◌, ℕ, ◌==◌, nat_lt, Bool, true, false, if◌then◌else◌, List, [], ◌∷◌, ◌++◌, length}
+use Rattle.std.specs.Prelude.{◌≡◌, ◌≢◌, ℕ, ◌==◌, nat_lt, Bool, true, false, if◌then◌else◌, List, [], ◌∷◌, ◌++◌, length}
 use Rattle.tty_base.specs.declared.characters.Flagged.{Flagged}
-use Rattle.slip_frames.specs.Slip.{esc, max_packet}
+use Rattle.tty_base.specs.declared.characters.Flag.TheVariants.{Normal}
+use Rattle.slip_frames.specs.Slip.{end, esc, max_packet}
 use Rattle.slip_frames.specs.declared.receiving.Fed.{Fed}
 use Rattle.slip_frames.specs.declared.receiving.Fed.TheVariants.{Going, Empty, Packet, Bad}
 use Rattle.slip_frames.specs.Slip.{byte_after_escape, text_of, is_normal, bytes_of, is_end, is_bad, pieces, Outcome, bad, silent, packet_of}
@@ -80,3 +81,14 @@ packet_in (spelling text escaped) = text
 -- a decoder after one character more
 abbrev pub decoding_after_character : Decoding → Flagged → Decoding
 decoding_after_character d c = record { piece = piece_after_character d.piece c; packet = if is_end c then packet_in d.piece else [] }
+
+-- a decoder after these characters, one after the other
+abbrev pub decoding_after_characters : Decoding → List Flagged → Decoding
+decoding_after_characters d [] = d
+decoding_after_characters d (c ∷ cs) = decoding_after_characters (decoding_after_character d c) cs
+
+-- a good character that stands for itself within a piece
+pub record IsText (c : Flagged) : Type 0 where
+  pub good : c.flag ≡ Normal
+  pub inside : c.byte ≢ end
+  pub itself : c.byte ≢ esc

@@ -1,6 +1,7 @@
-ghost use Rattle.std.specs.Prelude.{◌≡◌, ◌≤◌, ℕ, false, ◌∷◌, ◌++◌, ◌≢◌, [], List, length, IfOk};
-ghost use Rattle.slip_frames.specs.Slip.{byte_after_escape, outcomes, max_packet};
-ghost use Rattle.slip_frames.specs.Decoding.{WasFed, outcomes_by_answer, answer_to, decoding_after_character, new_decoding, spelling, bad_piece, with_byte, with_text_byte, answer_to_end, packet_in};
+ghost use Rattle.std.specs.Prelude.{◌≡◌, ◌≤◌, ◌+◌, ℕ, false, IsTrue, ◌∷◌, ◌++◌, ◌≢◌, [], List, length, take, IfOk, vec_len, vec_capacity};
+ghost use Rattle.std.specs.List.{AllByRecursion};
+ghost use Rattle.slip_frames.specs.Slip.{byte_after_escape, bytes_of, outcomes, max_packet};
+ghost use Rattle.slip_frames.specs.Decoding.{WasFed, outcomes_by_answer, answer_to, decoding_after_character, decoding_after_characters, IsText, new_decoding, spelling, bad_piece, with_byte, with_text_byte, answer_to_end, packet_in};
 
 use crate::{END, ESC, ESC_END, ESC_ESC, MAX_PACKET};
 use std::alloc::Global;
@@ -80,6 +81,27 @@ impl Decoder {
         self.step(c)
     }
 
+    /// Takes the characters at the front that stand for themselves within a piece, as far as a packet has room. Answers how
+    /// many; each gave [`Fed::Going`].
+    pub fn feed_run(&mut self, chars: &[Flagged]) -> usize
+        ensures within { result ≤ length chars.now }
+        ensures text { AllByRecursion IsText (take result chars.now) }
+        ensures after { self.new ≡ decoding_after_characters self.old (take result chars.now) }
+    {
+        let room = match self.piece {
+            Piece::Plain => MAX_PACKET - self.bytes.len(),
+            Piece::Ended => MAX_PACKET,
+            Piece::Escaped | Piece::Spoilt => return 0,
+        };
+        let count = text_len(front_of(chars, chars.len().min(room)));
+        if count > 0 {
+            self.forget_packet();
+            keep_all(&mut self.bytes, front_of(chars, count));
+            self.piece = Piece::Plain;
+        }
+        count
+    }
+
     /// The packet that the last character ended, or nothing where it ended none.
     pub fn packet(&self) -> &[u8]
         ensures packet { result.now ≡ self.now.packet }
@@ -151,10 +173,8 @@ impl Decoder {
         ensures { self.new ≡ record { piece = with_text_byte (packet_in self.old.piece) b; packet = [] } }
     {
         if self.bytes.len() < MAX_PACKET {
-            match self.bytes.push(b) {
-                Ok(()) => self.piece = Piece::Plain,
-                Err(_) => unreachable!(),
-            }
+            self.bytes.push_reserved(b);
+            self.piece = Piece::Plain;
         } else {
             self.piece = Piece::Spoilt;
         }
@@ -169,5 +189,50 @@ fn byte_after_escape(b: u8) -> u8
         ESC_END => END,
         ESC_ESC => ESC,
         _ => b,
+    }
+}
+
+/// Whether a good character stands for itself within a piece.
+fn is_text(c: Flagged) -> bool
+    ensures { IsTrue result → IsText c }
+{
+    match c.flag {
+        Flag::Normal => c.byte != END && c.byte != ESC,
+        Flag::Break | Flag::Parity | Flag::Frame | Flag::Overrun => false,
+    }
+}
+
+/// How many characters at the front stand for themselves within a piece.
+fn text_len(chars: &[Flagged]) -> usize
+    ensures within { result ≤ length chars.now }
+    ensures text { AllByRecursion IsText (take result chars.now) }
+{
+    let mut count = 0;
+    for c in chars {
+        if !is_text(*c) {
+            return count;
+        }
+        count += 1;
+    }
+    count
+}
+
+/// The first characters, so many.
+fn front_of(chars: &[Flagged], count: usize) -> &[Flagged]
+    requires { count ≤ length chars.now }
+    ensures { result.now ≡ take count chars.now }
+{
+    &chars[..count]
+}
+
+/// Adds the bytes of characters, in room that was reserved.
+fn keep_all(bytes: &mut Vec<u8>, chars: &[Flagged])
+    requires { vec_len bytes.old + length chars.now ≤ vec_capacity bytes.old }
+    ensures items { bytes.new.items ≡ bytes.old.items ++ bytes_of chars.now }
+    ensures len { vec_len bytes.new ≡ vec_len bytes.old + length chars.now }
+    ensures capacity { vec_capacity bytes.new ≡ vec_capacity bytes.old }
+{
+    for c in chars {
+        bytes.push_reserved(c.byte);
     }
 }

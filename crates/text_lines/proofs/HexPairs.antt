@@ -1,15 +1,16 @@
 -- The bytes that pairs of hexadecimal digits write, place by place.
-use Rattle.std.proofs.Common.{◌≡◌, ℕ, zero, suc, ◌+◌, ◌*◌, ◌/◌, ◌%◌, ◌<◌, ◌==◌, Bool, true, false, List, [], ◌∷◌, length, get_or, Option, Some, None, unwrap_or, is_some, Result, Ok, Err, refl, sym, ap, ◌∙◌, arith, eq-eqb}
+use Rattle.std.proofs.Common.{◌≡◌, ℕ, zero, suc, ◌+◌, ◌*◌, ◌/◌, ◌%◌, ◌<◌, ◌==◌, Bool, true, false, List, [], ◌∷◌, length, get_or, set, drop, Option, Some, None, unwrap_or, is_some, Result, Ok, Err, refl, sym, ap, ◌∙◌, arith, eq-eqb}
 use Rattle.std.specs.List.{list_all}
 use Rattle.std.specs.Result.{result_unwrap_or}
-use Rattle.std.proofs.lemmas.Bool.{and_parts, eqb-true}
-use Rattle.std.proofs.lemmas.List.FromFn.{get_or-map-range_with_len}
+use Rattle.std.specs.Simd.{first_chunks}
+use Rattle.std.proofs.lemmas.Bool.{and_parts, eqb-true, eqb-false}
+use Rattle.std.proofs.lemmas.Grind.{get_or-set_at, same_number_lists}
+use Rattle.std.proofs.lemmas.List.{get_or-drop, get_or-set_other, get_or-take}
 use Rattle.std.proofs.lemmas.List.Sums.{list_all-from_AllPass}
 use Rattle.hex.specs.Hex.{decode_of, decode_pairs, digit_or_error, hex_digit_value, is_hex_digit, pair_value, value_at}
 use Rattle.hex.specs.declared.error.FromHexError.{FromHexError}
 use Rattle.hex.proofs.Pairs.{cons_byte, decode_pairs-ok_pair}
 use Rattle.hex.proofs.HexLemmas.{decode_of-even, decode_of-ok}
-use Rattle.text_lines.specs.HexDigits.{digit_values}
 use Rattle.text_lines.specs.Values.{is_hex, bytes_of}
 
 abbrev digit : ℕ → ℕ
@@ -40,29 +41,24 @@ pairs_read i (high ∷ low ∷ rest) digits even =
     let later : decode_pairs (i + 2) rest ≡ Ok (paired rest) = pairs_read (i + 2) rest second.1 (omega arith) in
     decode_pairs-ok_pair i high low (digit high * 16 + digit low) rest (pair_read high low i first.0 second.0) ∙ ap (cons_byte (digit high * 16 + digit low)) later
 
--- the digits of HEX, of which there is an even number
-hex_parts : (word : List ℕ) → is_hex word ≡ true → (list_all is_hex_digit word ≡ true) × (length word % 2 ≡ 0)
-hex_parts [] h = cc
-hex_parts (first ∷ digits) h =
-    let both = and_parts (list_all is_hex_digit (first ∷ digits)) (length (first ∷ digits) % 2 == 0) h in
-    (both.0, eqb-true (length (first ∷ digits) % 2) 0 both.1)
-
-pub hex_digits : (word : List ℕ) → is_hex word ≡ true → list_all is_hex_digit word ≡ true
-hex_digits word h = (hex_parts word h).0
-
-bytes_paired : (word : List ℕ) → is_hex word ≡ true → bytes_of word ≡ paired word
-bytes_paired word h =
-    let parts = hex_parts word h in
-    ap (λ (r : Result (List ℕ) FromHexError). result_unwrap_or r []) (decode_of-even word parts.1 ∙ pairs_read 0 word parts.0 parts.1)
+pub bytes_paired : (word : List ℕ) → list_all is_hex_digit word ≡ true → length word % 2 ≡ 0 → bytes_of word ≡ paired word
+bytes_paired word all even = ap (λ (r : Result (List ℕ) FromHexError). result_unwrap_or r []) (decode_of-even word even ∙ pairs_read 0 word all even)
 
 paired_length : (word : List ℕ) → length (paired word) ≡ length word / 2
 paired_length [] = refl
 paired_length (last ∷ []) = refl
 paired_length (high ∷ low ∷ rest) = let later = paired_length rest in omega (arith, later)
 
--- HEX writes a byte for each two digits
-pub bytes_counted : (word : List ℕ) → is_hex word ≡ true → length word / 2 ≡ length (bytes_of word)
-bytes_counted word h = sym (ap length (bytes_paired word h) ∙ paired_length word)
+-- digits write a byte for each two
+pub bytes_counted : (word : List ℕ) → list_all is_hex_digit word ≡ true → length word % 2 ≡ 0 → length word / 2 ≡ length (bytes_of word)
+bytes_counted word all even = sym (ap length (bytes_paired word all even) ∙ paired_length word)
+
+-- the digits of HEX, of which there is an even number
+pub hex_parts : (word : List ℕ) → is_hex word ≡ true → (list_all is_hex_digit word ≡ true) × (length word % 2 ≡ 0)
+hex_parts [] h = cc
+hex_parts (first ∷ digits) h =
+    let both = and_parts (list_all is_hex_digit (first ∷ digits)) (length (first ∷ digits) % 2 == 0) h in
+    (both.0, eqb-true (length (first ∷ digits) % 2) 0 both.1)
 
 paired_at : (word : List ℕ) (place : ℕ) → 2 * place + 1 < length word → get_or (paired word) place 0 ≡ digit (get_or word (2 * place) 0) * 16 + digit (get_or word (2 * place + 1) 0)
 paired_at [] place below = absurd (omega arith)
@@ -79,31 +75,54 @@ some_digit : (value : ℕ) (byte : ℕ) → Some value ≡ hex_digit_value byte 
 some_digit value byte h = ap (λ (o : Option ℕ). unwrap_or o 16) (sym h)
 
 -- the byte of the two digits at a place
-pub byte_read : (word : List ℕ) (place high low : ℕ) → is_hex word ≡ true → place < length (bytes_of word) → Some high ≡ hex_digit_value (get_or word (2 * place) 0) → Some low ≡ hex_digit_value (get_or word (2 * place + 1) 0) → high * 16 + low ≡ get_or (bytes_of word) place 0
-byte_read word place high low h within first second =
-    let count = bytes_counted word h in
-    let below : 2 * place + 1 < length word = omega (arith, count, within) in
-    sym (ap (λ bytes. get_or bytes place 0) (bytes_paired word h) ∙ paired_at word place below
+byte_read : (word : List ℕ) (place high low : ℕ) → list_all is_hex_digit word ≡ true → length word % 2 ≡ 0 → 2 * place + 1 < length word → Some high ≡ hex_digit_value (get_or word (2 * place) 0) → Some low ≡ hex_digit_value (get_or word (2 * place + 1) 0) → high * 16 + low ≡ get_or (bytes_of word) place 0
+byte_read word place high low all even below first second =
+    sym (ap (λ bytes. get_or bytes place 0) (bytes_paired word all even) ∙ paired_at word place below
     ∙ ap (λ v. v * 16 + digit (get_or word (2 * place + 1) 0)) (some_digit high (get_or word (2 * place) 0) first)
     ∙ ap (λ v. high * 16 + v) (some_digit low (get_or word (2 * place + 1) 0) second))
 
--- ---- the table
+-- ---- digits by twos
 
-digit_in_table : (byte : ℕ) → byte < 256 → get_or digit_values byte 0 ≡ digit byte
-digit_in_table byte below = get_or-map-range_with_len (λ b. unwrap_or (hex_digit_value b) 16) 0 256 byte byte 0 below (omega arith)
+digit_in_pair : (n k at : ℕ) (word : List ℕ) → k < n → at < 2 → get_or (get_or (first_chunks 2 n word) k []) at 0 ≡ get_or word (2 * k + at) 0
+digit_in_pair zero k at word within two = absurd (omega arith)
+digit_in_pair (suc n) zero at word within two =
+    let same : at ≡ 2 * 0 + at = omega arith in
+    get_or-take 2 word at 0 two ∙ ap (λ i. get_or word i 0) same
+digit_in_pair (suc n) (suc k) at word within two =
+    let next : 2 + (2 * k + at) ≡ 2 * suc k + at = omega arith in
+    digit_in_pair n k at (drop 2 word) (omega arith) two ∙ get_or-drop 2 word (2 * k + at) 0 ∙ ap (λ i. get_or word i 0) next
 
 list_all_true : (p : ℕ → Bool) (xs : List ℕ) (at : ℕ) → list_all p xs ≡ true → at < length xs → p (get_or xs at 0) ≡ true
 list_all_true p [] at all below = absurd (omega arith)
 list_all_true p (x ∷ xs) zero all below = (and_parts (p x) (list_all p xs) all).0
 list_all_true p (x ∷ xs) (suc at) all below = list_all_true p xs at (and_parts (p x) (list_all p xs) all).1 (omega arith)
 
--- the digit at a place of HEX has a value
-pub digit_valued : (word : List ℕ) (at : ℕ) → list_all is_hex_digit word ≡ true → at < length word → get_or word at 0 < 256 → Some (get_or digit_values (get_or word at 0) 0) ≡ hex_digit_value (get_or word at 0)
-digit_valued word at all below small =
-    ap Some (digit_in_table (get_or word at 0) small) ∙ sym (digit_some (hex_digit_value (get_or word at 0)) (list_all_true is_hex_digit word at all below))
+-- the digits of a word by twos, of which `size` write a byte each
+module _ (word : List ℕ) (pairs : List (List ℕ)) (size : ℕ) (all : list_all is_hex_digit word ≡ true) (room : length word ≡ 2 * size) (front : pairs ≡ first_chunks 2 (length word / 2) word) where
+  in_pair : (k at : ℕ) → k < size → at < 2 → get_or (get_or pairs k []) at 0 ≡ get_or word (2 * k + at) 0
+  in_pair k at within two = ap (λ ps. get_or (get_or ps k []) at 0) front ∙ digit_in_pair (length word / 2) k at word (omega (arith, room, within)) two
 
-pub digit_small : (byte value : ℕ) → Some value ≡ hex_digit_value byte → value < 16
-digit_small byte value h = grind (arith)
+  pub pair_digit : (k at : ℕ) → k < size → at < 2 → is_hex_digit (get_or (get_or pairs k []) at 0) ≡ true
+  pair_digit k at within two = ap is_hex_digit (in_pair k at within two) ∙ list_all_true is_hex_digit word (2 * k + at) all (omega (arith, room, within, two))
+
+  pub pair_byte : (k high low : ℕ) → k < size → Some high ≡ hex_digit_value (get_or (get_or pairs k []) 0 0) → Some low ≡ hex_digit_value (get_or (get_or pairs k []) 1 0) → high * 16 + low ≡ get_or (bytes_of word) k 0
+  pair_byte k high low within first second =
+      let at : 2 * k + 0 ≡ 2 * k = omega arith in
+      byte_read word k high low all (omega (arith, room)) (omega (arith, room, within))
+      (first ∙ ap hex_digit_value (in_pair k 0 within (omega arith) ∙ ap (λ i. get_or word i 0) at))
+      (second ∙ ap hex_digit_value (in_pair k 1 within (omega arith)))
+
+  pub all_written : (bytes : List ℕ) → length bytes ≡ size → ((k : ℕ) → k < size → get_or bytes k 0 ≡ get_or (bytes_of word) k 0) → bytes ≡ bytes_of word
+  all_written bytes long each =
+      let count = bytes_counted word all (omega (arith, room)) in
+      same_number_lists bytes (bytes_of word) (omega (arith, long, count, room)) (λ k within. each k (omega (arith, within, long)))
+
+-- one item more is as it should be
+pub set_more : (xs ys : List ℕ) (i v : ℕ) → i < length xs → v ≡ get_or ys i 0 → ((k : ℕ) → k < i → get_or xs k 0 ≡ get_or ys k 0) → (k : ℕ) → k < i + 1 → get_or (set xs i v) k 0 ≡ get_or ys k 0
+set_more xs ys i v below is before k within = set_more_by (k == i) refl where
+  set_more_by : (b : Bool) → (k == i) ≡ b → get_or (set xs i v) k 0 ≡ get_or ys k 0
+  set_more_by true e = let here = eqb-true k i e in get_or-set_at xs i k v 0 here below ∙ is ∙ ap (λ j. get_or ys j 0) (sym here)
+  set_more_by false e = let other = eqb-false k i e in get_or-set_other xs i k v 0 other ∙ before k (omega (arith, within, other))
 
 -- ---- what is no HEX
 

@@ -1,5 +1,4 @@
 mod Digits
 mod Finds
-mod HexDigits
 mod HexPairs
 mod Splits

@@ -1,4 +1,3 @@
-pub mod HexDigits
 pub mod Lines
 pub mod Parted
 pub mod Values

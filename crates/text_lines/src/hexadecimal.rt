@@ -1,26 +1,10 @@
-ghost use Rattle.std.specs.Prelude.{◌≡◌, ◌<◌, ◌==◌, ◌%◌, IsTrue, Some, length, slice_index, IfOk};
+ghost use Rattle.std.specs.Prelude.{◌≡◌, ◌<◌, ◌==◌, ◌%◌, ◌*◌, IsTrue, Some, length, IfOk};
 ghost use Rattle.std.specs.List.{list_all};
 ghost use Rattle.hex.specs.Hex.{hex_digit_value, is_hex_digit};
-ghost use Rattle.text_lines.specs.HexDigits.{digit_values};
 ghost use Rattle.text_lines.specs.Values.{is_hex, bytes_of as bytes_written};
 
 use std::alloc::Global;
 use tty_base::NoMemory;
-
-/// The value of each byte as a hexadecimal digit, and 16 where it is none.
-const DIGIT_VALUES: [u8; 256] = [
-    16, 16, 16, 16, 16, 16, 16, 16, 16, 16, 16, 16, 16, 16, 16, 16, 16, 16, 16, 16, 16, 16, 16, 16,
-    16, 16, 16, 16, 16, 16, 16, 16, 16, 16, 16, 16, 16, 16, 16, 16, 16, 16, 16, 16, 16, 16, 16, 16,
-    0, 1, 2, 3, 4, 5, 6, 7, 8, 9, 16, 16, 16, 16, 16, 16, 16, 10, 11, 12, 13, 14, 15, 16, 16, 16,
-    16, 16, 16, 16, 16, 16, 16, 16, 16, 16, 16, 16, 16, 16, 16, 16, 16, 16, 16, 16, 16, 16, 16, 10,
-    11, 12, 13, 14, 15, 16, 16, 16, 16, 16, 16, 16, 16, 16, 16, 16, 16, 16, 16, 16, 16, 16, 16, 16,
-    16, 16, 16, 16, 16, 16, 16, 16, 16, 16, 16, 16, 16, 16, 16, 16, 16, 16, 16, 16, 16, 16, 16, 16,
-    16, 16, 16, 16, 16, 16, 16, 16, 16, 16, 16, 16, 16, 16, 16, 16, 16, 16, 16, 16, 16, 16, 16, 16,
-    16, 16, 16, 16, 16, 16, 16, 16, 16, 16, 16, 16, 16, 16, 16, 16, 16, 16, 16, 16, 16, 16, 16, 16,
-    16, 16, 16, 16, 16, 16, 16, 16, 16, 16, 16, 16, 16, 16, 16, 16, 16, 16, 16, 16, 16, 16, 16, 16,
-    16, 16, 16, 16, 16, 16, 16, 16, 16, 16, 16, 16, 16, 16, 16, 16, 16, 16, 16, 16, 16, 16, 16, 16,
-    16, 16, 16, 16, 16, 16, 16, 16, 16, 16, 16, 16, 16, 16,
-];
 
 /// Whether a word is HEX: an even number, not 0, of hexadecimal digits in either case.
 pub fn is_hex(word: &[u8]) -> bool
@@ -29,57 +13,45 @@ pub fn is_hex(word: &[u8]) -> bool
     !word.is_empty() && word.len() % 2 == 0 && are_hex_digits(word)
 }
 
+/// No byte ends the walk early, so that many are tested at once.
 fn are_hex_digits(word: &[u8]) -> bool
-    requires { length word.now % 2 ≡ 0 }
     ensures { result ≡ list_all is_hex_digit word.now }
 {
-    for place in 0..word.len() / 2 {
-        if !is_hex_digit(word[2 * place]) || !is_hex_digit(word[2 * place + 1]) {
-            return false;
-        }
+    let mut good = true;
+    for byte in word {
+        good = good & is_hex_digit(*byte);
     }
-    true
+    good
 }
 
+#[inline(always)]
 fn is_hex_digit(byte: u8) -> bool
     ensures { result ≡ is_hex_digit byte }
 {
-    value_of(byte) < 16
+    byte.is_ascii_digit() || (b'a' <= byte && byte <= b'f') || (b'A' <= byte && byte <= b'F')
 }
 
-fn value_of(byte: u8) -> u8
-    ensures { result ≡ slice_index digit_values byte }
-{
-    DIGIT_VALUES[byte as usize]
-}
-
-/// How many bytes HEX writes.
+/// The value of a hexadecimal digit. The low four bits of a letter are 1 to 6.
 #[inline(always)]
-pub fn count_bytes(word: &[u8]) -> usize
-    requires { IsTrue (is_hex word.now) }
-    ensures { result ≡ length (bytes_written word.now) }
-{
-    word.len() / 2
-}
-
-/// The byte at a place, counted from 0, of those that HEX writes.
-#[inline(always)]
-pub fn byte_in(word: &[u8], place: usize) -> u8
-    requires hex { IsTrue (is_hex word.now) }
-    requires within { place < length (bytes_written word.now) }
-    ensures { result ≡ slice_index (bytes_written word.now) place }
-{
-    digit_in(word, 2 * place) * 16 + digit_in(word, 2 * place + 1)
-}
-
-#[inline(always)]
-fn digit_in(word: &[u8], at: usize) -> u8
-    requires digits { IsTrue (list_all is_hex_digit word.now) }
-    requires within { at < length word.now }
-    ensures value { Some result ≡ hex_digit_value (slice_index word.now at) }
+fn value_of(digit: u8) -> u8
+    requires { IsTrue (is_hex_digit digit) }
+    ensures value { Some result ≡ hex_digit_value digit }
     ensures small { result < 16 }
 {
-    value_of(word[at])
+    digit % 16 + digit / 64 * 9
+}
+
+/// Writes the bytes that digits write, each to its place.
+fn write_bytes(digits: &[u8], bytes: &mut [u8])
+    requires digits { IsTrue (list_all is_hex_digit digits.now) }
+    requires room { length digits.now ≡ 2 * length bytes.old }
+    ensures { bytes.new ≡ bytes_written digits.now }
+{
+    let (pairs, _) = digits.as_chunks::<2>();
+    for place in 0..bytes.len() {
+        let [high, low] = pairs[place];
+        bytes[place] = value_of(high) * 16 + value_of(low);
+    }
 }
 
 /// The bytes that HEX writes, and none where the word is not HEX.
@@ -98,10 +70,7 @@ pub fn bytes_in(alloc: Global, word: &[u8]) -> Result<Vec<u8>, NoMemory>
     requires { IsTrue (is_hex word.now) }
     ensures { IfOk result (λ bytes. bytes.items ≡ bytes_written word.now) }
 {
-    let count = count_bytes(word);
-    let mut bytes = Vec::with_capacity(alloc, count)?;
-    for place in 0..count {
-        bytes.push(byte_in(word, place))?;
-    }
+    let mut bytes = vec![in alloc; 0; word.len() / 2]?;
+    write_bytes(word, &mut bytes);
     Ok(bytes)
 }

@@ -1,8 +1,12 @@
 ghost use Rattle.std.specs.Prelude.{◌≡◌, ◌<◌, ◌≤◌, [], ◌∷◌, position, not, length, slice_index_or, MatchOption};
+ghost use Rattle.std.specs.List.{list_any};
 ghost use Rattle.text_lines.specs.Lines.{is_newline, is_blank, first_is, lines_of, words_of};
 
 /// From this length on a line is searched by vectors.
 const LONG: usize = 64;
+
+/// How many bytes of a long line are searched at a time.
+const PIECE: usize = 128;
 
 /// The first line of a text, and what follows it; `None` where the text is empty.
 #[inline(always)]
@@ -43,9 +47,41 @@ fn blank_in(line: &[u8]) -> Option<usize>
     }
 }
 
-/// The same of a long line. It stands apart, so that what splits short lines stays small.
+/// The same of a long line. It stands apart, so that what splits short lines stays small. Pieces
+/// without a blank are passed over whole.
 #[inline(never)]
 fn blank_far(line: &[u8]) -> Option<usize>
+    ensures { result ≡ position is_blank line.now }
+{
+    let mut rest = line;
+    let mut passed = 0;
+    while rest.len() > PIECE {
+        let (piece, after) = rest.split_at(PIECE);
+        if has_blank(piece) {
+            break;
+        }
+        rest = after;
+        passed += PIECE;
+    }
+    match first_blank(rest) {
+        Some(at) => Some(passed + at),
+        None => None,
+    }
+}
+
+/// No byte ends the walk early, so that many are tested at once.
+#[inline(never)]
+fn has_blank(piece: &[u8]) -> bool
+    ensures { result ≡ list_any is_blank piece.now }
+{
+    let mut found = false;
+    for byte in piece {
+        found = found | is_blank(*byte);
+    }
+    found
+}
+
+fn first_blank(line: &[u8]) -> Option<usize>
     ensures { result ≡ position is_blank line.now }
 {
     memchr::memchr3(b' ', b'\t', b'\r', line)

@@ -1,4 +1,4 @@
-ghost use Rattle.std.specs.Prelude.{◌≡◌, ◌≤◌, ◌<◌, ◌^◌, ◌==◌, length, IsTrue, if◌then◌else◌};
+ghost use Rattle.std.specs.Prelude.{◌≡◌, ◌≤◌, ◌<◌, ◌^◌, ◌==◌, length, IsTrue, IfSome, None, Some, if◌then◌else◌};
 ghost use Rattle.std.specs.List.{list_all};
 ghost use Rattle.text_lines.specs.Lines.{first_is, words_of};
 ghost use Rattle.text_lines.specs.Values.{is_digit, begins_number, is_number, number_of, number_at};
@@ -11,19 +11,13 @@ const MOST_DIGITS: usize = 10;
 pub fn is_number(word: &[u8]) -> bool
     ensures { result ≡ is_number word.now }
 {
-    !word.is_empty() && begins_number(word) && word.len() <= MOST_DIGITS && are_digits(word)
+    read_number(word).is_some()
 }
 
 fn begins_number(word: &[u8]) -> bool
     ensures { result ≡ begins_number word.now }
 {
     word.first() != Some(&b'0') || word.len() == 1
-}
-
-fn are_digits(word: &[u8]) -> bool
-    ensures { result ≡ list_all is_digit word.now }
-{
-    word.iter().all(|byte| is_digit(*byte))
 }
 
 fn is_digit(byte: u8) -> bool
@@ -38,20 +32,34 @@ pub fn number_of(word: &[u8]) -> u64
     ensures value { result ≡ number_of word.now }
     ensures small { result < 10 ^ 10 }
 {
-    value_of(word)
+    read_digits(word).unwrap_or(0)
 }
 
-fn value_of(digits: &[u8]) -> u64
-    requires few { length digits.now ≤ 10 }
-    requires digits { IsTrue (list_all is_digit digits.now) }
-    ensures value { result ≡ number_of digits.now }
-    ensures small { result < 10 ^ 10 }
+/// The number that a word is, read in one walk, and `None` where it is none.
+#[inline(always)]
+pub fn read_number(word: &[u8]) -> Option<u64>
+    ensures { result ≡ (if is_number word.now then Some (number_of word.now) else None) }
+{
+    if word.is_empty() || !begins_number(word) || word.len() > MOST_DIGITS {
+        return None;
+    }
+    read_digits(word)
+}
+
+#[inline(always)]
+fn read_digits(digits: &[u8]) -> Option<u64>
+    requires { length digits.now ≤ 10 }
+    ensures value { result ≡ (if list_all is_digit digits.now then Some (number_of digits.now) else None) }
+    ensures small { IfSome result (λ value. value < 10 ^ 10) }
 {
     let mut value = 0;
     for digit in digits {
+        if !is_digit(*digit) {
+            return None;
+        }
         value = value * 10 + u64::from(*digit - b'0');
     }
-    value
+    Some(value)
 }
 
 /// The number at a place of a line, counted from 0, and 0 where no number is there.
@@ -66,5 +74,5 @@ pub fn number_at(line: &[u8], place: usize) -> u64
 pub(crate) fn number_in(word: &[u8]) -> u64
     ensures { result ≡ (if is_number word.now then number_of word.now else 0) }
 {
-    if is_number(word) { number_of(word) } else { 0 }
+    read_number(word).unwrap_or(0)
 }

@@ -2,7 +2,7 @@ use arrayvec::ArrayString;
 use session_print::{each_call_has_its_line, journal_text, play_text, report};
 use std::alloc::{AllocError, Global};
 use std::test::Fail;
-use tty_base::{Buffer, Bytes, Counts, Errno, Flag, Flagged, LineReport, Overrun, Signal};
+use tty_base::{Buffer, Bytes, Chars, Counts, Errno, Flag, Flagged, LineReport, Overrun, Signal};
 use tty_calls::{
     Access, Answer, Call, Entry, Event, Phase, PortEnd, PortRun, Script, Session, When, Who,
 };
@@ -39,7 +39,7 @@ fn answer_of(alloc: Global, caller: u16, step: u32, answer: Answer) -> Entry {
         Who::Caller(caller),
         step,
         0,
-        Event::Answer(answer, Buffer::new(alloc)),
+        Event::Answer(answer, Chars::new(alloc)),
     )
 }
 
@@ -68,6 +68,13 @@ fn bytes_of(alloc: Global, bytes: &[u8]) -> Result<Bytes, AllocError> {
     Ok(Bytes::from_vec(bytes.to_vec(alloc)?))
 }
 
+fn chars_of(alloc: Global, chars: &[Flagged]) -> Result<Chars, AllocError> {
+    let mut list = Chars::new(alloc);
+    list.reserve(chars.len()).map_err(|_| AllocError)?;
+    list.append(chars);
+    Ok(list)
+}
+
 fn open() -> Call {
     Call::Open {
         h: 0,
@@ -94,7 +101,7 @@ fn two_callers(alloc: Global) -> Result<Session, AllocError> {
 }
 
 fn run_of_two(alloc: Global) -> Result<PortRun, AllocError> {
-    let hi = Buffer::from_vec(vec![in alloc; Flagged::default(), Flagged::default()]?);
+    let hi = chars_of(alloc, &[Flagged::default(); 2])?;
     let journal = vec![in alloc;
         answer_of(alloc, 1, 0, Answer::Refused(Errno::EBADF)),
         answer_of(alloc, 0, 0, Answer::Done),
@@ -249,7 +256,7 @@ fn good(byte: u8) -> Flagged {
 }
 
 fn run_of_three_bytes(alloc: Global) -> Result<PortRun, AllocError> {
-    let three = Buffer::from_vec(vec![in alloc; good(b'h'), good(b'i'), good(10)]?);
+    let three = chars_of(alloc, &[good(b'h'), good(b'i'), good(10)])?;
     let caller = Who::Caller(0);
     let journal = vec![in alloc;
         entry_of(Who::Line, 0, 0, Event::LineEnd(0)),
@@ -265,7 +272,7 @@ fn run_of_three_bytes(alloc: Global) -> Result<PortRun, AllocError> {
         entry_of(caller, 4, 1, Event::CallerEnd),
         entry_of(Who::Clock, 1, 1, Event::ClockEnd),
         entry_of(Who::Session, 1, 1, Event::PhaseEnd),
-        entry_of(Who::Session, 2, 1, Event::Hangup(Buffer::new(alloc))),
+        entry_of(Who::Session, 2, 1, Event::Hangup(Chars::new(alloc))),
     ]?;
     Ok(PortRun {
         journal: Buffer::from_vec(journal),
@@ -328,14 +335,15 @@ fn flagged(flag: Flag) -> Flagged {
 #[test]
 fn further_entries_and_overruns_are_told(rt: HostRuntime) -> Result<(), Fail> {
     let alloc = rt.alloc();
-    let characters = Buffer::from_vec(vec![in alloc;
+    let kinds = [
         flagged(Flag::Normal),
         flagged(Flag::Break),
         flagged(Flag::Parity),
         flagged(Flag::Frame),
         flagged(Flag::Overrun),
-    ]?);
-    let dropped = Buffer::from_vec(vec![in alloc; good(b'x')]?);
+    ];
+    let characters = chars_of(alloc, &kinds)?;
+    let dropped = chars_of(alloc, &[good(b'x')])?;
     let caller = Who::Caller(0);
     let journal = vec![in alloc;
         entry_of(caller, 0, 0, Event::Wait),

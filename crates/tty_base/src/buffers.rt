@@ -1,7 +1,6 @@
 ghost use Rattle.std.specs.Prelude.{◌≡◌, ◌+◌, ◌-◌, ◌≤◌, ◌<◌, ◌^◌, [], ◌∷◌, ◌++◌, length, take, drop, IfOk, OnOk, OnErr, vec_len};
 ghost use Rattle.tty_base.specs.Contents.{Contents};
 
-use super::characters::Flagged;
 use std::alloc::{AllocError, AllocFailed, Global};
 use std::marker::Model;
 
@@ -42,9 +41,6 @@ impl<T> Model for Buffer<T> {
 
 /// A list of bytes.
 pub type Bytes = Buffer<u8>;
-
-/// A list of characters.
-pub type Chars = Buffer<Flagged>;
 
 impl<T> Buffer<T> {
     /// An empty list, without room. It takes no memory.
@@ -93,10 +89,7 @@ impl<T> Buffer<T> {
         ensures { self.new ≡ record { items = self.old.items ++ item ∷ []; spare = self.old.spare - 1 } }
     {
         self.spare -= 1;
-        match self.items.push(item) {
-            Ok(()) => {}
-            Err(_) => unreachable!(),
-        }
+        self.items.push_reserved(item);
     }
 
     /// The items, in order.

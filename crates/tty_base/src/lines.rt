@@ -1,10 +1,11 @@
-ghost use Rattle.std.specs.Prelude.{◌≡◌, ℕ, List, [], ◌∷◌, ◌++◌, ◌+◌, ◌-◌, ◌<◌, ◌≤◌, Ok, length, OnOk, IfErr};
+ghost use Rattle.std.specs.Prelude.{◌≡◌, ℕ, List, [], ◌∷◌, ◌++◌, ◌+◌, ◌-◌, ◌<◌, ◌≤◌, ◌↔◌, Ok, length, IsTrue, OnOk, IfErr};
 ghost use Rattle.std.specs.List.Sorted.{IsNonDecreasing};
 ghost use Rattle.tty_base.specs.declared.characters.Flagged.{Flagged};
 ghost use mathlib.Core.List.{IsPrefix};
 
-use super::buffers::{Buffer, Chars};
+use super::buffers::Buffer;
 use super::characters::Flagged;
+use super::lists::Chars;
 
 /// What a serial line does next, as its receiver sees it (16550 data sheet).
 #[derive(Clone, Copy, Debug, PartialEq, Eq)]
@@ -77,6 +78,9 @@ pub trait Put {
     /// How many more characters may be handed to it, whether it accepts them or not.
     ghost room: { Self → ℕ };
 
+    /// How many more characters it accepts for certain.
+    ghost free: { Self → ℕ };
+
     /// Accepts a character, or answers `Full`, which says by its two numbers that no room was left
     /// when this call looked.
     fn put(&mut self, c: Flagged) -> Result<(), Full>
@@ -91,6 +95,38 @@ pub trait Put {
         ensures same { capacity self.new ≡ capacity self.old }
         ensures name { name self.new ≡ name self.old }
         ensures room { room self.old ≤ room self.new + 1 };
+
+    /// Looks once, and answers whether so many more characters are accepted for certain.
+    fn has_room(&mut self, count: usize) -> bool
+        ensures free { IsTrue result ↔ count ≤ free self.new }
+        ensures sent { sent self.new ≡ sent self.old }
+        ensures grows { IsPrefix (heads self.old) (heads self.new) }
+        ensures rise { IsNonDecreasing (heads self.new) }
+        ensures same { capacity self.new ≡ capacity self.old }
+        ensures name { name self.new ≡ name self.old }
+        ensures room { room self.new ≡ room self.old };
+
+    /// Accepts a character for which there is room for certain.
+    fn put_known(&mut self, c: Flagged)
+        requires room { 0 < room self.old }
+        requires free { 0 < free self.old }
+        ensures sent { sent self.new ≡ sent self.old ++ c ∷ [] }
+        ensures heads { heads self.new ≡ heads self.old }
+        ensures free { free self.old ≤ free self.new + 1 }
+        ensures same { capacity self.new ≡ capacity self.old }
+        ensures name { name self.new ≡ name self.old }
+        ensures room { room self.old ≤ room self.new + 1 };
+
+    /// Accepts four characters for which there is room for certain.
+    fn put_four(&mut self, chars: [Flagged; 4])
+        requires room { 4 ≤ room self.old }
+        requires free { 4 ≤ free self.old }
+        ensures sent { sent self.new ≡ sent self.old ++ chars }
+        ensures heads { heads self.new ≡ heads self.old }
+        ensures free { free self.old ≤ free self.new + 4 }
+        ensures same { capacity self.new ≡ capacity self.old }
+        ensures name { name self.new ≡ name self.old }
+        ensures room { room self.old ≤ room self.new + 4 };
 
     /// Makes all that was put visible to the other end.
     fn push(&mut self)
@@ -115,12 +151,35 @@ impl Put for Chars {
 
     ghost room = { λ list. list.spare };
 
+    ghost free = { λ list. list.spare };
+
     fn put(&mut self, c: Flagged) -> Result<(), Full>
         requires { 0 < self.old.spare }
         ensures { (result ≡ Ok tt) × (self.new ≡ record { items = self.old.items ++ c ∷ []; spare = self.old.spare - 1 }) }
     {
-        self.add(c);
+        self.put_known(c);
         Ok(())
+    }
+
+    fn has_room(&mut self, count: usize) -> bool
+        ensures { (IsTrue result ↔ count ≤ self.old.spare) × (self.new ≡ self.old) }
+    {
+        count <= self.spare()
+    }
+
+    fn put_known(&mut self, c: Flagged)
+        requires { 0 < self.old.spare }
+        ensures { self.new ≡ record { items = self.old.items ++ c ∷ []; spare = self.old.spare - 1 } }
+    {
+        self.add(c);
+    }
+
+    fn put_four(&mut self, chars: [Flagged; 4])
+        requires { 4 ≤ self.old.spare }
+        ensures adds { self.new ≡ record { items = self.old.items ++ chars; spare = self.old.spare - 4 } }
+        ensures room { length self.new.items + self.new.spare ≡ length self.old.items + self.old.spare }
+    {
+        self.append(&chars);
     }
 
     fn push(&mut self)

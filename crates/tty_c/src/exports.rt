@@ -4,7 +4,7 @@ ghost use Rattle.std.specs.Prelude.{◌≡◌, ◌≢◌, pos, true, None, Some,
 ghost use Rattle.tty_modes.specs.Reading.{word_of};
 ghost use Rattle.n_tty.specs.States.{unread_count};
 ghost use Rattle.n_tty.specs.Writing.{piece_size};
-ghost use Rattle.tty_embed.specs.Embedded.{fresh, after_advance, is_ready_for, read_answer, place_after_read, after_reading, after_writing, after_setting, wire_of, taken_count, at_front, without_wire_front, first_signal, without_first_signal};
+ghost use Rattle.tty_embed.specs.Embedded.{fresh, received_count, after_receiving, after_advance, is_ready_for, read_answer, place_after_read, after_reading, after_writing, after_setting, wire_of, taken_count, at_front, without_wire_front, first_signal, without_first_signal};
 ghost use Rattle.tty_c.specs.Answers.{no_memory, already_made, terminal_of, answer_on, Calls, place_on, of_truth, flag_of, receipt_answer, after_numbered_receipt, count_or_wait, signal_number};
 
 use crate::answers::{MADE, NO_MEMORY, NO_TERMINAL};
@@ -64,6 +64,19 @@ pub extern "C" fn jw_receive(alloc: Global, handle: &mut Handle, byte: u8, flag:
         return NO_TERMINAL;
     };
     let answer = values::receive(&mut tty, byte, flag);
+    put(handle, tty);
+    answer
+}
+
+/// Receives good characters from the line, 64 at most, and answers how many were accepted.
+#[unsafe(no_mangle)]
+pub extern "C" fn jw_receive_bytes(alloc: Global, handle: &mut Handle, bytes: &[u8]) -> i64
+    ensures { Calls (λ t. pos (received_count t bytes.now)) (λ t. after_receiving t bytes.now) (terminal_of handle.old) (terminal_of handle.new) result }
+{
+    let Some(mut tty) = taken(alloc, handle) else {
+        return NO_TERMINAL;
+    };
+    let answer = values::receive_bytes(&mut tty, bytes);
     put(handle, tty);
     answer
 }

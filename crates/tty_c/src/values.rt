@@ -3,7 +3,7 @@
 ghost use Rattle.std.specs.Prelude.{◌≡◌, ◌≢◌, pos, Some, None, length, take, is_some};
 ghost use Rattle.tty_modes.specs.Reading.{word_of};
 ghost use Rattle.n_tty.specs.Writing.{piece_size};
-ghost use Rattle.tty_embed.specs.Embedded.{read_answer, place_after_read, after_reading, after_writing, after_setting, wire_of, taken_count, at_front, without_wire_front, first_signal, without_first_signal};
+ghost use Rattle.tty_embed.specs.Embedded.{received_count, after_receiving, read_answer, place_after_read, after_reading, after_writing, after_setting, wire_of, taken_count, at_front, without_wire_front, first_signal, without_first_signal};
 ghost use Rattle.tty_c.specs.Answers.{no_memory, of_truth, flag_of, receipt_answer, after_numbered_receipt, count_or_wait, signal_number};
 
 use crate::answers::{NO_FLAG, NO_MEMORY, WAITS};
@@ -53,6 +53,17 @@ pub fn receive(tty: &mut Tty, byte: u8, flag: u8) -> i64
     };
     match tty.receive(byte, flag) {
         Ok(accepted) => of_truth(accepted),
+        Err(NoMemory) => NO_MEMORY,
+    }
+}
+
+pub fn receive_bytes(tty: &mut Tty, bytes: &[u8]) -> i64
+    ensures answer { result ≢ no_memory → result ≡ pos (received_count tty.old bytes.now) }
+    ensures after { result ≢ no_memory → tty.new ≡ after_receiving tty.old bytes.now }
+    ensures no_memory { result ≡ no_memory → tty.new ≡ tty.old }
+{
+    match tty.receive_bytes(bytes) {
+        Ok(count) => count as i64,
         Err(NoMemory) => NO_MEMORY,
     }
 }

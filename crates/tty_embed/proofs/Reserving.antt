@@ -1,6 +1,6 @@
 -- Reserved room makes no difference: what the fields do is what the terminal does.
-use Rattle.std.proofs.Common.{◌≡◌, ℕ, ◌≤◌, ◌%◌, ◌^◌, Bool, true, false, if◌then◌else◌, List, length, take, ap, sym, ◌∙◌, arith}
-use Rattle.std.proofs.lemmas.List.{length-take}
+use Rattle.std.proofs.Common.{◌≡◌, ℕ, ◌≤◌, ◌%◌, ◌^◌, min, Bool, true, false, if◌then◌else◌, List, length, map, take, ap, sym, ◌∙◌, arith}
+use Rattle.std.proofs.lemmas.List.{length-take, take_min}
 use Rattle.tty_base.specs.declared.characters.Flagged.{Flagged}
 use Rattle.tty_modes.specs.declared.places.TheConstants.{ICANON}
 use Rattle.tty_modes.specs.Settings.{Settings, has_flag}
@@ -14,7 +14,8 @@ use Rattle.n_tty.specs.Receiving.{after_character}
 use Rattle.n_tty.specs.Reading.{bytes_read}
 use Rattle.n_tty.specs.Writing.{piece_size, piece_text, after_write}
 use Rattle.n_tty.proofs.WithoutRoom.{after_character-room, piece_size-room, piece_text-room, after_write-room}
-use Rattle.tty_embed.specs.Embedded.{Embedded, with_column_in_32_bits, accepts, after_receipt, after_writing}
+use Rattle.tty_embed.proofs.Accepting.{after_accepted-room, accepted_count-room}
+use Rattle.tty_embed.specs.Embedded.{Embedded, good, offered, with_column_in_32_bits, accepts, after_receipt, after_accepted, accepted_count, after_receiving, received_count, after_writing}
 
 -- a terminal of these fields
 abbrev pub of_fields : Settings → (tick : ℕ) → NTtyState → Output → Tally → Embedded
@@ -44,6 +45,32 @@ receipt_made modes tick c tty wire more tally signals heard wrapped output count
     ∙ (ap step (after_character-room modes tick c (on_port tty more signals))
     ∙ (ap (λ (p : OnPort). step (after_character modes tick c p)) room
     ∙ sym (then_is (accepts t) (step (after_character modes tick c t.port)) t accepted))))
+
+-- so many characters are offered to a call
+pub offered_in : (bytes front : List ℕ) (n : ℕ) → n ≡ min 64 (length bytes) → front ≡ take n bytes → map good front ≡ offered bytes
+offered_in bytes front n is first = ap (map good) (first ∙ (ap (λ (k : ℕ). take k bytes) is ∙ take_min 64 bytes))
+
+-- how many good characters a call receives, with room that was reserved for them
+pub receiving_counted : (modes : Settings) (tick : ℕ) (bytes : List ℕ) (cs : List Flagged) (tty : NTtyState) (wire more : Output) (tally signals : Tally) (count : ℕ)
+    → cs ≡ offered bytes → port_without_room (on_port tty more signals) ≡ port_without_room (on_port tty wire tally)
+    → count ≡ accepted_count modes tick cs (on_port tty more signals)
+    → count ≡ received_count (of_fields modes tick tty wire tally) bytes
+receiving_counted modes tick bytes cs tty wire more tally signals count same room is =
+    is ∙ (accepted_count-room modes tick cs (on_port tty more signals) ∙ (λ i. accepted_count modes tick (same i) (room i)))
+
+-- good characters that were received in one call, with room that was reserved for them, are received without room
+pub receiving_made : (modes : Settings) (tick : ℕ) (bytes : List ℕ) (cs : List Flagged) (tty : NTtyState) (wire more : Output) (tally signals : Tally) (heard wrapped : NTtyState) (output : Output) (counted : Tally)
+    → cs ≡ offered bytes → port_without_room (on_port tty more signals) ≡ port_without_room (on_port tty wire tally)
+    → on_port heard output counted ≡ after_accepted modes tick cs (on_port tty more signals)
+    → wrapped ≡ record heard { column = heard.column % 2 ^ 32 }
+    → of_fields modes tick wrapped output counted ≡ after_receiving (of_fields modes tick tty wire tally) bytes
+receiving_made modes tick bytes cs tty wire more tally signals heard wrapped output counted same room took wraps =
+    let t = of_fields modes tick tty wire tally in
+    let step = λ (p : OnPort). record t { port = with_column_in_32_bits p } in
+    ap (λ (s : NTtyState). of_fields modes tick s output counted) wraps
+    ∙ (ap (λ (p : OnPort). step (port_without_room p)) took
+    ∙ (ap step (after_accepted-room modes tick cs (on_port tty more signals))
+    ∙ (λ i. step (after_accepted modes tick (same i) (room i)))))
 
 -- how many bytes a piece of a write takes, with room that was reserved for it
 pub piece_counted : (modes : Settings) (tty : NTtyState) (wire more : Output) (bytes : List ℕ) (count : ℕ) → more ≡ record wire { spare = more.spare }

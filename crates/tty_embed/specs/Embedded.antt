@@ -1,5 +1,6 @@
 -- N_TTY on a port of its own, for a program that runs it for ever.
-use Rattle.std.specs.Prelude.{ℕ, ◌%◌, ◌^◌, min, max, Bool, not, ◌&&◌, List, ◌++◌, length, drop, Option, None, Some, slice_get, if◌then◌else◌}
+use Rattle.std.specs.Prelude.{ℕ, suc, ◌%◌, ◌^◌, min, max, Bool, not, ◌&&◌, List, [], ◌∷◌, ◌++◌, length, map, take, drop, Option, None, Some, slice_get, if◌then◌else◌}
+use Rattle.tty_base.specs.declared.characters.Flag.TheVariants as flag
 use Rattle.tty_base.specs.declared.characters.Flagged.{Flagged}
 use Rattle.tty_base.specs.declared.counters.Signal.{Signal}
 use Rattle.tty_modes.specs.declared.words.Word.{Word}
@@ -46,6 +47,33 @@ after_receipt t c =
     if accepts t
     then record t { port = with_column_in_32_bits (after_character t.modes t.tick c t.port) }
     else t
+
+-- a good character
+abbrev pub good : (byte : ℕ) → Flagged
+good byte = record { byte = byte; flag = flag.Normal }
+
+-- characters are received up to the first that is not accepted
+abbrev pub after_accepted : Settings → (tick : ℕ) → List Flagged → OnPort → OnPort
+after_accepted modes tick [] port = port
+after_accepted modes tick (c ∷ cs) port =
+    if is_accepting modes port.tty then after_accepted modes tick cs (after_character modes tick c port) else port
+
+-- how many these are
+abbrev pub accepted_count : Settings → (tick : ℕ) → List Flagged → OnPort → ℕ
+accepted_count modes tick [] port = 0
+accepted_count modes tick (c ∷ cs) port =
+    if is_accepting modes port.tty then suc (accepted_count modes tick cs (after_character modes tick c port)) else 0
+
+-- a call that is given bytes receives 64 at most
+abbrev pub offered : (bytes : List ℕ) → List Flagged
+offered bytes = map good (take 64 bytes)
+
+-- good characters are received in one call
+abbrev pub after_receiving : Embedded → (bytes : List ℕ) → Embedded
+after_receiving t bytes = record t { port = with_column_in_32_bits (after_accepted t.modes t.tick (offered bytes) t.port) }
+
+abbrev pub received_count : Embedded → (bytes : List ℕ) → ℕ
+received_count t bytes = accepted_count t.modes t.tick (offered bytes) t.port
 
 -- time does not go back
 abbrev pub after_advance : Embedded → (tick : ℕ) → Embedded

@@ -3,9 +3,10 @@ ghost use Rattle.tty_modes.specs.Reading.{word_of};
 ghost use Rattle.flow_control.specs.Output.{after_start};
 ghost use Rattle.n_tty.specs.States.{unread_count};
 ghost use Rattle.n_tty.specs.Writing.{piece_size};
-ghost use Rattle.tty_embed.specs.Embedded.{fresh, accepts, after_receipt, after_advance, is_ready_for, read_answer, place_after_read, after_reading, after_writing, after_setting, wire_of, taken_count, at_front, without_wire_front, first_signal, without_first_signal};
+ghost use Rattle.tty_embed.specs.Embedded.{fresh, accepts, after_receipt, received_count, after_receiving, after_advance, is_ready_for, read_answer, place_after_read, after_reading, after_writing, after_setting, wire_of, taken_count, at_front, without_wire_front, first_signal, without_first_signal};
 
-use crate::places::{make_room, put_front};
+use crate::pieces::{MOST_RECEIVED, receive_bytes};
+use crate::places::{front_of, make_room, put_front};
 use flow_control::{Signals, Tally, Wire};
 use n_tty::{CHARACTER_ROOM, NTty};
 use std::alloc::Global;
@@ -83,6 +84,29 @@ impl Tty {
             .receive(c, self.tick, &self.modes, &mut self.wire, &mut self.tally);
         self.disc.wrap_column();
         Ok(true)
+    }
+
+    /// Receives good characters, the first 64 at most, up to the first that is not accepted. Answers how many.
+    pub fn receive_bytes(&mut self, bytes: &[u8]) -> Result<usize, NoMemory>
+        ensures count { IfOk result (λ count. count ≡ received_count self.old bytes.now) }
+        ensures few { IfOk result (λ count. count ≤ 64) }
+        ensures after { OnOk result (self.new ≡ after_receiving self.old bytes.now) }
+        ensures err { OnErr result (self.new ≡ self.old) }
+    {
+        let bytes = front_of(bytes, MOST_RECEIVED.min(bytes.len()));
+        let room = self.disc.pending(&self.wire) + CHARACTER_ROOM * bytes.len();
+        self.wire.reserve(room)?;
+        self.tally.reserve(bytes.len())?;
+        let count = receive_bytes(
+            &mut self.disc,
+            bytes,
+            self.tick,
+            &self.modes,
+            &mut self.wire,
+            &mut self.tally,
+        );
+        self.disc.wrap_column();
+        Ok(count)
     }
 
     /// Sets the clock, which counts tenths of a second. A tick that is past changes nothing.

@@ -20,6 +20,10 @@ impl Line {
         self.tty.receive(byte, Flag::Normal)
     }
 
+    fn receive_bytes(&mut self, bytes: &[u8]) -> Result<usize, NoMemory> {
+        self.tty.receive_bytes(bytes)
+    }
+
     fn advance(&mut self, tick: u64) {
         self.tty.advance(tick);
     }
@@ -91,6 +95,17 @@ fn edits_a_line(line: &mut Line) -> Result<bool, NoMemory> {
     Ok(begins && ends && line.sends(b"ab\x08 \x08c\r\n")? && line.sends(b"")?)
 }
 
+/// Whether a line that comes in one call is edited, with its echo, as one that comes by single characters, and whether raw
+/// bytes are kept as they are.
+fn receives_in_one_call(line: &mut Line) -> Result<bool, NoMemory> {
+    let edits = line.receive_bytes(b"ab\x7fc\r")? == 5 && line.reads(b"ac\n")?;
+    let echoes = line.sends(b"ab\x08 \x08c\r\n")? && line.sends(b"")?;
+    let raw = line.set(b"raw")?
+        && line.receive_bytes(b"a\x03\x7f\r")? == 4
+        && line.reads(b"a\x03\x7f\r")?;
+    Ok(edits && echoes && raw && line.receive_bytes(&[0x62; 100])? == 64)
+}
+
 /// Whether a read out of canonical mode waits for MIN bytes, or for TIME after the last.
 fn waits_by_min_and_time(line: &mut Line) -> Result<bool, NoMemory> {
     let sets = line.set(b"raw")? && line.set(b"min=3")? && line.set(b"time=2")?;
@@ -121,6 +136,13 @@ fn holds_output(line: &mut Line) -> Result<bool, NoMemory> {
 fn a_line_is_edited_echoed_and_read(rt: HostRuntime) -> Result<(), Fail> {
     let mut line = Line::new(rt.alloc())?;
     assert!(rt; edits_a_line(&mut line)?);
+    Ok(())
+}
+
+#[test]
+fn bytes_are_received_in_one_call(rt: HostRuntime) -> Result<(), Fail> {
+    let mut line = Line::new(rt.alloc())?;
+    assert!(rt; receives_in_one_call(&mut line)? && line.unread() == 64);
     Ok(())
 }
 

@@ -9,11 +9,13 @@ pub mod places;
 mod reading;
 mod settings;
 mod slots;
+mod texts;
 mod words;
 
 pub use names::{character_name, flag_name};
 pub use reading::{BadWord, set_word, set_word_bytes, words_are_their_texts};
 pub use settings::Modes;
+pub use texts::is_same;
 pub use words::Word;
 
 #[cfg(test)]

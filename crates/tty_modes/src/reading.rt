@@ -10,6 +10,7 @@ ghost use Rattle.tty_modes.specs.Word.{IsModeWord, word_text};
 
 use crate::names::{character_name, flag_name};
 use crate::slots::{character_near, flag_near, slot_of};
+use crate::texts::is_same;
 use crate::words::Word;
 
 /// A text that is no mode word.
@@ -63,13 +64,13 @@ fn read_word(text: &[u8]) -> Option<Word>
 fn is_raw(text: &[u8]) -> bool
     ensures { result ≡ bytes_eq text.now (codes "raw") }
 {
-    text == b"raw".as_slice()
+    is_same(text, b"raw".as_slice())
 }
 
 fn is_sane(text: &[u8]) -> bool
     ensures { result ≡ bytes_eq text.now (codes "sane") }
 {
-    text == b"sane".as_slice()
+    is_same(text, b"sane".as_slice())
 }
 
 // A word that clears a flag or sets a control character.
@@ -101,7 +102,7 @@ fn flag_place(name: &[u8]) -> Option<u32>
     ensures { result ≡ place_of flag_names name.now }
 {
     let flag = flag_near(slot_of(name));
-    if flag_name(flag).as_bytes() == name {
+    if is_same(flag_name(flag).as_bytes(), name) {
         Some(flag)
     } else {
         None
@@ -112,7 +113,7 @@ fn character_place(name: &[u8]) -> Option<u8>
     ensures { result ≡ place_of character_names name.now }
 {
     let place = character_near(slot_of(name));
-    if character_name(place).as_bytes() == name {
+    if is_same(character_name(place).as_bytes(), name) {
         Some(place)
     } else {
         None

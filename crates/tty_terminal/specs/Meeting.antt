@@ -1,5 +1,6 @@
 -- What the code answers of an outcome, and the room that it needs.
 use Rattle.std.specs.Prelude.{◌≡◌, ◌≤◌, ◌==◌, ◌+◌, ◌*◌, ℕ, List, [], Option, None, Some, Bool, false, nat_lt, if◌then◌else◌, length, option_map}
+use Rattle.std.specs.Box.{box_value}
 use Rattle.tty_calls.specs.Plain.{PlainCall, opens, closes, reads, writes, gets_modes, sets_modes, gets_disc, sets_disc, flushes, steers, counts_input, counts_output, excludes, admits, drains, gets_counts, hangs_up, sends_packet, takes_packet, answer_of}
 use Rattle.n_tty.specs.Reading.{bytes_read}
 use Rattle.n_slip.specs.Discipline.{first_packet}
@@ -115,7 +116,11 @@ fresh_kind t (hangs_up h) = Some kind.Tty
 fresh_kind t (sends_packet h bytes) = None
 fresh_kind t (takes_packet h) = None
 
--- a packet that a call sends, as it is spelled, unless it is too long
+-- a packet as it is spelled, unless it is too long
+abbrev pub spelled_unless_long : List ℕ → List ℕ
+spelled_unless_long bytes = if nat_lt max_packet (length bytes) then [] else spelling_of bytes
+
+-- the packet that a call sends, as it is spelled, unless it is too long
 abbrev pub spelled_packet : PlainCall → List ℕ
 spelled_packet (opens h access nonblock) = []
 spelled_packet (closes h) = []
@@ -134,7 +139,7 @@ spelled_packet (admits h) = []
 spelled_packet (drains h) = []
 spelled_packet (gets_counts h) = []
 spelled_packet (hangs_up h) = []
-spelled_packet (sends_packet h bytes) = if nat_lt max_packet (length bytes) then [] else spelling_of bytes
+spelled_packet (sends_packet h bytes) = spelled_unless_long bytes
 spelled_packet (takes_packet h) = []
 
 -- the calls in groups: opens, closes and transfers; modes and disciplines; output and exclusive use; the others
@@ -159,9 +164,13 @@ group_of (hangs_up h) = 3
 group_of (sends_packet h bytes) = 3
 group_of (takes_packet h) = 3
 
+-- the discipline that stands in a room
+abbrev pub fresh_in : Room → Option Disc
+fresh_in room = option_map box_value room.fresh
+
 -- what a call needs was made before it: room for its answer, the discipline that it installs, and its packet as it is spelled
 pub record IsRoomFor (t : Terminal) (call : PlainCall) (room : Room) : Type 0 where
   pub empty : room.bytes.items ≡ []
   pub fits : room_for t call ≤ room.bytes.spare
-  pub fresh : room.fresh ≡ option_map fresh_of (fresh_kind t call)
+  pub fresh : fresh_in room ≡ option_map fresh_of (fresh_kind t call)
   pub encoded : room.encoded.items ≡ spelled_packet call

@@ -10,8 +10,8 @@ pub const ROOM_FOR_CALL: usize = 4097;
 pub struct Room {
     /// Room for the bytes of the answer.
     pub bytes: Bytes,
-    /// The discipline that the call installs.
-    pub fresh: Option<Disc>,
+    /// The discipline that the call installs. It stands apart, since few calls do.
+    pub fresh: Option<Box<Disc>>,
     /// The packet that it sends, as it is spelled.
     pub encoded: Bytes,
 }

@@ -1,4 +1,4 @@
-ghost use Rattle.std.specs.Prelude.{◌≡◌, ◌↔◌, ℕ, Some, true, false, ◌+◌, ◌*◌, ◌-◌, ◌≤◌, ◌<◌, ◌^◌, IsTrue, IfOk, OnOk, length, take};
+ghost use Rattle.std.specs.Prelude.{◌≡◌, ◌↔◌, ℕ, Some, true, false, ◌+◌, ◌*◌, ◌-◌, ◌≤◌, ◌<◌, ◌^◌, IsTrue, IfOk, OnOk, length, take, drop};
 ghost use Rattle.tty_calls.specs.Plain.{handle_of, call_of};
 ghost use Rattle.ldisc_switch.specs.Disciplines.{fresh_of, column_in};
 ghost use Rattle.ldisc_switch.specs.declared.kinds.Kind.{Kind};
@@ -143,11 +143,64 @@ impl Terminal {
         ensures column { column_in self.new.terminal.disc ≤ column_in self.old.terminal.disc + 2 ^ 22 * length chars.now }
     {
         let mut done = 0;
-        while done < chars.len() && self.accepts() {
-            self.receive(chars[done]);
-            done += 1;
+        while done < chars.len() {
+            let count = self.receive_some(rest_of(chars, done));
+            if count == 0 {
+                return done;
+            }
+            done += count;
         }
         done
+    }
+
+    /// The discipline receives a run of characters from the front, or the first alone, or none that it does not accept.
+    /// Answers how many.
+    #[inline(always)]
+    fn receive_some(&mut self, chars: &[Flagged]) -> usize
+        requires some { 0 < length chars.now }
+        requires taken { self.old.terminal.taken + length chars.now < 2 ^ 63 }
+        requires wire { room_for_characters self.old.terminal (length chars.now) ≤ self.old.wire_room }
+        requires signals { length chars.now ≤ self.old.signal_room }
+        requires column { column_in self.old.terminal.disc < 2 ^ 62 }
+        ensures within { result ≤ length chars.now }
+        ensures received { self.new.terminal ≡ after_characters self.old.terminal (take result chars.now) }
+        ensures accepted { AcceptsAll self.old.terminal (take result chars.now) }
+        ensures stops { result ≡ 0 → accepts self.new.terminal ≡ false }
+        ensures taken { self.new.terminal.taken ≡ self.old.terminal.taken + result }
+        ensures wire { (n : ℕ) → room_for_characters self.old.terminal (n + result) ≤ self.old.wire_room → room_for_characters self.new.terminal n ≤ self.new.wire_room }
+        ensures signals { self.old.signal_room ≤ self.new.signal_room + result }
+        ensures column { column_in self.new.terminal.disc ≤ column_in self.old.terminal.disc + 2 ^ 22 * result }
+    {
+        let count = self.receive_run(chars);
+        if count > 0 {
+            return count;
+        }
+        if !self.accepts() {
+            return 0;
+        }
+        self.receive(chars[0]);
+        1
+    }
+
+    /// The discipline receives the characters at the front that it takes at once. Answers how many.
+    #[inline(always)]
+    fn receive_run(&mut self, chars: &[Flagged]) -> usize
+        requires taken { self.old.terminal.taken + length chars.now < 2 ^ 63 }
+        requires wire { room_for_characters self.old.terminal (length chars.now) ≤ self.old.wire_room }
+        requires column { column_in self.old.terminal.disc < 2 ^ 62 }
+        ensures within { result ≤ length chars.now }
+        ensures received { self.new.terminal ≡ after_characters self.old.terminal (take result chars.now) }
+        ensures accepted { AcceptsAll self.old.terminal (take result chars.now) }
+        ensures taken { self.new.terminal.taken ≡ self.old.terminal.taken + result }
+        ensures wire { (n : ℕ) → room_for_characters self.old.terminal (n + result) ≤ self.old.wire_room → room_for_characters self.new.terminal n ≤ self.new.wire_room }
+        ensures signals { self.new.signal_room ≡ self.old.signal_room }
+        ensures column { column_in self.new.terminal.disc ≤ column_in self.old.terminal.disc + result }
+    {
+        let count = self
+            .disc
+            .receive_run(chars, self.tick, &self.modes, &mut self.wire);
+        self.taken += count as u64;
+        count
     }
 
     /// The room on the wire that so many characters need at most.
@@ -496,4 +549,12 @@ impl Terminal {
             wire: wire.into_wire(),
         }
     }
+}
+
+/// The characters after so many.
+fn rest_of(chars: &[Flagged], count: usize) -> &[Flagged]
+    requires { count ≤ length chars.now }
+    ensures { result.now ≡ drop count chars.now }
+{
+    &chars[count..]
 }

@@ -143,6 +143,61 @@ HandsOver-trans capacity a0 a1 a2 s0 s1 s2 h0 h1 h2 o0 o1 o2 a b =
       offers = Offers-append capacity (length a0) (length a1) a.list b.list s0 s1 s2 h0 h1 h2 o0 o1 o2 e a.offers b.offers;
     }
 
+-- heads that were loaded before
+pub Offers-later : (capacity place : ℕ) (list sent sent' : List Flagged) (heads heads' heads'' more : List ℕ) (overruns overruns' : List Overrun)
+    → heads ++ more ≡ heads' → Offers capacity place list sent sent' heads' heads'' overruns overruns' → Offers capacity place list sent sent' heads heads'' overruns overruns'
+Offers-later capacity place list sent sent' heads heads' heads'' more overruns overruns' h a = record {
+  answers = a.answers;
+  loaded = more ++ a.loaded;
+  one_each = a.one_each;
+  accepts_rest = a.accepts_rest;
+  adds_refused = a.adds_refused;
+  is_full = a.is_full;
+  loads = a.loads ∙ (ap (λ l. l ++ a.loaded) (sym h) ∙ append_assoc heads more a.loaded);
+  among_loaded = AreAmong-more a.answers more a.loaded a.among_loaded;
+}
+
+-- ---- all are accepted
+
+unfoldable all_accept : List Flagged → List PutAnswer
+all_accept [] = []
+all_accept (c ∷ cs) = accepts ∷ all_accept cs
+
+record AllAccept (capacity place sent : ℕ) (list : List Flagged) : Type 0 where
+  one_each : length (all_accept list) ≡ length list
+  accepted : accepted_list list (all_accept list) ≡ list
+  refused : overrun_list place sent (all_accept list) ≡ []
+  is_full : IsFullAt capacity sent (all_accept list)
+  among : AreAmong (all_accept list) []
+
+all_are_accepted : (capacity place sent : ℕ) (list : List Flagged) → AllAccept capacity place sent list
+unfolding accepted_list overrun_list IsFullAt AreAmong all_accept
+all_are_accepted capacity place sent [] = record { one_each = refl; accepted = refl; refused = refl; is_full = tt; among = tt }
+all_are_accepted capacity place sent (c ∷ cs) =
+    let rest = all_are_accepted capacity (place + 1) (sent + 1) cs in
+    record {
+      one_each = omega (arith, rest.one_each);
+      accepted = ap (λ r. c ∷ r) rest.accepted;
+      refused = rest.refused;
+      is_full = rest.is_full;
+      among = rest.among;
+    }
+
+pub Offers-all : (capacity place : ℕ) (list sent sent' : List Flagged) (heads heads' : List ℕ) (overruns overruns' : List Overrun)
+    → sent' ≡ sent ++ list → heads' ≡ heads → overruns' ≡ overruns → Offers capacity place list sent sent' heads heads' overruns overruns'
+Offers-all capacity place list sent sent' heads heads' overruns overruns' s h o =
+    let all = all_are_accepted capacity place (length sent) list in
+    record {
+      answers = all_accept list;
+      loaded = [];
+      one_each = all.one_each;
+      accepts_rest = s ∙ ap (λ r. sent ++ r) (sym all.accepted);
+      adds_refused = o ∙ (sym (append-nil overruns) ∙ ap (λ r. overruns ++ r) (sym all.refused));
+      is_full = all.is_full;
+      loads = h ∙ sym (append-nil heads);
+      among_loaded = all.among;
+    }
+
 -- ---- overruns by their places
 
 none_before : (q place sent : ℕ) (ps : List PutAnswer) → q < place → list_any (λ o. o.at == q) (overrun_list place sent ps) ≡ false

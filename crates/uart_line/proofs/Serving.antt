@@ -7,7 +7,7 @@ use Rattle.uart_line.specs.LineState.{LineState}
 use Rattle.uart_line.specs.Offered.{Offers}
 use Rattle.uart_line.specs.Handler.{with_mark, reading_of, after_turn, IsReadOff, Serves}
 use Rattle.uart_regs.specs.declared.Reading.{Reading}
-use Rattle.uart_line.proofs.OfferedLemmas.{Offers-none, Offers-append}
+use Rattle.uart_line.proofs.OfferedLemmas.{Offers-none, Offers-append, Offers-later, Offers-all}
 
 with_mark-false : (cs : List Flagged) → with_mark false cs ≡ cs
 with_mark-false [] = refl
@@ -114,3 +114,29 @@ Serves-push capacity l0 l1 l2 list s0 s1 s2 h0 h1 h2 more a s h same =
       most = ap (λ l. l.most) same ∙ a.most;
       arrived = ap (λ l. l.report.arrived) same ∙ a.arrived;
     }
+
+-- heads that were loaded before a run
+pub Serves-later : (capacity capacity' : ℕ) (l0 l1 : LineState) (list : List Flagged) (s s0 s1 : List Flagged) (h h0 h1 more : List ℕ)
+    → h ++ more ≡ h0 → s0 ≡ s → capacity' ≡ capacity → Serves capacity' l0 l1 list s0 s1 h0 h1 → Serves capacity l0 l1 list s s1 h h1
+Serves-later capacity capacity' l0 l1 list s s0 s1 h h0 h1 more e same_sent same a =
+    let offers : Offers capacity l0.handed list s s1 h0 h1 l0.report.overruns.items l1.report.overruns.items = rw (same, same_sent) at a.offers in
+    record {
+      offers = Offers-later capacity l0.handed list s s1 h h0 h1 more l0.report.overruns.items l1.report.overruns.items e offers;
+      handed = a.handed;
+      read_off = a.read_off;
+      masked = a.masked;
+      most = a.most;
+      arrived = a.arrived;
+    }
+
+-- all of a list is accepted
+pub Serves-all : (capacity : ℕ) (l0 l1 : LineState) (list : List Flagged) (n : ℕ) (s0 s1 : List Flagged) (h0 h1 : List ℕ) → length list ≡ n → s1 ≡ s0 ++ list → h1 ≡ h0
+    → l1 ≡ record l0 { handed = l0.handed + n; report = record l0.report { sent = l1.report.sent } } → Serves capacity l0 l1 list s0 s1 h0 h1
+Serves-all capacity l0 l1 list n s0 s1 h0 h1 long s h same = record {
+  offers = Offers-all capacity l0.handed list s0 s1 h0 h1 l0.report.overruns.items l1.report.overruns.items s h (ap (λ l. l.report.overruns.items) same);
+  handed = ap (λ l. l.handed) same ∙ ap (λ k. l0.handed + k) (sym long);
+  read_off = (let is = ap (λ l. l.registers) same in is ∙ ap (λ r. record l0.registers { fifo = r.fifo; overrun = r.overrun; idle = r.idle }) (sym is));
+  masked = ap (λ l. l.masked) same;
+  most = ap (λ l. l.most) same;
+  arrived = ap (λ l. l.report.arrived) same;
+}

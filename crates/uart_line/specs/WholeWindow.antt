@@ -19,3 +19,9 @@ pub record IsWholeWindow (line : LineState) (steps : List LineStep) : Type 0 whe
   pub few : length steps ≤ 14
   pub none_waits : line.window ≡ 0
   pub unmasked : line.masked ≡ false
+
+-- of the line only the numbers of what was handed over differ
+pub record IsHandedOver (old new : LineState) : Type 0 where
+  pub registers : new.registers ≡ old.registers
+  pub window : new.window ≡ old.window
+  pub lost : new.report.fifo_lost ≡ old.report.fifo_lost

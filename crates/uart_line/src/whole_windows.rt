@@ -1,6 +1,6 @@
 //! Whole windows of good characters: where none wait and as many come as the trigger says, the handler
 //! takes each as it came, and no register has to be asked.
-ghost use Rattle.std.specs.Prelude.{◌≡◌, ◌<◌, ◌≤◌, ◌+◌, ℕ, true, List, [], ◌∷◌, ◌++◌, take, length, IsTrue};
+ghost use Rattle.std.specs.Prelude.{◌≡◌, ◌<◌, ◌≤◌, ◌+◌, ◌&&◌, ℕ, true, List, [], ◌∷◌, ◌++◌, take, drop, length, IsTrue};
 ghost use Rattle.std.proofs.Common.{◌⊎◌};
 ghost use Rattle.std.specs.List.{All, list_all, flat_map};
 ghost use Rattle.std.specs.List.Sorted.{IsNonDecreasing};
@@ -10,7 +10,8 @@ ghost use Rattle.uart_line.specs.Received.{received_list};
 ghost use Rattle.uart_line.specs.LineState.{HasDone, IsUncut};
 ghost use Rattle.uart_line.specs.Offered.{HandsOver};
 ghost use Rattle.uart_line.specs.Handler.{Serves};
-ghost use Rattle.uart_line.specs.WholeWindow.{is_good_arrival, IsWholeWindow};
+ghost use Rattle.uart_line.specs.WholeWindow.{is_good_arrival, IsWholeWindow, IsHandedOver};
+ghost use Rattle.uart_regs.specs.Registers.{bit};
 
 use super::{Line, show};
 use tty_base::{Flag, Flagged, LineStep, Put};
@@ -88,21 +89,158 @@ impl Line {
         ensures rise { IsNonDecreasing (P.heads put.old) → IsNonDecreasing (P.heads put.new) }
     {
         self.report.arrived += steps.len() as u32;
-        for step in steps {
-            self.offer(good_character(*step), put);
-        }
+        self.hand_over(steps, put);
         let _ = &self.window;
         show(put);
     }
+
+    // Offers what arrives in these steps. Where there is room for all of it, that is looked up and
+    // counted once.
+    fn hand_over<P: Put>(&mut self, steps: &[LineStep], put: &mut P)
+        requires good { list_all is_good_arrival steps.now ≡ true }
+        requires few { length steps.now ≤ 14 }
+        requires left { self.old.handed + length self.old.registers.fifo + bit self.old.registers.overrun + length steps.now ≤ self.old.report.arrived }
+        requires put { self.old.most ≤ P.room put.old + self.old.handed }
+        ensures serves { Serves (P.capacity put.old) self.old self.new (flat_map arrival steps.now) (P.sent put.old) (P.sent put.new) (P.heads put.old) (P.heads put.new) }
+        ensures same { IsHandedOver self.old self.new }
+        ensures capacity { P.capacity put.new ≡ P.capacity put.old }
+        ensures name { P.name put.new ≡ P.name put.old }
+        ensures put { self.new.most ≤ P.room put.new + self.new.handed }
+        ensures rise { IsNonDecreasing (P.heads put.old) → IsNonDecreasing (P.heads put.new) }
+    {
+        if put.has_room(steps.len()) {
+            self.accept_each(steps, put);
+        } else {
+            self.offer_each(steps, put);
+        }
+    }
+
+    // The same, where there is room for all.
+    #[inline(always)]
+    fn accept_each<P: Put>(&mut self, steps: &[LineStep], put: &mut P)
+        requires good { list_all is_good_arrival steps.now ≡ true }
+        requires few { length steps.now ≤ 14 }
+        requires left { self.old.handed + length self.old.registers.fifo + bit self.old.registers.overrun + length steps.now ≤ self.old.report.arrived }
+        requires put { self.old.most ≤ P.room put.old + self.old.handed }
+        requires free { length steps.now ≤ P.free put.old }
+        ensures serves { Serves (P.capacity put.old) self.old self.new (flat_map arrival steps.now) (P.sent put.old) (P.sent put.new) (P.heads put.old) (P.heads put.new) }
+        ensures same { IsHandedOver self.old self.new }
+        ensures capacity { P.capacity put.new ≡ P.capacity put.old }
+        ensures name { P.name put.new ≡ P.name put.old }
+        ensures put { self.new.most ≤ P.room put.new + self.new.handed }
+        ensures heads { P.heads put.new ≡ P.heads put.old }
+    {
+        let _ = &self.most;
+        put_arrivals(steps, put);
+        self.report.sent += steps.len() as u64;
+        self.handed += steps.len() as u32;
+    }
+
+    // The same, one after the other.
+    #[inline(never)]
+    fn offer_each<P: Put>(&mut self, steps: &[LineStep], put: &mut P)
+        requires good { list_all is_good_arrival steps.now ≡ true }
+        requires left { self.old.handed + length self.old.registers.fifo + bit self.old.registers.overrun + length steps.now ≤ self.old.report.arrived }
+        requires put { self.old.most ≤ P.room put.old + self.old.handed }
+        ensures serves { Serves (P.capacity put.old) self.old self.new (flat_map arrival steps.now) (P.sent put.old) (P.sent put.new) (P.heads put.old) (P.heads put.new) }
+        ensures same { IsHandedOver self.old self.new }
+        ensures capacity { P.capacity put.new ≡ P.capacity put.old }
+        ensures name { P.name put.new ≡ P.name put.old }
+        ensures put { self.new.most ≤ P.room put.new + self.new.handed }
+        ensures rise { IsNonDecreasing (P.heads put.old) → IsNonDecreasing (P.heads put.new) }
+    {
+        let _ = &self.most;
+        for step in steps {
+            self.offer(good_character(*step), put);
+        }
+    }
+}
+
+/// Puts what arrives in these steps, four at a time.
+fn put_arrivals<P: Put>(steps: &[LineStep], put: &mut P)
+    requires good { list_all is_good_arrival steps.now ≡ true }
+    requires room { length steps.now ≤ P.room put.old }
+    requires free { length steps.now ≤ P.free put.old }
+    ensures sent { P.sent put.new ≡ P.sent put.old ++ flat_map arrival steps.now }
+    ensures heads { P.heads put.new ≡ P.heads put.old }
+    ensures capacity { P.capacity put.new ≡ P.capacity put.old }
+    ensures name { P.name put.new ≡ P.name put.old }
+    ensures room { P.room put.old ≤ P.room put.new + length steps.now }
+{
+    let whole = steps.len() / 4;
+    for k in 0..whole {
+        put.put_four(four_arrivals(steps, 4 * k));
+    }
+    for at in 4 * whole..steps.len() {
+        put.put_known(arrival_at(steps, at));
+    }
+}
+
+/// What arrives in the four steps from the place `at` on.
+#[inline(always)]
+fn four_arrivals(steps: &[LineStep], at: usize) -> [Flagged; 4]
+    requires good { list_all is_good_arrival steps.now ≡ true }
+    requires within { at + 4 ≤ length steps.now }
+    ensures { flat_map arrival (take (at + 4) steps.now) ≡ flat_map arrival (take at steps.now) ++ result }
+{
+    [
+        arrival_at(steps, at),
+        arrival_at(steps, at + 1),
+        arrival_at(steps, at + 2),
+        arrival_at(steps, at + 3),
+    ]
+}
+
+/// What arrives in the step at the place `at`.
+#[inline(always)]
+fn arrival_at(steps: &[LineStep], at: usize) -> Flagged
+    requires good { list_all is_good_arrival steps.now ≡ true }
+    requires within { at < length steps.now }
+    ensures { flat_map arrival (take (at + 1) steps.now) ≡ flat_map arrival (take at steps.now) ++ result ∷ [] }
+{
+    good_character(steps[at])
 }
 
 /// Whether a good character arrives in each of these steps.
 fn are_good_arrivals(steps: &[LineStep]) -> bool
     ensures { result ≡ list_all is_good_arrival steps.now }
 {
-    steps.iter().all(|step| is_good_arrival(*step))
+    let whole = steps.len() / 4;
+    for k in 0..whole {
+        if !are_four_good(steps, 4 * k) {
+            return false;
+        }
+    }
+    for at in 4 * whole..steps.len() {
+        if !is_good_at(steps, at) {
+            return false;
+        }
+    }
+    true
 }
 
+/// Whether a good character arrives in each of the four steps from the place `at` on.
+#[inline(always)]
+fn are_four_good(steps: &[LineStep], at: usize) -> bool
+    requires { at + 4 ≤ length steps.now }
+    ensures { list_all is_good_arrival (drop at steps.now) ≡ (result && list_all is_good_arrival (drop (at + 4) steps.now)) }
+{
+    is_good_at(steps, at)
+        && is_good_at(steps, at + 1)
+        && is_good_at(steps, at + 2)
+        && is_good_at(steps, at + 3)
+}
+
+/// Whether a good character arrives in the step at the place `at`.
+#[inline(always)]
+fn is_good_at(steps: &[LineStep], at: usize) -> bool
+    requires { at < length steps.now }
+    ensures { list_all is_good_arrival (drop at steps.now) ≡ (result && list_all is_good_arrival (drop (at + 1) steps.now)) }
+{
+    is_good_arrival(steps[at])
+}
+
+#[inline(always)]
 fn is_good_arrival(step: LineStep) -> bool
     ensures { result ≡ is_good_arrival step }
 {
@@ -113,6 +251,7 @@ fn is_good_arrival(step: LineStep) -> bool
 }
 
 /// The good character that arrives in a step.
+#[inline(always)]
 fn good_character(step: LineStep) -> Flagged
     requires { is_good_arrival step ≡ true }
     ensures { arrival step ≡ result ∷ [] }

@@ -28,6 +28,26 @@ lay_next w x (suc (suc (suc zero))) small h lt =
     λ i. a i ∷ b i ∷ d i ∷ e i ∷ []
 lay_next w x (suc (suc (suc (suc k)))) small h lt = absurd (omega arith)
 
+pub four_items : (xs : List ℕ) → length xs ≡ 4 → get_or xs 0 0 ∷ get_or xs 1 0 ∷ get_or xs 2 0 ∷ get_or xs 3 0 ∷ [] ≡ xs
+four_items [] e = absurd (omega (arith, e))
+four_items (a ∷ []) e = absurd (omega (arith, e))
+four_items (a ∷ b ∷ []) e = absurd (omega (arith, e))
+four_items (a ∷ b ∷ c ∷ []) e = absurd (omega (arith, e))
+four_items (a ∷ b ∷ c ∷ d ∷ []) e = refl
+four_items (a ∷ b ∷ c ∷ d ∷ x ∷ xs) e = absurd (omega (arith, e))
+
+-- four numbers in one word
+pub lay_four : (a b c d : ℕ) → a < 65536 → b < 65536 → c < 65536 → d < 65536
+    → lanes (a + b * 65536 + c * 4294967296 + d * 281474976710656) 4 ≡ a ∷ b ∷ c ∷ d ∷ []
+unfolding lane
+lay_four a b c d ha hb hc hd =
+    let w : ℕ = a + b * 65536 + c * 4294967296 + d * 281474976710656 in
+    let p : w / 1 % 65536 ≡ a = omega arith in
+    let q : w / 65536 % 65536 ≡ b = omega arith in
+    let r : w / 4294967296 % 65536 ≡ c = omega arith in
+    let s : w / 281474976710656 % 65536 ≡ d = omega arith in
+    λ i. p i ∷ q i ∷ r i ∷ s i ∷ []
+
 -- all lanes
 pub top_all : (w : ℕ) → top_lanes w 4 ≡ lanes w 4
 top_all w = let is : w / 65536 ^ (4 - 4) ≡ w = omega arith in ap (λ (z : ℕ). lanes z 4) is

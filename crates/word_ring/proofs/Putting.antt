@@ -1,13 +1,22 @@
 -- What a putter's seat knows fits its numbers after each step.
 use Rattle.std.proofs.Common.{◌≡◌, ℕ, ◌+◌, ◌-◌, ◌/◌, ◌%◌, ◌^◌, ◌<◌, ◌≤◌, List, [], ◌∷◌, ◌++◌, length, max, sym, ap, ◌∙◌, subst, arith, length-append}
 use mathlib.Core.List.{IsPrefix}
+use Rattle.word_ring.specs.declared.putter.Putter.TheInside.{Inside}
 use Rattle.word_ring.specs.declared.table.View.{View}
+use Rattle.word_ring.specs.Ends.{PutterState}
 use Rattle.word_ring.specs.Lanes.{top_lanes, whole_words}
 use Rattle.word_ring.specs.Plays.{with_head, with_written, with_all_pushed, with_head_note}
-use Rattle.word_ring.specs.PutterParts.{sent_of, IsPutting}
+use Rattle.word_ring.specs.PutterParts.{putter_state, sent_of, IsPutter, IsPutting}
 use Rattle.word_ring.proofs.Beginnings.{begins_itself, begins_more, begins_through}
 use Rattle.word_ring.proofs.LastWord.{group_is, whole_again, put_short, put_full, put_stored}
 use Rattle.word_ring.proofs.Released.{rises_push, below_more, below_push}
+
+-- where so many more find room, they do by what the seat knows
+pub room_for : (t : Inside) (u : PutterState ℕ) (n : ℕ) → IsPutter t → putter_state t ≡ u → length u.sent + n ≤ u.floor + u.capacity → t.sent + n ≤ t.seat.me.0.head + t.capacity
+room_for t u n inner e le =
+    let count = inner.putting.count in
+    let fits : length (sent_of t.sent t.word t.seat.me.0) + n ≤ t.seat.me.0.head + t.capacity = subst (λ (z : PutterState ℕ). length z.sent + n ≤ z.floor + z.capacity) (sym e) le in
+    omega arith
 
 module _ (capacity sent word : ℕ) (v : View) (p : IsPutting capacity sent word v) where
   pub after_load : (h : ℕ) → v.head ≤ h → IsPutting capacity sent word (with_head v h)
@@ -53,7 +62,7 @@ module _ (capacity sent word : ℕ) (v : View) (p : IsPutting capacity sent word
   pub pushed_same : sent_of sent word (with_all_pushed (with_written v (sent_of sent word v))) ≡ sent_of sent word v
   pushed_same = ap (λ (xs : List ℕ). xs ++ top_lanes word (sent % 4)) (whole_again v.written (word / 65536 ^ (4 - sent % 4)) (sent % 4) (omega arith))
 
-  module _ (word' x : ℕ) (laid : top_lanes word' (sent % 4 + 1) ≡ top_lanes word (sent % 4) ++ x ∷ []) (room : sent < v.head + capacity) where
+  module _ (word' x : ℕ) (laid : top_lanes word' (sent % 4 + 1) ≡ top_lanes word (sent % 4) ++ x ∷ []) (room : sent + 1 ≤ v.head + capacity) where
     -- a number is put in the last word
     pub after_put : sent % 4 < 3 → IsPutting capacity (sent + 1) word' v
     after_put lt =

@@ -1,12 +1,12 @@
 -- What a taker's seat knows fits its numbers after each step.
-use Rattle.std.proofs.Common.{◌≡◌, ◌⊎◌, ℕ, ◌+◌, ◌-◌, ◌*◌, ◌/◌, ◌%◌, ◌^◌, ◌<◌, ◌≤◌, true, List, [], ◌∷◌, ◌++◌, length, min, max, refl, sym, ap, ◌∙◌, subst, ⊎_elim, arith, take, drop, length-take, length-drop}
+use Rattle.std.proofs.Common.{◌≡◌, ◌⊎◌, ℕ, ◌+◌, ◌-◌, ◌*◌, ◌/◌, ◌%◌, ◌^◌, ◌<◌, ◌≤◌, true, List, [], ◌∷◌, ◌++◌, length, min, max, refl, sym, ap, ◌∙◌, subst, ⊎_elim, inr, arith, take, drop, length-take, length-drop}
 use mathlib.Core.List.{IsPrefix}
 use Rattle.std.proofs.lemmas.Bool.{cases_lt}
 use Rattle.std.proofs.lemmas.List.{drop_all, drop-take, take_all, take_at, take-append-drop, take-take}
 use Rattle.word_ring.specs.declared.table.View.{View}
 use Rattle.word_ring.specs.declared.taker.Taker.TheInside.{Inside}
 use Rattle.word_ring.specs.Ends.{TakerState, with_taken}
-use Rattle.word_ring.specs.Lanes.{lane}
+use Rattle.word_ring.specs.Lanes.{lane, lanes}
 use Rattle.word_ring.specs.Plays.{with_tail, with_read, with_taken_to, with_note, with_putter}
 use Rattle.word_ring.specs.Rule.{place}
 use Rattle.word_ring.specs.TakerParts.{taker_state, IsTaker, IsTaking, HasLanes, peeked_of}
@@ -166,32 +166,35 @@ module _ (capacity taken next word start at : ℕ) (v : View) (t : IsTaking capa
 pub begins_seen : (t : Inside) (u : TakerState ℕ) → IsTaker t → taker_state t ≡ u → u.ended ≡ true → IsPrefix u.taken u.sent
 begins_seen t u inner e = subst (λ (z : TakerState ℕ). z.ended ≡ true → IsPrefix z.taken z.sent) e (taken_begins _ _ _ _ _ _ _ inner.taking)
 
--- a look has shown the next number
-pub more_shown : (t : Inside) (u : TakerState ℕ) → IsTaker t → taker_state t ≡ u → length u.taken + length u.peeked < u.floor → t.next < t.seat.me.0.tail
-more_shown t u inner e lt =
+-- how many were taken or are peeked
+pub next_is : (t : Inside) (u : TakerState ℕ) → IsTaker t → taker_state t ≡ u → length u.taken + length u.peeked ≡ t.next
+next_is t u inner e =
     let v = t.seat.me.0 in
     let count = inner.taking.count in
     let order = inner.taking.order in
     let enough = inner.taking.peeked in
     let cut = length-take t.next v.read in
     let rest : length (peeked_of t.taken t.next v) ≡ t.next - t.taken = length-drop t.taken (take t.next v.read) ∙ omega arith in
-    let shown : length v.taken + length (peeked_of t.taken t.next v) < v.tail = subst (λ (z : TakerState ℕ). length z.taken + length z.peeked < z.floor) (sym e) lt in
-    omega arith
+    subst (λ (z : TakerState ℕ). length z.taken + length z.peeked ≡ t.next) e (omega arith)
 
--- a taker whose word has the next number, which it has read
-pub record HasRead (old new : Inside) : Type 0 where
+-- a look has shown the next numbers
+pub more_shown : (t : Inside) (u : TakerState ℕ) (n : ℕ) → IsTaker t → taker_state t ≡ u → length u.taken + length u.peeked + n ≤ u.floor → t.next + n ≤ t.seat.me.0.tail
+more_shown t u n inner e le = let is = next_is t u inner e in let floor : t.seat.me.0.tail ≡ u.floor = ap (λ z. z.floor) e in omega arith
+
+-- a taker that has read the next numbers, so many
+pub record HasRead (old new : Inside) (n : ℕ) (xs : List ℕ) : Type 0 where
   pub ring : new.seat.table_id ≡ old.seat.table_id
   pub bare : new.seat.me.1 ≡ old.seat.me.1
   pub view : new.seat.me.0 ≡ with_read old.seat.me.0 new.seat.me.0.read
   pub same : new ≡ record old { seat = new.seat; word = new.word; at = new.at }
-  pub taking : IsTaking old.capacity old.taken (old.next + 1) new.word old.start new.at new.seat.me.0
-  pub peeks : peeked_of old.taken (old.next + 1) new.seat.me.0 ≡ peeked_of old.taken old.next old.seat.me.0 ++ lane new.word (old.next % 4) ∷ []
+  pub taking : IsTaking old.capacity old.taken (old.next + n) new.word old.start new.at new.seat.me.0
+  pub peeks : peeked_of old.taken (old.next + n) new.seat.me.0 ≡ peeked_of old.taken old.next old.seat.me.0 ++ xs
 
-module _ (old new : Inside) (h : HasRead old new) where
-  pub steps_on : record new { next = old.next + 1 } ≡ record old { seat = new.seat; word = new.word; at = new.at; next = old.next + 1 }
-  steps_on = ap (λ (t : Inside). record t { next = old.next + 1 }) h.same
+module _ (old new : Inside) (n : ℕ) (xs : List ℕ) (h : HasRead old new n xs) where
+  pub steps_on : record new { next = old.next + n } ≡ record old { seat = new.seat; word = new.word; at = new.at; next = old.next + n }
+  steps_on = ap (λ (t : Inside). record t { next = old.next + n }) h.same
 
-  pub still_taker : IsTaker old → IsTaker (record new { next = old.next + 1 })
+  pub still_taker : IsTaker old → IsTaker (record new { next = old.next + n })
   still_taker inner = subst IsTaker (sym steps_on) (record {
     table = h.ring ∙ inner.table;
     key = inner.key;
@@ -201,13 +204,57 @@ module _ (old new : Inside) (h : HasRead old new) where
     taking = h.taking;
   })
 
-  pub peeks_one : (u : TakerState ℕ) (x : ℕ) → taker_state old ≡ u → x ≡ lane new.word (old.next % 4) → taker_state (record new { next = old.next + 1 }) ≡ record u { peeked = u.peeked ++ x ∷ [] }
-  peeks_one u x e is =
-      let peeked = h.peeks ∙ ap (λ (z : ℕ). peeked_of old.taken old.next old.seat.me.0 ++ z ∷ []) (sym is) in
+  pub peeks_some : (u : TakerState ℕ) → taker_state old ≡ u → taker_state (record new { next = old.next + n }) ≡ record u { peeked = u.peeked ++ xs }
+  peeks_some u e =
       let v = h.view in
       ap taker_state steps_on
-      ∙ ((λ i. record { ring = h.ring i; capacity = old.capacity; taken = ap (λ z. z.taken) v i; peeked = peeked i; released = ap (λ z. z.released) v i; tails = ap (λ z. z.tails) v i; floor = ap (λ z. z.tail) v i; ended = ap (λ z. z.puts) v i; sent = ap (λ z. z.pushed) v i })
-      ∙ ap (λ (s : TakerState ℕ). record s { peeked = s.peeked ++ x ∷ [] }) e)
+      ∙ ((λ i. record { ring = h.ring i; capacity = old.capacity; taken = ap (λ z. z.taken) v i; peeked = h.peeks i; released = ap (λ z. z.released) v i; tails = ap (λ z. z.tails) v i; floor = ap (λ z. z.tail) v i; ended = ap (λ z. z.puts) v i; sent = ap (λ z. z.pushed) v i })
+      ∙ ap (λ (s : TakerState ℕ). record s { peeked = s.peeked ++ xs }) e)
+
+-- one by one
+four_more : (xs : List ℕ) (a b c d : ℕ) → (((xs ++ a ∷ []) ++ b ∷ []) ++ c ∷ []) ++ d ∷ [] ≡ xs ++ a ∷ b ∷ c ∷ d ∷ []
+four_more [] a b c d = refl
+four_more (x ∷ xs) a b c d = ap (λ ys. x ∷ ys) (four_more xs a b c d)
+
+-- a whole word is loaded
+module _ (capacity taken next word start at : ℕ) (v : View) (t : IsTaking capacity taken next word start at v) (w : View) (n at' : ℕ) (whole : next % 4 ≡ 0) (more : next + 4 ≤ v.tail)
+    (loaded : w ≡ with_read v (shown_of v.tail v.read n)) (longer : IsPrefix v.read w.read) (pushed : v.puts ≡ true → IsPrefix w.read v.pushed) (at_is : at' ≡ place capacity (next / 4)) where
+  tail_is : w.tail ≡ v.tail
+  tail_is = ap (λ z. z.tail) loaded
+
+  first : IsTaking capacity taken (next + 1) n start at' w
+  first = after_load capacity taken next word start at v t w n at' (inr whole) (omega arith) loaded longer pushed at_is
+
+  second : IsTaking capacity taken (next + 1 + 1) n start at' w
+  second = let o = t.order in let e = tail_is in after_peek _ _ _ _ _ _ _ first (omega arith) (omega arith) (omega arith)
+
+  third : IsTaking capacity taken (next + 1 + 1 + 1) n start at' w
+  third = let o = t.order in let e = tail_is in after_peek _ _ _ _ _ _ _ second (omega arith) (omega arith) (omega arith)
+
+  four_is : next + 1 + 1 + 1 + 1 ≡ next + 4
+  four_is = omega arith
+
+  pub after_word : IsTaking capacity taken (next + 4) n start at' w
+  after_word = let o = t.order in let e = tail_is in subst (λ (k : ℕ). IsTaking capacity taken k n start at' w) four_is (after_peek _ _ _ _ _ _ _ third (omega arith) (omega arith) (omega arith))
+
+  pub peeks_word : peeked_of taken (next + 4) w ≡ peeked_of taken next v ++ lanes n 4
+  peeks_word =
+      let o = t.order in
+      let e = tail_is in
+      let old : List ℕ = peeked_of taken next v in
+      let one : next % 4 ≡ 0 = whole in
+      let two : (next + 1) % 4 ≡ 1 = omega arith in
+      let three : (next + 1 + 1) % 4 ≡ 2 = omega arith in
+      let four : (next + 1 + 1 + 1) % 4 ≡ 3 = omega arith in
+      let a = peeks_loaded capacity taken next word start at v t w n at' (inr whole) (omega arith) loaded longer pushed at_is in
+      let b = peeks_next _ _ _ _ _ _ _ first (omega arith) (omega arith) (omega arith) in
+      let c = peeks_next _ _ _ _ _ _ _ second (omega arith) (omega arith) (omega arith) in
+      let d = peeks_next _ _ _ _ _ _ _ third (omega arith) (omega arith) (omega arith) in
+      let on : (xs : List ℕ) (k : ℕ) → List ℕ = λ xs k. xs ++ lane n k ∷ [] in
+      ap (λ (k : ℕ). peeked_of taken k w) (sym four_is)
+      ∙ (d ∙ (ap (λ xs. on xs ((next + 1 + 1 + 1) % 4)) (c ∙ ap (λ xs. on xs ((next + 1 + 1) % 4)) (b ∙ ap (λ xs. on xs ((next + 1) % 4)) a))
+      ∙ (four_more old (lane n (next % 4)) (lane n ((next + 1) % 4)) (lane n ((next + 1 + 1) % 4)) (lane n ((next + 1 + 1 + 1) % 4))
+      ∙ (λ i. old ++ lane n (one i) ∷ lane n (two i) ∷ lane n (three i) ∷ lane n (four i) ∷ []))))
 
 -- where there are some, they are taken and their head is stored
 with_some : {A : Type 0} (t : TakerState A) (xs : List A) → 0 < length xs → with_taken t xs ≡ record t { taken = t.taken ++ xs; peeked = []; released = t.released ++ length (t.taken ++ xs) ∷ [] }

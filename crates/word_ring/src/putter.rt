@@ -1,10 +1,11 @@
 //! The end that puts numbers in, and its notes.
-ghost use Rattle.std.specs.Prelude.{◌≡◌, ◌+◌, ◌<◌, ◌≤◌, ◌^◌, [], ◌∷◌, ◌++◌, length, OnOk, OnErr, MatchResult};
+ghost use Rattle.std.specs.Prelude.{◌≡◌, ◌+◌, ◌%◌, ◌<◌, ◌≤◌, ◌^◌, [], ◌∷◌, ◌++◌, length, OnOk, OnErr, MatchResult};
 ghost use Rattle.std.specs.List.Sorted.{IsNonDecreasing};
 ghost use Rattle.word_ring.specs.Ends.{with_loaded};
+ghost use Rattle.word_ring.specs.Lanes.{lanes};
 
-use crate::lanes::with_next;
-use crate::steps::{place_after, store_lanes};
+use crate::lanes::{with_next, word_of};
+use crate::steps::{place_after, place_of_next, store_lanes};
 use crate::table::{Board, HEAD, HeadNoted, LoadHead, Noted, Place, StoreTail, TAIL};
 use crate::taker::HeadNote;
 use std::alloc::Global;
@@ -80,6 +81,7 @@ impl Putter {
     pub fn waiting(&mut self) -> u64
         ensures same { self.new ≡ with_loaded self.old self.new.floor }
         ensures count { result + self.new.floor ≡ length self.old.sent }
+        ensures most { result ≤ self.old.capacity }
         ensures rises { (self.old.floor ≤ self.new.floor) × (self.new.floor ≤ length self.old.pushed) }
         ensures rise { IsNonDecreasing self.new.heads }
     {
@@ -105,14 +107,66 @@ impl Putter {
         if sent - seen == self.capacity {
             return Err(Full { sent, seen });
         }
+        self.put_known(x);
+        Ok(())
+    }
+
+    /// Puts a number for which there is room by the latest head that was loaded. The taker finds it
+    /// after the next push.
+    #[inline(always)]
+    pub fn put_known(&mut self, x: u16)
+        requires small { length self.old.sent < 2 ^ 63 }
+        requires room { length self.old.sent < self.old.floor + self.old.capacity }
+        ensures { self.new ≡ record self.old { sent = self.old.sent ++ x ∷ [] } }
+    {
+        let sent = self.sent;
         self.word = with_next(self.word, x);
         self.sent = sent + 1;
         if sent % 4 < 3 {
-            return Ok(());
+            return;
         }
         store_lanes(&self.board.shared, &mut self.seat, self.at, self.word, 4);
         self.at = place_after(self.capacity, sent + 1, self.at);
-        Ok(())
+    }
+
+    /// Puts four numbers for which there is room by the latest head that was loaded. Where they fill a
+    /// word, it is made and stored at once.
+    #[inline(always)]
+    pub fn put_four(&mut self, xs: [u16; 4])
+        requires small { length self.old.sent + 4 ≤ 2 ^ 63 }
+        requires room { length self.old.sent + 4 ≤ self.old.floor + self.old.capacity }
+        ensures { self.new ≡ record self.old { sent = self.old.sent ++ xs } }
+    {
+        if self.sent % 4 == 0 {
+            self.put_word(word_of(xs));
+        } else {
+            self.put_each(xs);
+        }
+    }
+
+    // Puts the four numbers of a word, where all words so far are full.
+    fn put_word(&mut self, word: u64)
+        requires full { length self.old.sent % 4 ≡ 0 }
+        requires small { length self.old.sent + 4 ≤ 2 ^ 63 }
+        requires room { length self.old.sent + 4 ≤ self.old.floor + self.old.capacity }
+        ensures { self.new ≡ record self.old { sent = self.old.sent ++ lanes word 4 } }
+    {
+        store_lanes(&self.board.shared, &mut self.seat, self.at, word, 4);
+        self.sent += 4;
+        self.at = place_of_next(self.capacity, self.sent, self.at);
+    }
+
+    #[inline(never)]
+    fn put_each(&mut self, xs: [u16; 4])
+        requires small { length self.old.sent + 4 ≤ 2 ^ 63 }
+        requires room { length self.old.sent + 4 ≤ self.old.floor + self.old.capacity }
+        ensures { self.new ≡ record self.old { sent = self.old.sent ++ xs } }
+    {
+        let [a, b, c, d] = xs;
+        self.put_known(a);
+        self.put_known(b);
+        self.put_known(c);
+        self.put_known(d);
     }
 
     /// Makes all that was put visible to the taker, by one store of the tail.

@@ -8,18 +8,29 @@ ghost use Rattle.word_ring.specs.Rule.{place};
 
 use crate::table::{Place, Steps, StoreLanes};
 
+/// The place of the word after the one at `at`, where that ends before number `next`.
+#[inline(always)]
+pub(crate) fn place_of_next(capacity: u64, next: u64, at: usize) -> usize
+    requires { (capacity ≤ 65536) × (0 < next) × (next % 4 ≡ 0) × (at ≡ place capacity ((next - 1) / 4)) }
+    ensures { result ≡ place capacity (next / 4) }
+{
+    let _ = next;
+    if at < (capacity / 4 + 3) as usize {
+        at + 1
+    } else {
+        2
+    }
+}
+
 /// The place of the word that has number `next`, where the number before it is in the word at `at`.
 pub(crate) fn place_after(capacity: u64, next: u64, at: usize) -> usize
     requires { (capacity ≤ 65536) × (0 < next) × (at ≡ place capacity ((next - 1) / 4)) }
     ensures { result ≡ place capacity (next / 4) }
 {
     if next % 4 != 0 {
-        at
-    } else if at < (capacity / 4 + 3) as usize {
-        at + 1
-    } else {
-        2
+        return at;
     }
+    place_of_next(capacity, next, at)
 }
 
 /// The place of the word that has number `head`, not after `next`, where the number before `next` is in
@@ -32,6 +43,23 @@ pub(crate) fn place_of_head(capacity: u64, head: u64, next: u64, at: usize) -> u
         place_after(capacity, next, at)
     } else {
         (2 + head / 4 % (capacity / 4 + 2)) as usize
+    }
+}
+
+/// The place of the word that begins with number `next`.
+#[inline(always)]
+pub(crate) fn place_of_word(capacity: u64, taken: u64, next: u64, start: usize, at: usize) -> usize
+    requires small { capacity ≤ 65536 }
+    requires order { taken ≤ next }
+    requires start { start ≡ place capacity (taken / 4) }
+    requires at { taken < next → at ≡ place capacity ((next - 1) / 4) }
+    requires begins { next % 4 ≡ 0 }
+    ensures { result ≡ place capacity (next / 4) }
+{
+    if next == taken {
+        start
+    } else {
+        place_of_next(capacity, next, at)
     }
 }
 
@@ -61,6 +89,7 @@ pub(crate) fn place_to_load(
 
 /// Stores the word in whose last lanes are the last numbers put, so many. Where it has none there is
 /// nothing to store.
+#[inline(always)]
 pub(crate) fn store_lanes(steps: &Steps, seat: &mut Place, at: usize, word: u64, count: u64)
     requires seat { (seat.old.table_id ≡ steps.now.table_id) × (seat.old.me.0.puts ≡ true) }
     requires words { (1 < at) × (at < steps.now.table_id.words) }
@@ -73,9 +102,26 @@ pub(crate) fn store_lanes(steps: &Steps, seat: &mut Place, at: usize, word: u64,
 {
     match count {
         0 => {}
+        4 => steps.store::<StoreLanes<4>>(seat, at, word),
+        _ => store_part(steps, seat, at, word, count),
+    }
+}
+
+/// The same for a word that is not full.
+#[inline(never)]
+fn store_part(steps: &Steps, seat: &mut Place, at: usize, word: u64, count: u64)
+    requires seat { (seat.old.table_id ≡ steps.now.table_id) × (seat.old.me.0.puts ≡ true) }
+    requires words { (1 < at) × (at < steps.now.table_id.words) }
+    requires at { at ≡ place seat.old.me.0.capacity (length seat.old.me.0.written / 4) }
+    requires count { (0 < count) × (count < 4) }
+    requires begins { IsPrefix seat.old.me.0.written (whole_words seat.old.me.0.written ++ top_lanes word count) }
+    requires fits { length (whole_words seat.old.me.0.written ++ top_lanes word count) ≤ seat.old.me.0.head + seat.old.me.0.capacity }
+    ensures same { (seat.new.table_id ≡ seat.old.table_id) × (seat.new.id ≡ seat.old.id) × (seat.new.me.1 ≡ seat.old.me.1) }
+    ensures stored { seat.new.me.0 ≡ with_written seat.old.me.0 (whole_words seat.old.me.0.written ++ top_lanes word count) }
+{
+    match count {
         1 => steps.store::<StoreLanes<1>>(seat, at, word / 281474976710656),
         2 => steps.store::<StoreLanes<2>>(seat, at, word / 4294967296),
-        3 => steps.store::<StoreLanes<3>>(seat, at, word / 65536),
-        _ => steps.store::<StoreLanes<4>>(seat, at, word),
+        _ => steps.store::<StoreLanes<3>>(seat, at, word / 65536),
     }
 }

@@ -1,12 +1,13 @@
 //! The end that takes numbers out, and its notes.
-ghost use Rattle.std.specs.Prelude.{◌≡◌, ℕ, ◌+◌, ◌-◌, ◌<◌, ◌≤◌, true, List, [], ◌∷◌, ◌++◌, length, take, min, max, All};
+ghost use Rattle.std.specs.Prelude.{◌≡◌, ℕ, ◌+◌, ◌-◌, ◌%◌, ◌<◌, ◌≤◌, true, List, [], ◌∷◌, ◌++◌, length, take, min, max, All};
 ghost use mathlib.Core.List.{IsPrefix};
 ghost use Rattle.arrayvec.specs.ArrayVec.{array_vec_len};
 ghost use Rattle.word_ring.specs.Ends.{IsOneWithin, AreReleased, with_shown, with_taken};
+ghost use Rattle.word_ring.specs.Lanes.{lanes};
 
 use crate::lanes::lane_of;
 use crate::putter::{Note, Putter};
-use crate::steps::{place_of_head, place_to_load};
+use crate::steps::{place_of_head, place_of_word, place_to_load};
 use crate::table::{
     Board, Compare, Ended, HEAD, HeadNoted, LoadLanes, LoadTail, Noted, Place, StoreHead, TAIL,
 };
@@ -129,6 +130,32 @@ impl Taker {
         }
         self.next = next + 1;
         lane_of(self.word, next % 4)
+    }
+
+    /// How many numbers come next before one that begins a word.
+    #[inline(always)]
+    pub fn before_word(&self) -> usize
+        ensures few { result < 4 }
+        ensures begins { (length self.now.taken + length self.now.peeked + result) % 4 ≡ 0 }
+    {
+        ((4 - self.next % 4) % 4) as usize
+    }
+
+    /// The word of the next four numbers, which a look or a note has shown, where the first of them
+    /// begins it. They stay in the ring until they are released.
+    #[inline(always)]
+    pub fn peek_word(&mut self) -> u64
+        requires begins { (length self.old.taken + length self.old.peeked) % 4 ≡ 0 }
+        requires shown { length self.old.taken + length self.old.peeked + 4 ≤ self.old.floor }
+        ensures { self.new ≡ record self.old { peeked = self.old.peeked ++ lanes result 4 } }
+    {
+        let next = self.next;
+        let at = place_of_word(self.capacity, self.taken, next, self.start, self.at);
+        let word = self.board.shared.load::<LoadLanes>(&mut self.seat, at);
+        self.word = word;
+        self.at = at;
+        self.next = next + 4;
+        word
     }
 
     /// Takes the first `n` numbers that were peeked, by one store of the head, and the others are

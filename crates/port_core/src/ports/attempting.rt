@@ -5,8 +5,8 @@ ghost use Rattle.tty_calls.specs.Plain.{call_of, changes};
 
 use super::Port;
 use crate::entries::{
-    Prepared, add_entry_of_call, copy_unless_begun, entry_of_call, prepare, reserve_entry,
-    room_for_chars, trimmed,
+    Asked, Prepared, copy_of, entry_of_call, note_call, prepare, reserve_entry, room_for_chars,
+    trimmed,
 };
 use crate::flips::drop_shown;
 use tty_base::Chars;
@@ -68,19 +68,18 @@ impl Port {
         ensures err { IfErr result (λ d. Denies d self.old self.new) }
     {
         let state = self.terminal.caller(caller);
+        let begun = state.bound.is_some();
         let generation = self.terminal.generation();
         reserve_entry(&mut self.journal, &mut self.starved)?;
-        let (terminal, kept) = (&mut self.terminal, &mut self.kept);
-        let begun = state.bound.is_some();
-        let made = prepare(self.alloc, terminal, kept, &mut self.starved, begun, call)?;
-        let Prepared { copy, bytes, room } = made;
+        let made = prepare(self.alloc, &mut self.terminal, &mut self.starved, call)?;
+        let Prepared { bytes, room } = made;
         match self.terminal.meet(caller, call, room) {
             Met::Gives(answer) => {
                 self.terminal.advance(caller);
                 let event = Event::Answer(answer.copy_into(bytes), Chars::new(self.alloc));
                 let entry = entry_of_call(caller, step, state.parts, generation, event);
-                let (journal, kept) = (&mut self.journal, &mut self.kept);
-                add_entry_of_call(journal, kept, &mut self.places, copy, caller, entry);
+                self.journal.add(entry);
+                note_call(&mut self.kept, begun, Asked { caller, step }, call);
                 Ok(Tried::Done(answer))
             }
             Met::Takes(count) => {
@@ -92,8 +91,8 @@ impl Port {
                     generation,
                     Event::Part(count),
                 );
-                let (journal, kept) = (&mut self.journal, &mut self.kept);
-                add_entry_of_call(journal, kept, &mut self.places, copy, caller, entry);
+                self.journal.add(entry);
+                note_call(&mut self.kept, begun, Asked { caller, step }, call);
                 Ok(Tried::Part)
             }
             Met::Waits => unreachable!(),
@@ -109,13 +108,12 @@ impl Port {
         ensures err { IfErr result (λ d. Denies d self.old self.new) }
     {
         let state = self.terminal.caller(caller);
+        let begun = state.bound.is_some();
         let generation = self.terminal.generation();
         reserve_entry(&mut self.journal, &mut self.starved)?;
         let mut shown = room_for_chars(self.alloc, &mut self.starved, self.flip.capacity())?;
-        let (terminal, kept) = (&mut self.terminal, &mut self.kept);
-        let begun = state.bound.is_some();
-        let made = prepare(self.alloc, terminal, kept, &mut self.starved, begun, call)?;
-        let Prepared { copy, bytes, room } = made;
+        let made = prepare(self.alloc, &mut self.terminal, &mut self.starved, call)?;
+        let Prepared { bytes, room } = made;
         drop_shown(&self.terminal, &mut self.flip, &mut shown);
         let dropped = trimmed(self.alloc, shown);
         let count = dropped.len() as u64;
@@ -126,8 +124,8 @@ impl Port {
         self.terminal.advance(caller);
         let event = Event::Answer(answer.copy_into(bytes), dropped);
         let entry = entry_of_call(caller, step, state.parts, generation, event);
-        let (journal, kept) = (&mut self.journal, &mut self.kept);
-        add_entry_of_call(journal, kept, &mut self.places, copy, caller, entry);
+        self.journal.add(entry);
+        note_call(&mut self.kept, begun, Asked { caller, step }, call);
         Ok(Tried::Done(answer))
     }
 
@@ -141,15 +139,15 @@ impl Port {
         ensures err { IfErr result (λ d. Denies d self.old self.new) }
     {
         let state = self.terminal.caller(caller);
+        let begun = state.bound.is_some();
         let generation = self.terminal.generation();
         reserve_entry(&mut self.journal, &mut self.starved)?;
-        let kept = &mut self.kept;
-        let begun = state.bound.is_some();
-        let copy = copy_unless_begun(self.alloc, kept, &mut self.starved, begun, call)?;
+        let copy = copy_of(self.alloc, &mut self.starved, call)?;
+        self.waiting[caller as usize] = Some(copy);
         self.terminal.wait(caller, call.handle());
         let entry = entry_of_call(caller, step, state.parts, generation, Event::Wait);
-        let (journal, kept) = (&mut self.journal, &mut self.kept);
-        add_entry_of_call(journal, kept, &mut self.places, copy, caller, entry);
+        self.journal.add(entry);
+        note_call(&mut self.kept, begun, Asked { caller, step }, call);
         Ok(Tried::MustWait)
     }
 
@@ -164,16 +162,14 @@ impl Port {
         ensures err { IfErr result (λ d. Denies d self.old self.new) }
     {
         let state = self.terminal.caller(caller);
+        let begun = state.bound.is_some();
         let generation = self.terminal.generation();
         reserve_entry(&mut self.journal, &mut self.starved)?;
-        let kept = &mut self.kept;
-        let begun = state.bound.is_some();
-        let copy = copy_unless_begun(self.alloc, kept, &mut self.starved, begun, call)?;
         self.terminal.advance(caller);
         let event = Event::Answer(Answer::Idle, Chars::new(self.alloc));
         let entry = entry_of_call(caller, step, state.parts, generation, event);
-        let (journal, kept) = (&mut self.journal, &mut self.kept);
-        add_entry_of_call(journal, kept, &mut self.places, copy, caller, entry);
+        self.journal.add(entry);
+        note_call(&mut self.kept, begun, Asked { caller, step }, call);
         Ok(Tried::Done(Answer::Idle))
     }
 
@@ -186,9 +182,8 @@ impl Port {
         if state.waits.is_none() {
             return false;
         }
-        let place = self.places[caller as usize];
-        match self.kept.as_slice().get(place) {
-            Some(kept) => self.terminal.must_wait(caller, &kept.call),
+        match &self.waiting[caller as usize] {
+            Some(call) => self.terminal.must_wait(caller, call),
             None => false,
         }
     }

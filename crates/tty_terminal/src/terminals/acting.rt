@@ -1,12 +1,12 @@
 //! What each call does.
 
-ghost use Rattle.std.specs.Prelude.{◌≡◌, ℕ, List, [], ◌∷◌, Option, Some, None, Bool, true, false, ◌==◌, nat_lt, ◌+◌, ◌-◌, ◌≤◌, ◌<◌, ◌^◌, length, drop, option_map, if◌then◌else◌};
+ghost use Rattle.std.specs.Prelude.{◌≡◌, ℕ, List, [], ◌∷◌, Option, Some, None, Bool, true, false, ◌==◌, ◌+◌, ◌-◌, ◌≤◌, ◌<◌, ◌^◌, length, drop, option_map, if◌then◌else◌};
 ghost use Rattle.tty_calls.specs.Plain.{handle_of, call_of, answer_of};
 ghost use Rattle.tty_modes.specs.Word.{after_words};
 ghost use Rattle.flow_control.specs.Output.{on_wire, after_start};
-ghost use Rattle.slip_frames.specs.Slip.{max_packet, spelling_of};
 ghost use Rattle.ldisc_switch.specs.Disciplines.{fresh_of, kind_of_number, column_in, Fits};
 ghost use Rattle.ldisc_switch.specs.Happenings.{mode_change, after_one};
+ghost use Rattle.tty_terminal.specs.Meeting.{fresh_in, spelled_unless_long};
 ghost use Rattle.tty_terminal.specs.Transfers.{has_parts};
 ghost use Rattle.tty_terminal.specs.Outcomes.{may_read as reads_by, may_write as writes_by};
 
@@ -407,7 +407,7 @@ impl Terminal {
     }
 
     fn send_packet(&mut self, handle: Option<HandleState>, bytes: &[u8], encoded: &[u8]) -> Met
-        requires encoded { encoded.now ≡ (if nat_lt max_packet (length bytes.now) then [] else spelling_of bytes.now) }
+        requires encoded { encoded.now ≡ spelled_unless_long bytes.now }
         requires wire { 4096 ≤ self.old.wire_room }
         ensures met { Meets (on_access may_write self.old.terminal handle (sending_outcome self.old.terminal bytes.now self.old.terminal.disc)) result }
         ensures left { self.new.terminal ≡ left_before_rule (on_access may_write self.old.terminal handle (sending_outcome self.old.terminal bytes.now self.old.terminal.disc)) self.old.terminal }
@@ -502,7 +502,7 @@ impl Terminal {
     }
 
     /// The calls on modes and disciplines.
-    #[inline(always)]
+    #[inline(never)]
     fn act_on_modes(&mut self, caller: u16, call: &Call, room: Room) -> Met
         requires known { caller < length self.old.terminal.callers }
         requires number { handle_of (call_of call.now) < 32 }
@@ -625,14 +625,14 @@ impl Terminal {
 
 /// The discipline of a room.
 fn disc_of(room: Room) -> Option<Disc>
-    ensures { result ≡ room.fresh }
+    ensures { result ≡ fresh_in room }
 {
     let Room {
         bytes: _,
         fresh,
         encoded: _,
     } = room;
-    fresh
+    fresh.map(|disc| Box::into_inner(disc))
 }
 
 /// The room for the bytes of an answer.

@@ -2,9 +2,9 @@
 
 ghost use Rattle.std.specs.Prelude.{◌≡◌, ◌↔◌, ℕ, ◌<◌, ◌^◌, IsTrue, IfOk, length};
 ghost use Rattle.tty_calls.specs.Plain.{handle_of, call_of};
-ghost use Rattle.ldisc_switch.specs.Disciplines.{column_in};
+ghost use Rattle.ldisc_switch.specs.Disciplines.{column_in, fresh_of};
 ghost use Rattle.handle_table.specs.Handles.{is_live as is_live_handle};
-ghost use Rattle.tty_terminal.specs.Meeting.{spelled_packet as packet_of_call};
+ghost use Rattle.tty_terminal.specs.Meeting.{spelled_packet as packet_of_call, spelled_unless_long};
 
 use super::Terminal;
 use super::acting::{may_read, may_write, rest_of};
@@ -17,18 +17,35 @@ use std::alloc::Global;
 use tty_base::{Bytes, NoMemory};
 use tty_calls::{Call, Queue, When};
 
+/// A packet as it is spelled, unless it is too long.
+#[inline(never)]
+fn spelled(alloc: Global, packet: &[u8]) -> Result<Bytes, NoMemory>
+    ensures { IfOk result (λ bytes. bytes.items ≡ spelled_unless_long packet.now) }
+{
+    match encode(alloc, packet) {
+        Ok(encoded) => Ok(encoded),
+        Err(SlipFault::TooLong) => Ok(Bytes::new(alloc)),
+        Err(SlipFault::NoMemory) => Err(NoMemory),
+    }
+}
+
 /// The packet that a call sends, as it is spelled, unless it is too long.
+#[inline(always)]
 fn spelled_packet(alloc: Global, call: &Call) -> Result<Bytes, NoMemory>
     ensures { IfOk result (λ bytes. bytes.items ≡ packet_of_call (call_of call.now)) }
 {
-    match call {
-        Call::SendPacket { h: _, bytes } => match encode(alloc, bytes.as_slice()) {
-            Ok(encoded) => Ok(encoded),
-            Err(SlipFault::TooLong) => Ok(Bytes::new(alloc)),
-            Err(SlipFault::NoMemory) => Err(NoMemory),
-        },
-        _ => Ok(Bytes::new(alloc)),
+    if let Call::SendPacket { h: _, bytes } = call {
+        return spelled(alloc, bytes.as_slice());
     }
+    Ok(Bytes::new(alloc))
+}
+
+/// A fresh discipline. It stands apart, since few calls install one.
+#[inline(never)]
+fn boxed_fresh(alloc: Global, kind: Kind) -> Result<Box<Disc>, NoMemory>
+    ensures { IfOk result (λ boxed. boxed.value ≡ fresh_of kind) }
+{
+    Ok(Box::new(alloc, fresh(alloc, kind)?)?)
 }
 
 /// Whether there is a handle, and it is live.
@@ -131,7 +148,7 @@ impl Terminal {
         let mut bytes = Bytes::new(alloc);
         bytes.reserve(self.room_for(call))?;
         let fresh = match self.fresh_kind(call) {
-            Some(kind) => Some(fresh(alloc, kind)?),
+            Some(kind) => Some(boxed_fresh(alloc, kind)?),
             None => None,
         };
         let encoded = spelled_packet(alloc, call)?;
@@ -149,6 +166,7 @@ impl Terminal {
         state.parts > 0 && state.generation != self.generation
     }
 
+    #[inline(always)]
     fn read_must_wait(&self, caller: u16, handle: Option<HandleState>, n: u32) -> bool
         requires { caller < length self.now.terminal.callers }
         ensures { result ≡ is_wait (reading_outcome self.now.terminal (caller_at self.now.terminal caller) n handle) }
@@ -218,22 +236,26 @@ impl Terminal {
         self.waits_by_call(caller, call)
     }
 
+    #[inline(always)]
     fn waits_by_call(&self, caller: u16, call: &Call) -> bool
         requires known { caller < length self.now.terminal.callers }
         requires number { handle_of (call_of call.now) < 32 }
         requires column { column_in self.now.terminal.disc < 2 ^ 62 }
         ensures { result ≡ call_waits self.now.terminal (caller_at self.now.terminal caller) (call_of call.now) }
     {
-        let handle = self.handle_for(caller, call.handle());
         match call {
-            Call::Read { h: _, n } => self.read_must_wait(caller, handle, *n),
-            Call::Write { h: _, bytes } => self.write_must_wait(caller, handle, bytes.as_slice()),
-            Call::SetModes {
-                h: _,
-                when,
-                words: _,
-            } => { *when != When::Now && self.must_drain(handle) }
-            Call::Drain { h: _ } => self.must_drain(handle),
+            Call::Read { h, n } => {
+                let handle = self.handle_for(caller, *h);
+                self.read_must_wait(caller, handle, *n)
+            }
+            Call::Write { h, bytes } => {
+                let handle = self.handle_for(caller, *h);
+                self.write_must_wait(caller, handle, bytes.as_slice())
+            }
+            Call::SetModes { h, when, words: _ } => {
+                *when != When::Now && self.must_drain(self.handle_for(caller, *h))
+            }
+            Call::Drain { h } => self.must_drain(self.handle_for(caller, *h)),
             _ => false,
         }
     }
@@ -248,20 +270,22 @@ impl Terminal {
         self.drops_by_call(caller, call)
     }
 
+    #[inline(always)]
     fn drops_by_call(&self, caller: u16, call: &Call) -> bool
         requires known { caller < length self.now.terminal.callers }
         requires number { handle_of (call_of call.now) < 32 }
         ensures { result ≡ call_drops self.now.terminal (caller_at self.now.terminal caller) (call_of call.now) }
     {
-        let handle = self.handle_for(caller, call.handle());
         match call {
-            Call::Flush { h: _, queue } => is_live(handle) && *queue != Queue::Output,
-            Call::SetModes {
-                h: _,
-                when,
-                words: _,
-            } => { is_live(handle) && *when == When::Flush && self.wire.held() == 0 }
-            Call::Vhangup { h: _ } => is_live(handle),
+            Call::Flush { h, queue } => {
+                is_live(self.handle_for(caller, *h)) && *queue != Queue::Output
+            }
+            Call::SetModes { h, when, words: _ } => {
+                *when == When::Flush
+                    && self.wire.held() == 0
+                    && is_live(self.handle_for(caller, *h))
+            }
+            Call::Vhangup { h } => is_live(self.handle_for(caller, *h)),
             _ => false,
         }
     }

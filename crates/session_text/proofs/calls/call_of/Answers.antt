@@ -8,19 +8,19 @@ use Rattle.session_text.proofs.calls.call_of.Goals as goal
 
 pub overflow_cast-h : goal.overflow_cast-h
 overflow_cast-h c =
-    let small = good_number c.args.ports (Call c.args.verb) c.args.arguments.now 0 0 31 c.requires refl in
+    let small = good_number c.args.ports (Call c.args.verb) c.args.arguments.now 0 0 31 c.requires.good refl in
     omega (arith, small, c.first_number-h.ensures)
 
 pub overflow_cast-result : goal.overflow_cast-result
 overflow_cast-result c =
     let words = c.args.arguments.now in
-    let good : is_good c.args.ports (Call Read) words ≡ true = subst (λ (v : CallVerb). is_good c.args.ports (Call v) words ≡ true) c.in-Read.is c.requires in
+    let good : is_good c.args.ports (Call Read) words ≡ true = subst (λ (v : CallVerb). is_good c.args.ports (Call v) words ≡ true) c.in-Read.is c.requires.good in
     let small = good_number c.args.ports (Call Read) words 1 1 65536 good refl in
     omega (arith, small, c.second_number.ensures)
 
 pub overflow_cast-result-in-SetDisc : goal.overflow_cast-result-in-SetDisc
 overflow_cast-result-in-SetDisc c =
     let words = c.args.arguments.now in
-    let good : is_good c.args.ports (Call SetDisc) words ≡ true = subst (λ (v : CallVerb). is_good c.args.ports (Call v) words ≡ true) c.in-SetDisc.is c.requires in
+    let good : is_good c.args.ports (Call SetDisc) words ≡ true = subst (λ (v : CallVerb). is_good c.args.ports (Call v) words ≡ true) c.in-SetDisc.is c.requires.good in
     let small = good_number c.args.ports (Call SetDisc) words 1 0 4294967295 good refl in
     omega (arith, small, c.second_number-in-SetDisc.ensures)

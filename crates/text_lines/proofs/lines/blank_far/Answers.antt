@@ -1,5 +1,11 @@
-use Rattle.text_lines.proofs.Finds.{first_blank}
+use Rattle.std.proofs.Common.{arith, sym, ◌∙◌}
+use Rattle.text_lines.specs.Lines.{is_blank}
+use Rattle.text_lines.proofs.Finds.{first_later}
 use Rattle.text_lines.proofs.lines.blank_far.Goals as goal
 
-pub returns : goal.returns
-returns c = first_blank c.args.line.now c.memchr3.result c.memchr3.ensures
+pub loop-rest-preserved : goal.loop-rest-preserved
+loop-rest-preserved c = record {
+  all = omega (arith, c.loop-rest.invariant.all, c.split_at.ensures.back_len);
+  first = first_later is_blank c.args.line.now c.loop-rest.rest.now _ _ c.loop-rest.passed c.split_at.ensures.front c.split_at.ensures.back (omega arith)
+      (sym c.has_blank.ensures ∙ c.if-has_blank.false) c.loop-rest.invariant.first;
+}

@@ -1,5 +1,5 @@
-use Rattle.std.proofs.Common.{◌∙◌, ◌≡◌, length, get_or, sym, ap, add-one, drop_of_length-le}
-use Rattle.tty_modes.specs.Printed.{is_printed, are_unprinted}
+use Rattle.std.proofs.Common.{◌∙◌, sym, ap, add-one, drop_of_length-le}
+use Rattle.tty_modes.specs.Printed.{are_unprinted}
 use Rattle.tty_modes.proofs.PrintedLemmas.{stops, goes_on}
 use Rattle.tty_modes.proofs.settings.are_unprinted.Goals as goal
 

@@ -1,5 +1,5 @@
-use Rattle.std.proofs.Common.{◌∙◌, true, false, sym, ap}
-use Rattle.tty_modes.specs.Printed.{is_printed, are_unprinted}
+use Rattle.std.proofs.Common.{◌∙◌, sym, ap}
+use Rattle.tty_modes.specs.Printed.{are_unprinted}
 use Rattle.tty_modes.proofs.PrintedLemmas.{printed-set, unprinted-set}
 use Rattle.tty_modes.proofs.settings.stay_unprinted.Goals as goal
 

@@ -1,4 +1,4 @@
-use Rattle.std.proofs.Common.{rules, arith, subst, ap, ◌∙◌, ◌≡◌, ℕ, List, ◌≤◌, ◌+◌, ◌/◌, ◌++◌, length}
+use Rattle.std.proofs.Common.{rules, arith, subst, ap, ◌∙◌, ◌≡◌, ℕ, List, ◌≤◌, ◌+◌, ◌++◌, length}
 use mathlib.Core.List.{IsPrefix}
 use Rattle.word_ring.specs.Lanes.{lanes, top_lanes, whole_words}
 use Rattle.word_ring.proofs.Keeps.{stores_lanes}
@@ -6,37 +6,9 @@ use Rattle.word_ring.proofs.Packing.{top_all}
 use Rattle.word_ring.proofs.steps.store_lanes.Goals as goal
 
 pub store-requires : goal.store-requires
-store-requires c = let v = c.args.seat.now.me.0 in (
-  search rules,
-  search rules,
-  stores_lanes _ _ _ _ _ (c.args.word / 281474976710656) 1 c.requires.seat.1 c.requires.at c.requires.words.0 (omega arith)
-      (subst (λ (k : ℕ). IsPrefix v.written (whole_words v.written ++ top_lanes c.args.word k)) c.in-1.is c.requires.begins)
-      (subst (λ (k : ℕ). length (whole_words v.written ++ top_lanes c.args.word k) ≤ v.head + v.capacity) c.in-1.is c.requires.fits),
-)
-
-pub store-requires-in-2 : goal.store-requires-in-2
-store-requires-in-2 c = let v = c.args.seat.now.me.0 in (
-  search rules,
-  search rules,
-  stores_lanes _ _ _ _ _ (c.args.word / 4294967296) 2 c.requires.seat.1 c.requires.at c.requires.words.0 (omega arith)
-      (subst (λ (k : ℕ). IsPrefix v.written (whole_words v.written ++ top_lanes c.args.word k)) c.in-2.is c.requires.begins)
-      (subst (λ (k : ℕ). length (whole_words v.written ++ top_lanes c.args.word k) ≤ v.head + v.capacity) c.in-2.is c.requires.fits),
-)
-
-pub store-requires-in-3 : goal.store-requires-in-3
-store-requires-in-3 c = let v = c.args.seat.now.me.0 in (
-  search rules,
-  search rules,
-  stores_lanes _ _ _ _ _ (c.args.word / 65536) 3 c.requires.seat.1 c.requires.at c.requires.words.0 (omega arith)
-      (subst (λ (k : ℕ). IsPrefix v.written (whole_words v.written ++ top_lanes c.args.word k)) c.in-3.is c.requires.begins)
-      (subst (λ (k : ℕ). length (whole_words v.written ++ top_lanes c.args.word k) ≤ v.head + v.capacity) c.in-3.is c.requires.fits),
-)
-
-pub store-requires-in_default : goal.store-requires-in_default
-store-requires-in_default c =
+store-requires c =
     let v = c.args.seat.now.me.0 in
-    let is : c.args.count ≡ 4 = omega arith in
-    let all : top_lanes c.args.word c.args.count ≡ lanes c.args.word 4 = ap (top_lanes c.args.word) is ∙ top_all c.args.word in (
+    let all : top_lanes c.args.word c.args.count ≡ lanes c.args.word 4 = ap (top_lanes c.args.word) c.in-4.is ∙ top_all c.args.word in (
       search rules,
       search rules,
       stores_lanes _ _ _ _ _ c.args.word 4 c.requires.seat.1 c.requires.at c.requires.words.0 (omega arith)

@@ -1,4 +1,4 @@
-use Rattle.std.proofs.Common.{◌≡◌, ℕ, List, [], ◌∷◌, ◌++◌, Bool, false, Some, ◌+◌, ◌<◌, ◌≤◌, length, map, refl, sym, ◌∙◌, ap, subst, arith, append-nil}
+use Rattle.std.proofs.Common.{◌≡◌, ℕ, List, Option, [], ◌∷◌, ◌++◌, Bool, false, Some, ◌+◌, ◌<◌, ◌≤◌, length, map, refl, sym, ◌∙◌, ap, subst, arith, append-nil}
 use Rattle.tty_calls.specs.declared.journals.Who.TheVariants.{Caller}
 use Rattle.tty_calls.specs.Plain.{PlainEntry, answered, parted, handle_of, call_of, answer_of, entry_of, entries_of}
 use Rattle.ldisc_switch.specs.Disciplines.{column_in}
@@ -6,11 +6,12 @@ use Rattle.tty_terminal.specs.Terminals.{Terminal, caller_at, has_begun}
 use Rattle.tty_terminal.specs.Calls.{outcome}
 use Rattle.tty_terminal.specs.Meeting.{drops_of}
 use Rattle.tty_terminal.specs.Steps.{after_answer, after_part, with_dropped, left_by}
-use Rattle.port_core.specs.declared.entries.KeptCall.{KeptCall}
-use Rattle.port_core.specs.Kept.{kept_of, IsCopyOf, kept_after, places_after}
+use Rattle.tty_calls.specs.declared.calls.Call.{Call}
+use Rattle.port_core.specs.declared.entries.Asked.{Asked}
+use Rattle.port_core.specs.Kept.{kept_of}
 use Rattle.port_core.specs.Ports.{PortValue, kept_with, caller_entry}
 use Rattle.port_core.specs.Attempts.{IsReady, AnswersCall, TakesPartOf}
-use Rattle.port_core.specs.Inside.{value_of, KeepsPlaces}
+use Rattle.port_core.specs.Inside.{value_of}
 use Rattle.port_core.proofs.GoingOn.{made, entries_added, known_caller, port_bounded}
 use Rattle.port_core.proofs.Calls.{kept_is, begun_is, answers_met, parts_met, none_dropped, with_none_dropped}
 use Rattle.port_core.proofs.Answering.{IsTried, after_call, answers_call, takes_part_of}
@@ -77,13 +78,11 @@ invariant_of-self-in-Gives c =
     let d = c.args.caller in
     let step = c.args.step in
     let call = call_of c.args.call.now in
-    let ks : List KeptCall = c.self.inside.kept.items in
-    let places : List ℕ = c.self.inside.places.items in
+    let slots : List (Option Call) = c.self.inside.waiting.items in
     let ready : IsReady v d step call = subst (λ (w : PortValue). IsReady w d step call) (sym c.self.view_is) c.requires.ready in
     let few : length v.journal < v.limit = subst (λ (w : PortValue). length w.journal < w.limit) (sym c.self.view_is) c.requires.open.0 in
     let begun : c.is_some-begun.result ≡ has_begun (caller_at v.terminal d) = begun_is v.terminal d c.caller-state.result c.is_some-begun.result c.caller-state.ensures c.is_some-begun.ensures in
-    let copied : IsCopyOf (has_begun (caller_at v.terminal d)) call c.in_ok-made.made.copy = subst (λ (b : Bool). IsCopyOf b call c.in_ok-made.made.copy) begun c.in_ok-made.ensures.kept in
-    let tried : IsTried v ks places d step call c.in_ok-made.made.copy = record { keeps = c.self.invariant; kept = refl; few = few; ready = ready; copied = copied } in
+    let tried : IsTried v slots d step call = record { keeps = c.self.invariant; few = few; ready = ready } in
     let o = outcome v.terminal (caller_at v.terminal d) call in
     let same_o : outcome c.prepare.new.terminal.terminal (caller_at c.prepare.new.terminal.terminal d) call ≡ o = ap (λ (t : Terminal). outcome t (caller_at t d) call) c.prepare.ensures.terminal in
     let left : c.meet.new.self.terminal ≡ left_by o v.terminal = c.meet.ensures.left ∙ ap (λ (t : Terminal). left_by (outcome t (caller_at t d) call) t) c.prepare.ensures.terminal in
@@ -91,18 +90,15 @@ invariant_of-self-in-Gives c =
     let keeps : drops_of o ≡ false = subst (λ (w : PortValue). drops_of (outcome w.terminal (caller_at w.terminal d) call) ≡ false) (sym c.self.view_is) c.requires.keeps in
     let e : PlainEntry = caller_entry v d (answered (answer_of c.in-Gives.answer) []) in
     let entry : entry_of c.entry_of_call-entry.result ≡ e = ap entry_of c.entry_of_call-entry.ensures ∙ (λ i. record { who = Caller d; step = ready.next i; part = (c.caller-state.ensures i).parts; generation = c.generation-generation.ensures i; event = answered (c.copy_into.ensures i) (c.new.ensures i).items }) in
-    let js : entries_of c.add_entry_of_call.new.journal.items ≡ v.journal ++ e ∷ [] = entries_added c.self.inside.journal.items c.reserve_entry.new.journal.items c.entry_of_call-entry.result c.add_entry_of_call.new.journal.items c.in_ok-reserve_entry.ensures.items c.add_entry_of_call.ensures.journal ∙ ap (λ (x : PlainEntry). v.journal ++ x ∷ []) entry in
-    let at_step : c.entry_of_call-entry.result.step ≡ step = ap (λ x. x.step) c.entry_of_call-entry.ensures in
-    let kept_now : c.add_entry_of_call.new.kept.items ≡ kept_after ks d step c.in_ok-made.made.copy = c.add_entry_of_call.ensures.kept ∙ (λ i. kept_after (c.in_ok-made.ensures.items i) d (at_step i) c.in_ok-made.made.copy) in
-    let places_now : c.add_entry_of_call.new.places.items ≡ places_after places ks d c.in_ok-made.made.copy = c.add_entry_of_call.ensures.places ∙ ap (λ (xs : List KeptCall). places_after places xs d c.in_ok-made.made.copy) c.in_ok-made.ensures.items in
-    let kept_plain : map kept_of c.add_entry_of_call.new.kept.items ≡ kept_with (has_begun (caller_at v.terminal d)) v.kept d step call = ap (λ (xs : List KeptCall). map kept_of xs) kept_now ∙ kept_is (has_begun (caller_at v.terminal d)) ks d step call c.in_ok-made.made.copy copied in
-    let now : PortValue = record v { terminal = c.advance.new.self.terminal; journal = entries_of c.add_entry_of_call.new.journal.items; kept = map kept_of c.add_entry_of_call.new.kept.items; starved = c.prepare.new.starved; flip = v.flip } in
+    let js : entries_of c.add.new.self.items ≡ v.journal ++ e ∷ [] = entries_added c.self.inside.journal.items c.reserve_entry.new.journal.items c.entry_of_call-entry.result c.add.new.self.items c.in_ok-reserve_entry.ensures.items (ap (λ b. b.items) c.add.ensures) ∙ ap (λ (x : PlainEntry). v.journal ++ x ∷ []) entry in
+    let kept_plain : map kept_of c.note_call.new.kept.items ≡ kept_with (has_begun (caller_at v.terminal d)) v.kept d step call = ap (λ (xs : List (Asked × Call)). map kept_of xs) c.note_call.ensures ∙ kept_is c.is_some-begun.result c.self.inside.kept.items (record { caller = d; step = step }) c.args.call.now ∙ ap (λ (b : Bool). kept_with b v.kept d step call) begun in
+    let now : PortValue = record v { terminal = c.advance.new.self.terminal; journal = entries_of c.add.new.self.items; kept = map kept_of c.note_call.new.kept.items; starved = c.prepare.new.starved; flip = v.flip } in
     let goes : c.advance.new.self.terminal ≡ after_answer (with_dropped c.meet.new.self.terminal 0) d = ap (λ r. r.terminal) c.advance.ensures ∙ ap (λ (w : Terminal). after_answer w d) (sym (with_none_dropped c.meet.new.self.terminal)) in
     let same : now ≡ after_call v d step call (after_answer (with_dropped c.meet.new.self.terminal 0) d) v.flip e = made v _ (after_answer (with_dropped c.meet.new.self.terminal 0) d) _ (v.journal ++ e ∷ []) _ (kept_with (has_begun (caller_at v.terminal d)) v.kept d step call) _ v.flip v.flip goes js kept_plain (c.in_ok-made.ensures.ok ∙ c.in_ok-reserve_entry.ensures.ok) refl in
-    let both = answers_call v now ks places d step call c.in_ok-made.made.copy (answer_of c.in-Gives.answer) [] c.meet.new.self.terminal v.flip tried
+    let both = answers_call v now slots d step call (answer_of c.in-Gives.answer) [] c.meet.new.self.terminal v.flip tried
     (answers_met _ o c.in-Gives.answer (subst (λ (x : Outcome). Meets x (met.Gives c.in-Gives.answer)) same_o c.in-Gives.ensures.met)) (none_dropped v.terminal o keeps)
     (when_false (drops_of o) _ _ keeps (refl, refl)) (sym (append-nil v.flip.taken)) (omega arith) refl c.self.invariant.port.sent left column same in
-    subst (λ (z : List KeptCall × List ℕ). KeepsPlaces now z.0 z.1) (λ i. (sym kept_now i, sym places_now i)) both.0
+    both.0
 
 pub returns-in-Gives-clause-tried : goal.returns-in-Gives-clause-tried
 returns-in-Gives-clause-tried c =
@@ -110,13 +106,11 @@ returns-in-Gives-clause-tried c =
     let d = c.args.caller in
     let step = c.args.step in
     let call = call_of c.args.call.now in
-    let ks : List KeptCall = c.self.inside.kept.items in
-    let places : List ℕ = c.self.inside.places.items in
+    let slots : List (Option Call) = c.self.inside.waiting.items in
     let ready : IsReady v d step call = subst (λ (w : PortValue). IsReady w d step call) (sym c.self.view_is) c.requires.ready in
     let few : length v.journal < v.limit = subst (λ (w : PortValue). length w.journal < w.limit) (sym c.self.view_is) c.requires.open.0 in
     let begun : c.is_some-begun.result ≡ has_begun (caller_at v.terminal d) = begun_is v.terminal d c.caller-state.result c.is_some-begun.result c.caller-state.ensures c.is_some-begun.ensures in
-    let copied : IsCopyOf (has_begun (caller_at v.terminal d)) call c.in_ok-made.made.copy = subst (λ (b : Bool). IsCopyOf b call c.in_ok-made.made.copy) begun c.in_ok-made.ensures.kept in
-    let tried : IsTried v ks places d step call c.in_ok-made.made.copy = record { keeps = c.self.invariant; kept = refl; few = few; ready = ready; copied = copied } in
+    let tried : IsTried v slots d step call = record { keeps = c.self.invariant; few = few; ready = ready } in
     let o = outcome v.terminal (caller_at v.terminal d) call in
     let same_o : outcome c.prepare.new.terminal.terminal (caller_at c.prepare.new.terminal.terminal d) call ≡ o = ap (λ (t : Terminal). outcome t (caller_at t d) call) c.prepare.ensures.terminal in
     let left : c.meet.new.self.terminal ≡ left_by o v.terminal = c.meet.ensures.left ∙ ap (λ (t : Terminal). left_by (outcome t (caller_at t d) call) t) c.prepare.ensures.terminal in
@@ -124,15 +118,12 @@ returns-in-Gives-clause-tried c =
     let keeps : drops_of o ≡ false = subst (λ (w : PortValue). drops_of (outcome w.terminal (caller_at w.terminal d) call) ≡ false) (sym c.self.view_is) c.requires.keeps in
     let e : PlainEntry = caller_entry v d (answered (answer_of c.in-Gives.answer) []) in
     let entry : entry_of c.entry_of_call-entry.result ≡ e = ap entry_of c.entry_of_call-entry.ensures ∙ (λ i. record { who = Caller d; step = ready.next i; part = (c.caller-state.ensures i).parts; generation = c.generation-generation.ensures i; event = answered (c.copy_into.ensures i) (c.new.ensures i).items }) in
-    let js : entries_of c.add_entry_of_call.new.journal.items ≡ v.journal ++ e ∷ [] = entries_added c.self.inside.journal.items c.reserve_entry.new.journal.items c.entry_of_call-entry.result c.add_entry_of_call.new.journal.items c.in_ok-reserve_entry.ensures.items c.add_entry_of_call.ensures.journal ∙ ap (λ (x : PlainEntry). v.journal ++ x ∷ []) entry in
-    let at_step : c.entry_of_call-entry.result.step ≡ step = ap (λ x. x.step) c.entry_of_call-entry.ensures in
-    let kept_now : c.add_entry_of_call.new.kept.items ≡ kept_after ks d step c.in_ok-made.made.copy = c.add_entry_of_call.ensures.kept ∙ (λ i. kept_after (c.in_ok-made.ensures.items i) d (at_step i) c.in_ok-made.made.copy) in
-    let places_now : c.add_entry_of_call.new.places.items ≡ places_after places ks d c.in_ok-made.made.copy = c.add_entry_of_call.ensures.places ∙ ap (λ (xs : List KeptCall). places_after places xs d c.in_ok-made.made.copy) c.in_ok-made.ensures.items in
-    let kept_plain : map kept_of c.add_entry_of_call.new.kept.items ≡ kept_with (has_begun (caller_at v.terminal d)) v.kept d step call = ap (λ (xs : List KeptCall). map kept_of xs) kept_now ∙ kept_is (has_begun (caller_at v.terminal d)) ks d step call c.in_ok-made.made.copy copied in
-    let now : PortValue = record v { terminal = c.advance.new.self.terminal; journal = entries_of c.add_entry_of_call.new.journal.items; kept = map kept_of c.add_entry_of_call.new.kept.items; starved = c.prepare.new.starved; flip = v.flip } in
+    let js : entries_of c.add.new.self.items ≡ v.journal ++ e ∷ [] = entries_added c.self.inside.journal.items c.reserve_entry.new.journal.items c.entry_of_call-entry.result c.add.new.self.items c.in_ok-reserve_entry.ensures.items (ap (λ b. b.items) c.add.ensures) ∙ ap (λ (x : PlainEntry). v.journal ++ x ∷ []) entry in
+    let kept_plain : map kept_of c.note_call.new.kept.items ≡ kept_with (has_begun (caller_at v.terminal d)) v.kept d step call = ap (λ (xs : List (Asked × Call)). map kept_of xs) c.note_call.ensures ∙ kept_is c.is_some-begun.result c.self.inside.kept.items (record { caller = d; step = step }) c.args.call.now ∙ ap (λ (b : Bool). kept_with b v.kept d step call) begun in
+    let now : PortValue = record v { terminal = c.advance.new.self.terminal; journal = entries_of c.add.new.self.items; kept = map kept_of c.note_call.new.kept.items; starved = c.prepare.new.starved; flip = v.flip } in
     let goes : c.advance.new.self.terminal ≡ after_answer (with_dropped c.meet.new.self.terminal 0) d = ap (λ r. r.terminal) c.advance.ensures ∙ ap (λ (w : Terminal). after_answer w d) (sym (with_none_dropped c.meet.new.self.terminal)) in
     let same : now ≡ after_call v d step call (after_answer (with_dropped c.meet.new.self.terminal 0) d) v.flip e = made v _ (after_answer (with_dropped c.meet.new.self.terminal 0) d) _ (v.journal ++ e ∷ []) _ (kept_with (has_begun (caller_at v.terminal d)) v.kept d step call) _ v.flip v.flip goes js kept_plain (c.in_ok-made.ensures.ok ∙ c.in_ok-reserve_entry.ensures.ok) refl in
-    let both = answers_call v now ks places d step call c.in_ok-made.made.copy (answer_of c.in-Gives.answer) [] c.meet.new.self.terminal v.flip tried
+    let both = answers_call v now slots d step call (answer_of c.in-Gives.answer) [] c.meet.new.self.terminal v.flip tried
     (answers_met _ o c.in-Gives.answer (subst (λ (x : Outcome). Meets x (met.Gives c.in-Gives.answer)) same_o c.in-Gives.ensures.met)) (none_dropped v.terminal o keeps)
     (when_false (drops_of o) _ _ keeps (refl, refl)) (sym (append-nil v.flip.taken)) (omega arith) refl c.self.invariant.port.sent left column same in
     subst (λ (w : PortValue). AnswersCall w now d step call (answer_of c.in-Gives.answer)) c.self.view_is both.1
@@ -143,13 +134,11 @@ invariant_of-self-in-Takes-1 c =
     let d = c.args.caller in
     let step = c.args.step in
     let call = call_of c.args.call.now in
-    let ks : List KeptCall = c.self.inside.kept.items in
-    let places : List ℕ = c.self.inside.places.items in
+    let slots : List (Option Call) = c.self.inside.waiting.items in
     let ready : IsReady v d step call = subst (λ (w : PortValue). IsReady w d step call) (sym c.self.view_is) c.requires.ready in
     let few : length v.journal < v.limit = subst (λ (w : PortValue). length w.journal < w.limit) (sym c.self.view_is) c.requires.open.0 in
     let begun : c.is_some-begun.result ≡ has_begun (caller_at v.terminal d) = begun_is v.terminal d c.caller-state.result c.is_some-begun.result c.caller-state.ensures c.is_some-begun.ensures in
-    let copied : IsCopyOf (has_begun (caller_at v.terminal d)) call c.in_ok-made.made.copy = subst (λ (b : Bool). IsCopyOf b call c.in_ok-made.made.copy) begun c.in_ok-made.ensures.kept in
-    let tried : IsTried v ks places d step call c.in_ok-made.made.copy = record { keeps = c.self.invariant; kept = refl; few = few; ready = ready; copied = copied } in
+    let tried : IsTried v slots d step call = record { keeps = c.self.invariant; few = few; ready = ready } in
     let o = outcome v.terminal (caller_at v.terminal d) call in
     let same_o : outcome c.prepare.new.terminal.terminal (caller_at c.prepare.new.terminal.terminal d) call ≡ o = ap (λ (t : Terminal). outcome t (caller_at t d) call) c.prepare.ensures.terminal in
     let left : c.meet.new.self.terminal ≡ left_by o v.terminal = c.meet.ensures.left ∙ ap (λ (t : Terminal). left_by (outcome t (caller_at t d) call) t) c.prepare.ensures.terminal in
@@ -157,17 +146,14 @@ invariant_of-self-in-Takes-1 c =
     let keeps : drops_of o ≡ false = subst (λ (w : PortValue). drops_of (outcome w.terminal (caller_at w.terminal d) call) ≡ false) (sym c.self.view_is) c.requires.keeps in
     let e : PlainEntry = caller_entry v d (parted c.in-Takes.count) in
     let entry : entry_of c.entry_of_call-entry-in-Takes.result ≡ e = ap entry_of c.entry_of_call-entry-in-Takes.ensures ∙ (λ i. record { who = Caller d; step = ready.next i; part = (c.caller-state.ensures i).parts; generation = c.generation-generation.ensures i; event = parted c.in-Takes.count }) in
-    let js : entries_of c.add_entry_of_call-in-Takes.new.journal.items ≡ v.journal ++ e ∷ [] = entries_added c.self.inside.journal.items c.reserve_entry.new.journal.items c.entry_of_call-entry-in-Takes.result c.add_entry_of_call-in-Takes.new.journal.items c.in_ok-reserve_entry.ensures.items c.add_entry_of_call-in-Takes.ensures.journal ∙ ap (λ (x : PlainEntry). v.journal ++ x ∷ []) entry in
-    let at_step : c.entry_of_call-entry-in-Takes.result.step ≡ step = ap (λ x. x.step) c.entry_of_call-entry-in-Takes.ensures in
-    let kept_now : c.add_entry_of_call-in-Takes.new.kept.items ≡ kept_after ks d step c.in_ok-made.made.copy = c.add_entry_of_call-in-Takes.ensures.kept ∙ (λ i. kept_after (c.in_ok-made.ensures.items i) d (at_step i) c.in_ok-made.made.copy) in
-    let places_now : c.add_entry_of_call-in-Takes.new.places.items ≡ places_after places ks d c.in_ok-made.made.copy = c.add_entry_of_call-in-Takes.ensures.places ∙ ap (λ (xs : List KeptCall). places_after places xs d c.in_ok-made.made.copy) c.in_ok-made.ensures.items in
-    let kept_plain : map kept_of c.add_entry_of_call-in-Takes.new.kept.items ≡ kept_with (has_begun (caller_at v.terminal d)) v.kept d step call = ap (λ (xs : List KeptCall). map kept_of xs) kept_now ∙ kept_is (has_begun (caller_at v.terminal d)) ks d step call c.in_ok-made.made.copy copied in
-    let now : PortValue = record v { terminal = c.note_part.new.self.terminal; journal = entries_of c.add_entry_of_call-in-Takes.new.journal.items; kept = map kept_of c.add_entry_of_call-in-Takes.new.kept.items; starved = c.prepare.new.starved; flip = v.flip } in
+    let js : entries_of c.add-in-Takes.new.self.items ≡ v.journal ++ e ∷ [] = entries_added c.self.inside.journal.items c.reserve_entry.new.journal.items c.entry_of_call-entry-in-Takes.result c.add-in-Takes.new.self.items c.in_ok-reserve_entry.ensures.items (ap (λ b. b.items) c.add-in-Takes.ensures) ∙ ap (λ (x : PlainEntry). v.journal ++ x ∷ []) entry in
+    let kept_plain : map kept_of c.note_call-in-Takes.new.kept.items ≡ kept_with (has_begun (caller_at v.terminal d)) v.kept d step call = ap (λ (xs : List (Asked × Call)). map kept_of xs) c.note_call-in-Takes.ensures ∙ kept_is c.is_some-begun.result c.self.inside.kept.items (record { caller = d; step = step }) c.args.call.now ∙ ap (λ (b : Bool). kept_with b v.kept d step call) begun in
+    let now : PortValue = record v { terminal = c.note_part.new.self.terminal; journal = entries_of c.add-in-Takes.new.self.items; kept = map kept_of c.note_call-in-Takes.new.kept.items; starved = c.prepare.new.starved; flip = v.flip } in
     let goes : c.note_part.new.self.terminal ≡ after_part c.meet.new.self.terminal d (handle_of call) c.in-Takes.count = ap (λ r. r.terminal) c.note_part.ensures ∙ ap (λ (h : ℕ). after_part c.meet.new.self.terminal d h c.in-Takes.count) c.handle.ensures in
     let same : now ≡ after_call v d step call (after_part c.meet.new.self.terminal d (handle_of call) c.in-Takes.count) v.flip e = made v _ (after_part c.meet.new.self.terminal d (handle_of call) c.in-Takes.count) _ (v.journal ++ e ∷ []) _ (kept_with (has_begun (caller_at v.terminal d)) v.kept d step call) _ v.flip v.flip goes js kept_plain (c.in_ok-made.ensures.ok ∙ c.in_ok-reserve_entry.ensures.ok) refl in
-    let both = takes_part_of v now ks places d step call c.in_ok-made.made.copy c.in-Takes.count c.meet.new.self.terminal tried
+    let both = takes_part_of v now slots d step call c.in-Takes.count c.meet.new.self.terminal tried
     (parts_met o c.in-Takes.count (subst (λ (x : Outcome). Meets x (met.Takes c.in-Takes.count)) same_o c.in-Takes.ensures.met)) left column same in
-    subst (λ (z : List KeptCall × List ℕ). KeepsPlaces now z.0 z.1) (λ i. (sym kept_now i, sym places_now i)) both.0
+    both.0
 
 pub returns-in-Takes-clause-tried : goal.returns-in-Takes-clause-tried
 returns-in-Takes-clause-tried c =
@@ -175,13 +161,11 @@ returns-in-Takes-clause-tried c =
     let d = c.args.caller in
     let step = c.args.step in
     let call = call_of c.args.call.now in
-    let ks : List KeptCall = c.self.inside.kept.items in
-    let places : List ℕ = c.self.inside.places.items in
+    let slots : List (Option Call) = c.self.inside.waiting.items in
     let ready : IsReady v d step call = subst (λ (w : PortValue). IsReady w d step call) (sym c.self.view_is) c.requires.ready in
     let few : length v.journal < v.limit = subst (λ (w : PortValue). length w.journal < w.limit) (sym c.self.view_is) c.requires.open.0 in
     let begun : c.is_some-begun.result ≡ has_begun (caller_at v.terminal d) = begun_is v.terminal d c.caller-state.result c.is_some-begun.result c.caller-state.ensures c.is_some-begun.ensures in
-    let copied : IsCopyOf (has_begun (caller_at v.terminal d)) call c.in_ok-made.made.copy = subst (λ (b : Bool). IsCopyOf b call c.in_ok-made.made.copy) begun c.in_ok-made.ensures.kept in
-    let tried : IsTried v ks places d step call c.in_ok-made.made.copy = record { keeps = c.self.invariant; kept = refl; few = few; ready = ready; copied = copied } in
+    let tried : IsTried v slots d step call = record { keeps = c.self.invariant; few = few; ready = ready } in
     let o = outcome v.terminal (caller_at v.terminal d) call in
     let same_o : outcome c.prepare.new.terminal.terminal (caller_at c.prepare.new.terminal.terminal d) call ≡ o = ap (λ (t : Terminal). outcome t (caller_at t d) call) c.prepare.ensures.terminal in
     let left : c.meet.new.self.terminal ≡ left_by o v.terminal = c.meet.ensures.left ∙ ap (λ (t : Terminal). left_by (outcome t (caller_at t d) call) t) c.prepare.ensures.terminal in
@@ -189,14 +173,11 @@ returns-in-Takes-clause-tried c =
     let keeps : drops_of o ≡ false = subst (λ (w : PortValue). drops_of (outcome w.terminal (caller_at w.terminal d) call) ≡ false) (sym c.self.view_is) c.requires.keeps in
     let e : PlainEntry = caller_entry v d (parted c.in-Takes.count) in
     let entry : entry_of c.entry_of_call-entry-in-Takes.result ≡ e = ap entry_of c.entry_of_call-entry-in-Takes.ensures ∙ (λ i. record { who = Caller d; step = ready.next i; part = (c.caller-state.ensures i).parts; generation = c.generation-generation.ensures i; event = parted c.in-Takes.count }) in
-    let js : entries_of c.add_entry_of_call-in-Takes.new.journal.items ≡ v.journal ++ e ∷ [] = entries_added c.self.inside.journal.items c.reserve_entry.new.journal.items c.entry_of_call-entry-in-Takes.result c.add_entry_of_call-in-Takes.new.journal.items c.in_ok-reserve_entry.ensures.items c.add_entry_of_call-in-Takes.ensures.journal ∙ ap (λ (x : PlainEntry). v.journal ++ x ∷ []) entry in
-    let at_step : c.entry_of_call-entry-in-Takes.result.step ≡ step = ap (λ x. x.step) c.entry_of_call-entry-in-Takes.ensures in
-    let kept_now : c.add_entry_of_call-in-Takes.new.kept.items ≡ kept_after ks d step c.in_ok-made.made.copy = c.add_entry_of_call-in-Takes.ensures.kept ∙ (λ i. kept_after (c.in_ok-made.ensures.items i) d (at_step i) c.in_ok-made.made.copy) in
-    let places_now : c.add_entry_of_call-in-Takes.new.places.items ≡ places_after places ks d c.in_ok-made.made.copy = c.add_entry_of_call-in-Takes.ensures.places ∙ ap (λ (xs : List KeptCall). places_after places xs d c.in_ok-made.made.copy) c.in_ok-made.ensures.items in
-    let kept_plain : map kept_of c.add_entry_of_call-in-Takes.new.kept.items ≡ kept_with (has_begun (caller_at v.terminal d)) v.kept d step call = ap (λ (xs : List KeptCall). map kept_of xs) kept_now ∙ kept_is (has_begun (caller_at v.terminal d)) ks d step call c.in_ok-made.made.copy copied in
-    let now : PortValue = record v { terminal = c.note_part.new.self.terminal; journal = entries_of c.add_entry_of_call-in-Takes.new.journal.items; kept = map kept_of c.add_entry_of_call-in-Takes.new.kept.items; starved = c.prepare.new.starved; flip = v.flip } in
+    let js : entries_of c.add-in-Takes.new.self.items ≡ v.journal ++ e ∷ [] = entries_added c.self.inside.journal.items c.reserve_entry.new.journal.items c.entry_of_call-entry-in-Takes.result c.add-in-Takes.new.self.items c.in_ok-reserve_entry.ensures.items (ap (λ b. b.items) c.add-in-Takes.ensures) ∙ ap (λ (x : PlainEntry). v.journal ++ x ∷ []) entry in
+    let kept_plain : map kept_of c.note_call-in-Takes.new.kept.items ≡ kept_with (has_begun (caller_at v.terminal d)) v.kept d step call = ap (λ (xs : List (Asked × Call)). map kept_of xs) c.note_call-in-Takes.ensures ∙ kept_is c.is_some-begun.result c.self.inside.kept.items (record { caller = d; step = step }) c.args.call.now ∙ ap (λ (b : Bool). kept_with b v.kept d step call) begun in
+    let now : PortValue = record v { terminal = c.note_part.new.self.terminal; journal = entries_of c.add-in-Takes.new.self.items; kept = map kept_of c.note_call-in-Takes.new.kept.items; starved = c.prepare.new.starved; flip = v.flip } in
     let goes : c.note_part.new.self.terminal ≡ after_part c.meet.new.self.terminal d (handle_of call) c.in-Takes.count = ap (λ r. r.terminal) c.note_part.ensures ∙ ap (λ (h : ℕ). after_part c.meet.new.self.terminal d h c.in-Takes.count) c.handle.ensures in
     let same : now ≡ after_call v d step call (after_part c.meet.new.self.terminal d (handle_of call) c.in-Takes.count) v.flip e = made v _ (after_part c.meet.new.self.terminal d (handle_of call) c.in-Takes.count) _ (v.journal ++ e ∷ []) _ (kept_with (has_begun (caller_at v.terminal d)) v.kept d step call) _ v.flip v.flip goes js kept_plain (c.in_ok-made.ensures.ok ∙ c.in_ok-reserve_entry.ensures.ok) refl in
-    let both = takes_part_of v now ks places d step call c.in_ok-made.made.copy c.in-Takes.count c.meet.new.self.terminal tried
+    let both = takes_part_of v now slots d step call c.in-Takes.count c.meet.new.self.terminal tried
     (parts_met o c.in-Takes.count (subst (λ (x : Outcome). Meets x (met.Takes c.in-Takes.count)) same_o c.in-Takes.ensures.met)) left column same in
     subst (λ (w : PortValue). TakesPartOf w now d step call) c.self.view_is both.1

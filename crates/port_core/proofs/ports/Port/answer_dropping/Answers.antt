@@ -1,5 +1,5 @@
 use Rattle.std.specs.Prelude.{MatchBool}
-use Rattle.std.proofs.Common.{◌≡◌, ℕ, List, [], ◌∷◌, ◌++◌, Bool, true, false, Some, ◌+◌, ◌-◌, min, if◌then◌else◌, ◌<◌, ◌≤◌, length, map, refl, sym, ◌∙◌, ap, subst, arith}
+use Rattle.std.proofs.Common.{◌≡◌, ℕ, List, Option, [], ◌∷◌, ◌++◌, Bool, true, false, Some, ◌+◌, ◌-◌, min, if◌then◌else◌, ◌<◌, ◌≤◌, length, map, refl, sym, ◌∙◌, ap, subst, arith}
 use Rattle.tty_base.specs.declared.characters.Flagged.{Flagged}
 use Rattle.tty_calls.specs.declared.journals.Who.TheVariants.{Caller}
 use Rattle.tty_calls.specs.Plain.{PlainEntry, answered, call_of, answer_of, entry_of, entries_of}
@@ -8,12 +8,13 @@ use Rattle.tty_terminal.specs.Terminals.{Terminal, caller_at, has_begun}
 use Rattle.tty_terminal.specs.Calls.{outcome}
 use Rattle.tty_terminal.specs.Meeting.{drops_of}
 use Rattle.tty_terminal.specs.Steps.{after_answer, with_dropped, left_by}
-use Rattle.port_core.specs.declared.entries.KeptCall.{KeptCall}
-use Rattle.port_core.specs.Kept.{kept_of, IsCopyOf, kept_after, places_after}
+use Rattle.tty_calls.specs.declared.calls.Call.{Call}
+use Rattle.port_core.specs.declared.entries.Asked.{Asked}
+use Rattle.port_core.specs.Kept.{kept_of}
 use Rattle.port_core.specs.Flips.{DropsShown}
 use Rattle.port_core.specs.Ports.{PortValue, kept_with, caller_entry}
 use Rattle.port_core.specs.Attempts.{IsReady, AnswersCall}
-use Rattle.port_core.specs.Inside.{value_of, KeepsPlaces}
+use Rattle.port_core.specs.Inside.{value_of}
 use Rattle.port_core.proofs.GoingOn.{made, entries_added, known_caller, port_bounded, port_taken, port_capacity, port_within, port_few}
 use Rattle.port_core.proofs.Calls.{kept_is, begun_is, answers_met, some_dropped}
 use Rattle.port_core.proofs.Answering.{IsTried, after_call, answers_call}
@@ -86,13 +87,11 @@ invariant_of-self-2 c =
     let d = c.args.caller in
     let step = c.args.step in
     let call = call_of c.args.call.now in
-    let ks : List KeptCall = c.self.inside.kept.items in
-    let places : List ℕ = c.self.inside.places.items in
+    let slots : List (Option Call) = c.self.inside.waiting.items in
     let ready : IsReady v d step call = subst (λ (w : PortValue). IsReady w d step call) (sym c.self.view_is) c.requires.ready in
     let few : length v.journal < v.limit = subst (λ (w : PortValue). length w.journal < w.limit) (sym c.self.view_is) c.requires.open.0 in
     let begun : c.is_some-begun.result ≡ has_begun (caller_at v.terminal d) = begun_is v.terminal d c.caller-state.result c.is_some-begun.result c.caller-state.ensures c.is_some-begun.ensures in
-    let copied : IsCopyOf (has_begun (caller_at v.terminal d)) call c.in_ok-made.made.copy = subst (λ (b : Bool). IsCopyOf b call c.in_ok-made.made.copy) begun c.in_ok-made.ensures.kept in
-    let tried : IsTried v ks places d step call c.in_ok-made.made.copy = record { keeps = c.self.invariant; kept = refl; few = few; ready = ready; copied = copied } in
+    let tried : IsTried v slots d step call = record { keeps = c.self.invariant; few = few; ready = ready } in
     let o = outcome v.terminal (caller_at v.terminal d) call in
     let same_o : outcome c.prepare.new.terminal.terminal (caller_at c.prepare.new.terminal.terminal d) call ≡ o = ap (λ (t : Terminal). outcome t (caller_at t d) call) c.prepare.ensures.terminal in
     let left : c.meet.new.self.terminal ≡ left_by o v.terminal = c.meet.ensures.left ∙ ap (λ (t : Terminal). left_by (outcome t (caller_at t d) call) t) c.prepare.ensures.terminal in
@@ -100,20 +99,17 @@ invariant_of-self-2 c =
     let drops : drops_of o ≡ true = subst (λ (w : PortValue). drops_of (outcome w.terminal (caller_at w.terminal d) call) ≡ true) (sym c.self.view_is) c.requires.drops in
     let e : PlainEntry = caller_entry v d (answered (answer_of c.in-Gives.answer) c.trimmed-dropped.result.items) in
     let entry : entry_of c.entry_of_call-entry.result ≡ e = ap entry_of c.entry_of_call-entry.ensures ∙ (λ i. record { who = Caller d; step = ready.next i; part = (c.caller-state.ensures i).parts; generation = c.generation-generation.ensures i; event = answered (c.copy_into.ensures i) c.trimmed-dropped.result.items }) in
-    let js : entries_of c.add_entry_of_call.new.journal.items ≡ v.journal ++ e ∷ [] = entries_added c.self.inside.journal.items c.reserve_entry.new.journal.items c.entry_of_call-entry.result c.add_entry_of_call.new.journal.items c.in_ok-reserve_entry.ensures.items c.add_entry_of_call.ensures.journal ∙ ap (λ (x : PlainEntry). v.journal ++ x ∷ []) entry in
-    let at_step : c.entry_of_call-entry.result.step ≡ step = ap (λ x. x.step) c.entry_of_call-entry.ensures in
-    let kept_now : c.add_entry_of_call.new.kept.items ≡ kept_after ks d step c.in_ok-made.made.copy = c.add_entry_of_call.ensures.kept ∙ (λ i. kept_after (c.in_ok-made.ensures.items i) d (at_step i) c.in_ok-made.made.copy) in
-    let places_now : c.add_entry_of_call.new.places.items ≡ places_after places ks d c.in_ok-made.made.copy = c.add_entry_of_call.ensures.places ∙ ap (λ (xs : List KeptCall). places_after places xs d c.in_ok-made.made.copy) c.in_ok-made.ensures.items in
-    let kept_plain : map kept_of c.add_entry_of_call.new.kept.items ≡ kept_with (has_begun (caller_at v.terminal d)) v.kept d step call = ap (λ (xs : List KeptCall). map kept_of xs) kept_now ∙ kept_is (has_begun (caller_at v.terminal d)) ks d step call c.in_ok-made.made.copy copied in
-    let now : PortValue = record v { terminal = c.advance.new.self.terminal; journal = entries_of c.add_entry_of_call.new.journal.items; kept = map kept_of c.add_entry_of_call.new.kept.items; starved = c.prepare.new.starved; flip = c.drop_shown.new.flip } in
+    let js : entries_of c.add.new.self.items ≡ v.journal ++ e ∷ [] = entries_added c.self.inside.journal.items c.reserve_entry.new.journal.items c.entry_of_call-entry.result c.add.new.self.items c.in_ok-reserve_entry.ensures.items (ap (λ b. b.items) c.add.ensures) ∙ ap (λ (x : PlainEntry). v.journal ++ x ∷ []) entry in
+    let kept_plain : map kept_of c.note_call.new.kept.items ≡ kept_with (has_begun (caller_at v.terminal d)) v.kept d step call = ap (λ (xs : List (Asked × Call)). map kept_of xs) c.note_call.ensures ∙ kept_is c.is_some-begun.result c.self.inside.kept.items (record { caller = d; step = step }) c.args.call.now ∙ ap (λ (b : Bool). kept_with b v.kept d step call) begun in
+    let now : PortValue = record v { terminal = c.advance.new.self.terminal; journal = entries_of c.add.new.self.items; kept = map kept_of c.note_call.new.kept.items; starved = c.prepare.new.starved; flip = c.drop_shown.new.flip } in
     let goes : c.advance.new.self.terminal ≡ after_answer (with_dropped c.meet.new.self.terminal (length c.trimmed-dropped.result.items)) d = ap (λ r. r.terminal) c.advance.ensures ∙ ap (λ (w : Terminal). after_answer w d) (ap (λ r. r.terminal) c.drop_characters.ensures ∙ ap (λ n. with_dropped c.meet.new.self.terminal n) c.len-count.ensures) in
     let same : now ≡ after_call v d step call (after_answer (with_dropped c.meet.new.self.terminal (length c.trimmed-dropped.result.items)) d) c.drop_shown.new.flip e = made v _ (after_answer (with_dropped c.meet.new.self.terminal (length c.trimmed-dropped.result.items)) d) _ (v.journal ++ e ∷ []) _ (kept_with (has_begun (caller_at v.terminal d)) v.kept d step call) _ c.drop_shown.new.flip c.drop_shown.new.flip goes js kept_plain (c.in_ok-made.ensures.ok ∙ c.in_ok-shown.ensures.ok ∙ c.in_ok-reserve_entry.ensures.ok) refl in
     let least : v.terminal.sent ≤ shown.tail = omega (arith, c.self.invariant.port.sent, shown.looks.rises) in
     let most : shown.tail ≤ v.terminal.taken + v.terminal.capacity = omega (arith, shown.looks.most, port_taken v c.self.invariant.port, port_capacity v c.self.invariant.port) in
-    let both = answers_call v now ks places d step call c.in_ok-made.made.copy (answer_of c.in-Gives.answer) c.trimmed-dropped.result.items c.meet.new.self.terminal c.drop_shown.new.flip tried
+    let both = answers_call v now slots d step call (answer_of c.in-Gives.answer) c.trimmed-dropped.result.items c.meet.new.self.terminal c.drop_shown.new.flip tried
     (answers_met _ o c.in-Gives.answer (subst (λ (x : Outcome). Meets x (met.Gives c.in-Gives.answer)) same_o c.in-Gives.ensures.met)) (some_dropped v.terminal o shown.tail (length c.trimmed-dropped.result.items) drops least most shown.all)
     (when_true (drops_of o) _ _ drops shown) shown.takes_out.taken (drops_few v c.drop_shown.new.flip c.trimmed-dropped.result.items c.self.invariant.port shown) shown.takes_out.capacity (omega (arith, least, shown.looks.floor)) left column same in
-    subst (λ (z : List KeptCall × List ℕ). KeepsPlaces now z.0 z.1) (λ i. (sym kept_now i, sym places_now i)) both.0
+    both.0
 
 pub returns-clause-tried : goal.returns-clause-tried
 returns-clause-tried c =
@@ -122,13 +118,11 @@ returns-clause-tried c =
     let d = c.args.caller in
     let step = c.args.step in
     let call = call_of c.args.call.now in
-    let ks : List KeptCall = c.self.inside.kept.items in
-    let places : List ℕ = c.self.inside.places.items in
+    let slots : List (Option Call) = c.self.inside.waiting.items in
     let ready : IsReady v d step call = subst (λ (w : PortValue). IsReady w d step call) (sym c.self.view_is) c.requires.ready in
     let few : length v.journal < v.limit = subst (λ (w : PortValue). length w.journal < w.limit) (sym c.self.view_is) c.requires.open.0 in
     let begun : c.is_some-begun.result ≡ has_begun (caller_at v.terminal d) = begun_is v.terminal d c.caller-state.result c.is_some-begun.result c.caller-state.ensures c.is_some-begun.ensures in
-    let copied : IsCopyOf (has_begun (caller_at v.terminal d)) call c.in_ok-made.made.copy = subst (λ (b : Bool). IsCopyOf b call c.in_ok-made.made.copy) begun c.in_ok-made.ensures.kept in
-    let tried : IsTried v ks places d step call c.in_ok-made.made.copy = record { keeps = c.self.invariant; kept = refl; few = few; ready = ready; copied = copied } in
+    let tried : IsTried v slots d step call = record { keeps = c.self.invariant; few = few; ready = ready } in
     let o = outcome v.terminal (caller_at v.terminal d) call in
     let same_o : outcome c.prepare.new.terminal.terminal (caller_at c.prepare.new.terminal.terminal d) call ≡ o = ap (λ (t : Terminal). outcome t (caller_at t d) call) c.prepare.ensures.terminal in
     let left : c.meet.new.self.terminal ≡ left_by o v.terminal = c.meet.ensures.left ∙ ap (λ (t : Terminal). left_by (outcome t (caller_at t d) call) t) c.prepare.ensures.terminal in
@@ -136,17 +130,14 @@ returns-clause-tried c =
     let drops : drops_of o ≡ true = subst (λ (w : PortValue). drops_of (outcome w.terminal (caller_at w.terminal d) call) ≡ true) (sym c.self.view_is) c.requires.drops in
     let e : PlainEntry = caller_entry v d (answered (answer_of c.in-Gives.answer) c.trimmed-dropped.result.items) in
     let entry : entry_of c.entry_of_call-entry.result ≡ e = ap entry_of c.entry_of_call-entry.ensures ∙ (λ i. record { who = Caller d; step = ready.next i; part = (c.caller-state.ensures i).parts; generation = c.generation-generation.ensures i; event = answered (c.copy_into.ensures i) c.trimmed-dropped.result.items }) in
-    let js : entries_of c.add_entry_of_call.new.journal.items ≡ v.journal ++ e ∷ [] = entries_added c.self.inside.journal.items c.reserve_entry.new.journal.items c.entry_of_call-entry.result c.add_entry_of_call.new.journal.items c.in_ok-reserve_entry.ensures.items c.add_entry_of_call.ensures.journal ∙ ap (λ (x : PlainEntry). v.journal ++ x ∷ []) entry in
-    let at_step : c.entry_of_call-entry.result.step ≡ step = ap (λ x. x.step) c.entry_of_call-entry.ensures in
-    let kept_now : c.add_entry_of_call.new.kept.items ≡ kept_after ks d step c.in_ok-made.made.copy = c.add_entry_of_call.ensures.kept ∙ (λ i. kept_after (c.in_ok-made.ensures.items i) d (at_step i) c.in_ok-made.made.copy) in
-    let places_now : c.add_entry_of_call.new.places.items ≡ places_after places ks d c.in_ok-made.made.copy = c.add_entry_of_call.ensures.places ∙ ap (λ (xs : List KeptCall). places_after places xs d c.in_ok-made.made.copy) c.in_ok-made.ensures.items in
-    let kept_plain : map kept_of c.add_entry_of_call.new.kept.items ≡ kept_with (has_begun (caller_at v.terminal d)) v.kept d step call = ap (λ (xs : List KeptCall). map kept_of xs) kept_now ∙ kept_is (has_begun (caller_at v.terminal d)) ks d step call c.in_ok-made.made.copy copied in
-    let now : PortValue = record v { terminal = c.advance.new.self.terminal; journal = entries_of c.add_entry_of_call.new.journal.items; kept = map kept_of c.add_entry_of_call.new.kept.items; starved = c.prepare.new.starved; flip = c.drop_shown.new.flip } in
+    let js : entries_of c.add.new.self.items ≡ v.journal ++ e ∷ [] = entries_added c.self.inside.journal.items c.reserve_entry.new.journal.items c.entry_of_call-entry.result c.add.new.self.items c.in_ok-reserve_entry.ensures.items (ap (λ b. b.items) c.add.ensures) ∙ ap (λ (x : PlainEntry). v.journal ++ x ∷ []) entry in
+    let kept_plain : map kept_of c.note_call.new.kept.items ≡ kept_with (has_begun (caller_at v.terminal d)) v.kept d step call = ap (λ (xs : List (Asked × Call)). map kept_of xs) c.note_call.ensures ∙ kept_is c.is_some-begun.result c.self.inside.kept.items (record { caller = d; step = step }) c.args.call.now ∙ ap (λ (b : Bool). kept_with b v.kept d step call) begun in
+    let now : PortValue = record v { terminal = c.advance.new.self.terminal; journal = entries_of c.add.new.self.items; kept = map kept_of c.note_call.new.kept.items; starved = c.prepare.new.starved; flip = c.drop_shown.new.flip } in
     let goes : c.advance.new.self.terminal ≡ after_answer (with_dropped c.meet.new.self.terminal (length c.trimmed-dropped.result.items)) d = ap (λ r. r.terminal) c.advance.ensures ∙ ap (λ (w : Terminal). after_answer w d) (ap (λ r. r.terminal) c.drop_characters.ensures ∙ ap (λ n. with_dropped c.meet.new.self.terminal n) c.len-count.ensures) in
     let same : now ≡ after_call v d step call (after_answer (with_dropped c.meet.new.self.terminal (length c.trimmed-dropped.result.items)) d) c.drop_shown.new.flip e = made v _ (after_answer (with_dropped c.meet.new.self.terminal (length c.trimmed-dropped.result.items)) d) _ (v.journal ++ e ∷ []) _ (kept_with (has_begun (caller_at v.terminal d)) v.kept d step call) _ c.drop_shown.new.flip c.drop_shown.new.flip goes js kept_plain (c.in_ok-made.ensures.ok ∙ c.in_ok-shown.ensures.ok ∙ c.in_ok-reserve_entry.ensures.ok) refl in
     let least : v.terminal.sent ≤ shown.tail = omega (arith, c.self.invariant.port.sent, shown.looks.rises) in
     let most : shown.tail ≤ v.terminal.taken + v.terminal.capacity = omega (arith, shown.looks.most, port_taken v c.self.invariant.port, port_capacity v c.self.invariant.port) in
-    let both = answers_call v now ks places d step call c.in_ok-made.made.copy (answer_of c.in-Gives.answer) c.trimmed-dropped.result.items c.meet.new.self.terminal c.drop_shown.new.flip tried
+    let both = answers_call v now slots d step call (answer_of c.in-Gives.answer) c.trimmed-dropped.result.items c.meet.new.self.terminal c.drop_shown.new.flip tried
     (answers_met _ o c.in-Gives.answer (subst (λ (x : Outcome). Meets x (met.Gives c.in-Gives.answer)) same_o c.in-Gives.ensures.met)) (some_dropped v.terminal o shown.tail (length c.trimmed-dropped.result.items) drops least most shown.all)
     (when_true (drops_of o) _ _ drops shown) shown.takes_out.taken (drops_few v c.drop_shown.new.flip c.trimmed-dropped.result.items c.self.invariant.port shown) shown.takes_out.capacity (omega (arith, least, shown.looks.floor)) left column same in
     subst (λ (w : PortValue). AnswersCall w now d step call (answer_of c.in-Gives.answer)) c.self.view_is both.1

@@ -1,14 +1,15 @@
-use Rattle.std.proofs.Common.{◌≡◌, ℕ, List, [], ◌∷◌, ◌++◌, Bool, None, ◌<◌, length, map, refl, sym, ◌∙◌, ap, subst}
+use Rattle.std.proofs.Common.{◌≡◌, ℕ, List, Option, [], ◌∷◌, ◌++◌, Bool, None, ◌<◌, length, map, refl, sym, ◌∙◌, ap, subst}
 use Rattle.tty_calls.specs.declared.journals.Who.TheVariants.{Caller}
 use Rattle.tty_calls.specs.Plain.{PlainEntry, waited, handle_of, call_of, entry_of, entries_of}
 use Rattle.tty_terminal.specs.Terminals.{caller_at, has_begun}
 use Rattle.tty_terminal.specs.Calls.{outcome}
 use Rattle.tty_terminal.specs.Steps.{MustWait, after_wait}
-use Rattle.port_core.specs.declared.entries.KeptCall.{KeptCall}
-use Rattle.port_core.specs.Kept.{kept_of, IsCopyOf, kept_after, places_after}
+use Rattle.tty_calls.specs.declared.calls.Call.{Call}
+use Rattle.port_core.specs.declared.entries.Asked.{Asked}
+use Rattle.port_core.specs.Kept.{kept_of}
 use Rattle.port_core.specs.Ports.{PortValue, kept_with, caller_entry}
 use Rattle.port_core.specs.Attempts.{IsReady, MustGoOnWaiting}
-use Rattle.port_core.specs.Inside.{value_of, KeepsPlaces}
+use Rattle.port_core.specs.Inside.{value_of}
 use Rattle.port_core.proofs.GoingOn.{made, entries_added, known_caller}
 use Rattle.port_core.proofs.Calls.{kept_is, begun_is}
 use Rattle.port_core.proofs.Answering.{IsTried, after_call, begins_to_wait}
@@ -26,27 +27,22 @@ invariant_of-self-2 c =
     let d = c.args.caller in
     let step = c.args.step in
     let call = call_of c.args.call.now in
-    let ks : List KeptCall = c.self.inside.kept.items in
-    let places : List ℕ = c.self.inside.places.items in
+    let slots : List (Option Call) = c.self.inside.waiting.items in
     let ready : IsReady v d step call = subst (λ (w : PortValue). IsReady w d step call) (sym c.self.view_is) c.requires.ready in
     let few : length v.journal < v.limit = subst (λ (w : PortValue). length w.journal < w.limit) (sym c.self.view_is) c.requires.open.0 in
     let begun : c.is_some-begun.result ≡ has_begun (caller_at v.terminal d) = begun_is v.terminal d c.caller-state.result c.is_some-begun.result c.caller-state.ensures c.is_some-begun.ensures in
-    let copied : IsCopyOf (has_begun (caller_at v.terminal d)) call c.in_ok-copy.copy = subst (λ (b : Bool). IsCopyOf b call c.in_ok-copy.copy) begun c.in_ok-copy.ensures.copy in
-    let tried : IsTried v ks places d step call c.in_ok-copy.copy = record { keeps = c.self.invariant; kept = refl; few = few; ready = ready; copied = copied } in
+    let tried : IsTried v slots d step call = record { keeps = c.self.invariant; few = few; ready = ready } in
     let e : PlainEntry = caller_entry v d waited in
     let entry : entry_of c.entry_of_call-entry.result ≡ e = ap entry_of c.entry_of_call-entry.ensures ∙ (λ i. record { who = Caller d; step = ready.next i; part = (c.caller-state.ensures i).parts; generation = c.generation-generation.ensures i; event = waited }) in
-    let js : entries_of c.add_entry_of_call.new.journal.items ≡ v.journal ++ e ∷ [] = entries_added c.self.inside.journal.items c.reserve_entry.new.journal.items c.entry_of_call-entry.result c.add_entry_of_call.new.journal.items c.in_ok-reserve_entry.ensures.items c.add_entry_of_call.ensures.journal ∙ ap (λ (x : PlainEntry). v.journal ++ x ∷ []) entry in
-    let at_step : c.entry_of_call-entry.result.step ≡ step = ap (λ x. x.step) c.entry_of_call-entry.ensures in
-    let kept_now : c.add_entry_of_call.new.kept.items ≡ kept_after ks d step c.in_ok-copy.copy = c.add_entry_of_call.ensures.kept ∙ (λ i. kept_after (c.in_ok-copy.ensures.items i) d (at_step i) c.in_ok-copy.copy) in
-    let places_now : c.add_entry_of_call.new.places.items ≡ places_after places ks d c.in_ok-copy.copy = c.add_entry_of_call.ensures.places ∙ ap (λ (xs : List KeptCall). places_after places xs d c.in_ok-copy.copy) c.in_ok-copy.ensures.items in
-    let kept_plain : map kept_of c.add_entry_of_call.new.kept.items ≡ kept_with (has_begun (caller_at v.terminal d)) v.kept d step call = ap (λ (xs : List KeptCall). map kept_of xs) kept_now ∙ kept_is (has_begun (caller_at v.terminal d)) ks d step call c.in_ok-copy.copy copied in
+    let js : entries_of c.add.new.self.items ≡ v.journal ++ e ∷ [] = entries_added c.self.inside.journal.items c.reserve_entry.new.journal.items c.entry_of_call-entry.result c.add.new.self.items c.in_ok-reserve_entry.ensures.items (ap (λ b. b.items) c.add.ensures) ∙ ap (λ (x : PlainEntry). v.journal ++ x ∷ []) entry in
+    let kept_plain : map kept_of c.note_call.new.kept.items ≡ kept_with (has_begun (caller_at v.terminal d)) v.kept d step call = ap (λ (xs : List (Asked × Call)). map kept_of xs) c.note_call.ensures ∙ kept_is c.is_some-begun.result c.self.inside.kept.items (record { caller = d; step = step }) c.args.call.now ∙ ap (λ (b : Bool). kept_with b v.kept d step call) begun in
     let left : c.wait.new.self.terminal ≡ after_wait v.terminal d (handle_of call) = ap (λ r. r.terminal) c.wait.ensures ∙ ap (λ (h : ℕ). after_wait v.terminal d h) c.handle.ensures in
-    let now : PortValue = record v { terminal = c.wait.new.self.terminal; journal = entries_of c.add_entry_of_call.new.journal.items; kept = map kept_of c.add_entry_of_call.new.kept.items; starved = c.copy_unless_begun.new.starved; flip = v.flip } in
+    let now : PortValue = record v { terminal = c.wait.new.self.terminal; journal = entries_of c.add.new.self.items; kept = map kept_of c.note_call.new.kept.items; starved = c.copy_of.new.starved; flip = v.flip } in
     let same : now ≡ after_call v d step call (after_wait v.terminal d (handle_of call)) v.flip e = made v _ (after_wait v.terminal d (handle_of call)) _ (v.journal ++ e ∷ []) _ (kept_with (has_begun (caller_at v.terminal d)) v.kept d step call) _ v.flip v.flip left js kept_plain (c.in_ok-copy.ensures.ok ∙ c.in_ok-reserve_entry.ensures.ok) refl in
     let must : MustWait (outcome v.terminal (caller_at v.terminal d) call) = subst (λ (w : PortValue). MustWait (outcome w.terminal (caller_at w.terminal d) call)) (sym c.self.view_is) c.requires.must in
     let first : (caller_at v.terminal d).waits ≡ None = subst (λ (w : PortValue). (caller_at w.terminal d).waits ≡ None) (sym c.self.view_is) c.requires.first in
-    let both = begins_to_wait v now ks places d step call c.in_ok-copy.copy tried must first same in
-    subst (λ (z : List KeptCall × List ℕ). KeepsPlaces now z.0 z.1) (λ i. (sym kept_now i, sym places_now i)) both.0
+    let both = begins_to_wait v now slots d step call c.in_ok-copy.copy c.in_ok-copy.ensures.copy tried must first same in
+    both.0
 
 pub returns-clause-tried : goal.returns-clause-tried
 returns-clause-tried c =
@@ -54,24 +50,19 @@ returns-clause-tried c =
     let d = c.args.caller in
     let step = c.args.step in
     let call = call_of c.args.call.now in
-    let ks : List KeptCall = c.self.inside.kept.items in
-    let places : List ℕ = c.self.inside.places.items in
+    let slots : List (Option Call) = c.self.inside.waiting.items in
     let ready : IsReady v d step call = subst (λ (w : PortValue). IsReady w d step call) (sym c.self.view_is) c.requires.ready in
     let few : length v.journal < v.limit = subst (λ (w : PortValue). length w.journal < w.limit) (sym c.self.view_is) c.requires.open.0 in
     let begun : c.is_some-begun.result ≡ has_begun (caller_at v.terminal d) = begun_is v.terminal d c.caller-state.result c.is_some-begun.result c.caller-state.ensures c.is_some-begun.ensures in
-    let copied : IsCopyOf (has_begun (caller_at v.terminal d)) call c.in_ok-copy.copy = subst (λ (b : Bool). IsCopyOf b call c.in_ok-copy.copy) begun c.in_ok-copy.ensures.copy in
-    let tried : IsTried v ks places d step call c.in_ok-copy.copy = record { keeps = c.self.invariant; kept = refl; few = few; ready = ready; copied = copied } in
+    let tried : IsTried v slots d step call = record { keeps = c.self.invariant; few = few; ready = ready } in
     let e : PlainEntry = caller_entry v d waited in
     let entry : entry_of c.entry_of_call-entry.result ≡ e = ap entry_of c.entry_of_call-entry.ensures ∙ (λ i. record { who = Caller d; step = ready.next i; part = (c.caller-state.ensures i).parts; generation = c.generation-generation.ensures i; event = waited }) in
-    let js : entries_of c.add_entry_of_call.new.journal.items ≡ v.journal ++ e ∷ [] = entries_added c.self.inside.journal.items c.reserve_entry.new.journal.items c.entry_of_call-entry.result c.add_entry_of_call.new.journal.items c.in_ok-reserve_entry.ensures.items c.add_entry_of_call.ensures.journal ∙ ap (λ (x : PlainEntry). v.journal ++ x ∷ []) entry in
-    let at_step : c.entry_of_call-entry.result.step ≡ step = ap (λ x. x.step) c.entry_of_call-entry.ensures in
-    let kept_now : c.add_entry_of_call.new.kept.items ≡ kept_after ks d step c.in_ok-copy.copy = c.add_entry_of_call.ensures.kept ∙ (λ i. kept_after (c.in_ok-copy.ensures.items i) d (at_step i) c.in_ok-copy.copy) in
-    let places_now : c.add_entry_of_call.new.places.items ≡ places_after places ks d c.in_ok-copy.copy = c.add_entry_of_call.ensures.places ∙ ap (λ (xs : List KeptCall). places_after places xs d c.in_ok-copy.copy) c.in_ok-copy.ensures.items in
-    let kept_plain : map kept_of c.add_entry_of_call.new.kept.items ≡ kept_with (has_begun (caller_at v.terminal d)) v.kept d step call = ap (λ (xs : List KeptCall). map kept_of xs) kept_now ∙ kept_is (has_begun (caller_at v.terminal d)) ks d step call c.in_ok-copy.copy copied in
+    let js : entries_of c.add.new.self.items ≡ v.journal ++ e ∷ [] = entries_added c.self.inside.journal.items c.reserve_entry.new.journal.items c.entry_of_call-entry.result c.add.new.self.items c.in_ok-reserve_entry.ensures.items (ap (λ b. b.items) c.add.ensures) ∙ ap (λ (x : PlainEntry). v.journal ++ x ∷ []) entry in
+    let kept_plain : map kept_of c.note_call.new.kept.items ≡ kept_with (has_begun (caller_at v.terminal d)) v.kept d step call = ap (λ (xs : List (Asked × Call)). map kept_of xs) c.note_call.ensures ∙ kept_is c.is_some-begun.result c.self.inside.kept.items (record { caller = d; step = step }) c.args.call.now ∙ ap (λ (b : Bool). kept_with b v.kept d step call) begun in
     let left : c.wait.new.self.terminal ≡ after_wait v.terminal d (handle_of call) = ap (λ r. r.terminal) c.wait.ensures ∙ ap (λ (h : ℕ). after_wait v.terminal d h) c.handle.ensures in
-    let now : PortValue = record v { terminal = c.wait.new.self.terminal; journal = entries_of c.add_entry_of_call.new.journal.items; kept = map kept_of c.add_entry_of_call.new.kept.items; starved = c.copy_unless_begun.new.starved; flip = v.flip } in
+    let now : PortValue = record v { terminal = c.wait.new.self.terminal; journal = entries_of c.add.new.self.items; kept = map kept_of c.note_call.new.kept.items; starved = c.copy_of.new.starved; flip = v.flip } in
     let same : now ≡ after_call v d step call (after_wait v.terminal d (handle_of call)) v.flip e = made v _ (after_wait v.terminal d (handle_of call)) _ (v.journal ++ e ∷ []) _ (kept_with (has_begun (caller_at v.terminal d)) v.kept d step call) _ v.flip v.flip left js kept_plain (c.in_ok-copy.ensures.ok ∙ c.in_ok-reserve_entry.ensures.ok) refl in
     let must : MustWait (outcome v.terminal (caller_at v.terminal d) call) = subst (λ (w : PortValue). MustWait (outcome w.terminal (caller_at w.terminal d) call)) (sym c.self.view_is) c.requires.must in
     let first : (caller_at v.terminal d).waits ≡ None = subst (λ (w : PortValue). (caller_at w.terminal d).waits ≡ None) (sym c.self.view_is) c.requires.first in
-    let both = begins_to_wait v now ks places d step call c.in_ok-copy.copy tried must first same in
+    let both = begins_to_wait v now slots d step call c.in_ok-copy.copy c.in_ok-copy.ensures.copy tried must first same in
     subst (λ (w : PortValue). MustGoOnWaiting w now d step call) c.self.view_is both.1

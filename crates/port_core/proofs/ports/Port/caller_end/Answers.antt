@@ -28,7 +28,7 @@ invariant_of-self-2 c =
     let now : PortValue = record v { terminal = c.end_caller.new.self.terminal; journal = entries_of c.add.new.self.items; starved = c.reserve_entry.new.starved; flip = v.flip } in
     let same : now ≡ record (with_entry v e) { flip = v.flip } = made v _ (after (call_in v.kept) v.terminal e) _ (v.journal ++ e ∷ []) v.kept v.kept _ v.flip v.flip (ap (λ r. r.terminal) c.end_caller.ensures) js refl c.in_ok-reserve_entry.ensures.ok refl in
     let allowed : Allowed (call_in v.kept) v.counts v.terminal e = (refl, record { known = known; at_step = refl; at_part = refl; not_over = not_over; between = between }) in
-    still v now c.self.inside.kept.items c.self.inside.places.items v.flip e c.self.invariant few allowed refl refl c.self.invariant.port.sent refl refl refl refl same
+    still v now c.self.inside.waiting.items v.flip e c.self.invariant few allowed refl refl c.self.invariant.port.sent refl refl refl refl same
 
 pub returns-clause-ok : goal.returns-clause-ok
 returns-clause-ok c =

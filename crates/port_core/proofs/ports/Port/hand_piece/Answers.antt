@@ -53,7 +53,7 @@ invariant_of-self-2 c =
     ap (λ r. r.terminal) c.note_piece.ensures ∙ ap (λ (t : Terminal). record t { flushed = Some (record { run = c.args.run; part = c.args.part }) }) received in
     let now : PortValue = record v { terminal = c.note_piece.new.self.terminal; journal = entries_of c.add.new.self.items; starved = c.room_for_chars.new.starved; flip = g } in
     let same : now ≡ record (with_entry v e) { flip = g } = made v _ (after (call_in v.kept) v.terminal e) _ (v.journal ++ e ∷ []) v.kept v.kept _ g g left js refl (c.in_ok-chars.ensures.ok ∙ c.in_ok-reserve_entry.ensures.ok) refl in
-    let both = takes_piece v now c.self.inside.kept.items c.self.inside.places.items c.args.run c.args.part c.args.most c.min-count.result c.look_at.result f g chars u c.self.invariant few asked free
+    let both = takes_piece v now c.self.inside.waiting.items c.args.run c.args.part c.args.most c.min-count.result c.look_at.result f g chars u c.self.invariant few asked free
     c.look_at.ensures.same c.look_at.ensures.looks shown c.min-count.ensures some told.takes_out told.within received accepted told.stops column same in
     both.0
 
@@ -82,6 +82,6 @@ returns-clause-flushed c =
     ap (λ r. r.terminal) c.note_piece.ensures ∙ ap (λ (t : Terminal). record t { flushed = Some (record { run = c.args.run; part = c.args.part }) }) received in
     let now : PortValue = record v { terminal = c.note_piece.new.self.terminal; journal = entries_of c.add.new.self.items; starved = c.room_for_chars.new.starved; flip = g } in
     let same : now ≡ record (with_entry v e) { flip = g } = made v _ (after (call_in v.kept) v.terminal e) _ (v.journal ++ e ∷ []) v.kept v.kept _ g g left js refl (c.in_ok-chars.ensures.ok ∙ c.in_ok-reserve_entry.ensures.ok) refl in
-    let both = takes_piece v now c.self.inside.kept.items c.self.inside.places.items c.args.run c.args.part c.args.most c.min-count.result c.look_at.result f g chars u c.self.invariant few asked free
+    let both = takes_piece v now c.self.inside.waiting.items c.args.run c.args.part c.args.most c.min-count.result c.look_at.result f g chars u c.self.invariant few asked free
     c.look_at.ensures.same c.look_at.ensures.looks shown c.min-count.ensures some told.takes_out told.within received accepted told.stops column same in
     subst (λ (n : ℕ). Takes c.args.self.now now c.args.run c.args.part c.args.most n) (sym c.len-took.ensures) (subst (λ (w : PortValue). Takes w now c.args.run c.args.part c.args.most (length chars)) c.self.view_is both.1)

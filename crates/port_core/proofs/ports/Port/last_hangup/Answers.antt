@@ -57,7 +57,7 @@ invariant_of-self-2 c =
     let now : PortValue = record v { terminal = c.drop_characters.new.self.terminal; journal = entries_of c.add.new.self.items; starved = c.room_for_chars.new.starved; flip = f } in
     let same : now ≡ record (with_entry v e) { flip = f } = made v _ (after (call_in v.kept) v.terminal e) _ (v.journal ++ e ∷ []) v.kept v.kept _ f f left js refl starved refl in
     let told = c.drop_rest.ensures in
-    let both = hangs_up v now c.self.inside.kept.items c.self.inside.places.items p f dropped c.self.invariant few at_end sent taken told.all told.heads told.floor told.same.0 told.same.1 told.same.2 same in
+    let both = hangs_up v now c.self.inside.waiting.items p f dropped c.self.invariant few at_end sent taken told.all told.heads told.floor told.same.0 told.same.1 told.same.2 same in
     both.0
 
 pub returns-clause-ok : goal.returns-clause-ok
@@ -81,5 +81,5 @@ returns-clause-ok c =
     let now : PortValue = record v { terminal = c.drop_characters.new.self.terminal; journal = entries_of c.add.new.self.items; starved = c.room_for_chars.new.starved; flip = f } in
     let same : now ≡ record (with_entry v e) { flip = f } = made v _ (after (call_in v.kept) v.terminal e) _ (v.journal ++ e ∷ []) v.kept v.kept _ f f left js refl starved refl in
     let told = c.drop_rest.ensures in
-    let both = hangs_up v now c.self.inside.kept.items c.self.inside.places.items p f dropped c.self.invariant few at_end sent taken told.all told.heads told.floor told.same.0 told.same.1 told.same.2 same in
+    let both = hangs_up v now c.self.inside.waiting.items p f dropped c.self.invariant few at_end sent taken told.all told.heads told.floor told.same.0 told.same.1 told.same.2 same in
     subst (λ (w : PortValue). HangsUp w now p) c.self.view_is both.1

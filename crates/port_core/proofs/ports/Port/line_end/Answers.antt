@@ -24,7 +24,7 @@ invariant_of-self-2 c =
     let left : c.end_line.new.self.terminal ≡ after (call_in v.kept) v.terminal e = ap (λ r. r.terminal) c.end_line.ensures ∙ ap (λ (n : ℕ). record v.terminal { sent = n; line_over = true }) sent in
     let now : PortValue = record v { terminal = c.end_line.new.self.terminal; journal = entries_of c.add.new.self.items; starved = c.reserve_entry.new.starved; flip = c.look.new.self } in
     let same : now ≡ record (with_entry v e) { flip = c.look.new.self } = made v _ (after (call_in v.kept) v.terminal e) _ (v.journal ++ e ∷ []) v.kept v.kept _ c.look.new.self c.look.new.self left js refl c.in_ok-reserve_entry.ensures.ok refl in
-    let both = line_ends v now c.self.inside.kept.items c.self.inside.places.items p c.tell_each_other.new.putter c.tell_each_other.new.flip c.look.new.self c.look.result c.self.invariant few over least told.flip told.meets c.look.ensures.same c.look.ensures.count c.look.ensures.most c.look.ensures.rises same in
+    let both = line_ends v now c.self.inside.waiting.items p c.tell_each_other.new.putter c.tell_each_other.new.flip c.look.new.self c.look.result c.self.invariant few over least told.flip told.meets c.look.ensures.same c.look.ensures.count c.look.ensures.most c.look.ensures.rises same in
     both.0
 
 pub returns-clause-ok : goal.returns-clause-ok
@@ -42,5 +42,5 @@ returns-clause-ok c =
     let left : c.end_line.new.self.terminal ≡ after (call_in v.kept) v.terminal e = ap (λ r. r.terminal) c.end_line.ensures ∙ ap (λ (n : ℕ). record v.terminal { sent = n; line_over = true }) sent in
     let now : PortValue = record v { terminal = c.end_line.new.self.terminal; journal = entries_of c.add.new.self.items; starved = c.reserve_entry.new.starved; flip = c.look.new.self } in
     let same : now ≡ record (with_entry v e) { flip = c.look.new.self } = made v _ (after (call_in v.kept) v.terminal e) _ (v.journal ++ e ∷ []) v.kept v.kept _ c.look.new.self c.look.new.self left js refl c.in_ok-reserve_entry.ensures.ok refl in
-    let both = line_ends v now c.self.inside.kept.items c.self.inside.places.items p c.tell_each_other.new.putter c.tell_each_other.new.flip c.look.new.self c.look.result c.self.invariant few over least told.flip told.meets c.look.ensures.same c.look.ensures.count c.look.ensures.most c.look.ensures.rises same in
+    let both = line_ends v now c.self.inside.waiting.items p c.tell_each_other.new.putter c.tell_each_other.new.flip c.look.new.self c.look.result c.self.invariant few over least told.flip told.meets c.look.ensures.same c.look.ensures.count c.look.ensures.most c.look.ensures.rises same in
     subst (λ (w : PortValue). EndsLine w now p c.tell_each_other.new.putter) c.self.view_is both.1

@@ -22,4 +22,4 @@ invariant_of-self-2 c =
     let f = c.tell_each_other.new.flip in
     let now : PortValue = record v { terminal = c.begin_phase.new.self.terminal; journal = entries_of c.add.new.self.items; starved = c.reserve_entry.new.starved; flip = f } in
     let same : now ≡ record (with_entry v e) { flip = f } = made v _ (after (call_in v.kept) v.terminal e) _ (v.journal ++ e ∷ []) v.kept v.kept _ f f (ap (λ r. r.terminal) c.begin_phase.ensures) js refl c.in_ok-reserve_entry.ensures.ok refl in
-    phase_ends v now c.self.inside.kept.items c.self.inside.places.items c.args.putter.now f c.self.invariant few may c.tell_each_other.ensures.flip same
+    phase_ends v now c.self.inside.waiting.items c.args.putter.now f c.self.invariant few may c.tell_each_other.ensures.flip same

@@ -16,7 +16,7 @@ invariant_of-self-2 c =
     let js : entries_of c.add.new.self.items ≡ v.journal ++ e ∷ [] = entries_added c.self.inside.journal.items c.reserve_entry.new.journal.items _ c.add.new.self.items c.in_ok-reserve_entry.ensures.items (ap (λ b. b.items) c.add.ensures) in
     let now : PortValue = record v { terminal = c.raise_tick.new.self.terminal; journal = entries_of c.add.new.self.items; starved = c.reserve_entry.new.starved; flip = v.flip } in
     let same : now ≡ record (with_entry v e) { flip = v.flip } = made v _ (after (call_in v.kept) v.terminal e) _ (v.journal ++ e ∷ []) v.kept v.kept _ v.flip v.flip (ap (λ r. r.terminal) c.raise_tick.ensures) js refl c.in_ok-reserve_entry.ensures.ok refl in
-    still v now c.self.inside.kept.items c.self.inside.places.items v.flip e c.self.invariant few
+    still v now c.self.inside.waiting.items v.flip e c.self.invariant few
     (c.generation.ensures, (refl, record { phase = record { at_step = c.phase.ensures; at_part = refl }; not_over = over }))
     refl refl c.self.invariant.port.sent refl refl refl refl same
 

@@ -1,34 +1,30 @@
-use Rattle.std.proofs.Common.{◌≡◌, ℕ, List, [], ◌∷◌, ◌++◌, true, IsTrue, get_or, ◌+◌, ◌-◌, ◌≤◌, ◌<◌, length, take, sym, ◌∙◌, ap, subst, arith}
-use Rattle.std.proofs.lemmas.List.{take_more}
-use Rattle.tty_base.specs.declared.characters.Flag.TheVariants.{Normal}
-use Rattle.tty_base.specs.declared.characters.Flagged.{Flagged}
+use Rattle.std.proofs.Common.{◌≡◌, ℕ, ◌+◌, ◌-◌, ◌≤◌, ◌<◌, length, take, drop, ap, ◌∙◌, subst, arith, length-drop}
 use Rattle.tty_terminal.specs.Terminals.{Terminal}
-use Rattle.tty_terminal.specs.Receiving.{accepts, after_character, after_characters, AcceptsAll}
+use Rattle.tty_terminal.specs.Receiving.{after_characters, AcceptsAll}
 use Rattle.tty_terminal.specs.Meeting.{room_for_characters}
-use Rattle.tty_terminal.proofs.Received.{received_more, accepts_more}
+use Rattle.tty_terminal.proofs.Received.{received_on, accepts_on}
 use Rattle.tty_terminal.proofs.terminals.Terminal.receive_all.Goals as goal
 
 pub loop-done-preserved : goal.loop-done-preserved
 loop-done-preserved c =
     let i = c.loop-done.invariant in
     let t : Terminal = c.args.self.now.terminal in
-    let chars : List Flagged = c.args.chars.now in
+    let u : Terminal = c.loop-done.self.terminal in
+    let v : Terminal = c.receive_some-count.new.self.terminal in
+    let chars = c.args.chars.now in
     let done = c.loop-done.done in
-    let more : done < length chars = c.loop-done-test.true in
-    let x : Flagged = get_or chars done (record { byte = 0; flag = Normal }) in
-    let xs : List Flagged = take done chars in
-    let next : take (done + 1) chars ≡ xs ++ x ∷ [] = take_more chars done (record { byte = 0; flag = Normal }) more in
-    let now = c.receive.ensures in
-    let after : c.receive.new.self.terminal ≡ after_characters t (xs ++ x ∷ []) = now.after ∙ (ap (λ (u : Terminal). after_character u x) i.received ∙ sym (received_more t xs x)) in
-    let willing : accepts c.loop-done.self.terminal ≡ true = sym c.accepts.ensures ∙ c.if-accepts.true in
-    let fine : IsTrue (accepts (after_characters t xs)) = subst (λ (u : Terminal). accepts u ≡ true) i.received willing in
-    let left : length chars - (done + 1) + 1 ≡ length chars - done = omega arith in
+    let count = c.receive_some-count.result in
+    let now = c.receive_some-count.ensures in
+    let received : v ≡ after_characters u (take count (drop done chars)) = now.received ∙ ap (λ cs. after_characters u (take count cs)) c.rest_of.ensures in
+    let accepted : AcceptsAll u (take count (drop done chars)) = subst (λ cs. AcceptsAll u (take count cs)) c.rest_of.ensures now.accepted in
+    let within : count ≤ length chars - done = omega (arith, now.within, ap length c.rest_of.ensures, length-drop done chars) in
+    let left : length chars - (done + count) + count ≡ length chars - done = omega (arith, within, i.bound) in
     record {
-      bound = omega arith;
-      received = after ∙ ap (after_characters t) (sym next);
-      accepted = subst (AcceptsAll t) (sym next) (accepts_more t xs x i.accepted fine);
-      taken = omega (arith, i.taken, left, ap (λ (u : Terminal). u.taken) now.after);
-      wire = now.wire (length chars - (done + 1)) (subst (λ (n : ℕ). room_for_characters c.loop-done.self.terminal n ≤ c.loop-done.self.wire_room) (sym left) i.wire);
+      bound = omega (arith, within, i.bound);
+      received = received_on t u v chars done count i.received received;
+      accepted = accepts_on t u v chars done count i.received received i.accepted accepted;
+      taken = omega (arith, i.taken, left, now.taken);
+      wire = now.wire (length chars - (done + count)) (omega (arith, i.wire, left));
       signals = omega (arith, i.signals, left, now.signals);
       below = omega (arith, i.below, left, now.column);
       column = omega (arith, i.column, left, now.column);

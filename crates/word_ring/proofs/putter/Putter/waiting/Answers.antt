@@ -1,4 +1,4 @@
-use Rattle.std.proofs.Common.{rules, sym, subst}
+use Rattle.std.proofs.Common.{rules, arith, sym, ap, subst}
 use Rattle.std.specs.List.Sorted.{IsNonDecreasing}
 use Rattle.word_ring.specs.declared.table.View.{View}
 use Rattle.word_ring.specs.PutterParts.{IsPutting}
@@ -24,3 +24,6 @@ pub returns-clause-rise : goal.returns-clause-rise
 returns-clause-rise c =
     let p = after_load _ _ _ _ c.self.invariant.putting c.load-head.result c.load-head.ensures.2.2 in
     subst (λ (v : View). IsNonDecreasing v.heads) (sym c.load-head.ensures.2.0) p.rise
+
+pub returns-clause-most : goal.returns-clause-most
+returns-clause-most c = omega (arith, c.self.invariant.putting.fits, c.load-head.ensures.2.2, ap (λ s. s.capacity) c.self.view_is)

@@ -1,0 +1,118 @@
+//! Receiving runs of characters at once.
+
+ghost use Rattle.std.specs.Prelude.{◌≡◌, ◌+◌, ◌*◌, ◌<◌, ◌≤◌, ◌^◌, false, length, take};
+ghost use Rattle.std.specs.List.{AllByRecursion};
+ghost use Rattle.flow_control.specs.Output.{Output, is_halted};
+ghost use Rattle.flow_control.specs.declared.tally.Tally.{Tally};
+ghost use Rattle.n_tty.specs.States.{on_port, unread_count, FitsModes};
+ghost use Rattle.n_tty.specs.Spending.{pending_count};
+ghost use Rattle.n_tty.specs.Runs.{after_characters, AcceptsAll, after_stored, after_typed};
+ghost use Rattle.line_store.specs.Good.{IsGood, bytes_in};
+ghost use Rattle.n_tty_edit.specs.Typed.{IsTyped};
+
+use super::{CHARACTER_ROOM, MOST_ENDS, NTty};
+use crate::posting::rest_of;
+use crate::roles::{are_typed, is_raw};
+use crate::storing::start_of;
+use flow_control::Wire;
+use tty_base::Flagged;
+use tty_modes::Modes;
+use tty_modes::places::IXOFF;
+
+/// How many characters a run has at most.
+const MOST_RUN: usize = 64;
+
+/// With fewer unread bytes a character is accepted under all modes.
+const FEW: usize = 4093;
+
+impl NTty {
+    /// Receives the characters at the front that concern no rule but those of storing and echo, all at once. Answers how
+    /// many; `receive` is for the next, if it is accepted.
+    pub fn receive_run(
+        &mut self,
+        chars: &[Flagged],
+        now: u64,
+        modes: &Modes,
+        wire: &mut Wire,
+    ) -> usize
+        requires fitting { FitsModes modes.now self.old }
+        requires room { pending_count self.old wire.old + CHARACTER_ROOM * length chars.now ≤ wire.old.spare }
+        requires column { self.old.column < 2 ^ 62 }
+        ensures within { result ≤ length chars.now }
+        ensures after { (tally : Tally) → on_port self.new wire.new tally
+            ≡ after_characters modes.now now (take result chars.now) (on_port self.old wire.old tally) }
+        ensures accepted { (tally : Tally) → AcceptsAll modes.now now (take result chars.now) (on_port self.old wire.old tally) }
+        ensures fits { FitsModes modes.now self.new }
+        ensures spent { wire.old.spare + pending_count self.new wire.new
+            ≤ wire.new.spare + (pending_count self.old wire.old + CHARACTER_ROOM * result) }
+        ensures moved { self.new.column ≤ self.old.column + result }
+    {
+        let unread = self.unread();
+        if unread >= FEW || self.store.lines() >= MOST_ENDS {
+            return 0;
+        }
+        if self.quoted || modes.has(IXOFF) || wire.noted() {
+            return 0;
+        }
+        let chars = front_of(chars, chars.len().min(MOST_RUN).min(FEW - unread));
+        if is_raw(modes) {
+            self.store_run(chars, now)
+        } else if are_typed(modes) && !wire.halted() {
+            self.type_run(chars, now, wire)
+        } else {
+            0
+        }
+    }
+
+    /// Stores the good characters at the front. Answers how many.
+    fn store_run(&mut self, chars: &[Flagged], now: u64) -> usize
+        requires short { length chars.now ≤ 64 }
+        requires room { unread_count self.old + length chars.now ≤ 4093 }
+        ensures within { result ≤ length chars.now }
+        ensures good { AllByRecursion IsGood (take result chars.now) }
+        ensures after { (output : Output) (tally : Tally) → on_port self.new output tally ≡ after_stored now (bytes_in (take result chars.now)) (on_port self.old output tally) }
+        ensures line { self.new.edit ≡ self.old.edit }
+        ensures column { self.new.column ≡ self.old.column }
+    {
+        let count = self.store.append_good(chars);
+        if count > 0 {
+            self.last = now;
+        }
+        count
+    }
+
+    /// Adds the good characters from blank to tilde at the front to the edited line, and echoes them. Answers how many.
+    fn type_run(&mut self, chars: &[Flagged], now: u64, wire: &mut Wire) -> usize
+        requires short { length chars.now ≤ 64 }
+        requires room { unread_count self.old + length chars.now ≤ 4093 }
+        requires flows { is_halted wire.old ≡ false }
+        requires spare { length chars.now ≤ wire.old.spare }
+        requires column { self.old.column < 2 ^ 62 }
+        ensures within { result ≤ length chars.now }
+        ensures typed { AllByRecursion IsTyped (take result chars.now) }
+        ensures after { (tally : Tally) → on_port self.new wire.new tally ≡ after_typed now (bytes_in (take result chars.now)) (on_port self.old wire.old tally) }
+        ensures spent { wire.old.spare ≤ wire.new.spare + result }
+        ensures line { length self.new.edit ≡ length self.old.edit + result }
+        ensures held { wire.new.held ≡ wire.old.held }
+        ensures moved { self.new.column ≡ self.old.column + result }
+    {
+        let start = start_of(&self.edit, self.start, self.out.column());
+        let begun = self.edit.bytes().len();
+        let count = self.edit.append_typed(chars);
+        if count > 0 {
+            self.start = start;
+            self.last = now;
+            let _sent = wire.send(rest_of(self.edit.bytes(), begun));
+            self.out.pass(count);
+        }
+        count
+    }
+}
+
+/// The first characters, so many.
+fn front_of(chars: &[Flagged], count: usize) -> &[Flagged]
+    requires { count ≤ length chars.now }
+    ensures { result.now ≡ take count chars.now }
+{
+    &chars[..count]
+}
