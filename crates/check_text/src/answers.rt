@@ -110,7 +110,7 @@ fn answer_by(alloc: Global, kind: AnswerKind, words: &[u8]) -> Result<Answer, No
         }
         AnswerKind::Number => Ok(Answer::Number(small_at(words))),
         AnswerKind::Modes => Ok(Answer::ModesAre(modes_from(words))),
-        AnswerKind::Counts => Ok(Answer::CountsAre(counts_in(words))),
+        AnswerKind::Counts => Ok(Answer::CountsAre(Box::new(alloc, counts_in(words))?)),
     }
 }
 

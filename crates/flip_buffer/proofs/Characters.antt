@@ -39,11 +39,10 @@ pub took : {A : Type 0} (t : TakerState A) (xs : List A) → Took t (with_taken 
 took t [] = record { ring = refl; capacity = refl; taken = sym (append-nil t.taken); tails = refl; floor = refl; ended = refl; sent = refl }
 took t (x ∷ xs) = record { ring = refl; capacity = refl; taken = refl; tails = refl; floor = refl; ended = refl; sent = refl }
 
--- the characters of a word, added one by one
-pub add_four : (xs : List Flagged) (w : ℕ) (a b c d : Flagged) → a ≡ char_of (w % 65536) → b ≡ char_of (w / 65536 % 65536) → c ≡ char_of (w / 4294967296 % 65536) → d ≡ char_of (w / 281474976710656 % 65536)
-    → (((xs ++ a ∷ []) ++ b ∷ []) ++ c ∷ []) ++ d ∷ [] ≡ xs ++ map char_of (lanes w 4)
+-- the characters of a word
+pub four_of_word : (w : ℕ) (a b c d : Flagged) → a ≡ char_of (w % 65536) → b ≡ char_of (w / 65536 % 65536) → c ≡ char_of (w / 4294967296 % 65536) → d ≡ char_of (w / 281474976710656 % 65536)
+    → a ∷ b ∷ c ∷ d ∷ [] ≡ map char_of (lanes w 4)
 unfolding lane
-add_four [] w a b c d p q r s =
+four_of_word w a b c d p q r s =
     let first : w % 65536 ≡ w / 1 % 65536 = omega arith in
     λ i. (p ∙ ap char_of first) i ∷ q i ∷ r i ∷ s i ∷ []
-add_four (x ∷ xs) w a b c d p q r s = ap (λ ys. x ∷ ys) (add_four xs w a b c d p q r s)

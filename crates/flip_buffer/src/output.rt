@@ -96,12 +96,26 @@ impl FlipOut {
     }
 
     /// So many characters after those that were taken or peeked, which a look or a note has shown, are
-    /// added to `out`. They stay in the buffer until they are released.
-    pub fn peek(&mut self, count: usize, out: &mut ArrayVec<Flagged, 64>)
+    /// added to `out` in room that was reserved. They stay in the buffer until they are released.
+    #[inline(always)]
+    pub fn peek(&mut self, count: usize, out: &mut Chars)
         requires shown { length self.old.taken + length self.old.peeked + count ≤ self.old.floor }
-        requires room { array_vec_len out.old + count ≤ 64 }
-        ensures peeks { (xs : List Flagged) × (length xs ≡ count) × (out.new.items ≡ out.old.items ++ xs) × (self.new ≡ record self.old { peeked = self.old.peeked ++ xs }) }
-        ensures len { array_vec_len out.new ≡ array_vec_len out.old + count }
+        requires room { count ≤ out.old.spare }
+        ensures peeks { (xs : List Flagged) × (length xs ≡ count) × (out.new ≡ record { items = out.old.items ++ xs; spare = out.old.spare - count }) × (self.new ≡ record self.old { peeked = self.old.peeked ++ xs }) }
+    {
+        if self.taker.before_word() == 0 && count % 8 == 0 {
+            self.peek_pairs(count / 8, out);
+        } else {
+            self.peek_parts(count, out);
+        }
+    }
+
+    // The same, however many come before a word and after the last one.
+    #[inline(never)]
+    fn peek_parts(&mut self, count: usize, out: &mut Chars)
+        requires shown { length self.old.taken + length self.old.peeked + count ≤ self.old.floor }
+        requires room { count ≤ out.old.spare }
+        ensures peeks { (xs : List Flagged) × (length xs ≡ count) × (out.new ≡ record { items = out.old.items ++ xs; spare = out.old.spare - count }) × (self.new ≡ record self.old { peeked = self.old.peeked ++ xs }) }
     {
         let lead = self.taker.before_word().min(count);
         self.peek_each(lead, out);
@@ -110,28 +124,63 @@ impl FlipOut {
     }
 
     // The same, one after the other.
-    fn peek_each(&mut self, count: usize, out: &mut ArrayVec<Flagged, 64>)
-        requires shown { length self.old.taken + length self.old.peeked + count ≤ self.old.floor }
-        requires room { array_vec_len out.old + count ≤ 64 }
-        ensures peeks { (xs : List Flagged) × (length xs ≡ count) × (out.new.items ≡ out.old.items ++ xs) × (self.new ≡ record self.old { peeked = self.old.peeked ++ xs }) }
-        ensures len { array_vec_len out.new ≡ array_vec_len out.old + count }
+    fn peek_each(&mut self, lone: usize, out: &mut Chars)
+        requires shown { length self.old.taken + length self.old.peeked + lone ≤ self.old.floor }
+        requires room { lone ≤ out.old.spare }
+        ensures peeks { (xs : List Flagged) × (length xs ≡ lone) × (out.new ≡ record { items = out.old.items ++ xs; spare = out.old.spare - lone }) × (self.new ≡ record self.old { peeked = self.old.peeked ++ xs }) }
     {
-        for _ in 0..count {
-            out.push(self.peek_next());
+        for _ in 0..lone {
+            out.add(self.peek_next());
         }
     }
 
     // The same for so many words, the first of which begins with the next character.
-    fn peek_words(&mut self, words: usize, out: &mut ArrayVec<Flagged, 64>)
+    #[inline(always)]
+    fn peek_words(&mut self, words: usize, out: &mut Chars)
         requires begins { 0 < words → (length self.old.taken + length self.old.peeked) % 4 ≡ 0 }
         requires shown { length self.old.taken + length self.old.peeked + 4 * words ≤ self.old.floor }
-        requires room { array_vec_len out.old + 4 * words ≤ 64 }
-        ensures peeks { (xs : List Flagged) × (length xs ≡ 4 * words) × (out.new.items ≡ out.old.items ++ xs) × (self.new ≡ record self.old { peeked = self.old.peeked ++ xs }) }
-        ensures len { array_vec_len out.new ≡ array_vec_len out.old + 4 * words }
+        requires room { 4 * words ≤ out.old.spare }
+        ensures peeks { (xs : List Flagged) × (length xs ≡ 4 * words) × (out.new ≡ record { items = out.old.items ++ xs; spare = out.old.spare - 4 * words }) × (self.new ≡ record self.old { peeked = self.old.peeked ++ xs }) }
     {
         for _ in 0..words {
             add_characters(self.peek_word(), out);
         }
+    }
+
+    // The same for so many pairs of words.
+    #[inline(always)]
+    fn peek_pairs(&mut self, pairs: usize, out: &mut Chars)
+        requires begins { (length self.old.taken + length self.old.peeked) % 4 ≡ 0 }
+        requires shown { length self.old.taken + length self.old.peeked + 8 * pairs ≤ self.old.floor }
+        requires room { 8 * pairs ≤ out.old.spare }
+        ensures peeks { (xs : List Flagged) × (length xs ≡ 8 * pairs) × (out.new ≡ record { items = out.old.items ++ xs; spare = out.old.spare - 8 * pairs }) × (self.new ≡ record self.old { peeked = self.old.peeked ++ xs }) }
+    {
+        for _ in 0..pairs {
+            self.peek_pair(out);
+        }
+    }
+
+    // The same for two words.
+    #[inline(always)]
+    fn peek_pair(&mut self, out: &mut Chars)
+        requires begins { (length self.old.taken + length self.old.peeked) % 4 ≡ 0 }
+        requires shown { length self.old.taken + length self.old.peeked + 8 ≤ self.old.floor }
+        requires room { 8 ≤ out.old.spare }
+        ensures peeks { (xs : List Flagged) × (length xs ≡ 8) × (out.new ≡ record { items = out.old.items ++ xs; spare = out.old.spare - 8 }) × (self.new ≡ record self.old { peeked = self.old.peeked ++ xs }) }
+    {
+        let (first, second) = self.peek_two_words();
+        add_characters(first, out);
+        add_characters(second, out);
+    }
+
+    // The words of the next eight characters, where the first of them begins one.
+    #[inline(always)]
+    fn peek_two_words(&mut self) -> (u64, u64)
+        requires begins { (length self.old.taken + length self.old.peeked) % 4 ≡ 0 }
+        requires shown { length self.old.taken + length self.old.peeked + 8 ≤ self.old.floor }
+        ensures { self.new ≡ record self.old { peeked = (self.old.peeked ++ map char_of (lanes result.0 4)) ++ map char_of (lanes result.1 4) } }
+    {
+        self.taker.peek_two_words()
     }
 
     // The word of the next four characters, where the first of them begins it.
@@ -146,6 +195,7 @@ impl FlipOut {
 
     /// Takes the first `n` characters that were peeked, by one store of the head, and the others are
     /// forgotten. Where `n` is 0 nothing changes.
+    #[inline(always)]
     pub fn release(&mut self, n: usize)
         requires { n ≤ length self.old.peeked }
         ensures same { self.new ≡ with_taken self.old (take n self.old.peeked) }
@@ -166,7 +216,9 @@ impl FlipOut {
         ensures begins { self.old.ended ≡ true → IsPrefix self.new.taken self.old.sent }
     {
         let count = self.look().min(most);
-        self.peek(count, out);
+        for _ in 0..count {
+            out.push(self.peek_next());
+        }
         self.release(count);
         count
     }

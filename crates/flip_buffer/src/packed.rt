@@ -1,11 +1,9 @@
 //! A character in a number of 16 bits.
-ghost use Rattle.std.specs.Prelude.{◌≡◌, ◌+◌, ◌/◌, ◌%◌, ◌<◌, ◌≤◌, ◌++◌, map, IsTrue};
-ghost use Rattle.arrayvec.specs.ArrayVec.{array_vec_len};
+ghost use Rattle.std.specs.Prelude.{◌≡◌, ◌-◌, ◌/◌, ◌%◌, ◌<◌, ◌≤◌, ◌++◌, map, IsTrue};
 ghost use Rattle.word_ring.specs.Lanes.{lanes};
 ghost use Rattle.flip_buffer.specs.Packed.{char_of, flag_of_number};
 
-use arrayvec::ArrayVec;
-use tty_base::{Flag, Flagged};
+use tty_base::{Chars, Flag, Flagged};
 
 #[inline(always)]
 fn flag_number(flag: Flag) -> u16
@@ -53,18 +51,20 @@ pub(crate) fn character_of(x: u16) -> Flagged
     }
 }
 
-/// Adds the characters that the numbers of a word stand for. Mostly all of them are good.
+/// Adds the characters that the numbers of a word stand for, in room that was reserved. Mostly all of
+/// them are good.
 #[inline(always)]
-pub(crate) fn add_characters(word: u64, out: &mut ArrayVec<Flagged, 64>)
-    requires { array_vec_len out.old + 4 ≤ 64 }
-    ensures items { out.new.items ≡ out.old.items ++ map char_of (lanes word 4) }
-    ensures len { array_vec_len out.new ≡ array_vec_len out.old + 4 }
+pub(crate) fn add_characters(word: u64, out: &mut Chars)
+    requires { 4 ≤ out.old.spare }
+    ensures { out.new ≡ record { items = out.old.items ++ map char_of (lanes word 4); spare = out.old.spare - 4 } }
 {
     if are_good(word) {
-        out.push(good_character_of(word));
-        out.push(good_character_of(word / 65536));
-        out.push(good_character_of(word / 4294967296));
-        out.push(good_character_of(word / 281474976710656));
+        out.add_four([
+            good_character_of(word),
+            good_character_of(word / 65536),
+            good_character_of(word / 4294967296),
+            good_character_of(word / 281474976710656),
+        ]);
     } else {
         add_any_characters(word, out);
     }
@@ -72,15 +72,16 @@ pub(crate) fn add_characters(word: u64, out: &mut ArrayVec<Flagged, 64>)
 
 /// The same for any word.
 #[inline(never)]
-fn add_any_characters(word: u64, out: &mut ArrayVec<Flagged, 64>)
-    requires { array_vec_len out.old + 4 ≤ 64 }
-    ensures items { out.new.items ≡ out.old.items ++ map char_of (lanes word 4) }
-    ensures len { array_vec_len out.new ≡ array_vec_len out.old + 4 }
+fn add_any_characters(word: u64, out: &mut Chars)
+    requires { 4 ≤ out.old.spare }
+    ensures { out.new ≡ record { items = out.old.items ++ map char_of (lanes word 4); spare = out.old.spare - 4 } }
 {
-    out.push(character_of((word % 65536) as u16));
-    out.push(character_of((word / 65536 % 65536) as u16));
-    out.push(character_of((word / 4294967296 % 65536) as u16));
-    out.push(character_of((word / 281474976710656 % 65536) as u16));
+    out.add_four([
+        character_of((word % 65536) as u16),
+        character_of((word / 65536 % 65536) as u16),
+        character_of((word / 4294967296 % 65536) as u16),
+        character_of((word / 281474976710656 % 65536) as u16),
+    ]);
 }
 
 /// Whether the numbers of a word all stand for good characters.

@@ -64,3 +64,25 @@ fn notes_and_the_end(rt: HostRuntime) -> Result<(), Fail> {
     assert_eq!(rt; output.end(input), 1);
     Ok(())
 }
+
+#[test]
+fn eight_characters_are_peeked_and_five_more(rt: HostRuntime) -> Result<(), Fail> {
+    let (mut input, mut output) = flip(rt.alloc(), 64)?;
+    for i in 0..13 {
+        assert!(rt; input.sent() == i as u64);
+        assert!(rt; input.put(character(i)).is_ok());
+    }
+    input.push();
+    let mut out = Chars::new(rt.alloc());
+    out.reserve(13)?;
+    let shown = output.look();
+    assert!(rt; shown == 13);
+    output.peek(8, &mut out);
+    output.peek(5, &mut out);
+    for i in 0..13 {
+        assert!(rt; out.as_slice().get(i).copied() == Some(character(i)));
+    }
+    output.release(13);
+    assert_eq!(rt; output.taken(), 13);
+    Ok(())
+}

@@ -76,9 +76,13 @@ impl Wire {
         ensures spent { self.old.spare ≤ self.new.spare + length bytes.now }
     {
         if !self.halted() {
-            // one byte is the rule, and a copy of many costs more than a push
+            // one byte and eight are the rule, and a copy of as many as come costs more
             match bytes {
                 [byte] => self.wire.add(*byte),
+                [a, b, c, d, e, f, g, h] => {
+                    self.wire
+                        .append([*a, *b, *c, *d, *e, *f, *g, *h].as_slice());
+                }
                 _ => self.wire.append(bytes),
             }
             return true;

@@ -31,7 +31,7 @@ pub(crate) fn is_same(one: &Answer, other: &Answer) -> bool
             _ => false,
         },
         Answer::CountsAre(counts) => match other {
-            Answer::CountsAre(others) => counts == others,
+            Answer::CountsAre(others) => **counts == **others,
             _ => false,
         },
         Answer::Refused(errno) => match other {

@@ -2,9 +2,10 @@ ghost use Rattle.std.specs.Prelude.{◌≡◌, ◌<◌, ◌≤◌, ◌+◌, IfOk
 ghost use Rattle.std.specs.List.{AllByRecursion};
 ghost use Rattle.line_store.specs.Good.{IsGood, bytes_in};
 
+use char_lanes::push_run;
 use std::alloc::Global;
 use std::marker::Model;
-use tty_base::{Flag, Flagged, NoMemory};
+use tty_base::{Flagged, NoMemory};
 
 /// How many items a queue holds at most.
 const MOST: usize = 4096;
@@ -121,33 +122,13 @@ fn close_up<T: Copy>(items: &mut Vec<T>, start: usize)
 
 impl Queue<u8> {
     /// Adds the bytes of the good characters at the front. Answers how many.
+    #[inline(always)]
     pub fn append_good(&mut self, chars: &[Flagged]) -> usize
         requires { length self.old + length chars.now ≤ 4096 }
         ensures within { result ≤ length chars.now }
         ensures good { AllByRecursion IsGood (take result chars.now) }
         ensures added { self.new ≡ self.old ++ bytes_in (take result chars.now) }
     {
-        push_good(&mut self.items, chars)
+        push_run(&mut self.items, chars, 0, u8::MAX, [].as_slice())
     }
-}
-
-/// Adds the bytes of the good characters at the front, in room that is there. Answers how many.
-#[inline(always)]
-fn push_good(items: &mut Vec<u8>, chars: &[Flagged]) -> usize
-    requires { vec_len items.old + length chars.now ≤ vec_capacity items.old }
-    ensures within { result ≤ length chars.now }
-    ensures good { AllByRecursion IsGood (take result chars.now) }
-    ensures items { items.new.items ≡ items.old.items ++ bytes_in (take result chars.now) }
-    ensures len { vec_len items.new ≡ vec_len items.old + result }
-    ensures capacity { vec_capacity items.new ≡ vec_capacity items.old }
-{
-    let mut count = 0;
-    for c in chars {
-        match c.flag {
-            Flag::Normal => items.push_reserved(c.byte),
-            _ => return count,
-        }
-        count += 1;
-    }
-    count
 }

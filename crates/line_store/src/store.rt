@@ -65,6 +65,7 @@ impl Store {
     }
 
     /// Stores the bytes of the good characters at the front. Answers how many.
+    #[inline(always)]
     pub fn append_good(&mut self, chars: &[Flagged]) -> usize
         requires { length (bytes_of self.old) + length chars.now ≤ 4096 }
         ensures within { result ≤ length chars.now }

@@ -89,7 +89,7 @@ module _ (s : Scene) (k : ℕ) (v w u : PortValue) (putter now last : PutterStat
     next_run = h.next_run ∙ ap (λ (t : Terminal). run_after t.flushed) (sym terminal);
     sent = ap (λ (t : Terminal). t.sent) terminal ∙ (h.sent ∙ ap length (sym sent));
     has_put = has_put_at w u last played (script_of_first s.port s.session (k + 1)) ring capacity (has_put_met w now last played (script_of_first s.port s.session (k + 1)) h.has_put ends.meets);
-    most = h.most ∙ start.most;
+    most = (let same = h.most in let most = start.most in omega arith);
   }
 
   pub phase_is_played : PlaysPhase s k v u last line played

@@ -48,7 +48,7 @@ pub record IsAtPhase (s : Scene) (k : ℕ) (v : PortValue) (putter : PutterState
   pub next_run : run ≡ run_after v.terminal.flushed
   pub sent : v.terminal.sent ≡ length putter.sent
   pub has_put : HasPut v putter line (script_of_first s.port s.session k)
-  pub most : line.most ≡ character_count s.port s.session.phases
+  pub most : character_count s.port s.session.phases ≤ line.most
 
 -- Phase k is over: the journal has gone on by a part and the end of the phase, to which the terminal u led. The line's end stands
 -- in the part, after these entries; each overrun of the line has seen all that was taken before the phase, and nothing that was

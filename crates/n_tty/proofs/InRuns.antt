@@ -1,23 +1,23 @@
 -- Characters of a run, one after the other, are what the run is at once.
-use Rattle.std.proofs.Common.{◌≡◌, ℕ, suc, ◌+◌, ◌-◌, ◌≤◌, ◌<◌, Bool, true, false, cond, not, ◌&&◌, ◌||◌, nat_le, nat_lt, List, [], ◌∷◌, ◌++◌, length, map, ap, sym, ◌∙◌, refl, subst, arith, inl, inr, append_assoc, ne_eqb, length-append, le-leb, lt-ltb}
+use Rattle.std.proofs.Common.{◌≡◌, ℕ, suc, ◌+◌, ◌-◌, ◌≤◌, ◌<◌, Bool, true, false, cond, not, ◌&&◌, ◌||◌, nat_le, List, [], ◌∷◌, ◌++◌, length, map, ap, sym, ◌∙◌, refl, subst, arith, inl, inr, append_assoc, ne_eqb, length-append, le-leb, lt-ltb}
 use Rattle.std.proofs.lemmas.Bool.{cases_Bool, cond-true, cond-false}
 use Rattle.std.specs.List.{AllByRecursion}
 use Rattle.tty_base.specs.declared.characters.Flagged.{Flagged}
 use Rattle.tty_modes.specs.Settings.{Settings, has_flag}
 use Rattle.tty_modes.specs.declared.places.TheConstants.{ICANON, IXOFF, PARMRK, ISTRIP, ECHO}
-use Rattle.line_store.specs.Unread.{Item, Byte, bytes_of, end_count}
+use Rattle.line_store.specs.Unread.{Item, Byte, end_count}
 use Rattle.n_tty_edit.specs.Line.{AddBytes, after_change}
 use Rattle.echo_out.specs.declared.EchoEvent.TheVariants as event
 use Rattle.flow_control.specs.Output.{Output, is_halted, has_room, room_of, on_wire, after_try}
 use Rattle.n_tty.specs.Posting.{tally_after_try}
 use Rattle.n_tty.specs.States.{NTtyState, OnPort, on_port, is_accepting, unread_count, most_unread, has_piece, FitsModes}
-use Rattle.n_tty.specs.Storing.{start_of, with_plain_bytes, with_line_bytes, after_store}
+use Rattle.n_tty.specs.Storing.{start_of, with_line_bytes, after_store}
 use Rattle.n_tty.specs.Roles.{is_raw, IsPlain}
-use Rattle.n_tty.specs.Receiving.{after_character, after_flagged, after_good, after_ordinary, ordinary_bytes, with_echo, with_ixoff_rule}
+use Rattle.n_tty.specs.Receiving.{after_character, after_flagged, after_ordinary, ordinary_bytes, with_echo, with_ixoff_rule}
 use Rattle.n_tty_edit.specs.Typed.{IsTyped}
 use Rattle.line_store.specs.Good.{bytes_in, IsGood}
-use Rattle.n_tty.specs.Runs.{after_characters, AcceptsAll, after_stored, after_typed}
-use Rattle.n_tty.proofs.EchoLemmas.{echoed_plainly, never_both}
+use Rattle.n_tty.specs.Runs.{after_characters, AcceptsAll, after_stored, after_joined, after_typed}
+use Rattle.n_tty.proofs.EchoLemmas.{echoed_plainly, never_both, unechoed}
 use Rattle.n_tty.proofs.FitsLemmas.{Fits-taken}
 use Rattle.n_tty.proofs.PlainLemmas.{good_raw, good_plain, rule_idle}
 use Rattle.n_tty.proofs.PostingLemmas.{tally_after_try-fits}
@@ -93,25 +93,82 @@ module _ (modes : Settings) (now : ℕ) (raw : is_raw modes ≡ true) (free : ha
   pub accepts_stored : (cs : List Flagged) (port : OnPort) → AllByRecursion IsGood cs → MayRun modes (length cs) port → AcceptsAll modes now cs port
   accepts_stored = accepts_run modes now (after_stored now) IsGood (MayRun modes) (λ port. refl) stored_one (accepts_in_run modes) stored_next stored_more
 
--- ---- bytes that are echoed in canonical mode
+-- ---- bytes from blank to tilde in canonical mode
 
 -- a line's start column is set while it is empty alone
 start_stays : (line : List ℕ) (b start column later : ℕ) → start_of line start column ≡ start_of (line ++ b ∷ []) (start_of line start column) later
 start_stays [] b start column later = refl
 start_stays (x ∷ line) b start column later = refl
 
--- the same, where output is not halted
+module _ (modes : Settings) (now : ℕ) (canonical : has_flag modes ICANON ≡ true)
+    (plain : (byte : ℕ) → 32 ≤ byte → byte ≤ 126 → IsPlain modes byte) (free : has_flag modes IXOFF ≡ false) where
+  joined : (b : ℕ) (port : OnPort) → b ≤ 126 → length port.tty.edit < 4095 → record port { tty = with_line_bytes now (b ∷ []) port.tty } ≡ after_store modes now (ordinary_bytes modes b) port
+  joined b port high short =
+      let room : nat_le (length port.tty.edit + 1) 4095 ≡ true = le-leb (length port.tty.edit + 1) 4095 (omega arith) in
+      let unmarked : ordinary_bytes modes b ≡ b ∷ [] =
+      cond-false _ _ _ (ap (λ t. has_flag modes PARMRK && not (has_flag modes ISTRIP) && t) (ne_eqb b 255 (λ e. omega (arith, high))) ∙ never_both (has_flag modes PARMRK && not (has_flag modes ISTRIP))) in
+      sym (cond-true _ _ _ canonical ∙ cond-true _ _ _ room) ∙ ap (λ bytes. after_store modes now bytes port) (sym unmarked)
+
+  -- what an ordinary byte leaves is what its character leaves
+  by_rules : (c : Flagged) (port left : OnPort) → IsTyped c → port.tty.quoted ≡ false → left.output.noted ≡ false
+      → left ≡ after_ordinary modes now c.byte port → left ≡ after_character modes now c port
+  by_rules c port left typed unquoted quiet ordinary =
+      rule_idle modes left free quiet
+      ∙ ap (with_ixoff_rule modes)
+      (
+      ordinary
+      ∙ sym (good_plain modes c.byte (plain c.byte typed.low typed.high) now port unquoted)
+      ∙ ap (λ f. after_flagged modes now f c.byte port) (sym typed.good)
+      )
+
+-- ---- bytes that are not echoed
+
+module _ (modes : Settings) (now : ℕ) (canonical : has_flag modes ICANON ≡ true) (silent : has_flag modes ECHO ≡ false)
+    (plain : (byte : ℕ) → 32 ≤ byte → byte ≤ 126 → IsPlain modes byte) (free : has_flag modes IXOFF ≡ false) where
+  joined_one : (c : Flagged) (n : ℕ) (port : OnPort) → IsTyped c → MayRun modes (suc n) port → after_joined now (c.byte ∷ []) port ≡ after_character modes now c port
+  joined_one c n port typed may =
+      let b : ℕ = c.byte in
+      let tty : NTtyState = port.tty in
+      let short : length tty.edit < 4095 = omega (arith, may.room) in
+      let room : nat_le (length tty.edit + 1) 4095 ≡ true = le-leb (length tty.edit + 1) 4095 (omega arith) in
+      let line : tty.edit ++ b ∷ [] ≡ after_change tty.edit (AddBytes (b ∷ [])) = sym (cond-true _ _ _ room) in
+      let ordinary : after_joined now (b ∷ []) port ≡ after_ordinary modes now b port =
+      ap (λ edit. record port { tty = record tty { edit = edit; start = start_of tty.edit tty.start tty.column; last = now } }) line
+      ∙ joined modes now canonical plain free b port typed.high short
+      ∙ unechoed modes b (after_store modes now (ordinary_bytes modes b) port) silent in
+      by_rules modes now canonical plain free c port (after_joined now (b ∷ []) port) typed may.unquoted may.quiet ordinary
+
+  joined_next : (b n : ℕ) (port : OnPort) → MayRun modes (suc n) port → MayRun modes n (after_joined now (b ∷ []) port)
+  joined_next b n port may = record {
+    unquoted = may.unquoted;
+    quiet = may.quiet;
+    ends = may.ends;
+    room = omega (arith, may.room, length-append port.tty.edit (b ∷ []));
+  }
+
+  joined_more : (b : ℕ) (bytes : List ℕ) (port : OnPort) → after_joined now (b ∷ bytes) port ≡ after_joined now bytes (after_joined now (b ∷ []) port)
+  joined_more b [] port = refl
+  joined_more b (d ∷ bytes) port =
+      let tty : NTtyState = port.tty in
+      let line : tty.edit ++ b ∷ d ∷ bytes ≡ (tty.edit ++ b ∷ []) ++ d ∷ bytes = sym (append_assoc tty.edit (b ∷ []) (d ∷ bytes)) in
+      let start = start_stays tty.edit b tty.start tty.column tty.column in
+      λ i. record port { tty = record tty { edit = line i; start = start i; last = now } }
+
+  pub joined_run : (cs : List Flagged) (port : OnPort) → AllByRecursion IsTyped cs → MayRun modes (length cs) port → after_joined now (bytes_in cs) port ≡ after_characters modes now cs port
+  joined_run = by_one modes now (after_joined now) IsTyped (MayRun modes) (λ port. refl) joined_one (accepts_in_run modes) joined_next joined_more
+
+  pub accepts_joined : (cs : List Flagged) (port : OnPort) → AllByRecursion IsTyped cs → MayRun modes (length cs) port → AcceptsAll modes now cs port
+  accepts_joined = accepts_run modes now (after_joined now) IsTyped (MayRun modes) (λ port. refl) joined_one (accepts_in_run modes) joined_next joined_more
+
+-- ---- bytes that are echoed
+
+-- n more characters of a run can be taken, and output is not halted
 pub record MayType (modes : Settings) (n : ℕ) (port : OnPort) : Type 0 where
   pub may : MayRun modes n port
   pub flows : is_halted port.output ≡ false
 
 module _ (modes : Settings) (now : ℕ) (canonical : has_flag modes ICANON ≡ true) (echoes : has_flag modes ECHO ≡ true)
     (plain : (byte : ℕ) → 32 ≤ byte → byte ≤ 126 → IsPlain modes byte) (free : has_flag modes IXOFF ≡ false) where
-  joined : (b : ℕ) (port : OnPort) → length port.tty.edit < 4095 → record port { tty = with_line_bytes now (b ∷ []) port.tty } ≡ after_store modes now (b ∷ []) port
-  joined b port short =
-      let room : nat_le (length port.tty.edit + 1) 4095 ≡ true = le-leb (length port.tty.edit + 1) 4095 (omega arith) in
-      sym (cond-true _ _ _ canonical ∙ cond-true _ _ _ room)
-
   -- in place of the edited line, the wire and the column, what the rules make of them
   echoed : (b : ℕ) (port : OnPort) → 32 ≤ b → b ≤ 126 → length port.tty.edit < 4095 → is_halted port.output ≡ false
       → after_typed now (b ∷ []) port ≡ with_echo modes (event.Plain b) (record port { tty = with_line_bytes now (b ∷ []) port.tty })
@@ -131,18 +188,10 @@ module _ (modes : Settings) (now : ℕ) (canonical : has_flag modes ICANON ≡ t
   typed_one c n port typed may =
       let b : ℕ = c.byte in
       let short : length port.tty.edit < 4095 = omega (arith, may.may.room) in
-      let unmarked : ordinary_bytes modes b ≡ b ∷ [] =
-      cond-false _ _ _ (ap (λ t. has_flag modes PARMRK && not (has_flag modes ISTRIP) && t) (ne_eqb b 255 (λ e. omega (arith, typed.high))) ∙ never_both (has_flag modes PARMRK && not (has_flag modes ISTRIP))) in
       let ordinary : after_typed now (b ∷ []) port ≡ after_ordinary modes now b port =
       echoed b port typed.low typed.high short may.flows
-      ∙ ap (with_echo modes (event.Plain b)) (joined b port short ∙ ap (λ bytes. after_store modes now bytes port) (sym unmarked)) in
-      rule_idle modes (after_typed now (b ∷ []) port) free may.may.quiet
-      ∙ ap (with_ixoff_rule modes)
-      (
-      ordinary
-      ∙ sym (good_plain modes b (plain b typed.low typed.high) now port may.may.unquoted)
-      ∙ ap (λ f. after_flagged modes now f b port) (sym typed.good)
-      )
+      ∙ ap (with_echo modes (event.Plain b)) (joined modes now canonical plain free b port typed.high short) in
+      by_rules modes now canonical plain free c port (after_typed now (b ∷ []) port) typed may.may.unquoted may.may.quiet ordinary
 
   typed_next : (b n : ℕ) (port : OnPort) → MayType modes (suc n) port → MayType modes n (after_typed now (b ∷ []) port)
   typed_next b n port may = record {

@@ -1,5 +1,5 @@
 -- Good bytes that no rule concerns, or none but those of storing and echo.
-use Rattle.std.proofs.Common.{◌≡◌, ◌≢◌, ℕ, ◌%◌, ◌≤◌, Bool, true, false, cond, not, ◌&&◌, ◌||◌, ◌==◌, nat_le, nat_lt, Option, None, Some, List, [], ◌∷◌, ap, sym, ◌∙◌, refl, inl, inr, arith, ne_eqb}
+use Rattle.std.proofs.Common.{◌≡◌, ℕ, ◌%◌, Bool, true, false, cond, not, ◌&&◌, ◌||◌, ◌==◌, nat_le, nat_lt, None, Some, [], ◌∷◌, ap, sym, ◌∙◌, inl, inr, arith, ne_eqb}
 use Rattle.std.proofs.lemmas.Bool.{and_parts, cases_Bool, cond-true, cond-false, eqb-true, not-true}
 use Rattle.tty_base.specs.declared.counters.Signal.TheVariants.{Int, Quit, Susp}
 use Rattle.tty_modes.specs.Settings.{Settings, has_flag, character}

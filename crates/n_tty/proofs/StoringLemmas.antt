@@ -1,5 +1,5 @@
 -- Bytes that are stored, and the ends of pieces.
-use Rattle.std.proofs.Common.{◌≡◌, ℕ, ◌+◌, ◌<◌, cond, nat_le, List, [], ◌∷◌, ◌++◌, length, map, ap, ◌∙◌, arith, length-append, le-leb}
+use Rattle.std.proofs.Common.{◌≡◌, ℕ, ◌+◌, ◌<◌, cond, List, [], ◌∷◌, ◌++◌, length, map, ap, ◌∙◌, arith, length-append, le-leb}
 use Rattle.n_tty_edit.specs.Line.{AddBytes, after_change}
 use Rattle.line_store.specs.Unread.{Item, Byte, bytes_of, end_count}
 use Rattle.line_store.proofs.ItemLemmas.{bytes_of-append, bytes_of-plain, end_count-append, end_count-plain}

@@ -1,10 +1,10 @@
 -- Bytes that are posted one after the other, up to the first that does not fit.
-use Rattle.std.proofs.Common.{◌≡◌, ℕ, suc, ◌+◌, ◌≤◌, ◌<◌, true, cond, List, [], ◌∷◌, ◌++◌, length, take, drop, get_or, ap, sym, ◌∙◌, refl, arith, append-nil, append_assoc, length-take}
-use Rattle.std.proofs.lemmas.Bool.{cond_both, cond-true}
+use Rattle.std.proofs.Common.{◌≡◌, ℕ, suc, ◌+◌, ◌≤◌, ◌<◌, true, false, not, ◌||◌, nat_le, nat_lt, cond, List, [], ◌∷◌, ◌++◌, length, take, drop, get_or, ap, sym, ◌∙◌, refl, arith, append-nil, append_assoc, length-take}
+use Rattle.std.proofs.lemmas.Bool.{cond_both, cond-true, lt-ltb}
 use Rattle.std.proofs.lemmas.List.{take_more, drop_more, take-take}
 use Rattle.tty_modes.specs.Settings.{Settings}
 use Rattle.opost_out.specs.Posted.{posted_bytes}
-use Rattle.flow_control.specs.Output.{Output, has_room, after_send}
+use Rattle.flow_control.specs.Output.{Output, is_halted, room_of, has_room, after_send}
 use Rattle.n_tty.specs.Posting.{column_past_text, all_posted_bytes}
 use Rattle.n_tty.specs.States.{NTtyState}
 use Rattle.n_tty.specs.Writing.{fitting_count, piece_size, piece_text}
@@ -67,3 +67,13 @@ piece_text-is modes tty output bytes piece column count is_column is_piece is_co
     let front : take count piece ≡ take (piece_size modes tty output bytes) bytes =
     ap (take count) is_piece ∙ take-take count 64 bytes (omega (arith, size, within, length-take 64 bytes)) ∙ ap (λ n. take n bytes) size in
     ap (all_posted_bytes modes column) front ∙ ap (λ k. all_posted_bytes modes k (take (piece_size modes tty output bytes) bytes)) is_column
+
+-- where output is not halted the first byte fits
+pub flowing_fits : (modes : Settings) (column : ℕ) (output : Output) (bytes : List ℕ) → 0 < length bytes → is_halted output ≡ false
+    → true ≡ nat_lt 0 (fitting_count modes column output bytes)
+flowing_fits modes column output [] some flows = absurd (omega (arith, some))
+flowing_fits modes column output (b ∷ bytes) some flows =
+    let text : List ℕ = posted_bytes modes column b in
+    let rest : ℕ = fitting_count modes (column_past_text modes column text) (after_send output text) bytes in
+    sym (lt-ltb 0 (suc rest) (omega arith))
+    ∙ ap (λ h. nat_lt 0 (cond (not h || nat_le (length text) (room_of output)) (suc rest) 0)) (sym flows)

@@ -22,6 +22,18 @@ abbrev pub after_stored : (now : ℕ) → List ℕ → OnPort → OnPort
 after_stored now [] port = port
 after_stored now (b ∷ bytes) port = record port { tty = with_plain_bytes now (b ∷ bytes) port.tty }
 
+-- these bytes join the edited line, without an echo
+abbrev pub after_joined : (now : ℕ) → List ℕ → OnPort → OnPort
+after_joined now [] port = port
+after_joined now (b ∷ bytes) port =
+    record port {
+      tty = record port.tty {
+        edit = port.tty.edit ++ b ∷ bytes;
+        start = start_of port.tty.edit port.tty.start port.tty.column;
+        last = now;
+      };
+    }
+
 -- these bytes join the edited line, and are echoed as they are
 abbrev pub after_typed : (now : ℕ) → List ℕ → OnPort → OnPort
 after_typed now [] port = port

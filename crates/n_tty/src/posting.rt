@@ -6,6 +6,7 @@ ghost use Rattle.flow_control.specs.Output.{has_room, after_send, after_try};
 ghost use Rattle.n_tty.specs.Posting.{column_past_text, column_after_try, all_posted_bytes, tally_after_try};
 ghost use Rattle.n_tty.specs.Writing.{fitting_count};
 
+use char_lanes::bytes_between;
 use flow_control::{Counter, Tally, Wire};
 use opost_out::Out;
 use tty_modes::Modes;
@@ -94,18 +95,12 @@ fn post_run(out: &mut Out, bytes: &[u8], modes: &Modes, wire: &mut Wire) -> usiz
 }
 
 /// How many bytes from blank to tilde stand at the front.
+#[inline(always)]
 fn plain_len(bytes: &[u8]) -> usize
     ensures within { result ≤ length bytes.now }
     ensures plain { (k : ℕ) → k < result → (32 ≤ slice_index bytes.now k) × (slice_index bytes.now k ≤ 126) }
 {
-    let mut count = 0;
-    for byte in bytes {
-        if *byte < b' ' || *byte > b'~' {
-            return count;
-        }
-        count += 1;
-    }
-    count
+    bytes_between(bytes, b' ', b'~')
 }
 
 /// Whether the first of some bytes fits with what is posted for it.
@@ -116,6 +111,9 @@ pub fn fits_any(out: &Out, bytes: &[u8], modes: &Modes, wire: &Wire) -> bool
     let [byte, ..] = bytes else {
         return false;
     };
+    if !wire.halted() {
+        return true;
+    }
     let mut ahead = *out;
     has_room(ahead.post(*byte, modes).len(), wire)
 }

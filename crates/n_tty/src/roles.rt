@@ -1,6 +1,6 @@
 //! What a character is for.
 
-ghost use Rattle.std.specs.Prelude.{◌≡◌, ◌≤◌, ℕ, IsTrue, true};
+ghost use Rattle.std.specs.Prelude.{◌≡◌, ◌≤◌, ℕ, IsTrue, true, false};
 ghost use Rattle.tty_modes.specs.Settings.{has_flag};
 ghost use Rattle.tty_modes.specs.declared.places.TheConstants.{ICANON, ECHO};
 ghost use Rattle.n_tty.specs.Roles.{is_character, is_extended, signal_of, mapped_byte, role_of, is_raw, IsPlain};
@@ -74,6 +74,15 @@ pub fn are_typed(modes: &Modes) -> bool
     ensures plain { IsTrue result → (byte : ℕ) → 32 ≤ byte → byte ≤ 126 → IsPlain modes.now byte }
 {
     modes.has(ICANON) && modes.has(ECHO) && leaves_printed(modes)
+}
+
+/// Whether bytes from blank to tilde join the edited line without an echo, and no other rule concerns them.
+pub fn are_joined(modes: &Modes) -> bool
+    ensures canonical { IsTrue result → has_flag modes.now ICANON ≡ true }
+    ensures silent { IsTrue result → has_flag modes.now ECHO ≡ false }
+    ensures plain { IsTrue result → (byte : ℕ) → 32 ≤ byte → byte ≤ 126 → IsPlain modes.now byte }
+{
+    modes.has(ICANON) && !modes.has(ECHO) && leaves_printed(modes)
 }
 
 /// Whether a byte is the control character at a place. One of 0 is disabled.

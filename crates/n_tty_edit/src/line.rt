@@ -5,11 +5,12 @@ ghost use Rattle.tty_modes.specs.Settings.{has_flag};
 ghost use Rattle.n_tty_edit.specs.Line.{Change, AddBytes, EraseLast, EraseWord, Clear, after_change, edited_line, word_start, erase_size};
 ghost use Rattle.n_tty_edit.specs.Width.{width_of, gone_of};
 
-use crate::bytes::{Class, is_printed};
+use crate::bytes::Class;
 use crate::widths::width_at;
+use char_lanes::push_run;
 use std::alloc::Global;
 use std::marker::Model;
-use tty_base::{Flag, Flagged, NoMemory};
+use tty_base::{Flagged, NoMemory};
 use tty_modes::Modes;
 use tty_modes::places::IUTF8;
 
@@ -66,13 +67,14 @@ impl Edit {
     }
 
     /// Adds the good characters from blank to tilde at the front of some for which the line has room. Answers how many.
+    #[inline(always)]
     pub fn append_typed(&mut self, chars: &[Flagged]) -> usize
         requires { length self.old + length chars.now ≤ 4095 }
         ensures within { result ≤ length chars.now }
         ensures typed { AllByRecursion IsTyped (take result chars.now) }
         ensures line { self.new ≡ self.old ++ bytes_in (take result chars.now) }
     {
-        push_typed(&mut self.bytes, chars)
+        push_run(&mut self.bytes, chars, b' ', b'~', [].as_slice())
     }
 
     /// Removes the last byte, or with iutf8 the last character: the bytes at the end that continue one,
@@ -171,34 +173,3 @@ pub fn edited_by_the_last()
     ensures { (changes : List Change) (last : Change) →
         edited_line (changes ++ last ∷ []) ≡ after_change (edited_line changes) last }
 {}
-
-/// Adds the good characters from blank to tilde at the front, in room that is there. Answers how many.
-#[inline(always)]
-fn push_typed(bytes: &mut Vec<u8>, chars: &[Flagged]) -> usize
-    requires { vec_len bytes.old + length chars.now ≤ vec_capacity bytes.old }
-    ensures within { result ≤ length chars.now }
-    ensures typed { AllByRecursion IsTyped (take result chars.now) }
-    ensures items { bytes.new.items ≡ bytes.old.items ++ bytes_in (take result chars.now) }
-    ensures len { vec_len bytes.new ≡ vec_len bytes.old + result }
-    ensures capacity { vec_capacity bytes.new ≡ vec_capacity bytes.old }
-{
-    let mut count = 0;
-    for c in chars {
-        if !is_typed(*c) {
-            return count;
-        }
-        bytes.push_reserved(c.byte);
-        count += 1;
-    }
-    count
-}
-
-/// Whether a character is a good one from blank to tilde.
-fn is_typed(c: Flagged) -> bool
-    ensures { IsTrue result → IsTyped c }
-{
-    match c.flag {
-        Flag::Normal => is_printed(c.byte),
-        _ => false,
-    }
-}

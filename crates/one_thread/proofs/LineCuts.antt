@@ -24,12 +24,12 @@ use Rattle.port_core.specs.Flushes.{Flushes, Takes, TakesNone, LooksAtNone}
 use Rattle.port_core.specs.Ports.{PortValue, IsPort, is_stuck, flush_entry}
 use Rattle.one_thread.specs.Order.{cuts_in, cuts_after, due, front_to_flush, IsInTurn}
 use Rattle.one_thread.specs.Stages.{BeginsRun, place_of}
-use Rattle.one_thread.specs.LineInside.{LineStart, steps_before, steps_of, IsInLine, KnowsTaken, SeesFrom, IsCaughtUp, IsBetweenSteps, run_after, FlushesCut}
+use Rattle.one_thread.specs.LineInside.{LineStart, steps_before, steps_of, IsInLine, KnowsTaken, SeesFrom, IsCaughtUp, IsBetweenSteps, run_after, with_all_pushed, FlushesCut}
 use Rattle.one_thread.proofs.LineLists.{true_or_false, handed_list, handed_is, handed_few, no_cut, is_cut_here, cuts_same, cuts_more, cut_is_next, loaded_since, knows_more, none_refused, refusals_see}
 use Rattle.one_thread.proofs.AfterLine.{run_of_port}
 use Rattle.one_thread.proofs.Entries.{place_is}
 use Rattle.one_thread.proofs.LineTurns.{front_taken, front_live, due_at, flush_in_turn}
-use Rattle.one_thread.proofs.LineSteps.{empty_is, StepsTo, in_line_steps, sent_met, knows_met, in_line_met, terminal_is, in_line_flushed, run_flushed, cuts_flushed_is, stuck_flushed, not_stuck}
+use Rattle.one_thread.proofs.LineSteps.{empty_is, StepsTo, in_line_steps, sent_met, knows_met, in_line_met, in_line_heard, terminal_is, in_line_flushed, run_flushed, cuts_flushed_is, stuck_flushed, not_stuck}
 use Rattle.journal_check.proofs.Truths.{if_false, on_false, on_true}
 
 run_met : (run : ℕ) (v : PortValue) (putter : PutterState Flagged) → BeginsRun run v → BeginsRun run (record v { flip = after_meeting v.flip putter })
@@ -141,16 +141,16 @@ module _ (b : LineStart) (v : PortValue) (putter now : PutterState Flagged) (lin
 
   module _ (met after : PutterState Flagged) (x : PortValue) (most : ℕ) (most_is : most ≡ min (length now.sent - length putter.sent) 64)
       (port : IsPort v) (taken : v.terminal.taken ≡ length v.flip.taken)
-      (meets : MeetsTaker v.flip now met) (again : MeetsTaker x.flip met after) where
-    -- the port when both ends had met
+      (heard : met ≡ with_all_pushed now) (again : MeetsTaker x.flip met after) where
+    -- the port when it was told of what was put
     abbrev told : PortValue
     told = record v { flip = after_meeting v.flip now }
 
     in_line_told : IsInLine b told met next (done ++ step ∷ [])
-    in_line_told = in_line_met b v now met next (done ++ step ∷ []) (in_line_steps b v putter now line next done step i.in_line st) meets
+    in_line_told = in_line_heard b v now met next (done ++ step ∷ []) (in_line_steps b v putter now line next done step i.in_line st) heard
 
     met_sent : met.sent ≡ now.sent
-    met_sent = sent_met v.flip now met meets
+    met_sent = ap (λ (p : PutterState Flagged). p.sent) heard
 
     after_sent : after.sent ≡ now.sent
     after_sent = sent_met x.flip met after again ∙ met_sent
@@ -305,6 +305,6 @@ module _ (b : LineStart) (v : PortValue) (putter now : PutterState Flagged) (lin
   step_flushes w after most later most_is some f =
       let more : length putter.sent < length now.sent = omega arith in
       let comes : IsBetweenSteps b (record f.left { flip = after_meeting f.left.flip f.met }) after next (done ++ step ∷ []) (run_after run f.flushed) =
-      step_comes f.met after f.left most most_is f.port f.taken f.meets f.meets_again more f.flushed f.flushes in
+      step_comes f.met after f.left most most_is f.port f.taken f.hears f.meets more f.flushed f.flushes in
       subst (λ (m : ℕ). IsBetweenSteps b w after next (done ++ step ∷ []) m) (sym f.next_is)
       (subst (λ (y : PortValue). IsBetweenSteps b y after next (done ++ step ∷ []) (run_after run f.flushed)) (sym f.new_is) comes)

@@ -36,7 +36,7 @@ use Rattle.one_thread.proofs.Places.{in_phases_more, place_more, turns_more}
 use Rattle.one_thread.proofs.AfterLine.{run_of_port}
 use Rattle.one_thread.proofs.Entries.{place_is}
 use Rattle.one_thread.proofs.LineTurns.{front_stuck, front_of_none, due_at, line_in_turn}
-use Rattle.one_thread.proofs.LineSteps.{sent_met, knows_met, has_put_met, has_put_at, in_line_met, StepsTo, in_line_steps}
+use Rattle.one_thread.proofs.LineSteps.{sent_met, knows_met, has_put_met, has_put_at, in_line_met, in_line_heard, StepsTo, in_line_steps}
 use Rattle.journal_check.proofs.ReceiptLemmas.{first_more}
 
 same_number : (m n : ℕ) → (m == n) ≡ true → m ≡ n
@@ -140,7 +140,7 @@ pub stops_at_cut : (d : Denied) (b : LineStart) (v w : PortValue) (putter now me
 stops_at_cut d b v w putter now met line next done left step script i st h =
     stops_denied d b (record v { flip = after_meeting v.flip now }) w met next (done ++ step ∷ []) left
     (script ∙ sym (append_assoc done (step ∷ []) left))
-    (in_line_met b v now met next (done ++ step ∷ []) (in_line_steps b v putter now line next done step i st) h.meets) h.denies
+    (in_line_heard b v now met next (done ++ step ∷ []) (in_line_steps b v putter now line next done step i st) h.hears) h.denies
 
 -- ---- the end
 

@@ -32,7 +32,7 @@ use Rattle.one_thread.specs.Order.{Place, IsInTurn, AreInTurn, first_place}
 use Rattle.one_thread.specs.Roles.{Scene}
 use Rattle.one_thread.specs.Stages.{IsOfScene, BeginsRun, RunsBelow, place_of}
 use Rattle.one_thread.specs.Lines.{HasPut}
-use Rattle.one_thread.specs.LineInside.{LineStart, steps_before, IsInLine, KnowsTaken}
+use Rattle.one_thread.specs.LineInside.{LineStart, steps_before, IsInLine, KnowsTaken, with_all_pushed}
 use Rattle.one_thread.proofs.Places.{in_phases_more, place_more, turns_more}
 use Rattle.journal_check.proofs.Truths.{if_false}
 
@@ -182,6 +182,33 @@ in_line_met b v putter now line steps i m = record {
   most = i.most;
   arrived = i.arrived;
 }
+
+-- the end that takes out was told of all that was put
+pub in_line_heard : (b : LineStart) (v : PortValue) (putter now : PutterState Flagged) (line : LineState) (steps : List LineStep)
+    → IsInLine b v putter line steps → now ≡ with_all_pushed putter → IsInLine b (record v { flip = after_meeting v.flip putter }) now line steps
+in_line_heard b v putter now line steps i heard =
+    subst (λ (p : PutterState Flagged). IsInLine b (record v { flip = after_meeting v.flip putter }) p line steps) (sym heard)
+    (record {
+      of_scene = scene_met b.scene v putter i.of_scene;
+      within = i.within;
+      phase = i.phase;
+      line_over = i.line_over;
+      clock_over = i.clock_over;
+      callers = i.callers;
+      flushes = i.flushes;
+      added = i.added;
+      leads = i.leads;
+      inside = i.inside;
+      no_end = i.no_end;
+      tick = i.tick;
+      sent = i.sent;
+      ring = i.ring;
+      capacity = i.capacity;
+      some_room = i.some_room;
+      has_put = record { ring = i.has_put.ring; capacity = i.has_put.capacity; done = i.has_put.done; hands_over = i.has_put.hands_over; room = i.has_put.room };
+      most = i.most;
+      arrived = i.arrived;
+    })
 
 -- ---- a piece is flushed
 

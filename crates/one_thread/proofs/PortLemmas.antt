@@ -284,7 +284,7 @@ script_none p session = refl
 -- a port that was opened for the scene
 pub opened_at : (s : Scene) (counts : List ℕ) (flip : TakerState Flagged) (putter : PutterState Flagged) (line : LineState)
     → counts ≡ counts_on s.port s.session → flip.capacity ≡ flip_on s.port s.session → 64 ≤ flip.capacity → putter.ring ≡ flip.ring → putter.capacity ≡ flip.capacity → putter.sent ≡ [] → putter.heads ≡ []
-    → HasDone line [] → line.most ≡ character_count s.port s.session.phases → line.most ≤ 262144 → line.report.overruns.items ≡ []
+    → HasDone line [] → character_count s.port s.session.phases ≤ line.most → line.most ≤ 262144 → line.report.overruns.items ≡ []
     → IsAtPhase s 0 (record { terminal = opening (sum counts) flip.capacity; journal = []; kept = []; counts = counts; limit = 4194304; starved = false; flip = flip }) putter line 0
 opened_at s counts flip putter line is capacity room ring same none heads done most few_most no_overruns = record {
   of_scene = record { counts = is; capacity = capacity; limit = refl; known = λ c step call h. absurd (cc); in_phases = tt; turns = tt };

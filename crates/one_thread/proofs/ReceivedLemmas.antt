@@ -6,7 +6,7 @@ use Rattle.std.proofs.lemmas.Bool.{ne_eqb}
 use Rattle.std.proofs.lemmas.List.{reverse-append, take-append-drop, take_all, take-take, map-append}
 use Rattle.std.proofs.lemmas.List.Elements.{All-head, All-tail, All-nil, All-cons, All-weaker}
 use Rattle.std.proofs.lemmas.List.Folds.{list_any-append}
-use Rattle.std.proofs.lemmas.List.Sums.{sum_by-cons, sum_by-take-le}
+use Rattle.std.proofs.lemmas.List.Sums.{sum_by-cons, sum_by_more, sum_by-take-le}
 use Rattle.tty_base.specs.declared.characters.Flagged.{Flagged}
 use Rattle.tty_base.specs.declared.lines.LineStep.{LineStep}
 use Rattle.tty_base.specs.declared.lines.LineStep.TheVariants.{Unmask, Idle}
@@ -14,7 +14,7 @@ use Rattle.tty_base.specs.declared.lines.Overrun.{Overrun}
 use Rattle.tty_base.specs.Lines.{arrival_count}
 use Rattle.uart_line.specs.Received.{is_cut, window, window_output, received_list_after, received_list, closed_script, script}
 use Rattle.uart_line.specs.Offered.{PutAnswer, accepts, refuses, accepted_list, overrun_list, AreAmong, HandsOver, kept_list_from, kept_list}
-use Rattle.uart_line.proofs.Steps.{arrival_count-append}
+use Rattle.uart_line.proofs.Steps.{arrival_count-append, few_arrive}
 use Rattle.tty_calls.specs.Limits.{character_count}
 use Rattle.tty_calls.specs.Sessions.{PlainPhase, PlainSession, line_on}
 use Rattle.journal_check.specs.Legal.{phase_at, script_of_first, script_on, received_before, IsOfPhase}
@@ -237,3 +237,14 @@ arrivals_fit p s k h =
     let all = script_arrivals p (take (k + 1) s.phases) in
     let most = sum_by-take-le (λ (phase : PlainPhase). arrival_count (line_on p phase)) s.phases (k + 1) in
     omega (arith, next, closed, all, most)
+
+-- the steps of one more phase bring no more characters than they are
+pub room_more : (p : ℕ) (s : PlainSession) (k room : ℕ) (steps : List LineStep) → k < length s.phases → steps ≡ line_on p (phase_at s k)
+    → character_count p (take k s.phases) ≤ room → character_count p (take (k + 1) s.phases) ≤ room + length steps
+room_more p s k room steps lt is le =
+    let more = sum_by_more (λ (phase : PlainPhase). arrival_count (line_on p phase)) s.phases k (record { lines = []; ticks = []; callers = [] }) lt in
+    omega (arith, more, le, few_arrive steps, ap arrival_count is)
+
+-- some phases bring no more than all
+pub count_part : (p : ℕ) (phases : List PlainPhase) (k : ℕ) → character_count p (take k phases) ≤ character_count p phases
+count_part p phases k = sum_by-take-le (λ (phase : PlainPhase). arrival_count (line_on p phase)) phases k

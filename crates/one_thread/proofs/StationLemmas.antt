@@ -97,7 +97,7 @@ at_next_phase s k old mid new putter now left line played run after_line next be
       some_room = let room = before.some_room in omega (arith, room, capacity);
       sent = ap (λ (t : Terminal). t.sent) ends.next ∙ ends.sent ∙ plays.sent ∙ ap (λ (p : PutterState Flagged). length p.sent) (sym ends.met);
       has_put = put;
-      most = plays.most ∙ before.most;
+      most = (let same = plays.most in let most = before.most in omega arith);
     }
 
 -- the line of the phase, and what comes after it

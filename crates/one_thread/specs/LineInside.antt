@@ -99,20 +99,24 @@ abbrev pub run_after : ℕ → Flushed → ℕ
 run_after run (Took n) = run + 1
 run_after run Nothing = run
 
--- both ends met, one piece was asked for, and both ends met again
+-- all that was put is pushed
+abbrev pub with_all_pushed : PutterState Flagged → PutterState Flagged
+with_all_pushed putter = record putter { pushed = putter.sent }
+
+-- the end that takes out was told of all that was put, one piece was asked for, and both ends met
 pub record FlushesCut (old new : PortValue) (putter now : PutterState Flagged) (run most next : ℕ) : Type 0 where
   pub port : IsPort old
   pub taken : old.terminal.taken ≡ length old.flip.taken
   pub met : PutterState Flagged
-  pub meets : MeetsTaker old.flip putter met
+  pub hears : met ≡ with_all_pushed putter
   pub left : PortValue
   pub flushed : Flushed
   pub flushes : Flushes (record old { flip = after_meeting old.flip putter }) left run 0 most flushed
   pub next_is : next ≡ run_after run flushed
   pub new_is : new ≡ record left { flip = after_meeting left.flip met }
-  pub meets_again : MeetsTaker left.flip met now
+  pub meets : MeetsTaker left.flip met now
 
--- both ends met, and the piece was denied
+-- the end that takes out was told of all that was put, and the piece was denied
 pub record DeniesCut (d : Denied) (old new : PortValue) (putter now : PutterState Flagged) : Type 0 where
-  pub meets : MeetsTaker old.flip putter now
+  pub hears : now ≡ with_all_pushed putter
   pub denies : Denies d (record old { flip = after_meeting old.flip putter }) new

@@ -42,7 +42,7 @@ pub record IsAtPhase (s : Scene) (k : ℕ) (v : PortValue) (putter : PutterState
   pub some_room : 64 ≤ v.flip.capacity
   pub sent : v.terminal.sent ≡ length putter.sent
   pub has_put : HasPut v putter line (script_of_first s.port s.session k)
-  pub most : line.most ≡ character_count s.port s.session.phases
+  pub most : character_count s.port s.session.phases ≤ line.most
 
 -- an overrun in the line of phase k that has seen so many characters taken
 pub record SeesIn (s : Scene) (k seen : ℕ) (o : Overrun) : Type 0 where

@@ -47,7 +47,7 @@ pub(crate) fn play_line(
         next = passed.run;
     }
     next = play_step(port, putter, line, LineStep::Unmask, next)?;
-    next = play_step(port, putter, line, LineStep::Idle(TIMEOUT), next)?;
+    next = play_step(port, putter, line, LineStep::Idle(TIMEOUT as u16), next)?;
     let _journal = port.journal();
     port.line_end(putter)?;
     Ok(next)
@@ -64,6 +64,7 @@ struct Passed {
 
 /// The next of these steps of the line, or a whole window of them. Where they put characters, as many
 /// of these are flushed as can be.
+#[inline(always)]
 fn play_window(
     port: &mut Port,
     putter: &mut FlipIn,
@@ -99,6 +100,7 @@ fn play_window(
 }
 
 /// A step of the line, and a flush of what it has put.
+#[inline(never)]
 fn play_step(
     port: &mut Port,
     putter: &mut FlipIn,
@@ -131,6 +133,7 @@ fn steps_from(steps: &[LineStep], at: usize) -> &[LineStep]
 }
 
 /// Flushes what was put last, so many characters at most. Answers the number of the next flush run.
+#[inline(always)]
 fn flush_cut(port: &mut Port, putter: &mut FlipIn, run: u32, most: u32) -> Result<u32, Denied>
     requires ring { putter.old.ring ≡ port.old.flip.ring }
     requires run { BeginsRun run port.old }
@@ -141,7 +144,7 @@ fn flush_cut(port: &mut Port, putter: &mut FlipIn, run: u32, most: u32) -> Resul
 {
     port.numbers_tell();
     let _journal = port.journal();
-    port.meet(putter);
+    port.hear(putter);
     let flushed = port.flush_piece(run, 0, most)?;
     port.meet(putter);
     Ok(run_after(run, flushed))

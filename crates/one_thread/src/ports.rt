@@ -19,42 +19,25 @@ use tty_base::{LineStep, NoMemory};
 use tty_calls::{Denied, Names, PortEnd, PortRun, Session};
 use uart_line::Line;
 
+/// How many characters may arrive on a port.
+const MOST_ARRIVALS: usize = 262_144;
+
 /// How many entries a port's journal may have.
 pub const JOURNAL_LIMIT: u32 = 4_194_304;
 
-/// How many characters arrive in a step.
-fn arrivals_of(step: LineStep) -> u32
-    ensures { result ≡ length (arrival step) }
-{
-    match step {
-        LineStep::Rx(_) | LineStep::Break => 1,
-        LineStep::Idle(_) | LineStep::Mask | LineStep::Unmask | LineStep::Trigger(_) => 0,
-    }
-}
-
-/// How many characters arrive in these steps.
-fn arrivals_in(steps: &[LineStep]) -> u32
-    requires { arrival_count steps.now ≤ 262144 }
-    ensures { result ≡ arrival_count steps.now }
-{
-    let mut count = 0;
-    for step in steps {
-        count += arrivals_of(*step);
-    }
-    count
-}
-
-/// How many characters arrive on a port.
-fn characters_on(session: &Session, number: usize) -> u32
+/// At least as many as the characters that arrive on a port: the steps of its line, or the most that
+/// may arrive.
+fn room_on(session: &Session, number: usize) -> u32
     requires within { IsWithinLimits (session_of session.now) }
     requires port { number < (session_of session.now).ports }
-    ensures { result ≡ character_count number (session_of session.now).phases }
+    ensures enough { character_count number (session_of session.now).phases ≤ result }
+    ensures few { result ≤ 262144 }
 {
-    let mut count = 0;
+    let mut steps: usize = 0;
     for k in 0..session.phases.len() {
-        count += arrivals_in(steps_of(session, number, k));
+        steps = steps.saturating_add(steps_of(session, number, k).len());
     }
-    count
+    steps.min(MOST_ARRIVALS) as u32
 }
 
 /// A port at the beginning of its session.
@@ -75,7 +58,7 @@ pub fn open_port(
     Ok(Station {
         port: Port::new(alloc, counts.as_slice(), JOURNAL_LIMIT, taker)?,
         putter,
-        line: Line::new(alloc, characters_on(session, number))?,
+        line: Line::new(alloc, room_on(session, number))?,
         steps: vec![in alloc; 0; names.len()]?,
     })
 }

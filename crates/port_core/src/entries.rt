@@ -2,15 +2,16 @@
 //! it changes anything.
 
 ghost use Rattle.std.specs.Prelude.{◌≡◌, ◌≤◌, ◌<◌, [], true, IfOk, IfErr, OnOk};
-ghost use Rattle.tty_calls.specs.declared.journals.Who.TheVariants.{Caller};
+ghost use Rattle.tty_calls.specs.declared.journals.Who.TheVariants.{Caller, Flusher};
+ghost use Rattle.tty_calls.specs.declared.journals.Event.TheVariants.{Flush};
 ghost use Rattle.tty_calls.specs.Plain.{call_of};
-ghost use Rattle.tty_terminal.specs.Meeting.{IsRoomFor, room_for};
+ghost use Rattle.tty_terminal.specs.Meeting.{IsAnswerRoom, IsRoomFor};
 ghost use Rattle.port_core.specs.Kept.{asked_after};
 
 use http_server::Log;
 use std::alloc::Global;
-use tty_base::{Bytes, Chars, NoMemory};
-use tty_calls::{Call, Denied, Entry, Event, Journal, Who};
+use tty_base::{Chars, NoMemory};
+use tty_calls::{AnswerRoom, Call, Denied, Entry, Event, Journal, Who};
 use tty_terminal::{ROOM_FOR_CALL, Room, Terminal};
 
 /// A caller's step.
@@ -42,11 +43,11 @@ pub(crate) fn starve(starved: &mut bool) -> Denied
     Denied::NoMemory
 }
 
-/// What a call needs beside the port: room for the bytes of its answer, in the journal and for the
-/// caller; and what the terminal needs.
+/// What a call needs beside the port: room for the journal's copy of its answer; and what the terminal
+/// needs.
 #[derive(Drop)]
 pub(crate) struct Prepared {
-    pub(crate) bytes: Bytes,
+    pub(crate) copy: AnswerRoom,
     pub(crate) room: Room,
 }
 
@@ -64,21 +65,20 @@ pub(crate) fn reserve_entry(journal: &mut Journal, starved: &mut bool) -> Result
     }
 }
 
-/// An empty list with room for so many bytes.
+/// Takes the memory for so many more characters, or notes that none is left.
 #[inline(always)]
-pub(crate) fn room_for_bytes(
-    alloc: Global,
+pub(crate) fn reserve_chars(
+    chars: &mut Chars,
     starved: &mut bool,
     room: usize,
-) -> Result<Bytes, Denied>
-    ensures empty { IfOk result (λ bytes. bytes.items ≡ []) }
-    ensures fits { IfOk result (λ bytes. room ≤ bytes.spare) }
+) -> Result<(), Denied>
+    ensures items { chars.new.items ≡ chars.old.items }
+    ensures room { OnOk result (room ≤ chars.new.spare) }
     ensures ok { OnOk result (starved.new ≡ starved.old) }
     ensures err { IfErr result (λ d. (d ≡ Denied.NoMemory) × (starved.new ≡ true)) }
 {
-    let mut bytes = Bytes::new(alloc);
-    match bytes.reserve(room) {
-        Ok(()) => Ok(bytes),
+    match chars.reserve(room) {
+        Ok(()) => Ok(()),
         Err(NoMemory) => Err(starve(starved)),
     }
 }
@@ -95,10 +95,8 @@ pub(crate) fn room_for_chars(
     ensures err { IfErr result (λ d. (d ≡ Denied.NoMemory) × (starved.new ≡ true)) }
 {
     let mut chars = Chars::new(alloc);
-    match chars.reserve(room) {
-        Ok(()) => Ok(chars),
-        Err(NoMemory) => Err(starve(starved)),
-    }
+    reserve_chars(&mut chars, starved, room)?;
+    Ok(chars)
 }
 
 /// The same characters, without the room that was not used, as far as memory is there for a copy.
@@ -123,18 +121,21 @@ pub(crate) fn copy_of(alloc: Global, starved: &mut bool, call: &Call) -> Result<
     }
 }
 
-/// What the terminal needs for a call.
+/// What a call needs that is answered or takes a part.
 #[inline(always)]
-fn room_for_call(alloc: Global, terminal: &mut Terminal, call: &Call) -> Result<Room, NoMemory>
+fn room_for_call(alloc: Global, terminal: &mut Terminal, call: &Call) -> Result<Prepared, NoMemory>
     ensures same { terminal.new.terminal ≡ terminal.old.terminal }
-    ensures room { IfOk result (λ room. IsRoomFor terminal.new.terminal (call_of call.now) room) }
+    ensures copy { IfOk result (λ p. IsAnswerRoom terminal.new.terminal (call_of call.now) p.copy) }
+    ensures room { IfOk result (λ p. IsRoomFor terminal.new.terminal (call_of call.now) p.room) }
     ensures wire { OnOk result (ROOM_FOR_CALL ≤ terminal.new.wire_room) }
 {
     terminal.reserve(ROOM_FOR_CALL, 0)?;
-    terminal.make_room(alloc, call)
+    let copy = terminal.answer_room(alloc, call)?;
+    let room = terminal.make_room(alloc, call)?;
+    Ok(Prepared { copy, room })
 }
 
-/// What a call needs that is answered or takes a part.
+/// What a call needs that is answered or takes a part, or notes that no memory is left.
 #[inline(always)]
 pub(crate) fn prepare(
     alloc: Global,
@@ -144,15 +145,13 @@ pub(crate) fn prepare(
 ) -> Result<Prepared, Denied>
     ensures terminal { terminal.new.terminal ≡ terminal.old.terminal }
     ensures wire { OnOk result (ROOM_FOR_CALL ≤ terminal.new.wire_room) }
-    ensures empty { IfOk result (λ p. p.bytes.items ≡ []) }
-    ensures fits { IfOk result (λ p. room_for terminal.new.terminal (call_of call.now) ≤ p.bytes.spare) }
+    ensures copy { IfOk result (λ p. IsAnswerRoom terminal.new.terminal (call_of call.now) p.copy) }
     ensures room { IfOk result (λ p. IsRoomFor terminal.new.terminal (call_of call.now) p.room) }
     ensures ok { OnOk result (starved.new ≡ starved.old) }
     ensures err { IfErr result (λ d. (d ≡ Denied.NoMemory) × (starved.new ≡ true)) }
 {
-    let bytes = room_for_bytes(alloc, starved, terminal.room_for(call))?;
     match room_for_call(alloc, terminal, call) {
-        Ok(room) => Ok(Prepared { bytes, room }),
+        Ok(made) => Ok(made),
         Err(NoMemory) => Err(starve(starved)),
     }
 }
@@ -173,5 +172,19 @@ pub(crate) fn entry_of_call(
         part,
         generation,
         event,
+    }
+}
+
+/// An entry of a piece of a flush run.
+#[inline(always)]
+pub(crate) fn entry_of_flush(run: u32, part: u32, generation: u32, chars: Chars) -> Entry
+    ensures { result ≡ record { who = Flusher; step = run; part = part; generation = generation; event = Flush chars } }
+{
+    Entry {
+        who: Who::Flusher,
+        step: run,
+        part,
+        generation,
+        event: Event::Flush(chars),
     }
 }

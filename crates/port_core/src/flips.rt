@@ -8,9 +8,8 @@ ghost use Rattle.tty_terminal.specs.Receiving.{accepts, after_characters, Accept
 ghost use Rattle.tty_terminal.specs.Meeting.{room_for_characters};
 ghost use Rattle.port_core.specs.Flips.{shown_count, TakesOut, DropsShown, after_meeting, MeetsTaker};
 
-use arrayvec::ArrayVec;
 use flip_buffer::{FlipIn, FlipOut};
-use tty_base::{Chars, Flagged};
+use tty_base::Chars;
 use tty_terminal::Terminal;
 
 /// Both ends are told what the other knows: all that was put is pushed, and both know it; and the
@@ -50,7 +49,7 @@ pub(crate) fn hand_over(
     flip: &mut FlipOut,
     count: usize,
     chars: &mut Chars,
-)
+) -> usize
     requires few { count ≤ 64 }
     requires looked { flip.old.peeked ≡ [] }
     requires empty { chars.old.items ≡ [] }
@@ -61,25 +60,29 @@ pub(crate) fn hand_over(
     requires signals { count ≤ terminal.old.signal_room }
     requires column { column_in terminal.old.terminal.disc + 2 ^ 22 * count < 2 ^ 62 }
     ensures takes_out { TakesOut flip.old flip.new chars.new.items }
+    ensures took { result ≡ length chars.new.items }
     ensures within { length chars.new.items ≤ count }
     ensures received { terminal.new.terminal ≡ after_characters terminal.old.terminal chars.new.items }
     ensures accepted { AcceptsAll terminal.old.terminal chars.new.items }
     ensures stops { length chars.new.items < count → accepts terminal.new.terminal ≡ false }
     ensures column { column_in terminal.new.terminal.disc ≤ column_in terminal.old.terminal.disc + 2 ^ 22 * count }
 {
-    let mut peeked = ArrayVec::new();
-    flip.peek(count, &mut peeked);
-    let received = terminal.receive_all(peeked.as_slice());
-    chars.append(front_of(peeked.as_slice(), received));
+    flip.peek(count, chars);
+    let received = terminal.receive_all(chars.as_slice());
+    keep_front(chars, count, received);
     flip.release(received);
+    received
 }
 
-/// The first `n` characters.
-fn front_of(chars: &[Flagged], n: usize) -> &[Flagged]
-    requires { n ≤ length chars.now }
-    ensures { result.now ≡ take n chars.now }
+/// Keeps the first `n` of so many characters. Mostly these are all.
+#[inline(always)]
+fn keep_front(chars: &mut Chars, count: usize, n: usize)
+    requires { count ≡ length chars.old.items }
+    ensures { chars.new.items ≡ take n chars.old.items }
 {
-    &chars[..n]
+    if n < count {
+        chars.truncate(n);
+    }
 }
 
 /// Takes out all that one look shows, and lists it in room that was reserved.

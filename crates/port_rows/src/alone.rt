@@ -78,7 +78,7 @@ fn is_same(one: &Answer, other: &Answer) -> bool {
         (Answer::Count(one), Answer::Count(other)) => one == other,
         (Answer::Number(one), Answer::Number(other)) => one == other,
         (Answer::Got(one), Answer::Got(other)) => one.as_slice() == other.as_slice(),
-        (Answer::CountsAre(one), Answer::CountsAre(other)) => one == other,
+        (Answer::CountsAre(one), Answer::CountsAre(other)) => **one == **other,
         (Answer::Refused(one), Answer::Refused(other)) => one == other,
         (Answer::ModesAre(_), Answer::ModesAre(_)) => true,
         _ => false,
@@ -91,6 +91,7 @@ fn calls_and_answers(alloc: Global) -> Result<Vec<(Call, Answer)>, AllocError> {
     let written = Bytes::from_vec(b"ab".to_vec(alloc)?);
     let refused = Bytes::from_vec(b"c".to_vec(alloc)?);
     let sent = Bytes::from_vec(b"c".to_vec(alloc)?);
+    let counts = Box::new(alloc, Counts::default())?;
     Ok(vec![in alloc;
         (
             Call::Open {
@@ -137,7 +138,7 @@ fn calls_and_answers(alloc: Global) -> Result<Vec<(Call, Answer)>, AllocError> {
         (Call::Drain { h: 0 }, Answer::Done),
         (Call::Inq { h: 0 }, Answer::Number(0)),
         (Call::Read { h: 0, n: 8 }, Answer::Refused(Errno::EAGAIN)),
-        (Call::Counts { h: 0 }, Answer::CountsAre(Counts::default())),
+        (Call::Counts { h: 0 }, Answer::CountsAre(counts)),
         (
             Call::Flush {
                 h: 0,

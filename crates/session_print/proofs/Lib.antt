@@ -4,3 +4,4 @@ mod Naming
 mod Numbering
 mod Pieces
 mod Telling
+mod Tens

@@ -2,12 +2,12 @@
 use Rattle.std.proofs.Common.{◌≡◌, ℕ, true, nat_eq, nat_lt, suc, List, [], ◌∷◌, ◌++◌, Option, None, Some, Result, Ok, Err, OnOk, is_ok, cond, ◌+◌, ◌*◌, ◌/◌, ◌%◌, ◌<◌, ◌≤◌, length, take, drop, get_or, set, map, option_map, unwrap_or, refl, sym, ap, ◌∙◌, arith, append_assoc, append-nil, drop-cons, add-one}
 use denote.Ref.{Bor}
 use Rattle.std.proofs.lemmas.Bool.{and_parts, eqb-true, ltb-true}
-use Rattle.std.proofs.lemmas.List.{nil_from_length, length-drop, length-set, take-append-drop, take_more, take_more_set}
+use Rattle.std.proofs.lemmas.List.{nil_from_length, length-drop, length-set, length-take-le, take-take, take-append-le, take_all, take-append-drop, take_more, take_more_set}
 use Rattle.std.proofs.lemmas.Str.{IsUtf8-from_ascii}
 use Rattle.std.proofs.lemmas.Str.Ascii.{IsAscii-nil, IsAscii-cons}
 use Rattle.std.specs.List.{list_all}
 use Rattle.std.specs.Str.{IsAscii, IsUtf8}
-use Rattle.hex.proofs.HexLemmas.{IsAscii-encode_with}
+use Rattle.hex.proofs.HexLemmas.{IsAscii-encode_with, length-encode_with}
 use Rattle.hex.specs.Hex.{encode_lower, encode_with, lower_digits}
 use Rattle.tty_calls.specs.declared.answers.PortEnd.{PortEnd}
 use Rattle.tty_calls.specs.declared.journals.PortRun.{PortRun}
@@ -20,6 +20,11 @@ use Rattle.session_print.specs.Report.{ports_from}
 pub pushed : {T E : Type 0} (r : Result T E) (new old x : List ℕ) → new ≡ cond (is_ok r) (old ++ x) old → OnOk r (new ≡ old ++ x)
 pushed (Ok t) new old x e = e
 pushed (Err e) new old x h = tt
+
+-- a push that succeeded, after another, of two parts of a text
+pub two_pushed : {T E : Type 0} (r : Result T E) (new mid old a b c : List ℕ) → mid ≡ old ++ a → a ++ b ≡ c → new ≡ cond (is_ok r) (mid ++ b) mid → OnOk r (new ≡ old ++ c)
+two_pushed (Ok t) new mid old a b c first whole second = second ∙ ap (λ xs. xs ++ b) first ∙ append_assoc old a b ∙ ap (λ xs. old ++ xs) whole
+two_pushed (Err e) new mid old a b c first whole second = tt
 
 -- three pieces, one after the other
 pub three : (first t u v a b c : List ℕ) → t ≡ first ++ a → u ≡ t ++ b → v ≡ u ++ c → v ≡ first ++ (a ++ (b ++ c))
@@ -51,6 +56,18 @@ encode_append : (xs ys : List ℕ) → encode_lower (xs ++ ys) ≡ encode_lower 
 unfolding encode_with
 encode_append [] ys = refl
 encode_append (b ∷ xs) ys = ap (λ zs. get_or lower_digits (b / 16) 0 ∷ get_or lower_digits (b % 16) 0 ∷ zs) (encode_append xs ys)
+
+-- the digits of the first of some bytes begin those of all
+pub first_of_digits : (bytes digits : List ℕ) (n m : ℕ) → n ≤ m → m ≤ length bytes → take (2 * m) digits ≡ encode_lower (take m bytes) → take (2 * n) digits ≡ encode_lower (take n bytes)
+first_of_digits bytes digits n m less within all =
+    let front : List ℕ = encode_lower (take n bytes) in
+    let rest : List ℕ = encode_lower (drop n (take m bytes)) in
+    let len : length front ≡ 2 * n = length-encode_with lower_digits (take n bytes) ∙ ap (λ k. 2 * k) (length-take-le n bytes (omega (arith, less, within))) in
+    sym (take-take (2 * n) (2 * m) digits (omega (arith, less)))
+    ∙ ap (take (2 * n)) (all ∙ ap encode_lower (sym (take-append-drop n (take m bytes))) ∙ encode_append (take n (take m bytes)) (drop n (take m bytes)))
+    ∙ ap (λ xs. take (2 * n) (encode_lower xs ++ rest)) (take-take n m bytes less)
+    ∙ take-append-le (2 * n) front rest (omega (arith, len))
+    ∙ take_all (2 * n) front (omega (arith, len))
 
 -- the digits of a byte more
 pub digits_more : (bytes digits : List ℕ) (place high low : ℕ) → place < length bytes → 2 * place + 1 < length digits → high ≡ get_or lower_digits (get_or bytes place 0 / 16) 0 → low ≡ get_or lower_digits (get_or bytes place 0 % 16) 0

@@ -8,13 +8,15 @@ use Rattle.tty_calls.specs.Sessions.{PlainScript, phase_of, scripts_over, number
 use Rattle.tty_calls.specs.Plain.{PlainAnswer, call_of}
 use Rattle.session_print.specs.Report.{Told, told_line, told_from}
 use Rattle.session_print.proofs.Pieces.{next_item, drop_all}
-use Rattle.session_print.specs.Printing.{scripts_for, told_script, steps_then, told_scripts, steps_after}
+use Rattle.session_print.specs.Printing.{call_head, tens, scripts_for, told_script, steps_then, told_scripts, steps_after}
 
 -- the text so far and the lines of the calls that are left
-pub record Stepping (p : ℕ) (answers : ℕ → ℕ → Option PlainAnswer) (name first : List ℕ) (caller step : ℕ) (calls : List Call) (text : List ℕ) (c s i : ℕ) : Type 0 where
+pub record Stepping (p : ℕ) (answers : ℕ → ℕ → Option PlainAnswer) (name first : List ℕ) (caller step : ℕ) (calls : List Call) (text front shared : List ℕ) (c s i : ℕ) : Type 0 where
   pub same_caller : c ≡ caller
   pub at_step : s ≡ step + i
   pub left : text ++ flat_map (told_line p answers) (told_from name (Some c) s (map call_of (drop i calls))) ≡ first ++ flat_map (told_line p answers) (told_from name (Some caller) step (map call_of calls))
+  pub begins : front ≡ call_head p name
+  pub shares : shared ≡ front ++ tens s
 
 -- the text so far and the lines of the scripts that are left
 pub record Scripting (p : ℕ) (answers : ℕ → ℕ → Option PlainAnswer) (names : List (List ℕ)) (first : List ℕ) (steps : List ℕ) (scripts : List Script) (text now : List ℕ) (i : ℕ) : Type 0 where

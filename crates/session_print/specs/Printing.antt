@@ -1,5 +1,5 @@
 -- How the printer goes on: for private functions alone.
-use Rattle.std.specs.Prelude.{ℕ, List, [], ◌∷◌, ◌++◌, ◌+◌, Option, None, Some, Bool, ◌&&◌, ◌==◌, if◌then◌else◌, codes, decimal, filter, flat_map, length, map, slice_index, slice_index_or, slice_set}
+use Rattle.std.specs.Prelude.{ℕ, List, [], ◌∷◌, ◌++◌, ◌+◌, ◌/◌, nat_lt, Option, None, Some, Bool, ◌&&◌, ◌==◌, if◌then◌else◌, codes, decimal, filter, flat_map, length, map, slice_index, slice_index_or, slice_set}
 use Rattle.std.specs.List.{range_with_len}
 use Rattle.std.specs.Option.{option_map}
 use denote.Ref.{Bor}
@@ -36,6 +36,10 @@ call_head p name = decimal p ++ (codes "." ++ (name ++ codes "."))
 
 abbrev pub call_rest : ℕ → PlainCall → PlainAnswer → List ℕ
 call_rest step call answer = decimal step ++ (codes " " ++ (verb_of call ++ (codes " " ++ (answer_text answer ++ newline))))
+
+-- the digits of a step before the last, as the text of a number begins with them
+abbrev pub tens : ℕ → List ℕ
+tens step = if nat_lt step 10 then [] else decimal (step / 10)
 
 -- the scripts of a port's callers
 abbrev pub scripts_for : ℕ → List Script → List PlainScript

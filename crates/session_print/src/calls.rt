@@ -2,10 +2,10 @@ ghost use Rattle.std.specs.Prelude.{◌≡◌, ◌++◌, ◌+◌, ◌<◌, ◌^�
 ghost use Rattle.tty_calls.specs.Plain.{call_of, answer_of};
 ghost use Rattle.tty_calls.specs.Sessions.{script_of, number_in, session_of};
 ghost use Rattle.session_print.specs.Report.{calls_text, told_line, told_from};
-ghost use Rattle.session_print.specs.Printing.{call_head, call_rest, noted_answer, scripts_for, told_script, steps_then, told_scripts, steps_after};
+ghost use Rattle.session_print.specs.Printing.{call_head, call_rest, tens, noted_answer, scripts_for, told_script, steps_then, told_scripts, steps_after};
 
 use super::answers::{Answers, Turn, answers_of};
-use super::digits::put_number;
+use super::digits::{digit_text, put_number};
 use super::words::{put_answer, verb_of};
 use std::alloc::{AllocError, Global};
 use tty_base::NoMemory;
@@ -99,16 +99,80 @@ impl Teller<'_> {
         ensures { OnOk result (string_bytes text.new ≡ string_bytes text.old
             ++ flat_map (told_line self.now.port (noted_answer self.now.answers)) (told_from name.now (Some first.caller) first.step (map call_of calls.now))) }
     {
-        let head = head_of(*text.allocator(), self.port, name)?;
+        let mut head = Head::new(*text.allocator(), self.port, name, first.step)?;
         let mut turn = first;
         for call in calls {
             if let Some(answer) = self.answers.get(turn) {
-                put_call(text, head.as_str(), turn.step, call, answer)?;
+                head.put_call(text, turn.step, call, answer)?;
             }
+            head.pass(turn.step)?;
             turn.step += 1;
         }
         Ok(())
     }
+}
+
+/// What the lines of a caller's calls begin with.
+#[derive(Drop)]
+struct Head {
+    /// The part that all lines have.
+    front: String,
+    /// The same and what ten steps share of their number: its digits before the last.
+    shared: String,
+}
+
+impl Head {
+    /// What the line of this step begins with.
+    fn new(alloc: Global, port: usize, name: &str, step: usize) -> Result<Head, AllocError>
+        ensures front { IfOk result (λ head. string_bytes head.front ≡ call_head port name.now) }
+        ensures shared { IfOk result (λ head. string_bytes head.shared ≡ string_bytes head.front ++ tens step) }
+    {
+        let front = head_of(alloc, port, name)?;
+        let mut shared = String::new(alloc);
+        set_tens(&mut shared, front.as_str(), step)?;
+        Ok(Head { front, shared })
+    }
+
+    /// Goes on from this step to the next.
+    #[inline(always)]
+    fn pass(&mut self, step: usize) -> Result<(), AllocError>
+        requires shared { string_bytes self.old.shared ≡ string_bytes self.old.front ++ tens step }
+        requires counted { step + 1 < 2 ^ 64 }
+        ensures front { string_bytes self.new.front ≡ string_bytes self.old.front }
+        ensures shared { OnOk result (string_bytes self.new.shared ≡ string_bytes self.new.front ++ tens (step + 1)) }
+    {
+        if step % 10 < 9 {
+            return Ok(());
+        }
+        set_tens(&mut self.shared, self.front.as_str(), step + 1)
+    }
+
+    /// Adds the line of a call and its answer.
+    fn put_call(
+        &self,
+        text: &mut String,
+        step: usize,
+        call: &Call,
+        answer: &Answer,
+    ) -> Result<(), AllocError>
+        requires { string_bytes self.now.shared ≡ string_bytes self.now.front ++ tens step }
+        ensures { OnOk result (string_bytes text.new ≡ string_bytes text.old ++ (string_bytes self.now.front ++ call_rest step (call_of call.now) (answer_of answer.now))) }
+    {
+        put_call(text, self.shared.as_str(), step as u64 % 10, call, answer)
+    }
+}
+
+/// Makes of a text a front and the digits of a step before its last.
+#[inline(never)]
+fn set_tens(head: &mut String, front: &str, step: usize) -> Result<(), AllocError>
+    ensures { OnOk result (string_bytes head.new ≡ front.now ++ tens step) }
+{
+    head.clear();
+    head.push_str(front)?;
+    if step < 10 {
+        return Ok(());
+    }
+    put_number(head, step as u64 / 10)
 }
 
 /// What the line of a call begins with.
@@ -120,18 +184,20 @@ fn head_of(alloc: Global, port: usize, name: &str) -> Result<String, AllocError>
     Ok(head)
 }
 
-/// Adds the line of a call and its answer, after what it begins with.
+/// Adds the line of a call and its answer, whose head lacks the last digit of the step.
+#[inline(always)]
 fn put_call(
     text: &mut String,
     head: &str,
-    step: usize,
+    digit: u64,
     call: &Call,
     answer: &Answer,
 ) -> Result<(), AllocError>
-    ensures { OnOk result (string_bytes text.new ≡ string_bytes text.old ++ (head.now ++ call_rest step (call_of call.now) (answer_of answer.now))) }
+    requires { digit < 10 }
+    ensures { OnOk result (string_bytes text.new ≡ string_bytes text.old ++ (head.now ++ call_rest digit (call_of call.now) (answer_of answer.now))) }
 {
     text.push_str(head)?;
-    put_number(text, step as u64)?;
+    text.push_str(digit_text(digit))?;
     text.push_str(verb_of(call))?;
     put_answer(text, answer)?;
     text.push_str("\n")

@@ -65,8 +65,7 @@ fn put_flip(text: &mut String, port: usize, session: &Session) -> Result<(), All
 fn put_input(text: &mut String, port: usize, entries: &[Entry]) -> Result<(), NoMemory>
     ensures { OnOk result (string_bytes text.new ≡ string_bytes text.old ++ input_line port (entries_of entries.now)) }
 {
-    let flushed = flushed_characters(entries)?;
-    let dropped = dropped_characters(entries)?;
+    let (flushed, dropped) = sums_of(entries)?;
     write!(
         text,
         "port {port} input taken={flushed} dropped={dropped}\n"
@@ -132,15 +131,18 @@ pub(crate) fn flushed_characters(entries: &[Entry]) -> Result<u64, NoMemory>
     Ok(count)
 }
 
-/// How many characters were dropped beside the answers of a journal and at its hangup.
-fn dropped_characters(entries: &[Entry]) -> Result<u64, NoMemory>
-    ensures { IfOk result (λ count. count ≡ dropped_count (entries_of entries.now)) }
+/// How many characters a journal flushes, and how many were dropped beside its answers and at its
+/// hangup, counted in one walk.
+fn sums_of(entries: &[Entry]) -> Result<(u64, u64), NoMemory>
+    ensures { IfOk result (λ sums. (sums.0 ≡ flushed_count (entries_of entries.now)) × (sums.1 ≡ dropped_count (entries_of entries.now))) }
 {
-    let mut count = 0u64;
+    let mut flushed = 0u64;
+    let mut dropped = 0u64;
     for entry in entries {
-        count = count.checked_add(dropped_in(entry)).ok_or(NoMemory)?;
+        flushed = flushed.checked_add(flushed_in(entry)).ok_or(NoMemory)?;
+        dropped = dropped.checked_add(dropped_in(entry)).ok_or(NoMemory)?;
     }
-    Ok(count)
+    Ok((flushed, dropped))
 }
 
 fn flushed_in(entry: &Entry) -> u64

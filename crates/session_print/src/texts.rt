@@ -26,6 +26,9 @@ pub fn report(
     play_text(alloc, session, runs, ends, false)
 }
 
+/// Room for a report at first, in bytes: so large a block is moved by its pages where it grows.
+const ROOM: usize = 262_144;
+
 /// The report of a session, and within it the journals of its ports where they are asked for.
 pub fn play_text(
     alloc: Global,
@@ -37,6 +40,7 @@ pub fn play_text(
     ensures { IfOk result (λ text. text.items ≡ text_of_play journals (session_of session.now) runs.now (map end_of ends.now)) }
 {
     let mut text = String::new(alloc);
+    text.reserve(ROOM)?;
     put_all_calls(alloc, &mut text, session, runs)?;
     put_ports(&mut text, session, runs, ends)?;
     if journals {

@@ -20,8 +20,12 @@ pub record PlainReading : Type 0 where
 abbrev pub first_reading : PlainReading
 first_reading = record { stand = first_stand; draft = first_draft }
 
+-- what the reader is after an item that is not wrong
+abbrev pub reading_with : PlainReading → Verb → List (List ℕ) → PlainReading
+reading_with r verb arguments = record { stand = stand_after r.stand verb arguments; draft = draft_after r.stand r.draft verb arguments }
+
 abbrev pub reading_after_item : PlainReading → ℕ → List (List ℕ) → Result Verb Reason → Result PlainReading BadLine
-reading_after_item r n arguments (Ok verb) = Ok (record { stand = stand_after r.stand verb arguments; draft = draft_after r.stand r.draft verb arguments })
+reading_after_item r n arguments (Ok verb) = Ok (reading_with r verb arguments)
 reading_after_item r n arguments (Err reason) = Err (record { line = n; reason = reason })
 
 -- what the reader is after the line with this number, of these words

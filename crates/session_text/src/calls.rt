@@ -16,7 +16,7 @@ use tty_base::{Buffer, Bytes, Flag, Flagged, LineStep, NoMemory};
 use tty_calls::{Access, Act, Call, Queue, When, Words};
 
 /// How many characters are added at a time.
-const PIECE: usize = 32;
+const PIECE: usize = 64;
 
 /// Adds what a line's item does.
 pub(crate) fn add_steps(
@@ -36,7 +36,7 @@ pub(crate) fn add_steps(
         LineVerb::Break => add_step(line, LineStep::Break),
         LineVerb::Mask => add_step(line, LineStep::Mask),
         LineVerb::Unmask => add_step(line, LineStep::Unmask),
-        LineVerb::Idle => add_step(line, LineStep::Idle(arguments.first_number() as u32)),
+        LineVerb::Idle => add_step(line, LineStep::Idle(arguments.first_number() as u16)),
         LineVerb::Trigger => add_step(line, LineStep::Trigger(arguments.first_number() as u8)),
     }
 }
@@ -81,7 +81,19 @@ fn append_characters(line: &mut Buffer<LineStep>, flag: Flag, bytes: &[u8])
 
 /// Makes the first steps the arrivals of these bytes.
 fn set_steps(steps: &mut [LineStep; PIECE], flag: Flag, bytes: &[u8])
-    requires { length bytes.now ≤ 32 }
+    requires { length bytes.now ≤ 64 }
+    ensures { take (length bytes.now) steps.new ≡ map (rx_step flag) bytes.now }
+{
+    // mostly good ones come, and a flag that is known takes half the time
+    match flag {
+        Flag::Normal => set_flagged(steps, Flag::Normal, bytes),
+        _ => set_flagged(steps, flag, bytes),
+    }
+}
+
+#[inline(always)]
+fn set_flagged(steps: &mut [LineStep; PIECE], flag: Flag, bytes: &[u8])
+    requires { length bytes.now ≤ 64 }
     ensures { take (length bytes.now) steps.new ≡ map (rx_step flag) bytes.now }
 {
     for place in 0..bytes.len() {
@@ -92,13 +104,14 @@ fn set_steps(steps: &mut [LineStep; PIECE], flag: Flag, bytes: &[u8])
 
 #[inline(always)]
 fn first_steps(steps: &[LineStep; PIECE], count: usize) -> &[LineStep]
-    requires { count ≤ 32 }
+    requires { count ≤ 64 }
     ensures { result.now ≡ take count steps.now }
 {
     &steps[..count]
 }
 
 /// The call that a verb and its arguments are, which have these mode words.
+#[inline(always)]
 pub(crate) fn call_of(
     alloc: Global,
     ports: u8,

@@ -47,6 +47,7 @@ impl Draft {
     }
 
     /// Adds what an item means that is not wrong where the reader stands, and that has these mode words.
+    #[inline(always)]
     pub(crate) fn add(
         &mut self,
         alloc: Global,
@@ -101,6 +102,7 @@ impl Draft {
         Ok(())
     }
 
+    #[inline(always)]
     fn add_to_phase(
         &mut self,
         alloc: Global,
@@ -158,6 +160,7 @@ impl OpenPhase {
     }
 
     /// Adds what an item of a phase's block means, which has these mode words.
+    #[inline(always)]
     fn add(
         &mut self,
         alloc: Global,
@@ -247,6 +250,7 @@ fn add_to_line(
 }
 
 /// Adds a call to the last caller's.
+#[inline(always)]
 fn add_call(callers: &mut [Script], call: Call) -> Result<(), NoMemory>
     ensures { OnOk result (map script_of callers.new ≡ with_call (call_view call) (map script_of callers.old)) }
 {

@@ -1,5 +1,6 @@
 ghost use Rattle.std.specs.Prelude.{◌≡◌, ◌/◌, nat_le, is_some, drop, length};
 ghost use Rattle.text_lines.specs.Lines.{words_of};
+ghost use Rattle.text_lines.specs.Values.{word_at};
 ghost use Rattle.session_text.specs.Kinds.{modes_in, may_have, line_may_have, call_may_have, kind_at, line_kind, call_kind, fault_of, fault_from, word_fault, limit_fault, hex_fault, is_trigger};
 
 use super::faults::Reason;
@@ -139,7 +140,7 @@ pub(crate) fn fault_in(ports: u8, verb: Verb, arguments: &Arguments, modes: usiz
     if count == 0 {
         return None;
     }
-    if let Some(reason) = fault_of(ports, kind_at(verb, 0), arguments.first()) {
+    if let Some(reason) = first_fault(ports, kind_at(verb, 0), arguments) {
         return Some(reason);
     }
     if count == 1 {
@@ -194,6 +195,20 @@ fn fault_behind(ports: u8, verb: Verb, line: &[u8]) -> Option<Reason>
         place += 1;
     }
     None
+}
+
+/// The same of the first argument, whose number was read before.
+#[inline(always)]
+fn first_fault(ports: u8, kind: Kind, arguments: &Arguments) -> Option<Reason>
+    ensures { result ≡ fault_of ports kind (word_at arguments.now 0) }
+{
+    match kind {
+        Kind::Number { least, most } => match arguments.first_read() {
+            None => Some(Reason::Number),
+            Some(number) => limit_fault(least <= number && number <= most),
+        },
+        _ => fault_of(ports, kind, arguments.first()),
+    }
 }
 
 #[inline(always)]

@@ -1,20 +1,23 @@
-ghost use Rattle.std.specs.Prelude.{◌≡◌, ◌⊎◌, Some, IfOk};
+ghost use Rattle.std.specs.Prelude.{◌≡◌, ◌⊎◌, Some, IfOk, OnOk, IsTrue};
 ghost use Rattle.session_text.specs.Fronts.{front_in};
+ghost use Rattle.session_text.specs.Kinds.{modes_in};
 ghost use Rattle.session_text.specs.Refusals.{refusal, lines_in};
 ghost use Rattle.session_text.specs.Grammar.{Spells};
 ghost use Rattle.tty_calls.specs.Sessions.{session_of as session_view};
 ghost use Rattle.text_lines.specs.Lines.{words_of};
-ghost use Rattle.session_text.specs.Reading.{Gives, first_reading, reading_after_line, reading_after_item, session_at_end, session_in};
-ghost use Rattle.session_text.specs.Stands.{verdict_on, is_ended};
+ghost use Rattle.session_text.specs.Reading.{Gives, first_reading, reading_with, reading_after_line, reading_after_item, session_at_end, session_in};
+ghost use Rattle.session_text.specs.Stands.{verdict_on, is_ended, is_good};
 ghost use Rattle.session_text.specs.Views.{stand_of, reading_of};
 
 use super::calls::modes_of;
 use super::drafts::Draft;
 use super::faults::{BadLine, Reason, TextFault};
 use super::stands::{Place, Stand};
+use super::verbs::Verb;
 use std::alloc::Global;
 use text_lines::{Arguments, is_comment, split_line, split_word};
-use tty_calls::Session;
+use tty_base::NoMemory;
+use tty_calls::{Session, Words};
 
 /// Where the reader of a text stands, and what it has read.
 #[derive(Debug, Drop)]
@@ -60,16 +63,63 @@ impl Reader {
     {
         let modes = modes_of(alloc, arguments)?;
         match self.stand.judge(word, arguments, modes.len()) {
-            Ok(verb) => {
-                self.draft.add(alloc, &self.stand, verb, arguments, modes)?;
-                self.stand.take(alloc, verb, arguments)?;
-                Ok(())
-            }
+            Ok(verb) => Ok(self.take_item(alloc, verb, arguments, modes)?),
             Err(reason) => Err(TextFault::Bad(BadLine {
                 line: number,
                 reason,
             })),
         }
+    }
+
+    /// Reads an item that is not wrong, and that has these mode words. Most are calls: these are taken
+    /// here, and the others apart.
+    #[inline(always)]
+    fn take_item(
+        &mut self,
+        alloc: Global,
+        verb: Verb,
+        arguments: &Arguments,
+        modes: Words,
+    ) -> Result<(), NoMemory>
+        requires good { IsTrue (is_good self.old.stand.ports verb arguments.now) }
+        requires modes { modes.items ≡ modes_in arguments.now }
+        ensures { OnOk result (reading_of self.new ≡ reading_with (reading_of self.old) verb arguments.now) }
+    {
+        match verb {
+            Verb::Call(call) => self.take_any(alloc, Verb::Call(call), arguments, modes),
+            _ => self.take_apart(alloc, verb, arguments, modes),
+        }
+    }
+
+    #[inline(never)]
+    fn take_apart(
+        &mut self,
+        alloc: Global,
+        verb: Verb,
+        arguments: &Arguments,
+        modes: Words,
+    ) -> Result<(), NoMemory>
+        requires good { IsTrue (is_good self.old.stand.ports verb arguments.now) }
+        requires modes { modes.items ≡ modes_in arguments.now }
+        ensures { OnOk result (reading_of self.new ≡ reading_with (reading_of self.old) verb arguments.now) }
+    {
+        self.take_any(alloc, verb, arguments, modes)
+    }
+
+    #[inline(always)]
+    fn take_any(
+        &mut self,
+        alloc: Global,
+        verb: Verb,
+        arguments: &Arguments,
+        modes: Words,
+    ) -> Result<(), NoMemory>
+        requires good { IsTrue (is_good self.old.stand.ports verb arguments.now) }
+        requires modes { modes.items ≡ modes_in arguments.now }
+        ensures { OnOk result (reading_of self.new ≡ reading_with (reading_of self.old) verb arguments.now) }
+    {
+        self.draft.add(alloc, &self.stand, verb, arguments, modes)?;
+        self.stand.take(alloc, verb, arguments)
     }
 
     /// Whether the session is over.

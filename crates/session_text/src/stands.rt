@@ -163,7 +163,29 @@ impl Stand {
         }
     }
 
+    /// What is wrong with an item, if something is. Most are calls: these are judged here, and the
+    /// others apart.
+    #[inline(always)]
     fn item_fault(&self, verb: Verb, arguments: &Arguments, modes: usize) -> Option<Reason>
+        requires { modes ≡ length (modes_in arguments.now) }
+        ensures { result ≡ item_fault (stand_of self.now) verb arguments.now }
+    {
+        match verb {
+            Verb::Call(call) => self.any_fault(Verb::Call(call), arguments, modes),
+            _ => self.fault_apart(verb, arguments, modes),
+        }
+    }
+
+    #[inline(never)]
+    fn fault_apart(&self, verb: Verb, arguments: &Arguments, modes: usize) -> Option<Reason>
+        requires { modes ≡ length (modes_in arguments.now) }
+        ensures { result ≡ item_fault (stand_of self.now) verb arguments.now }
+    {
+        self.any_fault(verb, arguments, modes)
+    }
+
+    #[inline(always)]
+    fn any_fault(&self, verb: Verb, arguments: &Arguments, modes: usize) -> Option<Reason>
         requires { modes ≡ length (modes_in arguments.now) }
         ensures { result ≡ item_fault (stand_of self.now) verb arguments.now }
     {
@@ -179,6 +201,7 @@ impl Stand {
         }
     }
 
+    #[inline(always)]
     fn late_fault(&self, verb: Verb, arguments: &Arguments) -> Option<Reason>
         ensures { result ≡ late_fault (stand_of self.now) verb arguments.now }
     {
@@ -192,6 +215,7 @@ impl Stand {
     }
 
     /// Whether an item that may stand once has stood.
+    #[inline(always)]
     fn has_stood(&self, verb: Verb, arguments: &Arguments) -> bool
         ensures { result ≡ has_stood (stand_of self.now) verb arguments.now }
     {
@@ -208,6 +232,7 @@ impl Stand {
     }
 
     /// Whether an item passes a total.
+    #[inline(always)]
     fn is_over(&self, verb: Verb, arguments: &Arguments) -> bool
         ensures { result ≡ is_over (stand_of self.now) verb arguments.now }
     {
@@ -230,6 +255,7 @@ impl Stand {
     }
 
     /// Goes on by an item that is not wrong.
+    #[inline(always)]
     pub(crate) fn take(
         &mut self,
         alloc: Global,
@@ -325,6 +351,7 @@ fn is_good(ports: u8, verb: Verb, arguments: &Arguments, modes: usize) -> bool
 }
 
 /// Whether an item may stand at a place. The header stands before the first place alone.
+#[inline(always)]
 fn may_stand(verb: Verb, place: Place) -> bool
     ensures { result ≡ may_stand verb place }
 {

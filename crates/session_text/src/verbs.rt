@@ -57,7 +57,7 @@ pub(crate) enum CallVerb {
     Take,
 }
 
-const VERBS: [Verb; 36] = [
+static VERBS: [Verb; 36] = [
     Verb::Session,
     Verb::Ports,
     Verb::Flip,

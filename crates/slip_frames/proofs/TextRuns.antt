@@ -1,13 +1,14 @@
 -- Characters that stand for themselves, one after the other, are added to the piece at once.
-use Rattle.std.proofs.Common.{◌≡◌, ℕ, ◌+◌, ◌≤◌, ◌<◌, Bool, true, false, cond, ◌&&◌, ◌==◌, List, [], ◌∷◌, ◌++◌, length, nat_lt, ap, sym, ◌∙◌, arith, append_assoc, ne_eqb, length-append, lt-ltb}
+use Rattle.std.proofs.Common.{◌≡◌, ℕ, zero, suc, get_or, ◌+◌, ◌≤◌, ◌<◌, Bool, true, false, cond, ◌&&◌, ◌==◌, List, [], ◌∷◌, ◌++◌, length, ap, sym, ◌∙◌, arith, append_assoc, ne_eqb, length-append, lt-ltb}
 use Rattle.std.proofs.lemmas.Bool.{cond-true, cond-false, true≢false}
 use Rattle.std.specs.List.{AllByRecursion}
+use Rattle.char_lanes.specs.Runs.{IsIn}
 use Rattle.tty_base.specs.declared.characters.Flagged.{Flagged}
-use Rattle.slip_frames.specs.Slip.{end, esc, max_packet, is_normal, is_end, bytes_of}
+use Rattle.slip_frames.specs.Slip.{end, esc, is_normal, is_end, bytes_of}
 use Rattle.slip_frames.specs.declared.receiving.Piece.{Piece}
 use Rattle.slip_frames.specs.declared.receiving.Piece.TheVariants.{Plain, Escaped, Spoilt, Ended}
 use Rattle.slip_frames.specs.Inside.{decoding_by}
-use Rattle.slip_frames.specs.Decoding.{Decoding, BegunPiece, spelling, bad_piece, packet_in, with_byte, with_text_byte, decoding_after_character, decoding_after_characters, IsText}
+use Rattle.slip_frames.specs.Decoding.{Decoding, BegunPiece, spelling, bad_piece, packet_in, with_byte, decoding_after_character, decoding_after_characters, IsText}
 
 text_stays : (c : Flagged) → IsText c → is_end c ≡ false
 text_stays c text = ap (λ f. is_normal f && (c.byte == end)) text.good ∙ ne_eqb c.byte end text.inside
@@ -51,3 +52,14 @@ fed_run d d' piece bytes later text packet (c ∷ cs) before view forgotten kept
     ap (λ (b : List ℕ). record { piece = spelling b false; packet = [] }) (kept ∙ ap (λ b. b ++ bytes_of (c ∷ cs)) same)
     ∙ sym (text_run c cs text packet all room)
     ∙ ap (λ (e : Decoding). decoding_after_characters e (c ∷ cs)) (sym before)
+
+-- characters of a run stand for themselves
+pub are_text : (cs : List Flagged) → AllByRecursion (IsIn 0 255 (end ∷ esc ∷ [])) cs → AllByRecursion IsText cs
+are_text [] all = tt
+are_text (c ∷ cs) all = (record { good = all.0.good; inside = all.0.none.0; itself = all.0.none.1.0 }, are_text cs all.1)
+
+-- a run takes its first character
+pub some_taken : (P : Flagged → Type 0) (count : ℕ) (cs : List Flagged) (d : Flagged) → 0 < length cs → P (get_or cs 0 d)
+    → (count < length cs → ¬ P (get_or cs count d)) → 0 < count
+some_taken P zero cs d some first stops = absurd (stops some first)
+some_taken P (suc count) cs d some first stops = omega arith

@@ -1,9 +1,11 @@
-ghost use Rattle.std.specs.Prelude.{◌≡◌, ◌≤◌, ◌+◌, ℕ, false, IsTrue, ◌∷◌, ◌++◌, ◌≢◌, [], List, length, take, IfOk, vec_len, vec_capacity};
+ghost use Rattle.std.specs.Prelude.{◌≡◌, ◌≤◌, ◌<◌, ◌+◌, ℕ, slice_index_or, false, IsTrue, ◌∷◌, ◌++◌, ◌≢◌, [], List, length, take, IfOk, vec_len, vec_capacity};
 ghost use Rattle.std.specs.List.{AllByRecursion};
+ghost use Rattle.char_lanes.specs.Runs.{IsIn};
 ghost use Rattle.slip_frames.specs.Slip.{byte_after_escape, bytes_of, outcomes, max_packet};
 ghost use Rattle.slip_frames.specs.Decoding.{WasFed, outcomes_by_answer, answer_to, decoding_after_character, decoding_after_characters, IsText, new_decoding, spelling, bad_piece, with_byte, with_text_byte, answer_to_end, packet_in};
 
 use crate::{END, ESC, ESC_END, ESC_ESC, MAX_PACKET};
+use char_lanes::push_run;
 use std::alloc::Global;
 use std::marker::Model;
 use tty_base::{Flag, Flagged, NoMemory};
@@ -83,6 +85,7 @@ impl Decoder {
 
     /// Takes the characters at the front that stand for themselves within a piece, as far as a packet has room. Answers how
     /// many; each gave [`Fed::Going`].
+    #[inline(always)]
     pub fn feed_run(&mut self, chars: &[Flagged]) -> usize
         ensures within { result ≤ length chars.now }
         ensures text { AllByRecursion IsText (take result chars.now) }
@@ -93,12 +96,13 @@ impl Decoder {
             Piece::Ended => MAX_PACKET,
             Piece::Escaped | Piece::Spoilt => return 0,
         };
-        let count = text_len(front_of(chars, chars.len().min(room)));
-        if count > 0 {
-            self.forget_packet();
-            keep_all(&mut self.bytes, front_of(chars, count));
-            self.piece = Piece::Plain;
+        let chars = front_of(chars, chars.len().min(room));
+        if !starts_with_text(chars) {
+            return 0;
         }
+        self.forget_packet();
+        let count = push_run(&mut self.bytes, chars, 0, u8::MAX, [END, ESC].as_slice());
+        self.piece = Piece::Plain;
         count
     }
 
@@ -194,7 +198,7 @@ fn byte_after_escape(b: u8) -> u8
 
 /// Whether a good character stands for itself within a piece.
 fn is_text(c: Flagged) -> bool
-    ensures { IsTrue result → IsText c }
+    ensures { IsTrue result → IsIn 0 255 (END ∷ ESC ∷ []) c }
 {
     match c.flag {
         Flag::Normal => c.byte != END && c.byte != ESC,
@@ -202,19 +206,16 @@ fn is_text(c: Flagged) -> bool
     }
 }
 
-/// How many characters at the front stand for themselves within a piece.
-fn text_len(chars: &[Flagged]) -> usize
-    ensures within { result ≤ length chars.now }
-    ensures text { AllByRecursion IsText (take result chars.now) }
+/// Whether there is a first character, and it stands for itself within a piece.
+#[inline(always)]
+fn starts_with_text(chars: &[Flagged]) -> bool
+    ensures some { IsTrue result → 0 < length chars.now }
+    ensures text { (c : Flagged) → IsTrue result → IsIn 0 255 (END ∷ ESC ∷ []) (slice_index_or chars.now 0 c) }
 {
-    let mut count = 0;
-    for c in chars {
-        if !is_text(*c) {
-            return count;
-        }
-        count += 1;
+    match chars {
+        [first, ..] => is_text(*first),
+        [] => false,
     }
-    count
 }
 
 /// The first characters, so many.
@@ -223,16 +224,4 @@ fn front_of(chars: &[Flagged], count: usize) -> &[Flagged]
     ensures { result.now ≡ take count chars.now }
 {
     &chars[..count]
-}
-
-/// Adds the bytes of characters, in room that was reserved.
-fn keep_all(bytes: &mut Vec<u8>, chars: &[Flagged])
-    requires { vec_len bytes.old + length chars.now ≤ vec_capacity bytes.old }
-    ensures items { bytes.new.items ≡ bytes.old.items ++ bytes_of chars.now }
-    ensures len { vec_len bytes.new ≡ vec_len bytes.old + length chars.now }
-    ensures capacity { vec_capacity bytes.new ≡ vec_capacity bytes.old }
-{
-    for c in chars {
-        bytes.push_reserved(c.byte);
-    }
 }

@@ -5,7 +5,7 @@ use Rattle.std.proofs.lemmas.Bool.{or_parts}
 use Rattle.std.proofs.lemmas.List.{take-append-drop, length-take-le}
 use Rattle.std.proofs.lemmas.List.Sums.{position_or_len_is}
 use Rattle.memchr.specs.Find.{IsFirstByte, is_byte3}
-use Rattle.text_lines.specs.Lines.{is_blank}
+use Rattle.text_lines.specs.Lines.{is_blank, is_low}
 
 fails : (b : Bool) → (b ≡ true → ⊥) → b ≡ false
 fails true never = absurd (never refl)
@@ -55,6 +55,18 @@ place_behind p xs ys none =
     ap (λ at. cond (nat_lt at (length (xs ++ ys))) (Some at) None) (passed p xs ys none)
     ∙ ap (λ size. cond (nat_lt (n + m) size) (Some (n + m)) None) whole
     ∙ later_by n m (nat_lt (n + m) (n + length ys)) (nat_lt m (length ys)) (grind (arith))
+
+blank_low : (byte : ℕ) → is_low byte ≡ false → is_blank byte ≡ false
+blank_low byte h = grind (arith)
+
+-- where no byte is as low as a blank, none is a blank
+pub no_blank : (xs : List ℕ) → list_any is_low xs ≡ false → list_any is_blank xs ≡ false
+no_blank [] none = refl
+no_blank (x ∷ xs) none =
+    let parts = or_parts (is_low x) (list_any is_low xs) none in
+    let first : is_blank x ≡ false = blank_low x parts.0 in
+    let rest : list_any is_blank xs ≡ false = no_blank xs parts.1 in
+    rw (first, rest) refl
 
 -- the search goes on behind a piece of what is left
 pub first_later : (p : ℕ → Bool) (line rest piece after : List ℕ) (n : ℕ) → piece ≡ take 128 rest → after ≡ drop 128 rest → 128 < length rest → list_any p piece ≡ false → position p line ≡ later n (position p rest) → position p line ≡ later (n + 128) (position p after)

@@ -1,11 +1,11 @@
 -- The bytes that pairs of hexadecimal digits write, place by place.
-use Rattle.std.proofs.Common.{◌≡◌, ℕ, zero, suc, ◌+◌, ◌*◌, ◌/◌, ◌%◌, ◌<◌, ◌==◌, Bool, true, false, List, [], ◌∷◌, length, get_or, set, drop, Option, Some, None, unwrap_or, is_some, Result, Ok, Err, refl, sym, ap, ◌∙◌, arith, eq-eqb}
+use Rattle.std.proofs.Common.{◌≡◌, ℕ, zero, suc, ◌+◌, ◌*◌, ◌/◌, ◌%◌, ◌<◌, ◌==◌, Bool, true, false, List, [], ◌∷◌, ◌++◌, length, get_or, set, take, drop, Option, Some, None, unwrap_or, is_some, Result, Ok, Err, refl, sym, ap, ◌∙◌, arith, eq-eqb}
 use Rattle.std.specs.List.{list_all}
 use Rattle.std.specs.Result.{result_unwrap_or}
 use Rattle.std.specs.Simd.{first_chunks}
 use Rattle.std.proofs.lemmas.Bool.{and_parts, eqb-true, eqb-false}
 use Rattle.std.proofs.lemmas.Grind.{get_or-set_at, same_number_lists}
-use Rattle.std.proofs.lemmas.List.{get_or-drop, get_or-set_other, get_or-take}
+use Rattle.std.proofs.lemmas.List.{get_or-drop, get_or-set_other, get_or-take, take-append-drop}
 use Rattle.std.proofs.lemmas.List.Sums.{list_all-from_AllPass}
 use Rattle.hex.specs.Hex.{decode_of, decode_pairs, digit_or_error, hex_digit_value, is_hex_digit, pair_value, value_at}
 use Rattle.hex.specs.declared.error.FromHexError.{FromHexError}
@@ -13,7 +13,7 @@ use Rattle.hex.proofs.Pairs.{cons_byte, decode_pairs-ok_pair}
 use Rattle.hex.proofs.HexLemmas.{decode_of-even, decode_of-ok}
 use Rattle.text_lines.specs.Values.{is_hex, bytes_of}
 
-abbrev digit : ℕ → ℕ
+abbrev pub digit : ℕ → ℕ
 digit byte = unwrap_or (hex_digit_value byte) 16
 
 abbrev paired : List ℕ → List ℕ
@@ -60,6 +60,34 @@ hex_parts (first ∷ digits) h =
     let both = and_parts (list_all is_hex_digit (first ∷ digits)) (length (first ∷ digits) % 2 == 0) h in
     (both.0, eqb-true (length (first ∷ digits) % 2) 0 both.1)
 
+paired_append : (xs ys : List ℕ) → length xs % 2 ≡ 0 → paired (xs ++ ys) ≡ paired xs ++ paired ys
+paired_append [] ys even = refl
+paired_append (last ∷ []) ys even = absurd (omega arith)
+paired_append (high ∷ low ∷ rest) ys even = ap (λ zs. (digit high * 16 + digit low) ∷ zs) (paired_append rest ys (omega arith))
+
+all_parts : (p : ℕ → Bool) (xs ys : List ℕ) → list_all p (xs ++ ys) ≡ true → (list_all p xs ≡ true) × (list_all p ys ≡ true)
+all_parts p [] ys all = (refl, all)
+all_parts p (x ∷ xs) ys all =
+    let parts = and_parts (p x) (list_all p (xs ++ ys)) all in
+    let rest = all_parts p xs ys parts.1 in
+    (rw (parts.0, rest.0) refl, rest.1)
+
+-- a word of digits parted behind an even number of them
+pub record IsPartedAt (word front back : List ℕ) : Type 0 where
+  pub back_digits : list_all is_hex_digit back ≡ true
+  pub written : bytes_of word ≡ bytes_of front ++ bytes_of back
+
+pub parted_at : (word front back : List ℕ) (n : ℕ) → front ≡ take n word → back ≡ drop n word → length front % 2 ≡ 0 → length back % 2 ≡ 0 → list_all is_hex_digit word ≡ true → length word % 2 ≡ 0 → IsPartedAt word front back
+parted_at word front back n first later even more all whole =
+    let parts : word ≡ front ++ back = sym (ap (λ xs. xs ++ back) first ∙ ap (λ xs. take n word ++ xs) later ∙ take-append-drop n word) in
+    let each = all_parts is_hex_digit front back (ap (list_all is_hex_digit) (sym parts) ∙ all) in
+    record {
+      back_digits = each.1;
+      written =
+          bytes_paired word all whole ∙ ap paired parts ∙ paired_append front back even
+          ∙ ap (λ xs. xs ++ paired back) (sym (bytes_paired front each.0 even)) ∙ ap (λ xs. bytes_of front ++ xs) (sym (bytes_paired back each.1 more));
+    }
+
 paired_at : (word : List ℕ) (place : ℕ) → 2 * place + 1 < length word → get_or (paired word) place 0 ≡ digit (get_or word (2 * place) 0) * 16 + digit (get_or word (2 * place + 1) 0)
 paired_at [] place below = absurd (omega arith)
 paired_at (last ∷ []) place below = absurd (omega arith)
@@ -71,7 +99,7 @@ paired_at (high ∷ low ∷ rest) (suc place) below =
     ∙ ap (λ k. digit (get_or (high ∷ low ∷ rest) k 0) * 16 + digit (get_or rest (2 * place + 1) 0)) first
     ∙ ap (λ k. digit (get_or (high ∷ low ∷ rest) (2 * suc place) 0) * 16 + digit (get_or (high ∷ low ∷ rest) k 0)) second
 
-some_digit : (value : ℕ) (byte : ℕ) → Some value ≡ hex_digit_value byte → digit byte ≡ value
+pub some_digit : (value : ℕ) (byte : ℕ) → Some value ≡ hex_digit_value byte → digit byte ≡ value
 some_digit value byte h = ap (λ (o : Option ℕ). unwrap_or o 16) (sym h)
 
 -- the byte of the two digits at a place
@@ -92,7 +120,7 @@ digit_in_pair (suc n) (suc k) at word within two =
     let next : 2 + (2 * k + at) ≡ 2 * suc k + at = omega arith in
     digit_in_pair n k at (drop 2 word) (omega arith) two ∙ get_or-drop 2 word (2 * k + at) 0 ∙ ap (λ i. get_or word i 0) next
 
-list_all_true : (p : ℕ → Bool) (xs : List ℕ) (at : ℕ) → list_all p xs ≡ true → at < length xs → p (get_or xs at 0) ≡ true
+pub list_all_true : (p : ℕ → Bool) (xs : List ℕ) (at : ℕ) → list_all p xs ≡ true → at < length xs → p (get_or xs at 0) ≡ true
 list_all_true p [] at all below = absurd (omega arith)
 list_all_true p (x ∷ xs) zero all below = (and_parts (p x) (list_all p xs) all).0
 list_all_true p (x ∷ xs) (suc at) all below = list_all_true p xs at (and_parts (p x) (list_all p xs) all).1 (omega arith)
@@ -111,6 +139,15 @@ module _ (word : List ℕ) (pairs : List (List ℕ)) (size : ℕ) (all : list_al
       byte_read word k high low all (omega (arith, room)) (omega (arith, room, within))
       (first ∙ ap hex_digit_value (in_pair k 0 within (omega arith) ∙ ap (λ i. get_or word i 0) at))
       (second ∙ ap hex_digit_value (in_pair k 1 within (omega arith)))
+
+  -- a byte that is written from the values of its two digits
+  pub pair_written : (k byte : ℕ) → k < size → ((v w : ℕ) → Some v ≡ hex_digit_value (get_or (get_or pairs k []) 0 0) → Some w ≡ hex_digit_value (get_or (get_or pairs k []) 1 0) → byte ≡ v * 16 + w) → byte ≡ get_or (bytes_of word) k 0
+  pair_written k byte within by =
+      let high = get_or (get_or pairs k []) 0 0 in
+      let low = get_or (get_or pairs k []) 1 0 in
+      let first : Some (digit high) ≡ hex_digit_value high = sym (digit_some (hex_digit_value high) (pair_digit k 0 within (omega arith))) in
+      let second : Some (digit low) ≡ hex_digit_value low = sym (digit_some (hex_digit_value low) (pair_digit k 1 within (omega arith))) in
+      by (digit high) (digit low) first second ∙ pair_byte k (digit high) (digit low) within first second
 
   pub all_written : (bytes : List ℕ) → length bytes ≡ size → ((k : ℕ) → k < size → get_or bytes k 0 ≡ get_or (bytes_of word) k 0) → bytes ≡ bytes_of word
   all_written bytes long each =

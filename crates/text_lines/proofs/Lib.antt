@@ -1,3 +1,4 @@
+mod Both
 mod Digits
 mod Finds
 mod HexPairs

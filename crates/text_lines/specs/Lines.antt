@@ -1,5 +1,5 @@
 -- The lines of a text, and the words of a line.
-use Rattle.std.specs.Prelude.{ℕ, Bool, true, false, List, [], ◌∷◌, ◌==◌, ◌||◌, not, filter, if◌then◌else◌}
+use Rattle.std.specs.Prelude.{ℕ, Bool, true, false, List, [], ◌∷◌, ◌==◌, ◌||◌, nat_le, not, filter, if◌then◌else◌}
 use Rattle.std.specs.List.{slice_split, onto_first}
 
 abbrev pub is_newline : ℕ → Bool
@@ -13,6 +13,10 @@ is_blank byte = (byte == 32 || byte == 9) || byte == 13
 abbrev pub lines_of : List ℕ → List (List ℕ)
 lines_of [] = []
 lines_of (byte ∷ bytes) = if is_newline byte then [] ∷ lines_of bytes else onto_first byte (lines_of bytes)
+
+-- as low as a blank, or lower
+abbrev pub is_low : ℕ → Bool
+is_low byte = nat_le byte 32
 
 abbrev pub has_bytes : List ℕ → Bool
 has_bytes [] = false

@@ -22,6 +22,10 @@ is_number (digit ∷ digits) = (begins_number (digit ∷ digits) && nat_le (leng
 abbrev pub number_of : List ℕ → ℕ
 number_of digits = fold (λ value digit. value * 10 + (digit - 48)) 0 digits
 
+-- the number that a word is, if it is one
+abbrev pub read_of : List ℕ → Option ℕ
+read_of word = if is_number word then Some (number_of word) else None
+
 abbrev pub is_lowercase : ℕ → Bool
 is_lowercase byte = nat_le 97 byte && nat_le byte 122
 

@@ -1,10 +1,16 @@
-ghost use Rattle.std.specs.Prelude.{◌≡◌, ◌<◌, ◌==◌, ◌%◌, ◌*◌, IsTrue, Some, length, IfOk};
+ghost use Rattle.std.specs.Prelude.{◌≡◌, ◌==◌, ◌%◌, ◌*◌, ◌+◌, ◌++◌, ℕ, IsTrue, Some, length, IfOk, OnOk};
 ghost use Rattle.std.specs.List.{list_all};
 ghost use Rattle.hex.specs.Hex.{hex_digit_value, is_hex_digit};
 ghost use Rattle.text_lines.specs.Values.{is_hex, bytes_of as bytes_written};
 
 use std::alloc::Global;
 use tty_base::NoMemory;
+
+/// From this length on a word's bytes are written by rows.
+const LONG: usize = 4_096;
+
+/// How many bytes a row has.
+const ROW: usize = 256;
 
 /// Whether a word is HEX: an even number, not 0, of hexadecimal digits in either case.
 pub fn is_hex(word: &[u8]) -> bool
@@ -31,14 +37,17 @@ fn is_hex_digit(byte: u8) -> bool
     byte.is_ascii_digit() || (b'a' <= byte && byte <= b'f') || (b'A' <= byte && byte <= b'F')
 }
 
-/// The value of a hexadecimal digit. The low four bits of a letter are 1 to 6.
+/// The byte that two hexadecimal digits write. Both are worked on at once: the low four bits of a
+/// letter are 1 to 6, and bit 6 is set in letters alone.
 #[inline(always)]
-fn value_of(digit: u8) -> u8
-    requires { IsTrue (is_hex_digit digit) }
-    ensures value { Some result ≡ hex_digit_value digit }
-    ensures small { result < 16 }
+fn byte_in(high: u8, low: u8) -> u8
+    requires high { IsTrue (is_hex_digit high) }
+    requires low { IsTrue (is_hex_digit low) }
+    ensures { (v w : ℕ) → Some v ≡ hex_digit_value high → Some w ≡ hex_digit_value low → result ≡ v * 16 + w }
 {
-    digit % 16 + digit / 64 * 9
+    let both = u16::from(high) + u16::from(low) * 256;
+    let values = (both & 0x0f0f) + (both / 64 & 0x0101) * 9;
+    ((values * 16 + values / 256) % 256) as u8
 }
 
 /// Writes the bytes that digits write, each to its place.
@@ -50,7 +59,7 @@ fn write_bytes(digits: &[u8], bytes: &mut [u8])
     let (pairs, _) = digits.as_chunks::<2>();
     for place in 0..bytes.len() {
         let [high, low] = pairs[place];
-        bytes[place] = value_of(high) * 16 + value_of(low);
+        bytes[place] = byte_in(high, low);
     }
 }
 
@@ -70,7 +79,47 @@ pub fn bytes_in(alloc: Global, word: &[u8]) -> Result<Vec<u8>, NoMemory>
     requires { IsTrue (is_hex word.now) }
     ensures { IfOk result (λ bytes. bytes.items ≡ bytes_written word.now) }
 {
+    if word.len() > LONG {
+        return bytes_by_rows(alloc, word);
+    }
+    short_bytes_in(alloc, word)
+}
+
+#[inline(always)]
+fn short_bytes_in(alloc: Global, word: &[u8]) -> Result<Vec<u8>, NoMemory>
+    requires digits { IsTrue (list_all is_hex_digit word.now) }
+    requires even { length word.now % 2 ≡ 0 }
+    ensures { IfOk result (λ bytes. bytes.items ≡ bytes_written word.now) }
+{
     let mut bytes = vec![in alloc; 0; word.len() / 2]?;
     write_bytes(word, &mut bytes);
     Ok(bytes)
+}
+
+/// The same of a long word: row by row, so that no room is filled before its bytes are written.
+#[inline(never)]
+fn bytes_by_rows(alloc: Global, word: &[u8]) -> Result<Vec<u8>, NoMemory>
+    requires { IsTrue (is_hex word.now) }
+    ensures { IfOk result (λ bytes. bytes.items ≡ bytes_written word.now) }
+{
+    let mut bytes = Vec::with_capacity(alloc, word.len() / 2)?;
+    let mut rest = word;
+    while rest.len() >= 2 * ROW {
+        let (digits, after) = rest.split_at(2 * ROW);
+        add_row(&mut bytes, digits)?;
+        rest = after;
+    }
+    let last = short_bytes_in(alloc, rest)?;
+    bytes.extend_from_slice(&last)?;
+    Ok(bytes)
+}
+
+fn add_row(bytes: &mut Vec<u8>, digits: &[u8]) -> Result<(), NoMemory>
+    requires digits { IsTrue (list_all is_hex_digit digits.now) }
+    requires room { length digits.now ≡ 512 }
+    ensures { OnOk result (bytes.new.items ≡ bytes.old.items ++ bytes_written digits.now) }
+{
+    let mut row = [0; ROW];
+    write_bytes(digits, &mut row);
+    Ok(bytes.extend_from_slice(&row)?)
 }

@@ -1,6 +1,6 @@
 ghost use Rattle.std.specs.Prelude.{◌≡◌, ◌<◌, ◌≤◌, [], ◌∷◌, position, not, length, slice_index_or, MatchOption};
 ghost use Rattle.std.specs.List.{list_any};
-ghost use Rattle.text_lines.specs.Lines.{is_newline, is_blank, first_is, lines_of, words_of};
+ghost use Rattle.text_lines.specs.Lines.{is_newline, is_blank, is_low, first_is, lines_of, words_of};
 
 /// From this length on a line is searched by vectors.
 const LONG: usize = 64;
@@ -57,7 +57,7 @@ fn blank_far(line: &[u8]) -> Option<usize>
     let mut passed = 0;
     while rest.len() > PIECE {
         let (piece, after) = rest.split_at(PIECE);
-        if has_blank(piece) {
+        if has_low(piece) {
             break;
         }
         rest = after;
@@ -69,14 +69,15 @@ fn blank_far(line: &[u8]) -> Option<usize>
     }
 }
 
-/// No byte ends the walk early, so that many are tested at once.
+/// Whether a byte is as low as a blank, which no piece without one has to be asked further. No byte
+/// ends the walk early, so that many are tested at once.
 #[inline(never)]
-fn has_blank(piece: &[u8]) -> bool
-    ensures { result ≡ list_any is_blank piece.now }
+fn has_low(piece: &[u8]) -> bool
+    ensures { result ≡ list_any is_low piece.now }
 {
     let mut found = false;
     for byte in piece {
-        found = found | is_blank(*byte);
+        found = found | (*byte <= b' ');
     }
     found
 }

@@ -166,18 +166,21 @@ fn every_answer(alloc: Global) -> Result<Session, AllocError> {
 }
 
 fn answers(alloc: Global) -> Result<PortRun, AllocError> {
-    let counts = Counts {
-        mark: 1,
-        parity: 2,
-        frame: 3,
-        breaks: 4,
-        cut: 5,
-        echo: 6,
-        pin: 7,
-        pout: 8,
-        pbad: 9,
-        pfull: 10,
-    };
+    let counts = Box::new(
+        alloc,
+        Counts {
+            mark: 1,
+            parity: 2,
+            frame: 3,
+            breaks: 4,
+            cut: 5,
+            echo: 6,
+            pin: 7,
+            pout: 8,
+            pbad: 9,
+            pfull: 10,
+        },
+    )?;
     let journal = vec![in alloc;
         answer_of(alloc, 0, 0, Answer::ModesAre(Modes::sane())),
         answer_of(alloc, 0, 1, Answer::CountsAre(counts)),

@@ -1,4 +1,5 @@
 pub mod Contents
+pub mod Held
 pub mod Lines
 pub mod Memory
 pub mod Outside

@@ -15,7 +15,7 @@ pub enum LineStep {
     /// A break arrives: one character 00 flagged `Break`.
     Break,
     /// So many character times pass without an arrival.
-    Idle(u32),
+    Idle(u16),
     /// The interrupt is held back.
     Mask,
     /// The interrupt is let through.
@@ -179,7 +179,7 @@ impl Put for Chars {
         ensures adds { self.new ≡ record { items = self.old.items ++ chars; spare = self.old.spare - 4 } }
         ensures room { length self.new.items + self.new.spare ≡ length self.old.items + self.old.spare }
     {
-        self.append(&chars);
+        self.add_four(chars);
     }
 
     fn push(&mut self)

@@ -1,43 +1,57 @@
-ghost use Rattle.std.specs.Prelude.{◌≡◌, ◌-◌, ◌≤◌, ◌<◌, [], ◌∷◌, ◌++◌, length, IfOk, OnOk, OnErr};
+ghost use Rattle.std.specs.Prelude.{◌≡◌, ◌+◌, ◌-◌, ◌≤◌, ◌<◌, [], ◌∷◌, ◌++◌, length, take, IfOk, OnOk, OnErr, vec_capacity};
 
 use super::buffers::NoMemory;
 use super::characters::Flagged;
-use smallvec::SmallVec;
+use arrayvec::ArrayVec;
 use std::alloc::Global;
 use std::marker::Model;
 
 /// How many characters stand in a list itself.
 const NEAR: usize = 8;
 
+/// Where the characters of a list stand: in the list itself, or in memory.
+#[derive(Debug, Drop)]
+enum Held {
+    Near(ArrayVec<Flagged, NEAR, Global>),
+    Far(Vec<Flagged>),
+}
+
 /// A list of characters with reserved room, seen by contracts as a `Buffer` is. Up to eight stand in the
 /// list itself, so that a short one takes no memory.
 #[derive(Debug, Drop)]
 pub struct Chars {
-    items: SmallVec<Flagged, NEAR>,
-    spare: usize,
+    held: Held,
 }
 
 impl Model for Chars {
-    ghost use Rattle.smallvec.specs.SmallVec.{HasRoomFor};
     ghost use Rattle.tty_base.specs.Contents.{Contents};
     ghost use Rattle.tty_base.specs.declared.characters.Flagged.{Flagged};
 
     ghost Value = { Contents Flagged };
 
-    ghost view = { λ c. record { items = c.items.items; spare = c.spare } };
+    ghost use Rattle.tty_base.specs.Held.{contents_of};
 
-    ghost invariant = { λ c. HasRoomFor c.items c.spare };
+    ghost view = { λ c. contents_of c.held };
+}
+
+/// The same characters in memory, with room for `more` further ones.
+#[inline(never)]
+fn moved(near: &ArrayVec<Flagged, NEAR, Global>, more: usize) -> Result<Vec<Flagged>, NoMemory>
+    ensures { IfOk result (λ far. (far.items ≡ near.now.items) × (length near.now.items + more ≤ vec_capacity far)) }
+{
+    let mut far = near.as_slice().to_vec(*near.allocator())?;
+    far.reserve(more)?;
+    Ok(far)
 }
 
 impl Chars {
-    /// An empty list, without room. It takes no memory.
+    /// An empty list, with the room that a list has in itself. It takes no memory.
     #[inline(always)]
     pub fn new(alloc: Global) -> Chars
-        ensures { result ≡ record { items = []; spare = 0 } }
+        ensures { result ≡ record { items = []; spare = 8 } }
     {
         Chars {
-            items: SmallVec::new(alloc),
-            spare: 0,
+            held: Held::Near(ArrayVec::new_in(alloc)),
         }
     }
 
@@ -50,11 +64,28 @@ impl Chars {
         ensures grows { self.old.spare ≤ self.new.spare }
         ensures err { OnErr result (self.new ≡ self.old) }
     {
-        if more > self.spare {
-            self.items.reserve(more)?;
-            self.spare = more;
+        if more > self.spare() {
+            return self.grow(more);
         }
         Ok(())
+    }
+
+    /// Makes room for more characters than there is room for.
+    #[inline(never)]
+    fn grow(&mut self, more: usize) -> Result<(), NoMemory>
+        requires { self.old.spare < more }
+        ensures items { self.new.items ≡ self.old.items }
+        ensures ok { OnOk result (more ≤ self.new.spare) }
+        ensures err { OnErr result (self.new ≡ self.old) }
+    {
+        match &mut self.held {
+            Held::Near(near) => {
+                let far = moved(near, more)?;
+                self.held = Held::Far(far);
+                Ok(())
+            }
+            Held::Far(far) => Ok(far.reserve(more)?),
+        }
     }
 
     /// Adds a character in room that was reserved.
@@ -63,8 +94,33 @@ impl Chars {
         requires { 0 < self.old.spare }
         ensures { self.new ≡ record { items = self.old.items ++ c ∷ []; spare = self.old.spare - 1 } }
     {
-        self.spare -= 1;
-        self.items.push_reserved(c);
+        match &mut self.held {
+            Held::Near(near) => near.push(c),
+            Held::Far(far) => far.push_reserved(c),
+        }
+    }
+
+    /// Adds four characters in room that was reserved.
+    #[inline(always)]
+    pub fn add_four(&mut self, chars: [Flagged; 4])
+        requires { 4 ≤ self.old.spare }
+        ensures { self.new ≡ record { items = self.old.items ++ chars; spare = self.old.spare - 4 } }
+    {
+        let [a, b, c, d] = chars;
+        match &mut self.held {
+            Held::Near(near) => {
+                near.push(a);
+                near.push(b);
+                near.push(c);
+                near.push(d);
+            }
+            Held::Far(far) => {
+                far.push_reserved(a);
+                far.push_reserved(b);
+                far.push_reserved(c);
+                far.push_reserved(d);
+            }
+        }
     }
 
     /// Adds characters in room that was reserved.
@@ -73,10 +129,20 @@ impl Chars {
         requires { length chars.now ≤ self.old.spare }
         ensures { self.new ≡ record { items = self.old.items ++ chars.now; spare = self.old.spare - length chars.now } }
     {
-        self.spare -= chars.len();
-        match self.items.extend_from_slice(chars) {
-            Ok(()) => {}
-            Err(_) => unreachable!(),
+        for c in chars {
+            self.add(*c);
+        }
+    }
+
+    /// Keeps the first `n` characters, and all the room.
+    #[inline(never)]
+    pub fn truncate(&mut self, n: usize)
+        ensures items { self.new.items ≡ take n self.old.items }
+        ensures room { self.old.spare ≤ self.new.spare }
+    {
+        match &mut self.held {
+            Held::Near(near) => near.truncate(n),
+            Held::Far(far) => far.truncate(n),
         }
     }
 
@@ -85,7 +151,10 @@ impl Chars {
     pub fn as_slice(&self) -> &[Flagged]
         ensures { result.now ≡ self.now.items }
     {
-        self.items.as_slice()
+        match &self.held {
+            Held::Near(near) => near.as_slice(),
+            Held::Far(far) => far.as_slice(),
+        }
     }
 
     /// How many characters can be added without asking for memory.
@@ -93,7 +162,10 @@ impl Chars {
     pub fn spare(&self) -> usize
         ensures { result ≡ self.now.spare }
     {
-        self.spare
+        match &self.held {
+            Held::Near(near) => NEAR - near.len(),
+            Held::Far(far) => far.capacity() - far.len(),
+        }
     }
 
     /// How many characters there are.
@@ -101,7 +173,10 @@ impl Chars {
     pub fn len(&self) -> usize
         ensures { result ≡ length self.now.items }
     {
-        self.items.len()
+        match &self.held {
+            Held::Near(near) => near.len(),
+            Held::Far(far) => far.len(),
+        }
     }
 
     /// An equal list, with room of its own.

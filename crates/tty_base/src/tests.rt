@@ -145,11 +145,22 @@ fn a_list_takes_characters_in_its_reserved_room(rt: HostRuntime) -> Result<(), F
 fn a_ninth_character_takes_memory(rt: HostRuntime) -> Result<(), Fail> {
     let c = Flagged::default();
     let mut list = Chars::new(rt.alloc());
-    list.reserve(8)?;
-    list.append(&[c; 8]);
+    list.append(&[c; 4]);
+    list.add_four([c; 4]);
+    assert_eq!(rt; (list.len(), list.spare()), (8, 0));
     list.reserve(1)?;
     list.add(c);
-    assert_eq!(rt; (list.len(), list.spare()), (9, 0));
     assert_eq!(rt; list.copy(rt.alloc())?.as_slice(), [c; 9].as_slice());
+    Ok(())
+}
+
+#[test]
+fn a_shorter_list_keeps_its_room(rt: HostRuntime) -> Result<(), Fail> {
+    let c = Flagged::default();
+    let mut list = Chars::new(rt.alloc());
+    list.append(&[c; 5]);
+    list.truncate(3);
+    assert_eq!(rt; list.as_slice(), [c; 3].as_slice());
+    assert_eq!(rt; list.spare(), 5);
     Ok(())
 }

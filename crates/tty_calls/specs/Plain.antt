@@ -1,5 +1,5 @@
 -- Calls, answers and entries as plain data: lists in place of lists with room.
-use Rattle.std.specs.Prelude.{ℕ, List, [], Bool, true, false, ◌==◌, map}
+use Rattle.std.specs.Prelude.{◌≡◌, ◌≤◌, ℕ, List, [], Bool, true, false, ◌==◌, length, map}
 use Rattle.tty_base.specs.declared.characters.Flagged.{Flagged}
 use Rattle.tty_base.specs.declared.counters.Counts.{Counts}
 use Rattle.tty_base.specs.declared.counters.Errno.{Errno}
@@ -13,6 +13,8 @@ use Rattle.tty_calls.specs.declared.calls.Call.{Call}
 use Rattle.tty_calls.specs.declared.calls.Call.TheVariants as calls
 use Rattle.tty_calls.specs.declared.answers.Answer.{Answer}
 use Rattle.tty_calls.specs.declared.answers.Answer.TheVariants as answers
+use Rattle.tty_calls.specs.declared.answers.AnswerRoom.{AnswerRoom}
+use Rattle.tty_calls.specs.declared.answers.AnswerRoom.TheVariants as rooms
 use Rattle.tty_calls.specs.declared.journals.Who.{Who}
 use Rattle.tty_calls.specs.declared.journals.Who.TheVariants.{Caller, Flusher, Line, Clock, Session}
 use Rattle.tty_calls.specs.declared.journals.Event.{Event}
@@ -140,7 +142,7 @@ answer_of (answers.Count taken) = count_is taken
 answer_of (answers.Got bytes) = got bytes.items
 answer_of (answers.Number n) = number_is n
 answer_of (answers.ModesAre modes) = modes_are modes
-answer_of (answers.CountsAre counts) = counts_are counts
+answer_of (answers.CountsAre counts) = counts_are counts.value
 answer_of (answers.Refused errno) = refused errno
 answer_of answers.Idle = idle
 
@@ -154,6 +156,21 @@ bytes_in (modes_are modes) = []
 bytes_in (counts_are counts) = []
 bytes_in (refused errno) = []
 bytes_in idle = []
+
+-- whether an answer can be copied into room: its bytes have room for them, and its counts a box
+abbrev pub Fits : PlainAnswer → AnswerRoom → Type 0
+Fits done room = Unit {0}
+Fits (count_is taken) room = Unit {0}
+Fits (got bytes) rooms.Nothing = ⊥
+Fits (got bytes) (rooms.Bytes room) = (room.items ≡ []) × (length bytes ≤ room.spare)
+Fits (got bytes) (rooms.Counts room) = ⊥
+Fits (number_is n) room = Unit {0}
+Fits (modes_are modes) room = Unit {0}
+Fits (counts_are counts) rooms.Nothing = ⊥
+Fits (counts_are counts) (rooms.Bytes room) = ⊥
+Fits (counts_are counts) (rooms.Counts room) = Unit {0}
+Fits (refused errno) room = Unit {0}
+Fits idle room = Unit {0}
 
 abbrev pub event_of : Event → PlainEvent
 event_of (events.Answer answer dropped) = answered (answer_of answer) dropped.items

@@ -1,5 +1,5 @@
-ghost use Rattle.std.specs.Prelude.{◌≡◌, ◌≤◌, [], IfOk, length};
-ghost use Rattle.tty_calls.specs.Plain.{answer_of, bytes_in};
+ghost use Rattle.std.specs.Prelude.{◌≡◌, IfOk};
+ghost use Rattle.tty_calls.specs.Plain.{answer_of, got, counts_are, Fits};
 
 use std::alloc::Global;
 use tty_base::{Buffer, Bytes, Counts, Errno, Moves, NoMemory, Signal};
@@ -18,8 +18,8 @@ pub enum Answer {
     Number(u32),
     /// The modes that were asked for.
     ModesAre(Modes),
-    /// The counts that were asked for.
-    CountsAre(Counts),
+    /// The counts that were asked for. They stand apart, since few calls ask for them.
+    CountsAre(Box<Counts>),
     /// The call was refused (errno(3)).
     Refused(Errno),
     /// The call waited, and nothing could come any more that it waited for.
@@ -27,6 +27,17 @@ pub enum Answer {
 }
 
 impl Moves for Answer {}
+
+/// Room for a copy of an answer, which is made before there is one.
+#[derive(Drop)]
+pub enum AnswerRoom {
+    /// None is needed.
+    Nothing,
+    /// Room for the bytes that it gives.
+    Bytes(Bytes),
+    /// A box for the counts that it tells.
+    Counts(Box<Counts>),
+}
 
 impl Answer {
     /// An equal answer, with memory of its own.
@@ -39,34 +50,61 @@ impl Answer {
             Answer::Count(count) => Ok(Answer::Count(*count)),
             Answer::Number(number) => Ok(Answer::Number(*number)),
             Answer::ModesAre(modes) => Ok(Answer::ModesAre(*modes)),
-            Answer::CountsAre(counts) => Ok(Answer::CountsAre(*counts)),
+            Answer::CountsAre(counts) => Ok(Answer::CountsAre(Box::new(alloc, **counts)?)),
             Answer::Refused(errno) => Ok(Answer::Refused(*errno)),
             Answer::Idle => Ok(Answer::Idle),
         }
     }
 
-    /// An equal answer, in room that was reserved for its bytes. It takes no memory.
+    /// An equal answer, in room that was made for it. It takes no memory.
     #[inline(always)]
-    pub fn copy_into(&self, mut room: Bytes) -> Answer
-        requires empty { room.items ≡ [] }
-        requires fits { length (bytes_in (answer_of self.now)) ≤ room.spare }
+    pub fn copy_into(&self, room: AnswerRoom) -> Answer
+        requires { Fits (answer_of self.now) room }
         ensures { answer_of result ≡ answer_of self.now }
     {
         match self {
-            Answer::Got(bytes) => {
-                room.append(bytes.as_slice());
-                Answer::Got(room)
-            }
+            Answer::Got(bytes) => Answer::Got(bytes_into(room, bytes.as_slice())),
             Answer::Done => Answer::Done,
             Answer::Count(count) => Answer::Count(*count),
             Answer::Number(number) => Answer::Number(*number),
             Answer::ModesAre(modes) => Answer::ModesAre(*modes),
-            Answer::CountsAre(counts) => Answer::CountsAre(*counts),
+            Answer::CountsAre(counts) => Answer::CountsAre(counts_into(room, counts)),
             Answer::Refused(errno) => Answer::Refused(*errno),
             Answer::Idle => Answer::Idle,
         }
     }
 }
+
+/// Bytes in room that was made for them.
+#[inline(never)]
+fn bytes_into(room: AnswerRoom, bytes: &[u8]) -> Bytes
+    requires { Fits (got bytes.now) room }
+    ensures { result.items ≡ bytes.now }
+{
+    match room {
+        AnswerRoom::Bytes(mut copy) => {
+            copy.append(bytes);
+            copy
+        }
+        _ => unreachable!(),
+    }
+}
+
+/// Counts in a box that was made for some.
+#[inline(never)]
+fn counts_into(room: AnswerRoom, counts: &Counts) -> Box<Counts>
+    requires { Fits (counts_are counts.now) room }
+    ensures { result.value ≡ counts.now }
+{
+    match room {
+        AnswerRoom::Counts(mut copy) => {
+            *copy = *counts;
+            copy
+        }
+        _ => unreachable!(),
+    }
+}
+
 /// Why a port made no entry.
 #[derive(Clone, Copy, Debug, PartialEq, Eq)]
 pub enum Denied {

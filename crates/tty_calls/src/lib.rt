@@ -8,7 +8,7 @@ mod journals;
 mod names;
 mod sessions;
 
-pub use answers::{Answer, Denied, PortEnd};
+pub use answers::{Answer, AnswerRoom, Denied, PortEnd};
 pub use calls::{Access, Act, Call, Queue, When, Words};
 pub use journals::{Entry, Event, Journal, PortRun, Who};
 pub use names::Names;

@@ -41,7 +41,8 @@ pub(crate) fn run_one<S: Source>(
     ensures short { OnErr result (IsShort (S.left source.old) (S.left source.new)) }
     ensures rest { IfSome (S.left source.old) (λ bytes. LeavesRest bytes (S.left source.new)) }
 {
-    match read_session(alloc, source)? {
+    let mut text = Bytes::new(alloc);
+    match read_session(alloc, source, &mut text)? {
         Reading::Of(session) => run_session(alloc, &session, Telling::Report { journals }),
         Reading::Ended(ending) => Ok(Work::ended(alloc, ending)),
     }

@@ -39,14 +39,21 @@ pub(crate) fn read_text<S: Source>(
     }
 }
 
-/// Reads a session.
-pub fn read_session<S: Source>(alloc: Global, source: &mut S) -> Result<Reading<Session>, NoMemory>
+/// Reads a session. Its text stays in `text`, for the caller to let go.
+pub fn read_session<S: Source>(
+    alloc: Global,
+    source: &mut S,
+    text: &mut Bytes,
+) -> Result<Reading<Session>, NoMemory>
     ensures read { IfOk result (λ reading. IsSessionRead reading (S.faults source.old) (S.faults source.new) (S.left source.old) (S.left source.new)) }
     ensures short { OnErr result (IsShort (S.left source.old) (S.left source.new)) }
     ensures rest { IfSome (S.left source.old) (λ bytes. LeavesRest bytes (S.left source.new)) }
 {
     match read_text(alloc, source)? {
-        Reading::Of(text) => session_in(alloc, text.as_slice()),
+        Reading::Of(read) => {
+            *text = read;
+            session_in(alloc, text.as_slice())
+        }
         Reading::Ended(ending) => Ok(Reading::Ended(ending)),
     }
 }

@@ -4,7 +4,7 @@
 
 use std::alloc::Global;
 use std::process::ExitCode;
-use std::{env, io};
+use std::{env, io, mem};
 use tty_base::{StdSink, StdSource};
 use tty_port::OpenGate;
 use tty_run::{Ran, tty_run};
@@ -33,6 +33,8 @@ fn main(rt: HostRuntime) -> ExitCode {
         }
     }
     let words = words.as_slice();
-    let Ran { status, runs: _ } = tty_run(&rt, alloc, words, &mut source, &mut sink, &OpenGate);
+    let Ran { status, runs } = tty_run(&rt, alloc, words, &mut source, &mut sink, &OpenGate);
+    // The process ends: no journal is walked to be freed.
+    mem::forget(runs);
     ExitCode::from(status)
 }

@@ -14,7 +14,7 @@ use many_threads::play;
 use std::alloc::Global;
 use std::sync::Wait;
 use std::thread::Threads;
-use tty_base::{NoMemory, Source};
+use tty_base::{Bytes, NoMemory, Source};
 use tty_calls::Session;
 use tty_one::{Reading, Telling, Work, read_session, work_of};
 use tty_port::Gate;
@@ -32,7 +32,8 @@ pub(crate) fn run<R: Threads + Wait + Sync, S: Source, G: Gate + Sync>(
     ensures short { OnErr result (IsShort (S.left source.old) (S.left source.new)) }
     ensures rest { IfSome (S.left source.old) (λ bytes. LeavesRest bytes (S.left source.new)) }
 {
-    match read_session(alloc, source)? {
+    let mut text = Bytes::new(alloc);
+    match read_session(alloc, source, &mut text)? {
         Reading::Of(session) => run_session(rt, alloc, &session, journals, gate),
         Reading::Ended(ending) => Ok(Work::ended(alloc, ending)),
     }

@@ -1,6 +1,7 @@
 -- What the code answers of an outcome, and the room that it needs.
-use Rattle.std.specs.Prelude.{◌≡◌, ◌≤◌, ◌==◌, ◌+◌, ◌*◌, ℕ, List, [], Option, None, Some, Bool, false, nat_lt, if◌then◌else◌, length, option_map}
-use Rattle.std.specs.Box.{box_value}
+use Rattle.std.specs.Prelude.{◌≡◌, ◌≤◌, ◌==◌, ◌+◌, ◌*◌, ℕ, List, [], Option, None, Some, Bool, true, false, nat_lt, if◌then◌else◌, length, option_map}
+use Rattle.tty_base.specs.Contents.{Contents}
+use Rattle.tty_base.specs.declared.counters.Counts.{Counts}
 use Rattle.tty_calls.specs.Plain.{PlainCall, opens, closes, reads, writes, gets_modes, sets_modes, gets_disc, sets_disc, flushes, steers, counts_input, counts_output, excludes, admits, drains, gets_counts, hangs_up, sends_packet, takes_packet, answer_of}
 use Rattle.n_tty.specs.Reading.{bytes_read}
 use Rattle.n_slip.specs.Discipline.{first_packet}
@@ -13,8 +14,11 @@ use Rattle.ldisc_switch.specs.declared.discipline.Disc.TheVariants as disc
 use Rattle.ldisc_switch.specs.Disciplines.{kind_of_number, fresh_of, pending_count_of}
 use Rattle.n_tty.specs.declared.discipline.TheConstants.{CHARACTER_ROOM}
 use Rattle.tty_terminal.specs.declared.rooms.Room.{Room}
+use Rattle.tty_terminal.specs.declared.rooms.Room.TheVariants as room
 use Rattle.tty_terminal.specs.declared.rooms.Met.{Met}
 use Rattle.tty_terminal.specs.declared.rooms.Met.TheVariants as met
+use Rattle.tty_calls.specs.declared.answers.AnswerRoom.{AnswerRoom}
+use Rattle.tty_calls.specs.declared.answers.AnswerRoom.TheVariants as copy
 use Rattle.tty_terminal.specs.Terminals.{Terminal, handle_at}
 use Rattle.tty_terminal.specs.Outcomes.{Outcome, unknown, waits, takes, gives}
 use Rattle.tty_terminal.specs.Opening.{is_last_live}
@@ -164,13 +168,145 @@ group_of (hangs_up h) = 3
 group_of (sends_packet h bytes) = 3
 group_of (takes_packet h) = 3
 
--- the discipline that stands in a room
-abbrev pub fresh_in : Room → Option Disc
-fresh_in room = option_map box_value room.fresh
+-- whether a call may give bytes
+abbrev pub gives_bytes : PlainCall → Bool
+gives_bytes (opens h access nonblock) = false
+gives_bytes (closes h) = false
+gives_bytes (reads h n) = true
+gives_bytes (writes h bytes) = false
+gives_bytes (gets_modes h) = false
+gives_bytes (sets_modes h when words) = false
+gives_bytes (gets_disc h) = false
+gives_bytes (sets_disc h n) = false
+gives_bytes (flushes h queue) = false
+gives_bytes (steers h act) = false
+gives_bytes (counts_input h) = false
+gives_bytes (counts_output h) = false
+gives_bytes (excludes h) = false
+gives_bytes (admits h) = false
+gives_bytes (drains h) = false
+gives_bytes (gets_counts h) = false
+gives_bytes (hangs_up h) = false
+gives_bytes (sends_packet h bytes) = false
+gives_bytes (takes_packet h) = true
 
--- what a call needs was made before it: room for its answer, the discipline that it installs, and its packet as it is spelled
-pub record IsRoomFor (t : Terminal) (call : PlainCall) (room : Room) : Type 0 where
-  pub empty : room.bytes.items ≡ []
-  pub fits : room_for t call ≤ room.bytes.spare
-  pub fresh : fresh_in room ≡ option_map fresh_of (fresh_kind t call)
-  pub encoded : room.encoded.items ≡ spelled_packet call
+-- the counts that a call tells
+abbrev pub counts_for : Terminal → PlainCall → Option Counts
+counts_for t (opens h access nonblock) = None
+counts_for t (closes h) = None
+counts_for t (reads h n) = None
+counts_for t (writes h bytes) = None
+counts_for t (gets_modes h) = None
+counts_for t (sets_modes h when words) = None
+counts_for t (gets_disc h) = None
+counts_for t (sets_disc h n) = None
+counts_for t (flushes h queue) = None
+counts_for t (steers h act) = None
+counts_for t (counts_input h) = None
+counts_for t (counts_output h) = None
+counts_for t (excludes h) = None
+counts_for t (admits h) = None
+counts_for t (drains h) = None
+counts_for t (gets_counts h) = Some t.tally.counts
+counts_for t (hangs_up h) = None
+counts_for t (sends_packet h bytes) = None
+counts_for t (takes_packet h) = None
+
+-- the room for bytes, the discipline, the counts and the packet that stand in a room
+abbrev pub holds_bytes : Room → Bool
+holds_bytes room.Nothing = false
+holds_bytes (room.Bytes bytes) = true
+holds_bytes (room.Fresh fresh) = false
+holds_bytes (room.Counts counts) = false
+holds_bytes (room.Packet bytes) = false
+
+abbrev pub bytes_in : Room → Contents ℕ
+bytes_in room.Nothing = record { items = []; spare = 0 }
+bytes_in (room.Bytes bytes) = bytes
+bytes_in (room.Fresh fresh) = record { items = []; spare = 0 }
+bytes_in (room.Counts counts) = record { items = []; spare = 0 }
+bytes_in (room.Packet bytes) = record { items = []; spare = 0 }
+
+abbrev pub fresh_in : Room → Option Disc
+fresh_in room.Nothing = None
+fresh_in (room.Bytes bytes) = None
+fresh_in (room.Fresh fresh) = Some fresh.value
+fresh_in (room.Counts counts) = None
+fresh_in (room.Packet bytes) = None
+
+abbrev pub counts_in : Room → Option Counts
+counts_in room.Nothing = None
+counts_in (room.Bytes bytes) = None
+counts_in (room.Fresh fresh) = None
+counts_in (room.Counts counts) = Some counts.value
+counts_in (room.Packet bytes) = None
+
+abbrev pub packet_in : Room → List ℕ
+packet_in room.Nothing = []
+packet_in (room.Bytes bytes) = []
+packet_in (room.Fresh fresh) = []
+packet_in (room.Counts counts) = []
+packet_in (room.Packet bytes) = bytes.items
+
+-- what a call needs was made before it: room for the bytes of its answer, the discipline that it installs, the counts that it tells, and its packet as it is spelled
+pub record IsRoomFor (t : Terminal) (call : PlainCall) (made : Room) : Type 0 where
+  pub holds : holds_bytes made ≡ gives_bytes call
+  pub empty : (bytes_in made).items ≡ []
+  pub fits : room_for t call ≤ (bytes_in made).spare
+  pub fresh : fresh_in made ≡ option_map fresh_of (fresh_kind t call)
+  pub counts : counts_in made ≡ counts_for t call
+  pub packet : packet_in made ≡ spelled_packet call
+
+-- whether a call needs anything beside the terminal
+abbrev pub needs_room : PlainCall → Bool
+needs_room (opens h access nonblock) = false
+needs_room (closes h) = true
+needs_room (reads h n) = true
+needs_room (writes h bytes) = false
+needs_room (gets_modes h) = false
+needs_room (sets_modes h when words) = false
+needs_room (gets_disc h) = false
+needs_room (sets_disc h n) = true
+needs_room (flushes h queue) = false
+needs_room (steers h act) = false
+needs_room (counts_input h) = false
+needs_room (counts_output h) = false
+needs_room (excludes h) = false
+needs_room (admits h) = false
+needs_room (drains h) = false
+needs_room (gets_counts h) = true
+needs_room (hangs_up h) = true
+needs_room (sends_packet h bytes) = true
+needs_room (takes_packet h) = true
+
+-- room for a copy of the answer to a call was made
+abbrev pub IsBytesRoom : ℕ → AnswerRoom → Type 0
+IsBytesRoom n copy.Nothing = ⊥
+IsBytesRoom n (copy.Bytes bytes) = (bytes.items ≡ []) × (n ≤ bytes.spare)
+IsBytesRoom n (copy.Counts counts) = ⊥
+
+abbrev pub IsCountsRoom : AnswerRoom → Type 0
+IsCountsRoom copy.Nothing = ⊥
+IsCountsRoom (copy.Bytes bytes) = ⊥
+IsCountsRoom (copy.Counts counts) = Unit {0}
+
+abbrev pub IsAnswerRoom : Terminal → PlainCall → AnswerRoom → Type 0
+IsAnswerRoom t (opens h access nonblock) room = Unit {0}
+IsAnswerRoom t (closes h) room = Unit {0}
+IsAnswerRoom t (reads h n) room = IsBytesRoom (read_room t n t.disc) room
+IsAnswerRoom t (writes h bytes) room = Unit {0}
+IsAnswerRoom t (gets_modes h) room = Unit {0}
+IsAnswerRoom t (sets_modes h when words) room = Unit {0}
+IsAnswerRoom t (gets_disc h) room = Unit {0}
+IsAnswerRoom t (sets_disc h n) room = Unit {0}
+IsAnswerRoom t (flushes h queue) room = Unit {0}
+IsAnswerRoom t (steers h act) room = Unit {0}
+IsAnswerRoom t (counts_input h) room = Unit {0}
+IsAnswerRoom t (counts_output h) room = Unit {0}
+IsAnswerRoom t (excludes h) room = Unit {0}
+IsAnswerRoom t (admits h) room = Unit {0}
+IsAnswerRoom t (drains h) room = Unit {0}
+IsAnswerRoom t (gets_counts h) room = IsCountsRoom room
+IsAnswerRoom t (hangs_up h) room = Unit {0}
+IsAnswerRoom t (sends_packet h bytes) room = Unit {0}
+IsAnswerRoom t (takes_packet h) room = IsBytesRoom (packet_room t.disc) room

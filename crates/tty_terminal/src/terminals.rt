@@ -231,7 +231,7 @@ impl Terminal {
     /// Makes a call of a caller, as far as it changes the terminal beside that caller's own state: it
     /// is answered, takes a part, or must wait. The rule for ixoff follows an answer.
     #[inline(always)]
-    pub fn meet(&mut self, caller: u16, call: &Call, room: Room) -> Met
+    pub fn meet(&mut self, caller: u16, call: &Call, mut room: Room) -> Met
         requires known { caller < length self.old.terminal.callers }
         requires number { handle_of (call_of call.now) < 32 }
         requires bytes { byte_count (call_of call.now) < 2 ^ 32 }
@@ -243,7 +243,7 @@ impl Terminal {
         ensures left { self.new.terminal ≡ left_by (outcome self.old.terminal (caller_at self.old.terminal caller) (call_of call.now)) self.old.terminal }
         ensures column { column_in self.new.terminal.disc ≤ column_in self.old.terminal.disc + 4096 }
     {
-        let met = self.act(caller, call, room);
+        let met = self.act(caller, call, &mut room);
         if let Met::Gives(_) = &met {
             self.apply_ixoff_rule();
         }

@@ -1,5 +1,5 @@
--- Steps that bring good characters, up to a whole window.
-use Rattle.std.proofs.Common.{◌≡◌, ℕ, ◌+◌, ◌<◌, ◌≤◌, Bool, true, false, not, ◌||◌, ◌&&◌, nat_le, nat_lt, if◌then◌else◌, List, [], ◌∷◌, ◌++◌, length, take, drop, get_or, reverse, refl, sym, ◌∙◌, ap, subst, arith, append_assoc, append-nil, length-append, length-take}
+-- Steps that bring characters, of which the first is good, up to a whole window.
+use Rattle.std.proofs.Common.{◌≡◌, ℕ, zero, suc, ◌+◌, ◌<◌, ◌≤◌, Bool, true, false, not, ◌||◌, ◌&&◌, nat_le, nat_lt, if◌then◌else◌, List, [], ◌∷◌, ◌++◌, length, take, drop, get_or, reverse, refl, sym, ◌∙◌, ap, subst, arith, append_assoc, append-nil, length-append, length-take}
 use Rattle.std.specs.List.{list_all, flat_map}
 use Rattle.std.proofs.lemmas.Bool.Decides.{nat_tests}
 use Rattle.std.proofs.lemmas.List.{take_more, take-append-drop}
@@ -14,30 +14,26 @@ use Rattle.uart_line.specs.Received.{is_flagged, is_masked, trigger_of, idle_of,
 use Rattle.uart_line.specs.LineState.{LineState, HasDone, IsUncut}
 use Rattle.uart_line.specs.Handler.{after_line_step, IsReadOff, Serves}
 use Rattle.uart_line.specs.Offered.{HandsOver}
-use Rattle.uart_line.specs.WholeWindow.{is_good_arrival, IsWholeWindow}
+use Rattle.uart_line.specs.WholeWindow.{is_character, begins_well, IsWholeWindow}
 use Rattle.uart_line.proofs.Steps.{cut_after, received_list-step, waiting_list-step, HasDone-uncut, HasDone-cut, HandsOver-cut}
 
--- ---- lists of good characters
+-- ---- lists that begin with a good character
 
-abbrev AreGood : List Flagged → Type 0
-AreGood cs = list_all (λ c. not (is_flagged c.flag)) cs ≡ true
+abbrev BeginsWell : List Flagged → Type 0
+BeginsWell [] = Unit {0}
+BeginsWell (c ∷ _) = not (is_flagged c.flag) ≡ true
 
 both_true : (a b : Bool) → (a && b) ≡ true → (a ≡ true) × (b ≡ true)
 both_true true b h = (refl, h)
 both_true false b h = absurd (cc)
 
-both_hold : (a b : Bool) → a ≡ true → b ≡ true → (a && b) ≡ true
-both_hold a b h k = rw (h, k)
-
 not_true : (a : Bool) → not a ≡ true → a ≡ false
 not_true true h = absurd (cc)
 not_true false h = refl
 
-good_more : (cs : List Flagged) (c : Flagged) → AreGood cs → not (is_flagged c.flag) ≡ true → AreGood (cs ++ c ∷ [])
-good_more [] c h k = rw k refl
-good_more (d ∷ cs) c h k =
-    let p : (not (is_flagged d.flag) ≡ true) × AreGood cs = both_true (not (is_flagged d.flag)) (list_all (λ x. not (is_flagged x.flag)) cs) h in
-    rw p.0 (good_more cs c p.1 k)
+front_well : (cs : List Flagged) (c : Flagged) (rest : List Flagged) → BeginsWell (cs ++ c ∷ rest) → BeginsWell (cs ++ c ∷ [])
+front_well [] c rest h = h
+front_well (d ∷ cs) c rest h = h
 
 -- ---- cuts
 
@@ -50,13 +46,12 @@ test_holds m true n t h e = rw h refl
 test_holds m false n t h e = rw (h, e) (grind (arith, nat_tests))
 
 -- too few to be cut
-uncut_good : (past : List LineStep) (cs : List Flagged) (c : Flagged) → AreGood cs → not (is_flagged c.flag) ≡ true
+uncut_good : (past : List LineStep) (cs : List Flagged) (c : Flagged) → BeginsWell (cs ++ c ∷ [])
     → length (cs ++ c ∷ []) < trigger_of past → is_cut (Rx c ∷ past) (cs ++ c ∷ []) ≡ false
 unfolding is_cut is_masked trigger_of idle_of
-uncut_good past [] c h k few = tests_fail (not (is_masked past)) (is_flagged c.flag) 1 (trigger_of past) (not_true (is_flagged c.flag) k) few
-uncut_good past (d ∷ cs) c h k few =
-    let p : (not (is_flagged d.flag) ≡ true) × AreGood cs = both_true (not (is_flagged d.flag)) (list_all (λ x. not (is_flagged x.flag)) cs) h in
-    tests_fail (not (is_masked past)) (is_flagged d.flag) (length (d ∷ cs ++ c ∷ [])) (trigger_of past) (not_true (is_flagged d.flag) p.0) few
+uncut_good past [] c h few = tests_fail (not (is_masked past)) (is_flagged c.flag) 1 (trigger_of past) (not_true (is_flagged c.flag) h) few
+uncut_good past (d ∷ cs) c h few =
+    tests_fail (not (is_masked past)) (is_flagged d.flag) (length (d ∷ cs ++ c ∷ [])) (trigger_of past) (not_true (is_flagged d.flag) h) few
 
 -- as many as the trigger says
 cut_full : (past : List LineStep) (cs : List Flagged) (c : Flagged) → is_masked past ≡ false
@@ -104,13 +99,13 @@ record Next (line next : LineState) (before : List LineStep) (c : Flagged) (wait
   waits : waiting_list (before ++ Rx c ∷ []) ≡ waiting ++ c ∷ []
 
 gathers_one : (line : LineState) (before : List LineStep) (c : Flagged) (waiting : List Flagged) → HasDone line before → waiting_list before ≡ waiting
-    → AreGood waiting → not (is_flagged c.flag) ≡ true → length waiting + 1 < line.registers.trigger
+    → BeginsWell (waiting ++ c ∷ []) → length waiting + 1 < line.registers.trigger
     → Next line (after_line_step line (Rx c)) before c waiting
-gathers_one line before c waiting d w good one few =
+gathers_one line before c waiting d w well few =
     let trigger : line.registers.trigger ≡ trigger_of (reverse before) = d.stands.registers.trigger in
     let none : cut_after before (Rx c) ≡ false =
     ap (λ (l : List Flagged). is_cut (Rx c ∷ reverse before) (l ++ c ∷ [])) w
-    ∙ uncut_good (reverse before) waiting c good one (omega (arith, few, trigger, length-append waiting (c ∷ []))) in
+    ∙ uncut_good (reverse before) waiting c well (omega (arith, few, trigger, length-append waiting (c ∷ []))) in
     record {
       done = HasDone-uncut line (Rx c) before none d;
       same = received_list-step before (Rx c) ∙ rw none (append-nil (received_list before));
@@ -136,18 +131,17 @@ read_off_back r s t a same =
     subst (λ (x : Registers). IsReadOff s x) (sym same) back
 
 pub gathers : (line : LineState) (before : List LineStep) (waiting : List Flagged) (steps : List LineStep) → HasDone line before → waiting_list before ≡ waiting
-    → AreGood waiting → list_all is_good_arrival steps ≡ true → length waiting + length steps < line.registers.trigger
+    → BeginsWell (waiting ++ flat_map arrival steps) → list_all is_character steps ≡ true → length waiting + length steps < line.registers.trigger
     → Gathers line before steps (waiting ++ flat_map arrival steps)
-gathers line before waiting [] d w good all few =
+gathers line before waiting [] d w well all few =
     subst (Gathers line before []) (sym (append-nil waiting)) (gathers_none line before waiting d w)
-gathers line before waiting (Rx c ∷ steps) d w good all few =
-    let p : (not (is_flagged c.flag) ≡ true) × (list_all is_good_arrival steps ≡ true) = both_true (not (is_flagged c.flag)) (list_all is_good_arrival steps) all in
+gathers line before waiting (Rx c ∷ steps) d w well all few =
     let next : LineState = after_line_step line (Rx c) in
-    let n : Next line next before c waiting = gathers_one line before c waiting d w good p.0 (omega arith) in
+    let n : Next line next before c waiting = gathers_one line before c waiting d w (front_well waiting c (flat_map arrival steps) well) (omega arith) in
     let off : IsReadOff line.registers next.registers = read_off_arrival line c in
     let same_trigger : next.registers.trigger ≡ line.registers.trigger = ap (λ (r : Registers). r.trigger) off in
     let g : Gathers next (before ++ Rx c ∷ []) steps ((waiting ++ c ∷ []) ++ flat_map arrival steps) =
-    gathers next (before ++ Rx c ∷ []) (waiting ++ c ∷ []) steps n.done n.waits (good_more waiting c good p.0) p.1
+    gathers next (before ++ Rx c ∷ []) (waiting ++ c ∷ []) steps n.done n.waits (subst BeginsWell (sym (append_assoc waiting (c ∷ []) (flat_map arrival steps))) well) all
     (omega (arith, few, same_trigger, length-append waiting (c ∷ []))) in
     let parts : (before ++ Rx c ∷ []) ++ steps ≡ before ++ Rx c ∷ steps = append_assoc before (Rx c ∷ []) steps in
     record {
@@ -165,11 +159,11 @@ gathers line before waiting (Rx c ∷ steps) d w good all few =
       lost = g.lost;
       off = read_off_twice line.registers next.registers g.uncut.there.registers off g.off;
     }
-gathers line before waiting (Break ∷ steps) d w good all few = absurd (cc)
-gathers line before waiting (Idle n ∷ steps) d w good all few = absurd (cc)
-gathers line before waiting (Mask ∷ steps) d w good all few = absurd (cc)
-gathers line before waiting (Unmask ∷ steps) d w good all few = absurd (cc)
-gathers line before waiting (Trigger t ∷ steps) d w good all few = absurd (cc)
+gathers line before waiting (Break ∷ steps) d w well all few = absurd (cc)
+gathers line before waiting (Idle n ∷ steps) d w well all few = absurd (cc)
+gathers line before waiting (Mask ∷ steps) d w well all few = absurd (cc)
+gathers line before waiting (Unmask ∷ steps) d w well all few = absurd (cc)
+gathers line before waiting (Trigger t ∷ steps) d w well all few = absurd (cc)
 
 -- what one more of them adds
 pub arrivals_more : (steps : List LineStep) (k : ℕ) (d : LineStep) (c : Flagged) → k < length steps → arrival (get_or steps k d) ≡ c ∷ []
@@ -182,35 +176,32 @@ arrivals_more steps k d c lt is =
 -- ---- a whole window
 
 -- its last character, and the steps before
-record EndsWell (steps : List LineStep) : Type 0 where
+record HasLast (steps : List LineStep) : Type 0 where
   front : List LineStep
   last : Flagged
   parts : steps ≡ front ++ Rx last ∷ []
-  good : list_all is_good_arrival front ≡ true
+  each : list_all is_character front ≡ true
 
-ends_well : (steps : List LineStep) → 1 ≤ length steps → list_all is_good_arrival steps ≡ true → EndsWell steps
-ends_well [] some all = absurd (omega arith)
-ends_well (Rx c ∷ []) some all = record { front = []; last = c; parts = refl; good = refl }
-ends_well (Rx c ∷ step ∷ steps) some all =
-    let p : (not (is_flagged c.flag) ≡ true) × (list_all is_good_arrival (step ∷ steps) ≡ true) = both_true (not (is_flagged c.flag)) (list_all is_good_arrival (step ∷ steps)) all in
-    let rest : EndsWell (step ∷ steps) = ends_well (step ∷ steps) (omega arith) p.1 in
+has_last : (steps : List LineStep) → 1 ≤ length steps → list_all is_character steps ≡ true → HasLast steps
+has_last [] some all = absurd (omega arith)
+has_last (Rx c ∷ []) some all = record { front = []; last = c; parts = refl; each = refl }
+has_last (Rx c ∷ step ∷ steps) some all =
+    let rest : HasLast (step ∷ steps) = has_last (step ∷ steps) (omega arith) all in
     record {
       front = Rx c ∷ rest.front;
       last = rest.last;
       parts = ap (λ (l : List LineStep). Rx c ∷ l) rest.parts;
-      good = both_hold (not (is_flagged c.flag)) (list_all is_good_arrival rest.front) p.0 rest.good;
+      each = rest.each;
     }
-ends_well (Break ∷ steps) some all = absurd (cc)
-ends_well (Idle n ∷ steps) some all = absurd (cc)
-ends_well (Mask ∷ steps) some all = absurd (cc)
-ends_well (Unmask ∷ steps) some all = absurd (cc)
-ends_well (Trigger t ∷ steps) some all = absurd (cc)
+has_last (Break ∷ steps) some all = absurd (cc)
+has_last (Idle n ∷ steps) some all = absurd (cc)
+has_last (Mask ∷ steps) some all = absurd (cc)
+has_last (Unmask ∷ steps) some all = absurd (cc)
+has_last (Trigger t ∷ steps) some all = absurd (cc)
 
-pub one_each : (steps : List LineStep) → list_all is_good_arrival steps ≡ true → length (flat_map arrival steps) ≡ length steps
+pub one_each : (steps : List LineStep) → list_all is_character steps ≡ true → length (flat_map arrival steps) ≡ length steps
 one_each [] all = refl
-one_each (Rx c ∷ steps) all =
-    let p : (not (is_flagged c.flag) ≡ true) × (list_all is_good_arrival steps ≡ true) = both_true (not (is_flagged c.flag)) (list_all is_good_arrival steps) all in
-    omega (arith, one_each steps p.1)
+one_each (Rx c ∷ steps) all = omega (arith, one_each steps all)
 one_each (Break ∷ steps) all = absurd (cc)
 one_each (Idle n ∷ steps) all = absurd (cc)
 one_each (Mask ∷ steps) all = absurd (cc)
@@ -221,10 +212,30 @@ pub arrival_count_is : (steps : List LineStep) → arrival_count steps ≡ lengt
 arrival_count_is [] = refl
 arrival_count_is (step ∷ steps) = omega (arith, arrival_count_is steps, length-append (arrival step) (flat_map arrival steps))
 
-pub all_taken : (steps : List LineStep) (k : ℕ) → list_all is_good_arrival steps ≡ true → list_all is_good_arrival (take k steps) ≡ true
+pub all_taken : (steps : List LineStep) (k : ℕ) → list_all is_character steps ≡ true → list_all is_character (take k steps) ≡ true
 all_taken steps k all =
-    (both_true (list_all is_good_arrival (take k steps)) (list_all is_good_arrival (drop k steps))
-    (sym (list_all-append is_good_arrival (take k steps) (drop k steps)) ∙ ap (list_all is_good_arrival) (take-append-drop k steps) ∙ all)).0
+    (both_true (list_all is_character (take k steps)) (list_all is_character (drop k steps))
+    (sym (list_all-append is_character (take k steps) (drop k steps)) ∙ ap (list_all is_character) (take-append-drop k steps) ∙ all)).0
+
+-- the first of some of these steps, and of all but the last
+well_taken : (steps : List LineStep) (k : ℕ) → begins_well steps ≡ true → BeginsWell (flat_map arrival (take k steps))
+well_taken [] k h = absurd (cc)
+well_taken (Rx c ∷ steps) zero h = tt
+well_taken (Rx c ∷ steps) (suc k) h = h
+well_taken (Break ∷ steps) k h = absurd (cc)
+well_taken (Idle n ∷ steps) k h = absurd (cc)
+well_taken (Mask ∷ steps) k h = absurd (cc)
+well_taken (Unmask ∷ steps) k h = absurd (cc)
+well_taken (Trigger t ∷ steps) k h = absurd (cc)
+
+well_front : (steps front : List LineStep) (last : Flagged) → steps ≡ front ++ Rx last ∷ [] → begins_well steps ≡ true → BeginsWell (flat_map arrival front)
+well_front steps front last parts h =
+    subst (λ (l : List LineStep). BeginsWell (flat_map arrival l)) (ap (take (length front)) parts ∙ take_front front (Rx last ∷ []))
+    (well_taken steps (length front) h)
+  where
+    take_front : (xs ys : List LineStep) → take (length xs) (xs ++ ys) ≡ xs
+    take_front [] ys = refl
+    take_front (x ∷ xs) ys = ap (λ zs. x ∷ zs) (take_front xs ys)
 
 empty_of : {A : Type 0} (xs : List A) → length xs ≡ 0 → xs ≡ []
 empty_of [] h = refl
@@ -236,20 +247,20 @@ module _ (line : LineState) (steps : List LineStep) (window : IsWholeWindow line
 
   pub uncut_before : (k : ℕ) → k < length steps → IsUncut line before (take k steps)
   uncut_before k lt =
-      (gathers line before [] (take k steps) d none_waits refl (all_taken steps k window.good)
+      (gathers line before [] (take k steps) d none_waits (well_taken steps k window.well) (all_taken steps k window.each)
       (omega (arith, window.count, lt, length-take k steps))).uncut
 
   module _ (capacity : ℕ) (new : LineState) (s0 s1 : List Flagged) (h0 h1 : List ℕ)
       (serves : Serves capacity (record line { report = record line.report { arrived = line.report.arrived + length steps } }) new (flat_map arrival steps) s0 s1 h0 h1)
       (registers : new.registers ≡ line.registers) (same_window : new.window ≡ line.window) (lost : new.report.fifo_lost ≡ line.report.fifo_lost) where
-    abbrev e : EndsWell steps
-    e = ends_well steps window.some window.good
+    abbrev e : HasLast steps
+    e = has_last steps window.some window.each
 
     count : length steps ≡ length e.front + 1
     count = ap length e.parts ∙ length-append e.front (Rx e.last ∷ [])
 
     g : Gathers line before e.front (flat_map arrival e.front)
-    g = gathers line before [] e.front d none_waits refl e.good (omega (arith, count, window.count))
+    g = gathers line before [] e.front d none_waits (well_front steps e.front e.last e.parts window.well) e.each (omega (arith, count, window.count))
 
     abbrev there : LineState
     there = g.uncut.there
@@ -258,7 +269,7 @@ module _ (line : LineState) (steps : List LineStep) (window : IsWholeWindow line
     chars = ap (flat_map arrival) e.parts ∙ flat_map-append arrival e.front (Rx e.last ∷ [])
 
     many : length (flat_map arrival e.front ++ e.last ∷ []) ≡ length steps
-    many = sym (ap length chars) ∙ one_each steps window.good
+    many = sym (ap length chars) ∙ one_each steps window.each
 
     cut : cut_after (before ++ e.front) (Rx e.last) ≡ true
     cut =
@@ -281,7 +292,7 @@ module _ (line : LineState) (steps : List LineStep) (window : IsWholeWindow line
           (read_off_twice line.registers there.registers (after_line_step there (Rx e.last)).registers g.off (read_off_arrival there e.last)) registers;
       masked = serves.masked ∙ sym g.masked;
       most = serves.most ∙ sym g.uncut.most;
-      arrived = omega (arith, serves.arrived, g.uncut.arrived, count, arrival_count_is e.front, one_each e.front e.good);
+      arrived = omega (arith, serves.arrived, g.uncut.arrived, count, arrival_count_is e.front, one_each e.front e.each);
     }
 
     whole : (before ++ e.front) ++ Rx e.last ∷ [] ≡ before ++ steps

@@ -148,7 +148,7 @@ impl Line {
             self.advance(*step, put);
         }
         self.advance(LineStep::Unmask, put);
-        self.advance(LineStep::Idle(TIMEOUT), put);
+        self.advance(LineStep::Idle(TIMEOUT as u16), put);
     }
 
     /// Does these steps, then `Unmask` and four idle character times, and adds what is handed over to a
@@ -319,7 +319,7 @@ impl Line {
         match step {
             LineStep::Rx(c) => self.arrive(c),
             LineStep::Break => self.arrive(BREAK),
-            LineStep::Idle(times) => self.uart.idle(times),
+            LineStep::Idle(times) => self.uart.idle(u32::from(times)),
             LineStep::Mask => self.masked = true,
             LineStep::Unmask => self.masked = false,
             LineStep::Trigger(level) => self.uart.write(Reg::R2, trigger_control(level)),

@@ -1,5 +1,5 @@
-//! Whole windows of good characters: where none wait and as many come as the trigger says, the handler
-//! takes each as it came, and no register has to be asked.
+//! Whole windows of characters: where none wait and as many come as the trigger says, the first of them
+//! good, the handler takes each as it came, and no register has to be asked.
 ghost use Rattle.std.specs.Prelude.{◌≡◌, ◌<◌, ◌≤◌, ◌+◌, ◌&&◌, ℕ, true, List, [], ◌∷◌, ◌++◌, take, drop, length, IsTrue};
 ghost use Rattle.std.proofs.Common.{◌⊎◌};
 ghost use Rattle.std.specs.List.{All, list_all, flat_map};
@@ -10,15 +10,16 @@ ghost use Rattle.uart_line.specs.Received.{received_list};
 ghost use Rattle.uart_line.specs.LineState.{HasDone, IsUncut};
 ghost use Rattle.uart_line.specs.Offered.{HandsOver};
 ghost use Rattle.uart_line.specs.Handler.{Serves};
-ghost use Rattle.uart_line.specs.WholeWindow.{is_good_arrival, IsWholeWindow, IsHandedOver};
+ghost use Rattle.uart_line.specs.WholeWindow.{is_character, begins_well, IsWholeWindow, IsHandedOver};
 ghost use Rattle.uart_regs.specs.Registers.{bit};
 
 use super::{Line, show};
 use tty_base::{Flag, Flagged, LineStep, Put};
 
 impl Line {
-    /// Does the first of these steps; or as many as bring a whole window of good characters, at the last
+    /// Does the first of these steps; or as many as bring a whole window of characters, at the last
     /// of which the handler runs. Answers how many.
+    #[inline(always)]
     pub fn step_window<P: Put>(&mut self, steps: &[LineStep], put: &mut P) -> usize
         requires some { 0 < length steps.now }
         requires good { All (λ step. IsTrue (is_step step)) steps.now }
@@ -54,7 +55,7 @@ impl Line {
         count
     }
 
-    // How many of these steps bring a whole window of good characters, or 0.
+    // How many of these steps bring a whole window of characters, or 0.
     fn window_in(&self, steps: &[LineStep]) -> usize
         ensures within { result ≤ length steps.now }
         ensures window { 0 < result → IsWholeWindow self.now (take result steps.now) }
@@ -63,7 +64,8 @@ impl Line {
         if self.masked || self.window > 0 || steps.len() < count {
             return 0;
         }
-        if are_good_arrivals(&steps[..count]) {
+        let front = first_steps(steps, count);
+        if begins_well(front) && bring_characters(front) {
             count
         } else {
             0
@@ -71,8 +73,9 @@ impl Line {
     }
 
     // Hands over what arrives in these steps, as it came.
+    #[inline(always)]
     fn pass_window<P: Put>(&mut self, steps: &[LineStep], put: &mut P)
-        requires good { list_all is_good_arrival steps.now ≡ true }
+        requires each { list_all is_character steps.now ≡ true }
         requires few { length steps.now ≤ 14 }
         requires room { self.old.report.arrived + length steps.now ≤ self.old.most }
         requires put { self.old.most ≤ P.room put.old + self.old.handed }
@@ -96,8 +99,9 @@ impl Line {
 
     // Offers what arrives in these steps. Where there is room for all of it, that is looked up and
     // counted once.
+    #[inline(always)]
     fn hand_over<P: Put>(&mut self, steps: &[LineStep], put: &mut P)
-        requires good { list_all is_good_arrival steps.now ≡ true }
+        requires each { list_all is_character steps.now ≡ true }
         requires few { length steps.now ≤ 14 }
         requires left { self.old.handed + length self.old.registers.fifo + bit self.old.registers.overrun + length steps.now ≤ self.old.report.arrived }
         requires put { self.old.most ≤ P.room put.old + self.old.handed }
@@ -118,7 +122,7 @@ impl Line {
     // The same, where there is room for all.
     #[inline(always)]
     fn accept_each<P: Put>(&mut self, steps: &[LineStep], put: &mut P)
-        requires good { list_all is_good_arrival steps.now ≡ true }
+        requires each { list_all is_character steps.now ≡ true }
         requires few { length steps.now ≤ 14 }
         requires left { self.old.handed + length self.old.registers.fifo + bit self.old.registers.overrun + length steps.now ≤ self.old.report.arrived }
         requires put { self.old.most ≤ P.room put.old + self.old.handed }
@@ -139,7 +143,7 @@ impl Line {
     // The same, one after the other.
     #[inline(never)]
     fn offer_each<P: Put>(&mut self, steps: &[LineStep], put: &mut P)
-        requires good { list_all is_good_arrival steps.now ≡ true }
+        requires each { list_all is_character steps.now ≡ true }
         requires left { self.old.handed + length self.old.registers.fifo + bit self.old.registers.overrun + length steps.now ≤ self.old.report.arrived }
         requires put { self.old.most ≤ P.room put.old + self.old.handed }
         ensures serves { Serves (P.capacity put.old) self.old self.new (flat_map arrival steps.now) (P.sent put.old) (P.sent put.new) (P.heads put.old) (P.heads put.new) }
@@ -151,14 +155,15 @@ impl Line {
     {
         let _ = &self.most;
         for step in steps {
-            self.offer(good_character(*step), put);
+            self.offer(character_in(*step), put);
         }
     }
 }
 
 /// Puts what arrives in these steps, four at a time.
+#[inline(always)]
 fn put_arrivals<P: Put>(steps: &[LineStep], put: &mut P)
-    requires good { list_all is_good_arrival steps.now ≡ true }
+    requires each { list_all is_character steps.now ≡ true }
     requires room { length steps.now ≤ P.room put.old }
     requires free { length steps.now ≤ P.free put.old }
     ensures sent { P.sent put.new ≡ P.sent put.old ++ flat_map arrival steps.now }
@@ -179,7 +184,7 @@ fn put_arrivals<P: Put>(steps: &[LineStep], put: &mut P)
 /// What arrives in the four steps from the place `at` on.
 #[inline(always)]
 fn four_arrivals(steps: &[LineStep], at: usize) -> [Flagged; 4]
-    requires good { list_all is_good_arrival steps.now ≡ true }
+    requires each { list_all is_character steps.now ≡ true }
     requires within { at + 4 ≤ length steps.now }
     ensures { flat_map arrival (take (at + 4) steps.now) ≡ flat_map arrival (take at steps.now) ++ result }
 {
@@ -194,55 +199,36 @@ fn four_arrivals(steps: &[LineStep], at: usize) -> [Flagged; 4]
 /// What arrives in the step at the place `at`.
 #[inline(always)]
 fn arrival_at(steps: &[LineStep], at: usize) -> Flagged
-    requires good { list_all is_good_arrival steps.now ≡ true }
+    requires each { list_all is_character steps.now ≡ true }
     requires within { at < length steps.now }
     ensures { flat_map arrival (take (at + 1) steps.now) ≡ flat_map arrival (take at steps.now) ++ result ∷ [] }
 {
-    good_character(steps[at])
+    character_in(steps[at])
 }
 
-/// Whether a good character arrives in each of these steps.
-fn are_good_arrivals(steps: &[LineStep]) -> bool
-    ensures { result ≡ list_all is_good_arrival steps.now }
+/// The first of these steps, so many.
+#[inline(always)]
+fn first_steps(steps: &[LineStep], count: usize) -> &[LineStep]
+    requires { count ≤ length steps.now }
+    ensures { result.now ≡ take count steps.now }
 {
-    let whole = steps.len() / 4;
-    for k in 0..whole {
-        if !are_four_good(steps, 4 * k) {
-            return false;
-        }
+    &steps[..count]
+}
+
+/// Whether a good character arrives in the first of these steps.
+#[inline(always)]
+fn begins_well(steps: &[LineStep]) -> bool
+    ensures { result ≡ begins_well steps.now }
+{
+    match steps.first() {
+        Some(step) => is_good(*step),
+        None => false,
     }
-    for at in 4 * whole..steps.len() {
-        if !is_good_at(steps, at) {
-            return false;
-        }
-    }
-    true
-}
-
-/// Whether a good character arrives in each of the four steps from the place `at` on.
-#[inline(always)]
-fn are_four_good(steps: &[LineStep], at: usize) -> bool
-    requires { at + 4 ≤ length steps.now }
-    ensures { list_all is_good_arrival (drop at steps.now) ≡ (result && list_all is_good_arrival (drop (at + 4) steps.now)) }
-{
-    is_good_at(steps, at)
-        && is_good_at(steps, at + 1)
-        && is_good_at(steps, at + 2)
-        && is_good_at(steps, at + 3)
-}
-
-/// Whether a good character arrives in the step at the place `at`.
-#[inline(always)]
-fn is_good_at(steps: &[LineStep], at: usize) -> bool
-    requires { at < length steps.now }
-    ensures { list_all is_good_arrival (drop at steps.now) ≡ (result && list_all is_good_arrival (drop (at + 1) steps.now)) }
-{
-    is_good_arrival(steps[at])
 }
 
 #[inline(always)]
-fn is_good_arrival(step: LineStep) -> bool
-    ensures { result ≡ is_good_arrival step }
+fn is_good(step: LineStep) -> bool
+    ensures { result ≡ begins_well (step ∷ []) }
 {
     match step {
         LineStep::Rx(c) => matches!(c.flag, Flag::Normal),
@@ -250,10 +236,57 @@ fn is_good_arrival(step: LineStep) -> bool
     }
 }
 
-/// The good character that arrives in a step.
+/// Whether a character arrives in each of these steps.
 #[inline(always)]
-fn good_character(step: LineStep) -> Flagged
-    requires { is_good_arrival step ≡ true }
+fn bring_characters(steps: &[LineStep]) -> bool
+    ensures { result ≡ list_all is_character steps.now }
+{
+    let whole = steps.len() / 4;
+    for k in 0..whole {
+        if !bring_four(steps, 4 * k) {
+            return false;
+        }
+    }
+    for at in 4 * whole..steps.len() {
+        if !brings_at(steps, at) {
+            return false;
+        }
+    }
+    true
+}
+
+/// Whether a character arrives in each of the four steps from the place `at` on, by one test.
+#[inline(always)]
+fn bring_four(steps: &[LineStep], at: usize) -> bool
+    requires { at + 4 ≤ length steps.now }
+    ensures { list_all is_character (drop at steps.now) ≡ (result && list_all is_character (drop (at + 4) steps.now)) }
+{
+    is_character(steps[at])
+        & is_character(steps[at + 1])
+        & is_character(steps[at + 2])
+        & is_character(steps[at + 3])
+}
+
+/// Whether a character arrives in the step at the place `at`.
+#[inline(always)]
+fn brings_at(steps: &[LineStep], at: usize) -> bool
+    requires { at < length steps.now }
+    ensures { list_all is_character (drop at steps.now) ≡ (result && list_all is_character (drop (at + 1) steps.now)) }
+{
+    is_character(steps[at])
+}
+
+#[inline(always)]
+fn is_character(step: LineStep) -> bool
+    ensures { result ≡ is_character step }
+{
+    matches!(step, LineStep::Rx(_))
+}
+
+/// The character that arrives in a step.
+#[inline(always)]
+fn character_in(step: LineStep) -> Flagged
+    requires { is_character step ≡ true }
     ensures { arrival step ≡ result ∷ [] }
 {
     match step {

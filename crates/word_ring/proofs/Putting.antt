@@ -1,5 +1,5 @@
 -- What a putter's seat knows fits its numbers after each step.
-use Rattle.std.proofs.Common.{◌≡◌, ℕ, ◌+◌, ◌-◌, ◌/◌, ◌%◌, ◌^◌, ◌<◌, ◌≤◌, List, [], ◌∷◌, ◌++◌, length, max, sym, ap, ◌∙◌, subst, arith, length-append}
+use Rattle.std.proofs.Common.{◌≡◌, ℕ, ◌+◌, ◌-◌, ◌*◌, ◌/◌, ◌%◌, ◌^◌, ◌<◌, ◌≤◌, List, [], ◌∷◌, ◌++◌, length, max, sym, ap, ◌∙◌, subst, arith, length-append}
 use mathlib.Core.List.{IsPrefix}
 use Rattle.word_ring.specs.declared.putter.Putter.TheInside.{Inside}
 use Rattle.word_ring.specs.declared.table.View.{View}
@@ -7,8 +7,10 @@ use Rattle.word_ring.specs.Ends.{PutterState}
 use Rattle.word_ring.specs.Lanes.{top_lanes, whole_words}
 use Rattle.word_ring.specs.Plays.{with_head, with_written, with_all_pushed, with_head_note}
 use Rattle.word_ring.specs.PutterParts.{putter_state, sent_of, IsPutter, IsPutting}
-use Rattle.word_ring.proofs.Beginnings.{begins_itself, begins_more, begins_through}
-use Rattle.word_ring.proofs.LastWord.{group_is, whole_again, put_short, put_full, put_stored}
+use Rattle.word_ring.proofs.Beginnings.{begins_itself, begins_more, begins_through, begins_whole}
+use Rattle.word_ring.proofs.LastWord.{long_is, group_is, whole_again, whole_full, put_short, put_full, put_stored}
+use Rattle.word_ring.proofs.Packing.{whole_length}
+use Rattle.std.proofs.lemmas.List.{append-nil}
 use Rattle.word_ring.proofs.Released.{rises_push, below_more, below_push}
 
 -- where so many more find room, they do by what the seat knows
@@ -24,6 +26,7 @@ module _ (capacity sent word : ℕ) (v : View) (p : IsPutting capacity sent word
     puts = p.puts;
     room = p.room;
     begins = p.begins;
+    pushed = p.pushed;
     count = p.count;
     fits = (let fits = p.fits in omega arith);
     rise = rises_push v.heads v.head h p.rise p.most le;
@@ -35,6 +38,7 @@ module _ (capacity sent word : ℕ) (v : View) (p : IsPutting capacity sent word
     puts = p.puts;
     room = p.room;
     begins = p.begins;
+    pushed = p.pushed;
     count = p.count;
     fits = (let fits = p.fits in omega arith);
     rise = p.rise;
@@ -43,6 +47,10 @@ module _ (capacity sent word : ℕ) (v : View) (p : IsPutting capacity sent word
 
   pub group : sent / 4 ≡ length v.written / 4
   group = group_is v.written (word / 65536 ^ (4 - sent % 4)) sent p.count
+
+  -- where as many were pushed as were put, all that was put is
+  pub all_pushed : length v.pushed ≡ sent → v.pushed ≡ sent_of sent word v
+  all_pushed is = let count = p.count in begins_whole v.pushed (sent_of sent word v) p.pushed (omega arith)
 
   -- all that was put is stored and pushed
   pub after_push : IsPutting capacity sent word (with_all_pushed (with_written v (sent_of sent word v)))
@@ -53,6 +61,7 @@ module _ (capacity sent word : ℕ) (v : View) (p : IsPutting capacity sent word
         puts = p.puts;
         room = p.room;
         begins = subst (λ (xs : List ℕ). IsPrefix (sent_of sent word v) xs) (sym same) (begins_itself (sent_of sent word v));
+        pushed = subst (λ (xs : List ℕ). IsPrefix (sent_of sent word v) xs) (sym same) (begins_itself (sent_of sent word v));
         count = p.count ∙ ap length (sym same);
         fits = p.fits;
         rise = p.rise;
@@ -61,6 +70,37 @@ module _ (capacity sent word : ℕ) (v : View) (p : IsPutting capacity sent word
 
   pub pushed_same : sent_of sent word (with_all_pushed (with_written v (sent_of sent word v))) ≡ sent_of sent word v
   pushed_same = ap (λ (xs : List ℕ). xs ++ top_lanes word (sent % 4)) (whole_again v.written (word / 65536 ^ (4 - sent % 4)) (sent % 4) (omega arith))
+
+  -- a whole word is put after whole words, and was stored
+  module _ (x : ℕ) (full : sent % 4 ≡ 0) (room : sent + 4 ≤ v.head + capacity) where
+    abbrev all : List ℕ
+    all = whole_words v.written ++ top_lanes x 4
+
+    before_is : sent_of sent word v ≡ whole_words v.written
+    before_is = ap (λ (k : ℕ). whole_words v.written ++ top_lanes word k) full ∙ append-nil (whole_words v.written)
+
+    after_is : sent_of (sent + 4) word (with_written v all) ≡ all
+    after_is =
+        let is : (sent + 4) % 4 ≡ 0 = omega arith in
+        ap (λ (k : ℕ). whole_words all ++ top_lanes word k) is ∙ (append-nil (whole_words all) ∙ whole_full v.written (x / 65536 ^ (4 - 4)))
+
+    pub after_word : IsPutting capacity (sent + 4) word (with_written v all)
+    after_word =
+        let whole : length (whole_words v.written) ≡ length v.written / 4 * 4 = whole_length v.written in
+        let long : length all ≡ length v.written / 4 * 4 + 4 = long_is v.written (x / 65536 ^ (4 - 4)) 4 in
+        let count = p.count in
+        let before = ap length before_is in
+        let more : IsPrefix (sent_of sent word v) all = subst (λ (xs : List ℕ). IsPrefix xs all) (sym before_is) (begins_more (whole_words v.written) (top_lanes x 4)) in
+        record {
+          puts = p.puts;
+          room = p.room;
+          begins = subst (λ (xs : List ℕ). IsPrefix all xs) (sym after_is) (begins_itself all);
+          pushed = subst (λ (xs : List ℕ). IsPrefix v.pushed xs) (sym after_is) (begins_through v.pushed (sent_of sent word v) all p.pushed more);
+          count = (let after = ap length after_is in omega arith);
+          fits = room;
+          rise = p.rise;
+          most = p.most;
+        }
 
   module _ (word' x : ℕ) (laid : top_lanes word' (sent % 4 + 1) ≡ top_lanes word (sent % 4) ++ x ∷ []) (room : sent + 1 ≤ v.head + capacity) where
     -- a number is put in the last word
@@ -73,6 +113,7 @@ module _ (capacity sent word : ℕ) (v : View) (p : IsPutting capacity sent word
           puts = p.puts;
           room = p.room;
           begins = subst (λ (xs : List ℕ). IsPrefix v.written xs) (sym next) (begins_through v.written (sent_of sent word v) (sent_of sent word v ++ x ∷ []) p.begins (begins_more (sent_of sent word v) (x ∷ [])));
+          pushed = subst (λ (xs : List ℕ). IsPrefix v.pushed xs) (sym next) (begins_through v.pushed (sent_of sent word v) (sent_of sent word v ++ x ∷ []) p.pushed (begins_more (sent_of sent word v) (x ∷ [])));
           count = sym (ap length next ∙ omega arith);
           fits = omega arith;
           rise = p.rise;
@@ -99,6 +140,7 @@ module _ (capacity sent word : ℕ) (v : View) (p : IsPutting capacity sent word
           puts = p.puts;
           room = p.room;
           begins = subst (λ (xs : List ℕ). IsPrefix all xs) (full_is ge ∙ sym next) (begins_itself all);
+          pushed = subst (λ (xs : List ℕ). IsPrefix v.pushed xs) (sym next) (begins_through v.pushed (sent_of sent word v) (sent_of sent word v ++ x ∷ []) p.pushed (begins_more (sent_of sent word v) (x ∷ [])));
           count = sym (ap length next ∙ omega arith);
           fits = omega arith;
           rise = p.rise;

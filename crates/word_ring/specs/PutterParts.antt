@@ -30,6 +30,8 @@ pub record IsPutting (capacity sent word : ℕ) (v : View) : Type 0 where
   pub room : v.capacity ≡ capacity
   -- the last word has the numbers that are stored of it
   pub begins : IsPrefix v.written (sent_of sent word v)
+  -- what was pushed begins them
+  pub pushed : IsPrefix v.pushed (sent_of sent word v)
   pub count : sent ≡ length (sent_of sent word v)
   pub fits : sent ≤ v.head + capacity
   pub rise : IsNonDecreasing v.heads
@@ -42,6 +44,7 @@ pub record IsPutter (p : Inside) : Type 0 where
   pub small : p.capacity ≤ 65536
   pub at : p.at ≡ place p.capacity (p.sent / 4)
   pub bare : p.seat.me.1 ≡ []
+  pub shown : p.shown ≡ length p.seat.me.0.pushed
   pub putting : IsPutting p.capacity p.sent p.word p.seat.me.0
 
 abbrev pub note_state : NoteInside → NoteState ℕ

@@ -27,6 +27,7 @@ pub fn ring(alloc: Global, n: usize) -> Result<(Putter, Taker), NoMemory>
         sent: 0,
         word: 0,
         at: 2,
+        shown: 0,
     };
     let taker = Taker {
         board: shared,

@@ -24,6 +24,8 @@ pub struct Putter {
     pub(crate) word: u64,
     /// The place of the word that has the next number.
     pub(crate) at: usize,
+    /// How many numbers were pushed.
+    pub(crate) shown: u64,
 }
 
 impl Model for Putter {
@@ -151,9 +153,10 @@ impl Putter {
         requires room { length self.old.sent + 4 ≤ self.old.floor + self.old.capacity }
         ensures { self.new ≡ record self.old { sent = self.old.sent ++ lanes word 4 } }
     {
-        store_lanes(&self.board.shared, &mut self.seat, self.at, word, 4);
+        let at = self.at;
+        store_lanes(&self.board.shared, &mut self.seat, at, word, 4);
         self.sent += 4;
-        self.at = place_of_next(self.capacity, self.sent, self.at);
+        self.at = place_of_next(self.capacity, self.sent, at);
     }
 
     #[inline(never)]
@@ -169,21 +172,27 @@ impl Putter {
         self.put_known(d);
     }
 
-    /// Makes all that was put visible to the taker, by one store of the tail.
+    /// Makes all that was put visible to the taker, by one store of the tail. Where all of it is, there
+    /// is nothing to store.
     pub fn push(&mut self)
         ensures same { self.new ≡ record self.old { pushed = self.old.sent } }
         ensures rise { IsNonDecreasing self.new.heads }
     {
+        let sent = self.sent;
+        if self.shown == sent {
+            return;
+        }
         store_lanes(
             &self.board.shared,
             &mut self.seat,
             self.at,
             self.word,
-            self.sent % 4,
+            sent % 4,
         );
         self.board
             .shared
-            .store::<StoreTail>(&mut self.seat, TAIL, self.sent);
+            .store::<StoreTail>(&mut self.seat, TAIL, sent);
+        self.shown = sent;
     }
 
     /// Pushes, and gives a note of what the putter knows, which the taker can be told.

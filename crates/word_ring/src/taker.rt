@@ -7,7 +7,7 @@ ghost use Rattle.word_ring.specs.Lanes.{lanes};
 
 use crate::lanes::lane_of;
 use crate::putter::{Note, Putter};
-use crate::steps::{place_of_head, place_of_word, place_to_load};
+use crate::steps::{place_of_head, place_of_next, place_of_word, place_to_load};
 use crate::table::{
     Board, Compare, Ended, HEAD, HeadNoted, LoadLanes, LoadTail, Noted, Place, StoreHead, TAIL,
 };
@@ -158,8 +158,29 @@ impl Taker {
         word
     }
 
+    /// The words of the next eight numbers, which a look or a note has shown, where the first of them
+    /// begins a word. They stay in the ring until they are released.
+    #[inline(always)]
+    pub fn peek_two_words(&mut self) -> (u64, u64)
+        requires begins { (length self.old.taken + length self.old.peeked) % 4 ≡ 0 }
+        requires shown { length self.old.taken + length self.old.peeked + 8 ≤ self.old.floor }
+        ensures { self.new ≡ record self.old { peeked = (self.old.peeked ++ lanes result.0 4) ++ lanes result.1 4 } }
+    {
+        let next = self.next;
+        let first_at = place_of_word(self.capacity, self.taken, next, self.start, self.at);
+        let shared = &self.board.shared;
+        let first = shared.load::<LoadLanes>(&mut self.seat, first_at);
+        let at = place_of_next(self.capacity, next + 4, first_at);
+        let second = shared.load::<LoadLanes>(&mut self.seat, at);
+        self.word = second;
+        self.at = at;
+        self.next = next + 4 + 4;
+        (first, second)
+    }
+
     /// Takes the first `n` numbers that were peeked, by one store of the head, and the others are
     /// forgotten. Where `n` is 0 nothing changes.
+    #[inline(always)]
     pub fn release(&mut self, n: usize)
         requires { n ≤ length self.old.peeked }
         ensures same { self.new ≡ with_taken self.old (take n self.old.peeked) }
@@ -217,6 +238,7 @@ impl Taker {
             sent: _,
             word: _,
             at: _,
+            shown: _,
         } = putter;
         let shared = &self.board.shared;
         shared.join_seat::<Ended>(&mut self.seat, seat);

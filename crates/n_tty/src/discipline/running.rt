@@ -6,13 +6,13 @@ ghost use Rattle.flow_control.specs.Output.{Output, is_halted};
 ghost use Rattle.flow_control.specs.declared.tally.Tally.{Tally};
 ghost use Rattle.n_tty.specs.States.{on_port, unread_count, FitsModes};
 ghost use Rattle.n_tty.specs.Spending.{pending_count};
-ghost use Rattle.n_tty.specs.Runs.{after_characters, AcceptsAll, after_stored, after_typed};
+ghost use Rattle.n_tty.specs.Runs.{after_characters, AcceptsAll, after_stored, after_joined, after_typed};
 ghost use Rattle.line_store.specs.Good.{IsGood, bytes_in};
 ghost use Rattle.n_tty_edit.specs.Typed.{IsTyped};
 
 use super::{CHARACTER_ROOM, MOST_ENDS, NTty};
 use crate::posting::rest_of;
-use crate::roles::{are_typed, is_raw};
+use crate::roles::{are_joined, are_typed, is_raw};
 use crate::storing::start_of;
 use flow_control::Wire;
 use tty_base::Flagged;
@@ -59,6 +59,8 @@ impl NTty {
             self.store_run(chars, now)
         } else if are_typed(modes) && !wire.halted() {
             self.type_run(chars, now, wire)
+        } else if are_joined(modes) {
+            self.join_run(chars, now)
         } else {
             0
         }
@@ -81,7 +83,28 @@ impl NTty {
         count
     }
 
+    /// Adds the good characters from blank to tilde at the front to the edited line. Answers how many.
+    #[inline(never)]
+    fn join_run(&mut self, chars: &[Flagged], now: u64) -> usize
+        requires short { length chars.now ≤ 64 }
+        requires room { unread_count self.old + length chars.now ≤ 4093 }
+        ensures within { result ≤ length chars.now }
+        ensures typed { AllByRecursion IsTyped (take result chars.now) }
+        ensures after { (output : Output) (tally : Tally) → on_port self.new output tally ≡ after_joined now (bytes_in (take result chars.now)) (on_port self.old output tally) }
+        ensures line { length self.new.edit ≡ length self.old.edit + result }
+        ensures column { self.new.column ≡ self.old.column }
+    {
+        let start = start_of(&self.edit, self.start, self.out.column());
+        let count = self.edit.append_typed(chars);
+        if count > 0 {
+            self.start = start;
+            self.last = now;
+        }
+        count
+    }
+
     /// Adds the good characters from blank to tilde at the front to the edited line, and echoes them. Answers how many.
+    #[inline(always)]
     fn type_run(&mut self, chars: &[Flagged], now: u64, wire: &mut Wire) -> usize
         requires short { length chars.now ≤ 64 }
         requires room { unread_count self.old + length chars.now ≤ 4093 }

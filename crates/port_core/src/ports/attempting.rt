@@ -72,25 +72,21 @@ impl Port {
         let generation = self.terminal.generation();
         reserve_entry(&mut self.journal, &mut self.starved)?;
         let made = prepare(self.alloc, &mut self.terminal, &mut self.starved, call)?;
-        let Prepared { bytes, room } = made;
+        let Prepared { copy, room } = made;
         match self.terminal.meet(caller, call, room) {
             Met::Gives(answer) => {
                 self.terminal.advance(caller);
-                let event = Event::Answer(answer.copy_into(bytes), Chars::new(self.alloc));
+                let event = Event::Answer(answer.copy_into(copy), Chars::new(self.alloc));
                 let entry = entry_of_call(caller, step, state.parts, generation, event);
                 self.journal.add(entry);
                 note_call(&mut self.kept, begun, Asked { caller, step }, call);
                 Ok(Tried::Done(answer))
             }
             Met::Takes(count) => {
+                drop(copy);
                 self.terminal.note_part(caller, call.handle(), count);
-                let entry = entry_of_call(
-                    caller,
-                    step,
-                    state.parts,
-                    generation,
-                    Event::Part(count),
-                );
+                let event = Event::Part(count);
+                let entry = entry_of_call(caller, step, state.parts, generation, event);
                 self.journal.add(entry);
                 note_call(&mut self.kept, begun, Asked { caller, step }, call);
                 Ok(Tried::Part)
@@ -113,7 +109,7 @@ impl Port {
         reserve_entry(&mut self.journal, &mut self.starved)?;
         let mut shown = room_for_chars(self.alloc, &mut self.starved, self.flip.capacity())?;
         let made = prepare(self.alloc, &mut self.terminal, &mut self.starved, call)?;
-        let Prepared { bytes, room } = made;
+        let Prepared { copy, room } = made;
         drop_shown(&self.terminal, &mut self.flip, &mut shown);
         let dropped = trimmed(self.alloc, shown);
         let count = dropped.len() as u64;
@@ -122,7 +118,7 @@ impl Port {
         };
         self.terminal.drop_characters(count);
         self.terminal.advance(caller);
-        let event = Event::Answer(answer.copy_into(bytes), dropped);
+        let event = Event::Answer(answer.copy_into(copy), dropped);
         let entry = entry_of_call(caller, step, state.parts, generation, event);
         self.journal.add(entry);
         note_call(&mut self.kept, begun, Asked { caller, step }, call);

@@ -26,6 +26,17 @@ impl Port {
         tell_each_other(&mut self.flip, putter);
     }
 
+    /// The end that takes out is told of all that was put: it is pushed, and from then on a look counts at
+    /// least that. It makes no entry, and takes no memory.
+    #[inline(always)]
+    pub fn hear(&mut self, putter: &mut FlipIn)
+        requires { putter.old.ring ≡ self.old.flip.ring }
+        ensures port { self.new ≡ record self.old { flip = after_meeting self.old.flip putter.old } }
+        ensures putter { putter.new ≡ record putter.old { pushed = putter.old.sent } }
+    {
+        self.flip.meet(putter.note());
+    }
+
     /// The line of the phase is over: all that its putter put was sent.
     pub fn line_end(&mut self, putter: &mut FlipIn) -> Result<(), Denied>
         requires not_over { self.old.terminal.line_over ≡ false }

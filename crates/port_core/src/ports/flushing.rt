@@ -3,9 +3,10 @@
 ghost use Rattle.std.specs.Prelude.{◌≡◌, false, IfOk, IfErr, OnOk, OnErr};
 
 use super::Port;
-use crate::entries::{reserve_entry, room_for_chars, starve};
+use crate::entries::{entry_of_flush, reserve_chars, reserve_entry, starve};
 use crate::flips::{hand_over, look_at};
-use tty_calls::{Denied, Entry, Event, Who};
+use tty_base::Chars;
+use tty_calls::Denied;
 
 /// What a piece of a flush run came to.
 #[derive(Clone, Copy, Debug, PartialEq, Eq)]
@@ -22,6 +23,7 @@ impl Port {
 
     /// Hands over a piece of a flush run: at least one character and at most `most`, as long as the
     /// discipline accepts.
+    #[inline(always)]
     pub fn flush_piece(&mut self, run: u32, part: u32, most: u32) -> Result<Flushed, Denied>
         requires { IsPieceOf self.old run part most }
         ensures open { OnOk result (IsOpen self.old) }
@@ -37,6 +39,7 @@ impl Port {
 
     /// Hands over a piece where the discipline accepts. Memory is taken before the look, for as many
     /// characters as it can show.
+    #[inline(always)]
     fn hand_piece(&mut self, run: u32, part: u32, most: usize) -> Result<Flushed, Denied>
         requires piece { IsPieceOf self.old run part most }
         requires open { IsOpen self.old }
@@ -45,7 +48,8 @@ impl Port {
         ensures err { IfErr result (λ d. Denies d self.old self.new) }
     {
         reserve_entry(&mut self.journal, &mut self.starved)?;
-        let mut chars = room_for_chars(self.alloc, &mut self.starved, most)?;
+        let mut chars = Chars::new(self.alloc);
+        reserve_chars(&mut chars, &mut self.starved, most)?;
         let room = self.terminal.room_for_characters(most);
         if self.terminal.reserve(room, most).is_err() {
             return Err(starve(&mut self.starved));
@@ -55,16 +59,10 @@ impl Port {
             return Ok(Flushed::Nothing);
         }
         let generation = self.terminal.generation();
-        hand_over(&mut self.terminal, &mut self.flip, count, &mut chars);
+        let took = hand_over(&mut self.terminal, &mut self.flip, count, &mut chars);
         self.terminal.note_piece(run, part);
-        let took = chars.len() as u32;
-        self.journal.add(Entry {
-            who: Who::Flusher,
-            step: run,
-            part,
-            generation,
-            event: Event::Flush(chars),
-        });
-        Ok(Flushed::Took(took))
+        self.journal
+            .add(entry_of_flush(run, part, generation, chars));
+        Ok(Flushed::Took(took as u32))
     }
 }

@@ -1,7 +1,7 @@
 //! What each call does.
 
-ghost use Rattle.std.specs.Prelude.{◌≡◌, ℕ, List, [], ◌∷◌, Option, Some, None, Bool, true, false, ◌==◌, ◌+◌, ◌-◌, ◌≤◌, ◌<◌, ◌^◌, length, drop, option_map, if◌then◌else◌};
-ghost use Rattle.tty_calls.specs.Plain.{handle_of, call_of, answer_of};
+ghost use Rattle.std.specs.Prelude.{◌≡◌, ℕ, List, [], ◌∷◌, Option, Some, None, Bool, true, false, ◌==◌, ◌+◌, ◌-◌, ◌≤◌, ◌<◌, ◌^◌, length, drop, option_map, box_value, if◌then◌else◌};
+ghost use Rattle.tty_calls.specs.Plain.{handle_of, call_of, answer_of, counts_are};
 ghost use Rattle.tty_modes.specs.Word.{after_words};
 ghost use Rattle.flow_control.specs.Output.{on_wire, after_start};
 ghost use Rattle.ldisc_switch.specs.Disciplines.{fresh_of, kind_of_number, column_in, Fits};
@@ -17,7 +17,7 @@ use flow_control::Wire;
 use handle_table::HandleState;
 use ldisc_switch::{Disc, Kind};
 use slip_frames::MAX_PACKET;
-use tty_base::{Bytes, Errno};
+use tty_base::{Bytes, Counts, Errno};
 use tty_calls::{Access, Act, Answer, Call, Queue, When};
 use tty_modes::places::{IXON, VSTART, VSTOP};
 use tty_modes::{Modes, Word};
@@ -97,8 +97,9 @@ impl Terminal {
         Met::Gives(Answer::Done)
     }
 
-    fn close(&mut self, h: u8, fresh: Option<Disc>) -> Met
-        requires fresh { fresh ≡ option_map fresh_of (close_kind self.old.terminal (handle_at self.old.terminal h)) }
+    #[inline(never)]
+    fn close(&mut self, h: u8, room: &mut Room) -> Met
+        requires fresh { fresh_in room.old ≡ option_map fresh_of (close_kind self.old.terminal (handle_at self.old.terminal h)) }
         requires few { self.old.terminal.generation < 2 ^ 31 }
         requires wire { 4096 ≤ self.old.wire_room }
         ensures met { Meets (closing_outcome self.old.terminal h (handle_at self.old.terminal h)) result }
@@ -110,7 +111,7 @@ impl Terminal {
             return refuse(Errno::EBADF);
         }
         self.callers.close(h);
-        if let Some(fresh) = fresh {
+        if let Some(fresh) = room.take_fresh() {
             let _held = self.wire.held();
             self.disc = fresh;
             self.wire.release();
@@ -226,6 +227,18 @@ impl Terminal {
         }
     }
 
+    /// Tells the counts, which stand in a box, through a live handle.
+    fn tell_counts(&self, handle: Option<HandleState>, boxed: Option<Box<Counts>>) -> Met
+        requires { option_map box_value boxed ≡ Some self.now.terminal.tally.counts }
+        ensures met { Meets (on_live self.now.terminal handle (tells (counts_are self.now.terminal.tally.counts) self.now.terminal)) result }
+        ensures left { self.now.terminal ≡ left_before_rule (on_live self.now.terminal handle (tells (counts_are self.now.terminal.tally.counts) self.now.terminal)) self.now.terminal }
+    {
+        match boxed {
+            Some(counts) => self.tell(handle, Answer::CountsAre(counts)),
+            None => unreachable!(),
+        }
+    }
+
     fn set_modes(&mut self, handle: Option<HandleState>, when: When, words: &[Word]) -> Met
         requires wire { 4096 ≤ self.old.wire_room }
         ensures met { Meets (on_live self.old.terminal handle (modes_outcome self.old.terminal when (after_words self.old.terminal.modes words.now))) result }
@@ -281,8 +294,9 @@ impl Terminal {
         }
     }
 
-    fn set_disc(&mut self, handle: Option<HandleState>, number: u32, fresh: Option<Disc>) -> Met
-        requires fresh { fresh ≡ option_map fresh_of (if number_of self.old.terminal.disc == number then None else kind_of_number number) }
+    #[inline(never)]
+    fn set_disc(&mut self, handle: Option<HandleState>, number: u32, room: &mut Room) -> Met
+        requires fresh { fresh_in room.old ≡ option_map fresh_of (if number_of self.old.terminal.disc == number then None else kind_of_number number) }
         requires few { self.old.terminal.generation < 2 ^ 31 }
         requires wire { 4096 ≤ self.old.wire_room }
         ensures met { Meets (on_live self.old.terminal handle (change_outcome self.old.terminal number (kind_of_number number))) result }
@@ -299,7 +313,7 @@ impl Terminal {
         if Kind::of(number).is_none() {
             return refuse(Errno::EINVAL);
         }
-        if let Some(fresh) = fresh {
+        if let Some(fresh) = room.take_fresh() {
             let _held = self.wire.held();
             self.disc = fresh;
             self.wire.start();
@@ -308,8 +322,9 @@ impl Terminal {
         Met::Gives(Answer::Done)
     }
 
-    fn vhangup(&mut self, handle: Option<HandleState>, fresh: Option<Disc>) -> Met
-        requires fresh { fresh ≡ Some (fresh_of Kind.Tty) }
+    #[inline(never)]
+    fn vhangup(&mut self, handle: Option<HandleState>, room: &mut Room) -> Met
+        requires fresh { fresh_in room.old ≡ Some (fresh_of Kind.Tty) }
         requires few { self.old.terminal.generation < 2 ^ 31 }
         ensures met { Meets (on_live self.old.terminal handle (hangup_outcome self.old.terminal)) result }
         ensures left { self.new.terminal ≡ left_before_rule (on_live self.old.terminal handle (hangup_outcome self.old.terminal)) self.old.terminal }
@@ -322,7 +337,7 @@ impl Terminal {
         if !handle.live {
             return refuse(Errno::EIO);
         }
-        if let Some(fresh) = fresh {
+        if let Some(fresh) = room.take_fresh() {
             self.hang_up(fresh);
         }
         Met::Gives(Answer::Done)
@@ -469,12 +484,12 @@ impl Terminal {
 
     /// Makes a call of a caller, without the rule for ixoff after it.
     #[inline(always)]
-    pub(super) fn act(&mut self, caller: u16, call: &Call, room: Room) -> Met
+    pub(super) fn act(&mut self, caller: u16, call: &Call, room: &mut Room) -> Met
         requires known { caller < length self.old.terminal.callers }
         requires number { handle_of (call_of call.now) < 32 }
         requires bytes { byte_count (call_of call.now) < 2 ^ 32 }
         requires few { self.old.terminal.generation < 2 ^ 31 }
-        requires room { IsRoomFor self.old.terminal (call_of call.now) room }
+        requires room { IsRoomFor self.old.terminal (call_of call.now) room.old }
         requires wire { ROOM_FOR_CALL ≤ self.old.wire_room }
         requires column { column_in self.old.terminal.disc < 2 ^ 62 }
         ensures met { Meets (outcome self.old.terminal (caller_at self.old.terminal caller) (call_of call.now)) result }
@@ -488,10 +503,10 @@ impl Terminal {
                 access,
                 nonblock,
             } => { self.open(*h, *access, *nonblock) }
-            Call::Close { h } => { self.close(*h, disc_of(room)) }
+            Call::Close { h } => { self.close(*h, room) }
             Call::Read { h, n } => {
                 let handle = self.handle_for(caller, *h);
-                self.read(caller, handle, *n, bytes_of(room))
+                self.read(caller, handle, *n, room.take_bytes())
             }
             Call::Write { h, bytes } => {
                 let handle = self.handle_for(caller, *h);
@@ -503,12 +518,12 @@ impl Terminal {
 
     /// The calls on modes and disciplines.
     #[inline(never)]
-    fn act_on_modes(&mut self, caller: u16, call: &Call, room: Room) -> Met
+    fn act_on_modes(&mut self, caller: u16, call: &Call, room: &mut Room) -> Met
         requires known { caller < length self.old.terminal.callers }
         requires number { handle_of (call_of call.now) < 32 }
         requires bytes { byte_count (call_of call.now) < 2 ^ 32 }
         requires few { self.old.terminal.generation < 2 ^ 31 }
-        requires room { IsRoomFor self.old.terminal (call_of call.now) room }
+        requires room { IsRoomFor self.old.terminal (call_of call.now) room.old }
         requires wire { ROOM_FOR_CALL ≤ self.old.wire_room }
         requires column { column_in self.old.terminal.disc < 2 ^ 62 }
         requires group { 1 ≤ group_of (call_of call.now) }
@@ -532,19 +547,19 @@ impl Terminal {
             }
             Call::SetDisc { h, number } => {
                 let handle = self.handle_for(caller, *h);
-                self.set_disc(handle, *number, disc_of(room))
+                self.set_disc(handle, *number, room)
             }
             _ => self.act_on_output(caller, call, room),
         }
     }
 
     /// The calls on held output, and on who may open.
-    fn act_on_output(&mut self, caller: u16, call: &Call, room: Room) -> Met
+    fn act_on_output(&mut self, caller: u16, call: &Call, room: &mut Room) -> Met
         requires known { caller < length self.old.terminal.callers }
         requires number { handle_of (call_of call.now) < 32 }
         requires bytes { byte_count (call_of call.now) < 2 ^ 32 }
         requires few { self.old.terminal.generation < 2 ^ 31 }
-        requires room { IsRoomFor self.old.terminal (call_of call.now) room }
+        requires room { IsRoomFor self.old.terminal (call_of call.now) room.old }
         requires wire { ROOM_FOR_CALL ≤ self.old.wire_room }
         requires column { column_in self.old.terminal.disc < 2 ^ 62 }
         requires group { 2 ≤ group_of (call_of call.now) }
@@ -579,12 +594,12 @@ impl Terminal {
     }
 
     /// The other calls.
-    fn act_on_rest(&mut self, caller: u16, call: &Call, room: Room) -> Met
+    fn act_on_rest(&mut self, caller: u16, call: &Call, room: &mut Room) -> Met
         requires known { caller < length self.old.terminal.callers }
         requires number { handle_of (call_of call.now) < 32 }
         requires bytes { byte_count (call_of call.now) < 2 ^ 32 }
         requires few { self.old.terminal.generation < 2 ^ 31 }
-        requires room { IsRoomFor self.old.terminal (call_of call.now) room }
+        requires room { IsRoomFor self.old.terminal (call_of call.now) room.old }
         requires wire { ROOM_FOR_CALL ≤ self.old.wire_room }
         requires column { column_in self.old.terminal.disc < 2 ^ 62 }
         requires group { 3 ≤ group_of (call_of call.now) }
@@ -604,47 +619,23 @@ impl Terminal {
             }
             Call::Counts { h } => {
                 let handle = self.handle_for(caller, *h);
-                self.tell(handle, Answer::CountsAre(self.tally.counts))
+                self.tell_counts(handle, room.take_counts())
             }
             Call::Vhangup { h } => {
                 let handle = self.handle_for(caller, *h);
-                self.vhangup(handle, disc_of(room))
+                self.vhangup(handle, room)
             }
             Call::SendPacket { h, bytes } => {
                 let handle = self.handle_for(caller, *h);
-                self.send_packet(handle, bytes.as_slice(), room.encoded.as_slice())
+                self.send_packet(handle, bytes.as_slice(), room.packet())
             }
             Call::TakePacket { h } => {
                 let handle = self.handle_for(caller, *h);
-                self.take_packet(handle, bytes_of(room))
+                self.take_packet(handle, room.take_bytes())
             }
             _ => unreachable!(),
         }
     }
-}
-
-/// The discipline of a room.
-fn disc_of(room: Room) -> Option<Disc>
-    ensures { result ≡ fresh_in room }
-{
-    let Room {
-        bytes: _,
-        fresh,
-        encoded: _,
-    } = room;
-    fresh.map(|disc| Box::into_inner(disc))
-}
-
-/// The room for the bytes of an answer.
-fn bytes_of(room: Room) -> Bytes
-    ensures { result ≡ room.bytes }
-{
-    let Room {
-        bytes,
-        fresh: _,
-        encoded: _,
-    } = room;
-    bytes
 }
 
 /// The refusal of a write. Where parts of it were taken, it answers how many bytes these were.

@@ -1,10 +1,10 @@
 //! What a call would meet, and the room that it needs.
 
-ghost use Rattle.std.specs.Prelude.{◌≡◌, ◌↔◌, ℕ, ◌<◌, ◌^◌, IsTrue, IfOk, length};
+ghost use Rattle.std.specs.Prelude.{◌≡◌, ◌↔◌, ℕ, [], true, ◌≤◌, ◌<◌, ◌^◌, IsTrue, IfOk, length};
 ghost use Rattle.tty_calls.specs.Plain.{handle_of, call_of};
 ghost use Rattle.ldisc_switch.specs.Disciplines.{column_in, fresh_of};
 ghost use Rattle.handle_table.specs.Handles.{is_live as is_live_handle};
-ghost use Rattle.tty_terminal.specs.Meeting.{spelled_packet as packet_of_call, spelled_unless_long};
+ghost use Rattle.tty_terminal.specs.Meeting.{spelled_unless_long};
 
 use super::Terminal;
 use super::acting::{may_read, may_write, rest_of};
@@ -14,8 +14,8 @@ use handle_table::HandleState;
 use ldisc_switch::{Disc, Kind, fresh};
 use slip_frames::{SlipFault, encode};
 use std::alloc::Global;
-use tty_base::{Bytes, NoMemory};
-use tty_calls::{Call, Queue, When};
+use tty_base::{Bytes, Counts, NoMemory};
+use tty_calls::{AnswerRoom, Call, Queue, When};
 
 /// A packet as it is spelled, unless it is too long.
 #[inline(never)]
@@ -29,15 +29,14 @@ fn spelled(alloc: Global, packet: &[u8]) -> Result<Bytes, NoMemory>
     }
 }
 
-/// The packet that a call sends, as it is spelled, unless it is too long.
-#[inline(always)]
-fn spelled_packet(alloc: Global, call: &Call) -> Result<Bytes, NoMemory>
-    ensures { IfOk result (λ bytes. bytes.items ≡ packet_of_call (call_of call.now)) }
+/// Room for so many bytes of an answer.
+fn room_for_bytes(alloc: Global, count: usize) -> Result<Bytes, NoMemory>
+    ensures empty { IfOk result (λ bytes. bytes.items ≡ []) }
+    ensures fits { IfOk result (λ bytes. count ≤ bytes.spare) }
 {
-    if let Call::SendPacket { h: _, bytes } = call {
-        return spelled(alloc, bytes.as_slice());
-    }
-    Ok(Bytes::new(alloc))
+    let mut bytes = Bytes::new(alloc);
+    bytes.reserve(count)?;
+    Ok(bytes)
 }
 
 /// A fresh discipline. It stands apart, since few calls install one.
@@ -46,6 +45,14 @@ fn boxed_fresh(alloc: Global, kind: Kind) -> Result<Box<Disc>, NoMemory>
     ensures { IfOk result (λ boxed. boxed.value ≡ fresh_of kind) }
 {
     Ok(Box::new(alloc, fresh(alloc, kind)?)?)
+}
+
+/// A copy of counts. It stands apart, since few calls tell them.
+#[inline(never)]
+fn boxed_counts(alloc: Global, counts: &Counts) -> Result<Box<Counts>, NoMemory>
+    ensures { IfOk result (λ boxed. boxed.value ≡ counts.now) }
+{
+    Ok(Box::new(alloc, *counts)?)
 }
 
 /// Whether there is a handle, and it is live.
@@ -65,7 +72,7 @@ impl Terminal {
     ghost use Rattle.tty_terminal.specs.Switching.{number_of};
     ghost use Rattle.tty_terminal.specs.Calls.{outcome, input_count};
     ghost use Rattle.tty_terminal.specs.Steps.{MustWait, is_wait};
-    ghost use Rattle.tty_terminal.specs.Meeting.{room_for, fresh_kind, drops_of, IsRoomFor};
+    ghost use Rattle.tty_terminal.specs.Meeting.{room_for, fresh_kind, needs_room, drops_of, IsRoomFor, IsAnswerRoom};
     ghost use Rattle.tty_terminal.specs.Questions.{must_drain, rest_waits, call_waits, call_drops};
 
     /// The number of the discipline that is installed (linux/tty.h).
@@ -145,18 +152,55 @@ impl Terminal {
     pub fn make_room(&self, alloc: Global, call: &Call) -> Result<Room, NoMemory>
         ensures { IfOk result (λ room. IsRoomFor self.now.terminal (call_of call.now) room) }
     {
-        let mut bytes = Bytes::new(alloc);
-        bytes.reserve(self.room_for(call))?;
-        let fresh = match self.fresh_kind(call) {
-            Some(kind) => Some(boxed_fresh(alloc, kind)?),
-            None => None,
-        };
-        let encoded = spelled_packet(alloc, call)?;
-        Ok(Room {
-            bytes,
-            fresh,
-            encoded,
-        })
+        match call {
+            Call::Close { .. }
+            | Call::Read { .. }
+            | Call::SetDisc { .. }
+            | Call::Counts { .. }
+            | Call::Vhangup { .. }
+            | Call::SendPacket { .. }
+            | Call::TakePacket { .. } => self.make_some_room(alloc, call),
+            _ => Ok(Room::Nothing),
+        }
+    }
+
+    /// What a call needs that needs something.
+    #[inline(never)]
+    fn make_some_room(&self, alloc: Global, call: &Call) -> Result<Room, NoMemory>
+        requires { needs_room (call_of call.now) ≡ true }
+        ensures { IfOk result (λ room. IsRoomFor self.now.terminal (call_of call.now) room) }
+    {
+        match call {
+            Call::Read { .. } | Call::TakePacket { .. } => {
+                let room = room_for_bytes(alloc, self.room_for(call))?;
+                Ok(Room::Bytes(room))
+            }
+            Call::Counts { .. } => Ok(Room::Counts(boxed_counts(alloc, &self.tally.counts)?)),
+            Call::SendPacket { h: _, bytes } => {
+                Ok(Room::Packet(spelled(alloc, bytes.as_slice())?))
+            }
+            _ => match self.fresh_kind(call) {
+                Some(kind) => Ok(Room::Fresh(boxed_fresh(alloc, kind)?)),
+                None => Ok(Room::Nothing),
+            },
+        }
+    }
+
+    /// Room for a copy of the answer to a call.
+    #[inline(always)]
+    pub fn answer_room(&self, alloc: Global, call: &Call) -> Result<AnswerRoom, NoMemory>
+        ensures { IfOk result (λ room. IsAnswerRoom self.now.terminal (call_of call.now) room) }
+    {
+        match call {
+            Call::Read { .. } | Call::TakePacket { .. } => {
+                let room = room_for_bytes(alloc, self.room_for(call))?;
+                Ok(AnswerRoom::Bytes(room))
+            }
+            Call::Counts { .. } => {
+                Ok(AnswerRoom::Counts(boxed_counts(alloc, &self.tally.counts)?))
+            }
+            _ => Ok(AnswerRoom::Nothing),
+        }
     }
 
     /// Whether parts of the caller's write were taken in a generation that has ended.

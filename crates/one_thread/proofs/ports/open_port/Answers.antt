@@ -5,6 +5,7 @@ use Rattle.tty_base.specs.declared.characters.Flagged.{Flagged}
 use Rattle.tty_base.specs.declared.lines.Overrun.{Overrun}
 use Rattle.word_ring.specs.Ends.{PutterState, TakerState}
 use Rattle.tty_calls.specs.Plain.{PlainEntry}
+use Rattle.tty_calls.specs.Limits.{character_count}
 use Rattle.tty_calls.specs.Sessions.{session_of, counts_on}
 use Rattle.tty_terminal.specs.Terminals.{opening}
 use Rattle.journal_check.specs.Legal.{flip_on}
@@ -25,11 +26,10 @@ returns c =
     let ports = c.requires.within.flips in
     let port = c.requires.port in
     let room : 64 ≤ flip_on c.args.number (session_of c.args.session.now) = All-get_or (λ n. 64 ≤ n) c.args.session.now.flips.items c.args.number 0 (omega (arith, ports, port)) c.requires.within.some_flip in
-    let few = c.requires.within.few_characters c.args.number in
-    let most = c.in_ok-new-2.ensures.room ∙ c.characters_on.ensures in
+    let most : character_count c.args.number (session_of c.args.session.now).phases ≤ c.in_ok-new-2.field-0.most = omega (arith, c.in_ok-new-2.ensures.room, c.room_on.ensures.enough) in
     let at_phase : IsAtPhase s 0 (record { terminal = opening (sum c.as_slice-2.result.now) taker.capacity; journal = []; kept = []; counts = c.as_slice-2.result.now; limit = 4194304; starved = false; flip = taker }) putter c.in_ok-new-2.field-0 0 =
     opened_at s c.as_slice-2.result.now taker putter c.in_ok-new-2.field-0 counts capacity (omega (arith, room, capacity)) (ap (λ p. p.ring) c.in_ok-putter.ensures.input) (ap (λ p. p.capacity) c.in_ok-putter.ensures.input ∙ sym (ap (λ t. t.capacity) c.in_ok-putter.ensures.output))
-    (ap (λ p. p.sent) c.in_ok-putter.ensures.input) (ap (λ p. p.heads) c.in_ok-putter.ensures.input) c.in_ok-new-2.ensures.done most (omega (arith, most, few)) c.in_ok-new-2.ensures.none in
+    (ap (λ p. p.sent) c.in_ok-putter.ensures.input) (ap (λ p. p.heads) c.in_ok-putter.ensures.input) c.in_ok-new-2.ensures.done most (omega (arith, c.in_ok-new-2.ensures.room, c.room_on.ensures.few)) c.in_ok-new-2.ensures.none in
     let new : c.in_ok-new.field-0 ≡ record { terminal = opening (sum c.as_slice-2.result.now) taker.capacity; journal = []; kept = []; counts = c.as_slice-2.result.now; limit = 4194304; starved = false; flip = taker } = c.in_ok-new.ensures in
     let journal : c.in_ok-new.field-0.journal ≡ [] = ap (λ (v : PortValue). v.journal) new in
     let names : c.len.result ≡ length (names_in s) = c.len.ensures ∙ ap (λ (ns : List (List ℕ)). length ns) c.requires.names in

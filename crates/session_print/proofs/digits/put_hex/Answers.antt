@@ -1,4 +1,5 @@
-use Rattle.std.proofs.Common.{string_bytes}
+use Rattle.std.proofs.Common.{string_bytes, ap, ◌∙◌, ◌++◌}
+use Rattle.hex.specs.Hex.{encode_lower}
 use Rattle.session_print.proofs.Pieces.{hex_more, hex_all}
 use Rattle.session_print.proofs.digits.put_hex.Goals as goal
 
@@ -8,4 +9,6 @@ loop-rest-preserved c =
     c.split_at.ensures.front c.split_at.ensures.back c.in_ok-put_piece.ensures c.loop-rest.invariant
 
 pub returns : goal.returns
-returns c = hex_all _ (string_bytes c.loop-rest.text) c.loop-rest.rest.now (cc) c.loop-rest.invariant
+returns c =
+    hex_all _ (string_bytes c.loop-rest.text) c.loop-rest.rest.now (cc) c.loop-rest.invariant
+    ∙ ap (λ text. text ++ encode_lower c.args.bytes.now) c.reserve.ensures.bytes

@@ -13,4 +13,4 @@ put_arrivals-requires-clause-room g c =
 pub returns-clause-serves : goal.returns-clause-serves
 returns-clause-serves g c =
     rw (← c.self.view_is)
-    (Serves-all _ _ _ (flat_map arrival c.args.steps.now) (length c.args.steps.now) _ _ _ _ (one_each c.args.steps.now c.requires.good) c.put_arrivals.ensures.sent c.put_arrivals.ensures.heads refl)
+    (Serves-all _ _ _ (flat_map arrival c.args.steps.now) (length c.args.steps.now) _ _ _ _ (one_each c.args.steps.now c.requires.each) c.put_arrivals.ensures.sent c.put_arrivals.ensures.heads refl)

@@ -36,11 +36,11 @@ loop-step-preserved g c =
     let k = c.loop-step.step-index in
     let steps = c.args.steps.now in
     let same = c.offer.ensures.same in
-    let more : flat_map arrival (take (k + 1) steps) ≡ flat_map arrival (take k steps) ++ c.good_character.result ∷ [] =
-    arrivals_more steps k nothing c.good_character.result c.loop-step-test.true c.good_character.ensures in
+    let more : flat_map arrival (take (k + 1) steps) ≡ flat_map arrival (take k steps) ++ c.character_in.result ∷ [] =
+    arrivals_more steps k nothing c.character_in.result c.loop-step-test.true c.character_in.ensures in
     record {
       serves = rw more (Serves-offer (g.P.Put.capacity c.args.put.now) (g.P.Put.capacity c.loop-step.put) _ c.loop-step.self c.loop-step.self c.offer.new.self
-          (flat_map arrival (take k steps)) c.good_character.result _ _ _ _ _ _ i.serves refl refl same i.capacity c.offer.ensures.offers);
+          (flat_map arrival (take k steps)) c.character_in.result _ _ _ _ _ _ i.serves refl refl same i.capacity c.offer.ensures.offers);
       left = omega (arith, i.left, ap (λ l. l.handed) same, ap (λ l. length l.registers.fifo) same, ap (λ l. bit l.registers.overrun) same, ap (λ l. l.report.arrived) same);
       filled = omega (arith, i.filled, ap (λ l. l.most) same, ap (λ l. l.report.arrived) same);
       registers = ap (λ l. l.registers) same ∙ i.registers;

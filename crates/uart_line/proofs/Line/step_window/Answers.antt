@@ -9,13 +9,13 @@ pub pass_window-requires-clause-room : goal.pass_window-requires-clause-room
 pass_window-requires-clause-room g c =
     let window = c.window_in-count.ensures.window (omega arith) in
     let front = take c.window_in-count.result c.args.steps.now in
-    omega (arith, c.requires.room, arrival_count-take-≤ c.args.steps.now c.window_in-count.result, arrival_count_is front, one_each front window.good)
+    omega (arith, c.requires.room, arrival_count-take-≤ c.args.steps.now c.window_in-count.result, arrival_count_is front, one_each front window.each)
 
 pub returns-clause-arrived : goal.returns-clause-arrived
 returns-clause-arrived g c =
     let window = c.window_in-count.ensures.window (omega arith) in
     let front = take c.window_in-count.result c.args.steps.now in
-    omega (arith, c.pass_window.ensures.serves.arrived, arrival_count_is front, one_each front window.good)
+    omega (arith, c.pass_window.ensures.serves.arrived, arrival_count_is front, one_each front window.each)
 
 pub returns-clause-done : goal.returns-clause-done
 returns-clause-done g c = λ before d.

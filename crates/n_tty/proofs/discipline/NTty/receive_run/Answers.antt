@@ -1,5 +1,4 @@
 use Rattle.std.proofs.Common.{◌≡◌, ◌≤◌, ◌<◌, ◌+◌, ℕ, List, [], false, true, length, take, ap, sym, subst, ◌∙◌, arith, length-take}
-use Rattle.std.proofs.lemmas.Bool.{not-true}
 use Rattle.std.proofs.lemmas.List.{take-take}
 use Rattle.tty_base.specs.declared.characters.Flagged.{Flagged}
 use Rattle.flow_control.specs.declared.tally.Tally.{Tally}
@@ -10,9 +9,8 @@ use Rattle.tty_modes.specs.declared.places.TheConstants.{IXOFF}
 use Rattle.line_store.specs.Unread.{end_count}
 use Rattle.n_tty.specs.States.{NTtyState, OnPort, on_port, FitsModes, unread_count}
 use Rattle.n_tty.specs.Roles.{is_raw}
-use Rattle.line_store.specs.Good.{bytes_in}
-use Rattle.n_tty.specs.Runs.{after_characters, AcceptsAll, after_stored, after_typed}
-use Rattle.n_tty.proofs.InRuns.{Fits-all, MayRun, MayType, stored_run, accepts_stored, typed_run, accepts_typed}
+use Rattle.n_tty.specs.Runs.{after_characters, AcceptsAll}
+use Rattle.n_tty.proofs.InRuns.{Fits-all, MayRun, MayType, stored_run, accepts_stored, joined_run, accepts_joined, typed_run, accepts_typed}
 use Rattle.n_tty.proofs.discipline.NTty.receive_run.Goals as goal
 
 idle_tally : Tally
@@ -169,3 +167,69 @@ returns-then-not-halted-clause-fits c =
     let after = λ (tally : Tally). c.type_run.ensures.after tally ∙ typed_run modes now (are.canonical typed) (are.echoes typed) (are.plain typed) free (take n chars) (on_port tty output tally) c.type_run.ensures.typed (runs tally) in
     let accepted = λ (tally : Tally). accepts_typed modes now (are.canonical typed) (are.echoes typed) (are.plain typed) free (take n chars) (on_port tty output tally) c.type_run.ensures.typed (runs tally) in
     fit modes now tty c.type_run.new.self output c.type_run.new.wire (take n chars) (take n c.args.chars.now) same after accepted c.requires.fitting
+
+pub join_run-requires-clause-room : goal.join_run-requires-clause-room
+join_run-requires-clause-room c = omega (arith, c.unread-unread.ensures.count, ap length c.front_of-chars.ensures, length-take c.min-2.result c.args.chars.now)
+
+pub returns-then-are_joined-clause-after : goal.returns-then-are_joined-clause-after
+returns-then-are_joined-clause-after c =
+    let modes = c.args.modes.now in
+    let now = c.args.now in
+    let tty : NTtyState = c.args.self.now in
+    let output : Output = c.args.wire.now in
+    let chars = c.front_of-chars.result.now in
+    let n = c.join_run.result in
+    let unquoted : tty.quoted ≡ false = sym (ap (λ (t : NTtyState). t.quoted) c.self.view_is) ∙ c.if-self.false in
+    let quiet : output.noted ≡ false = sym c.noted.ensures ∙ c.if-noted.false in
+    let free : has_flag modes IXOFF ≡ false = sym c.has.ensures ∙ c.if-has.false in
+    let few : end_count tty.items < 4096 = omega (arith, c.lines.ensures.lines, ap (λ (t : NTtyState). end_count t.items) c.self.view_is, c.if-lines-ge-MOST_ENDS.false) in
+    let room : unread_count tty + length (take n chars) ≤ 4093 = omega (arith, length-take n chars, c.unread-unread.ensures.count, ap length c.front_of-chars.ensures, length-take c.min-2.result c.args.chars.now) in
+    let same = front c.args.chars.now chars c.min-2.result n c.front_of-chars.ensures c.join_run.ensures.within in
+    let are = c.are_joined.ensures in
+    let join = c.if-are_joined.true in
+    let runs = λ (tally : Tally). may modes tty output tally (length (take n chars)) unquoted quiet few room in
+    let after = λ (tally : Tally). c.join_run.ensures.after output tally ∙ joined_run modes now (are.canonical join) (are.silent join) (are.plain join) free (take n chars) (on_port tty output tally) c.join_run.ensures.typed (runs tally) in
+    let accepted = λ (tally : Tally). accepts_joined modes now (are.canonical join) (are.silent join) (are.plain join) free (take n chars) (on_port tty output tally) c.join_run.ensures.typed (runs tally) in
+    left modes now tty c.join_run.new.self output c.args.wire.now (take n chars) (take n c.args.chars.now) same after accepted
+
+pub returns-then-are_joined-clause-accepted : goal.returns-then-are_joined-clause-accepted
+returns-then-are_joined-clause-accepted c =
+    let modes = c.args.modes.now in
+    let now = c.args.now in
+    let tty : NTtyState = c.args.self.now in
+    let output : Output = c.args.wire.now in
+    let chars = c.front_of-chars.result.now in
+    let n = c.join_run.result in
+    let unquoted : tty.quoted ≡ false = sym (ap (λ (t : NTtyState). t.quoted) c.self.view_is) ∙ c.if-self.false in
+    let quiet : output.noted ≡ false = sym c.noted.ensures ∙ c.if-noted.false in
+    let free : has_flag modes IXOFF ≡ false = sym c.has.ensures ∙ c.if-has.false in
+    let few : end_count tty.items < 4096 = omega (arith, c.lines.ensures.lines, ap (λ (t : NTtyState). end_count t.items) c.self.view_is, c.if-lines-ge-MOST_ENDS.false) in
+    let room : unread_count tty + length (take n chars) ≤ 4093 = omega (arith, length-take n chars, c.unread-unread.ensures.count, ap length c.front_of-chars.ensures, length-take c.min-2.result c.args.chars.now) in
+    let same = front c.args.chars.now chars c.min-2.result n c.front_of-chars.ensures c.join_run.ensures.within in
+    let are = c.are_joined.ensures in
+    let join = c.if-are_joined.true in
+    let runs = λ (tally : Tally). may modes tty output tally (length (take n chars)) unquoted quiet few room in
+    let after = λ (tally : Tally). c.join_run.ensures.after output tally ∙ joined_run modes now (are.canonical join) (are.silent join) (are.plain join) free (take n chars) (on_port tty output tally) c.join_run.ensures.typed (runs tally) in
+    let accepted = λ (tally : Tally). accepts_joined modes now (are.canonical join) (are.silent join) (are.plain join) free (take n chars) (on_port tty output tally) c.join_run.ensures.typed (runs tally) in
+    all_accepted modes now tty c.join_run.new.self output c.args.wire.now (take n chars) (take n c.args.chars.now) same after accepted
+
+pub returns-then-are_joined-clause-fits : goal.returns-then-are_joined-clause-fits
+returns-then-are_joined-clause-fits c =
+    let modes = c.args.modes.now in
+    let now = c.args.now in
+    let tty : NTtyState = c.args.self.now in
+    let output : Output = c.args.wire.now in
+    let chars = c.front_of-chars.result.now in
+    let n = c.join_run.result in
+    let unquoted : tty.quoted ≡ false = sym (ap (λ (t : NTtyState). t.quoted) c.self.view_is) ∙ c.if-self.false in
+    let quiet : output.noted ≡ false = sym c.noted.ensures ∙ c.if-noted.false in
+    let free : has_flag modes IXOFF ≡ false = sym c.has.ensures ∙ c.if-has.false in
+    let few : end_count tty.items < 4096 = omega (arith, c.lines.ensures.lines, ap (λ (t : NTtyState). end_count t.items) c.self.view_is, c.if-lines-ge-MOST_ENDS.false) in
+    let room : unread_count tty + length (take n chars) ≤ 4093 = omega (arith, length-take n chars, c.unread-unread.ensures.count, ap length c.front_of-chars.ensures, length-take c.min-2.result c.args.chars.now) in
+    let same = front c.args.chars.now chars c.min-2.result n c.front_of-chars.ensures c.join_run.ensures.within in
+    let are = c.are_joined.ensures in
+    let join = c.if-are_joined.true in
+    let runs = λ (tally : Tally). may modes tty output tally (length (take n chars)) unquoted quiet few room in
+    let after = λ (tally : Tally). c.join_run.ensures.after output tally ∙ joined_run modes now (are.canonical join) (are.silent join) (are.plain join) free (take n chars) (on_port tty output tally) c.join_run.ensures.typed (runs tally) in
+    let accepted = λ (tally : Tally). accepts_joined modes now (are.canonical join) (are.silent join) (are.plain join) free (take n chars) (on_port tty output tally) c.join_run.ensures.typed (runs tally) in
+    fit modes now tty c.join_run.new.self output c.args.wire.now (take n chars) (take n c.args.chars.now) same after accepted c.requires.fitting

@@ -1,4 +1,4 @@
-use Rattle.std.proofs.Common.{◌≡◌, [], ◌∷◌, length, ap, arith}
+use Rattle.std.proofs.Common.{[], ◌∷◌, length, ap, arith}
 use Rattle.line_store.specs.Unread.{bytes_of}
 use Rattle.n_tty.specs.States.{unread_count}
 use Rattle.n_tty.proofs.RoomLemmas.{room_plain, one_stored}

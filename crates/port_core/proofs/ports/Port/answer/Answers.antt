@@ -55,9 +55,9 @@ advance-requires-clause-few c =
     let w : Leaves c.self.inside.terminal.terminal c.meet.new.self.terminal = leaves_of c.self.inside.terminal.terminal c.prepare.new.terminal.terminal c.meet.new.self.terminal c.args.caller (call_of c.args.call.now) c.prepare.ensures.terminal c.meet.ensures.left in
     omega (arith, (w.caller c.args.caller).next, (port_bounded (value_of c.self.inside) c.self.invariant.port).next c.args.caller)
 
-pub copy_into-requires-clause-fits : goal.copy_into-requires-clause-fits
-copy_into-requires-clause-fits c =
-    omega (arith, (answer_fits c.prepare.new.terminal.terminal (caller_at c.prepare.new.terminal.terminal c.args.caller) (call_of c.args.call.now)).fits c.in-Gives.answer c.in-Gives.ensures.met, c.in_ok-made.ensures.fits)
+pub copy_into-requires : goal.copy_into-requires
+copy_into-requires c =
+    (answer_fits c.prepare.new.terminal.terminal (caller_at c.prepare.new.terminal.terminal c.args.caller) (call_of c.args.call.now) c.in_ok-made.made.copy c.in_ok-made.ensures.copy).fits c.in-Gives.answer c.in-Gives.ensures.met
 
 pub note_part-requires-clause-parts : goal.note_part-requires-clause-parts
 note_part-requires-clause-parts c =
@@ -128,8 +128,8 @@ returns-in-Gives-clause-tried c =
     (when_false (drops_of o) _ _ keeps (refl, refl)) (sym (append-nil v.flip.taken)) (omega arith) refl c.self.invariant.port.sent left column same in
     subst (λ (w : PortValue). AnswersCall w now d step call (answer_of c.in-Gives.answer)) c.self.view_is both.1
 
-pub invariant_of-self-in-Takes-1 : goal.invariant_of-self-in-Takes-1
-invariant_of-self-in-Takes-1 c =
+pub invariant_of-self-in-Takes : goal.invariant_of-self-in-Takes
+invariant_of-self-in-Takes c =
     let v : PortValue = value_of c.self.inside in
     let d = c.args.caller in
     let step = c.args.step in

@@ -76,9 +76,9 @@ advance-requires-clause-few c =
     let w : Leaves c.self.inside.terminal.terminal c.meet.new.self.terminal = leaves_of c.self.inside.terminal.terminal c.prepare.new.terminal.terminal c.meet.new.self.terminal c.args.caller (call_of c.args.call.now) c.prepare.ensures.terminal c.meet.ensures.left in
     omega (arith, ap (λ (t : Terminal). (caller_at t c.args.caller).next) (ap (λ r. r.terminal) c.drop_characters.ensures), (w.caller c.args.caller).next, (port_bounded (value_of c.self.inside) c.self.invariant.port).next c.args.caller)
 
-pub copy_into-requires-clause-fits : goal.copy_into-requires-clause-fits
-copy_into-requires-clause-fits c =
-    omega (arith, (answer_fits c.prepare.new.terminal.terminal (caller_at c.prepare.new.terminal.terminal c.args.caller) (call_of c.args.call.now)).fits c.in-Gives.answer c.in-Gives.ensures.met, c.in_ok-made.ensures.fits)
+pub copy_into-requires : goal.copy_into-requires
+copy_into-requires c =
+    (answer_fits c.prepare.new.terminal.terminal (caller_at c.prepare.new.terminal.terminal c.args.caller) (call_of c.args.call.now) c.in_ok-made.made.copy c.in_ok-made.ensures.copy).fits c.in-Gives.answer c.in-Gives.ensures.met
 
 pub invariant_of-self-2 : goal.invariant_of-self-2
 invariant_of-self-2 c =

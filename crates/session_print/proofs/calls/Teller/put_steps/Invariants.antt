@@ -5,4 +5,4 @@ use Rattle.session_print.proofs.calls.Teller.put_steps.Given as goal
 
 abbrev pub invariant-loop-call : goal.invariant-loop-call
 invariant-loop-call l =
-    Stepping l.self.port (noted_answer l.self.answers) l.name (string_bytes l.initial.text) l.initial.turn.caller l.initial.turn.step l.calls (string_bytes l.text) l.turn.caller l.turn.step l.call-index
+    Stepping l.self.port (noted_answer l.self.answers) l.name (string_bytes l.initial.text) l.initial.turn.caller l.initial.turn.step l.calls (string_bytes l.text) (string_bytes l.head.front) (string_bytes l.head.shared) l.turn.caller l.turn.step l.call-index

@@ -1,4 +1,5 @@
-use Rattle.std.proofs.Common.{rules, sym, ap, subst, ◌∙◌}
+use Rattle.std.proofs.Common.{rules, sym, ap, subst, ◌∙◌, length}
+use Rattle.word_ring.specs.declared.table.View.{View}
 use Rattle.word_ring.specs.PutterParts.{IsPutting}
 use Rattle.word_ring.proofs.Keeps.{meets_head, loads_head}
 use Rattle.word_ring.proofs.Putting.{after_load, after_told}
@@ -17,7 +18,7 @@ loaded c =
     subst (IsPutting c.self.inside.capacity c.self.inside.sent c.self.inside.word) (sym c.load.ensures.2.0) (after_load _ _ _ _ told c.load.result c.load.ensures.2.2)
 
 pub invariant_of-self : goal.invariant_of-self
-invariant_of-self c = record { table = search rules; key = search rules; words = search rules; small = search rules; at = search rules; bare = search rules; putting = loaded c }
+invariant_of-self c = record { table = search rules; key = search rules; words = search rules; small = search rules; at = search rules; bare = search rules; shown = c.self.invariant.shown ∙ sym (ap (λ m. length m.0.pushed) c.join_seat.ensures.2) ∙ sym (ap (λ (v : View). length v.pushed) c.load.ensures.2.0); putting = loaded c }
 
 pub returns-clause-rise : goal.returns-clause-rise
 returns-clause-rise c = let p = loaded c in p.rise

@@ -1,4 +1,4 @@
-use Rattle.std.proofs.Common.{rules, sym, subst}
+use Rattle.std.proofs.Common.{rules, sym, subst, ap, ◌∙◌, length}
 use Rattle.std.specs.List.Sorted.{IsNonDecreasing}
 use Rattle.word_ring.specs.declared.table.View.{View}
 use Rattle.word_ring.specs.PutterParts.{IsPutting}
@@ -17,6 +17,7 @@ invariant_of-self c = record {
   small = search rules;
   at = search rules;
   bare = search rules;
+  shown = c.self.invariant.shown ∙ sym (ap (λ (v : View). length v.pushed) c.load-seen.ensures.2.0);
   putting = subst (IsPutting c.self.inside.capacity c.self.inside.sent c.self.inside.word) (sym c.load-seen.ensures.2.0) (after_load _ _ _ _ c.self.invariant.putting c.load-seen.result c.load-seen.ensures.2.2);
 }
 
