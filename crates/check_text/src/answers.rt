@@ -13,7 +13,7 @@ use session_print::answer_text;
 use session_text::Reason;
 use std::alloc::Global;
 use text_lines::{bytes_of, number_at, split_word, word_at};
-use tty_base::{Bytes, Counts, Errno, NoMemory};
+use tty_base::{Counts, Errno, NoMemory};
 use tty_calls::Answer;
 use tty_modes::places::FLAG_COUNT;
 use tty_modes::{Modes, Word, set_word_bytes};
@@ -104,10 +104,7 @@ fn answer_by(alloc: Global, kind: AnswerKind, words: &[u8]) -> Result<Answer, No
     match kind {
         AnswerKind::Done => Ok(Answer::Done),
         AnswerKind::Count => Ok(Answer::Count(small_at(words))),
-        AnswerKind::Got => {
-            let bytes = bytes_of(alloc, word_at(words, 1))?;
-            Ok(Answer::Got(Bytes::from_vec(bytes)))
-        }
+        AnswerKind::Got => Ok(Answer::Got(bytes_of(alloc, word_at(words, 1))?)),
         AnswerKind::Number => Ok(Answer::Number(small_at(words))),
         AnswerKind::Modes => Ok(Answer::ModesAre(modes_from(words))),
         AnswerKind::Counts => Ok(Answer::CountsAre(Box::new(alloc, counts_in(words))?)),

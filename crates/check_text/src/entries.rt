@@ -1,5 +1,5 @@
-ghost use Rattle.std.specs.Prelude.{◌≡◌, Ok, Err, MatchResult};
-ghost use Rattle.tty_calls.specs.Plain.{answer_of, event_of, entry_of, flushed, hung_up, parted, line_ended, PlainEvent};
+ghost use Rattle.std.specs.Prelude.{◌≡◌, Ok, Err, IfOk, MatchResult};
+ghost use Rattle.tty_calls.specs.Plain.{answer_of, event_of, entry_of, answered, flushed, hung_up, parted, line_ended, PlainEvent};
 ghost use Rattle.text_lines.specs.Lines.{words_of};
 ghost use Rattle.check_text.specs.Fields.{in_front, at_end};
 ghost use Rattle.check_text.specs.Entries.{ends_in_number, maker_of as maker_named, who_of as who_named, who_in as read_who, call_of_entry as call_in_entry, chars_in as read_chars, ends_in_chars, with_dropped as read_dropped, event_by as read_event_by, event_in as read_event, entry_in as read_entry, fixed_in as read_fixed, heading_in as read_heading, overrun_in as read_overrun, numbers_in as read_numbers};
@@ -15,8 +15,8 @@ use super::kinds::{AnswerKind, EventKind, kind_of};
 use session_text::Reason;
 use std::alloc::Global;
 use text_lines::split_word;
-use tty_base::{Chars, Overrun};
-use tty_calls::{Answer, Entry, Event, Who};
+use tty_base::{Chars, NoMemory, Overrun};
+use tty_calls::{Answer, Entry, Event, Purge, Who};
 
 /// The entry that a line writes.
 pub(crate) fn entry_in(alloc: Global, callers: &Callers, words: &[u8]) -> Result<Entry, LineFault>
@@ -151,16 +151,23 @@ fn with_dropped(alloc: Global, answer: Answer, words: &[u8]) -> Result<Event, Li
     ensures { ReadsAs event_of result (read_dropped (answer_of answer) (words_of words.now)) }
 {
     match split_word(words) {
-        None => Ok(Event::Answer(answer, Chars::new(alloc))),
+        None => Ok(Event::Answer(answer)),
         Some((word, rest)) => {
             if word != b"drop".as_slice() {
                 return Err(LineFault::Wrong(Reason::Word));
             }
             let (characters, rest) = characters_in(alloc, rest)?;
             no_more(rest)?;
-            Ok(Event::Answer(answer, characters))
+            Ok(purge_event(alloc, answer, characters)?)
         }
     }
+}
+
+fn purge_event(alloc: Global, answer: Answer, dropped: Chars) -> Result<Event, NoMemory>
+    ensures { IfOk result (λ event. event_of event ≡ answered (answer_of answer) dropped.items) }
+{
+    let purge = Box::new(alloc, Purge { answer, dropped })?;
+    Ok(Event::Purge(purge))
 }
 
 fn part_event(callers: &Callers, who: Who, step: u32, words: &[u8]) -> Result<Event, Reason>

@@ -29,9 +29,7 @@ fn each_kind_of_line_is_read(rt: HostRuntime) -> Result<(), Fail> {
         for (place, entry) in entries.iter().enumerate() {
             let is_there = match (place, &entry.event) {
                 (0, Event::LineEnd(0)) => entry.who == Who::Line,
-                (1, Event::Answer(Answer::Done, dropped)) => {
-                    entry.who == Who::Caller(0) && dropped.len() == 0
-                }
+                (1, Event::Answer(Answer::Done)) => entry.who == Who::Caller(0),
                 (2, Event::Wait) => entry.step == 1,
                 (3, Event::Tick) => entry.who == Who::Clock,
                 (4, Event::Flush(characters)) => {
@@ -42,19 +40,21 @@ fn each_kind_of_line_is_read(rt: HostRuntime) -> Result<(), Fail> {
                                 flag: Flag::Parity,
                             })
                 }
-                (5, Event::Answer(Answer::Got(bytes), _)) => {
-                    bytes.as_slice() == b"hi".as_slice()
-                }
+                (5, Event::Answer(Answer::Got(bytes))) => bytes.as_slice() == b"hi".as_slice(),
                 (6, Event::Part(1)) => entry.part == 0,
-                (7, Event::Answer(Answer::Count(2), dropped)) => {
-                    entry.part == 1 && dropped.len() == 0
+                (7, Event::Purge(purge)) => {
+                    entry.part == 1
+                        && matches!(purge.answer, Answer::Count(2))
+                        && purge.dropped.len() == 0
                 }
-                (8, Event::Answer(Answer::ModesAre(modes), _)) => *modes == Modes::sane(),
-                (9, Event::Answer(Answer::Number(0), dropped)) => dropped.len() == 1,
-                (10, Event::Answer(Answer::CountsAre(counts), _)) => {
+                (8, Event::Answer(Answer::ModesAre(modes))) => *modes == Modes::sane(),
+                (9, Event::Purge(purge)) => {
+                    matches!(purge.answer, Answer::Number(0)) && purge.dropped.len() == 1
+                }
+                (10, Event::Answer(Answer::CountsAre(counts))) => {
                     counts.breaks == 3 && counts.pfull == u64::MAX
                 }
-                (11, Event::Answer(Answer::Refused(errno), _)) => *errno == Errno::EBADF,
+                (11, Event::Answer(Answer::Refused(errno))) => *errno == Errno::EBADF,
                 (12, Event::CallerEnd) => entry.generation == 1,
                 (13, Event::ClockEnd) | (14, Event::PhaseEnd) => true,
                 (15, Event::Hangup(dropped)) => dropped.len() == 0,

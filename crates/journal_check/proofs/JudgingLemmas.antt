@@ -4,8 +4,7 @@ use Rattle.std.specs.Prelude.{sum, filter}
 use Rattle.std.proofs.lemmas.Bool.{false≢true}
 use Rattle.std.proofs.lemmas.List.{get_or-map, get_or-replicate, length-replicate, length-map, length-take-le, take-append-drop, take_all, map_more}
 use Rattle.std.proofs.lemmas.List.Elements.{All-get_or}
-use Rattle.tty_base.specs.Contents.{Contents}
-use Rattle.tty_base.specs.declared.lines.LineStep.{LineStep}
+use Rattle.line_steps.specs.declared.LineSteps.{LineSteps}
 use Rattle.tty_calls.specs.declared.sessions.Script.{Script}
 use Rattle.tty_calls.specs.declared.sessions.Phase.{Phase}
 use Rattle.tty_calls.specs.declared.sessions.Session.{Session}
@@ -57,7 +56,7 @@ many_lines session i phase limits lt is =
     let here : get_or (map phase_of session.phases.items) i (phase_of phase) ≡ phase_of phase = get_or-map phase_of session.phases.items i phase (phase_of phase) lt ∙ ap phase_of (sym is) in
     let within : IsPhaseWithin session.ports (phase_of phase) =
     subst (IsPhaseWithin session.ports) here (All-get_or (IsPhaseWithin session.ports) (map phase_of session.phases.items) i (phase_of phase) (omega (arith, lt, length-map session.phases.items phase_of)) limits.phases) in
-    sym (length-map phase.lines.items (λ (steps : Contents LineStep). steps.items)) ∙ within.lines
+    sym (length-map phase.lines.items (λ (steps : LineSteps). steps.items)) ∙ within.lines
 
 -- ---- how many characters an entry has
 

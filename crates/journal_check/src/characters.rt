@@ -14,7 +14,7 @@ pub(crate) fn chars_of_event(event: &Event) -> &[Flagged]
     ensures { result.now ≡ chars_in (event_of event.now) }
 {
     match event {
-        Event::Answer(_, dropped) => dropped.as_slice(),
+        Event::Purge(purge) => purge.dropped.as_slice(),
         Event::Flush(chars) => chars.as_slice(),
         Event::Hangup(dropped) => dropped.as_slice(),
         _ => &[],

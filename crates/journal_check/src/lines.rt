@@ -8,6 +8,7 @@ ghost use Rattle.journal_check.specs.Legal.{phase_at};
 ghost use Rattle.journal_check.specs.Accounts.{is_at, kept_from};
 ghost use Rattle.journal_check.specs.Receipts.{IsReceived};
 
+use line_steps::LineSteps;
 use std::alloc::Global;
 use tty_base::{Chars, Flagged, LineStep, NoMemory, Overrun};
 use tty_calls::Session;
@@ -29,26 +30,42 @@ fn arrivals_in(steps: &[LineStep]) -> u32
 }
 
 /// The steps of a port's line in a phase.
-pub(crate) fn steps_of(session: &Session, port: usize, phase: usize) -> &[LineStep]
+fn steps_of(session: &Session, port: usize, phase: usize) -> &LineSteps
     requires port { port < (session_of session.now).ports }
     requires limits { IsWithinLimits (session_of session.now) }
     requires phase { phase < length (session_of session.now).phases }
-    ensures { result.now ≡ line_on port (phase_at (session_of session.now) phase) }
+    ensures { result.now.items ≡ line_on port (phase_at (session_of session.now) phase) }
 {
-    session.phases.as_slice()[phase].lines.as_slice()[port].as_slice()
+    &session.phases.as_slice()[phase].lines.as_slice()[port]
+}
+
+/// The same steps one by one.
+fn steps_out(
+    alloc: Global,
+    session: &Session,
+    port: usize,
+    phase: usize,
+) -> Result<Vec<LineStep>, NoMemory>
+    requires port { port < (session_of session.now).ports }
+    requires limits { IsWithinLimits (session_of session.now) }
+    requires phase { phase < length (session_of session.now).phases }
+    ensures { IfOk result (λ steps. steps.items ≡ line_on port (phase_at (session_of session.now) phase)) }
+{
+    steps_of(session, port, phase).written_out(alloc)
 }
 
 /// How many characters arrive on a port.
-pub(crate) fn arrivals_on(session: &Session, port: usize) -> u32
+fn arrivals_on(alloc: Global, session: &Session, port: usize) -> Result<u32, NoMemory>
     requires port { port < (session_of session.now).ports }
     requires limits { IsWithinLimits (session_of session.now) }
-    ensures { result ≡ character_count port (session_of session.now).phases }
+    ensures { IfOk result (λ count. count ≡ character_count port (session_of session.now).phases) }
 {
     let mut count = 0;
     for phase in 0..session.phases.len() {
-        count += arrivals_in(steps_of(session, port, phase));
+        let steps = steps_out(alloc, session, port, phase)?;
+        count += arrivals_in(steps.as_slice());
     }
-    count
+    Ok(count)
 }
 
 /// Whether the next overrun, if any, has this place.
@@ -107,7 +124,7 @@ pub(crate) fn received_on(
     requires limits { IsWithinLimits (session_of session.now) }
     ensures { IfOk result (λ received. IsReceived port (session_of session.now) overruns.now received) }
 {
-    let most = arrivals_on(session, port);
+    let most = arrivals_on(alloc, session, port)?;
     let mut line = Line::new(alloc, most)?;
     let mut chars = Chars::new(alloc);
     chars.reserve(most as usize)?;
@@ -121,7 +138,8 @@ pub(crate) fn received_on(
     let mut next = 0;
     for phase in 0..session.phases.len() {
         let place = chars.len();
-        line.run_into(steps_of(session, port, phase), &mut chars);
+        let steps = steps_out(alloc, session, port, phase)?;
+        line.run_into(steps.as_slice(), &mut chars);
         let left = overruns_from(overruns, next);
         next += keep_phase(&mut received, chars.as_slice(), place, left)?;
     }

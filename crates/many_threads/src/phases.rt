@@ -22,12 +22,13 @@ use crate::running::run_threads;
 use crate::stations::{Seats, deal, gather};
 use crate::threads::{FlusherBack, LineBack, Receiver, SeatBack};
 use flip_buffer::FlipIn;
+use line_steps::LineSteps;
 use one_thread::Role;
 use port_core::Port;
 use std::alloc::Global;
 use std::sync::Wait;
 use std::thread::Threads;
-use tty_base::{LineStep, NoMemory};
+use tty_base::NoMemory;
 use tty_calls::{Denied, Script};
 use tty_port::{Gate, Seat, SharedPort};
 
@@ -126,11 +127,12 @@ fn take_together(
 /// back.
 fn play_together<R: Threads + Wait + Sync, G: Gate + Sync>(
     rt: &R,
+    alloc: Global,
     shared: &SharedPort,
     gate: &G,
     dealt: Seats,
     receiver: Receiver,
-    steps: &[LineStep],
+    steps: &LineSteps,
     phase: u32,
     ticks: u32,
     run: u32,
@@ -142,14 +144,14 @@ fn play_together<R: Threads + Wait + Sync, G: Gate + Sync>(
     requires ring { receiver.putter.ring ≡ (name_of_port shared.now).ring }
     requires sent { (marks_at (opening_history shared.now)).sent ≤ length receiver.putter.sent }
     requires done { (before : List LineStep) × HasDone receiver.line before }
-    requires good { All (λ step. IsTrue (is_step step)) steps.now }
-    requires room { receiver.line.report.arrived + arrival_count steps.now ≤ receiver.line.most }
+    requires good { All (λ step. IsTrue (is_step step)) steps.now.items }
+    requires room { receiver.line.report.arrived + arrival_count steps.now.items ≤ receiver.line.most }
     requires put { receiver.line.most ≤ (2 ^ 63 - length receiver.putter.sent) + receiver.line.handed }
     requires clock_not_over { (marks_at (opening_history shared.now)).clock_over ≡ false }
     requires next { run ≡ next_run (opening_history shared.now) }
     requires count { length cast.now ≡ (name_of_port shared.now).callers }
     requires cast { CanPlayAll shared.now 0 (plain_cast scripts.now cast.now) }
-    ensures { IfOk result (ThreadsCome shared.now (plain_cast scripts.now cast.now) steps.now ticks run receiver.line receiver.putter dealt) }
+    ensures { IfOk result (ThreadsCome shared.now (plain_cast scripts.now cast.now) steps.now.items ticks run receiver.line receiver.putter dealt) }
 {
     let Seats {
         callers,
@@ -159,8 +161,8 @@ fn play_together<R: Threads + Wait + Sync, G: Gate + Sync>(
         session,
     } = dealt;
     let (line, (clock, (flusher, callers))) = run_threads(
-        rt, shared, gate, line, receiver, steps, phase, clock, ticks, flusher, run, callers, cast,
-        scripts,
+        rt, alloc, shared, gate, line, receiver, steps, phase, clock, ticks, flusher, run, callers,
+        cast, scripts,
     )?;
     take_together(line, clock, flusher, callers, session)
 }
@@ -174,7 +176,7 @@ fn play_threads<R: Threads + Wait + Sync, G: Gate + Sync>(
     run: u32,
     cast: &[Option<Role>],
     scripts: &[Script],
-    steps: &[LineStep],
+    steps: &LineSteps,
     ticks: u32,
 ) -> Result<(Ends, PhaseEnd), NoMemory>
     ghost scene: { Scene }
@@ -182,8 +184,8 @@ fn play_threads<R: Threads + Wait + Sync, G: Gate + Sync>(
     requires within { ends.port.terminal.phase < length scene.session.phases }
     requires at_phase { IsAtPhase scene ends.port.terminal.phase ends.port ends.receiver.putter ends.receiver.line run }
     requires knows { KnowsTaken (length ends.port.flip.taken) ends.receiver.putter.heads }
-    requires steps { steps.now ≡ line_on scene.port (phase_at scene.session ends.port.terminal.phase) }
-    requires good { All (λ step. IsTrue (is_step step)) steps.now }
+    requires steps { steps.now.items ≡ line_on scene.port (phase_at scene.session ends.port.terminal.phase) }
+    requires good { All (λ step. IsTrue (is_step step)) steps.now.items }
     requires ticks { ticks ≡ ticks_on scene.port (phase_at scene.session ends.port.terminal.phase) }
     requires roles { IsCast scene ends.port.terminal.phase (sum ends.port.counts) (plain_cast scripts.now cast.now) }
     ensures { IfOk result (λ r. ThreadsLeave scene ends r.0 r.1) }
@@ -192,7 +194,7 @@ fn play_threads<R: Threads + Wait + Sync, G: Gate + Sync>(
     let phase = port.phase();
     let (shared, dealt) = share(alloc, port, cast.len())?;
     let back = play_together(
-        rt, &shared, gate, dealt, receiver, steps, phase, ticks, run, cast, scripts,
+        rt, alloc, &shared, gate, dealt, receiver, steps, phase, ticks, run, cast, scripts,
     )?;
     let PhaseBack {
         seats,
@@ -226,15 +228,15 @@ pub(crate) fn play_shared<R: Threads + Wait + Sync, G: Gate + Sync>(
     run: u32,
     cast: &[Option<Role>],
     scripts: &[Script],
-    steps: &[LineStep],
+    steps: &LineSteps,
     ticks: u32,
 ) -> Result<(Ends, PhaseEnd), NoMemory>
     ghost scene: { Scene }
     requires limits { IsWithinLimits scene.session }
     requires within { ends.port.terminal.phase < length scene.session.phases }
     requires at_phase { IsAtPhase scene ends.port.terminal.phase ends.port ends.receiver.putter ends.receiver.line run }
-    requires steps { steps.now ≡ line_on scene.port (phase_at scene.session ends.port.terminal.phase) }
-    requires good { All (λ step. IsTrue (is_step step)) steps.now }
+    requires steps { steps.now.items ≡ line_on scene.port (phase_at scene.session ends.port.terminal.phase) }
+    requires good { All (λ step. IsTrue (is_step step)) steps.now.items }
     requires ticks { ticks ≡ ticks_on scene.port (phase_at scene.session ends.port.terminal.phase) }
     requires roles { IsCast scene ends.port.terminal.phase (sum ends.port.counts) (plain_cast scripts.now cast.now) }
     ensures { IfOk result (λ r. PhaseComes scene ends r.0 r.1) }

@@ -16,12 +16,14 @@ use crate::starting::{
 };
 use crate::starts::Start;
 use crate::threads::{FlusherBack, LineBack, Receiver, SeatBack};
+use line_steps::LineSteps;
 use one_thread::Role;
+use std::alloc::Global;
 use std::snapshot::Snapshot;
 use std::sync::Wait;
 use std::thread;
 use std::thread::{Scope, Threads};
-use tty_base::{LineStep, NoMemory};
+use tty_base::NoMemory;
 use tty_calls::Script;
 use tty_port::{Gate, Seat, SharedPort};
 
@@ -100,12 +102,13 @@ fn tick_and_flush<'s, E, R: Threads + Wait + Sync, G: Gate + Sync>(
 fn run_line<'s, E, R: Threads + Wait + Sync, G: Gate + Sync>(
     scope: &Scope<'s, E>,
     rt: &'s R,
+    alloc: Global,
     shared: &'s SharedPort,
     gate: &'s G,
     start: &'s Start,
     line: Seat,
     receiver: Receiver,
-    steps: &'s [LineStep],
+    steps: &'s LineSteps,
     phase: u32,
     clock: Seat,
     ticks: u32,
@@ -120,8 +123,8 @@ fn run_line<'s, E, R: Threads + Wait + Sync, G: Gate + Sync>(
     requires ring { receiver.putter.ring ≡ (name_of_port shared.now).ring }
     requires sent { (marks_at (list_seen line)).sent ≤ length receiver.putter.sent }
     requires done { (before : List LineStep) × HasDone receiver.line before }
-    requires good { All (λ step. IsTrue (is_step step)) steps.now }
-    requires room { receiver.line.report.arrived + arrival_count steps.now ≤ receiver.line.most }
+    requires good { All (λ step. IsTrue (is_step step)) steps.now.items }
+    requires room { receiver.line.report.arrived + arrival_count steps.now.items ≤ receiver.line.most }
     requires put { receiver.line.most ≤ (2 ^ 63 - length receiver.putter.sent) + receiver.line.handed }
     requires clock { IsHere shared.now ((name_of_port shared.now).callers + 2) clock }
     requires clock_not_over { (marks_at (list_seen clock)).clock_over ≡ false }
@@ -130,7 +133,7 @@ fn run_line<'s, E, R: Threads + Wait + Sync, G: Gate + Sync>(
     requires callers { AreHere shared.now (opening_history shared.now) 0 callers.items }
     requires count { length callers.items ≡ length cast.now }
     requires cast { CanPlayAll shared.now 0 (plain_cast scripts.now cast.now) }
-    ensures line { IfOk result (λ r. LineComes shared.now steps.now receiver.line receiver.putter (list_seen line) r.0) }
+    ensures line { IfOk result (λ r. LineComes shared.now steps.now.items receiver.line receiver.putter (list_seen line) r.0) }
     ensures clock { IfOk result (λ r. ClockComes shared.now ticks (list_seen clock) r.1.0) }
     ensures flusher { IfOk result (λ r. FlusherComes shared.now run flusher r.1.1.0) }
     ensures callers { IfOk result (λ r. CallersCome shared.now (plain_cast scripts.now cast.now) r.1.1.1) }
@@ -141,7 +144,9 @@ fn run_line<'s, E, R: Threads + Wait + Sync, G: Gate + Sync>(
         receiver: Snapshot::of(&receiver),
         steps,
     };
-    let child = start_line(scope, rt, gate, start, line, receiver, phase, promise)?;
+    let child = start_line(
+        scope, rt, alloc, gate, start, line, receiver, phase, promise,
+    )?;
     let others = tick_and_flush(
         scope, rt, shared, gate, start, clock, ticks, flusher, run, callers, cast, scripts,
     );
@@ -153,11 +158,12 @@ fn run_line<'s, E, R: Threads + Wait + Sync, G: Gate + Sync>(
 /// nothing is played.
 pub fn run_threads<R: Threads + Wait + Sync, G: Gate + Sync>(
     rt: &R,
+    alloc: Global,
     shared: &SharedPort,
     gate: &G,
     line: Seat,
     receiver: Receiver,
-    steps: &[LineStep],
+    steps: &LineSteps,
     phase: u32,
     clock: Seat,
     ticks: u32,
@@ -172,8 +178,8 @@ pub fn run_threads<R: Threads + Wait + Sync, G: Gate + Sync>(
     requires ring { receiver.putter.ring ≡ (name_of_port shared.now).ring }
     requires sent { (marks_at (list_seen line)).sent ≤ length receiver.putter.sent }
     requires done { (before : List LineStep) × HasDone receiver.line before }
-    requires good { All (λ step. IsTrue (is_step step)) steps.now }
-    requires room { receiver.line.report.arrived + arrival_count steps.now ≤ receiver.line.most }
+    requires good { All (λ step. IsTrue (is_step step)) steps.now.items }
+    requires room { receiver.line.report.arrived + arrival_count steps.now.items ≤ receiver.line.most }
     requires put { receiver.line.most ≤ (2 ^ 63 - length receiver.putter.sent) + receiver.line.handed }
     requires clock { IsHere shared.now ((name_of_port shared.now).callers + 2) clock }
     requires clock_not_over { (marks_at (list_seen clock)).clock_over ≡ false }
@@ -182,7 +188,7 @@ pub fn run_threads<R: Threads + Wait + Sync, G: Gate + Sync>(
     requires callers { AreHere shared.now (opening_history shared.now) 0 callers.items }
     requires count { length callers.items ≡ length cast.now }
     requires cast { CanPlayAll shared.now 0 (plain_cast scripts.now cast.now) }
-    ensures line { IfOk result (λ r. LineComes shared.now steps.now receiver.line receiver.putter (list_seen line) r.0) }
+    ensures line { IfOk result (λ r. LineComes shared.now steps.now.items receiver.line receiver.putter (list_seen line) r.0) }
     ensures clock { IfOk result (λ r. ClockComes shared.now ticks (list_seen clock) r.1.0) }
     ensures flusher { IfOk result (λ r. FlusherComes shared.now run flusher r.1.1.0) }
     ensures callers { IfOk result (λ r. CallersCome shared.now (plain_cast scripts.now cast.now) r.1.1.1) }
@@ -193,11 +199,11 @@ pub fn run_threads<R: Threads + Wait + Sync, G: Gate + Sync>(
         thread::scope_env(),
         rt,
         move |scope| -> Result<(LineBack, (SeatBack, (FlusherBack, CallersBack))), NoMemory>
-            requires { IsHere shared.now ((name_of_port shared.now).callers + 1) line × ((marks_at (list_seen line)).line_over ≡ false) × (receiver.putter.ring ≡ (name_of_port shared.now).ring) × ((marks_at (list_seen line)).sent ≤ length receiver.putter.sent) × ((before : List LineStep) × HasDone receiver.line before) × All (λ step. IsTrue (is_step step)) steps.now × (receiver.line.report.arrived + arrival_count steps.now ≤ receiver.line.most) × (receiver.line.most ≤ (2 ^ 63 - length receiver.putter.sent) + receiver.line.handed) × IsHere shared.now ((name_of_port shared.now).callers + 2) clock × ((marks_at (list_seen clock)).clock_over ≡ false) × IsHere shared.now (name_of_port shared.now).callers flusher × (run ≡ next_run (list_seen flusher)) × AreHere shared.now (opening_history shared.now) 0 callers.items × (length callers.items ≡ length cast.now) × CanPlayAll shared.now 0 (plain_cast scripts.now cast.now) }
-            ensures { IfOk result (λ r. LineComes shared.entry.now steps.entry.now receiver.line receiver.putter (list_seen line) r.0) × IfOk result (λ r. ClockComes shared.entry.now ticks (list_seen clock) r.1.0) × IfOk result (λ r. FlusherComes shared.entry.now run flusher r.1.1.0) × IfOk result (λ r. CallersCome shared.entry.now (plain_cast scripts.entry.now cast.entry.now) r.1.1.1) }
+            requires { IsHere shared.now ((name_of_port shared.now).callers + 1) line × ((marks_at (list_seen line)).line_over ≡ false) × (receiver.putter.ring ≡ (name_of_port shared.now).ring) × ((marks_at (list_seen line)).sent ≤ length receiver.putter.sent) × ((before : List LineStep) × HasDone receiver.line before) × All (λ step. IsTrue (is_step step)) steps.now.items × (receiver.line.report.arrived + arrival_count steps.now.items ≤ receiver.line.most) × (receiver.line.most ≤ (2 ^ 63 - length receiver.putter.sent) + receiver.line.handed) × IsHere shared.now ((name_of_port shared.now).callers + 2) clock × ((marks_at (list_seen clock)).clock_over ≡ false) × IsHere shared.now (name_of_port shared.now).callers flusher × (run ≡ next_run (list_seen flusher)) × AreHere shared.now (opening_history shared.now) 0 callers.items × (length callers.items ≡ length cast.now) × CanPlayAll shared.now 0 (plain_cast scripts.now cast.now) }
+            ensures { IfOk result (λ r. LineComes shared.entry.now steps.entry.now.items receiver.line receiver.putter (list_seen line) r.0) × IfOk result (λ r. ClockComes shared.entry.now ticks (list_seen clock) r.1.0) × IfOk result (λ r. FlusherComes shared.entry.now run flusher r.1.1.0) × IfOk result (λ r. CallersCome shared.entry.now (plain_cast scripts.entry.now cast.entry.now) r.1.1.1) }
         {
             run_line(
-                scope, rt, shared, gate, start, line, receiver, steps, phase, clock, ticks,
+                scope, rt, alloc, shared, gate, start, line, receiver, steps, phase, clock, ticks,
                 flusher, run, callers, cast, scripts,
             )
         },

@@ -17,10 +17,12 @@ use crate::threads::{
     FlusherBack, LineBack, Receiver, SeatBack, caller_thread, clock_thread, flusher_thread,
     line_thread,
 };
+use line_steps::LineSteps;
+use std::alloc::Global;
 use std::snapshot::Snapshot;
 use std::sync::Wait;
 use std::thread::{Promise, PromisedHandle, Scope};
-use tty_base::{LineStep, NoMemory};
+use tty_base::NoMemory;
 use tty_calls::Call;
 use tty_port::{Gate, Seat, SharedPort};
 
@@ -68,11 +70,11 @@ pub(crate) struct LinePromise<'s> {
     pub(crate) shared: &'s SharedPort,
     pub(crate) seat: Snapshot<Seat>,
     pub(crate) receiver: Snapshot<Receiver>,
-    pub(crate) steps: &'s [LineStep],
+    pub(crate) steps: &'s LineSteps,
 }
 
 impl<'s> Promise<Result<LineBack, NoMemory>> for LinePromise<'s> {
-    ghost kept_by = { λ p r. IfOk r (LineComes p.shared.now p.steps.now p.receiver.value.line p.receiver.value.putter (list_seen p.seat.value)) };
+    ghost kept_by = { λ p r. IfOk r (LineComes p.shared.now p.steps.now.items p.receiver.value.line p.receiver.value.putter (list_seen p.seat.value)) };
 }
 
 /// Starts a caller's thread.
@@ -165,10 +167,11 @@ pub(crate) fn start_flusher<'s, E, R: Wait + Sync>(
     }
 }
 
-/// Starts the line's thread.
+/// Starts the line's thread, which has the steps one by one.
 pub(crate) fn start_line<'s, E, R: Wait + Sync, G: Gate + Sync>(
     scope: &Scope<'s, E>,
     rt: &'s R,
+    alloc: Global,
     gate: &'s G,
     start: &'s Start,
     seat: Seat,
@@ -181,21 +184,34 @@ pub(crate) fn start_line<'s, E, R: Wait + Sync, G: Gate + Sync>(
     requires ring { receiver.putter.ring ≡ (name_of_port promise.shared.now).ring }
     requires sent { (marks_at (list_seen seat)).sent ≤ length receiver.putter.sent }
     requires done { (before : List LineStep) × HasDone receiver.line before }
-    requires good { All (λ step. IsTrue (is_step step)) promise.steps.now }
-    requires room { receiver.line.report.arrived + arrival_count promise.steps.now ≤ receiver.line.most }
+    requires good { All (λ step. IsTrue (is_step step)) promise.steps.now.items }
+    requires room { receiver.line.report.arrived + arrival_count promise.steps.now.items ≤ receiver.line.most }
     requires put { receiver.line.most ≤ (2 ^ 63 - length receiver.putter.sent) + receiver.line.handed }
     requires of_seat { promise.seat.value ≡ seat }
     requires of_receiver { promise.receiver.value ≡ receiver }
     ensures { IfOk result (λ h. h.promise ≡ promise.entry) }
 {
     let shared = promise.shared;
-    let steps = promise.steps;
+    let Ok(steps) = promise.steps.written_out(alloc) else {
+        return Err(start.refuse(rt));
+    };
     let made = scope.spawn_with(
         promise,
         move || -> Result<LineBack, NoMemory>
-            requires { IsHere shared.now ((name_of_port shared.now).callers + 1) seat × ((marks_at (list_seen seat)).line_over ≡ false) × (receiver.putter.ring ≡ (name_of_port shared.now).ring) × ((marks_at (list_seen seat)).sent ≤ length receiver.putter.sent) × ((before : List LineStep) × HasDone receiver.line before) × All (λ step. IsTrue (is_step step)) steps.now × (receiver.line.report.arrived + arrival_count steps.now ≤ receiver.line.most) × (receiver.line.most ≤ (2 ^ 63 - length receiver.putter.sent) + receiver.line.handed) }
-            ensures { IfOk result (LineComes shared.entry.now steps.entry.now receiver.line receiver.putter (list_seen seat)) }
-        { line_thread(rt, shared, gate, start, seat, receiver, steps, phase) },
+            requires { IsHere shared.now ((name_of_port shared.now).callers + 1) seat × ((marks_at (list_seen seat)).line_over ≡ false) × (receiver.putter.ring ≡ (name_of_port shared.now).ring) × ((marks_at (list_seen seat)).sent ≤ length receiver.putter.sent) × ((before : List LineStep) × HasDone receiver.line before) × All (λ step. IsTrue (is_step step)) steps.items × (receiver.line.report.arrived + arrival_count steps.items ≤ receiver.line.most) × (receiver.line.most ≤ (2 ^ 63 - length receiver.putter.sent) + receiver.line.handed) }
+            ensures { IfOk result (LineComes shared.entry.now steps.items receiver.line receiver.putter (list_seen seat)) }
+        {
+            line_thread(
+                rt,
+                shared,
+                gate,
+                start,
+                seat,
+                receiver,
+                steps.as_slice(),
+                phase,
+            )
+        },
     );
     match made {
         Ok(child) => Ok(child),

@@ -14,6 +14,7 @@ use crate::after_line::play_after_line;
 use crate::line::play_line;
 use crate::roles::{Role, move_on, roles_of};
 use flip_buffer::FlipIn;
+use line_steps::LineSteps;
 use port_core::Port;
 use std::alloc::Global;
 use tty_base::{LineStep, NoMemory};
@@ -39,14 +40,14 @@ pub fn scripts_of(session: &Session, k: usize) -> &[Script]
 }
 
 /// The steps of a port's line in a phase.
-pub fn steps_of(session: &Session, number: usize, k: usize) -> &[LineStep]
+pub fn steps_of(session: &Session, number: usize, k: usize) -> &LineSteps
     requires within { IsWithinLimits (session_of session.now) }
     requires phase { k < length (session_of session.now).phases }
     requires port { number < (session_of session.now).ports }
-    ensures line { result.now ≡ line_on number (phase_at (session_of session.now) k) }
-    ensures good { All (λ step. IsTrue (is_step step)) result.now }
+    ensures line { result.now.items ≡ line_on number (phase_at (session_of session.now) k) }
+    ensures good { All (λ step. IsTrue (is_step step)) result.now.items }
 {
-    session.phases.as_slice()[k].lines.as_slice()[number].as_slice()
+    &session.phases.as_slice()[k].lines.as_slice()[number]
 }
 
 /// The ticks of a port's clock in a phase.
@@ -122,12 +123,16 @@ pub(crate) fn play_phase(
         Ok(roles) => roles,
         Err(NoMemory) => return Err(Denied::NoMemory),
     };
+    let steps = match steps_of(session, number, k).written_out(alloc) {
+        Ok(steps) => steps,
+        Err(NoMemory) => return Err(Denied::NoMemory),
+    };
     let scripts = scripts_of(session, k);
     let next = play_parts(
         station,
         roles.as_slice(),
         scripts,
-        steps_of(session, number, k),
+        steps.as_slice(),
         ticks_of(session, number, k),
         run,
     )?;

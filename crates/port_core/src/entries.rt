@@ -4,14 +4,14 @@
 ghost use Rattle.std.specs.Prelude.{◌≡◌, ◌≤◌, ◌<◌, [], true, IfOk, IfErr, OnOk};
 ghost use Rattle.tty_calls.specs.declared.journals.Who.TheVariants.{Caller, Flusher};
 ghost use Rattle.tty_calls.specs.declared.journals.Event.TheVariants.{Flush};
-ghost use Rattle.tty_calls.specs.Plain.{call_of};
+ghost use Rattle.tty_calls.specs.Plain.{answer_of, answered, call_of, event_of};
 ghost use Rattle.tty_terminal.specs.Meeting.{IsAnswerRoom, IsRoomFor};
 ghost use Rattle.port_core.specs.Kept.{asked_after};
 
 use http_server::Log;
 use std::alloc::Global;
 use tty_base::{Chars, NoMemory};
-use tty_calls::{AnswerRoom, Call, Denied, Entry, Event, Journal, Who};
+use tty_calls::{Answer, AnswerRoom, Call, Denied, Entry, Event, Journal, Purge, Who};
 use tty_terminal::{ROOM_FOR_CALL, Room, Terminal};
 
 /// A caller's step.
@@ -107,6 +107,29 @@ pub(crate) fn trimmed(alloc: Global, chars: Chars) -> Chars
         Ok(exact) => exact,
         Err(NoMemory) => chars,
     }
+}
+
+/// A box for the entry of a call that drops characters, or notes that no memory is left.
+#[inline(never)]
+pub(crate) fn room_for_purge(alloc: Global, starved: &mut bool) -> Result<Box<Purge>, Denied>
+    ensures ok { OnOk result (starved.new ≡ starved.old) }
+    ensures err { IfErr result (λ d. (d ≡ Denied.NoMemory) × (starved.new ≡ true)) }
+{
+    let answer = Answer::Done;
+    let dropped = Chars::new(alloc);
+    match Box::new(alloc, Purge { answer, dropped }) {
+        Ok(room) => Ok(room),
+        Err(_) => Err(starve(starved)),
+    }
+}
+
+/// An answer and what was dropped with it, in a box that was made for them. It takes no memory.
+#[inline(never)]
+pub(crate) fn purge_into(mut room: Box<Purge>, answer: Answer, dropped: Chars) -> Event
+    ensures { event_of result ≡ answered (answer_of answer) dropped.items }
+{
+    *room = Purge { answer, dropped };
+    Event::Purge(room)
 }
 
 /// A copy of a call that begins to wait.

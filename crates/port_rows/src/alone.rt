@@ -7,8 +7,8 @@ use port_core::{Port, Tried};
 use std::alloc::{AllocError, Global};
 use std::marker::Model;
 use std::test::Fail;
-use tty_base::{Bytes, Counts, Errno, NoMemory};
-use tty_calls::{Access, Act, Answer, Call, Denied, Queue, When, Words};
+use tty_base::{Counts, Errno, NoMemory};
+use tty_calls::{Access, Act, Answer, Call, Denied, Queue, When};
 use tty_modes::{Modes, Word};
 
 /// A port for one caller in one phase.
@@ -87,10 +87,10 @@ fn is_same(one: &Answer, other: &Answer) -> bool {
 
 /// Each call at least once, and what it is answered after those before it.
 fn calls_and_answers(alloc: Global) -> Result<Vec<(Call, Answer)>, AllocError> {
-    let raw = Words::from_vec(vec![in alloc; Word::Raw]?);
-    let written = Bytes::from_vec(b"ab".to_vec(alloc)?);
-    let refused = Bytes::from_vec(b"c".to_vec(alloc)?);
-    let sent = Bytes::from_vec(b"c".to_vec(alloc)?);
+    let raw = vec![in alloc; Word::Raw]?;
+    let written = b"ab".to_vec(alloc)?;
+    let refused = b"c".to_vec(alloc)?;
+    let sent = b"c".to_vec(alloc)?;
     let counts = Box::new(alloc, Counts::default())?;
     Ok(vec![in alloc;
         (
@@ -157,7 +157,7 @@ fn calls_and_answers(alloc: Global) -> Result<Vec<(Call, Answer)>, AllocError> {
         (Call::SendPacket { h: 0, bytes: sent }, Answer::Done),
         (Call::TakePacket { h: 0 }, Answer::Refused(Errno::EAGAIN)),
         (Call::Vhangup { h: 0 }, Answer::Done),
-        (Call::Read { h: 0, n: 8 }, Answer::Got(Bytes::new(alloc))),
+        (Call::Read { h: 0, n: 8 }, Answer::Got(Vec::new(alloc))),
         (Call::Close { h: 0 }, Answer::Done),
     ]?)
 }

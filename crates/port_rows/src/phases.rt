@@ -4,6 +4,7 @@ ghost use Rattle.tty_calls.specs.Limits.{IsWithinLimits};
 ghost use Rattle.tty_calls.specs.Sessions.{session_of, phase_of};
 
 use arrayvec::ArrayString;
+use line_steps::LineSteps;
 use many_threads::play;
 use std::alloc::Global;
 use std::test::Fail;
@@ -16,7 +17,7 @@ use tty_port::OpenGate;
 fn phase_of(
     alloc: Global,
     name: ArrayString<16>,
-    steps: Vec<LineStep>,
+    steps: LineSteps,
     calls: Vec<Call>,
 ) -> Result<Phase, NoMemory>
     ensures { IfOk result (λ phase. phase_of phase ≡ record { lines = steps.items ∷ []; ticks = 0 ∷ []; callers = record { port = 0; name = name.bytes; calls = map call_of calls.items } ∷ [] }) }
@@ -27,7 +28,7 @@ fn phase_of(
         calls: Buffer::from_vec(calls),
     };
     Ok(Phase {
-        lines: Buffer::from_vec(vec![in alloc; Buffer::from_vec(steps)]?),
+        lines: Buffer::from_vec(vec![in alloc; steps]?),
         ticks: Buffer::from_vec(vec![in alloc; 0]?),
         callers: Buffer::from_vec(vec![in alloc; script]?),
     })
@@ -40,6 +41,17 @@ fn rx(byte: u8) -> LineStep
         byte,
         flag: Flag::Normal,
     })
+}
+
+/// Three characters arrive.
+fn three_steps(alloc: Global) -> Result<LineSteps, NoMemory>
+    ensures { IfOk result (λ steps. steps.items ≡ map (λ byte. LineStep.Rx (record { byte = byte; flag = Flag.Normal })) (104 ∷ 105 ∷ 10 ∷ [])) }
+{
+    let mut steps = LineSteps::new(alloc);
+    steps.add(rx(0x68))?;
+    steps.add(rx(0x69))?;
+    steps.add(rx(0x0a))?;
+    Ok(steps)
 }
 
 /// A caller opens the port; then three characters arrive; then the caller reads them and closes the port.
@@ -55,13 +67,17 @@ fn three_bytes(alloc: Global) -> Result<Session, NoMemory>
     let raw = Call::SetModes {
         h: 0,
         when: When::Now,
-        words: Buffer::from_vec(vec![in alloc; Word::Raw]?),
+        words: vec![in alloc; Word::Raw]?,
     };
-    let opens = phase_of(alloc, name, Vec::new(alloc), vec![in alloc; open, raw]?)?;
-    let steps = vec![in alloc; rx(0x68), rx(0x69), rx(0x0a)]?;
-    let arrives = phase_of(alloc, name, steps, Vec::new(alloc))?;
+    let opens = phase_of(
+        alloc,
+        name,
+        LineSteps::new(alloc),
+        vec![in alloc; open, raw]?,
+    )?;
+    let arrives = phase_of(alloc, name, three_steps(alloc)?, Vec::new(alloc))?;
     let calls = vec![in alloc; Call::Read { h: 0, n: 64 }, Call::Close { h: 0 }]?;
-    let reads = phase_of(alloc, name, Vec::new(alloc), calls)?;
+    let reads = phase_of(alloc, name, LineSteps::new(alloc), calls)?;
     Ok(Session {
         version: 1,
         ports: 1,
@@ -74,8 +90,10 @@ fn three_bytes(alloc: Global) -> Result<Session, NoMemory>
 fn answer_at(entries: &[Entry], step: u32) -> Option<&Answer> {
     for entry in entries {
         if entry.who == Who::Caller(0) && entry.step == step {
-            if let Event::Answer(answer, _) = &entry.event {
-                return Some(answer);
+            match &entry.event {
+                Event::Answer(answer) => return Some(answer),
+                Event::Purge(purge) => return Some(&purge.answer),
+                _ => {}
             }
         }
     }

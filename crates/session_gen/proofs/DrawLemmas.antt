@@ -1,7 +1,7 @@
 -- One draw more, and one line more.
 use Rattle.std.proofs.Common.{◌≡◌, ℕ, refl, ◌+◌, ◌*◌, map, List, [], ◌∷◌, ◌++◌, sym, ap, ◌∙◌, arith, add-one}
 use Rattle.std.specs.List.{range_with_len}
-use Rattle.tty_base.specs.Contents.{Contents}
+use Rattle.line_steps.specs.declared.LineSteps.{LineSteps}
 use Rattle.std.proofs.lemmas.List.FromFn.{map-range_with_len_more}
 use Rattle.tty_base.specs.declared.lines.LineStep.{LineStep}
 use Rattle.session_gen.proofs.ListLemmas.{map-more}
@@ -42,14 +42,14 @@ IsBegun-more seed first count number next line begun e =
 
 -- ---- the lines of several ports
 
-pub record AreBegun (seed first count number : ℕ) (lines : List (Contents LineStep)) : Type 0 where
+pub record AreBegun (seed first count number : ℕ) (lines : List LineSteps) : Type 0 where
   pub number_is : number ≡ number_after seed (first + 4000 * count)
   pub lines_are : map (λ line. line.items) lines ≡ map (λ port. drawn_line seed (first + 4000 * port) 4000) (range_with_len 0 count)
 
 pub AreBegun-none : (seed first number : ℕ) → number ≡ number_after seed first → AreBegun seed first 0 number []
 AreBegun-none seed first number e = record { number_is = e ∙ ap (number_after seed) (omega arith); lines_are = refl }
 
-pub AreBegun-more : (seed first count number next : ℕ) (lines : List (Contents LineStep)) (line : Contents LineStep)
+pub AreBegun-more : (seed first count number next : ℕ) (lines : List LineSteps) (line : LineSteps)
     → AreBegun seed first count number lines
     → ((seed first : ℕ) → number ≡ number_after seed first → line.items ≡ drawn_line seed first 4000)
     → ((seed first : ℕ) → number ≡ number_after seed first → next ≡ number_after seed (first + 4000))
@@ -58,6 +58,6 @@ AreBegun-more seed first count number next lines line begun drawn after =
     let items : line.items ≡ drawn_line seed (first + 4000 * count) 4000 = drawn seed (first + 4000 * count) begun.number_is in
     record {
       number_is = after seed (first + 4000 * count) begun.number_is ∙ ap (number_after seed) (omega arith);
-      lines_are = map-more (λ (line : Contents LineStep). line.items) (λ port. drawn_line seed (first + 4000 * port) 4000) 0 count count lines line
+      lines_are = map-more (λ (line : LineSteps). line.items) (λ port. drawn_line seed (first + 4000 * port) 4000) 0 count count lines line
           (omega arith) begun.lines_are items;
     }

@@ -9,8 +9,9 @@ ghost use Rattle.session_gen.specs.Generated.{opening_calls, opening_phase, read
 
 use crate::draws::draw_line;
 use arrayvec::ArrayString;
+use line_steps::LineSteps;
 use std::alloc::Global;
-use tty_base::{Buffer, LineStep, NoMemory};
+use tty_base::{Buffer, NoMemory};
 use tty_calls::{Access, Call, Phase, Script, Session, When};
 use tty_modes::Word;
 
@@ -64,7 +65,7 @@ fn first_phase(alloc: Global) -> Result<Phase, NoMemory>
     let mut callers = Buffer::new(alloc);
     callers.reserve(usize::from(PORTS))?;
     for port in 0..PORTS {
-        lines.add(Buffer::new(alloc));
+        lines.add(LineSteps::new(alloc));
         callers.add(script(port, calls_to_open(alloc)?));
     }
     Ok(Phase {
@@ -89,7 +90,7 @@ fn later_phase(alloc: Global, number: u32, phase: u8, drawn: &mut u32) -> Result
 }
 
 /// A drawn line for each port.
-fn draw_lines(alloc: Global, drawn: &mut u32) -> Result<Buffer<Buffer<LineStep>>, NoMemory>
+fn draw_lines(alloc: Global, drawn: &mut u32) -> Result<Buffer<LineSteps>, NoMemory>
     ensures lines { IfOk result (λ lines. (seed first : ℕ) → drawn.old ≡ number_after seed first
         → map (λ line. line.items) lines.items ≡ map (λ port. drawn_line seed (first + 4000 * port) 4000) (range_with_len 0 4)) }
     ensures after { OnOk result ((seed first : ℕ) → drawn.old ≡ number_after seed first → drawn.new ≡ number_after seed (first + 16000)) }
@@ -139,9 +140,7 @@ fn script(port: u8, calls: Buffer<Call>) -> Script
 fn calls_to_open(alloc: Global) -> Result<Buffer<Call>, NoMemory>
     ensures { IfOk result (λ calls. map call_of calls.items ≡ opening_calls) }
 {
-    let mut words = Buffer::new(alloc);
-    words.reserve(1)?;
-    words.add(Word::Raw);
+    let words = vec![in alloc; Word::Raw]?;
     let mut calls = Buffer::new(alloc);
     calls.reserve(2)?;
     calls.add(Call::Open {

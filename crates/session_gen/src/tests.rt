@@ -1,12 +1,13 @@
 use crate::make;
+use std::alloc::Global;
 use std::test::Fail;
 use tty_base::{Flag, Flagged, LineStep};
 use tty_calls::Phase;
 
 /// The first byte of a port's line.
-fn first_byte(phase: &Phase, port: usize) -> Option<u8> {
+fn first_byte(alloc: Global, phase: &Phase, port: usize) -> Option<u8> {
     let line = phase.lines.as_slice().get(port)?;
-    match line.as_slice().first() {
+    match line.written_out(alloc).ok()?.first() {
         Some(
             LineStep::Rx(
                 Flagged {
@@ -26,13 +27,14 @@ fn the_first_bytes_of_some_numbers(rt: HostRuntime) -> Result<(), Fail> {
         (7, 0x3d, 0x16, 0x5d),
         (4_294_967_295, 0x3c, 0x69, 0x1b),
     ];
+    let alloc = rt.alloc();
     for (number, first, next_port, next_phase) in rows {
-        let session = make(rt.alloc(), number)?;
+        let session = make(alloc, number)?;
         match session.phases.as_slice() {
             [_, a, b, ..] => {
-                assert_eq!(rt; first_byte(a, 0), Some(first));
-                assert_eq!(rt; first_byte(a, 1), Some(next_port));
-                assert_eq!(rt; first_byte(b, 0), Some(next_phase));
+                assert_eq!(rt; first_byte(alloc, a, 0), Some(first));
+                assert_eq!(rt; first_byte(alloc, a, 1), Some(next_port));
+                assert_eq!(rt; first_byte(alloc, b, 0), Some(next_phase));
             }
             _ => assert!(rt; false),
         }

@@ -1,17 +1,18 @@
 -- The answers of a journal, entry by entry.
-use Rattle.std.proofs.Common.{◌≡◌, inl, inr, ℕ, Bool, true, false, ◌==◌, ◌&&◌, List, [], ◌∷◌, ◌++◌, Option, None, Some, ◌+◌, ◌<◌, length, take, get_or, map, set, refl, sym, ap, ◌∙◌, cond}
-use Rattle.std.specs.Option.{option_map, option_or}
-use denote.Ref.{Bor}
+use Rattle.std.proofs.Common.{◌≡◌, inl, inr, ℕ, Bool, true, false, ◌==◌, ◌&&◌, List, [], ◌∷◌, ◌++◌, Option, None, Some, ◌+◌, ◌-◌, ◌<◌, IsSome, arith, slice_get, length, take, get_or, map, set, refl, sym, ap, ◌∙◌, cond, sum_by}
+use Rattle.std.specs.Option.{option_and_then, option_or}
 use Rattle.std.proofs.lemmas.Bool.{cases_eq, eq-eqb, ne_eqb}
 use Rattle.std.proofs.lemmas.Grind.{get_or-set_at}
 use Rattle.std.proofs.lemmas.List.{get_or-map, get_or-set_other, length-map, map-set, take_more}
-use Rattle.tty_calls.specs.declared.answers.Answer.{Answer}
+use Rattle.std.proofs.lemmas.Option.{slice_get_read}
+use Rattle.std.proofs.lemmas.List.Sums.{sum_by_push}
 use Rattle.tty_calls.specs.declared.journals.Entry.{Entry}
-use Rattle.tty_calls.specs.Plain.{PlainAnswer, PlainEntry, entry_of, entries_of}
-use Rattle.session_print.specs.declared.answers.Answers.{Answers}
-use Rattle.session_print.specs.declared.answers.Turn.{Turn}
-use Rattle.session_print.specs.Report.{answer_by, answer_in}
-use Rattle.session_print.specs.Printing.{noted_answer, entry_answer}
+use Rattle.tty_calls.specs.Plain.{PlainAnswer, PlainEntry, PlainEvent, entry_of, event_of, entries_of}
+use Rattle.session_print.specs.declared.places.Place.{Place}
+use Rattle.session_print.specs.declared.places.Places.{Places}
+use Rattle.session_print.specs.declared.places.Turn.{Turn}
+use Rattle.session_print.specs.Report.{answer_by, answer_in, answer_of_event}
+use Rattle.session_print.specs.Printing.{same_turn, place_in, answer_at, entry_answer}
 
 or_none : (o : Option PlainAnswer) → o ≡ option_or o None
 or_none None = refl
@@ -30,57 +31,101 @@ entries_more : (es : List Entry) (e : Entry) → entries_of (es ++ e ∷ []) ≡
 entries_more [] e = refl
 entries_more (x ∷ xs) e = ap (λ ys. entry_of x ∷ ys) (entries_more xs e)
 
+-- the entries so far, and one more
+entries_to : (es : List Entry) (i : ℕ) (e : Entry) → i < length es → e ≡ get_or es i e → entries_of (take (i + 1) es) ≡ entries_of (take i es) ++ entry_of e ∷ []
+entries_to es i e h at =
+    ap entries_of (take_more es i e h)
+    ∙ ap (λ x. entries_of (take i es ++ x ∷ [])) (sym at)
+    ∙ entries_more (take i es) e
+
 one_more : (es : List Entry) (i : ℕ) (e : Entry) (c step : ℕ) → i < length es → e ≡ get_or es i e → answer_in (entries_of (take (i + 1) es)) c step ≡ option_or (answer_by (entry_of e) c step) (answer_in (entries_of (take i es)) c step)
 one_more es i e c step h at =
-    ap (λ xs. answer_in (entries_of xs) c step) (take_more es i e h)
-    ∙ ap (λ x. answer_in (entries_of (take i es ++ x ∷ [])) c step) (sym at)
-    ∙ ap (λ xs. answer_in xs c step) (entries_more (take i es) e)
+    ap (λ xs. answer_in xs c step) (entries_to es i e h at)
     ∙ answer_more (entries_of (take i es)) (entry_of e) c step
 
-merged : {X : Type 0} (f : X → PlainAnswer) (b : Bool) (a : X) (g : Option X) → option_map f (cond b (Some a) g) ≡ option_or (cond b (Some (f a)) None) (option_map f g)
-merged f true a g = refl
-merged f false a g = refl
+-- what an event counts for, added to the sum so far
+pub sum_more : (f : PlainEvent → ℕ) (es : List Entry) (i : ℕ) (e : Entry) (new old : ℕ) → i < length es → e ≡ get_or es i e → new ≡ old + f (event_of e.event)
+    → old ≡ sum_by (λ x. f x.event) (entries_of (take i es)) → new ≡ sum_by (λ x. f x.event) (entries_of (take (i + 1) es))
+sum_more f es i e new old h at more before =
+    more
+    ∙ ap (λ n. n + f (event_of e.event)) before
+    ∙ sym (sum_by_push (λ x. f x.event) (entries_of (take i es)) (entry_of e))
+    ∙ ap (sum_by (λ x. f x.event)) (sym (entries_to es i e h at))
 
--- one more entry, and what it answers noted
-pub told_more : (old new : Answers) (es : List Entry) (i : ℕ) (e : Entry) (told : Option (Turn × Bor Answer)) → i < length es → e ≡ get_or es i e
-    → ((c step : ℕ) → entry_answer told c step ≡ answer_by (entry_of e) c step)
-    → ((c step : ℕ) → noted_answer new c step ≡ option_or (entry_answer told c step) (noted_answer old c step))
-    → ((c step : ℕ) → noted_answer old c step ≡ answer_in (entries_of (take i es)) c step)
-    → (c step : ℕ) → noted_answer new c step ≡ answer_in (entries_of (take (i + 1) es)) c step
-told_more old new es i e told h at by noted before c step =
-    noted c step
-    ∙ ap (λ o. option_or (entry_answer told c step) o) (before c step)
+merged : {X : Type 0} (told : X → Option PlainAnswer) (b : Bool) (a g : X) (x : PlainAnswer) → told a ≡ Some x → told (cond b a g) ≡ option_or (cond b (told a) None) (told g)
+merged told true a g x is = is ∙ sym (ap (λ o. option_or o (told g)) is)
+merged told false a g x is = refl
+
+-- the place of the entry that comes next
+answer_next : (es : List Entry) (i : ℕ) (e : Entry) (place : Place) → i < length es → e ≡ get_or es i e → place.after ≡ i + 1 → answer_at es place ≡ answer_of_event (event_of e.event)
+answer_next es i e place h at after =
+    let later : (place.after == 0) ≡ false = ne_eqb place.after 0 (λ none. omega (arith, after, none)) in
+    let before : place.after - 1 ≡ i = omega (arith, after) in
+    let told : Option Entry → Option PlainAnswer = option_and_then (λ x. answer_of_event (event_of x.event)) in
+    ap (λ b. told (cond b None (slice_get es (place.after - 1)))) later
+    ∙ ap (λ n. told (slice_get es n)) before
+    ∙ ap told (slice_get_read es (length es) i e refl h at)
+
+value_of : (o : Option PlainAnswer) → IsSome o → (x : PlainAnswer) × (o ≡ Some x)
+value_of None h = absurd (cc)
+value_of (Some x) h = (x, refl)
+
+-- one more entry, and its place noted
+pub told_more : (old new : Places) (es : List Entry) (i : ℕ) (e : Entry) (turn : Turn) (place : Place) → i < length es → e ≡ get_or es i e → place.after ≡ i + 1
+    → ((c step : ℕ) → entry_answer (Some turn) (entry_of e) c step ≡ answer_by (entry_of e) c step)
+    → IsSome (answer_of_event (event_of e.event))
+    → ((c step : ℕ) → place_in new c step ≡ cond (same_turn turn (record { caller = c; step = step })) place (place_in old c step))
+    → ((c step : ℕ) → answer_at es (place_in old c step) ≡ answer_in (entries_of (take i es)) c step)
+    → (c step : ℕ) → answer_at es (place_in new c step) ≡ answer_in (entries_of (take (i + 1) es)) c step
+told_more old new es i e turn place h at after by answers noted before c step =
+    let here : Bool = same_turn turn (record { caller = c; step = step }) in
+    let next : answer_at es place ≡ answer_of_event (event_of e.event) = answer_next es i e place h at after in
+    let rest : Option PlainAnswer = answer_at es (place_in old c step) in
+    let answer = value_of (answer_of_event (event_of e.event)) answers in
+    ap (answer_at es) (noted c step)
+    ∙ merged (answer_at es) here place (place_in old c step) answer.0 (next ∙ answer.1)
+    ∙ ap (λ o. option_or (cond here o None) rest) next
+    ∙ ap (λ o. option_or o rest) (by c step)
+    ∙ ap (option_or (answer_by (entry_of e) c step)) (before c step)
+    ∙ sym (one_more es i e c step h at)
+
+-- one more entry, which answers nothing
+pub told_same : (places : Places) (es : List Entry) (i : ℕ) (e : Entry) → i < length es → e ≡ get_or es i e
+    → ((c step : ℕ) → entry_answer None (entry_of e) c step ≡ answer_by (entry_of e) c step)
+    → ((c step : ℕ) → answer_at es (place_in places c step) ≡ answer_in (entries_of (take i es)) c step)
+    → (c step : ℕ) → answer_at es (place_in places c step) ≡ answer_in (entries_of (take (i + 1) es)) c step
+told_same places es i e h at by before c step =
+    before c step
     ∙ ap (λ o. option_or o (answer_in (entries_of (take i es)) c step)) (by c step)
     ∙ sym (one_more es i e c step h at)
 
 -- a place of a row written over, among rows
-row_over : {X : Type 0} (rows : List (List (Option X))) (row : List (Option X)) (caller step c k : ℕ) (a : X) → caller < length rows
-    → ((place : ℕ) → get_or row place None ≡ cond (step == place) (Some a) (get_or (get_or rows caller []) place None))
-    → get_or (get_or (set rows caller row) c []) k None ≡ cond ((caller == c) && (step == k)) (Some a) (get_or (get_or rows c []) k None)
-row_over {X = X} rows row caller step c k a within is =
-    let there : ℕ → Option X = λ n. get_or (get_or rows n []) k None in
+row_over : {X : Type 0} (rows : List (List X)) (row : List X) (caller step c k : ℕ) (a none : X) → caller < length rows
+    → ((at : ℕ) → get_or row at none ≡ cond (step == at) a (get_or (get_or rows caller []) at none))
+    → get_or (get_or (set rows caller row) c []) k none ≡ cond ((caller == c) && (step == k)) a (get_or (get_or rows c []) k none)
+row_over {X = X} rows row caller step c k a none within is =
+    let there : ℕ → X = λ n. get_or (get_or rows n []) k none in
     elim (cases_eq caller c) [
       | inl same ↦
-          ap (λ r. get_or r k None) (get_or-set_at rows caller c row [] (sym same) within)
+          ap (λ r. get_or r k none) (get_or-set_at rows caller c row [] (sym same) within)
           ∙ is k
-          ∙ ap (λ n. cond (step == k) (Some a) (there n)) same
-          ∙ ap (λ b. cond (b && (step == k)) (Some a) (there c)) (sym (eq-eqb caller c same))
+          ∙ ap (λ n. cond (step == k) a (there n)) same
+          ∙ ap (λ b. cond (b && (step == k)) a (there c)) (sym (eq-eqb caller c same))
       | inr other ↦
-          ap (λ r. get_or r k None) (get_or-set_other rows caller c row [] (λ e. other (sym e)))
-          ∙ ap (λ b. cond (b && (step == k)) (Some a) (there c)) (sym (ne_eqb caller c other))
+          ap (λ r. get_or r k none) (get_or-set_other rows caller c row [] (λ e. other (sym e)))
+          ∙ ap (λ b. cond (b && (step == k)) a (there c)) (sym (ne_eqb caller c other))
     ]
 
--- an answer noted in its caller's row
-pub row_noted : {V X : Type 0} (items : V → List (Option X)) (told : X → PlainAnswer) (before rows : List V) (old new : V) (caller at_step : ℕ) (a : X) → caller < length rows
+-- a place noted in its caller's row
+pub row_noted : {V X : Type 0} (items : V → List X) (before rows : List V) (old new : V) (caller at_step : ℕ) (a none : X) → caller < length rows
     → ((c : ℕ) → get_or (map items rows) c [] ≡ get_or (map items before) c [])
     → old ≡ get_or rows caller old
-    → ((place : ℕ) → get_or (items new) place None ≡ cond (at_step == place) (Some a) (get_or (items old) place None))
-    → (c step : ℕ) → option_map told (get_or (get_or (map items (set rows caller new)) c []) step None)
-    ≡ option_or (cond ((caller == c) && (at_step == step)) (Some (told a)) None) (option_map told (get_or (get_or (map items before) c []) step None))
-row_noted items told before rows old new caller at_step a within longer is put c step =
+    → ((at : ℕ) → get_or (items new) at none ≡ cond (at_step == at) a (get_or (items old) at none))
+    → (c step : ℕ) → get_or (get_or (map items (set rows caller new)) c []) step none
+    ≡ cond ((caller == c) && (at_step == step)) a (get_or (get_or (map items before) c []) step none)
+row_noted items before rows old new caller at_step a none within longer is put c step =
     let here : Bool = (caller == c) && (at_step == step) in
     let row : items old ≡ get_or (map items rows) caller [] = ap items is ∙ sym (get_or-map items rows caller old [] within) in
-    ap (λ rs. option_map told (get_or (get_or rs c []) step None)) (map-set items rows caller new)
-    ∙ ap (option_map told) (row_over (map items rows) (items new) caller at_step c step a (rw length-map within) (λ place. put place ∙ ap (λ r. cond (at_step == place) (Some a) (get_or r place None)) row))
-    ∙ ap (λ r. option_map told (cond here (Some a) (get_or r step None))) (longer c)
-    ∙ merged told here a (get_or (get_or (map items before) c []) step None)
+    ap (λ rs. get_or (get_or rs c []) step none) (map-set items rows caller new)
+    ∙ row_over (map items rows) (items new) caller at_step c step a none (rw length-map within) (λ at. put at ∙ ap (λ r. cond (at_step == at) a (get_or r at none)) row)
+    ∙ ap (λ r. cond here a (get_or r step none)) (longer c)

@@ -1,34 +1,61 @@
 -- How the printer goes on: for private functions alone.
-use Rattle.std.specs.Prelude.{ℕ, List, [], ◌∷◌, ◌++◌, ◌+◌, ◌/◌, nat_lt, Option, None, Some, Bool, ◌&&◌, ◌==◌, if◌then◌else◌, codes, decimal, filter, flat_map, length, map, slice_index, slice_index_or, slice_set}
+use Rattle.std.specs.Prelude.{ℕ, List, [], ◌∷◌, ◌++◌, ◌+◌, ◌-◌, ◌/◌, nat_lt, Option, None, Some, Bool, ◌&&◌, ◌==◌, if◌then◌else◌, codes, decimal, filter, flat_map, length, map, slice_get, slice_index, slice_index_or, slice_set}
 use Rattle.std.specs.List.{range_with_len}
-use Rattle.std.specs.Option.{option_map}
-use denote.Ref.{Bor}
+use Rattle.std.specs.Option.{option_and_then}
 use Rattle.tty_modes.specs.Names.{flag_names}
 use Rattle.tty_modes.specs.Settings.{Settings, has_flag, character}
 use Rattle.tty_modes.specs.Word.{word_text}
 use Rattle.tty_modes.specs.declared.words.Word.TheVariants.{Cc}
-use Rattle.tty_calls.specs.declared.answers.Answer.{Answer}
+use Rattle.tty_calls.specs.declared.journals.Entry.{Entry}
+use Rattle.tty_calls.specs.declared.journals.PortRun.{PortRun}
 use Rattle.tty_calls.specs.declared.sessions.Script.{Script}
-use Rattle.tty_calls.specs.Plain.{PlainCall, PlainAnswer, answer_of}
+use Rattle.tty_calls.specs.Plain.{PlainCall, PlainAnswer, PlainEntry, event_of, entries_of}
 use Rattle.tty_calls.specs.Sessions.{PlainScript, script_of, number_in}
 use Rattle.session_print.specs.Words.{verb_of, answer_text}
-use Rattle.session_print.specs.Lines.{newline}
-use Rattle.session_print.specs.Report.{Told, told_from}
+use Rattle.session_print.specs.Lines.{newline, flushed_count, dropped_count}
+use Rattle.session_print.specs.Report.{Told, told_from, answer_of_event}
 use Rattle.session_print.specs.declared.answers.Answers.{Answers}
-use Rattle.session_print.specs.declared.answers.Turn.{Turn}
+use Rattle.session_print.specs.declared.places.Place.{Place}
+use Rattle.session_print.specs.declared.places.Places.{Places}
+use Rattle.session_print.specs.declared.places.Turn.{Turn}
+use Rattle.session_print.specs.declared.sums.Sums.{Sums}
 
 abbrev pub same_turn : Turn → Turn → Bool
 same_turn a b = (a.caller == b.caller) && (a.step == b.step)
 
--- the answer of a caller and step: what stands at its place in the caller's row
-abbrev pub noted_answer : Answers → ℕ → ℕ → Option PlainAnswer
-noted_answer answers c step =
-    option_map (λ a. answer_of a.now) (slice_index_or (slice_index_or (map (λ row. row.items) answers.rows.items) c []) step None)
+-- the place of no entry; and the place of a caller and step: what stands in the caller's row
+abbrev pub no_place : Place
+no_place = record { after = 0 }
 
--- what an entry answers to a caller's step
-abbrev pub entry_answer : Option (Turn × Bor Answer) → ℕ → ℕ → Option PlainAnswer
-entry_answer None c step = None
-entry_answer (Some answer) c step = if same_turn answer.0 (record { caller = c; step = step }) then Some (answer_of answer.1.now) else None
+abbrev pub place_in : Places → ℕ → ℕ → Place
+place_in places c step = slice_index_or (slice_index_or (map (λ row. row.items) places.rows.items) c []) step no_place
+
+-- the entry at a place of a journal, and what it answers
+abbrev pub entry_at : List Entry → Place → Option Entry
+entry_at es place = if place.after == 0 then None else slice_get es (place.after - 1)
+
+abbrev pub answer_at : List Entry → Place → Option PlainAnswer
+answer_at es place = option_and_then (λ e. answer_of_event (event_of e.event)) (entry_at es place)
+
+-- the answer to a caller's step
+abbrev pub noted_answer : Answers → ℕ → ℕ → Option PlainAnswer
+noted_answer answers c step = answer_at answers.entries.now (place_in answers.places c step)
+
+-- what an entry answers to a caller's step, where it answers this turn
+abbrev pub entry_answer : Option Turn → PlainEntry → ℕ → ℕ → Option PlainAnswer
+entry_answer None e c step = None
+entry_answer (Some turn) e c step = if same_turn turn (record { caller = c; step = step }) then answer_of_event e.event else None
+
+-- what a journal flushes, and what is dropped with its entries; and the line that tells both
+abbrev pub sums_of : List PlainEntry → Sums
+sums_of es = record { flushed = flushed_count es; dropped = dropped_count es }
+
+abbrev pub sums_on : PortRun → Sums
+sums_on run = sums_of (entries_of run.journal.items)
+
+abbrev pub sums_line : ℕ → Sums → List ℕ
+sums_line p sums =
+    codes "port " ++ (decimal p ++ (codes " input taken=" ++ (decimal sums.flushed ++ (codes " dropped=" ++ (decimal sums.dropped ++ newline)))))
 
 -- what the line of a call begins with, and how it goes on
 abbrev pub call_head : ℕ → List ℕ → List ℕ

@@ -1,109 +1,91 @@
-ghost use Rattle.std.specs.Prelude.{◌≡◌, ℕ, None, Some, IfOk, OnOk, if◌then◌else◌, ◌==◌, slice_index_or};
-ghost use Rattle.std.specs.Option.{option_map, option_or};
-ghost use Rattle.tty_calls.specs.Plain.{answer_of as plain_answer, entry_of, entries_of};
-ghost use Rattle.session_print.specs.Report.{answer_in, answer_by};
-ghost use Rattle.session_print.specs.Printing.{noted_answer, entry_answer};
+ghost use Rattle.std.specs.Prelude.{◌≡◌, ℕ, IfOk, IfSome, IsSome};
+ghost use Rattle.std.specs.Option.{option_map};
+ghost use Rattle.tty_calls.specs.Plain.{answer_of, entry_of, event_of, entries_of};
+ghost use Rattle.session_print.specs.Report.{answer_in, answer_by, answer_of_event};
+ghost use Rattle.session_print.specs.Printing.{noted_answer, entry_answer, sums_of};
 
-use std::alloc::{AllocError, Global};
+use super::places::{Place, Places, Turn};
+use super::sums::Sums;
+use std::alloc::Global;
 use tty_base::NoMemory;
 use tty_calls::{Answer, Entry, Event, Who};
 
-/// A step of a caller: the caller's number, and the number of the step.
-#[derive(Clone, Copy)]
-pub(crate) struct Turn {
-    pub(crate) caller: usize,
-    pub(crate) step: usize,
-}
-
-/// The answers of a journal: for each caller a row, with a place for each step. Of a run these are no
-/// more places than its session has calls.
+/// The answers of a journal: its entries, and for each turn the place of the entry that answers it.
 #[derive(Drop)]
 pub(crate) struct Answers<'a> {
-    rows: Vec<Vec<Option<&'a Answer>>>,
+    entries: &'a [Entry],
+    places: Places,
 }
 
 impl<'a> Answers<'a> {
     /// The answer to a turn.
     #[inline(always)]
     pub(crate) fn get(&self, turn: Turn) -> Option<&'a Answer>
-        ensures { option_map (λ a. plain_answer a.now) result ≡ noted_answer self.now turn.caller turn.step }
+        ensures { option_map (λ a. answer_of a.now) result ≡ noted_answer self.now turn.caller turn.step }
     {
-        let row = self.rows.get(turn.caller)?;
-        row.get(turn.step).copied().flatten()
-    }
-
-    /// Notes the answer to a turn in place of an earlier one.
-    #[inline(always)]
-    fn note(&mut self, alloc: Global, turn: Turn, answer: &'a Answer) -> Result<(), AllocError>
-        ensures { OnOk result ((c step : ℕ) → noted_answer self.new c step ≡ option_or (entry_answer (Some (turn, answer.entry)) c step) (noted_answer self.old c step)) }
-    {
-        while self.rows.len() <= turn.caller {
-            self.rows.push(Vec::new(alloc))?;
-        }
-        put_at(&mut self.rows[turn.caller], turn.step, answer)
+        let entry = self.places.get(turn).entry(self.entries)?;
+        answer_to(&entry.event)
     }
 }
 
-/// The answers of a journal by caller and step.
-pub(crate) fn answers_of(alloc: Global, entries: &[Entry]) -> Result<Answers<'_>, NoMemory>
-    ensures { IfOk result (λ answers. (c step : ℕ) → noted_answer answers c step ≡ answer_in (entries_of entries.now) c step) }
+/// What one walk over a journal gives: its answers, and its sums.
+#[derive(Drop)]
+pub(crate) struct Walked<'a> {
+    pub(crate) answers: Answers<'a>,
+    pub(crate) sums: Sums,
+}
+
+/// Walks over a journal. It is large, and is waited for: so it is walked once for all that a report
+/// says of it. More entries than can be counted are want of memory.
+pub(crate) fn walk(alloc: Global, entries: &[Entry]) -> Result<Walked<'_>, NoMemory>
+    ensures answers { IfOk result (λ walked. (c step : ℕ) → noted_answer walked.answers c step ≡ answer_in (entries_of entries.now) c step) }
+    ensures sums { IfOk result (λ walked. walked.sums ≡ sums_of (entries_of entries.now)) }
 {
-    let mut answers = Answers {
-        rows: Vec::new(alloc),
+    if entries.len() > u32::MAX as usize {
+        return Err(NoMemory);
+    }
+    let mut places = Places::new(alloc);
+    let mut sums = Sums {
+        flushed: 0,
+        dropped: 0,
     };
-    for entry in entries {
-        if let Some((turn, answer)) = answer_of(entry) {
-            answers.note(alloc, turn, answer)?;
-        }
-    }
-    Ok(answers)
-}
-
-/// Puts an answer at its step in a row. The answers of a run come step by step, each at the row's end.
-#[inline(always)]
-fn put_at<'a>(
-    row: &mut Vec<Option<&'a Answer>>,
-    step: usize,
-    answer: &'a Answer,
-) -> Result<(), AllocError>
-    ensures { OnOk result ((place : ℕ) → slice_index_or row.new.items place None ≡ if step == place then Some answer.entry else slice_index_or row.old.items place None) }
-{
-    if step == row.len() && step < row.capacity() {
-        row.push_reserved(Some(answer));
-        return Ok(());
-    }
-    put_anywhere(row, step, answer)
-}
-
-/// Puts an answer at its step in a row, which is made longer where it is too short.
-#[inline(never)]
-fn put_anywhere<'a>(
-    row: &mut Vec<Option<&'a Answer>>,
-    step: usize,
-    answer: &'a Answer,
-) -> Result<(), AllocError>
-    ensures { OnOk result ((place : ℕ) → slice_index_or row.new.items place None ≡ if step == place then Some answer.entry else slice_index_or row.old.items place None) }
-{
-    while row.len() <= step {
-        row.push(None)?;
-    }
-    row[step] = Some(answer);
-    Ok(())
-}
-
-/// What an entry answers, and to which step.
-#[inline(always)]
-fn answer_of(entry: &Entry) -> Option<(Turn, &Answer)>
-    ensures { (c step : ℕ) → entry_answer result c step ≡ answer_by (entry_of entry.now) c step }
-{
-    match (entry.who, &entry.event) {
-        (Who::Caller(caller), Event::Answer(answer, _)) => {
-            let turn = Turn {
-                caller: usize::from(caller),
-                step: entry.step as usize,
+    for (index, entry) in entries.iter().enumerate() {
+        sums.add(&entry.event)?;
+        if let Some(turn) = turn_of(entry) {
+            let place = Place {
+                after: index as u32 + 1,
             };
-            Some((turn, answer))
+            places.note(alloc, turn, place)?;
         }
+    }
+    let answers = Answers { entries, places };
+    Ok(Walked { answers, sums })
+}
+
+/// The turn that an entry answers.
+#[inline(always)]
+fn turn_of(entry: &Entry) -> Option<Turn>
+    ensures turn { (c step : ℕ) → entry_answer result (entry_of entry.now) c step ≡ answer_by (entry_of entry.now) c step }
+    ensures answer { IfSome result (λ turn. IsSome (answer_of_event (entry_of entry.now).event)) }
+{
+    let Who::Caller(caller) = entry.who else {
+        return None;
+    };
+    answer_to(&entry.event)?;
+    Some(Turn {
+        caller: usize::from(caller),
+        step: entry.step as usize,
+    })
+}
+
+/// The answer that an event gives.
+#[inline(always)]
+fn answer_to(event: &Event) -> Option<&Answer>
+    ensures { option_map (λ a. answer_of a.now) result ≡ answer_of_event (event_of event.now) }
+{
+    match event {
+        Event::Answer(answer) => Some(answer),
+        Event::Purge(purge) => Some(&purge.answer),
         _ => None,
     }
 }

@@ -2,35 +2,41 @@ ghost use Rattle.std.specs.Prelude.{◌≡◌, ◌++◌, ◌+◌, ◌<◌, ◌^�
 ghost use Rattle.tty_calls.specs.Plain.{call_of, answer_of};
 ghost use Rattle.tty_calls.specs.Sessions.{script_of, number_in, session_of};
 ghost use Rattle.session_print.specs.Report.{calls_text, told_line, told_from};
-ghost use Rattle.session_print.specs.Printing.{call_head, call_rest, tens, noted_answer, scripts_for, told_script, steps_then, told_scripts, steps_after};
+ghost use Rattle.session_print.specs.Printing.{sums_on, call_head, call_rest, tens, noted_answer, scripts_for, told_script, steps_then, told_scripts, steps_after};
 
-use super::answers::{Answers, Turn, answers_of};
+use super::answers::{Answers, Walked, walk};
 use super::digits::{digit_text, put_number};
+use super::places::Turn;
+use super::sums::Sums;
 use super::words::{put_answer, verb_of};
 use std::alloc::{AllocError, Global};
 use tty_base::NoMemory;
 use tty_calls::{Answer, Call, Names, PortRun, Script, Session};
 
-/// Adds a line for each call of a port that its journal answers, script by script.
+/// Adds a line for each call of a port that its journal answers, script by script, and gives the sums of
+/// the journal.
 pub(crate) fn put_calls(
     alloc: Global,
     text: &mut String,
     port: usize,
     session: &Session,
     run: &PortRun,
-) -> Result<(), NoMemory>
-    ensures { OnOk result (string_bytes text.new ≡ string_bytes text.old ++ calls_text port (session_of session.now) run.now) }
+) -> Result<Sums, NoMemory>
+    ensures text { OnOk result (string_bytes text.new ≡ string_bytes text.old ++ calls_text port (session_of session.now) run.now) }
+    ensures sums { IfOk result (λ sums. sums ≡ sums_on run.now) }
 {
+    let names = Names::on_port(alloc, session, port)?;
+    let Walked { answers, sums } = walk(alloc, run.journal.as_slice())?;
     let teller = Teller {
         port,
-        names: Names::on_port(alloc, session, port)?,
-        answers: answers_of(alloc, run.journal.as_slice())?,
+        names,
+        answers,
     };
     let mut steps = vec![in alloc; 0usize; teller.names.len()]?;
     for phase in session.phases.as_slice() {
         teller.put_scripts(text, &mut steps, phase.callers.as_slice())?;
     }
-    Ok(())
+    Ok(sums)
 }
 
 /// What the calls of a port are told from: the names of its callers, and the answers of its journal.

@@ -1,6 +1,6 @@
 ghost use Rattle.std.specs.Prelude.{◌≡◌, ◌++◌, IfOk, OnOk, flat_map, string_bytes};
 ghost use Rattle.tty_base.specs.declared.characters.Flagged.{Flagged};
-ghost use Rattle.tty_calls.specs.Plain.{entry_of, event_of, entries_of};
+ghost use Rattle.tty_calls.specs.Plain.{answer_of, answered, entry_of, event_of, entries_of};
 ghost use Rattle.tty_calls.specs.Sessions.{session_of};
 ghost use Rattle.session_print.specs.Journals.{journals_text, journal_on, heading, entry_line, who_text, event_text, chars_text, beside_text, char_text, flag_letter as letter_of_flag, overrun_line, line_numbers};
 
@@ -8,7 +8,7 @@ use super::digits::put_piece;
 use super::words::put_answer;
 use std::alloc::{AllocError, Global};
 use tty_base::{Bytes, Flag, Flagged, LineReport, NoMemory, Overrun};
-use tty_calls::{Entry, Event, Names, PortRun, Session, Who};
+use tty_calls::{Answer, Entry, Event, Names, PortRun, Session, Who};
 
 /// The journals of a session's ports: for each port, of which there is one run each, its entries, its
 /// overruns, and the numbers of its line.
@@ -98,11 +98,8 @@ fn put_event(text: &mut String, event: &Event) -> Result<(), AllocError>
     ensures { OnOk result (string_bytes text.new ≡ string_bytes text.old ++ event_text (event_of event.now)) }
 {
     match event {
-        Event::Answer(answer, dropped) => {
-            text.push_str("answer ")?;
-            put_answer(text, answer)?;
-            put_beside(text, dropped.as_slice())
-        }
+        Event::Answer(answer) => put_answered(text, answer, &[]),
+        Event::Purge(purge) => put_answered(text, &purge.answer, purge.dropped.as_slice()),
         Event::Part(taken) => write!(text, "part {taken}"),
         Event::Wait => text.push_str("wait"),
         Event::Flush(characters) => {
@@ -119,6 +116,15 @@ fn put_event(text: &mut String, event: &Event) -> Result<(), AllocError>
             put_characters(text, dropped.as_slice())
         }
     }
+}
+
+/// Adds an answer, and the characters that were dropped with it.
+fn put_answered(text: &mut String, answer: &Answer, dropped: &[Flagged]) -> Result<(), AllocError>
+    ensures { OnOk result (string_bytes text.new ≡ string_bytes text.old ++ event_text (answered (answer_of answer.now) dropped.now)) }
+{
+    text.push_str("answer ")?;
+    put_answer(text, answer)?;
+    put_beside(text, dropped)
 }
 
 /// Adds the characters that were dropped beside an answer, where there are any.

@@ -8,8 +8,10 @@ mod digits;
 mod journals;
 mod laws;
 mod modes;
+mod places;
 mod ports;
 mod summaries;
+mod sums;
 mod texts;
 mod words;
 

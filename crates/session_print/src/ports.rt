@@ -1,27 +1,30 @@
-ghost use Rattle.std.specs.Prelude.{◌≡◌, ◌++◌, ◌+◌, OnOk, IfOk, string_bytes};
-ghost use Rattle.tty_calls.specs.Plain.{entries_of, entry_of};
+ghost use Rattle.std.specs.Prelude.{◌≡◌, ◌++◌, OnOk, string_bytes};
 ghost use Rattle.tty_calls.specs.Sessions.{session_of};
 ghost use Rattle.session_print.specs.Ends.{end_of};
-ghost use Rattle.session_print.specs.Lines.{port_text, line_line, flip_text, input_line, flushed_count, dropped_count, flushed_in as flushed_by, dropped_in as dropped_by, counts_line, signals_line, signals_text, generation_line, wire_line};
+ghost use Rattle.session_print.specs.Lines.{port_text, line_line, flip_text, counts_line, signals_line, signals_text, generation_line, wire_line};
+ghost use Rattle.session_print.specs.Printing.{sums_on, sums_line};
 
 use super::digits::put_hex;
+use super::sums::Sums;
 use super::words::{put_counts, signal_name};
 use std::alloc::AllocError;
 use tty_base::{Counts, LineReport, NoMemory, Signal};
-use tty_calls::{Entry, Event, PortEnd, PortRun, Session};
+use tty_calls::{PortEnd, PortRun, Session};
 
-/// Adds the lines of a port.
+/// Adds the lines of a port, of whose journal these are the sums.
 pub(crate) fn put_port(
     text: &mut String,
     port: usize,
     session: &Session,
     run: &PortRun,
+    sums: Sums,
     end: &PortEnd,
 ) -> Result<(), NoMemory>
+    requires { sums ≡ sums_on run.now }
     ensures { OnOk result (string_bytes text.new ≡ string_bytes text.old ++ port_text (session_of session.now) port run.now (end_of end.now)) }
 {
     put_line(text, port, session, &run.line)?;
-    put_input(text, port, run.journal.as_slice())?;
+    put_input(text, port, sums)?;
     put_count_line(text, port, &end.counts)?;
     put_signals(text, port, end.signals.as_slice())?;
     put_generation(text, port, end.generation)?;
@@ -60,17 +63,15 @@ fn put_flip(text: &mut String, port: usize, session: &Session) -> Result<(), All
     write!(text, " flip={flip}")
 }
 
-/// Adds how many characters were flushed, and how many were dropped. More than can be counted are
-/// want of memory.
-fn put_input(text: &mut String, port: usize, entries: &[Entry]) -> Result<(), NoMemory>
-    ensures { OnOk result (string_bytes text.new ≡ string_bytes text.old ++ input_line port (entries_of entries.now)) }
+/// Adds how many characters were flushed, and how many were dropped.
+fn put_input(text: &mut String, port: usize, sums: Sums) -> Result<(), AllocError>
+    ensures { OnOk result (string_bytes text.new ≡ string_bytes text.old ++ sums_line port sums) }
 {
-    let (flushed, dropped) = sums_of(entries)?;
+    let Sums { flushed, dropped } = sums;
     write!(
         text,
         "port {port} input taken={flushed} dropped={dropped}\n"
-    )?;
-    Ok(())
+    )
 }
 
 fn put_count_line(text: &mut String, port: usize, counts: &Counts) -> Result<(), AllocError>
@@ -118,47 +119,4 @@ fn put_wire(text: &mut String, port: usize, wire: &[u8]) -> Result<(), AllocErro
         put_hex(text, wire)?;
     }
     text.push_str("\n")
-}
-
-/// How many characters a journal flushes.
-pub(crate) fn flushed_characters(entries: &[Entry]) -> Result<u64, NoMemory>
-    ensures { IfOk result (λ count. count ≡ flushed_count (entries_of entries.now)) }
-{
-    let mut count = 0u64;
-    for entry in entries {
-        count = count.checked_add(flushed_in(entry)).ok_or(NoMemory)?;
-    }
-    Ok(count)
-}
-
-/// How many characters a journal flushes, and how many were dropped beside its answers and at its
-/// hangup, counted in one walk.
-fn sums_of(entries: &[Entry]) -> Result<(u64, u64), NoMemory>
-    ensures { IfOk result (λ sums. (sums.0 ≡ flushed_count (entries_of entries.now)) × (sums.1 ≡ dropped_count (entries_of entries.now))) }
-{
-    let mut flushed = 0u64;
-    let mut dropped = 0u64;
-    for entry in entries {
-        flushed = flushed.checked_add(flushed_in(entry)).ok_or(NoMemory)?;
-        dropped = dropped.checked_add(dropped_in(entry)).ok_or(NoMemory)?;
-    }
-    Ok((flushed, dropped))
-}
-
-fn flushed_in(entry: &Entry) -> u64
-    ensures { result ≡ flushed_by (entry_of entry.now).event }
-{
-    match &entry.event {
-        Event::Flush(characters) => characters.len() as u64,
-        _ => 0,
-    }
-}
-
-fn dropped_in(entry: &Entry) -> u64
-    ensures { result ≡ dropped_by (entry_of entry.now).event }
-{
-    match &entry.event {
-        Event::Answer(_, characters) | Event::Hangup(characters) => characters.len() as u64,
-        _ => 0,
-    }
 }

@@ -3,9 +3,10 @@ ghost use Rattle.tty_calls.specs.Limits.{call_count};
 ghost use Rattle.tty_calls.specs.Plain.{answer_of, entry_of, entries_of};
 ghost use Rattle.tty_calls.specs.Sessions.{script_of, phase_of, session_of};
 ghost use Rattle.session_print.specs.Ends.{end_of};
+ghost use Rattle.session_print.specs.Lines.{flushed_count};
 ghost use Rattle.session_print.specs.Summary.{summary_text, all_arrived, all_flushed, all_got, all_generations, got_count, got_in as got_by_event, got_by as got_by_answer};
 
-use super::ports::flushed_characters;
+use super::sums::flushed_in;
 use std::alloc::Global;
 use tty_base::{Bytes, NoMemory};
 use tty_calls::{Answer, Entry, Event, Phase, PortEnd, PortRun, Script, Session};
@@ -24,8 +25,7 @@ pub fn summary(
 {
     let calls = calls_in(session.phases.as_slice())?;
     let arrived = arrived_on(runs)?;
-    let flushed = flushed_on(runs)?;
-    let got = got_on(runs)?;
+    let Handed { flushed, got } = handed_on(runs)?;
     let generations = generations_of(ends)?;
     let mut text = String::new(alloc);
     write!(
@@ -71,46 +71,49 @@ fn arrived_on(runs: &[PortRun]) -> Result<u64, NoMemory>
     Ok(count)
 }
 
-/// How many characters were flushed.
-fn flushed_on(runs: &[PortRun]) -> Result<u64, NoMemory>
-    ensures { IfOk result (λ count. count ≡ all_flushed runs.now) }
-{
-    let mut count = 0u64;
-    for run in runs {
-        let more = flushed_characters(run.journal.as_slice())?;
-        count = count.checked_add(more).ok_or(NoMemory)?;
-    }
-    Ok(count)
+/// How many characters journals flush, and how many bytes they answer.
+#[derive(Clone, Copy)]
+struct Handed {
+    flushed: u64,
+    got: u64,
 }
 
-/// How many bytes were answered.
-fn got_on(runs: &[PortRun]) -> Result<u64, NoMemory>
-    ensures { IfOk result (λ count. count ≡ all_got runs.now) }
+/// What was flushed and answered on all ports.
+fn handed_on(runs: &[PortRun]) -> Result<Handed, NoMemory>
+    ensures flushed { IfOk result (λ handed. handed.flushed ≡ all_flushed runs.now) }
+    ensures got { IfOk result (λ handed. handed.got ≡ all_got runs.now) }
 {
-    let mut count = 0u64;
+    let mut flushed = 0u64;
+    let mut got = 0u64;
     for run in runs {
-        let more = got_bytes(run.journal.as_slice())?;
-        count = count.checked_add(more).ok_or(NoMemory)?;
+        let more = handed_in(run.journal.as_slice())?;
+        flushed = flushed.checked_add(more.flushed).ok_or(NoMemory)?;
+        got = got.checked_add(more.got).ok_or(NoMemory)?;
     }
-    Ok(count)
+    Ok(Handed { flushed, got })
 }
 
-/// How many bytes a journal answers.
-fn got_bytes(entries: &[Entry]) -> Result<u64, NoMemory>
-    ensures { IfOk result (λ count. count ≡ got_count (entries_of entries.now)) }
+/// What a journal flushes and answers, counted in one walk.
+fn handed_in(entries: &[Entry]) -> Result<Handed, NoMemory>
+    ensures flushed { IfOk result (λ handed. handed.flushed ≡ flushed_count (entries_of entries.now)) }
+    ensures got { IfOk result (λ handed. handed.got ≡ got_count (entries_of entries.now)) }
 {
-    let mut count = 0u64;
+    let mut flushed = 0u64;
+    let mut got = 0u64;
     for entry in entries {
-        count = count.checked_add(got_in(entry)).ok_or(NoMemory)?;
+        let more = flushed_in(&entry.event);
+        flushed = flushed.checked_add(more).ok_or(NoMemory)?;
+        got = got.checked_add(got_in(entry)).ok_or(NoMemory)?;
     }
-    Ok(count)
+    Ok(Handed { flushed, got })
 }
 
 fn got_in(entry: &Entry) -> u64
     ensures { result ≡ got_by_event (entry_of entry.now).event }
 {
     match &entry.event {
-        Event::Answer(answer, _) => got_by(answer),
+        Event::Answer(answer) => got_by(answer),
+        Event::Purge(purge) => got_by(&purge.answer),
         _ => 0,
     }
 }

@@ -31,7 +31,8 @@ use Rattle.session_text.specs.declared.verbs.CallVerb.{CallVerb}
 use Rattle.session_text.specs.declared.verbs.CallVerb.TheVariants as call
 use Rattle.session_text.specs.Kinds.{kind_at, fault_of, limit_fault, is_trigger}
 use Rattle.session_text.specs.Stands.{PlainKey, same_key, callers_on, arrivals, is_good}
-use Rattle.session_text.specs.Meaning.{rx_step, steps_in, call_on, call_in, empty_phase}
+use Rattle.line_steps.specs.Steps.{rx_step}
+use Rattle.session_text.specs.Meaning.{steps_in, call_on, call_in, empty_phase}
 use Rattle.session_text.specs.Grammar.{Item, Block, Written, steps_by, ticks_by, calls_by, arrivals_by, with_block, phase_meaning, with_flip, session_meaning, version_of, ports_of, opens_block, IsGoodItem, IsGoodBlock, IsGoodPhase, IsGoodFlip, IsGood, CallersFit, caller_key, caller_keys, steps_count, block_characters, characters_count, block_ticks, ticks_count, Spells}
 use Rattle.session_text.proofs.Bounds.{on_port}
 use Rattle.session_text.proofs.Fits.{good_parts, no_fault_at, good_number, limit_none}

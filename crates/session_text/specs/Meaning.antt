@@ -5,6 +5,7 @@ use Rattle.tty_base.specs.declared.characters.Flag.{Flag}
 use Rattle.tty_base.specs.declared.characters.Flag.TheVariants as flag
 use Rattle.tty_base.specs.declared.lines.LineStep.{LineStep}
 use Rattle.tty_base.specs.declared.lines.LineStep.TheVariants as step
+use Rattle.line_steps.specs.Steps.{rx_step}
 use Rattle.tty_modes.specs.Reading.{word_of as mode_of}
 use Rattle.tty_calls.specs.declared.calls.Access.TheVariants as access
 use Rattle.tty_calls.specs.declared.calls.When.TheVariants as when
@@ -20,9 +21,6 @@ use Rattle.session_text.specs.declared.verbs.CallVerb.TheVariants as call
 use Rattle.session_text.specs.Kinds.{access_of, when_of, queue_of, act_of}
 
 -- ---- a line's item
-
-abbrev pub rx_step : Flag → ℕ → LineStep
-rx_step flag byte = step.Rx (record { byte = byte; flag = flag })
 
 -- the characters that HEX writes, each with this flag
 abbrev pub characters : Flag → List ℕ → List LineStep

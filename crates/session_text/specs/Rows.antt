@@ -1,14 +1,13 @@
 -- Worked texts: what is refused, and what is spelled.
 use Rattle.std.specs.Prelude.{ℕ, true, false, List, [], ◌∷◌, codes, ◌++◌}
-use Rattle.tty_base.specs.declared.characters.Flag.{Flag}
 use Rattle.tty_base.specs.declared.characters.Flag.TheVariants.{Normal, Parity, Frame}
-use Rattle.tty_base.specs.declared.lines.LineStep.{LineStep}
-use Rattle.tty_base.specs.declared.lines.LineStep.TheVariants.{Rx, Break, Idle, Mask, Unmask, Trigger}
+use Rattle.tty_base.specs.declared.lines.LineStep.TheVariants.{Break, Idle, Mask, Unmask, Trigger}
 use Rattle.tty_modes.specs.declared.words.Word.TheVariants.{On, Off, Cc, Raw, Sane}
 use Rattle.tty_calls.specs.declared.calls.Access.TheVariants.{R, W, Rw}
 use Rattle.tty_calls.specs.declared.calls.When.TheVariants.{Now, Drain, Flush}
 use Rattle.tty_calls.specs.declared.calls.Queue.TheVariants.{Input, Output, Both}
 use Rattle.tty_calls.specs.declared.calls.Act.TheVariants.{Ooff, Oon, Ioff, Ion}
+use Rattle.line_steps.specs.Steps.{rx_step}
 use Rattle.tty_calls.specs.Plain.{PlainCall, opens, closes, reads, writes, gets_modes, sets_modes, gets_disc, sets_disc, flushes, steers, counts_input, counts_output, excludes, admits, drains, gets_counts, hangs_up, sends_packet, takes_packet}
 use Rattle.tty_calls.specs.Sessions.{PlainScript, PlainSession}
 use Rattle.session_text.specs.declared.faults.Reason.{Reason}
@@ -136,9 +135,6 @@ refused_rows =
 
 abbrev pub three_bytes_text : List ℕ
 three_bytes_text = codes "tty-session 1\nports 1\nphase\ncaller a 0\nopen 0 rw nonblock\nmodes 0 now raw\nphase\nline 0\nrx 68690a\ncaller a 0\nread 0 64\nclose 0\nend\n"
-
-abbrev pub rx_step : Flag → ℕ → LineStep
-rx_step flag byte = Rx (record { byte = byte; flag = flag })
 
 abbrev pub script : ℕ → List ℕ → List PlainCall → PlainScript
 script port name calls = record { port = port; name = name; calls = calls }

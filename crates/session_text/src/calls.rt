@@ -6,22 +6,21 @@ ghost use Rattle.text_lines.specs.Lines.{words_of};
 ghost use Rattle.text_lines.specs.Values.{is_hex};
 ghost use Rattle.session_text.specs.Kinds.{modes_in};
 ghost use Rattle.session_text.specs.Stands.{is_good};
-ghost use Rattle.session_text.specs.Meaning.{rx_step, characters, steps_in, bare_call, call_on, call_in};
+ghost use Rattle.session_text.specs.Meaning.{characters, steps_in, bare_call, call_on, call_in};
 
 use super::verbs::{CallVerb, LineVerb, Verb};
 use super::words::{access_of, act_of, mode_of, queue_of, when_of};
+use line_steps::LineSteps;
 use std::alloc::Global;
 use text_lines::{Arguments, bytes_in, split_word};
-use tty_base::{Buffer, Bytes, Flag, Flagged, LineStep, NoMemory};
+use tty_base::{Buffer, Flag, LineStep, NoMemory};
 use tty_calls::{Access, Act, Call, Queue, When, Words};
-
-/// How many characters are added at a time.
-const PIECE: usize = 64;
+use tty_modes::Word;
 
 /// Adds what a line's item does.
 pub(crate) fn add_steps(
     alloc: Global,
-    line: &mut Buffer<LineStep>,
+    line: &mut LineSteps,
     ports: u8,
     verb: LineVerb,
     arguments: &Arguments,
@@ -33,26 +32,18 @@ pub(crate) fn add_steps(
         LineVerb::Rx => add_characters(alloc, line, Flag::Normal, arguments.first()),
         LineVerb::Rxp => add_characters(alloc, line, Flag::Parity, arguments.first()),
         LineVerb::Rxf => add_characters(alloc, line, Flag::Frame, arguments.first()),
-        LineVerb::Break => add_step(line, LineStep::Break),
-        LineVerb::Mask => add_step(line, LineStep::Mask),
-        LineVerb::Unmask => add_step(line, LineStep::Unmask),
-        LineVerb::Idle => add_step(line, LineStep::Idle(arguments.first_number() as u16)),
-        LineVerb::Trigger => add_step(line, LineStep::Trigger(arguments.first_number() as u8)),
+        LineVerb::Break => line.add(LineStep::Break),
+        LineVerb::Mask => line.add(LineStep::Mask),
+        LineVerb::Unmask => line.add(LineStep::Unmask),
+        LineVerb::Idle => line.add(LineStep::Idle(arguments.first_number() as u16)),
+        LineVerb::Trigger => line.add(LineStep::Trigger(arguments.first_number() as u8)),
     }
-}
-
-fn add_step(line: &mut Buffer<LineStep>, step: LineStep) -> Result<(), NoMemory>
-    ensures { OnOk result (line.new.items ≡ line.old.items ++ step ∷ []) }
-{
-    line.reserve(1)?;
-    line.add(step);
-    Ok(())
 }
 
 /// Adds the characters that HEX writes.
 fn add_characters(
     alloc: Global,
-    line: &mut Buffer<LineStep>,
+    line: &mut LineSteps,
     flag: Flag,
     digits: &[u8],
 ) -> Result<(), NoMemory>
@@ -60,54 +51,7 @@ fn add_characters(
     ensures { OnOk result (line.new.items ≡ line.old.items ++ characters flag digits.now) }
 {
     let bytes = bytes_in(alloc, digits)?;
-    line.reserve(bytes.len())?;
-    append_characters(line, flag, &bytes);
-    Ok(())
-}
-
-fn append_characters(line: &mut Buffer<LineStep>, flag: Flag, bytes: &[u8])
-    requires { length bytes.now ≤ line.old.spare }
-    ensures { line.new.items ≡ line.old.items ++ map (rx_step flag) bytes.now }
-{
-    let mut steps = [LineStep::Break; PIECE];
-    let mut rest = bytes;
-    while !rest.is_empty() {
-        let (piece, after) = rest.split_at(rest.len().min(PIECE));
-        set_steps(&mut steps, flag, piece);
-        line.append(first_steps(&steps, piece.len()));
-        rest = after;
-    }
-}
-
-/// Makes the first steps the arrivals of these bytes.
-fn set_steps(steps: &mut [LineStep; PIECE], flag: Flag, bytes: &[u8])
-    requires { length bytes.now ≤ 64 }
-    ensures { take (length bytes.now) steps.new ≡ map (rx_step flag) bytes.now }
-{
-    // mostly good ones come, and a flag that is known takes half the time
-    match flag {
-        Flag::Normal => set_flagged(steps, Flag::Normal, bytes),
-        _ => set_flagged(steps, flag, bytes),
-    }
-}
-
-#[inline(always)]
-fn set_flagged(steps: &mut [LineStep; PIECE], flag: Flag, bytes: &[u8])
-    requires { length bytes.now ≤ 64 }
-    ensures { take (length bytes.now) steps.new ≡ map (rx_step flag) bytes.now }
-{
-    for place in 0..bytes.len() {
-        let byte = bytes[place];
-        steps[place] = LineStep::Rx(Flagged { byte, flag });
-    }
-}
-
-#[inline(always)]
-fn first_steps(steps: &[LineStep; PIECE], count: usize) -> &[LineStep]
-    requires { count ≤ 64 }
-    ensures { result.now ≡ take count steps.now }
-{
-    &steps[..count]
+    line.add_run(flag, bytes)
 }
 
 /// The call that a verb and its arguments are, which have these mode words.
@@ -137,7 +81,7 @@ pub(crate) fn call_of(
         }),
         CallVerb::Write => Ok(Call::Write {
             h,
-            bytes: Bytes::from_vec(bytes_in(alloc, word)?),
+            bytes: bytes_in(alloc, word)?,
         }),
         CallVerb::SetModes => Ok(Call::SetModes {
             h,
@@ -158,7 +102,7 @@ pub(crate) fn call_of(
         }),
         CallVerb::Send => Ok(Call::SendPacket {
             h,
-            bytes: Bytes::from_vec(bytes_in(alloc, word)?),
+            bytes: bytes_in(alloc, word)?,
         }),
         _ => Ok(bare_call(verb, h)),
     }
@@ -187,15 +131,24 @@ fn bare_call(verb: CallVerb, h: u8) -> Call
 pub(crate) fn modes_of(alloc: Global, arguments: &Arguments) -> Result<Words, NoMemory>
     ensures { IfOk result (λ modes. modes.items ≡ modes_in arguments.now) }
 {
-    let mut modes = Words::new(alloc);
+    let mut modes = Buffer::new(alloc);
     if arguments.count() > 2 {
         modes.reserve(arguments.count() - 2)?;
         add_modes(&mut modes, arguments.more())?;
     }
-    Ok(modes)
+    Ok(modes.into_vec())
 }
 
-fn add_modes(modes: &mut Words, line: &[u8]) -> Result<(), NoMemory>
+/// The same where nothing stands behind the second. It takes no memory.
+#[inline(always)]
+pub(crate) fn no_modes(alloc: Global, arguments: &Arguments) -> Words
+    requires { length arguments.now ≤ 2 }
+    ensures { result.items ≡ modes_in arguments.now }
+{
+    Words::new(alloc)
+}
+
+fn add_modes(modes: &mut Buffer<Word>, line: &[u8]) -> Result<(), NoMemory>
     ensures { OnOk result (modes.new.items ≡ modes.old.items ++ filter_map mode_in (words_of line.now)) }
 {
     let mut rest = line;

@@ -1,4 +1,4 @@
-ghost use Rattle.std.specs.Prelude.{◌≡◌, ◌+◌, ◌∷◌, ◌++◌, [], Some, IfOk, OnOk, IsTrue, map, replicate, slice_index, slice_index_or, slice_set};
+ghost use Rattle.std.specs.Prelude.{◌≡◌, ◌<◌, ◌+◌, ◌∷◌, ◌++◌, [], Some, IfOk, OnOk, IsTrue, map, replicate, slice_index, slice_index_or, slice_set};
 ghost use Rattle.tty_calls.specs.Plain.{call_of as call_view};
 ghost use Rattle.tty_calls.specs.Sessions.{session_of as session_view, phase_of, script_of};
 ghost use Rattle.session_text.specs.Kinds.{modes_in};
@@ -10,17 +10,21 @@ ghost use Rattle.session_text.specs.Views.{stand_of, phase_view, draft_of};
 use super::calls::{add_steps, call_of};
 use super::stands::Stand;
 use super::verbs::{LineVerb, Verb};
+use line_steps::LineSteps;
 use std::alloc::Global;
 use text_lines::{Arguments, name_of};
-use tty_base::{Buffer, LineStep, NoMemory};
+use tty_base::{Buffer, NoMemory};
 use tty_calls::{Call, Phase, Script, Session, Words};
 
 const FLIP: u32 = 4_096;
 
+/// How many calls room is made for at a time.
+const CALLS: usize = 4;
+
 /// The phase that is being read.
 #[derive(Debug, Drop)]
 pub(crate) struct OpenPhase {
-    lines: Vec<Buffer<LineStep>>,
+    lines: Vec<LineSteps>,
     ticks: Vec<u32>,
     callers: Vec<Script>,
 }
@@ -200,12 +204,12 @@ impl OpenPhase {
     }
 }
 
-fn empty_lines(alloc: Global, ports: u8) -> Result<Vec<Buffer<LineStep>>, NoMemory>
+fn empty_lines(alloc: Global, ports: u8) -> Result<Vec<LineSteps>, NoMemory>
     ensures { IfOk result (λ lines. map (λ steps. steps.items) lines.items ≡ replicate ports []) }
 {
     let mut lines = Vec::new(alloc);
     for _ in 0..ports {
-        lines.push(Buffer::new(alloc))?;
+        lines.push(LineSteps::new(alloc))?;
     }
     Ok(lines)
 }
@@ -232,7 +236,7 @@ fn add_ticks(ticks: &mut [u32], port: u64, count: u32) -> Result<(), NoMemory>
 
 fn add_to_line(
     alloc: Global,
-    lines: &mut [Buffer<LineStep>],
+    lines: &mut [LineSteps],
     port: u64,
     ports: u8,
     verb: LineVerb,
@@ -257,8 +261,20 @@ fn add_call(callers: &mut [Script], call: Call) -> Result<(), NoMemory>
     let count = callers.len();
     if count > 0 {
         let calls = &mut callers[count - 1].calls;
-        calls.reserve(1)?;
+        make_room(calls)?;
         calls.add(call);
+    }
+    Ok(())
+}
+
+/// Makes room for one more call. It is made for some at once, so that mostly there is some.
+#[inline(always)]
+fn make_room(calls: &mut Buffer<Call>) -> Result<(), NoMemory>
+    ensures items { calls.new.items ≡ calls.old.items }
+    ensures room { OnOk result (0 < calls.new.spare) }
+{
+    if calls.spare() == 0 {
+        calls.reserve(CALLS)?;
     }
     Ok(())
 }

@@ -50,6 +50,7 @@ fn line_may_have(verb: LineVerb, count: usize) -> bool
     }
 }
 
+#[inline(always)]
 fn call_may_have(verb: CallVerb, count: usize) -> bool
     ensures { result ≡ call_may_have verb count }
 {
@@ -158,6 +159,9 @@ fn fault_past_two(ports: u8, verb: Verb, arguments: &Arguments, modes: usize) ->
     requires { modes ≡ length (modes_in arguments.now) }
     ensures { result ≡ fault_from ports verb 2 (drop 2 arguments.now) }
 {
+    if arguments.count() <= 2 {
+        return None;
+    }
     match verb {
         Verb::Call(call) => call_fault_past_two(ports, call, arguments, modes),
         _ => fault_behind(ports, verb, arguments.more()),

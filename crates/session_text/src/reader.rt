@@ -9,7 +9,7 @@ ghost use Rattle.session_text.specs.Reading.{Gives, first_reading, reading_with,
 ghost use Rattle.session_text.specs.Stands.{verdict_on, is_ended, is_good};
 ghost use Rattle.session_text.specs.Views.{stand_of, reading_of};
 
-use super::calls::modes_of;
+use super::calls::{modes_of, no_modes};
 use super::drafts::Draft;
 use super::faults::{BadLine, Reason, TextFault};
 use super::stands::{Place, Stand};
@@ -61,7 +61,28 @@ impl Reader {
     ) -> Result<(), TextFault>
         ensures { Gives (λ _. reading_of self.new) result (reading_after_item (reading_of self.old) number arguments.now (verdict_on (stand_of self.old.stand) word.now arguments.now)) }
     {
-        let modes = modes_of(alloc, arguments)?;
+        if arguments.count() > 2 {
+            let modes = modes_of(alloc, arguments)?;
+            self.read_by(alloc, number, word, arguments, modes)
+        } else {
+            self.read_by(alloc, number, word, arguments, no_modes(alloc, arguments))
+        }
+    }
+
+    /// Reads an item that has these mode words. It stands twice where items are read, so that the way
+    /// of those that have none carries none.
+    #[inline(always)]
+    fn read_by(
+        &mut self,
+        alloc: Global,
+        number: u32,
+        word: &[u8],
+        arguments: &Arguments,
+        modes: Words,
+    ) -> Result<(), TextFault>
+        requires { modes.items ≡ modes_in arguments.now }
+        ensures { Gives (λ _. reading_of self.new) result (reading_after_item (reading_of self.old) number arguments.now (verdict_on (stand_of self.old.stand) word.now arguments.now)) }
+    {
         match self.stand.judge(word, arguments, modes.len()) {
             Ok(verb) => Ok(self.take_item(alloc, verb, arguments, modes)?),
             Err(reason) => Err(TextFault::Bad(BadLine {

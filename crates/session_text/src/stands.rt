@@ -121,6 +121,7 @@ impl Stand {
 
     /// The verb of a line, from its first word and its arguments, or why the line is wrong. So many of
     /// the arguments behind the second are mode words.
+    #[inline(always)]
     pub(crate) fn judge(
         &self,
         word: &[u8],
@@ -140,6 +141,7 @@ impl Stand {
     }
 
     /// The first item has to be the header.
+    #[inline(never)]
     fn judge_first(&self, word: &[u8], arguments: &Arguments, modes: usize) -> Result<Verb, Reason>
         requires { modes ≡ length (modes_in arguments.now) }
         ensures { result ≡ first_verdict (stand_of self.now) word.now arguments.now }
@@ -153,6 +155,7 @@ impl Stand {
         }
     }
 
+    #[inline(always)]
     fn judge_item(&self, verb: Verb, arguments: &Arguments, modes: usize) -> Result<Verb, Reason>
         requires { modes ≡ length (modes_in arguments.now) }
         ensures { result ≡ verb_verdict (stand_of self.now) (Some verb) arguments.now }

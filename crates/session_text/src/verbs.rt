@@ -1,4 +1,4 @@
-ghost use Rattle.std.specs.Prelude.{◌≡◌, ◌<◌, slice_index, slice_index_or};
+ghost use Rattle.std.specs.Prelude.{◌≡◌, ◌<◌, slice_index, slice_index_or, bytes_eq};
 ghost use Rattle.session_text.specs.Verbs.{line_text, call_text, verb_text, verb_of};
 ghost use Rattle.session_text.specs.VerbSlots.{slot_of};
 
@@ -106,11 +106,12 @@ const VERB_SLOTS: [u8; 128] = [
 ];
 
 /// The verb that a word is in a text of this version.
+#[inline(always)]
 pub(crate) fn verb_of(version: u8, word: &[u8]) -> Option<Verb>
     ensures { result ≡ verb_of version word.now }
 {
     let verb = verb_near(slot_of(word));
-    if is_same(text_of(verb).as_bytes(), word) {
+    if is_text(verb, word) {
         in_version(version, verb)
     } else {
         None
@@ -159,61 +160,65 @@ fn in_version(version: u8, verb: Verb) -> Option<Verb>
     Some(verb)
 }
 
-fn text_of(verb: Verb) -> &'static str
-    ensures { result.now ≡ verb_text verb }
+/// Whether a word is a verb's text. Each text is known where it is compared, which takes half the time.
+#[inline(always)]
+fn is_text(verb: Verb, word: &[u8]) -> bool
+    ensures { result ≡ bytes_eq (verb_text verb) word.now }
 {
     match verb {
-        Verb::Session => "tty-session",
-        Verb::Ports => "ports",
-        Verb::Flip => "flip",
-        Verb::Phase => "phase",
-        Verb::Line => "line",
-        Verb::Clock => "clock",
-        Verb::Caller => "caller",
-        Verb::Tick => "tick",
-        Verb::End => "end",
-        Verb::Step(verb) => line_text(verb),
-        Verb::Call(verb) => call_text(verb),
+        Verb::Session => is_same(b"tty-session".as_slice(), word),
+        Verb::Ports => is_same(b"ports".as_slice(), word),
+        Verb::Flip => is_same(b"flip".as_slice(), word),
+        Verb::Phase => is_same(b"phase".as_slice(), word),
+        Verb::Line => is_same(b"line".as_slice(), word),
+        Verb::Clock => is_same(b"clock".as_slice(), word),
+        Verb::Caller => is_same(b"caller".as_slice(), word),
+        Verb::Tick => is_same(b"tick".as_slice(), word),
+        Verb::End => is_same(b"end".as_slice(), word),
+        Verb::Step(verb) => is_line_text(verb, word),
+        Verb::Call(verb) => is_call_text(verb, word),
     }
 }
 
-fn line_text(verb: LineVerb) -> &'static str
-    ensures { result.now ≡ line_text verb }
+#[inline(always)]
+fn is_line_text(verb: LineVerb, word: &[u8]) -> bool
+    ensures { result ≡ bytes_eq (line_text verb) word.now }
 {
     match verb {
-        LineVerb::Rx => "rx",
-        LineVerb::Rxp => "rxp",
-        LineVerb::Rxf => "rxf",
-        LineVerb::Break => "break",
-        LineVerb::Mask => "mask",
-        LineVerb::Unmask => "unmask",
-        LineVerb::Idle => "idle",
-        LineVerb::Trigger => "trigger",
+        LineVerb::Rx => is_same(b"rx".as_slice(), word),
+        LineVerb::Rxp => is_same(b"rxp".as_slice(), word),
+        LineVerb::Rxf => is_same(b"rxf".as_slice(), word),
+        LineVerb::Break => is_same(b"break".as_slice(), word),
+        LineVerb::Mask => is_same(b"mask".as_slice(), word),
+        LineVerb::Unmask => is_same(b"unmask".as_slice(), word),
+        LineVerb::Idle => is_same(b"idle".as_slice(), word),
+        LineVerb::Trigger => is_same(b"trigger".as_slice(), word),
     }
 }
 
-fn call_text(verb: CallVerb) -> &'static str
-    ensures { result.now ≡ call_text verb }
+#[inline(always)]
+fn is_call_text(verb: CallVerb, word: &[u8]) -> bool
+    ensures { result ≡ bytes_eq (call_text verb) word.now }
 {
     match verb {
-        CallVerb::Open => "open",
-        CallVerb::Close => "close",
-        CallVerb::Read => "read",
-        CallVerb::Write => "write",
-        CallVerb::GetModes => "getm",
-        CallVerb::SetModes => "modes",
-        CallVerb::GetDisc => "getd",
-        CallVerb::SetDisc => "setd",
-        CallVerb::Flush => "flush",
-        CallVerb::Xonc => "xonc",
-        CallVerb::Inq => "inq",
-        CallVerb::Outq => "outq",
-        CallVerb::Excl => "excl",
-        CallVerb::Nxcl => "nxcl",
-        CallVerb::Drain => "drain",
-        CallVerb::Counts => "counts",
-        CallVerb::Vhangup => "vhangup",
-        CallVerb::Send => "send",
-        CallVerb::Take => "take",
+        CallVerb::Open => is_same(b"open".as_slice(), word),
+        CallVerb::Close => is_same(b"close".as_slice(), word),
+        CallVerb::Read => is_same(b"read".as_slice(), word),
+        CallVerb::Write => is_same(b"write".as_slice(), word),
+        CallVerb::GetModes => is_same(b"getm".as_slice(), word),
+        CallVerb::SetModes => is_same(b"modes".as_slice(), word),
+        CallVerb::GetDisc => is_same(b"getd".as_slice(), word),
+        CallVerb::SetDisc => is_same(b"setd".as_slice(), word),
+        CallVerb::Flush => is_same(b"flush".as_slice(), word),
+        CallVerb::Xonc => is_same(b"xonc".as_slice(), word),
+        CallVerb::Inq => is_same(b"inq".as_slice(), word),
+        CallVerb::Outq => is_same(b"outq".as_slice(), word),
+        CallVerb::Excl => is_same(b"excl".as_slice(), word),
+        CallVerb::Nxcl => is_same(b"nxcl".as_slice(), word),
+        CallVerb::Drain => is_same(b"drain".as_slice(), word),
+        CallVerb::Counts => is_same(b"counts".as_slice(), word),
+        CallVerb::Vhangup => is_same(b"vhangup".as_slice(), word),
+        CallVerb::Send => is_same(b"send".as_slice(), word),
+        CallVerb::Take => is_same(b"take".as_slice(), word),
     }
 }

@@ -4,7 +4,7 @@ use std::alloc::{AllocError, Global};
 use std::test::Fail;
 use tty_base::{Buffer, Bytes, Chars, Counts, Errno, Flag, Flagged, LineReport, Overrun, Signal};
 use tty_calls::{
-    Access, Answer, Call, Entry, Event, Phase, PortEnd, PortRun, Script, Session, When, Who,
+    Access, Answer, Call, Entry, Event, Phase, PortEnd, PortRun, Purge, Script, Session, When, Who,
 };
 use tty_modes::Modes;
 
@@ -34,13 +34,8 @@ fn entry_of(who: Who, step: u32, generation: u32, event: Event) -> Entry {
     }
 }
 
-fn answer_of(alloc: Global, caller: u16, step: u32, answer: Answer) -> Entry {
-    entry_of(
-        Who::Caller(caller),
-        step,
-        0,
-        Event::Answer(answer, Chars::new(alloc)),
-    )
+fn answer_of(caller: u16, step: u32, answer: Answer) -> Entry {
+    entry_of(Who::Caller(caller), step, 0, Event::Answer(answer))
 }
 
 fn run_of(alloc: Global, journal: Vec<Entry>) -> PortRun {
@@ -62,10 +57,6 @@ fn end_of(alloc: Global) -> PortEnd {
         generation: 0,
         wire: Bytes::new(alloc),
     }
-}
-
-fn bytes_of(alloc: Global, bytes: &[u8]) -> Result<Bytes, AllocError> {
-    Ok(Bytes::from_vec(bytes.to_vec(alloc)?))
 }
 
 fn chars_of(alloc: Global, chars: &[Flagged]) -> Result<Chars, AllocError> {
@@ -103,13 +94,13 @@ fn two_callers(alloc: Global) -> Result<Session, AllocError> {
 fn run_of_two(alloc: Global) -> Result<PortRun, AllocError> {
     let hi = chars_of(alloc, &[Flagged::default(); 2])?;
     let journal = vec![in alloc;
-        answer_of(alloc, 1, 0, Answer::Refused(Errno::EBADF)),
-        answer_of(alloc, 0, 0, Answer::Done),
+        answer_of(1, 0, Answer::Refused(Errno::EBADF)),
+        answer_of(0, 0, Answer::Done),
         entry_of(Who::Flusher, 0, 0, Event::Flush(hi)),
-        answer_of(alloc, 0, 1, Answer::Got(bytes_of(alloc, b"hi")?)),
+        answer_of(0, 1, Answer::Got(b"hi".to_vec(alloc)?)),
         entry_of(Who::Caller(0), 2, 0, Event::CallerEnd),
-        answer_of(alloc, 0, 2, Answer::Idle),
-        answer_of(alloc, 1, 1, Answer::Done),
+        answer_of(0, 2, Answer::Idle),
+        answer_of(1, 1, Answer::Done),
     ]?;
     Ok(run_of(alloc, journal))
 }
@@ -122,7 +113,7 @@ fn each_call_is_told_with_the_answer_of_its_caller_and_step(rt: HostRuntime) -> 
         counts: Counts::default(),
         signals: Buffer::from_vec(vec![in alloc; Signal::Int, Signal::Susp]?),
         generation: 1,
-        wire: bytes_of(alloc, b"ok")?,
+        wire: Bytes::from_vec(b"ok".to_vec(alloc)?),
     };
     let text = report(alloc, &two_callers(alloc)?, &[run_of_two(alloc)?], &[end])?;
     assert_eq!(rt;
@@ -140,19 +131,19 @@ fn every_answer(alloc: Global) -> Result<Session, AllocError> {
         Call::Inq { h: 0 },
         Call::Write {
             h: 0,
-            bytes: bytes_of(alloc, b"hello")?
+            bytes: b"hello".to_vec(alloc)?
         },
         Call::TakePacket { h: 0 },
         Call::Read { h: 0, n: 1 },
         Call::SendPacket {
             h: 0,
-            bytes: bytes_of(alloc, b"x")?
+            bytes: b"x".to_vec(alloc)?
         },
         Call::Drain { h: 0 },
         Call::SetModes {
             h: 0,
             when: When::Drain,
-            words: Buffer::new(alloc)
+            words: Vec::new(alloc)
         },
         Call::GetDisc { h: 0 },
     ]?;
@@ -182,15 +173,15 @@ fn answers(alloc: Global) -> Result<PortRun, AllocError> {
         },
     )?;
     let journal = vec![in alloc;
-        answer_of(alloc, 0, 0, Answer::ModesAre(Modes::sane())),
-        answer_of(alloc, 0, 1, Answer::CountsAre(counts)),
-        answer_of(alloc, 0, 2, Answer::Number(4_294_967_295)),
-        answer_of(alloc, 0, 3, Answer::Count(5)),
-        answer_of(alloc, 0, 4, Answer::Got(bytes_of(alloc, &[0, 0xaf])?)),
-        answer_of(alloc, 0, 5, Answer::Got(Bytes::new(alloc))),
-        answer_of(alloc, 0, 6, Answer::Refused(Errno::EMSGSIZE)),
-        answer_of(alloc, 0, 7, Answer::Idle),
-        answer_of(alloc, 0, 8, Answer::Done),
+        answer_of(0, 0, Answer::ModesAre(Modes::sane())),
+        answer_of(0, 1, Answer::CountsAre(counts)),
+        answer_of(0, 2, Answer::Number(4_294_967_295)),
+        answer_of(0, 3, Answer::Count(5)),
+        answer_of(0, 4, Answer::Got([0, 0xaf].to_vec(alloc)?)),
+        answer_of(0, 5, Answer::Got(Vec::new(alloc))),
+        answer_of(0, 6, Answer::Refused(Errno::EMSGSIZE)),
+        answer_of(0, 7, Answer::Idle),
+        answer_of(0, 8, Answer::Done),
     ]?;
     Ok(run_of(alloc, journal))
 }
@@ -236,7 +227,7 @@ fn three_bytes(alloc: Global) -> Result<Session, AllocError> {
     let modes = Call::SetModes {
         h: 0,
         when: When::Now,
-        words: Buffer::new(alloc),
+        words: Vec::new(alloc),
     };
     let read = Call::Read { h: 0, n: 64 };
     let first = script_of(0, "a", vec![in alloc; open(), modes]?);
@@ -263,15 +254,15 @@ fn run_of_three_bytes(alloc: Global) -> Result<PortRun, AllocError> {
     let caller = Who::Caller(0);
     let journal = vec![in alloc;
         entry_of(Who::Line, 0, 0, Event::LineEnd(0)),
-        answer_of(alloc, 0, 0, Answer::Done),
-        answer_of(alloc, 0, 1, Answer::Done),
+        answer_of(0, 0, Answer::Done),
+        answer_of(0, 1, Answer::Done),
         entry_of(caller, 2, 0, Event::CallerEnd),
         entry_of(Who::Clock, 0, 0, Event::ClockEnd),
         entry_of(Who::Session, 0, 0, Event::PhaseEnd),
         entry_of(Who::Flusher, 0, 0, Event::Flush(three)),
         entry_of(Who::Line, 1, 0, Event::LineEnd(3)),
-        answer_of(alloc, 0, 2, Answer::Got(bytes_of(alloc, b"hi\n")?)),
-        answer_of(alloc, 0, 3, Answer::Done),
+        answer_of(0, 2, Answer::Got(b"hi\n".to_vec(alloc)?)),
+        answer_of(0, 3, Answer::Done),
         entry_of(caller, 4, 1, Event::CallerEnd),
         entry_of(Who::Clock, 1, 1, Event::ClockEnd),
         entry_of(Who::Session, 1, 1, Event::PhaseEnd),
@@ -293,7 +284,14 @@ fn the_journal_of_three_bytes_stands_before_done(rt: HostRuntime) -> Result<(), 
     let alloc = rt.alloc();
     let session = three_bytes(alloc)?;
     let runs = [run_of_three_bytes(alloc)?];
-    let text = play_text(alloc, &session, &runs, &[end_of(alloc)], true)?;
+    let text = play_text(
+        alloc,
+        Bytes::new(alloc),
+        &session,
+        &runs,
+        &[end_of(alloc)],
+        true,
+    )?;
     assert_eq!(rt;
         text.as_slice(),
         b"0.a.0 open ok
@@ -346,13 +344,19 @@ fn further_entries_and_overruns_are_told(rt: HostRuntime) -> Result<(), Fail> {
         flagged(Flag::Overrun),
     ];
     let characters = chars_of(alloc, &kinds)?;
-    let dropped = chars_of(alloc, &[good(b'x')])?;
+    let purge = Box::new(
+        alloc,
+        Purge {
+            answer: Answer::Done,
+            dropped: chars_of(alloc, &[good(b'x')])?,
+        },
+    )?;
     let caller = Who::Caller(0);
     let journal = vec![in alloc;
         entry_of(caller, 0, 0, Event::Wait),
         entry_of(caller, 0, 0, Event::Part(64)),
         entry_of(Who::Clock, 0, 0, Event::Tick),
-        entry_of(caller, 0, 0, Event::Answer(Answer::Done, dropped)),
+        entry_of(caller, 0, 0, Event::Purge(purge)),
         entry_of(Who::Session, 1, 0, Event::Hangup(characters)),
     ]?;
     let overrun = Overrun {

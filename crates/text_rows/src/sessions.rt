@@ -38,7 +38,7 @@ fn three_bytes_are_two_phases(rt: HostRuntime) -> Result<(), Fail> {
             byte,
             flag: Flag::Normal,
         }));
-        assert_eq!(rt; steps.as_slice(), rows.as_slice());
+        assert_eq!(rt; steps.written_out(rt.alloc())?.as_slice(), rows.as_slice());
     }
     for script in second.callers.as_slice() {
         assert!(rt;

@@ -122,7 +122,8 @@ fn answer_of(outcome: &Outcome, caller: u16, step: u32) -> Option<&Answer> {
         .iter()
         .find(|entry| answers(entry, caller, step))?;
     match &entry.event {
-        Event::Answer(answer, _) => Some(answer),
+        Event::Answer(answer) => Some(answer),
+        Event::Purge(purge) => Some(&purge.answer),
         _ => None,
     }
 }

@@ -48,7 +48,7 @@ impl Place {
 pub(crate) fn answers(entry: &Entry, caller: u16, step: u32) -> bool {
     entry.who == Who::Caller(caller)
         && entry.step == step
-        && matches!(entry.event, Event::Answer(..))
+        && matches!(entry.event, Event::Answer(_) | Event::Purge(_))
 }
 
 /// Whether all three are there, one after the other.

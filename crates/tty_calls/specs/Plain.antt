@@ -173,7 +173,8 @@ Fits (refused errno) room = Unit {0}
 Fits idle room = Unit {0}
 
 abbrev pub event_of : Event → PlainEvent
-event_of (events.Answer answer dropped) = answered (answer_of answer) dropped.items
+event_of (events.Answer answer) = answered (answer_of answer) []
+event_of (events.Purge purge) = answered (answer_of purge.value.answer) purge.value.dropped.items
 event_of (events.Part taken) = parted taken
 event_of events.Wait = waited
 event_of (events.Flush chars) = flushed chars.items

@@ -13,7 +13,7 @@ pub enum Answer {
     /// How many bytes a write took.
     Count(u32),
     /// The bytes that a read gives, or a packet. No bytes are the end of file.
-    Got(Bytes),
+    Got(Vec<u8>),
     /// The number that was asked for.
     Number(u32),
     /// The modes that were asked for.
@@ -45,7 +45,7 @@ impl Answer {
         ensures { IfOk result (λ copy. answer_of copy ≡ answer_of self.now) }
     {
         match self {
-            Answer::Got(bytes) => Ok(Answer::Got(bytes.copy(alloc)?)),
+            Answer::Got(bytes) => Ok(Answer::Got(bytes.as_slice().to_vec(alloc)?)),
             Answer::Done => Ok(Answer::Done),
             Answer::Count(count) => Ok(Answer::Count(*count)),
             Answer::Number(number) => Ok(Answer::Number(*number)),
@@ -77,14 +77,14 @@ impl Answer {
 
 /// Bytes in room that was made for them.
 #[inline(never)]
-fn bytes_into(room: AnswerRoom, bytes: &[u8]) -> Bytes
+fn bytes_into(room: AnswerRoom, bytes: &[u8]) -> Vec<u8>
     requires { Fits (got bytes.now) room }
     ensures { result.items ≡ bytes.now }
 {
     match room {
         AnswerRoom::Bytes(mut copy) => {
             copy.append(bytes);
-            copy
+            copy.into_vec()
         }
         _ => unreachable!(),
     }

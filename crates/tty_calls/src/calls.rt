@@ -2,7 +2,7 @@ ghost use Rattle.std.specs.Prelude.{◌≡◌, IfOk};
 ghost use Rattle.tty_calls.specs.Plain.{call_of, handle_of, changes};
 
 use std::alloc::Global;
-use tty_base::{Buffer, Bytes, Moves, NoMemory};
+use tty_base::{Moves, NoMemory};
 use tty_modes::Word;
 
 /// What a handle may be used for (open(2), access mode).
@@ -48,7 +48,7 @@ pub enum Act {
 }
 
 /// A list of mode words.
-pub type Words = Buffer<Word>;
+pub type Words = Vec<Word>;
 
 /// A call of a terminal. A handle `h` is a number below 32 that the caller chooses at `Open`.
 #[derive(Debug, Drop)]
@@ -71,7 +71,7 @@ pub enum Call {
     /// Writes 1 to 65,536 bytes (write(2)).
     Write {
         h: u8,
-        bytes: Bytes,
+        bytes: Vec<u8>,
     },
     /// Asks for the modes (ioctl_tty(2), TCGETS).
     GetModes {
@@ -133,7 +133,7 @@ pub enum Call {
     /// Sends a packet of 1 to 65,536 bytes (RFC 1055), of which SLIP takes at most 1,006.
     SendPacket {
         h: u8,
-        bytes: Bytes,
+        bytes: Vec<u8>,
     },
     /// Takes the first packet that was received (RFC 1055).
     TakePacket {
@@ -189,13 +189,13 @@ impl Call {
             Call::Read { h, n } => Call::Read { h, n },
             Call::Write { h, ref bytes } => Call::Write {
                 h,
-                bytes: bytes.copy(alloc)?,
+                bytes: bytes.as_slice().to_vec(alloc)?,
             },
             Call::GetModes { h } => Call::GetModes { h },
             Call::SetModes { h, when, ref words } => Call::SetModes {
                 h,
                 when,
-                words: words.copy(alloc)?,
+                words: words.as_slice().to_vec(alloc)?,
             },
             Call::GetDisc { h } => Call::GetDisc { h },
             Call::SetDisc { h, number } => Call::SetDisc { h, number },
@@ -210,7 +210,7 @@ impl Call {
             Call::Vhangup { h } => Call::Vhangup { h },
             Call::SendPacket { h, ref bytes } => Call::SendPacket {
                 h,
-                bytes: bytes.copy(alloc)?,
+                bytes: bytes.as_slice().to_vec(alloc)?,
             },
             Call::TakePacket { h } => Call::TakePacket { h },
         })

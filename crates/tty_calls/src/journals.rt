@@ -27,11 +27,21 @@ impl Who {
     }
 }
 
+/// An answer, and the characters of the flip buffer that were dropped with it.
+#[derive(Debug, Drop)]
+pub struct Purge {
+    pub answer: Answer,
+    pub dropped: Chars,
+}
+
 /// What one entry of a journal says.
 #[derive(Debug, Drop)]
 pub enum Event {
-    /// A call was answered, and these characters of the flip buffer were dropped with it.
-    Answer(Answer, Chars),
+    /// A call was answered.
+    Answer(Answer),
+    /// A call was answered, and characters of the flip buffer were dropped with it. They stand apart,
+    /// since few calls drop any.
+    Purge(Box<Purge>),
     /// A write took so many bytes, and is not over.
     Part(u32),
     /// A call must wait.

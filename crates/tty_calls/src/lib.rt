@@ -10,7 +10,7 @@ mod sessions;
 
 pub use answers::{Answer, AnswerRoom, Denied, PortEnd};
 pub use calls::{Access, Act, Call, Queue, When, Words};
-pub use journals::{Entry, Event, Journal, PortRun, Who};
+pub use journals::{Entry, Event, Journal, PortRun, Purge, Who};
 pub use names::Names;
 pub use sessions::{Phase, Script, Session};
 

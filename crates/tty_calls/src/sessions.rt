@@ -1,6 +1,7 @@
 use super::calls::Call;
 use arrayvec::ArrayString;
-use tty_base::{Buffer, LineStep, Moves};
+use line_steps::LineSteps;
+use tty_base::{Buffer, Moves};
 
 /// One caller's calls in a phase.
 #[derive(Debug, Drop)]
@@ -15,7 +16,7 @@ pub struct Script {
 /// item for each port.
 #[derive(Debug, Drop)]
 pub struct Phase {
-    pub lines: Buffer<Buffer<LineStep>>,
+    pub lines: Buffer<LineSteps>,
     pub ticks: Buffer<u32>,
     pub callers: Buffer<Script>,
 }

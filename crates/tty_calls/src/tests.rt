@@ -11,7 +11,7 @@ fn a_copy_has_the_same_words_and_bytes(rt: HostRuntime) -> Result<(), Fail> {
     let call = Call::SetModes {
         h: 3,
         when: When::Now,
-        words: Buffer::from_vec(vec![in alloc; Word::Raw]?),
+        words: vec![in alloc; Word::Raw]?,
     };
     match call.copy(alloc)? {
         Call::SetModes { h, when, words } => {
@@ -20,7 +20,7 @@ fn a_copy_has_the_same_words_and_bytes(rt: HostRuntime) -> Result<(), Fail> {
         }
         _ => assert!(rt; false),
     }
-    let answer = Answer::Got(Bytes::from_vec(b"hi".to_vec(alloc)?)).copy(alloc)?;
+    let answer = Answer::Got(b"hi".to_vec(alloc)?).copy(alloc)?;
     let mut room = Bytes::new(alloc);
     room.reserve(2)?;
     assert_eq!(rt; room.len(), 0);

@@ -43,7 +43,7 @@ pub(crate) fn run_one<S: Source>(
 {
     let mut text = Bytes::new(alloc);
     match read_session(alloc, source, &mut text)? {
-        Reading::Of(session) => run_session(alloc, &session, Telling::Report { journals }),
+        Reading::Of(session) => { run_session(alloc, text, &session, Telling::Report { journals }) }
         Reading::Ended(ending) => Ok(Work::ended(alloc, ending)),
     }
 }
@@ -53,20 +53,28 @@ pub(crate) fn run_number(alloc: Global, number: u32) -> Result<Work, NoMemory>
     ensures { IfOk result (λ work. IsSessionWork IsOrdered (Summary number) (generated_session number) work.ending work.runs.items) }
 {
     let session = make(alloc, number)?;
-    run_session(alloc, &session, Telling::Summary(number))
+    run_session(alloc, Bytes::new(alloc), &session, Telling::Summary(number))
 }
 
-fn run_session(alloc: Global, session: &Session, telling: Telling) -> Result<Work, NoMemory>
+/// Plays a session on one thread and tells of it, in the memory of `used`.
+fn run_session(
+    alloc: Global,
+    used: Bytes,
+    session: &Session,
+    telling: Telling,
+) -> Result<Work, NoMemory>
     requires { IsWithinLimits (session_of session.now) }
     ensures { IfOk result (λ work. IsSessionWork IsOrdered telling (session_of session.now) work.ending work.runs.items) }
 {
     let played = play(alloc, session)?;
-    work_of(alloc, session, played, telling)
+    work_of(alloc, used, session, played, telling)
 }
 
-/// The work on a session that was played: what is told of it, or that a journal is full.
+/// The work on a session that was played: what is told of it, or that a journal is full. A report takes the
+/// memory of `used`, and what stood there is gone.
 pub fn work_of(
     alloc: Global,
+    used: Bytes,
     session: &Session,
     played: Played,
     telling: Telling,
@@ -74,13 +82,14 @@ pub fn work_of(
     ensures ending { IfOk result (λ work. IsEndingOf telling (session_of session.now) played work.ending) }
     ensures runs { IfOk result (λ work. work.runs ≡ played.runs) }
 {
-    let ending = ending_of(alloc, session, &played, telling)?;
+    let ending = ending_of(alloc, used, session, &played, telling)?;
     let Played { runs, ends: _ } = played;
     Ok(Work { ending, runs })
 }
 
 fn ending_of(
     alloc: Global,
+    used: Bytes,
     session: &Session,
     played: &Played,
     telling: Telling,
@@ -90,12 +99,13 @@ fn ending_of(
     if has_full_journal(played.runs.as_slice()) {
         return Ok(Ending::JournalFull);
     }
-    let text = text_by(alloc, session, played, telling)?;
+    let text = text_by(alloc, used, session, played, telling)?;
     Ok(Ending::Done(text))
 }
 
 fn text_by(
     alloc: Global,
+    used: Bytes,
     session: &Session,
     played: &Played,
     telling: Telling,
@@ -105,7 +115,7 @@ fn text_by(
     let runs = played.runs.as_slice();
     let ends = played.ends.as_slice();
     match telling {
-        Telling::Report { journals } => play_text(alloc, session, runs, ends, journals),
+        Telling::Report { journals } => play_text(alloc, used, session, runs, ends, journals),
         Telling::Summary(number) => summary(alloc, number, session, runs, ends),
     }
 }

@@ -34,14 +34,16 @@ pub(crate) fn run<R: Threads + Wait + Sync, S: Source, G: Gate + Sync>(
 {
     let mut text = Bytes::new(alloc);
     match read_session(alloc, source, &mut text)? {
-        Reading::Of(session) => run_session(rt, alloc, &session, journals, gate),
+        Reading::Of(session) => run_session(rt, alloc, text, &session, journals, gate),
         Reading::Ended(ending) => Ok(Work::ended(alloc, ending)),
     }
 }
 
+/// Plays a session on threads and makes its report, in the memory of `used`.
 fn run_session<R: Threads + Wait + Sync, G: Gate + Sync>(
     rt: &R,
     alloc: Global,
+    used: Bytes,
     session: &Session,
     journals: bool,
     gate: &G,
@@ -50,5 +52,5 @@ fn run_session<R: Threads + Wait + Sync, G: Gate + Sync>(
     ensures { IfOk result (λ work. IsSessionWork IsInAnyOrder (Report journals) (session_of session.now) work.ending work.runs.items) }
 {
     let played = play(rt, alloc, session, gate)?;
-    work_of(alloc, session, played, Telling::Report { journals })
+    work_of(alloc, used, session, played, Telling::Report { journals })
 }

@@ -5,11 +5,10 @@ ghost use Rattle.tty_calls.specs.Plain.{call_of, changes};
 
 use super::Port;
 use crate::entries::{
-    Asked, Prepared, copy_of, entry_of_call, note_call, prepare, reserve_entry, room_for_chars,
-    trimmed,
+    Asked, Prepared, copy_of, entry_of_call, note_call, prepare, purge_into, reserve_entry,
+    room_for_chars, room_for_purge, trimmed,
 };
 use crate::flips::drop_shown;
-use tty_base::Chars;
 use tty_calls::{Answer, Call, Denied, Event};
 use tty_terminal::Met;
 
@@ -76,7 +75,7 @@ impl Port {
         match self.terminal.meet(caller, call, room) {
             Met::Gives(answer) => {
                 self.terminal.advance(caller);
-                let event = Event::Answer(answer.copy_into(copy), Chars::new(self.alloc));
+                let event = Event::Answer(answer.copy_into(copy));
                 let entry = entry_of_call(caller, step, state.parts, generation, event);
                 self.journal.add(entry);
                 note_call(&mut self.kept, begun, Asked { caller, step }, call);
@@ -108,6 +107,7 @@ impl Port {
         let generation = self.terminal.generation();
         reserve_entry(&mut self.journal, &mut self.starved)?;
         let mut shown = room_for_chars(self.alloc, &mut self.starved, self.flip.capacity())?;
+        let purge = room_for_purge(self.alloc, &mut self.starved)?;
         let made = prepare(self.alloc, &mut self.terminal, &mut self.starved, call)?;
         let Prepared { copy, room } = made;
         drop_shown(&self.terminal, &mut self.flip, &mut shown);
@@ -118,7 +118,7 @@ impl Port {
         };
         self.terminal.drop_characters(count);
         self.terminal.advance(caller);
-        let event = Event::Answer(answer.copy_into(copy), dropped);
+        let event = purge_into(purge, answer.copy_into(copy), dropped);
         let entry = entry_of_call(caller, step, state.parts, generation, event);
         self.journal.add(entry);
         note_call(&mut self.kept, begun, Asked { caller, step }, call);
@@ -162,7 +162,7 @@ impl Port {
         let generation = self.terminal.generation();
         reserve_entry(&mut self.journal, &mut self.starved)?;
         self.terminal.advance(caller);
-        let event = Event::Answer(Answer::Idle, Chars::new(self.alloc));
+        let event = Event::Answer(Answer::Idle);
         let entry = entry_of_call(caller, step, state.parts, generation, event);
         self.journal.add(entry);
         note_call(&mut self.kept, begun, Asked { caller, step }, call);

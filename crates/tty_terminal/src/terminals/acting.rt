@@ -137,7 +137,7 @@ impl Terminal {
             return refuse(Errno::EBADF);
         }
         if !handle.live {
-            return Met::Gives(Answer::Got(room));
+            return Met::Gives(Answer::Got(room.into_vec()));
         }
         let since = self.callers.get(caller).waits.unwrap_or(self.tick);
         match &mut self.disc {
@@ -145,7 +145,7 @@ impl Terminal {
             Disc::Tty(tty) => {
                 if tty.ready(n, &self.modes, handle.nonblock, since, self.tick) {
                     let _count = tty.read(n, &self.modes, &mut room);
-                    Met::Gives(Answer::Got(room))
+                    Met::Gives(Answer::Got(room.into_vec()))
                 } else if handle.nonblock {
                     refuse(Errno::EAGAIN)
                 } else {
@@ -477,7 +477,7 @@ impl Terminal {
                     return refuse(Errno::EAGAIN);
                 }
                 let _count = slip.take_packet(&mut room);
-                Met::Gives(Answer::Got(room))
+                Met::Gives(Answer::Got(room.into_vec()))
             }
         }
     }

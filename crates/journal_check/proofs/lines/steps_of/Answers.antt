@@ -1,7 +1,6 @@
 use Rattle.std.proofs.Common.{◌≡◌, ◌<◌, List, length, get_or, ◌∙◌, ap, arith}
 use Rattle.std.proofs.lemmas.List.{length-map}
-use Rattle.tty_base.specs.declared.lines.LineStep.{LineStep}
-use Rattle.tty_base.specs.Contents.{Contents}
+use Rattle.line_steps.specs.declared.LineSteps.{LineSteps}
 use Rattle.tty_calls.specs.declared.sessions.Phase.{Phase}
 use Rattle.tty_calls.specs.Sessions.{phase_of}
 use Rattle.journal_check.proofs.JudgingLemmas.{many_lines}
@@ -16,4 +15,4 @@ bounds-as_slice-port c =
     let many = many_lines c.args.session.now c.args.phase c.index-as_slice-phase.result c.requires.limits lt is in
     let lines = c.as_slice-2.ensures in
     let same = ap (λ (phase : Phase). length phase.lines.items) c.index-as_slice-phase.is in
-    omega (arith, ap (λ (xs : List (Contents LineStep)). length xs) lines, many, same, c.requires.port)
+    omega (arith, ap (λ (xs : List LineSteps). length xs) lines, many, same, c.requires.port)

@@ -34,7 +34,7 @@ play_threads-requires g c κs within =
                   (
                     subst (λ (x : PortValue). KnowsTaken (length x.flip.taken) now.heads) met (knows_met v.port.flip v.receiver.putter now c.meet.ensures.putter),
                     (
-                      subst (λ (x : PortValue). c.args.steps.now ≡ line_on g.scene.port (phase_at g.scene.session x.terminal.phase)) met r.1.1.1.0,
+                      subst (λ (x : PortValue). c.args.steps.now.items ≡ line_on g.scene.port (phase_at g.scene.session x.terminal.phase)) met r.1.1.1.0,
                       (
                         r.1.1.1.1.0,
                         (

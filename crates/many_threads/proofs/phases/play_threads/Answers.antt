@@ -30,7 +30,7 @@ pub play_together-requires-clause-room : goal.play_together-requires-clause-room
 play_together-requires-clause-room g c κs within =
     let v = c.args.ends in
     let r = c.requires.1.1.1.1 in
-    room_opens g.scene v.port.terminal.phase _ v.port c.in_ok-shared.shared c.in_ok-shared.dealt v.receiver.putter v.receiver.line c.args.run r.1.1.0 c.in_ok-shared.ensures c.args.steps.now r.1.0 r.1.1.1.1.0
+    room_opens g.scene v.port.terminal.phase _ v.port c.in_ok-shared.shared c.in_ok-shared.dealt v.receiver.putter v.receiver.line c.args.run r.1.1.0 c.in_ok-shared.ensures c.args.steps.now.items r.1.0 r.1.1.1.1.0
 
 pub play_together-requires-clause-clock_not_over : goal.play_together-requires-clause-clock_not_over
 play_together-requires-clause-clock_not_over g c κs within =
@@ -59,6 +59,6 @@ returns g c =
     let count = are.count in
     let callers = ap (λ (n : Name). n.callers) c.in_ok-shared.ensures.name in
     let all : (name_of_port p).callers ≡ sum v.port.counts = omega (arith, callers, size, count) in
-    threads_leave g.scene p roles v c.in_ok-port.port c.in_ok-shared.dealt c.in_ok-back.back c.args.steps.now c.args.ticks c.args.run r.1.0 r.1.1.0 r.1.1.1.0 r.1.1.1.1.0 r.1.1.1.1.1.1.0
+    threads_leave g.scene p roles v c.in_ok-port.port c.in_ok-shared.dealt c.in_ok-back.back c.args.steps.now.items c.args.ticks c.args.run r.1.0 r.1.1.0 r.1.1.1.0 r.1.1.1.1.0 r.1.1.1.1.1.1.0
     (shared_as _ v.port p c.in_ok-shared.dealt c.in_ok-shared.ensures) all (subst (λ n. IsCast g.scene v.port.terminal.phase n roles) (sym all) are)
     c.in_ok-back.ensures c.in_ok-port.ensures c.in_ok-back.back.end c.in_ok-back.ensures.told

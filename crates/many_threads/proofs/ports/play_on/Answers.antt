@@ -43,8 +43,8 @@ play_shared-requires g c κs within =
                 (
                   subst (λ (n : ℕ). IsAtPhase g.scene n v.port v.putter v.line c.args.run) (sym phase) before.at_phase,
                   (
-                    subst (λ (x : Scene). c.steps_of.result.now ≡ line_on x.port (phase_at x.session v.port.terminal.phase)) (sym e)
-                        (subst (λ (n : ℕ). c.steps_of.result.now ≡ line_on c.args.number (phase_at (session_of c.args.session.now) n)) (sym phase) c.steps_of.ensures.line),
+                    subst (λ (x : Scene). c.steps_of.result.now.items ≡ line_on x.port (phase_at x.session v.port.terminal.phase)) (sym e)
+                        (subst (λ (n : ℕ). c.steps_of.result.now.items ≡ line_on c.args.number (phase_at (session_of c.args.session.now) n)) (sym phase) c.steps_of.ensures.line),
                     (
                       c.steps_of.ensures.good,
                       (

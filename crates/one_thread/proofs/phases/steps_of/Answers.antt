@@ -18,4 +18,4 @@ returns-clause-good c =
     let lines = line_count c.args.session.now.ports (slice_index_or c.as_slice.result.now c.args.k c.index-as_slice-k.result) phase in
     let port = c.requires.port in
     let good = all_at_index (All (λ step. IsTrue (is_step step))) (λ steps. steps.items) (slice_index_or c.as_slice.result.now c.args.k c.index-as_slice-k.result).lines.items c.args.number c.index-as_slice-number.result (omega (arith, lines, port)) phase.steps in
-    subst (All (λ step. IsTrue (is_step step))) (sym (c.as_slice-3.ensures ∙ ap (λ l. l.items) (c.index-as_slice-number.is ∙ ap (λ xs. slice_index_or xs c.args.number c.index-as_slice-number.result) c.as_slice-2.ensures))) good
+    subst (All (λ step. IsTrue (is_step step))) (sym (ap (λ l. l.items) (c.index-as_slice-number.is ∙ ap (λ xs. slice_index_or xs c.args.number c.index-as_slice-number.result) c.as_slice-2.ensures))) good

@@ -1,4 +1,4 @@
-use Rattle.std.proofs.Common.{[], map, refl, ap, ◌∙◌, arith}
+use Rattle.std.proofs.Common.{[], map, ap, ◌∙◌, arith}
 use Rattle.tty_calls.specs.Sessions.{script_of}
 use Rattle.session_gen.specs.Generated.{caller_script, opening_calls}
 use Rattle.session_gen.proofs.ListLemmas.{map-more}

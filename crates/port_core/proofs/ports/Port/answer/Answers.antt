@@ -89,7 +89,7 @@ invariant_of-self-in-Gives c =
     let column : column_in c.meet.new.self.terminal.disc ≤ column_in v.terminal.disc + 4096 = subst (λ (t : Terminal). column_in c.meet.new.self.terminal.disc ≤ column_in t.disc + 4096) c.prepare.ensures.terminal c.meet.ensures.column in
     let keeps : drops_of o ≡ false = subst (λ (w : PortValue). drops_of (outcome w.terminal (caller_at w.terminal d) call) ≡ false) (sym c.self.view_is) c.requires.keeps in
     let e : PlainEntry = caller_entry v d (answered (answer_of c.in-Gives.answer) []) in
-    let entry : entry_of c.entry_of_call-entry.result ≡ e = ap entry_of c.entry_of_call-entry.ensures ∙ (λ i. record { who = Caller d; step = ready.next i; part = (c.caller-state.ensures i).parts; generation = c.generation-generation.ensures i; event = answered (c.copy_into.ensures i) (c.new.ensures i).items }) in
+    let entry : entry_of c.entry_of_call-entry.result ≡ e = ap entry_of c.entry_of_call-entry.ensures ∙ (λ i. record { who = Caller d; step = ready.next i; part = (c.caller-state.ensures i).parts; generation = c.generation-generation.ensures i; event = answered (c.copy_into.ensures i) [] }) in
     let js : entries_of c.add.new.self.items ≡ v.journal ++ e ∷ [] = entries_added c.self.inside.journal.items c.reserve_entry.new.journal.items c.entry_of_call-entry.result c.add.new.self.items c.in_ok-reserve_entry.ensures.items (ap (λ b. b.items) c.add.ensures) ∙ ap (λ (x : PlainEntry). v.journal ++ x ∷ []) entry in
     let kept_plain : map kept_of c.note_call.new.kept.items ≡ kept_with (has_begun (caller_at v.terminal d)) v.kept d step call = ap (λ (xs : List (Asked × Call)). map kept_of xs) c.note_call.ensures ∙ kept_is c.is_some-begun.result c.self.inside.kept.items (record { caller = d; step = step }) c.args.call.now ∙ ap (λ (b : Bool). kept_with b v.kept d step call) begun in
     let now : PortValue = record v { terminal = c.advance.new.self.terminal; journal = entries_of c.add.new.self.items; kept = map kept_of c.note_call.new.kept.items; starved = c.prepare.new.starved; flip = v.flip } in
@@ -117,7 +117,7 @@ returns-in-Gives-clause-tried c =
     let column : column_in c.meet.new.self.terminal.disc ≤ column_in v.terminal.disc + 4096 = subst (λ (t : Terminal). column_in c.meet.new.self.terminal.disc ≤ column_in t.disc + 4096) c.prepare.ensures.terminal c.meet.ensures.column in
     let keeps : drops_of o ≡ false = subst (λ (w : PortValue). drops_of (outcome w.terminal (caller_at w.terminal d) call) ≡ false) (sym c.self.view_is) c.requires.keeps in
     let e : PlainEntry = caller_entry v d (answered (answer_of c.in-Gives.answer) []) in
-    let entry : entry_of c.entry_of_call-entry.result ≡ e = ap entry_of c.entry_of_call-entry.ensures ∙ (λ i. record { who = Caller d; step = ready.next i; part = (c.caller-state.ensures i).parts; generation = c.generation-generation.ensures i; event = answered (c.copy_into.ensures i) (c.new.ensures i).items }) in
+    let entry : entry_of c.entry_of_call-entry.result ≡ e = ap entry_of c.entry_of_call-entry.ensures ∙ (λ i. record { who = Caller d; step = ready.next i; part = (c.caller-state.ensures i).parts; generation = c.generation-generation.ensures i; event = answered (c.copy_into.ensures i) [] }) in
     let js : entries_of c.add.new.self.items ≡ v.journal ++ e ∷ [] = entries_added c.self.inside.journal.items c.reserve_entry.new.journal.items c.entry_of_call-entry.result c.add.new.self.items c.in_ok-reserve_entry.ensures.items (ap (λ b. b.items) c.add.ensures) ∙ ap (λ (x : PlainEntry). v.journal ++ x ∷ []) entry in
     let kept_plain : map kept_of c.note_call.new.kept.items ≡ kept_with (has_begun (caller_at v.terminal d)) v.kept d step call = ap (λ (xs : List (Asked × Call)). map kept_of xs) c.note_call.ensures ∙ kept_is c.is_some-begun.result c.self.inside.kept.items (record { caller = d; step = step }) c.args.call.now ∙ ap (λ (b : Bool). kept_with b v.kept d step call) begun in
     let now : PortValue = record v { terminal = c.advance.new.self.terminal; journal = entries_of c.add.new.self.items; kept = map kept_of c.note_call.new.kept.items; starved = c.prepare.new.starved; flip = v.flip } in

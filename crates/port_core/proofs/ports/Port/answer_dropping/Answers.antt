@@ -18,7 +18,7 @@ use Rattle.port_core.specs.Inside.{value_of}
 use Rattle.port_core.proofs.GoingOn.{made, entries_added, known_caller, port_bounded, port_taken, port_capacity, port_within, port_few}
 use Rattle.port_core.proofs.Calls.{kept_is, begun_is, answers_met, some_dropped}
 use Rattle.port_core.proofs.Answering.{IsTried, after_call, answers_call}
-use Rattle.tty_calls.specs.Plain.{PlainCall}
+use Rattle.tty_calls.specs.Plain.{PlainAnswer, PlainCall}
 use Rattle.tty_terminal.specs.declared.rooms.Met.TheVariants as met
 use Rattle.tty_terminal.specs.Outcomes.{Outcome}
 use Rattle.tty_terminal.specs.Meeting.{Meets}
@@ -98,12 +98,12 @@ invariant_of-self-2 c =
     let column : column_in c.meet.new.self.terminal.disc ≤ column_in v.terminal.disc + 4096 = subst (λ (t : Terminal). column_in c.meet.new.self.terminal.disc ≤ column_in t.disc + 4096) c.prepare.ensures.terminal c.meet.ensures.column in
     let drops : drops_of o ≡ true = subst (λ (w : PortValue). drops_of (outcome w.terminal (caller_at w.terminal d) call) ≡ true) (sym c.self.view_is) c.requires.drops in
     let e : PlainEntry = caller_entry v d (answered (answer_of c.in-Gives.answer) c.trimmed-dropped.result.items) in
-    let entry : entry_of c.entry_of_call-entry.result ≡ e = ap entry_of c.entry_of_call-entry.ensures ∙ (λ i. record { who = Caller d; step = ready.next i; part = (c.caller-state.ensures i).parts; generation = c.generation-generation.ensures i; event = answered (c.copy_into.ensures i) c.trimmed-dropped.result.items }) in
+    let entry : entry_of c.entry_of_call-entry.result ≡ e = ap entry_of c.entry_of_call-entry.ensures ∙ (λ i. record { who = Caller d; step = ready.next i; part = (c.caller-state.ensures i).parts; generation = c.generation-generation.ensures i; event = (c.purge_into-event.ensures ∙ ap (λ (a : PlainAnswer). answered a c.trimmed-dropped.result.items) c.copy_into.ensures) i }) in
     let js : entries_of c.add.new.self.items ≡ v.journal ++ e ∷ [] = entries_added c.self.inside.journal.items c.reserve_entry.new.journal.items c.entry_of_call-entry.result c.add.new.self.items c.in_ok-reserve_entry.ensures.items (ap (λ b. b.items) c.add.ensures) ∙ ap (λ (x : PlainEntry). v.journal ++ x ∷ []) entry in
     let kept_plain : map kept_of c.note_call.new.kept.items ≡ kept_with (has_begun (caller_at v.terminal d)) v.kept d step call = ap (λ (xs : List (Asked × Call)). map kept_of xs) c.note_call.ensures ∙ kept_is c.is_some-begun.result c.self.inside.kept.items (record { caller = d; step = step }) c.args.call.now ∙ ap (λ (b : Bool). kept_with b v.kept d step call) begun in
     let now : PortValue = record v { terminal = c.advance.new.self.terminal; journal = entries_of c.add.new.self.items; kept = map kept_of c.note_call.new.kept.items; starved = c.prepare.new.starved; flip = c.drop_shown.new.flip } in
     let goes : c.advance.new.self.terminal ≡ after_answer (with_dropped c.meet.new.self.terminal (length c.trimmed-dropped.result.items)) d = ap (λ r. r.terminal) c.advance.ensures ∙ ap (λ (w : Terminal). after_answer w d) (ap (λ r. r.terminal) c.drop_characters.ensures ∙ ap (λ n. with_dropped c.meet.new.self.terminal n) c.len-count.ensures) in
-    let same : now ≡ after_call v d step call (after_answer (with_dropped c.meet.new.self.terminal (length c.trimmed-dropped.result.items)) d) c.drop_shown.new.flip e = made v _ (after_answer (with_dropped c.meet.new.self.terminal (length c.trimmed-dropped.result.items)) d) _ (v.journal ++ e ∷ []) _ (kept_with (has_begun (caller_at v.terminal d)) v.kept d step call) _ c.drop_shown.new.flip c.drop_shown.new.flip goes js kept_plain (c.in_ok-made.ensures.ok ∙ c.in_ok-shown.ensures.ok ∙ c.in_ok-reserve_entry.ensures.ok) refl in
+    let same : now ≡ after_call v d step call (after_answer (with_dropped c.meet.new.self.terminal (length c.trimmed-dropped.result.items)) d) c.drop_shown.new.flip e = made v _ (after_answer (with_dropped c.meet.new.self.terminal (length c.trimmed-dropped.result.items)) d) _ (v.journal ++ e ∷ []) _ (kept_with (has_begun (caller_at v.terminal d)) v.kept d step call) _ c.drop_shown.new.flip c.drop_shown.new.flip goes js kept_plain (c.in_ok-made.ensures.ok ∙ c.in_ok-purge.ensures.ok ∙ c.in_ok-shown.ensures.ok ∙ c.in_ok-reserve_entry.ensures.ok) refl in
     let least : v.terminal.sent ≤ shown.tail = omega (arith, c.self.invariant.port.sent, shown.looks.rises) in
     let most : shown.tail ≤ v.terminal.taken + v.terminal.capacity = omega (arith, shown.looks.most, port_taken v c.self.invariant.port, port_capacity v c.self.invariant.port) in
     let both = answers_call v now slots d step call (answer_of c.in-Gives.answer) c.trimmed-dropped.result.items c.meet.new.self.terminal c.drop_shown.new.flip tried
@@ -129,12 +129,12 @@ returns-clause-tried c =
     let column : column_in c.meet.new.self.terminal.disc ≤ column_in v.terminal.disc + 4096 = subst (λ (t : Terminal). column_in c.meet.new.self.terminal.disc ≤ column_in t.disc + 4096) c.prepare.ensures.terminal c.meet.ensures.column in
     let drops : drops_of o ≡ true = subst (λ (w : PortValue). drops_of (outcome w.terminal (caller_at w.terminal d) call) ≡ true) (sym c.self.view_is) c.requires.drops in
     let e : PlainEntry = caller_entry v d (answered (answer_of c.in-Gives.answer) c.trimmed-dropped.result.items) in
-    let entry : entry_of c.entry_of_call-entry.result ≡ e = ap entry_of c.entry_of_call-entry.ensures ∙ (λ i. record { who = Caller d; step = ready.next i; part = (c.caller-state.ensures i).parts; generation = c.generation-generation.ensures i; event = answered (c.copy_into.ensures i) c.trimmed-dropped.result.items }) in
+    let entry : entry_of c.entry_of_call-entry.result ≡ e = ap entry_of c.entry_of_call-entry.ensures ∙ (λ i. record { who = Caller d; step = ready.next i; part = (c.caller-state.ensures i).parts; generation = c.generation-generation.ensures i; event = (c.purge_into-event.ensures ∙ ap (λ (a : PlainAnswer). answered a c.trimmed-dropped.result.items) c.copy_into.ensures) i }) in
     let js : entries_of c.add.new.self.items ≡ v.journal ++ e ∷ [] = entries_added c.self.inside.journal.items c.reserve_entry.new.journal.items c.entry_of_call-entry.result c.add.new.self.items c.in_ok-reserve_entry.ensures.items (ap (λ b. b.items) c.add.ensures) ∙ ap (λ (x : PlainEntry). v.journal ++ x ∷ []) entry in
     let kept_plain : map kept_of c.note_call.new.kept.items ≡ kept_with (has_begun (caller_at v.terminal d)) v.kept d step call = ap (λ (xs : List (Asked × Call)). map kept_of xs) c.note_call.ensures ∙ kept_is c.is_some-begun.result c.self.inside.kept.items (record { caller = d; step = step }) c.args.call.now ∙ ap (λ (b : Bool). kept_with b v.kept d step call) begun in
     let now : PortValue = record v { terminal = c.advance.new.self.terminal; journal = entries_of c.add.new.self.items; kept = map kept_of c.note_call.new.kept.items; starved = c.prepare.new.starved; flip = c.drop_shown.new.flip } in
     let goes : c.advance.new.self.terminal ≡ after_answer (with_dropped c.meet.new.self.terminal (length c.trimmed-dropped.result.items)) d = ap (λ r. r.terminal) c.advance.ensures ∙ ap (λ (w : Terminal). after_answer w d) (ap (λ r. r.terminal) c.drop_characters.ensures ∙ ap (λ n. with_dropped c.meet.new.self.terminal n) c.len-count.ensures) in
-    let same : now ≡ after_call v d step call (after_answer (with_dropped c.meet.new.self.terminal (length c.trimmed-dropped.result.items)) d) c.drop_shown.new.flip e = made v _ (after_answer (with_dropped c.meet.new.self.terminal (length c.trimmed-dropped.result.items)) d) _ (v.journal ++ e ∷ []) _ (kept_with (has_begun (caller_at v.terminal d)) v.kept d step call) _ c.drop_shown.new.flip c.drop_shown.new.flip goes js kept_plain (c.in_ok-made.ensures.ok ∙ c.in_ok-shown.ensures.ok ∙ c.in_ok-reserve_entry.ensures.ok) refl in
+    let same : now ≡ after_call v d step call (after_answer (with_dropped c.meet.new.self.terminal (length c.trimmed-dropped.result.items)) d) c.drop_shown.new.flip e = made v _ (after_answer (with_dropped c.meet.new.self.terminal (length c.trimmed-dropped.result.items)) d) _ (v.journal ++ e ∷ []) _ (kept_with (has_begun (caller_at v.terminal d)) v.kept d step call) _ c.drop_shown.new.flip c.drop_shown.new.flip goes js kept_plain (c.in_ok-made.ensures.ok ∙ c.in_ok-purge.ensures.ok ∙ c.in_ok-shown.ensures.ok ∙ c.in_ok-reserve_entry.ensures.ok) refl in
     let least : v.terminal.sent ≤ shown.tail = omega (arith, c.self.invariant.port.sent, shown.looks.rises) in
     let most : shown.tail ≤ v.terminal.taken + v.terminal.capacity = omega (arith, shown.looks.most, port_taken v c.self.invariant.port, port_capacity v c.self.invariant.port) in
     let both = answers_call v now slots d step call (answer_of c.in-Gives.answer) c.trimmed-dropped.result.items c.meet.new.self.terminal c.drop_shown.new.flip tried

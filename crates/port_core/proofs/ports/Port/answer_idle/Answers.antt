@@ -42,8 +42,7 @@ invariant_of-self-2 c =
     let begun : c.is_some-begun.result ≡ has_begun (caller_at v.terminal d) = begun_is v.terminal d c.caller-state.result c.is_some-begun.result c.caller-state.ensures c.is_some-begun.ensures in
     let tried : IsTried v slots d step call = record { keeps = c.self.invariant; few = few; ready = ready } in
     let e : PlainEntry = caller_entry v d (answered idle []) in
-    let none : c.new.result.items ≡ [] = ap (λ b. b.items) c.new.ensures in
-    let entry : entry_of c.entry_of_call-entry.result ≡ e = ap entry_of c.entry_of_call-entry.ensures ∙ (λ i. record { who = Caller d; step = ready.next i; part = (c.caller-state.ensures i).parts; generation = c.generation-generation.ensures i; event = (answered idle (none i)) }) in
+    let entry : entry_of c.entry_of_call-entry.result ≡ e = ap entry_of c.entry_of_call-entry.ensures ∙ (λ i. record { who = Caller d; step = ready.next i; part = (c.caller-state.ensures i).parts; generation = c.generation-generation.ensures i; event = answered idle [] }) in
     let js : entries_of c.add.new.self.items ≡ v.journal ++ e ∷ [] = entries_added c.self.inside.journal.items c.reserve_entry.new.journal.items c.entry_of_call-entry.result c.add.new.self.items c.in_ok-reserve_entry.ensures.items (ap (λ b. b.items) c.add.ensures) ∙ ap (λ (x : PlainEntry). v.journal ++ x ∷ []) entry in
     let kept_plain : map kept_of c.note_call.new.kept.items ≡ kept_with (has_begun (caller_at v.terminal d)) v.kept d step call = ap (λ (xs : List (Asked × Call)). map kept_of xs) c.note_call.ensures ∙ kept_is c.is_some-begun.result c.self.inside.kept.items (record { caller = d; step = step }) c.args.call.now ∙ ap (λ (b : Bool). kept_with b v.kept d step call) begun in
     let left : c.advance.new.self.terminal ≡ after_answer (with_dropped v.terminal 0) d = ap (λ r. r.terminal) c.advance.ensures ∙ (ap (λ (w : Terminal). after_answer w d) (sym (with_none_dropped v.terminal))) in
@@ -69,8 +68,7 @@ returns-clause-tried c =
     let begun : c.is_some-begun.result ≡ has_begun (caller_at v.terminal d) = begun_is v.terminal d c.caller-state.result c.is_some-begun.result c.caller-state.ensures c.is_some-begun.ensures in
     let tried : IsTried v slots d step call = record { keeps = c.self.invariant; few = few; ready = ready } in
     let e : PlainEntry = caller_entry v d (answered idle []) in
-    let none : c.new.result.items ≡ [] = ap (λ b. b.items) c.new.ensures in
-    let entry : entry_of c.entry_of_call-entry.result ≡ e = ap entry_of c.entry_of_call-entry.ensures ∙ (λ i. record { who = Caller d; step = ready.next i; part = (c.caller-state.ensures i).parts; generation = c.generation-generation.ensures i; event = (answered idle (none i)) }) in
+    let entry : entry_of c.entry_of_call-entry.result ≡ e = ap entry_of c.entry_of_call-entry.ensures ∙ (λ i. record { who = Caller d; step = ready.next i; part = (c.caller-state.ensures i).parts; generation = c.generation-generation.ensures i; event = answered idle [] }) in
     let js : entries_of c.add.new.self.items ≡ v.journal ++ e ∷ [] = entries_added c.self.inside.journal.items c.reserve_entry.new.journal.items c.entry_of_call-entry.result c.add.new.self.items c.in_ok-reserve_entry.ensures.items (ap (λ b. b.items) c.add.ensures) ∙ ap (λ (x : PlainEntry). v.journal ++ x ∷ []) entry in
     let kept_plain : map kept_of c.note_call.new.kept.items ≡ kept_with (has_begun (caller_at v.terminal d)) v.kept d step call = ap (λ (xs : List (Asked × Call)). map kept_of xs) c.note_call.ensures ∙ kept_is c.is_some-begun.result c.self.inside.kept.items (record { caller = d; step = step }) c.args.call.now ∙ ap (λ (b : Bool). kept_with b v.kept d step call) begun in
     let left : c.advance.new.self.terminal ≡ after_answer (with_dropped v.terminal 0) d = ap (λ r. r.terminal) c.advance.ensures ∙ (ap (λ (w : Terminal). after_answer w d) (sym (with_none_dropped v.terminal))) in

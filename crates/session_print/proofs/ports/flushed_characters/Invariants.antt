@@ -1,7 +1,0 @@
-use Rattle.std.proofs.Common.{◌≡◌, take}
-use Rattle.tty_calls.specs.Plain.{entries_of}
-use Rattle.session_print.specs.Lines.{flushed_count}
-use Rattle.session_print.proofs.ports.flushed_characters.Given as goal
-
-abbrev pub invariant-loop-entry : goal.invariant-loop-entry
-invariant-loop-entry l = l.count ≡ flushed_count (entries_of (take l.entry-index l.entries))

@@ -1,0 +1,53 @@
+ghost use Rattle.std.specs.Prelude.{◌≡◌, ◌+◌, OnOk};
+ghost use Rattle.tty_calls.specs.Plain.{event_of};
+ghost use Rattle.session_print.specs.Lines.{flushed_in as flushed_by, dropped_in as dropped_by};
+
+use tty_base::NoMemory;
+use tty_calls::Event;
+
+/// How many characters a journal flushes, and how many were dropped beside its answers and at its
+/// hangup.
+#[derive(Clone, Copy)]
+pub(crate) struct Sums {
+    pub(crate) flushed: u64,
+    pub(crate) dropped: u64,
+}
+
+impl Sums {
+    /// Adds what an event flushes, and what is dropped with it. More than can be counted is want of
+    /// memory.
+    #[inline(always)]
+    pub(crate) fn add(&mut self, event: &Event) -> Result<(), NoMemory>
+        ensures flushed { OnOk result (self.new.flushed ≡ self.old.flushed + flushed_by (event_of event.now)) }
+        ensures dropped { OnOk result (self.new.dropped ≡ self.old.dropped + dropped_by (event_of event.now)) }
+    {
+        let flushed = flushed_in(event);
+        self.flushed = self.flushed.checked_add(flushed).ok_or(NoMemory)?;
+        let dropped = dropped_in(event);
+        self.dropped = self.dropped.checked_add(dropped).ok_or(NoMemory)?;
+        Ok(())
+    }
+}
+
+/// How many characters an event flushes.
+#[inline(always)]
+pub(crate) fn flushed_in(event: &Event) -> u64
+    ensures { result ≡ flushed_by (event_of event.now) }
+{
+    match event {
+        Event::Flush(characters) => characters.len() as u64,
+        _ => 0,
+    }
+}
+
+/// How many characters are dropped with an event.
+#[inline(always)]
+fn dropped_in(event: &Event) -> u64
+    ensures { result ≡ dropped_by (event_of event.now) }
+{
+    match event {
+        Event::Purge(purge) => purge.dropped.len() as u64,
+        Event::Hangup(characters) => characters.len() as u64,
+        _ => 0,
+    }
+}
