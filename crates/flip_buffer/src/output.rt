@@ -103,24 +103,21 @@ impl FlipOut {
         requires room { count ≤ out.old.spare }
         ensures peeks { (xs : List Flagged) × (length xs ≡ count) × (out.new ≡ record { items = out.old.items ++ xs; spare = out.old.spare - count }) × (self.new ≡ record self.old { peeked = self.old.peeked ++ xs }) }
     {
-        if self.taker.before_word() == 0 && count % 8 == 0 {
-            self.peek_pairs(count / 8, out);
-        } else {
-            self.peek_parts(count, out);
+        self.peek_eights(count / 8, out);
+        if count % 8 > 0 {
+            self.peek_rest(count % 8, out);
         }
     }
 
-    // The same, however many come before a word and after the last one.
+    // The same, by fours.
     #[inline(never)]
-    fn peek_parts(&mut self, count: usize, out: &mut Chars)
+    fn peek_rest(&mut self, count: usize, out: &mut Chars)
         requires shown { length self.old.taken + length self.old.peeked + count ≤ self.old.floor }
         requires room { count ≤ out.old.spare }
         ensures peeks { (xs : List Flagged) × (length xs ≡ count) × (out.new ≡ record { items = out.old.items ++ xs; spare = out.old.spare - count }) × (self.new ≡ record self.old { peeked = self.old.peeked ++ xs }) }
     {
-        let lead = self.taker.before_word().min(count);
-        self.peek_each(lead, out);
-        self.peek_words((count - lead) / 4, out);
-        self.peek_each((count - lead) % 4, out);
+        self.peek_fours(count / 4, out);
+        self.peek_each(count % 4, out);
     }
 
     // The same, one after the other.
@@ -134,63 +131,56 @@ impl FlipOut {
         }
     }
 
-    // The same for so many words, the first of which begins with the next character.
-    #[inline(always)]
-    fn peek_words(&mut self, words: usize, out: &mut Chars)
-        requires begins { 0 < words → (length self.old.taken + length self.old.peeked) % 4 ≡ 0 }
-        requires shown { length self.old.taken + length self.old.peeked + 4 * words ≤ self.old.floor }
-        requires room { 4 * words ≤ out.old.spare }
-        ensures peeks { (xs : List Flagged) × (length xs ≡ 4 * words) × (out.new ≡ record { items = out.old.items ++ xs; spare = out.old.spare - 4 * words }) × (self.new ≡ record self.old { peeked = self.old.peeked ++ xs }) }
+    // The same for so many times four.
+    fn peek_fours(&mut self, fours: usize, out: &mut Chars)
+        requires shown { length self.old.taken + length self.old.peeked + 4 * fours ≤ self.old.floor }
+        requires room { 4 * fours ≤ out.old.spare }
+        ensures peeks { (xs : List Flagged) × (length xs ≡ 4 * fours) × (out.new ≡ record { items = out.old.items ++ xs; spare = out.old.spare - 4 * fours }) × (self.new ≡ record self.old { peeked = self.old.peeked ++ xs }) }
     {
-        for _ in 0..words {
-            add_characters(self.peek_word(), out);
+        for _ in 0..fours {
+            add_characters(self.peek_four(), out);
         }
     }
 
-    // The same for so many pairs of words.
+    // The same for so many times eight.
     #[inline(always)]
-    fn peek_pairs(&mut self, pairs: usize, out: &mut Chars)
-        requires begins { (length self.old.taken + length self.old.peeked) % 4 ≡ 0 }
-        requires shown { length self.old.taken + length self.old.peeked + 8 * pairs ≤ self.old.floor }
-        requires room { 8 * pairs ≤ out.old.spare }
-        ensures peeks { (xs : List Flagged) × (length xs ≡ 8 * pairs) × (out.new ≡ record { items = out.old.items ++ xs; spare = out.old.spare - 8 * pairs }) × (self.new ≡ record self.old { peeked = self.old.peeked ++ xs }) }
+    fn peek_eights(&mut self, eights: usize, out: &mut Chars)
+        requires shown { length self.old.taken + length self.old.peeked + 8 * eights ≤ self.old.floor }
+        requires room { 8 * eights ≤ out.old.spare }
+        ensures peeks { (xs : List Flagged) × (length xs ≡ 8 * eights) × (out.new ≡ record { items = out.old.items ++ xs; spare = out.old.spare - 8 * eights }) × (self.new ≡ record self.old { peeked = self.old.peeked ++ xs }) }
     {
-        for _ in 0..pairs {
-            self.peek_pair(out);
+        for _ in 0..eights {
+            self.add_eight(out);
         }
     }
 
-    // The same for two words.
+    // The same for eight.
     #[inline(always)]
-    fn peek_pair(&mut self, out: &mut Chars)
-        requires begins { (length self.old.taken + length self.old.peeked) % 4 ≡ 0 }
+    fn add_eight(&mut self, out: &mut Chars)
         requires shown { length self.old.taken + length self.old.peeked + 8 ≤ self.old.floor }
         requires room { 8 ≤ out.old.spare }
         ensures peeks { (xs : List Flagged) × (length xs ≡ 8) × (out.new ≡ record { items = out.old.items ++ xs; spare = out.old.spare - 8 }) × (self.new ≡ record self.old { peeked = self.old.peeked ++ xs }) }
     {
-        let (first, second) = self.peek_two_words();
+        let (first, second) = self.peek_eight();
         add_characters(first, out);
         add_characters(second, out);
     }
 
-    // The words of the next eight characters, where the first of them begins one.
+    // The next eight characters, as the lanes of two words.
     #[inline(always)]
-    fn peek_two_words(&mut self) -> (u64, u64)
-        requires begins { (length self.old.taken + length self.old.peeked) % 4 ≡ 0 }
+    fn peek_eight(&mut self) -> (u64, u64)
         requires shown { length self.old.taken + length self.old.peeked + 8 ≤ self.old.floor }
         ensures { self.new ≡ record self.old { peeked = (self.old.peeked ++ map char_of (lanes result.0 4)) ++ map char_of (lanes result.1 4) } }
     {
-        self.taker.peek_two_words()
+        self.taker.peek_eight()
     }
 
-    // The word of the next four characters, where the first of them begins it.
-    #[inline(always)]
-    fn peek_word(&mut self) -> u64
-        requires begins { (length self.old.taken + length self.old.peeked) % 4 ≡ 0 }
+    // The next four characters, as the lanes of a word.
+    fn peek_four(&mut self) -> u64
         requires shown { length self.old.taken + length self.old.peeked + 4 ≤ self.old.floor }
         ensures { self.new ≡ record self.old { peeked = self.old.peeked ++ map char_of (lanes result 4) } }
     {
-        self.taker.peek_word()
+        self.taker.peek_four()
     }
 
     /// Takes the first `n` characters that were peeked, by one store of the head, and the others are

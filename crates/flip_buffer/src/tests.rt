@@ -1,9 +1,10 @@
-ghost use Rattle.std.specs.Prelude.{◌<◌};
+ghost use Rattle.std.specs.Prelude.{◌<◌, ◌≤◌};
 
-use crate::flip;
+use crate::{FlipIn, FlipOut, flip};
 use arrayvec::ArrayVec;
+use std::alloc::Global;
 use std::test::Fail;
-use tty_base::{Chars, Flag, Flagged, Full, Put};
+use tty_base::{Chars, Flag, Flagged, Full, NoMemory, Put};
 
 const FLAGS: [Flag; 5] = [
     Flag::Normal,
@@ -84,5 +85,85 @@ fn eight_characters_are_peeked_and_five_more(rt: HostRuntime) -> Result<(), Fail
     }
     output.release(13);
     assert_eq!(rt; output.taken(), 13);
+    Ok(())
+}
+
+// Puts a character and takes it.
+fn passes_one(input: &mut FlipIn, output: &mut FlipOut, c: Flagged) -> bool {
+    if input.sent() > 1000 || input.put(c).is_err() {
+        return false;
+    }
+    input.push();
+    if output.look() != 1 || output.peek_next() != c {
+        return false;
+    }
+    output.release(1);
+    true
+}
+
+// Puts sixteen characters by fours.
+fn puts_sixteen(input: &mut FlipIn, first: usize) -> bool
+    requires { first < 80 }
+{
+    for four in 0..4 {
+        let i = first + 4 * four;
+        if input.sent() > 1000 || !input.has_room(4) {
+            return false;
+        }
+        input.put_four([
+            character(i),
+            character(i + 1),
+            character(i + 2),
+            character(i + 3),
+        ]);
+    }
+    input.push();
+    true
+}
+
+// Takes sixteen characters, thirteen of them at once and then three.
+fn takes_sixteen(output: &mut FlipOut, out: &mut Chars) -> bool
+    requires { 16 ≤ out.old.spare }
+{
+    if output.look() < 16 {
+        return false;
+    }
+    output.peek(13, out);
+    output.peek(3, out);
+    output.release(16);
+    true
+}
+
+// Passes characters by fours after so many single ones, more than once round the buffer.
+fn pass_by_fours(alloc: Global, lead: usize) -> Result<bool, NoMemory>
+    requires { lead < 4 }
+{
+    let (mut input, mut output) = flip(alloc, 64)?;
+    for i in 0..lead {
+        if !passes_one(&mut input, &mut output, character(i)) {
+            return Ok(false);
+        }
+    }
+    for round in 0..5 {
+        let first = lead + 16 * round;
+        let mut out = Chars::new(alloc);
+        out.reserve(16)?;
+        if !puts_sixteen(&mut input, first) || !takes_sixteen(&mut output, &mut out) {
+            return Ok(false);
+        }
+        for i in 0..16 {
+            if out.as_slice().get(i).copied() != Some(character(first + i)) {
+                return Ok(false);
+            }
+        }
+    }
+    Ok(true)
+}
+
+#[test]
+fn fours_and_eights_from_each_alignment(rt: HostRuntime) -> Result<(), Fail> {
+    for lead in 0..4 {
+        assert!(rt; pass_by_fours(rt.alloc(), lead)?);
+    }
     Ok(())
 }

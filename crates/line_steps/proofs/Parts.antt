@@ -1,5 +1,5 @@
 -- Parts that are counted and added to.
-use Rattle.std.proofs.Common.{◌≡◌, ℕ, suc, zero, ◌+◌, ◌<◌, List, [], ◌∷◌, ◌++◌, length, take, get_or, sym, ◌∙◌, ap, arith, append_assoc, append-nil, slice_set}
+use Rattle.std.proofs.Common.{◌≡◌, ℕ, suc, zero, ◌+◌, ◌<◌, List, [], ◌∷◌, ◌++◌, length, take, drop, get_or, sym, ◌∙◌, ap, arith, append_assoc, append-nil, slice_set}
 use Rattle.std.proofs.lemmas.List.{take_more}
 use Rattle.tty_base.specs.declared.lines.LineStep.{LineStep}
 use Rattle.line_steps.specs.declared.Part.{Part}
@@ -14,6 +14,15 @@ one_part_more parts i next lt here =
     all : (ps : List Part) (p : Part) → steps_in (ps ++ p ∷ []) ≡ steps_in ps ++ steps_of p
     all [] p = append-nil (steps_of p)
     all (q ∷ ps) p = ap (λ xs. steps_of q ++ xs) (all ps p) ∙ sym (append_assoc (steps_of q) (steps_in ps) (steps_of p))
+
+-- the steps of the parts before, of this one, and of those behind it
+pub steps_around : (parts : List Part) (i : ℕ) (here : Part) → i < length parts → get_or parts i here ≡ here
+    → steps_in parts ≡ steps_in (take i parts) ++ (steps_of here ++ steps_in (drop (suc i) parts))
+steps_around [] i here lt is = absurd (omega arith)
+steps_around (p ∷ ps) zero here lt is = ap (λ q. steps_of q ++ steps_in ps) is
+steps_around (p ∷ ps) (suc i) here lt is =
+    ap (λ xs. steps_of p ++ xs) (steps_around ps i here (omega arith) is)
+    ∙ sym (append_assoc (steps_of p) (steps_in (take i ps)) (steps_of here ++ steps_in (drop (suc i) ps)))
 
 -- steps that are added to the last part are added to all
 pub last_part_longer : (parts : List Part) (n : ℕ) (default new : Part) (more : List LineStep) → length parts ≡ suc n

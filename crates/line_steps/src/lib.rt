@@ -17,8 +17,10 @@ const PIECE: usize = 64;
 
 /// What happens on a line: characters with one flag, one after the other, or one step of any kind.
 #[derive(Debug, Drop)]
-enum Part {
+pub enum Part {
+    /// Characters that arrive one after the other, each with this flag.
     Run(Flag, Vec<u8>),
+    /// One step, of any kind.
     One(LineStep),
 }
 
@@ -68,6 +70,14 @@ impl LineSteps {
         }
         self.parts.push(Part::Run(flag, bytes))?;
         Ok(())
+    }
+
+    /// The parts that the steps are kept in, in order.
+    #[inline(always)]
+    pub fn parts(&self) -> &[Part]
+        ensures { steps_in result.now ≡ self.now.items }
+    {
+        self.parts.as_slice()
     }
 
     /// How many steps there are, as far as can be counted.

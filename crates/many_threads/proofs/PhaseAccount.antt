@@ -6,7 +6,6 @@ use Rattle.std.specs.Prelude.{slice_get, nat_le, count_by}
 use Rattle.std.proofs.lemmas.Bool.{false≢true}
 use Rattle.std.proofs.lemmas.Grind.{flat_map-append}
 use Rattle.std.proofs.lemmas.List.{append_cancel_left, length-map}
-use Rattle.std.proofs.lemmas.List.Elements.{All-head, All-tail, All-nil, All-cons}
 use Rattle.tty_base.specs.declared.characters.Flagged.{Flagged}
 use Rattle.tty_base.specs.declared.lines.LineStep.{LineStep}
 use Rattle.tty_base.specs.declared.lines.Overrun.{Overrun}
@@ -32,6 +31,7 @@ use Rattle.one_thread.specs.Roles.{Scene, PlainRole}
 use Rattle.one_thread.specs.Lines.{HasPut}
 use Rattle.one_thread.specs.LineInside.{KnowsTaken}
 use Rattle.one_thread.proofs.JournalLemmas.{leads_both, none_ends}
+use Rattle.one_thread.proofs.LineLists.{All_front}
 use Rattle.one_thread.proofs.LineSteps.{has_put_met, has_put_at}
 use Rattle.one_thread.proofs.NameLemmas.{few_names}
 use Rattle.one_thread.proofs.PhaseLemmas.{phase_stays}
@@ -119,10 +119,6 @@ last_true false b c d h = absurd (false≢true h)
 is_played : (b : Bool) (first count next : ℕ) (over : Bool) → b ≡ true → HasPlayed b first count next over → over ≡ true
 is_played true first count next over is h = h.1
 is_played false first count next over is h = absurd (false≢true is)
-
-All_front : {A : Type 0} (P : A → Type 0) (xs : List A) (ys : List A) → All P (xs ++ ys) → All P xs
-All_front P [] ys h = All-nil P
-All_front P (x ∷ xs) ys h = All-cons P x xs (All-head P x (xs ++ ys) h) (All_front P xs ys (All-tail P x (xs ++ ys) h))
 
 -- the putter met the end that takes out, of which these were taken
 put_meets : (v : PortValue) (met now : PutterState Flagged) (played : LineState) (steps : List LineStep) (taken : List Flagged) → HasPut v met played steps → Meets taken met now → HasPut v now played steps

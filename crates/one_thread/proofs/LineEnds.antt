@@ -7,22 +7,25 @@ use Rattle.std.proofs.lemmas.Bool.{false≢true, or_cases}
 use Rattle.std.proofs.lemmas.List.Elements.{All-nil, All-push}
 use Rattle.tty_base.specs.declared.characters.Flagged.{Flagged}
 use Rattle.tty_base.specs.declared.lines.LineStep.{LineStep}
+use Rattle.tty_base.specs.declared.lines.LineStep.TheVariants.{Idle, Unmask}
 use Rattle.tty_base.specs.declared.lines.Overrun.{Overrun}
+use Rattle.tty_base.specs.Lines.{arrival_count}
 use Rattle.word_ring.specs.Ends.{PutterState, TakerState}
 use Rattle.word_ring.proofs.Beginnings.{begins_whole}
 use Rattle.uart_line.specs.LineState.{LineState}
-use Rattle.uart_line.specs.Received.{received_list}
+use Rattle.uart_line.specs.Received.{received_list, closed_script}
+use Rattle.uart_line.proofs.Steps.{arrival_count-append}
 use Rattle.tty_calls.specs.declared.answers.Denied.{Denied}
 use Rattle.tty_calls.specs.declared.answers.Denied.TheVariants.{NoMemory, Full}
 use Rattle.tty_calls.specs.declared.journals.Who.TheVariants.{Line}
 use Rattle.tty_calls.specs.Plain.{PlainEntry, line_ended}
-use Rattle.tty_calls.specs.Sessions.{call_at, counts_on}
+use Rattle.tty_calls.specs.Sessions.{call_at, counts_on, line_on}
 use Rattle.tty_terminal.specs.declared.callers.Piece.{Piece}
 use Rattle.tty_terminal.specs.Terminals.{Terminal, caller_at}
 use Rattle.tty_terminal.specs.Steps.{follows, Allowed, after, nothing_to_flush}
 use Rattle.tty_terminal.specs.Runs.{Leads, Grows, is_flush, chars_of}
 use Rattle.tty_terminal.proofs.Runs.{leads_more}
-use Rattle.journal_check.specs.Legal.{first_step, script_of_first, received_before, AreInPhases}
+use Rattle.journal_check.specs.Legal.{phase_at, first_step, script_of_first, received_before, AreInPhases}
 use Rattle.port_core.specs.Flips.{MeetsTaker, after_meeting}
 use Rattle.port_core.specs.Phases.{EndsLine}
 use Rattle.port_core.specs.Ports.{PortValue, IsPort, Denies, call_in, is_stuck, phase_entry}
@@ -30,7 +33,7 @@ use Rattle.one_thread.specs.Order.{Place, cuts_in, cuts_after, due, front_to_flu
 use Rattle.one_thread.specs.Roles.{Scene}
 use Rattle.one_thread.specs.Stages.{IsOfScene, BeginsRun, RunsBelow, IsAfterLine, caller_at_rest, place_of}
 use Rattle.one_thread.specs.Lines.{HasPut, IsAtPhase, SeesIn, PlaysLine, StopsInLine, StopsLine}
-use Rattle.one_thread.specs.LineInside.{LineStart, steps_before, steps_of, IsInLine, SeesFrom, IsCaughtUp, IsBetweenSteps, DeniesCut}
+use Rattle.one_thread.specs.LineInside.{LineStart, steps_before, steps_of, IsInLine, SeesFrom, IsCaughtUp, IsBetweenSteps, DeniesCut, PlaysSteps, StopsSteps, StandsBefore}
 use Rattle.one_thread.proofs.LineLists.{no_cut_left, All_later, overruns_see_most}
 use Rattle.one_thread.proofs.Places.{in_phases_more, place_more, turns_more}
 use Rattle.one_thread.proofs.AfterLine.{run_of_port}
@@ -106,6 +109,34 @@ module _ (s : Scene) (v : PortValue) (putter met : PutterState Flagged) (line : 
           | inr stuck ↦ inr stuck
         ];
       }
+
+  -- from there on
+  module _ (steps : List LineStep) (is : steps ≡ line_on s.port (phase_at s.session v.terminal.phase))
+      (at_start : PortValue) (start_is : at_start ≡ record v { flip = after_meeting v.flip putter }) where
+    script_is : steps_of (start_of s v line) ≡ [] ++ (closed_script steps ++ [])
+    script_is = ap closed_script (sym is) ∙ sym (append-nil (closed_script steps))
+
+    begins : IsBetweenSteps (start_of s v line) at_start met line [] run
+    begins = subst (λ (x : PortValue). IsBetweenSteps (start_of s v line) x met line [] run) (sym start_is) begins_line
+
+    pub stands_at_start : line.report.arrived + arrival_count steps ≤ line.most → StandsBefore (closed_script steps) at_start met line run
+    stands_at_start room = record {
+      b = start_of s v line;
+      done = [];
+      left = [];
+      script = script_is;
+      between = begins;
+      room = omega (arith, room, arrival_count-append steps (Unmask ∷ Idle 4 ∷ []));
+    }
+
+    pub plays_all : (w : PortValue) (now : PutterState Flagged) (next : LineState) (later : ℕ)
+        → PlaysSteps (closed_script steps) at_start w met now line next run later → IsBetweenSteps (start_of s v line) w now next (steps_of (start_of s v line)) later
+    plays_all w now next later p =
+        subst (λ (l : List LineStep). IsBetweenSteps (start_of s v line) w now next (closed_script l) later) is (p.each (start_of s v line) [] [] script_is begins)
+
+    pub stops_all : (d : Denied) (w : PortValue) (now : PutterState Flagged) (next : LineState)
+        → StopsSteps d (closed_script steps) at_start w met now line next run → StopsLine d s v.terminal.phase v w now next
+    stops_all d w now next h = h.each (start_of s v line) [] [] script_is begins
 
 -- ---- a full journal
 

@@ -152,6 +152,10 @@ pub All_later : {A : Type 0} (P : A → Type 0) (xs : List A) (ys : List A) → 
 All_later P [] ys h = h
 All_later P (x ∷ xs) ys h = All_later P xs ys (All-tail P x (xs ++ ys) h)
 
+pub All_front : {A : Type 0} (P : A → Type 0) (xs : List A) (ys : List A) → All P (xs ++ ys) → All P xs
+All_front P [] ys h = All-nil P
+All_front P (x ∷ xs) ys h = All-cons P x xs (All-head P x (xs ++ ys) h) (All_front P xs ys (All-tail P x (xs ++ ys) h))
+
 -- where the heads do not fall, those after one are at least that
 later_heads : (before : List ℕ) (n : ℕ) (later : List ℕ) → IsNonDecreasing (before ++ n ∷ later) → All (λ h. n ≤ h) later
 later_heads before n later rise i d lt =

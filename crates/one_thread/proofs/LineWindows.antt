@@ -1,31 +1,55 @@
--- The steps of a whole window, of which the last alone hands over.
-use Rattle.std.proofs.Common.{◌≡◌, ℕ, suc, zero, ◌+◌, ◌-◌, ◌^◌, min, ◌<◌, ◌≤◌, List, [], ◌∷◌, ◌++◌, length, take, drop, get_or, reverse, sym, ◌∙◌, ap, subst, arith, append_assoc, append-nil, inl, inr}
+-- A step, and the steps of a whole window, of which the last alone hands over, with the flush that follows.
+use Rattle.std.proofs.Common.{◌≡◌, ℕ, suc, zero, ◌+◌, ◌-◌, ◌^◌, min, ◌<◌, ◌≤◌, List, [], ◌∷◌, ◌++◌, length, take, drop, get_or, reverse, refl, sym, ◌∙◌, ap, subst, arith, append_assoc, append-nil, length-append, ◌⊎◌, inl, inr}
 use Rattle.std.specs.List.Sorted.{IsNonDecreasing}
 use Rattle.std.specs.List.{All}
-use Rattle.std.proofs.lemmas.List.{take_more, take-append-drop, drop_more}
+use Rattle.std.proofs.lemmas.Bool.{cases_lt}
+use Rattle.std.proofs.lemmas.List.{take_more, take-append-drop}
 use Rattle.tty_base.specs.declared.characters.Flag.TheVariants.{Normal}
 use Rattle.tty_base.specs.declared.characters.Flagged.{Flagged}
 use Rattle.tty_base.specs.declared.lines.LineStep.{LineStep}
 use Rattle.tty_base.specs.declared.lines.LineStep.TheVariants.{Rx}
-use Rattle.tty_base.specs.declared.lines.Overrun.{Overrun}
-use Rattle.tty_base.specs.Lines.{arrival, arrival_count}
+use Rattle.tty_base.specs.Lines.{arrival_count}
 use Rattle.word_ring.specs.Ends.{PutterState}
 use Rattle.word_ring.specs.Names.{name_of}
 use Rattle.uart_line.specs.LineState.{LineState, HasDone, IsUncut}
 use Rattle.uart_line.specs.Received.{received_list}
-use Rattle.uart_line.specs.Offered.{HandsOver}
-use Rattle.uart_line.proofs.Steps.{arrival_count-append, arrival_count-take, cut_after}
+use Rattle.uart_line.specs.Offered.{HandsOver, accepted_list}
+use Rattle.uart_line.proofs.Steps.{arrival_count-append, arrival_count-take}
 use Rattle.tty_calls.specs.declared.answers.Denied.{Denied}
 use Rattle.journal_check.specs.Legal.{received_before}
 use Rattle.port_core.specs.Ports.{PortValue}
 use Rattle.one_thread.specs.Order.{cuts_after}
 use Rattle.one_thread.specs.Lines.{HasPut, StopsLine}
-use Rattle.one_thread.specs.LineInside.{LineStart, steps_before, steps_of, IsInLine, SeesFrom, IsCaughtUp, IsBetweenSteps, FlushesCut, DeniesCut}
+use Rattle.one_thread.specs.LineInside.{LineStart, steps_before, steps_of, IsInLine, SeesFrom, IsBetweenSteps, FlushesSince, DeniesCut, PlaysSteps, StopsSteps}
 use Rattle.one_thread.proofs.LineLists.{handed_list, handed_is, no_cut, cuts_same}
 use Rattle.one_thread.proofs.LineSteps.{StepsTo}
 use Rattle.one_thread.proofs.LineCuts.{step_rests, step_flushes}
 use Rattle.one_thread.proofs.LineEnds.{stops_at_cut}
-use Rattle.one_thread.proofs.LineLoop.{none_put}
+use Rattle.one_thread.proofs.LineLoop.{stops_early}
+
+-- where no more are put, as many are as before
+none_put : (putter now : PutterState Flagged) (line next : LineState) (before : List LineStep) (step : LineStep) → StepsTo putter now line next before step
+    → length now.sent ≤ length putter.sent → length now.sent ≡ length putter.sent
+none_put putter now line next before step st none =
+    omega (arith, none, ap length st.hands_over.offers.accepts_rest, length-append putter.sent (accepted_list st.hands_over.list st.hands_over.offers.answers))
+
+module _ (b : LineStart) (v : PortValue) (putter now : PutterState Flagged) (line next : LineState) (done left : List LineStep) (step : LineStep) (run : ℕ)
+    (script : steps_of b ≡ done ++ step ∷ left)
+    (i : IsBetweenSteps b v putter line done run)
+    (st : StepsTo putter now line next (steps_before b ++ done) step)
+    (w : PortValue) (after : PutterState Flagged) (later : ℕ)
+    (f : FlushesSince (length putter.sent) v w now after run later) where
+  either : (length putter.sent < length now.sent) ⊎ (length now.sent ≤ length putter.sent) → IsBetweenSteps b w after next (done ++ step ∷ []) later
+  either (inl some) =
+      step_flushes b v putter now line next done left step run script i st w after (min (length now.sent - length putter.sent) 64) later
+      refl (omega (arith, some)) (f.some some)
+  either (inr none) =
+      let same = f.none none in
+      rw (same.0, same.1, same.2) (step_rests b v putter now line next done left step run script i st (none_put putter now line next (steps_before b ++ done) step st none))
+
+  -- a step, and the flush of what it has put
+  pub step_flushed : IsBetweenSteps b w after next (done ++ step ∷ []) later
+  step_flushed = either (cases_lt (length putter.sent) (length now.sent))
 
 -- what a read past the end would give
 abbrev pub nothing : LineStep
@@ -135,7 +159,7 @@ module _ (b : LineStart) (v : PortValue) (putter : PutterState Flagged) (line : 
         }
 
 module _ (b : LineStart) (v : PortValue) (putter now : PutterState Flagged) (line next : LineState) (done steps left : List LineStep) (run n : ℕ)
-    (script : steps_of b ≡ done ++ (steps ++ left))
+    (script : steps_of b ≡ done ++ (take n steps ++ left))
     (i : IsBetweenSteps b v putter line done run)
     (to : WindowTo putter now line next (steps_before b ++ done) steps n) where
   abbrev k : ℕ
@@ -172,13 +196,10 @@ module _ (b : LineStart) (v : PortValue) (putter now : PutterState Flagged) (lin
   at_last : IsBetweenSteps b v putter there front run
   at_last = goes_on b v putter line done steps run n i to.within to.uncut k last_below
 
-  last_script : steps_of b ≡ front ++ step ∷ (drop (k + 1) steps ++ left)
+  last_script : steps_of b ≡ front ++ step ∷ left
   last_script =
-      let parts : steps ≡ take k steps ++ step ∷ drop (k + 1) steps =
-      sym (take-append-drop k steps) ∙ ap (λ (l : List LineStep). take k steps ++ l) (drop_more steps k nothing last_inside) in
-      script ∙ ap (λ (l : List LineStep). done ++ (l ++ left)) parts
-      ∙ ap (λ (l : List LineStep). done ++ l) (append_assoc (take k steps) (step ∷ drop (k + 1) steps) left)
-      ∙ sym (append_assoc done (take k steps) (step ∷ (drop (k + 1) steps ++ left)))
+      script ∙ sym (append_assoc done (take n steps) left)
+      ∙ ap (λ (l : List LineStep). l ++ left) whole ∙ append_assoc front (step ∷ []) left
 
   steps_to : StepsTo putter now there next (steps_before b ++ front) step
   steps_to =
@@ -196,17 +217,45 @@ module _ (b : LineStart) (v : PortValue) (putter now : PutterState Flagged) (lin
         arrived = omega (arith, to.arrived, u.arrived, ap (λ (m : ℕ). arrival_count (take m steps)) last_is, arrival_count-take steps k nothing last_inside);
       }
 
-  pub window_rests : (put : ℕ) → put ≡ min (length now.sent - length putter.sent) 64 → put ≡ 0 → IsBetweenSteps b v now next (done ++ take n steps) run
-  window_rests put is none =
-      subst (λ (l : List LineStep). IsBetweenSteps b v now next l run) (sym whole)
-      (step_rests b v putter now there next front (drop (k + 1) steps ++ left) step run last_script at_last steps_to
-      (none_put putter now there next (steps_before b ++ front) step put steps_to is none))
-
-  pub window_flushes : (w : PortValue) (after : PutterState Flagged) (most later : ℕ) → most ≡ min (length now.sent - length putter.sent) 64 → 1 ≤ most
-      → FlushesCut v w now after run most later → IsBetweenSteps b w after next (done ++ take n steps) later
-  window_flushes w after most later is some f =
+  window_flushed : (w : PortValue) (after : PutterState Flagged) (later : ℕ) → FlushesSince (length putter.sent) v w now after run later
+      → IsBetweenSteps b w after next (done ++ take n steps) later
+  window_flushed w after later f =
       subst (λ (l : List LineStep). IsBetweenSteps b w after next l later) (sym whole)
-      (step_flushes b v putter now there next front (drop (k + 1) steps ++ left) step run last_script at_last steps_to w after most later is some f)
+      (step_flushed b v putter now there next front left step run last_script at_last steps_to w after later f)
 
-  pub window_stops : (d : Denied) (w : PortValue) (met : PutterState Flagged) → DeniesCut d v w now met → StopsLine d b.scene b.phase b.port w met next
-  window_stops d w met h = stops_at_cut d b v w putter now met there next front (drop (k + 1) steps ++ left) step last_script at_last.in_line steps_to h
+  window_stopped : (d : Denied) (w : PortValue) (met : PutterState Flagged) → DeniesCut d v w now met → StopsLine d b.scene b.phase b.port w met next
+  window_stopped d w met h = stops_at_cut d b v w putter now met there next front left step last_script at_last.in_line steps_to h
+
+-- ---- with the flush that follows
+
+module _ (v : PortValue) (putter now : PutterState Flagged) (line next : LineState) (step : LineStep) (run : ℕ)
+    (st : (before : List LineStep) → HasDone line before → StepsTo putter now line next before step) where
+  pub step_plays : (w : PortValue) (after : PutterState Flagged) (later : ℕ) → FlushesSince (length putter.sent) v w now after run later
+      → PlaysSteps (step ∷ []) v w putter after line next run later
+  step_plays w after later f = record {
+    each = λ b done left script i.
+        step_flushed b v putter now line next done left step run script i (st (steps_before b ++ done) i.in_line.has_put.done) w after later f;
+  }
+
+  pub step_stops : (d : Denied) (w : PortValue) (met : PutterState Flagged) → DeniesCut d v w now met → StopsSteps d (step ∷ []) v w putter met line next run
+  step_stops d w met h = record {
+    each = λ b done left script i.
+        stops_at_cut d b v w putter now met line next done left step script i.in_line (st (steps_before b ++ done) i.in_line.has_put.done) h;
+  }
+
+module _ (v : PortValue) (putter now : PutterState Flagged) (line next : LineState) (steps : List LineStep) (run n : ℕ)
+    (to : (before : List LineStep) → HasDone line before → WindowTo putter now line next before steps n) where
+  pub window_plays : (w : PortValue) (after : PutterState Flagged) (later : ℕ) → FlushesSince (length putter.sent) v w now after run later
+      → PlaysSteps (take n steps) v w putter after line next run later
+  window_plays w after later f = record {
+    each = λ b done left script i.
+        window_flushed b v putter now line next done steps left run n script i (to (steps_before b ++ done) i.in_line.has_put.done) w after later f;
+  }
+
+  pub window_stops : (d : Denied) (w : PortValue) (met : PutterState Flagged) → DeniesCut d v w now met → StopsSteps d steps v w putter met line next run
+  window_stops d w met h =
+      subst (λ (l : List LineStep). StopsSteps d l v w putter met line next run) (take-append-drop n steps)
+      (stops_early d (take n steps) (drop n steps) v w putter met line next run (record {
+        each = λ b done left script i.
+            window_stopped b v putter now line next done steps left run n script i (to (steps_before b ++ done) i.in_line.has_put.done) d w met h;
+      }))

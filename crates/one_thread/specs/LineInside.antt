@@ -1,5 +1,5 @@
 -- What holds between two steps of the line of a phase.
-use Rattle.std.specs.Prelude.{◌≡◌, ◌⊎◌, ◌≤◌, ◌<◌, ◌+◌, ℕ, List, [], ◌∷◌, ◌++◌, true, false, All, length, reverse}
+use Rattle.std.specs.Prelude.{◌≡◌, ◌⊎◌, ◌≤◌, ◌<◌, ◌+◌, ◌-◌, min, ℕ, List, [], ◌∷◌, ◌++◌, true, false, All, length, reverse}
 use Rattle.std.specs.List.Sorted.{IsNonDecreasing}
 use mathlib.Core.List.{IsPrefix}
 use Rattle.tty_base.specs.declared.characters.Flagged.{Flagged}
@@ -22,7 +22,7 @@ use Rattle.port_core.specs.Ports.{PortValue, IsPort, Denies, is_stuck}
 use Rattle.one_thread.specs.Order.{cuts_after}
 use Rattle.one_thread.specs.Roles.{Scene}
 use Rattle.one_thread.specs.Stages.{IsOfScene, AreAtFirst, BeginsRun, place_of}
-use Rattle.one_thread.specs.Lines.{HasPut}
+use Rattle.one_thread.specs.Lines.{HasPut, StopsLine}
 
 -- where the line of a phase began: the scene and the phase, and the port and the line as they were then
 pub record LineStart : Type 0 where
@@ -120,3 +120,29 @@ pub record FlushesCut (old new : PortValue) (putter now : PutterState Flagged) (
 pub record DeniesCut (d : Denied) (old new : PortValue) (putter now : PutterState Flagged) : Type 0 where
   pub hears : now ≡ with_all_pushed putter
   pub denies : Denies d (record old { flip = after_meeting old.flip putter }) new
+
+-- what was put since so many were put is flushed, a piece of it at most; where that is nothing, all stays
+pub record FlushesSince (before : ℕ) (old new : PortValue) (putter now : PutterState Flagged) (run next : ℕ) : Type 0 where
+  pub none : length putter.sent ≤ before → (new ≡ old) × (now ≡ putter) × (next ≡ run)
+  pub some : before < length putter.sent → FlushesCut old new putter now run (min (length putter.sent - before) 64) next
+
+-- ---- some steps of a line
+
+-- Wherever a line is between two steps and these are its next ones, it does them, and is between two steps again.
+pub record PlaysSteps (steps : List LineStep) (v w : PortValue) (putter now : PutterState Flagged) (line next : LineState) (run later : ℕ) : Type 0 where
+  pub each : (b : LineStart) (done left : List LineStep) → steps_of b ≡ done ++ (steps ++ left)
+      → IsBetweenSteps b v putter line done run → IsBetweenSteps b w now next (done ++ steps) later
+
+-- Wherever a line is between two steps and these are its next ones, it stops in them.
+pub record StopsSteps (d : Denied) (steps : List LineStep) (v w : PortValue) (putter now : PutterState Flagged) (line next : LineState) (run : ℕ) : Type 0 where
+  pub each : (b : LineStart) (done left : List LineStep) → steps_of b ≡ done ++ (steps ++ left)
+      → IsBetweenSteps b v putter line done run → StopsLine d b.scene b.phase b.port w now next
+
+-- Some line is between two steps and these are its next ones, with room for what arrives in them.
+pub record StandsBefore (steps : List LineStep) (v : PortValue) (putter : PutterState Flagged) (line : LineState) (run : ℕ) : Type 0 where
+  pub b : LineStart
+  pub done : List LineStep
+  pub left : List LineStep
+  pub script : steps_of b ≡ done ++ (steps ++ left)
+  pub between : IsBetweenSteps b v putter line done run
+  pub room : line.report.arrived + arrival_count steps ≤ line.most

@@ -1,18 +1,22 @@
-//! The line of a phase: its steps, each window of them followed by a flush of what it has put.
+//! The line of a phase: its parts, each window of characters, and each other step, followed by a flush of what
+//! it has put.
 
-ghost use Rattle.std.specs.Prelude.{◌≡◌, ◌≤◌, ◌<◌, ◌+◌, ◌-◌, ◌^◌, List, [], ◌∷◌, ◌++◌, IsTrue, IfOk, IfErr, All, length, take, drop};
-ghost use Rattle.tty_base.specs.declared.lines.LineStep.{LineStep};
+ghost use Rattle.std.specs.Prelude.{◌≡◌, ◌≤◌, ◌<◌, ◌+◌, ◌-◌, ◌^◌, [], ◌∷◌, IsTrue, IfOk, IfErr, All, length, map, take, drop};
 ghost use Rattle.tty_base.specs.Lines.{arrival, arrival_count, is_step};
+ghost use Rattle.line_steps.specs.Steps.{rx_step, steps_of as steps_of_part};
+ghost use Rattle.uart_line.specs.GoodSteps.{good_steps};
+ghost use Rattle.uart_line.specs.Received.{closed_script};
 ghost use Rattle.tty_calls.specs.Sessions.{line_on};
 ghost use Rattle.journal_check.specs.Legal.{phase_at};
 ghost use Rattle.one_thread.specs.Roles.{Scene};
 ghost use Rattle.one_thread.specs.Stages.{BeginsRun};
 ghost use Rattle.one_thread.specs.Lines.{IsAtPhase, PlaysLine, StopsLine};
-ghost use Rattle.one_thread.specs.LineInside.{LineStart, IsBetweenSteps, steps_of, FlushesCut, DeniesCut, run_after};
+ghost use Rattle.one_thread.specs.LineInside.{StandsBefore, PlaysSteps, StopsSteps, FlushesSince, DeniesCut, FlushesCut, run_after};
 
 use flip_buffer::FlipIn;
+use line_steps::{LineSteps, Part};
 use port_core::{Flushed, Port};
-use tty_base::LineStep;
+use tty_base::{Flag, Flagged, LineStep};
 use tty_calls::Denied;
 use uart_line::Line;
 use uart_regs::TIMEOUT;
@@ -25,31 +29,120 @@ pub(crate) fn play_line(
     port: &mut Port,
     putter: &mut FlipIn,
     line: &mut Line,
-    steps: &[LineStep],
+    steps: &LineSteps,
     run: u32,
 ) -> Result<u32, Denied>
     ghost scene: { Scene }
     requires begins { IsAtPhase scene port.old.terminal.phase port.old putter.old line.old run }
     requires within { port.old.terminal.phase < length scene.session.phases }
-    requires steps { steps.now ≡ line_on scene.port (phase_at scene.session port.old.terminal.phase) }
-    requires good { All (λ step. IsTrue (is_step step)) steps.now }
-    requires room { line.old.report.arrived + arrival_count steps.now ≤ line.old.most }
+    requires steps { steps.now.items ≡ line_on scene.port (phase_at scene.session port.old.terminal.phase) }
+    requires good { All (λ step. IsTrue (is_step step)) steps.now.items }
+    requires room { line.old.report.arrived + arrival_count steps.now.items ≤ line.old.most }
     ensures ok { IfOk result (λ next. PlaysLine scene port.old.terminal.phase port.old port.new putter.new line.old line.new next) }
     ensures err { IfErr result (λ d. StopsLine d scene port.old.terminal.phase port.old port.new putter.new line.new) }
 {
     port.numbers_tell();
     port.meet(putter);
+    let next = play_steps(port, putter, line, steps, run)?;
+    let _journal = port.journal();
+    port.line_end(putter)?;
+    Ok(next)
+}
+
+/// The steps of the line, and the two that close it.
+fn play_steps(
+    port: &mut Port,
+    putter: &mut FlipIn,
+    line: &mut Line,
+    steps: &LineSteps,
+    run: u32,
+) -> Result<u32, Denied>
+    requires good { All (λ step. IsTrue (is_step step)) steps.now.items }
+    requires stands { StandsBefore (closed_script steps.now.items) port.old putter.old line.old run }
+    ensures ok { IfOk result (λ next. PlaysSteps (closed_script steps.now.items) port.old port.new putter.old putter.new line.old line.new run next) }
+    ensures err { IfErr result (λ d. StopsSteps d (closed_script steps.now.items) port.old port.new putter.old putter.new line.old line.new run) }
+{
+    let mut next = run;
+    for part in steps.parts() {
+        next = play_part(port, putter, line, part, next)?;
+    }
+    close(port, putter, line, next)
+}
+
+/// The two steps that close a line.
+#[inline(never)]
+fn close(port: &mut Port, putter: &mut FlipIn, line: &mut Line, run: u32) -> Result<u32, Denied>
+    requires stands { StandsBefore (closed_script []) port.old putter.old line.old run }
+    ensures ok { IfOk result (λ next. PlaysSteps (closed_script []) port.old port.new putter.old putter.new line.old line.new run next) }
+    ensures err { IfErr result (λ d. StopsSteps d (closed_script []) port.old port.new putter.old putter.new line.old line.new run) }
+{
+    let next = play_step(port, putter, line, LineStep::Unmask, run)?;
+    play_step(port, putter, line, LineStep::Idle(TIMEOUT as u16), next)
+}
+
+/// A part of the line. Mostly good characters arrive.
+fn play_part(
+    port: &mut Port,
+    putter: &mut FlipIn,
+    line: &mut Line,
+    part: &Part,
+    run: u32,
+) -> Result<u32, Denied>
+    requires good { All (λ step. IsTrue (is_step step)) (steps_of_part part.now) }
+    requires stands { StandsBefore (steps_of_part part.now) port.old putter.old line.old run }
+    ensures ok { IfOk result (λ next. PlaysSteps (steps_of_part part.now) port.old port.new putter.old putter.new line.old line.new run next) }
+    ensures err { IfErr result (λ d. StopsSteps d (steps_of_part part.now) port.old port.new putter.old putter.new line.old line.new run) }
+{
+    match part {
+        Part::Run(Flag::Normal, bytes) => play_run(port, putter, line, bytes.as_slice(), run),
+        Part::Run(flag, bytes) => play_flagged(port, putter, line, *flag, bytes.as_slice(), run),
+        Part::One(step) => play_step(port, putter, line, *step, run),
+    }
+}
+
+/// Good characters, a window at a time.
+fn play_run(
+    port: &mut Port,
+    putter: &mut FlipIn,
+    line: &mut Line,
+    bytes: &[u8],
+    run: u32,
+) -> Result<u32, Denied>
+    requires stands { StandsBefore (good_steps bytes.now) port.old putter.old line.old run }
+    ensures ok { IfOk result (λ next. PlaysSteps (good_steps bytes.now) port.old port.new putter.old putter.new line.old line.new run next) }
+    ensures err { IfErr result (λ d. StopsSteps d (good_steps bytes.now) port.old port.new putter.old putter.new line.old line.new run) }
+{
     let mut next = run;
     let mut at = 0;
-    while at < steps.len() {
-        let passed = play_window(port, putter, line, steps_from(steps, at), next)?;
+    while at < bytes.len() {
+        let passed = play_window(port, putter, line, bytes_from(bytes, at), next)?;
         at += passed.steps;
         next = passed.run;
     }
-    next = play_step(port, putter, line, LineStep::Unmask, next)?;
-    next = play_step(port, putter, line, LineStep::Idle(TIMEOUT as u16), next)?;
-    let _journal = port.journal();
-    port.line_end(putter)?;
+    Ok(next)
+}
+
+/// Characters with a flag, one after the other.
+#[inline(never)]
+fn play_flagged(
+    port: &mut Port,
+    putter: &mut FlipIn,
+    line: &mut Line,
+    flag: Flag,
+    bytes: &[u8],
+    run: u32,
+) -> Result<u32, Denied>
+    requires good { All (λ step. IsTrue (is_step step)) (map (rx_step flag) bytes.now) }
+    requires stands { StandsBefore (map (rx_step flag) bytes.now) port.old putter.old line.old run }
+    ensures ok { IfOk result (λ next. PlaysSteps (map (rx_step flag) bytes.now) port.old port.new putter.old putter.new line.old line.new run next) }
+    ensures err { IfErr result (λ d. StopsSteps d (map (rx_step flag) bytes.now) port.old port.new putter.old putter.new line.old line.new run) }
+{
+    let mut next = run;
+    for place in 0..bytes.len() {
+        let byte = bytes[place];
+        let step = LineStep::Rx(Flagged { byte, flag });
+        next = play_step(port, putter, line, step, next)?;
+    }
     Ok(next)
 }
 
@@ -62,41 +155,29 @@ struct Passed {
     run: u32,
 }
 
-/// The next of these steps of the line, or a whole window of them. Where they put characters, as many
-/// of these are flushed as can be.
+/// The first of these good characters, or a whole window of them, and a flush of what was put.
 #[inline(always)]
 fn play_window(
     port: &mut Port,
     putter: &mut FlipIn,
     line: &mut Line,
-    steps: &[LineStep],
+    bytes: &[u8],
     run: u32,
 ) -> Result<Passed, Denied>
-    requires some { 0 < length steps.now }
-    requires good { All (λ step. IsTrue (is_step step)) steps.now }
-    requires room { line.old.report.arrived + arrival_count steps.now ≤ line.old.most }
+    requires some { 0 < length bytes.now }
+    requires room { line.old.report.arrived + length bytes.now ≤ line.old.most }
     requires put { line.old.most ≤ (2 ^ 63 - length putter.old.sent) + line.old.handed }
     requires ring { putter.old.ring ≡ port.old.flip.ring }
     requires run { BeginsRun run port.old }
-    ensures count { IfOk result (λ passed. (0 < passed.steps) × (passed.steps ≤ length steps.now)) }
-    ensures ok { (b : LineStart) (done left : List LineStep) → steps_of b ≡ done ++ (steps.now ++ left)
-        → IsBetweenSteps b port.old putter.old line.old done run
-        → IfOk result (λ passed. IsBetweenSteps b port.new putter.new line.new (done ++ take passed.steps steps.now) passed.run) }
-    ensures err { (b : LineStart) (done left : List LineStep) → steps_of b ≡ done ++ (steps.now ++ left)
-        → IsBetweenSteps b port.old putter.old line.old done run
-        → IfErr result (λ d. StopsLine d b.scene b.phase b.port port.new putter.new line.new) }
+    ensures some { IfOk result (λ passed. 0 < passed.steps) }
+    ensures within { IfOk result (λ passed. passed.steps ≤ length bytes.now) }
+    ensures ok { IfOk result (λ passed. PlaysSteps (take passed.steps (good_steps bytes.now)) port.old port.new putter.old putter.new line.old line.new run passed.run) }
+    ensures err { IfErr result (λ d. StopsSteps d (good_steps bytes.now) port.old port.new putter.old putter.new line.old line.new run) }
 {
     let before = putter.sent();
-    let count = line.step_window(steps, putter);
-    let put = putter.sent().saturating_sub(before).min(PIECE) as u32;
-    if put == 0 {
-        return Ok(Passed { steps: count, run });
-    }
-    let next = flush_cut(port, putter, run, put)?;
-    Ok(Passed {
-        steps: count,
-        run: next,
-    })
+    let steps = line.step_good(bytes, putter);
+    let next = flush_since(port, putter, before, run)?;
+    Ok(Passed { steps, run: next })
 }
 
 /// A step of the line, and a flush of what it has put.
@@ -113,23 +194,36 @@ fn play_step(
     requires put { line.old.most ≤ (2 ^ 63 - length putter.old.sent) + line.old.handed }
     requires ring { putter.old.ring ≡ port.old.flip.ring }
     requires run { BeginsRun run port.old }
-    ensures ok { (b : LineStart) (done left : List LineStep) → steps_of b ≡ done ++ step ∷ left
-        → IsBetweenSteps b port.old putter.old line.old done run
-        → IfOk result (λ next. IsBetweenSteps b port.new putter.new line.new (done ++ step ∷ []) next) }
-    ensures err { (b : LineStart) (done left : List LineStep) → steps_of b ≡ done ++ step ∷ left
-        → IsBetweenSteps b port.old putter.old line.old done run
-        → IfErr result (λ d. StopsLine d b.scene b.phase b.port port.new putter.new line.new) }
+    ensures ok { IfOk result (λ next. PlaysSteps (step ∷ []) port.old port.new putter.old putter.new line.old line.new run next) }
+    ensures err { IfErr result (λ d. StopsSteps d (step ∷ []) port.old port.new putter.old putter.new line.old line.new run) }
 {
-    let passed = play_window(port, putter, line, &[step], run)?;
-    Ok(passed.run)
+    let before = putter.sent();
+    line.step(step, putter);
+    flush_since(port, putter, before, run)
 }
 
-/// The steps from the place `at` on.
-fn steps_from(steps: &[LineStep], at: usize) -> &[LineStep]
-    requires { at ≤ length steps.now }
-    ensures { result.now ≡ drop at steps.now }
+/// The bytes from the place `at` on.
+#[inline(always)]
+fn bytes_from(bytes: &[u8], at: usize) -> &[u8]
+    requires { at ≤ length bytes.now }
+    ensures { result.now ≡ drop at bytes.now }
 {
-    &steps[at..]
+    &bytes[at..]
+}
+
+/// Flushes as much as can be of what was put since so many were put. Answers the number of the next flush run.
+#[inline(always)]
+fn flush_since(port: &mut Port, putter: &mut FlipIn, before: u64, run: u32) -> Result<u32, Denied>
+    requires ring { putter.old.ring ≡ port.old.flip.ring }
+    requires run { BeginsRun run port.old }
+    ensures ok { IfOk result (λ next. FlushesSince before port.old port.new putter.old putter.new run next) }
+    ensures err { IfErr result (λ d. DeniesCut d port.old port.new putter.old putter.new) }
+{
+    let put = putter.sent().saturating_sub(before).min(PIECE) as u32;
+    if put == 0 {
+        return Ok(run);
+    }
+    flush_cut(port, putter, run, put)
 }
 
 /// Flushes what was put last, so many characters at most. Answers the number of the next flush run.

@@ -17,7 +17,7 @@ use flip_buffer::FlipIn;
 use line_steps::LineSteps;
 use port_core::Port;
 use std::alloc::Global;
-use tty_base::{LineStep, NoMemory};
+use tty_base::NoMemory;
 use tty_calls::{Denied, Names, Script, Session};
 use uart_line::Line;
 
@@ -65,7 +65,7 @@ fn play_parts(
     station: &mut Station,
     roles: &[Role],
     scripts: &[Script],
-    steps: &[LineStep],
+    steps: &LineSteps,
     ticks: u32,
     run: u32,
 ) -> Result<u32, Denied>
@@ -73,8 +73,8 @@ fn play_parts(
     requires within { station.old.port.terminal.phase < length scene.session.phases }
     requires before { IsAtPhase scene station.old.port.terminal.phase station.old.port station.old.putter station.old.line run }
     requires played { HavePlayedInOrder scene station.old.port.terminal.phase station.old.port.journal station.old.line.report.overruns.items }
-    requires steps { steps.now ≡ line_on scene.port (phase_at scene.session station.old.port.terminal.phase) }
-    requires good { All (λ step. IsTrue (is_step step)) steps.now }
+    requires steps { steps.now.items ≡ line_on scene.port (phase_at scene.session station.old.port.terminal.phase) }
+    requires good { All (λ step. IsTrue (is_step step)) steps.now.items }
     requires roles { AreRolesOf scene station.old.port.terminal.phase (map (role_in scripts.now) roles.now) }
     requires ticks { ticks ≡ ticks_on scene.port (phase_at scene.session station.old.port.terminal.phase) }
     ensures at_phase { IfOk result (λ next. IsAtPhase scene (station.old.port.terminal.phase + 1) station.new.port station.new.putter station.new.line next) }
@@ -123,16 +123,12 @@ pub(crate) fn play_phase(
         Ok(roles) => roles,
         Err(NoMemory) => return Err(Denied::NoMemory),
     };
-    let steps = match steps_of(session, number, k).written_out(alloc) {
-        Ok(steps) => steps,
-        Err(NoMemory) => return Err(Denied::NoMemory),
-    };
     let scripts = scripts_of(session, k);
     let next = play_parts(
         station,
         roles.as_slice(),
         scripts,
-        steps.as_slice(),
+        steps_of(session, number, k),
         ticks_of(session, number, k),
         run,
     )?;

@@ -202,8 +202,6 @@ impl<V: Kept> Cell<V> {
 
     /// Wakes those who wait for a change.
     pub fn wake(&self) {
-        if self.for_change.any() {
-            self.table.shared.wake_all(COUNT);
-        }
+        self.for_change.call_all();
     }
 }

@@ -1,30 +1,61 @@
-// Who sleeps at a cell, so that a wake where nobody does is no call of the system.
+// Who sleeps at a cell, so that a call where nobody does is no call of the system.
 
+use std::sync::Wait;
 use std::sync::atomic::{AtomicU64, Ordering};
+use std::time::Duration;
 
-/// How many threads sleep, or are about to.
+const NOBODY: u32 = 0;
+
+const SOMEBODY: u32 = 1;
+
+/// Whether somebody sleeps, or is about to, who was not called. Who wants to sleep announces it first; who
+/// changes something calls after that. So whoever looks once more between the two misses no change, and of
+/// many changes only the first calls the system.
 #[derive(Drop)]
 pub(crate) struct Sleepers {
-    count: AtomicU64,
+    asleep: AtomicU64,
 }
 
 impl Sleepers {
     pub(crate) fn new() -> Sleepers {
         Sleepers {
-            count: AtomicU64::new(0),
+            asleep: AtomicU64::new(u64::from(NOBODY)),
         }
     }
 
-    /// Whether somebody sleeps. Who is counted after this looks once more before it sleeps.
-    pub(crate) fn any(&self) -> bool {
-        self.count.load(Ordering::SeqCst) > 0
+    /// Somebody is about to sleep, or has woken and may have left others asleep.
+    pub(crate) fn announce(&self) {
+        self.asleep.store(u64::from(SOMEBODY), Ordering::SeqCst);
     }
 
-    pub(crate) fn begin(&self) {
-        self.count.fetch_add(1, Ordering::SeqCst);
+    /// Sleeps until a call, where none came since the announcement.
+    pub(crate) fn sleep<R: Wait>(&self, rt: &R) {
+        self.asleep.park(rt, SOMEBODY);
     }
 
-    pub(crate) fn end(&self) {
-        self.count.fetch_sub(1, Ordering::SeqCst);
+    /// The same, for no longer than `patience`.
+    pub(crate) fn sleep_for<R: Wait>(&self, rt: &R, patience: Duration) {
+        self.asleep.park_timeout(rt, SOMEBODY, patience);
+    }
+
+    /// Wakes one who sleeps, where somebody was announced. It announces those whom it leaves asleep.
+    pub(crate) fn call_one(&self) {
+        if self.was_announced() {
+            self.asleep.wake_one();
+        }
+    }
+
+    /// Wakes all who sleep, where somebody was announced.
+    pub(crate) fn call_all(&self) {
+        if self.was_announced() {
+            self.asleep.wake_all();
+        }
+    }
+
+    // Takes the announcement. Mostly there is none, and a load is less than a swap.
+    fn was_announced(&self) -> bool {
+        let nobody = u64::from(NOBODY);
+        self.asleep.load(Ordering::SeqCst) != nobody
+            && self.asleep.swap(nobody, Ordering::SeqCst) != nobody
     }
 }

@@ -74,9 +74,11 @@ impl<V: Kept> Cell<V> {
             }
             spin_loop();
         }
-        self.for_turn.begin();
-        self.table.shared.park(rt, TURN, 1);
-        self.for_turn.end();
+        self.for_turn.announce();
+        if self.table.shared.peek(TURN) != 0 {
+            self.for_turn.sleep(rt);
+            self.for_turn.announce();
+        }
     }
 
     // Takes the turn where nobody has it.
@@ -144,9 +146,7 @@ impl<V: Kept> Cell<V> {
         let place = self.table.shared.exchange(seat, 0, Some(value));
         let None = place else { unreachable!() };
         self.table.shared.store::<Give>(seat, TURN, 0);
-        if self.for_turn.any() {
-            self.table.shared.wake_one(TURN);
-        }
+        self.for_turn.call_one();
     }
 
     /// Waits until something may have changed: an entry, a reference, or the generation. It comes back
@@ -157,10 +157,8 @@ impl<V: Kept> Cell<V> {
         ensures { seat.new ≡ seat.old }
     {
         let _seat = &*seat;
-        let count = (self.table.shared.peek(COUNT) % (1 << 32)) as u32;
-        let patience = Duration::from_millis(PATIENCE);
-        self.for_change.begin();
-        self.table.shared.park_timeout(rt, COUNT, count, patience);
-        self.for_change.end();
+        self.for_change.announce();
+        self.for_change
+            .sleep_for(rt, Duration::from_millis(PATIENCE));
     }
 }

@@ -1,10 +1,11 @@
 -- What good arguments are: numbers in their ranges, names, and the verbs that were judged.
-use Rattle.std.proofs.Common.{◌≡◌, ℕ, ◌+◌, ◌<◌, ◌≤◌, ◌&&◌, nat_le, nat_lt, Bool, true, false, cond, List, [], ◌∷◌, length, Option, Some, None, Result, Ok, Err, refl, ap, subst, arith, zero, suc, leb-true, ltb-true}
+use Rattle.std.proofs.Common.{◌≡◌, ℕ, ◌+◌, ◌<◌, ◌≤◌, ◌==◌, ◌&&◌, nat_le, nat_lt, Bool, true, false, cond, List, [], ◌∷◌, length, Option, Some, None, Result, Ok, Err, refl, sym, ◌∙◌, ap, subst, arith, zero, suc, leb-true, ltb-true}
 use Rattle.std.specs.Prelude.{is_none}
 use Rattle.std.specs.Option.{option_or}
 use Rattle.std.specs.Str.{bytes_eq}
 use Rattle.std.specs.Prelude.{codes}
 use Rattle.std.proofs.lemmas.Bool.{and_parts}
+use Rattle.std.proofs.lemmas.Bool.Decides.{Decides-eqb}
 use Rattle.text_lines.specs.Values.{is_number, number_of, word_at, number_at}
 use Rattle.session_text.specs.declared.faults.Reason.{Reason}
 use Rattle.session_text.specs.declared.faults.Reason.TheVariants as reason
@@ -75,6 +76,19 @@ range_from ports verb (word ∷ words) from (suc at) least most h k =
 -- a number of good arguments is at most as large as its kind says
 pub good_number : (ports : ℕ) (verb : Verb) (words : List (List ℕ)) (at least most : ℕ) → is_good ports verb words ≡ true → kind_at verb (0 + at) ≡ kind.Number least most → number_at words at ≤ most
 good_number ports verb words at least most h k = range_from ports verb words 0 at least most (good_parts ports verb words h).1 k
+
+number_none : (number fits : Bool) → cond number (limit_fault fits) (Some reason.Number) ≡ None → number ≡ true
+number_none true fits h = refl
+number_none false fits h = cc
+
+-- the second of two good arguments is a number where its kind says so
+pub second_is_number : (ports : ℕ) (verb : Verb) (words : List (List ℕ)) (least most : ℕ) → is_good ports verb words ≡ true → may_have verb (length words) ≡ (length words == 2) → kind_at verb 1 ≡ kind.Number least most → is_number (word_at words 1) ≡ true
+second_is_number ports verb words least most good two k =
+    let parts = good_parts ports verb words good in
+    let both : length words ≡ 2 = (Decides-eqb (length words) 2).0 (sym two ∙ parts.0) in
+    let word = word_at words 1 in
+    number_none (is_number word) (nat_le least (number_of word) && nat_le (number_of word) most)
+    (subst (λ (k : Kind). fault_of ports k word ≡ None) k (no_fault_at ports verb words 0 1 parts.1 (omega (arith, both))))
 
 port_from : (ports : ℕ) (verb : Verb) (words : List (List ℕ)) (from at : ℕ) → fault_from ports verb from words ≡ None → kind_at verb (from + at) ≡ kind.Port → number_at words at ≤ ports
 port_from ports verb [] from at h k = omega arith

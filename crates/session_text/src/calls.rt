@@ -1,9 +1,9 @@
-ghost use Rattle.std.specs.Prelude.{◌≡◌, [], ◌∷◌, ◌++◌, ◌≤◌, IfOk, OnOk, IsTrue, length, map, take, drop};
+ghost use Rattle.std.specs.Prelude.{◌≡◌, [], ◌∷◌, ◌++◌, ◌+◌, ◌≤◌, ◌<◌, IfOk, OnOk, IsTrue, length, map, take, drop};
 ghost use Rattle.std.specs.List.{filter_map};
 ghost use Rattle.tty_modes.specs.Reading.{word_of as mode_in};
 ghost use Rattle.tty_calls.specs.Plain.{call_of as call_view};
 ghost use Rattle.text_lines.specs.Lines.{words_of};
-ghost use Rattle.text_lines.specs.Values.{is_hex};
+ghost use Rattle.text_lines.specs.Values.{is_hex, is_number, number_at, word_at};
 ghost use Rattle.session_text.specs.Kinds.{modes_in};
 ghost use Rattle.session_text.specs.Stands.{is_good};
 ghost use Rattle.session_text.specs.Meaning.{characters, steps_in, bare_call, call_on, call_in};
@@ -12,10 +12,13 @@ use super::verbs::{CallVerb, LineVerb, Verb};
 use super::words::{access_of, act_of, mode_of, queue_of, when_of};
 use line_steps::LineSteps;
 use std::alloc::Global;
-use text_lines::{Arguments, bytes_in, split_word};
+use text_lines::{Arguments, FirstTwo, bytes_in, number_of, split_word};
 use tty_base::{Buffer, Flag, LineStep, NoMemory};
 use tty_calls::{Access, Act, Call, Queue, When, Words};
 use tty_modes::Word;
+
+/// How many items room is made for at a time.
+const ROOM: usize = 4;
 
 /// Adds what a line's item does.
 pub(crate) fn add_steps(
@@ -77,7 +80,7 @@ pub(crate) fn call_of(
         }),
         CallVerb::Read => Ok(Call::Read {
             h,
-            n: arguments.second_number() as u32,
+            n: second_of(arguments) as u32,
         }),
         CallVerb::Write => Ok(Call::Write {
             h,
@@ -90,7 +93,7 @@ pub(crate) fn call_of(
         }),
         CallVerb::SetDisc => Ok(Call::SetDisc {
             h,
-            number: arguments.second_number() as u32,
+            number: second_of(arguments) as u32,
         }),
         CallVerb::Flush => Ok(Call::Flush {
             h,
@@ -108,7 +111,17 @@ pub(crate) fn call_of(
     }
 }
 
+/// The number that is the second argument, which was judged to be one.
+#[inline(always)]
+fn second_of(arguments: &Arguments) -> u64
+    requires { IsTrue (is_number (word_at arguments.now 1)) }
+    ensures { result ≡ number_at arguments.now 1 }
+{
+    number_of(arguments.second())
+}
+
 /// A call that has its handle alone.
+#[inline(always)]
 fn bare_call(verb: CallVerb, h: u8) -> Call
     ensures { call_view result ≡ bare_call verb h }
 {
@@ -127,37 +140,52 @@ fn bare_call(verb: CallVerb, h: u8) -> Call
     }
 }
 
-/// The mode words among the arguments behind the second.
-pub(crate) fn modes_of(alloc: Global, arguments: &Arguments) -> Result<Words, NoMemory>
-    ensures { IfOk result (λ modes. modes.items ≡ modes_in arguments.now) }
+/// The mode words among the arguments behind the second, and how many arguments there are. Each word is
+/// parted once, for both.
+pub(crate) fn modes_of(alloc: Global, arguments: &FirstTwo) -> Result<(Words, usize), NoMemory>
+    requires { 2 < length arguments.now }
+    ensures { IfOk result (λ read. (read.0.items ≡ modes_in arguments.now) × (read.1 ≡ length arguments.now)) }
 {
     let mut modes = Buffer::new(alloc);
-    if arguments.count() > 2 {
-        modes.reserve(arguments.count() - 2)?;
-        add_modes(&mut modes, arguments.more())?;
-    }
-    Ok(modes.into_vec())
+    let count = add_modes(&mut modes, arguments.more())?;
+    Ok((modes.into_vec(), count))
 }
 
 /// The same where nothing stands behind the second. It takes no memory.
 #[inline(always)]
-pub(crate) fn no_modes(alloc: Global, arguments: &Arguments) -> Words
+pub(crate) fn no_modes(alloc: Global, arguments: &FirstTwo) -> Words
     requires { length arguments.now ≤ 2 }
     ensures { result.items ≡ modes_in arguments.now }
 {
     Words::new(alloc)
 }
 
-fn add_modes(modes: &mut Buffer<Word>, line: &[u8]) -> Result<(), NoMemory>
-    ensures { OnOk result (modes.new.items ≡ modes.old.items ++ filter_map mode_in (words_of line.now)) }
+/// Adds the mode words of a line, and counts its words from two on.
+fn add_modes(modes: &mut Buffer<Word>, line: &[u8]) -> Result<usize, NoMemory>
+    ensures words { OnOk result (modes.new.items ≡ modes.old.items ++ filter_map mode_in (words_of line.now)) }
+    ensures count { IfOk result (λ count. count ≡ length (words_of line.now) + 2) }
 {
+    let mut count = 2;
     let mut rest = line;
     while let Some((word, after)) = split_word(rest) {
         if let Some(mode) = mode_of(word) {
-            modes.reserve(1)?;
+            make_room(modes)?;
             modes.add(mode);
         }
         rest = after;
+        count += 1;
+    }
+    Ok(count)
+}
+
+/// Makes room for one more item. It is made for some at once, so that mostly there is some.
+#[inline(always)]
+pub(crate) fn make_room<T>(items: &mut Buffer<T>) -> Result<(), NoMemory>
+    ensures items { items.new.items ≡ items.old.items }
+    ensures room { OnOk result (0 < items.new.spare) }
+{
+    if items.spare() == 0 {
+        items.reserve(ROOM)?;
     }
     Ok(())
 }

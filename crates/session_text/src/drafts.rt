@@ -7,7 +7,7 @@ ghost use Rattle.session_text.specs.Meaning.{steps_in, empty_phase};
 ghost use Rattle.session_text.specs.Drafts.{first_draft, all_phases, session_with, with_call, with_open, phase_after, draft_after};
 ghost use Rattle.session_text.specs.Views.{stand_of, phase_view, draft_of};
 
-use super::calls::{add_steps, call_of};
+use super::calls::{add_steps, call_of, make_room};
 use super::stands::Stand;
 use super::verbs::{LineVerb, Verb};
 use line_steps::LineSteps;
@@ -17,9 +17,6 @@ use tty_base::{Buffer, NoMemory};
 use tty_calls::{Call, Phase, Script, Session, Words};
 
 const FLIP: u32 = 4_096;
-
-/// How many calls room is made for at a time.
-const CALLS: usize = 4;
 
 /// The phase that is being read.
 #[derive(Debug, Drop)]
@@ -263,18 +260,6 @@ fn add_call(callers: &mut [Script], call: Call) -> Result<(), NoMemory>
         let calls = &mut callers[count - 1].calls;
         make_room(calls)?;
         calls.add(call);
-    }
-    Ok(())
-}
-
-/// Makes room for one more call. It is made for some at once, so that mostly there is some.
-#[inline(always)]
-fn make_room(calls: &mut Buffer<Call>) -> Result<(), NoMemory>
-    ensures items { calls.new.items ≡ calls.old.items }
-    ensures room { OnOk result (0 < calls.new.spare) }
-{
-    if calls.spare() == 0 {
-        calls.reserve(CALLS)?;
     }
     Ok(())
 }

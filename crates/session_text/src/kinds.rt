@@ -5,7 +5,7 @@ ghost use Rattle.session_text.specs.Kinds.{modes_in, may_have, line_may_have, ca
 
 use super::faults::Reason;
 use super::verbs::{CallVerb, LineVerb, Verb};
-use super::words::{access_of, act_of, is_nonblock, mode_of, queue_of, when_of};
+use super::words::{access_of, act_of, is_mode, is_nonblock, queue_of, when_of};
 use text_lines::{Arguments, is_hex, is_name, read_number, split_word};
 
 /// What an argument may be.
@@ -230,7 +230,7 @@ fn fault_of(ports: u8, kind: Kind, word: &[u8]) -> Option<Reason>
         Kind::When => word_fault(when_of(word).is_some()),
         Kind::Queue => word_fault(queue_of(word).is_some()),
         Kind::Act => word_fault(act_of(word).is_some()),
-        Kind::Mode => word_fault(mode_of(word).is_some()),
+        Kind::Mode => word_fault(is_mode(word)),
     }
 }
 

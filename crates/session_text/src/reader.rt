@@ -1,4 +1,4 @@
-ghost use Rattle.std.specs.Prelude.{◌≡◌, ◌⊎◌, Some, IfOk, OnOk, IsTrue};
+ghost use Rattle.std.specs.Prelude.{◌≡◌, ◌<◌, ◌⊎◌, Some, IfOk, OnOk, IsTrue, length};
 ghost use Rattle.session_text.specs.Fronts.{front_in};
 ghost use Rattle.session_text.specs.Kinds.{modes_in};
 ghost use Rattle.session_text.specs.Refusals.{refusal, lines_in};
@@ -15,7 +15,7 @@ use super::faults::{BadLine, Reason, TextFault};
 use super::stands::{Place, Stand};
 use super::verbs::Verb;
 use std::alloc::Global;
-use text_lines::{Arguments, is_comment, split_line, split_word};
+use text_lines::{Arguments, FirstTwo, is_comment, split_line, split_word};
 use tty_base::NoMemory;
 use tty_calls::{Session, Words};
 
@@ -47,26 +47,43 @@ impl Reader {
                 if is_comment(word) {
                     return Ok(());
                 }
-                self.read_item(alloc, number, word, &Arguments::of(behind))
+                self.read_item(alloc, number, word, &FirstTwo::of(behind))
             }
         }
     }
 
+    #[inline(always)]
     fn read_item(
         &mut self,
         alloc: Global,
         number: u32,
         word: &[u8],
-        arguments: &Arguments,
+        arguments: &FirstTwo,
     ) -> Result<(), TextFault>
         ensures { Gives (λ _. reading_of self.new) result (reading_after_item (reading_of self.old) number arguments.now (verdict_on (stand_of self.old.stand) word.now arguments.now)) }
     {
-        if arguments.count() > 2 {
-            let modes = modes_of(alloc, arguments)?;
-            self.read_by(alloc, number, word, arguments, modes)
+        if arguments.are_all() {
+            let modes = no_modes(alloc, arguments);
+            self.read_by(alloc, number, word, &arguments.whole(), modes)
         } else {
-            self.read_by(alloc, number, word, arguments, no_modes(alloc, arguments))
+            self.read_longer(alloc, number, word, arguments)
         }
+    }
+
+    /// Reads an item of more than two arguments.
+    #[inline(always)]
+    fn read_longer(
+        &mut self,
+        alloc: Global,
+        number: u32,
+        word: &[u8],
+        arguments: &FirstTwo,
+    ) -> Result<(), TextFault>
+        requires { 2 < length arguments.now }
+        ensures { Gives (λ _. reading_of self.new) result (reading_after_item (reading_of self.old) number arguments.now (verdict_on (stand_of self.old.stand) word.now arguments.now)) }
+    {
+        let (modes, count) = modes_of(alloc, arguments)?;
+        self.read_by(alloc, number, word, &arguments.counted(count), modes)
     }
 
     /// Reads an item that has these mode words. It stands twice where items are read, so that the way

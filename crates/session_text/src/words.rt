@@ -1,4 +1,4 @@
-ghost use Rattle.std.specs.Prelude.{◌≡◌, bytes_eq};
+ghost use Rattle.std.specs.Prelude.{◌≡◌, bytes_eq, is_some};
 ghost use Rattle.tty_modes.specs.Reading.{word_of};
 ghost use Rattle.session_text.specs.Kinds.{access_of, when_of, queue_of, act_of, is_nonblock};
 
@@ -70,8 +70,17 @@ pub(crate) fn is_nonblock(word: &[u8]) -> bool
 }
 
 /// The mode word that a word is.
+#[inline(always)]
 pub(crate) fn mode_of(word: &[u8]) -> Option<Word>
     ensures { result ≡ word_of word.now }
 {
     set_word_bytes(word).ok()
+}
+
+/// Whether a word is a mode word. Where mode words are wanted they are read, and seldom asked alone.
+#[inline(never)]
+pub(crate) fn is_mode(word: &[u8]) -> bool
+    ensures { result ≡ is_some (word_of word.now) }
+{
+    mode_of(word).is_some()
 }

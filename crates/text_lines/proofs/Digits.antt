@@ -1,13 +1,11 @@
--- Hexadecimal digits and names, as the library's calls see them.
-use Rattle.std.proofs.Common.{nat_le, leb-true, ◌≤◌, ◌≡◌, ℕ, ◌<◌, ◌&&◌, true, List, [], ◌∷◌, length, arith}
+-- Names, as the library's calls see them.
+use Rattle.std.proofs.Common.{nat_le, ◌≡◌, ℕ, ◌<◌, ◌&&◌, true, List, [], ◌∷◌, length, arith}
 use Rattle.std.specs.List.{list_all}
 use Rattle.std.specs.Str.{IsAscii, IsUtf8}
 use Rattle.std.proofs.lemmas.Bool.{and_parts}
 use Rattle.std.proofs.lemmas.Str.{IsUtf8-from_ascii}
 use Rattle.std.proofs.lemmas.Str.Ascii.{IsAscii-nil, IsAscii-cons}
-use Rattle.text_lines.specs.Values.{is_digit, begins_number, is_number, begins_name, is_name, is_name_byte}
-
--- ---- names
+use Rattle.text_lines.specs.Values.{begins_name, is_name, is_name_byte}
 
 name_byte_small : (byte : ℕ) → is_name_byte byte ≡ true → byte < 128
 name_byte_small byte h = grind (arith)
@@ -23,12 +21,3 @@ name_is_text name h =
     let both = and_parts (begins_name name && list_all is_name_byte name) (nat_le (length name) 16) h in
     let all = and_parts (begins_name name) (list_all is_name_byte name) both.0 in
     IsUtf8-from_ascii name (names_ascii name all.1)
-
--- ---- numbers
-
-pub number_parts : (digits : List ℕ) → is_number digits ≡ true → (length digits ≤ 10) × (list_all is_digit digits ≡ true)
-number_parts [] h = cc
-number_parts (digit ∷ digits) h =
-    let both = and_parts (begins_number (digit ∷ digits) && nat_le (length (digit ∷ digits)) 10) (list_all is_digit (digit ∷ digits)) h in
-    let first = and_parts (begins_number (digit ∷ digits)) (nat_le (length (digit ∷ digits)) 10) both.0 in
-    (leb-true (length (digit ∷ digits)) 10 first.1, both.1)

@@ -1,9 +1,10 @@
 -- Lines and words at their first cut.
-use Rattle.std.proofs.Common.{◌≡◌, ℕ, ◌+◌, ◌-◌, ◌<◌, Bool, true, false, cond, List, [], ◌∷◌, length, take, drop, get_or, refl, ap, sym, subst, ◌∙◌, arith, ltb-true, ltb-false, Some, None, not, nat_lt, zero, suc, ◌≤◌, ◌⊎◌, inl, inr, ◌==◌}
+use Rattle.std.proofs.Common.{◌≡◌, ℕ, ◌+◌, ◌-◌, ◌<◌, Bool, true, false, cond, List, [], ◌∷◌, length, take, drop, get_or, refl, ap, sym, subst, ◌∙◌, arith, ltb-true, ltb-false, Option, Some, None, is_some, not, nat_lt, zero, suc, ◌≤◌, ◌⊎◌, inl, inr, ◌==◌}
 use Rattle.std.specs.Prelude.{position, filter}
 use Rattle.std.specs.List.{slice_split, position_or_len, onto_first}
 use Rattle.std.proofs.lemmas.List.Splits.{slice_split_first, slice_split_none}
 use Rattle.std.proofs.lemmas.List.Sums.{fails_before_first, passes_at_first}
+use Rattle.std.proofs.lemmas.Bool.Decides.{Decides-ltb}
 use Rattle.std.proofs.lemmas.List.{drop_more, drop_all, take_rest}
 use Rattle.text_lines.specs.Lines.{is_newline, is_blank, has_bytes, lines_of, words_of}
 
@@ -98,6 +99,15 @@ word_whole line start begins blank =
     let shape : drop start line ≡ get_or line start 0 ∷ drop (start + 1) line = drop_more line start 0 found.1 in
     let skipped : words_of line ≡ words_of (drop start line) = subst (λ (n : ℕ). words_of line ≡ words_of (drop n line)) found.0 (skip_to_word line) in
     skipped ∙ subst (λ (ys : List ℕ). words_of ys ≡ ys ∷ []) (sym shape) (cut_whole _ _ (subst (λ (ys : List ℕ). position is_blank ys ≡ None) shape blank))
+
+some_word : (line : List ℕ) (start : ℕ) (blank : Option ℕ) → position is_letter line ≡ Some start → position is_blank (drop start line) ≡ blank → 0 < length (words_of line)
+some_word line start None begins blank = subst (λ (words : List (List ℕ)). 0 < length words) (sym (word_whole line start begins blank)) (omega arith)
+some_word line start (Some at) begins blank = subst (λ (words : List (List ℕ)). 0 < length words) (sym (word_cut line start at begins blank)) (omega arith)
+
+-- a line has a word where it has a byte that parts none
+pub word_told : (line : List ℕ) (o : Option ℕ) → position is_letter line ≡ o → is_some o ≡ nat_lt 0 (length (words_of line))
+word_told line None none = ap (λ (words : List (List ℕ)). nat_lt 0 (length words)) (sym (no_word line none))
+word_told line (Some start) begins = sym ((Decides-ltb 0 (length (words_of line))).1 (some_word line start (position is_blank (drop start line)) begins refl))
 
 -- the same, as slices are written
 pub cut_sliced : (line begun : List ℕ) (start at : ℕ) → begun ≡ drop start line → position is_letter line ≡ Some start → position is_blank begun ≡ Some at → words_of line ≡ take at begun ∷ words_of (take (length begun - (at + 1)) (drop (at + 1) begun))

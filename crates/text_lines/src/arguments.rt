@@ -1,24 +1,25 @@
-ghost use Rattle.std.specs.Prelude.{◌≡◌, ◌∷◌, [], drop, length};
+ghost use Rattle.std.specs.Prelude.{◌≡◌, ◌≤◌, ◌∷◌, nat_le, drop, length};
 ghost use Rattle.text_lines.specs.Lines.{words_of};
 ghost use Rattle.text_lines.specs.Values.{word_at, number_at, read_of};
 
-use super::lines::{count_words, split_word};
+use super::lines::{has_word, split_word};
 use super::numbers::{number_in, read_number};
 use std::marker::Model;
 
-/// The words of a line, parted once. Contracts see the list of the words.
+/// The words of a line, of which the first two are parted. Contracts see the list of all of them.
 #[derive(Debug, Drop)]
-pub struct Arguments<'a> {
+pub struct FirstTwo<'a> {
     first: &'a [u8],
     second: &'a [u8],
     /// The line behind its second word.
     more: &'a [u8],
-    count: usize,
+    /// How many of the two there are.
+    few: usize,
     /// The number that the first word is, if it is one.
     number: Option<u64>,
 }
 
-impl<'a> Model for Arguments<'a> {
+impl<'a> Model for FirstTwo<'a> {
     ghost use Rattle.std.specs.Prelude.{◌≡◌, ℕ, List};
     ghost use Rattle.text_lines.specs.Lines.{words_of};
     ghost use Rattle.text_lines.specs.Values.{read_of};
@@ -26,50 +27,107 @@ impl<'a> Model for Arguments<'a> {
 
     ghost Value = { List (List ℕ) };
 
-    ghost view = { λ a. parted a.count a.first.now a.second.now (words_of a.more.now) };
+    ghost view = { λ a. parted a.few a.first.now a.second.now (words_of a.more.now) };
 
-    ghost invariant = { λ a. IsParted a.count a.first.now a.second.now (words_of a.more.now) × (a.number ≡ read_of a.first.now) };
+    ghost invariant = { λ a. IsParted a.few a.first.now a.second.now (words_of a.more.now) × (a.number ≡ read_of a.first.now) };
 }
 
-impl<'a> Arguments<'a> {
+impl<'a> FirstTwo<'a> {
     /// The words of a line.
-    pub fn of(line: &'a [u8]) -> Arguments<'a>
+    #[inline(always)]
+    pub fn of(line: &'a [u8]) -> FirstTwo<'a>
         ensures { result ≡ words_of line.now }
     {
         match split_word(line) {
-            None => Arguments {
+            None => FirstTwo {
                 first: &[],
                 second: &[],
                 more: &[],
-                count: 0,
+                few: 0,
                 number: None,
             },
-            Some((first, after)) => Arguments::behind(first, after),
+            Some((first, after)) => FirstTwo::behind(first, after),
         }
     }
 
-    fn behind(first: &'a [u8], after: &'a [u8]) -> Arguments<'a>
+    #[inline(always)]
+    fn behind(first: &'a [u8], after: &'a [u8]) -> FirstTwo<'a>
         ensures { result ≡ first.now ∷ words_of after.now }
     {
         let number = read_number(first);
         match split_word(after) {
-            None => Arguments {
+            None => FirstTwo {
                 first,
                 second: &[],
                 more: &[],
-                count: 1,
+                few: 1,
                 number,
             },
-            Some((second, more)) => Arguments {
+            Some((second, more)) => FirstTwo {
                 first,
                 second,
                 more,
-                count: count_words(more) + 2,
+                few: 2,
                 number,
             },
         }
     }
 
+    /// Whether there are no more words than two.
+    #[inline(always)]
+    pub fn are_all(&self) -> bool
+        ensures { result ≡ nat_le (length self.now) 2 }
+    {
+        !has_word(self.more)
+    }
+
+    /// What stands behind the second word.
+    pub fn more(&self) -> &'a [u8]
+        ensures { words_of result.now ≡ drop 2 self.now }
+    {
+        self.more
+    }
+
+    /// The words of a line that has no more than these two.
+    #[inline(always)]
+    pub fn whole(&self) -> Arguments<'_, 'a>
+        requires { length self.now ≤ 2 }
+        ensures { result ≡ self.now }
+    {
+        Arguments {
+            count: self.few,
+            words: self,
+        }
+    }
+
+    /// The words of a line that has so many.
+    #[inline(always)]
+    pub fn counted(&self, count: usize) -> Arguments<'_, 'a>
+        requires { count ≡ length self.now }
+        ensures { result ≡ self.now }
+    {
+        Arguments { words: self, count }
+    }
+}
+
+/// The words of a line, parted and counted once. Contracts see the list of the words.
+#[derive(Debug, Drop)]
+pub struct Arguments<'b, 'a> {
+    words: &'b FirstTwo<'a>,
+    count: usize,
+}
+
+impl<'b, 'a> Model for Arguments<'b, 'a> {
+    ghost use Rattle.std.specs.Prelude.{◌≡◌, ℕ, List, length};
+
+    ghost Value = { List (List ℕ) };
+
+    ghost view = { λ a. a.words.now };
+
+    ghost invariant = { λ a. a.count ≡ length a.words.now };
+}
+
+impl<'b, 'a> Arguments<'b, 'a> {
     /// How many words there are.
     pub fn count(&self) -> usize
         ensures { result ≡ length self.now }
@@ -81,14 +139,16 @@ impl<'a> Arguments<'a> {
     pub fn first(&self) -> &'a [u8]
         ensures { result.now ≡ word_at self.now 0 }
     {
-        self.first
+        let words = self.words;
+        words.first
     }
 
     /// The second word, and no bytes where there is none.
     pub fn second(&self) -> &'a [u8]
         ensures { result.now ≡ word_at self.now 1 }
     {
-        self.second
+        let words = self.words;
+        words.second
     }
 
     /// The number that is the first word, which was read once, and `None` where that is no number.
@@ -96,7 +156,8 @@ impl<'a> Arguments<'a> {
     pub fn first_read(&self) -> Option<u64>
         ensures { result ≡ read_of (word_at self.now 0) }
     {
-        self.number
+        let words = self.words;
+        words.number
     }
 
     /// The number that is the first word, and 0 where that is no number.
@@ -111,13 +172,15 @@ impl<'a> Arguments<'a> {
     pub fn second_number(&self) -> u64
         ensures { result ≡ number_at self.now 1 }
     {
-        number_in(self.second)
+        let words = self.words;
+        number_in(words.second)
     }
 
     /// What stands behind the second word.
     pub fn more(&self) -> &'a [u8]
         ensures { words_of result.now ≡ drop 2 self.now }
     {
-        self.more
+        let words = self.words;
+        words.more
     }
 }

@@ -12,8 +12,8 @@ mod lines;
 mod names;
 mod numbers;
 
-pub use arguments::Arguments;
+pub use arguments::{Arguments, FirstTwo};
 pub use hexadecimal::{bytes_in, bytes_of, is_hex};
-pub use lines::{count_words, is_comment, split_line, split_word, word_at};
+pub use lines::{is_comment, split_line, split_word, word_at};
 pub use names::{is_name, name_of};
 pub use numbers::{is_number, number_at, number_of, read_number};

@@ -1,4 +1,4 @@
-ghost use Rattle.std.specs.Prelude.{◌≡◌, ◌<◌, ◌≤◌, [], ◌∷◌, position, not, length, slice_index_or, MatchOption};
+ghost use Rattle.std.specs.Prelude.{◌≡◌, ◌<◌, [], ◌∷◌, nat_lt, position, not, length, slice_index_or, MatchOption};
 ghost use Rattle.std.specs.List.{list_any};
 ghost use Rattle.text_lines.specs.Lines.{is_newline, is_blank, is_low, first_is, lines_of, words_of};
 
@@ -121,18 +121,12 @@ pub fn split_word(line: &[u8]) -> Option<(&[u8], &[u8])>
     }
 }
 
-/// How many words a line has.
-pub fn count_words(line: &[u8]) -> usize
-    ensures count { result ≡ length (words_of line.now) }
-    ensures few { result ≤ length line.now }
+/// Whether a line has a word.
+#[inline(always)]
+pub(crate) fn has_word(line: &[u8]) -> bool
+    ensures { result ≡ nat_lt 0 (length (words_of line.now)) }
 {
-    let mut count = 0;
-    let mut rest = line;
-    while let Some((_, after)) = split_word(rest) {
-        rest = after;
-        count += 1;
-    }
-    count
+    word_in(line).is_some()
 }
 
 /// The word at a place of a line, counted from 0, and no bytes past the last word.

@@ -15,7 +15,7 @@ use Rattle.tty_modes.specs.declared.words.Word.{Word}
 use Rattle.tty_modes.specs.declared.words.Word.TheVariants.{On, Off, Cc, Raw, Sane}
 use Rattle.tty_modes.specs.Names.{flag_names, character_names}
 use Rattle.tty_modes.specs.Word.{IsModeWord, word_text}
-use Rattle.tty_modes.specs.Reading.{place_of, is_decimal, byte_of, character_word, other_word, word_of}
+use Rattle.tty_modes.specs.Reading.{place_of, is_decimal, byte_of, character_word, character_word_of, other_word, word_of}
 
 -- P at each of count numbers from a first one on
 abbrev AllFrom : (ℕ → Type 0) → ℕ → ℕ → Type 0
@@ -228,6 +228,17 @@ pub word_of-flag : (text : List ℕ) (flag : ℕ) → bytes_eq text (codes "raw"
 unfolding word_of
 word_of-flag text flag raw named place = rw (raw, named) (ap (λ o. option_or (option_map On o) (other_word text)) place)
 
-pub word_of-other : (text : List ℕ) → bytes_eq text (codes "raw") ≡ false → bytes_eq text (codes "sane") ≡ false → place_of flag_names text ≡ None → word_of text ≡ other_word text
+word_of-other : (text : List ℕ) → bytes_eq text (codes "raw") ≡ false → bytes_eq text (codes "sane") ≡ false → place_of flag_names text ≡ None → word_of text ≡ other_word text
 unfolding word_of
 word_of-other text raw named place = rw (raw, named) (ap (λ o. option_or (option_map On o) (other_word text)) place)
+
+-- a text that begins with a dash clears the flag that the rest names
+pub word_of-dash : (text : List ℕ) → get_or text 0 0 ≡ 45 → word_of text ≡ option_map Off (place_of flag_names (drop 1 text))
+unfolding word_of
+word_of-dash [] dash = absurd (omega arith)
+word_of-dash (c ∷ name) dash = ap (λ (first : ℕ). word_of (first ∷ name)) dash
+
+-- .. and one that is neither of the words, no flag and without a dash may set a character
+pub word_of-character : (text : List ℕ) → bytes_eq text (codes "raw") ≡ false → bytes_eq text (codes "sane") ≡ false → place_of flag_names text ≡ None → eqb (get_or text 0 0) 45 ≡ false → word_of text ≡ character_word_of text
+word_of-character text raw named place dash =
+    word_of-other text raw named place ∙ ap (λ b. cond b (option_map Off (place_of flag_names (drop 1 text))) (character_word_of text)) dash

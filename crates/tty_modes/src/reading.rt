@@ -1,11 +1,12 @@
 //! Mode words from their texts.
 
-ghost use Rattle.std.specs.Prelude.{◌≡◌, ◌≢◌, ℕ, List, None, Some, IfOk, OnErr, IfSome, ◌+◌, ◌-◌, ◌*◌, ◌<◌, ◌&&◌, ◌==◌, ◌||◌, nat_lt, bytes_eq, codes, length, position, slice_index, if◌then◌else◌};
+ghost use Rattle.std.specs.Prelude.{◌≡◌, ◌≢◌, ℕ, List, None, Some, IfOk, OnErr, IfSome, ◌+◌, ◌-◌, ◌*◌, ◌<◌, ◌&&◌, ◌==◌, ◌||◌, nat_lt, bytes_eq, codes, length, option_map, position, slice_index, if◌then◌else◌};
 ghost use Rattle.std.specs.Char.{is_ascii_digit};
 ghost use Rattle.std.specs.Result.{result_ok};
 ghost use Rattle.tty_modes.specs.declared.words.Word.{Word};
+ghost use Rattle.tty_modes.specs.declared.words.Word.TheVariants.{Off};
 ghost use Rattle.tty_modes.specs.Names.{flag_names, character_names};
-ghost use Rattle.tty_modes.specs.Reading.{place_of, byte_of, character_word_of, other_word, word_of};
+ghost use Rattle.tty_modes.specs.Reading.{place_of, byte_of, character_word_of, word_of};
 ghost use Rattle.tty_modes.specs.Word.{IsModeWord, word_text};
 
 use crate::names::{character_name, flag_name};
@@ -30,6 +31,7 @@ pub fn set_word(text: &str) -> Result<Word, BadWord>
 }
 
 /// Reads a mode word as [`set_word`] does, from bytes that need not be a text.
+#[inline(always)]
 pub fn set_word_bytes(bytes: &[u8]) -> Result<Word, BadWord>
     ensures word { IfOk result (λ w. IsModeWord w × (word_text w ≡ bytes.now)) }
     ensures read_back { (w : Word) → IsModeWord w → word_text w ≡ bytes.now → result ≡ Ok w }
@@ -46,9 +48,13 @@ pub fn words_are_their_texts()
     ensures distinct { (v w : Word) → IsModeWord v → IsModeWord w → word_text v ≡ word_text w → v ≡ w }
 {}
 
+#[inline(always)]
 fn read_word(text: &[u8]) -> Option<Word>
     ensures { result ≡ word_of text.now }
 {
+    if !text.is_empty() && text[0] == b'-' {
+        return cleared_flag(&text[1..]);
+    }
     if is_raw(text) {
         return Some(Word::Raw);
     }
@@ -58,7 +64,14 @@ fn read_word(text: &[u8]) -> Option<Word>
     if let Some(flag) = flag_place(text) {
         return Some(Word::On(flag));
     }
-    other_word(text)
+    character_word(text)
+}
+
+/// The word that clears the flag of this name.
+fn cleared_flag(name: &[u8]) -> Option<Word>
+    ensures { result ≡ option_map Off (place_of flag_names name.now) }
+{
+    flag_place(name).map(|flag| Word::Off(flag))
 }
 
 fn is_raw(text: &[u8]) -> bool
@@ -71,16 +84,6 @@ fn is_sane(text: &[u8]) -> bool
     ensures { result ≡ bytes_eq text.now (codes "sane") }
 {
     is_same(text, b"sane".as_slice())
-}
-
-// A word that clears a flag or sets a control character.
-fn other_word(text: &[u8]) -> Option<Word>
-    ensures { result ≡ other_word text.now }
-{
-    if text.is_empty() || text[0] != b'-' {
-        return character_word(text);
-    }
-    flag_place(&text[1..]).map(|flag| Word::Off(flag))
 }
 
 fn character_word(text: &[u8]) -> Option<Word>

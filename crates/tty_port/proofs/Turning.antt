@@ -59,23 +59,23 @@ installed_now s low = let bit : raises_of s.me.0 ≡ 0 = ap bit_of low in omega 
 pub record IsFound (name : Name) (n : ℕ) (old : PortSeat) (v : KeptPort) : Type 0 where
   pub named : port_name v ≡ name
   pub keeps : Keeps n (list_seen old) (history_of v)
-  pub history : IsHistoryOf name.callers v.port (history_of v)
+  pub history : IsHistoryOf name.callers v.port.value (history_of v)
 
 some_name : (x y : Name) (o : Option Name) → o ≡ Some x → o ≡ Some y → y ≡ x
 some_name x y o h k = cc
 
-pub found : (name : Name) (n : ℕ) (old : PortSeat) (v v1 v2 : KeptPort) → number_of old ≡ n → name_of old ≡ Some name → name_of old ≡ Some (port_name v) → Keeps (number_of old) (list_seen old) (history_of v) → v1 ≡ v → v2 ≡ v → IsHistoryOf v1.callers v1.port (history_of v1) → IsFound name n old v2
+pub found : (name : Name) (n : ℕ) (old : PortSeat) (v v1 v2 : KeptPort) → number_of old ≡ n → name_of old ≡ Some name → name_of old ≡ Some (port_name v) → Keeps (number_of old) (list_seen old) (history_of v) → v1 ≡ v → v2 ≡ v → IsHistoryOf v1.callers v1.port.value (history_of v1) → IsFound name n old v2
 found name n old v v1 v2 number named named_now keeps one two history =
     let same : port_name v ≡ name = some_name name (port_name v) (name_of old) named named_now in
-    let first : IsHistoryOf v.callers v.port (history_of v) = subst (λ (x : KeptPort). IsHistoryOf x.callers x.port (history_of x)) one history in
+    let first : IsHistoryOf v.callers v.port.value (history_of v) = subst (λ (x : KeptPort). IsHistoryOf x.callers x.port.value (history_of x)) one history in
     subst (IsFound name n old) (sym two)
     (record {
       named = same;
       keeps = subst (λ (k : ℕ). Keeps k (list_seen old) (history_of v)) number keeps;
-      history = subst (λ (k : ℕ). IsHistoryOf k v.port (history_of v)) (ap (λ (x : Name). x.callers) same) first;
+      history = subst (λ (k : ℕ). IsHistoryOf k v.port.value (history_of v)) (ap (λ (x : Name). x.callers) same) first;
     })
 
 -- the history that the seat has seen is that of the port
-pub placed_now : (name : Name) (w : KeptPort) (s : PortSeat) → port_name w ≡ name → IsHistoryOf w.callers w.port (history_of w) → list_seen s ≡ history_of w → ArePlaced name.callers (sum name.counts) (list_seen s)
+pub placed_now : (name : Name) (w : KeptPort) (s : PortSeat) → port_name w ≡ name → IsHistoryOf w.callers w.port.value (history_of w) → list_seen s ≡ history_of w → ArePlaced name.callers (sum name.counts) (list_seen s)
 placed_now name w s named h seen =
     subst (ArePlaced name.callers (sum name.counts)) (sym seen) (subst (λ (x : Name). ArePlaced x.callers (sum x.counts) (history_of w)) named h.placed)

@@ -52,7 +52,7 @@ abbrev pub name_in : ℕ → PortValue → Name
 name_in m v = record { counts = v.counts; limit = v.limit; callers = m; ring = v.flip.ring; capacity = v.flip.capacity }
 
 abbrev pub history_of : KeptPort → List (Stamped EntryWithCall)
-history_of p = history_in p.callers p.port
+history_of p = history_in p.callers p.port.value
 
 abbrev pub name_of : KeptPort → Name
-name_of p = name_in p.callers p.port
+name_of p = name_in p.callers p.port.value

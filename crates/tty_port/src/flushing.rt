@@ -33,6 +33,7 @@ impl SharedPort {
         self.hold(rt, seat);
         let result = self.flush_held(rt, seat, run);
         self.release(seat);
+        self.wake_where(!matches!(result, Ok(0)));
         result
     }
 
@@ -84,8 +85,8 @@ impl SharedPort {
         let mut turn = self.cell.turn(rt, seat);
         let found = turn.value().entry_count();
         let flushed = turn.value().flush_piece(run, part);
-        let wakes = !matches!(flushed, Ok(Flushed::Nothing));
-        self.end_turn(seat, turn, found, wakes);
+        // those who wait are woken once for the whole run
+        self.end_turn(seat, turn, found, false);
         flushed
     }
 }

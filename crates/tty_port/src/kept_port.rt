@@ -23,7 +23,7 @@ use tty_calls::{Call, Denied};
 /// A port that is shared, and how many callers have seats.
 #[derive(Drop)]
 pub struct KeptPort {
-    pub(crate) port: Port,
+    pub(crate) port: Box<Port>,
     pub(crate) callers: u32,
 }
 
@@ -55,9 +55,10 @@ impl KeptPort {
     /// How many entries the journal has.
     pub(crate) fn entry_count(&self) -> u64
         ensures count { result ≡ length (history_of self.now) }
-        ensures history { IsHistoryOf self.now.callers self.now.port (history_of self.now) }
+        ensures history { IsHistoryOf self.now.callers self.now.port.value (history_of self.now) }
     {
-        self.port.journal().len() as u64
+        let port = &*self.port;
+        port.journal().len() as u64
     }
 
     /// Tries a call of a caller.
@@ -75,11 +76,12 @@ impl KeptPort {
         ensures generation { Raises (changes (call_of call.now)) (generation_of (history_of self.old)) (generation_of (history_of self.new)) }
         ensures few { generation_of (history_of self.new) ≤ 4194304 }
     {
-        let _journal = self.port.journal();
-        self.port.own_entries_tell();
-        let tried = self.port.attempt(caller, step, call);
-        let _journal = self.port.journal();
-        self.port.generation();
+        let port = &mut *self.port;
+        let _journal = port.journal();
+        port.own_entries_tell();
+        let tried = port.attempt(caller, step, call);
+        let _journal = port.journal();
+        port.generation();
         tried
     }
 
@@ -94,9 +96,10 @@ impl KeptPort {
         ensures few { next_run (history_of self.new) ≤ 4194304 }
         ensures generation { generation_of (history_of self.new) ≡ generation_of (history_of self.old) }
     {
-        let _journal = self.port.journal();
-        let flushed = self.port.flush_piece(run, part, PIECE);
-        let _journal = self.port.journal();
+        let port = &mut *self.port;
+        let _journal = port.journal();
+        let flushed = port.flush_piece(run, part, PIECE);
+        let _journal = port.journal();
         flushed
     }
 
@@ -110,8 +113,9 @@ impl KeptPort {
         ensures by { AddsBy ((name_of self.old).callers + 2) (history_of self.old) (history_of self.new) }
         ensures generation { generation_of (history_of self.new) ≡ generation_of (history_of self.old) }
     {
-        let _journal = self.port.journal();
-        self.port.tick()
+        let port = &mut *self.port;
+        let _journal = port.journal();
+        port.tick()
     }
 
     /// The clock of the phase is over.
@@ -124,8 +128,9 @@ impl KeptPort {
         ensures by { AddsBy ((name_of self.old).callers + 2) (history_of self.old) (history_of self.new) }
         ensures generation { generation_of (history_of self.new) ≡ generation_of (history_of self.old) }
     {
-        let _journal = self.port.journal();
-        self.port.clock_end()
+        let port = &mut *self.port;
+        let _journal = port.journal();
+        port.clock_end()
     }
 
     /// The line of the phase is over: all that its putter put was sent.
@@ -141,8 +146,9 @@ impl KeptPort {
         ensures by { AddsBy ((name_of self.old).callers + 1) (history_of self.old) (history_of self.new) }
         ensures generation { generation_of (history_of self.new) ≡ generation_of (history_of self.old) }
     {
-        let _journal = self.port.journal();
-        self.port.line_end(putter)
+        let port = &mut *self.port;
+        let _journal = port.journal();
+        port.line_end(putter)
     }
 
     /// The calls of a caller in the phase that runs are over.
@@ -156,16 +162,18 @@ impl KeptPort {
         ensures by { AddsBy caller (history_of self.old) (history_of self.new) }
         ensures generation { generation_of (history_of self.new) ≡ generation_of (history_of self.old) }
     {
-        let _journal = self.port.journal();
-        self.port.own_entries_tell();
-        self.port.caller_end(caller)
+        let port = &mut *self.port;
+        let _journal = port.journal();
+        port.own_entries_tell();
+        port.caller_end(caller)
     }
 
     /// Whether the phase that runs may end.
     pub(crate) fn may_end(&self) -> bool
         ensures { result ≡ may_end (name_of self.now).counts (terminal_at (name_of self.now) (history_of self.now)) }
     {
-        let _journal = self.port.journal();
-        self.port.may_end()
+        let port = &*self.port;
+        let _journal = port.journal();
+        port.may_end()
     }
 }

@@ -41,7 +41,7 @@ impl SharedPort {
         ensures here { IfOk result (λ r. AreHere r.0 (opening_history r.0) 0 r.1.items) }
     {
         let kept = KeptPort {
-            port,
+            port: Box::new(alloc, port)?,
             callers: seats - 4,
         };
         kept.entry_count();
@@ -66,6 +66,6 @@ impl SharedPort {
         kept.entry_count();
         let KeptPort { port, callers: _ } = kept;
         let _journal = port.journal();
-        port
+        Box::into_inner(port)
     }
 }

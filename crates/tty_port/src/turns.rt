@@ -45,7 +45,7 @@ impl SharedPort {
         ensures turn { has_turn seat.new ≡ false }
         ensures lowered { is_raised seat.new ≡ false }
         ensures list { list_seen seat.new ≡ history_of (value_in turn) }
-        ensures history { IsHistoryOf (value_in turn).callers (value_in turn).port (history_of (value_in turn)) }
+        ensures history { IsHistoryOf (value_in turn).callers (value_in turn).port.value (history_of (value_in turn)) }
     {
         if turn.value().entry_count() != found {
             self.cell.note(seat, &mut turn);
@@ -55,7 +55,7 @@ impl SharedPort {
     }
 
     /// Wakes those who wait for a change, where it is to.
-    fn wake_where(&self, wakes: bool) {
+    pub(crate) fn wake_where(&self, wakes: bool) {
         if wakes {
             self.cell.wake();
         }

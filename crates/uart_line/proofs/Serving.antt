@@ -131,7 +131,7 @@ Serves-later capacity capacity' l0 l1 list s s0 s1 h h0 h1 more e same_sent same
 
 -- all of a list is accepted
 pub Serves-all : (capacity : ℕ) (l0 l1 : LineState) (list : List Flagged) (n : ℕ) (s0 s1 : List Flagged) (h0 h1 : List ℕ) → length list ≡ n → s1 ≡ s0 ++ list → h1 ≡ h0
-    → l1 ≡ record l0 { handed = l0.handed + n; report = record l0.report { sent = l1.report.sent } } → Serves capacity l0 l1 list s0 s1 h0 h1
+    → l1 ≡ record l0 { handed = l0.handed + n; report = record l0.report { sent = l0.report.sent + n } } → Serves capacity l0 l1 list s0 s1 h0 h1
 Serves-all capacity l0 l1 list n s0 s1 h0 h1 long s h same = record {
   offers = Offers-all capacity l0.handed list s0 s1 h0 h1 l0.report.overruns.items l1.report.overruns.items s h (ap (λ l. l.report.overruns.items) same);
   handed = ap (λ l. l.handed) same ∙ ap (λ k. l0.handed + k) (sym long);

@@ -1,23 +1,14 @@
 -- Scripts of a line whose received lists are known.
-use Rattle.std.specs.Prelude.{ℕ, List, [], ◌∷◌, ◌++◌, map}
-use Rattle.tty_base.specs.declared.characters.Flag.TheVariants as flag
+use Rattle.std.specs.Prelude.{ℕ, List, [], ◌∷◌, ◌++◌}
 use Rattle.tty_base.specs.declared.characters.Flagged.{Flagged}
 use Rattle.tty_base.specs.declared.lines.LineStep.{LineStep}
-use Rattle.tty_base.specs.declared.lines.LineStep.TheVariants.{Rx, Idle, Mask, Unmask, Trigger}
+use Rattle.tty_base.specs.declared.lines.LineStep.TheVariants.{Idle, Mask, Unmask, Trigger}
 use Rattle.uart_line.specs.Received.{overrun_mark, closed_script}
-
-abbrev pub good_character : ℕ → Flagged
-good_character b = record { byte = b; flag = flag.Normal }
-
-abbrev pub good_characters : List ℕ → List Flagged
-good_characters bytes = map good_character bytes
-
-abbrev pub arrivals_of : List ℕ → List LineStep
-arrivals_of bytes = map (λ b. Rx (good_character b)) bytes
+use Rattle.uart_line.specs.GoodSteps.{good_character, good_characters, good_steps}
 
 -- twenty characters while the handler is masked
 abbrev pub masked_burst : List LineStep
-masked_burst = closed_script (Trigger 14 ∷ Mask ∷ arrivals_of (65 ∷ 66 ∷ 67 ∷ 68 ∷ 69 ∷ 70 ∷ 71 ∷ 72 ∷ 73 ∷ 74 ∷ 75 ∷ 76 ∷ 77 ∷ 78 ∷ 79 ∷ 80 ∷ 81 ∷ 82 ∷ 83 ∷ 84 ∷ []) ++ Unmask ∷ [])
+masked_burst = closed_script (Trigger 14 ∷ Mask ∷ good_steps (65 ∷ 66 ∷ 67 ∷ 68 ∷ 69 ∷ 70 ∷ 71 ∷ 72 ∷ 73 ∷ 74 ∷ 75 ∷ 76 ∷ 77 ∷ 78 ∷ 79 ∷ 80 ∷ 81 ∷ 82 ∷ 83 ∷ 84 ∷ []) ++ Unmask ∷ [])
 
 -- sixteen of them, with a mark after the first
 abbrev pub burst_output : List Flagged
@@ -25,7 +16,7 @@ burst_output = good_character 65 ∷ overrun_mark ∷ good_characters (66 ∷ 67
 
 -- three characters, some idle times, and sixteen while the handler is masked
 abbrev pub burst_after_idle : ℕ → List LineStep
-burst_after_idle times = closed_script (Trigger 14 ∷ arrivals_of (65 ∷ 66 ∷ 67 ∷ []) ++ Idle times ∷ Mask ∷ arrivals_of (97 ∷ 98 ∷ 99 ∷ 100 ∷ 101 ∷ 102 ∷ 103 ∷ 104 ∷ 105 ∷ 106 ∷ 107 ∷ 108 ∷ 109 ∷ 110 ∷ 111 ∷ 112 ∷ []) ++ Unmask ∷ [])
+burst_after_idle times = closed_script (Trigger 14 ∷ good_steps (65 ∷ 66 ∷ 67 ∷ []) ++ Idle times ∷ Mask ∷ good_steps (97 ∷ 98 ∷ 99 ∷ 100 ∷ 101 ∷ 102 ∷ 103 ∷ 104 ∷ 105 ∷ 106 ∷ 107 ∷ 108 ∷ 109 ∷ 110 ∷ 111 ∷ 112 ∷ []) ++ Unmask ∷ [])
 
 -- where the three were cut, all nineteen
 abbrev pub two_windows_output : List Flagged

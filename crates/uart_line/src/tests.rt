@@ -6,6 +6,7 @@ use std::alloc::Global;
 use std::process::Abort;
 use std::test::Fail;
 use tty_base::{Chars, Flag, Flagged, LineReport, LineStep};
+use uart_regs::TIMEOUT;
 
 const MOST: u32 = 40;
 
@@ -58,5 +59,42 @@ fn a_masked_burst_is_received_with_a_mark(rt: HostRuntime) -> Result<(), Fail> {
     assert_eq!(rt; report.fifo_lost, 4);
     assert_eq!(rt; report.sent, 17);
     assert_eq!(rt; report.overruns.len(), 0);
+    Ok(())
+}
+
+/// What is handed over of good characters at this trigger, and how many of them each call took.
+fn received_good<R: Abort>(
+    rt: &R,
+    alloc: Global,
+    level: u8,
+    bytes: &[u8],
+) -> Result<(Chars, Vec<usize>), Fail> {
+    assert!(rt; bytes.len() <= MOST as usize);
+    assert!(rt; is_step(LineStep::Trigger(level)));
+    let mut line = Line::new(alloc, MOST)?;
+    let mut chars = Chars::new(alloc);
+    chars.reserve(MOST as usize)?;
+    line.step(LineStep::Trigger(level), &mut chars);
+    let mut taken = Vec::new(alloc);
+    let mut rest = bytes;
+    while !rest.is_empty() {
+        let count = line.step_good(rest, &mut chars);
+        taken.push(count)?;
+        rest = &rest[count..];
+    }
+    line.step(LineStep::Idle(TIMEOUT as u16), &mut chars);
+    Ok((chars, taken))
+}
+
+#[test]
+fn good_characters_are_received_by_windows(rt: HostRuntime) -> Result<(), Fail> {
+    let bytes = b"ABCDEFGHIJKLMNOPQRST";
+    let (chars, taken) = received_good(&rt, rt.alloc(), 8, bytes)?;
+    assert_eq!(rt; taken.as_slice(), [8, 8, 1, 1, 1, 1].as_slice());
+    assert_eq!(rt; chars.len(), bytes.len());
+    for (c, byte) in chars.as_slice().iter().zip(bytes) {
+        assert_eq!(rt; c.byte, *byte);
+        assert_eq!(rt; c.flag, Flag::Normal);
+    }
     Ok(())
 }

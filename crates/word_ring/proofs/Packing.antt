@@ -1,7 +1,9 @@
 -- Numbers in the lanes of a word.
 use Rattle.std.proofs.Common.{◌≡◌, ℕ, zero, suc, ◌+◌, ◌-◌, ◌*◌, ◌/◌, ◌%◌, ◌^◌, ◌<◌, List, [], ◌∷◌, ◌++◌, length, get_or, refl, sym, ap, ◌∙◌, subst, ⊎_elim, arith, length-append, length-take}
 use Rattle.std.proofs.lemmas.Bool.{cases_lt}
+use Rattle.std.proofs.lemmas.Nat.{pow-add}
 use Rattle.std.proofs.Math.ListN.{get_or-append}
+use Rattle.std.proofs.Math.Nat.{div-div-eq-div-mul}
 use Rattle.std.proofs.Math.Seq.{get_or-append_seam}
 use Rattle.word_ring.specs.Lanes.{lane, lanes, top_lanes, whole_words}
 
@@ -51,6 +53,64 @@ lay_four a b c d ha hb hc hd =
 -- all lanes
 pub top_all : (w : ℕ) → top_lanes w 4 ≡ lanes w 4
 top_all w = let is : w / 65536 ^ (4 - 4) ≡ w = omega arith in ap (λ (z : ℕ). lanes z 4) is
+
+-- the last lanes of a word and then the first of the next
+module _ (w n : ℕ) (w_fits : w < 2 ^ 64) (n_fits : n < 2 ^ 64) where
+  abbrev joins : ℕ → ℕ
+  joins k = w / 2 ^ (64 - k * 16) + (n * 2 ^ (k * 16)) % 18446744073709551616
+
+  pub joined_fits : (k : ℕ) → 0 < k → k < 4 → joins k < 2 ^ 64
+  joined_fits zero some few = absurd (omega arith)
+  joined_fits (suc zero) some few = omega arith
+  joined_fits (suc (suc zero)) some few = omega arith
+  joined_fits (suc (suc (suc zero))) some few = omega arith
+  joined_fits (suc (suc (suc (suc k)))) some few = absurd (omega arith)
+
+  pub lay_joined : (k : ℕ) → 0 < k → k < 4 → lanes (joins k) 4 ≡ top_lanes w k ++ lanes n (4 - k)
+  unfolding lane
+  lay_joined zero some few = absurd (omega arith)
+  lay_joined (suc zero) some few =
+      let a : (w / 281474976710656 + (n * 65536) % 18446744073709551616) / 1 % 65536 ≡ w / 281474976710656 / 1 % 65536 = omega arith in
+      let b : (w / 281474976710656 + (n * 65536) % 18446744073709551616) / 65536 % 65536 ≡ n / 1 % 65536 = omega arith in
+      let d : (w / 281474976710656 + (n * 65536) % 18446744073709551616) / 4294967296 % 65536 ≡ n / 65536 % 65536 = omega arith in
+      let e : (w / 281474976710656 + (n * 65536) % 18446744073709551616) / 281474976710656 % 65536 ≡ n / 4294967296 % 65536 = omega arith in
+      λ i. a i ∷ b i ∷ d i ∷ e i ∷ []
+  lay_joined (suc (suc zero)) some few =
+      let a : (w / 4294967296 + (n * 4294967296) % 18446744073709551616) / 1 % 65536 ≡ w / 4294967296 / 1 % 65536 = omega arith in
+      let b : (w / 4294967296 + (n * 4294967296) % 18446744073709551616) / 65536 % 65536 ≡ w / 4294967296 / 65536 % 65536 = omega arith in
+      let d : (w / 4294967296 + (n * 4294967296) % 18446744073709551616) / 4294967296 % 65536 ≡ n / 1 % 65536 = omega arith in
+      let e : (w / 4294967296 + (n * 4294967296) % 18446744073709551616) / 281474976710656 % 65536 ≡ n / 65536 % 65536 = omega arith in
+      λ i. a i ∷ b i ∷ d i ∷ e i ∷ []
+  lay_joined (suc (suc (suc zero))) some few =
+      let a : (w / 65536 + (n * 281474976710656) % 18446744073709551616) / 1 % 65536 ≡ w / 65536 / 1 % 65536 = omega arith in
+      let b : (w / 65536 + (n * 281474976710656) % 18446744073709551616) / 65536 % 65536 ≡ w / 65536 / 65536 % 65536 = omega arith in
+      let d : (w / 65536 + (n * 281474976710656) % 18446744073709551616) / 4294967296 % 65536 ≡ w / 65536 / 4294967296 % 65536 = omega arith in
+      let e : (w / 65536 + (n * 281474976710656) % 18446744073709551616) / 281474976710656 % 65536 ≡ n / 1 % 65536 = omega arith in
+      λ i. a i ∷ b i ∷ d i ∷ e i ∷ []
+  lay_joined (suc (suc (suc (suc k)))) some few = absurd (omega arith)
+
+-- the first lanes and the last ones are all
+pub lanes_split : (w k : ℕ) → k < 4 → lanes w (4 - k) ++ top_lanes w k ≡ lanes w 4
+unfolding lane
+lanes_split w zero few = refl
+lanes_split w (suc zero) few =
+    let d : w / 281474976710656 / 1 % 65536 ≡ w / 281474976710656 % 65536 = omega arith in
+    λ i. w / 1 % 65536 ∷ w / 65536 % 65536 ∷ w / 4294967296 % 65536 ∷ d i ∷ []
+lanes_split w (suc (suc zero)) few =
+    let c : w / 4294967296 / 1 % 65536 ≡ w / 4294967296 % 65536 = omega arith in
+    let d : w / 4294967296 / 65536 % 65536 ≡ w / 281474976710656 % 65536 = omega arith in
+    λ i. w / 1 % 65536 ∷ w / 65536 % 65536 ∷ c i ∷ d i ∷ []
+lanes_split w (suc (suc (suc zero))) few =
+    let b : w / 65536 / 1 % 65536 ≡ w / 65536 % 65536 = omega arith in
+    let c : w / 65536 / 65536 % 65536 ≡ w / 4294967296 % 65536 = omega arith in
+    let d : w / 65536 / 4294967296 % 65536 ≡ w / 281474976710656 % 65536 = omega arith in
+    λ i. w / 1 % 65536 ∷ b i ∷ c i ∷ d i ∷ []
+lanes_split w (suc (suc (suc (suc k)))) few = absurd (omega arith)
+
+-- a lane from another one on
+pub lane_on : (w l j : ℕ) → lane (w / 65536 ^ l) j ≡ lane w (l + j)
+unfolding lane
+lane_on w l j = ap (λ (z : ℕ). z % 65536) (div-div-eq-div-mul w (65536 ^ l) (65536 ^ j) ∙ ap (λ (z : ℕ). w / z) (sym (pow-add 65536 l j)))
 
 -- a lane by the number that shifts it down
 pub lane_shift : (w l : ℕ) → l < 4 → w / 2 ^ (l * 16) % 65536 ≡ lane w l

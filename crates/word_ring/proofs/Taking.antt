@@ -1,16 +1,22 @@
 -- What a taker's seat knows fits its numbers after each step.
-use Rattle.std.proofs.Common.{◌≡◌, ◌⊎◌, ℕ, ◌+◌, ◌-◌, ◌*◌, ◌/◌, ◌%◌, ◌^◌, ◌<◌, ◌≤◌, true, List, [], ◌∷◌, ◌++◌, length, min, max, refl, sym, ap, ◌∙◌, subst, ⊎_elim, inr, arith, take, drop, length-take, length-drop}
+use Rattle.std.proofs.Common.{◌≡◌, ◌⊎◌, ℕ, zero, suc, ◌+◌, ◌-◌, ◌*◌, ◌/◌, ◌%◌, ◌^◌, ◌<◌, ◌≤◌, true, List, [], ◌∷◌, ◌++◌, length, min, max, refl, sym, ap, ◌∙◌, subst, ⊎_elim, inr, arith, append_assoc, take, drop, length-take, length-drop}
 use mathlib.Core.List.{IsPrefix}
+use mathlib.Core.Option.{none}
+use Rattle.atomic_table.specs.Table.{step, Allows}
+use Rattle.std.specs.Arc.{arc_value}
 use Rattle.std.proofs.lemmas.Bool.{cases_lt}
 use Rattle.std.proofs.lemmas.List.{drop_all, drop-take, take_all, take_at, take-append-drop, take-take}
 use Rattle.word_ring.specs.declared.table.View.{View}
 use Rattle.word_ring.specs.declared.taker.Taker.TheInside.{Inside}
 use Rattle.word_ring.specs.Ends.{TakerState, with_taken}
-use Rattle.word_ring.specs.Lanes.{lane, lanes}
-use Rattle.word_ring.specs.Plays.{with_tail, with_read, with_taken_to, with_note, with_putter}
-use Rattle.word_ring.specs.Rule.{place}
+use Rattle.word_ring.specs.Lanes.{lane, lanes, top_lanes}
+use Rattle.word_ring.specs.Plays.{with_tail, with_read, with_taken_to, with_note, with_putter, LoadsLanes}
+use Rattle.word_ring.specs.Rule.{Ring, place}
 use Rattle.word_ring.specs.TakerParts.{taker_state, IsTaker, IsTaking, HasLanes, peeked_of}
 use Rattle.word_ring.proofs.Beginnings.{begins_itself, begins_longer, begins_take, begins_through}
+use Rattle.word_ring.proofs.Keeps.{loads_lanes}
+use Rattle.word_ring.proofs.Packing.{lane_on}
+use Rattle.word_ring.proofs.Standing.{place_below}
 use Rattle.word_ring.proofs.Reading.{shown_of, shown_length, shown_lanes, peeked_more}
 
 -- where nothing is peeked
@@ -59,7 +65,7 @@ module _ (capacity taken next word start at : ℕ) (v : View) (t : IsTaking capa
   -- ---- the next number
 
   -- all that was read is peeked, where its word has to be loaded
-  pub used_up : (next ≡ taken) ⊎ (next % 4 ≡ 0) → length v.read ≡ next
+  used_up : (next ≡ taken) ⊎ (next % 4 ≡ 0) → length v.read ≡ next
   used_up why = ⊎_elim
       (λ same. (let n = t.none same in omega arith))
       (λ whole. ⊎_elim
@@ -83,7 +89,7 @@ module _ (capacity taken next word start at : ℕ) (v : View) (t : IsTaking capa
     in_lanes = subst (λ (z : List ℕ). HasLanes n next z) (sym read_is) (subst (λ (k : ℕ). HasLanes n k (shown_of v.tail v.read n)) long (shown_lanes v.tail v.read n))
 
     -- of a loaded word
-    pub after_load : IsTaking capacity taken (next + 1) n start at' w
+    after_load : IsTaking capacity taken (next + 1) n start at' w
     after_load =
         let order = t.order in
         let s = size in
@@ -105,7 +111,7 @@ module _ (capacity taken next word start at : ℕ) (v : View) (t : IsTaking capa
           begins = λ is. subst (λ (z : List ℕ). IsPrefix w.read z) (ap (λ z. z.pushed) (sym loaded)) (pushed (ap (λ z. z.puts) (sym loaded) ∙ is));
         }
 
-    pub peeks_loaded : peeked_of taken (next + 1) w ≡ peeked_of taken next v ++ lane n (next % 4) ∷ []
+    peeks_loaded : peeked_of taken (next + 1) w ≡ peeked_of taken next v ++ lane n (next % 4) ∷ []
     peeks_loaded =
         let s = size in
         let here : next < length w.read = omega arith in
@@ -118,7 +124,7 @@ module _ (capacity taken next word start at : ℕ) (v : View) (t : IsTaking capa
     here : next < length v.read
     here = let s = t.some some in omega arith
 
-    pub after_peek : IsTaking capacity taken (next + 1) word start at v
+    after_peek : IsTaking capacity taken (next + 1) word start at v
     after_peek =
         let h = here in
         let s = t.some some in
@@ -139,7 +145,7 @@ module _ (capacity taken next word start at : ℕ) (v : View) (t : IsTaking capa
           begins = t.begins;
         }
 
-    pub peeks_next : peeked_of taken (next + 1) v ≡ peeked_of taken next v ++ lane word (next % 4) ∷ []
+    peeks_next : peeked_of taken (next + 1) v ≡ peeked_of taken next v ++ lane word (next % 4) ∷ []
     peeks_next = peeked_more taken next v.read (lane word (next % 4)) t.order here (t.lanes next (omega arith) here)
 
   -- ---- the first of what was peeked is taken
@@ -177,6 +183,10 @@ next_is t u inner e =
     let rest : length (peeked_of t.taken t.next v) ≡ t.next - t.taken = length-drop t.taken (take t.next v.read) ∙ omega arith in
     subst (λ (z : TakerState ℕ). length z.taken + length z.peeked ≡ t.next) e (omega arith)
 
+-- the next number begins a word
+pub begins_word : (t : Inside) (u : TakerState ℕ) → IsTaker t → taker_state t ≡ u → (length u.taken + length u.peeked) % 4 ≡ 0 → t.next % 4 ≡ 0
+begins_word t u inner e begins = ap (λ (k : ℕ). k % 4) (sym (next_is t u inner e)) ∙ begins
+
 -- a look has shown the next numbers
 pub more_shown : (t : Inside) (u : TakerState ℕ) (n : ℕ) → IsTaker t → taker_state t ≡ u → length u.taken + length u.peeked + n ≤ u.floor → t.next + n ≤ t.seat.me.0.tail
 more_shown t u n inner e le = let is = next_is t u inner e in let floor : t.seat.me.0.tail ≡ u.floor = ap (λ z. z.floor) e in omega arith
@@ -211,50 +221,104 @@ module _ (old new : Inside) (n : ℕ) (xs : List ℕ) (h : HasRead old new n xs)
       ∙ ((λ i. record { ring = h.ring i; capacity = old.capacity; taken = ap (λ z. z.taken) v i; peeked = h.peeks i; released = ap (λ z. z.released) v i; tails = ap (λ z. z.tails) v i; floor = ap (λ z. z.tail) v i; ended = ap (λ z. z.puts) v i; sent = ap (λ z. z.pushed) v i })
       ∙ ap (λ (s : TakerState ℕ). record s { peeked = s.peeked ++ xs }) e)
 
--- one by one
-four_more : (xs : List ℕ) (a b c d : ℕ) → (((xs ++ a ∷ []) ++ b ∷ []) ++ c ∷ []) ++ d ∷ [] ≡ xs ++ a ∷ b ∷ c ∷ d ∷ []
-four_more [] a b c d = refl
-four_more (x ∷ xs) a b c d = ap (λ ys. x ∷ ys) (four_more xs a b c d)
+-- what a load of a word tells of it
+abbrev pub IsLoaded : Inside → Inside → Type 0
+IsLoaded old new =
+    let v = old.seat.me.0 in
+    let w = new.seat.me.0 in
+    (w ≡ with_read v (shown_of v.tail v.read new.word)) × (new.seat.me.1 ≡ old.seat.me.1) × IsPrefix v.read w.read × (v.puts ≡ true → IsPrefix w.read v.pushed)
 
--- a whole word is loaded
-module _ (capacity taken next word start at : ℕ) (v : View) (t : IsTaking capacity taken next word start at v) (w : View) (n at' : ℕ) (whole : next % 4 ≡ 0) (more : next + 4 ≤ v.tail)
-    (loaded : w ≡ with_read v (shown_of v.tail v.read n)) (longer : IsPrefix v.read w.read) (pushed : v.puts ≡ true → IsPrefix w.read v.pushed) (at_is : at' ≡ place capacity (next / 4)) where
-  tail_is : w.tail ≡ v.tail
-  tail_is = ap (λ z. z.tail) loaded
+-- the next number, in the lane of the word that has it
+abbrev pub ReadsOne : Inside → Inside → Type 0
+ReadsOne old new = HasRead old new 1 (lane new.word (old.next % 4) ∷ [])
 
-  first : IsTaking capacity taken (next + 1) n start at' w
-  first = after_load capacity taken next word start at v t w n at' (inr whole) (omega arith) loaded longer pushed at_is
+-- it stands in the word that was loaded before
+pub reads_there : (old : Inside) → IsTaker old → old.taken < old.next → 0 < old.next % 4 → old.next < old.seat.me.0.tail → ReadsOne old old
+reads_there old inner some inside more = record {
+  ring = refl;
+  bare = refl;
+  view = refl;
+  same = refl;
+  taking = after_peek _ _ _ _ _ _ _ inner.taking some inside more;
+  peeks = peeks_next _ _ _ _ _ _ _ inner.taking some inside more;
+}
 
-  second : IsTaking capacity taken (next + 1 + 1) n start at' w
-  second = let o = t.order in let e = tail_is in after_peek _ _ _ _ _ _ _ first (omega arith) (omega arith) (omega arith)
+-- its word may be loaded
+module _ (t : Inside) (inner : IsTaker t) (why : (t.next ≡ t.taken) ⊎ (t.next % 4 ≡ 0)) (more : t.next < t.seat.me.0.tail) (at : ℕ) (at_is : at ≡ place t.capacity (t.next / 4)) where
+  pub word_within : at < (arc_value t.board).shared.table_id.words
+  word_within =
+      let below = place_below t.capacity (t.next / 4) in
+      let words = inner.words in
+      let table = ap (λ z. z.words) inner.table in
+      omega arith
 
-  third : IsTaking capacity taken (next + 1 + 1 + 1) n start at' w
-  third = let o = t.order in let e = tail_is in after_peek _ _ _ _ _ _ _ second (omega arith) (omega arith) (omega arith)
+  pub loads_next : (n slots id : ℕ) → Allows (Ring n) slots id t.seat.me at (λ x. x) (LoadsLanes (step slots at 0 0 none) t.seat.me)
+  loads_next n slots id =
+      let v = t.seat.me.0 in
+      let k = inner.taking in
+      let long : length v.read ≡ t.next = used_up _ _ _ _ _ _ _ k why in
+      loads_lanes n slots id t.seat.me at k.takes (at_is ∙ (ap (λ (z : ℕ). place z (t.next / 4)) (sym k.room) ∙ ap (λ (z : ℕ). place v.capacity (z / 4)) (sym long))) (omega arith)
 
-  four_is : next + 1 + 1 + 1 + 1 ≡ next + 4
-  four_is = omega arith
+module _ (old new : Inside) (inner : IsTaker old) where
+  -- with it some more of its word
+  reads_on : ReadsOne old new → (j : ℕ) → old.next % 4 + j < 4 → old.next + j < old.seat.me.0.tail → HasRead old new (suc j) (lanes (new.word / 65536 ^ (old.next % 4)) (suc j))
+  reads_on one zero inside more =
+      let here : lane (new.word / 65536 ^ (old.next % 4)) 0 ≡ lane new.word (old.next % 4) = lane_on new.word (old.next % 4) 0 ∙ ap (lane new.word) (omega arith) in
+      record {
+        ring = one.ring;
+        bare = one.bare;
+        view = one.view;
+        same = one.same;
+        taking = one.taking;
+        peeks = one.peeks ∙ ap (λ (x : ℕ). peeked_of old.taken old.next old.seat.me.0 ++ x ∷ []) (sym here);
+      }
+  reads_on one (suc j) inside more =
+      let so_far = reads_on one j (omega arith) (omega arith) in
+      let before : List ℕ = peeked_of old.taken old.next old.seat.me.0 in
+      let word : ℕ = new.word / 65536 ^ (old.next % 4) in
+      let order = inner.taking.order in
+      let tail : new.seat.me.0.tail ≡ old.seat.me.0.tail = ap (λ z. z.tail) one.view in
+      let step : old.next + suc j + 1 ≡ old.next + suc (suc j) = omega arith in
+      let in_lane : (old.next + suc j) % 4 ≡ old.next % 4 + suc j = omega arith in
+      let here : lane new.word ((old.next + suc j) % 4) ≡ lane word (suc j) = ap (lane new.word) in_lane ∙ sym (lane_on new.word (old.next % 4) (suc j)) in
+      record {
+        ring = one.ring;
+        bare = one.bare;
+        view = one.view;
+        same = one.same;
+        taking = subst (λ (k : ℕ). IsTaking old.capacity old.taken k new.word old.start new.at new.seat.me.0) step (after_peek _ _ _ _ _ _ _ so_far.taking (omega arith) (omega arith) (omega arith));
+        peeks = ap (λ (k : ℕ). peeked_of old.taken k new.seat.me.0) (sym step)
+            ∙ (peeks_next _ _ _ _ _ _ _ so_far.taking (omega arith) (omega arith) (omega arith)
+            ∙ (ap (λ (xs : List ℕ). xs ++ lane new.word ((old.next + suc j) % 4) ∷ []) so_far.peeks
+            ∙ (append_assoc before (lanes word (suc j)) (lane new.word ((old.next + suc j) % 4) ∷ []) ∙ ap (λ (x : ℕ). before ++ (lanes word (suc j) ++ x ∷ [])) here)));
+      }
 
-  pub after_word : IsTaking capacity taken (next + 4) n start at' w
-  after_word = let o = t.order in let e = tail_is in subst (λ (k : ℕ). IsTaking capacity taken k n start at' w) four_is (after_peek _ _ _ _ _ _ _ third (omega arith) (omega arith) (omega arith))
+  -- its word was loaded
+  module _ (same : new ≡ record old { seat = new.seat; word = new.word; at = new.at }) (at_is : new.at ≡ place old.capacity (old.next / 4)) (ring : new.seat.table_id ≡ old.seat.table_id) (loaded : IsLoaded old new) where
+    pub reads_loaded : (old.next ≡ old.taken) ⊎ (old.next % 4 ≡ 0) → old.next < old.seat.me.0.tail → ReadsOne old new
+    reads_loaded why more = record {
+      ring = ring;
+      bare = loaded.1;
+      view = (let is = loaded.0 in is ∙ ap (λ z. record old.seat.me.0 { read = z.read }) (sym is));
+      same = same;
+      taking = after_load _ _ _ _ _ _ _ inner.taking new.seat.me.0 new.word new.at why more loaded.0 loaded.2 loaded.3 at_is;
+      peeks = peeks_loaded _ _ _ _ _ _ _ inner.taking new.seat.me.0 new.word new.at why more loaded.0 loaded.2 loaded.3 at_is;
+    }
 
-  pub peeks_word : peeked_of taken (next + 4) w ≡ peeked_of taken next v ++ lanes n 4
-  peeks_word =
-      let o = t.order in
-      let e = tail_is in
-      let old : List ℕ = peeked_of taken next v in
-      let one : next % 4 ≡ 0 = whole in
-      let two : (next + 1) % 4 ≡ 1 = omega arith in
-      let three : (next + 1 + 1) % 4 ≡ 2 = omega arith in
-      let four : (next + 1 + 1 + 1) % 4 ≡ 3 = omega arith in
-      let a = peeks_loaded capacity taken next word start at v t w n at' (inr whole) (omega arith) loaded longer pushed at_is in
-      let b = peeks_next _ _ _ _ _ _ _ first (omega arith) (omega arith) (omega arith) in
-      let c = peeks_next _ _ _ _ _ _ _ second (omega arith) (omega arith) (omega arith) in
-      let d = peeks_next _ _ _ _ _ _ _ third (omega arith) (omega arith) (omega arith) in
-      let on : (xs : List ℕ) (k : ℕ) → List ℕ = λ xs k. xs ++ lane n k ∷ [] in
-      ap (λ (k : ℕ). peeked_of taken k w) (sym four_is)
-      ∙ (d ∙ (ap (λ xs. on xs ((next + 1 + 1 + 1) % 4)) (c ∙ ap (λ xs. on xs ((next + 1 + 1) % 4)) (b ∙ ap (λ xs. on xs ((next + 1) % 4)) a))
-      ∙ (four_more old (lane n (next % 4)) (lane n ((next + 1) % 4)) (lane n ((next + 1 + 1) % 4)) (lane n ((next + 1 + 1 + 1) % 4))
-      ∙ (λ i. old ++ lane n (one i) ∷ lane n (two i) ∷ lane n (three i) ∷ lane n (four i) ∷ []))))
+    -- with it the first numbers of a word
+    pub reads_first : (k : ℕ) → old.next % 4 ≡ 0 → 0 < k → k ≤ 4 → old.next + k ≤ old.seat.me.0.tail → HasRead old new k (lanes new.word k)
+    reads_first zero whole some few more = absurd (omega arith)
+    reads_first (suc j) whole some few more =
+        let all : new.word / 65536 ^ (old.next % 4) ≡ new.word = ap (λ (k : ℕ). new.word / 65536 ^ k) whole ∙ omega arith in
+        subst (λ (w : ℕ). HasRead old new (suc j) (lanes w (suc j))) all (reads_on (reads_loaded (inr whole) (omega arith)) j (omega arith) (omega arith))
+
+  -- with it the others of its word
+  pub reads_rest : ReadsOne old new → old.next + 4 ≤ old.seat.me.0.tail → HasRead old new (4 - old.next % 4) (top_lanes new.word (4 - old.next % 4))
+  reads_rest one more =
+      let count : suc (3 - old.next % 4) ≡ 4 - old.next % 4 = omega arith in
+      let from : old.next % 4 ≡ 4 - (4 - old.next % 4) = omega arith in
+      subst (λ (l : ℕ). HasRead old new (4 - old.next % 4) (lanes (new.word / 65536 ^ l) (4 - old.next % 4))) from
+      (subst (λ (k : ℕ). HasRead old new k (lanes (new.word / 65536 ^ (old.next % 4)) k)) count (reads_on one (3 - old.next % 4) (omega arith) (omega arith)))
 
 -- where there are some, they are taken and their head is stored
 with_some : {A : Type 0} (t : TakerState A) (xs : List A) → 0 < length xs → with_taken t xs ≡ record t { taken = t.taken ++ xs; peeked = []; released = t.released ++ length (t.taken ++ xs) ∷ [] }

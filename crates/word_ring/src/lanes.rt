@@ -1,5 +1,5 @@
 //! Four numbers in a word.
-ghost use Rattle.std.specs.Prelude.{◌≡◌, ℕ, ◌+◌, ◌<◌, [], ◌∷◌, ◌++◌};
+ghost use Rattle.std.specs.Prelude.{◌≡◌, ℕ, ◌+◌, ◌-◌, ◌<◌, [], ◌∷◌, ◌++◌};
 ghost use Rattle.word_ring.specs.Lanes.{lane, lanes, top_lanes};
 
 /// The word with one more number in its last lane. Each number before stands one lane lower.
@@ -26,4 +26,14 @@ pub(crate) fn word_of(xs: [u16; 4]) -> u64
 {
     let [a, b, c, d] = xs;
     u64::from(a) + u64::from(b) * 65536 + u64::from(c) * 4294967296 + u64::from(d) * 281474976710656
+}
+
+/// The word with the numbers in the last `k` lanes of one word, and then those in the first lanes of the
+/// next.
+#[inline(always)]
+pub(crate) fn joined(word: u64, next: u64, k: u64) -> u64
+    requires { (0 < k) × (k < 4) }
+    ensures { lanes result 4 ≡ top_lanes word k ++ lanes next (4 - k) }
+{
+    (word >> (64 - k * 16)) + (next << (k * 16))
 }

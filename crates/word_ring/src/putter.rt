@@ -4,7 +4,7 @@ ghost use Rattle.std.specs.List.Sorted.{IsNonDecreasing};
 ghost use Rattle.word_ring.specs.Ends.{with_loaded};
 ghost use Rattle.word_ring.specs.Lanes.{lanes};
 
-use crate::lanes::{with_next, word_of};
+use crate::lanes::{joined, with_next, word_of};
 use crate::steps::{place_after, place_of_next, store_lanes};
 use crate::table::{Board, HEAD, HeadNoted, LoadHead, Noted, Place, StoreTail, TAIL};
 use crate::taker::HeadNote;
@@ -131,18 +131,19 @@ impl Putter {
         self.at = place_after(self.capacity, sent + 1, self.at);
     }
 
-    /// Puts four numbers for which there is room by the latest head that was loaded. Where they fill a
-    /// word, it is made and stored at once.
+    /// Puts four numbers for which there is room by the latest head that was loaded. One word is filled
+    /// by them, and stored at once.
     #[inline(always)]
     pub fn put_four(&mut self, xs: [u16; 4])
         requires small { length self.old.sent + 4 ≤ 2 ^ 63 }
         requires room { length self.old.sent + 4 ≤ self.old.floor + self.old.capacity }
         ensures { self.new ≡ record self.old { sent = self.old.sent ++ xs } }
     {
+        let four = word_of(xs);
         if self.sent % 4 == 0 {
-            self.put_word(word_of(xs));
+            self.put_word(four);
         } else {
-            self.put_each(xs);
+            self.put_across(four);
         }
     }
 
@@ -159,17 +160,21 @@ impl Putter {
         self.at = place_of_next(self.capacity, self.sent, at);
     }
 
+    // Puts four numbers of which the first fill the last word, and the others begin the next one.
     #[inline(never)]
-    fn put_each(&mut self, xs: [u16; 4])
+    fn put_across(&mut self, four: u64)
+        requires inside { 0 < length self.old.sent % 4 }
         requires small { length self.old.sent + 4 ≤ 2 ^ 63 }
         requires room { length self.old.sent + 4 ≤ self.old.floor + self.old.capacity }
-        ensures { self.new ≡ record self.old { sent = self.old.sent ++ xs } }
+        ensures { self.new ≡ record self.old { sent = self.old.sent ++ lanes four 4 } }
     {
-        let [a, b, c, d] = xs;
-        self.put_known(a);
-        self.put_known(b);
-        self.put_known(c);
-        self.put_known(d);
+        let at = self.at;
+        let end = self.sent + 4;
+        let full = joined(self.word, four, self.sent % 4);
+        store_lanes(&self.board.shared, &mut self.seat, at, full, 4);
+        self.word = four;
+        self.sent = end;
+        self.at = place_of_next(self.capacity, end / 4 * 4, at);
     }
 
     /// Makes all that was put visible to the taker, by one store of the tail. Where all of it is, there

@@ -5,7 +5,7 @@ ghost use Rattle.arrayvec.specs.ArrayVec.{array_vec_len};
 ghost use Rattle.word_ring.specs.Ends.{IsOneWithin, AreReleased, with_shown, with_taken};
 ghost use Rattle.word_ring.specs.Lanes.{lanes};
 
-use crate::lanes::lane_of;
+use crate::lanes::{joined, lane_of};
 use crate::putter::{Note, Putter};
 use crate::steps::{place_of_head, place_of_next, place_of_word, place_to_load};
 use crate::table::{
@@ -132,19 +132,35 @@ impl Taker {
         lane_of(self.word, next % 4)
     }
 
-    /// How many numbers come next before one that begins a word.
-    #[inline(always)]
-    pub fn before_word(&self) -> usize
-        ensures few { result < 4 }
-        ensures begins { (length self.now.taken + length self.now.peeked + result) % 4 ≡ 0 }
+    /// The next four numbers, which a look or a note has shown, as the lanes of a word. They stay in the
+    /// ring until they are released.
+    pub fn peek_four(&mut self) -> u64
+        requires shown { length self.old.taken + length self.old.peeked + 4 ≤ self.old.floor }
+        ensures { self.new ≡ record self.old { peeked = self.old.peeked ++ lanes result 4 } }
     {
-        ((4 - self.next % 4) % 4) as usize
+        if self.next % 4 == 0 {
+            self.peek_word()
+        } else {
+            self.peek_across()
+        }
     }
 
-    /// The word of the next four numbers, which a look or a note has shown, where the first of them
-    /// begins it. They stay in the ring until they are released.
+    /// The next eight numbers, which a look or a note has shown, as the lanes of two words. They stay in
+    /// the ring until they are released.
     #[inline(always)]
-    pub fn peek_word(&mut self) -> u64
+    pub fn peek_eight(&mut self) -> (u64, u64)
+        requires shown { length self.old.taken + length self.old.peeked + 8 ≤ self.old.floor }
+        ensures { self.new ≡ record self.old { peeked = (self.old.peeked ++ lanes result.0 4) ++ lanes result.1 4 } }
+    {
+        if self.next % 4 == 0 {
+            self.peek_two_words()
+        } else {
+            self.peek_twice_across()
+        }
+    }
+
+    // The next four numbers, where the first of them begins a word.
+    fn peek_word(&mut self) -> u64
         requires begins { (length self.old.taken + length self.old.peeked) % 4 ≡ 0 }
         requires shown { length self.old.taken + length self.old.peeked + 4 ≤ self.old.floor }
         ensures { self.new ≡ record self.old { peeked = self.old.peeked ++ lanes result 4 } }
@@ -158,10 +174,9 @@ impl Taker {
         word
     }
 
-    /// The words of the next eight numbers, which a look or a note has shown, where the first of them
-    /// begins a word. They stay in the ring until they are released.
+    // The next eight numbers, where the first of them begins a word.
     #[inline(always)]
-    pub fn peek_two_words(&mut self) -> (u64, u64)
+    fn peek_two_words(&mut self) -> (u64, u64)
         requires begins { (length self.old.taken + length self.old.peeked) % 4 ≡ 0 }
         requires shown { length self.old.taken + length self.old.peeked + 8 ≤ self.old.floor }
         ensures { self.new ≡ record self.old { peeked = (self.old.peeked ++ lanes result.0 4) ++ lanes result.1 4 } }
@@ -176,6 +191,42 @@ impl Taker {
         self.at = at;
         self.next = next + 4 + 4;
         (first, second)
+    }
+
+    // The next four numbers, where the first of them does not begin a word: the last ones of a word,
+    // which may have been loaded, and the first ones of the next.
+    fn peek_across(&mut self) -> u64
+        requires inside { 0 < (length self.old.taken + length self.old.peeked) % 4 }
+        requires shown { length self.old.taken + length self.old.peeked + 4 ≤ self.old.floor }
+        ensures { self.new ≡ record self.old { peeked = self.old.peeked ++ lanes result 4 } }
+    {
+        let lane = self.next % 4;
+        let end = self.next + 4;
+        if self.next == self.taken {
+            self.word = self
+                .board
+                .shared
+                .load::<LoadLanes>(&mut self.seat, self.start);
+            self.at = self.start;
+        }
+        let first = self.word;
+        let at = place_of_next(self.capacity, end / 4 * 4, self.at);
+        let second = self.board.shared.load::<LoadLanes>(&mut self.seat, at);
+        self.word = second;
+        self.at = at;
+        self.next = end;
+        joined(first, second, 4 - lane)
+    }
+
+    // The next eight numbers, where the first of them does not begin a word.
+    #[inline(never)]
+    fn peek_twice_across(&mut self) -> (u64, u64)
+        requires inside { 0 < (length self.old.taken + length self.old.peeked) % 4 }
+        requires shown { length self.old.taken + length self.old.peeked + 8 ≤ self.old.floor }
+        ensures { self.new ≡ record self.old { peeked = (self.old.peeked ++ lanes result.0 4) ++ lanes result.1 4 } }
+    {
+        let first = self.peek_across();
+        (first, self.peek_across())
     }
 
     /// Takes the first `n` numbers that were peeked, by one store of the head, and the others are

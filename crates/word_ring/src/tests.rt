@@ -129,3 +129,85 @@ fn notes_and_the_end(rt: HostRuntime) -> Result<(), Fail> {
     assert_eq!(rt; out.as_slice(), [1, 2].as_slice());
     Ok(())
 }
+
+// Puts a number and takes it.
+fn passes_one(putter: &mut Putter, taker: &mut Taker, x: u16) -> bool {
+    if putter.sent() > 1000 || putter.put(x).is_err() {
+        return false;
+    }
+    putter.push();
+    if taker.look() != 1 || taker.peek_next() != x {
+        return false;
+    }
+    taker.release(1);
+    true
+}
+
+// Puts sixteen numbers by fours.
+fn puts_sixteen(putter: &mut Putter, first: u16) -> bool
+    requires { first < 1000 }
+{
+    for four in 0..4u16 {
+        let x = first + 4 * four;
+        if putter.sent() > 1000 || putter.waiting() + 4 > putter.capacity() {
+            return false;
+        }
+        putter.put_four([x, x + 1, x + 2, x + 3]);
+    }
+    putter.push();
+    true
+}
+
+// Takes sixteen numbers, eight of them at once and then twice four.
+fn take_sixteen(taker: &mut Taker) -> Option<[u64; 4]> {
+    if taker.look() < 16 {
+        return None;
+    }
+    let (first, second) = taker.peek_eight();
+    let third = taker.peek_four();
+    let fourth = taker.peek_four();
+    taker.release(16);
+    Some([first, second, third, fourth])
+}
+
+fn are_in_order(words: [u64; 4], first: u64) -> bool
+    requires { first < 1000 }
+{
+    for i in 0..16usize {
+        if words[i / 4] >> (i % 4 * 16) & 65535 != first + i as u64 {
+            return false;
+        }
+    }
+    true
+}
+
+// Passes numbers by fours after so many single ones, more than twice round the ring.
+fn pass_by_fours(alloc: Global, lead: u16) -> Result<bool, NoMemory>
+    requires { lead < 4 }
+{
+    let (mut putter, mut taker) = ring(alloc, 24)?;
+    for x in 0..lead {
+        if !passes_one(&mut putter, &mut taker, x) {
+            return Ok(false);
+        }
+    }
+    for round in 0..5u16 {
+        let first = lead + 16 * round;
+        if !puts_sixteen(&mut putter, first) {
+            return Ok(false);
+        }
+        match take_sixteen(&mut taker) {
+            Some(words) if are_in_order(words, u64::from(first)) => {}
+            _ => return Ok(false),
+        }
+    }
+    Ok(true)
+}
+
+#[test]
+fn fours_and_eights_from_each_lane(rt: HostRuntime) -> Result<(), Fail> {
+    for lead in 0..4u16 {
+        assert!(rt; pass_by_fours(rt.alloc(), lead)?);
+    }
+    Ok(())
+}

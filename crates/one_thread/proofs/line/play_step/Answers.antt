@@ -1,13 +1,32 @@
-use Rattle.std.proofs.Common.{◌∷◌, [], ◌++◌, List, ap, subst, arith}
-use Rattle.std.proofs.lemmas.List.{take_all}
-use Rattle.std.proofs.lemmas.Result.{err_from_is_err_and}
+use Rattle.std.proofs.Common.{[], ◌∷◌, List}
+use Rattle.std.proofs.lemmas.Result.{IfOk-weaker, IfErr-weaker}
 use Rattle.tty_base.specs.declared.lines.LineStep.{LineStep}
-use Rattle.one_thread.specs.LineInside.{IsBetweenSteps}
+use Rattle.uart_line.specs.LineState.{HasDone}
+use Rattle.one_thread.specs.LineInside.{FlushesSince, DeniesCut, PlaysSteps, StopsSteps}
+use Rattle.one_thread.proofs.LineSteps.{StepsTo}
+use Rattle.one_thread.proofs.LineWindows.{step_plays, step_stops}
 use Rattle.one_thread.proofs.line.play_step.Goals as goal
 
 pub returns-clause-ok : goal.returns-clause-ok
-returns-clause-ok c = λ b done left script i.
-    let passed = c.in_ok-passed.passed in
-    let whole = ap (λ (l : List LineStep). done ++ l) (take_all passed.steps (c.args.step ∷ []) (omega (arith, c.in_ok-passed.ensures.count))) in
-    subst (λ (l : List LineStep). IsBetweenSteps b c.play_window.new.port c.play_window.new.putter c.play_window.new.line l passed.run) whole
-    (c.in_ok-passed.ensures.ok b done left script i)
+returns-clause-ok c =
+    let s = c.step.ensures in
+    let st : (before : List LineStep) → HasDone c.args.line.now before → StepsTo c.args.putter.now c.step.new.put c.args.line.now c.step.new.self before c.args.step =
+    λ before d. record { done = s.done before d; hands_over = s.hands_over before d; capacity = s.capacity; name = s.name; room = s.put; rise = s.rise; most = s.room; arrived = s.arrived } in
+    let w = c.flush_since.new in
+    IfOk-weaker c.flush_since.result
+    (λ next. FlushesSince c.sent-before.result c.args.port.now w.port c.step.new.put w.putter c.args.run next)
+    (λ next. PlaysSteps (c.args.step ∷ []) c.args.port.now w.port c.args.putter.now w.putter c.args.line.now c.step.new.self c.args.run next)
+    (λ next f. step_plays c.args.port.now c.args.putter.now c.step.new.put c.args.line.now c.step.new.self c.args.step c.args.run st w.port w.putter next (rw c.sent-before.ensures at f))
+    c.flush_since.ensures.ok
+
+pub returns-clause-err : goal.returns-clause-err
+returns-clause-err c =
+    let s = c.step.ensures in
+    let st : (before : List LineStep) → HasDone c.args.line.now before → StepsTo c.args.putter.now c.step.new.put c.args.line.now c.step.new.self before c.args.step =
+    λ before d. record { done = s.done before d; hands_over = s.hands_over before d; capacity = s.capacity; name = s.name; room = s.put; rise = s.rise; most = s.room; arrived = s.arrived } in
+    let w = c.flush_since.new in
+    IfErr-weaker c.flush_since.result
+    (λ d. DeniesCut d c.args.port.now w.port c.step.new.put w.putter)
+    (λ d. StopsSteps d (c.args.step ∷ []) c.args.port.now w.port c.args.putter.now w.putter c.args.line.now c.step.new.self c.args.run)
+    (λ d h. step_stops c.args.port.now c.args.putter.now c.step.new.put c.args.line.now c.step.new.self c.args.step c.args.run st d w.port w.putter h)
+    c.flush_since.ensures.err

@@ -10,7 +10,7 @@ pub play_line-requires : goal.play_line-requires
 play_line-requires g c =
     let v = c.args.station.now in (
       c.requires.1.0,
-      (c.requires.0, (c.requires.1.1.1.0, (c.requires.1.1.1.1.0, room_for_line g.scene v.port.terminal.phase v.port v.putter v.line c.args.run c.args.steps.now c.requires.1.0 c.requires.0 c.requires.1.1.1.0))),
+      (c.requires.0, (c.requires.1.1.1.0, (c.requires.1.1.1.1.0, room_for_line g.scene v.port.terminal.phase v.port v.putter v.line c.args.run c.args.steps.now.items c.requires.1.0 c.requires.0 c.requires.1.1.1.0))),
     )
 
 pub returns-in_err-next-clause-err : goal.returns-in_err-next-clause-err

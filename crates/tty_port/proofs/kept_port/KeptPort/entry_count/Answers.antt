@@ -7,9 +7,10 @@ use Rattle.tty_port.proofs.kept_port.KeptPort.entry_count.Goals as goal
 
 pub returns-clause-count : goal.returns-clause-count
 returns-clause-count c =
-    let v = c.args.self.now.port in
-    c.len.ensures ∙ sym (length-map c.journal.result.now.items entry_of) ∙ ap length c.journal.ensures.entries
-    ∙ sym (history_length c.args.self.now.callers (call_in v.kept) v.journal v.terminal.generation)
+    let v = c.deref-port.result.now in
+    rw (← c.deref-port.ensures)
+    (c.len.ensures ∙ sym (length-map c.journal.result.now.items entry_of) ∙ ap length c.journal.ensures.entries
+    ∙ sym (history_length c.args.self.now.callers (call_in v.kept) v.journal v.terminal.generation))
 
 pub returns-clause-history : goal.returns-clause-history
-returns-clause-history c = is_history c.args.self.now.callers c.args.self.now.port c.journal.ensures.port
+returns-clause-history c = is_history c.args.self.now.callers c.args.self.now.port.value (rw (← c.deref-port.ensures) c.journal.ensures.port)

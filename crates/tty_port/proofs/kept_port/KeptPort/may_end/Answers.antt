@@ -6,5 +6,6 @@ use Rattle.tty_port.proofs.kept_port.KeptPort.may_end.Goals as goal
 
 pub returns : goal.returns
 returns c =
-    let v = c.args.self.now.port in
-    c.may_end.ensures ∙ ap (λ (t : Terminal). may_end v.counts t) (sym (port_terminal c.args.self.now.callers v c.journal-journal.ensures.port))
+    let v = c.deref-port.result.now in
+    rw (← c.deref-port.ensures)
+    (c.may_end.ensures ∙ ap (λ (t : Terminal). may_end v.counts t) (sym (port_terminal c.args.self.now.callers v c.journal-journal.ensures.port)))

@@ -7,6 +7,7 @@ use Rattle.tty_port.proofs.kept_port.KeptPortKept.count.Goals as goal
 
 pub returns : goal.returns
 returns c =
-    let v = c.args.self.now.port in
-    c.len.ensures ∙ sym (length-map c.journal.result.now.items entry_of) ∙ ap length c.journal.ensures.entries
-    ∙ sym (history_length c.args.self.now.callers (call_in v.kept) v.journal v.terminal.generation)
+    let v = c.deref.result.now in
+    rw (← c.deref.ensures)
+    (c.len.ensures ∙ sym (length-map c.journal.result.now.items entry_of) ∙ ap length c.journal.ensures.entries
+    ∙ sym (history_length c.args.self.now.callers (call_in v.kept) v.journal v.terminal.generation))

@@ -1,4 +1,4 @@
-use Rattle.std.proofs.Common.{rules, arith, sym, ap, subst, ◌∙◌, ◌≡◌, ◌%◌, ◌+◌, length, ℕ}
+use Rattle.std.proofs.Common.{rules, sym, ap, subst, ◌∙◌, ◌≡◌, ◌%◌, ◌+◌, length, ℕ}
 use Rattle.word_ring.specs.declared.table.View.{View}
 use Rattle.word_ring.specs.PutterParts.{IsPutting}
 use Rattle.word_ring.proofs.Putting.{room_for, after_word}

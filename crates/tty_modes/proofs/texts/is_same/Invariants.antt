@@ -1,5 +1,0 @@
-use Rattle.std.proofs.Common.{◌≡◌, bytes_eq, drop}
-use Rattle.tty_modes.proofs.texts.is_same.Given as goal
-
-abbrev pub invariant-loop-place : goal.invariant-loop-place
-invariant-loop-place l = bytes_eq (drop l.place l.word) (drop l.place l.text) ≡ bytes_eq l.word l.text
