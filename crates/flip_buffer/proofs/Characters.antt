@@ -1,11 +1,13 @@
 -- Lists of numbers seen as characters.
-use Rattle.std.proofs.Common.{arith, ◌/◌, ◌%◌, ◌≡◌, ℕ, List, [], ◌∷◌, ◌++◌, map, length, true, refl, sym, ap, subst, ◌∙◌, ⊎_elim, inl, inr}
+use Rattle.std.proofs.Common.{arith, ◌/◌, ◌%◌, ◌≡◌, ℕ, suc, ◌<◌, ◌≤◌, List, [], ◌∷◌, ◌++◌, map, length, get_or, true, refl, sym, ap, subst, ◌∙◌, ⊎_elim, inl, inr}
 use mathlib.Core.List.{IsPrefix, map-append}
 use Rattle.std.proofs.lemmas.List.{append-nil, length-map}
+use Rattle.std.specs.List.{All}
+use Rattle.tty_base.specs.Characters.{good_character, good_characters}
 use Rattle.tty_base.specs.declared.characters.Flagged.{Flagged}
-use Rattle.word_ring.specs.Ends.{TakerState, IsOneWithin, with_taken}
+use Rattle.word_ring.specs.Ends.{PutterState, TakerState, IsOneWithin, Passes, with_taken}
 use Rattle.word_ring.specs.Lanes.{lane, lanes}
-use Rattle.flip_buffer.specs.Packed.{char_of, out_state}
+use Rattle.flip_buffer.specs.Packed.{char_of, flag_of_number, in_state, out_state}
 
 pub chars_begin : (xs ys : List ℕ) → IsPrefix xs ys → IsPrefix (map char_of xs) (map char_of ys)
 chars_begin xs ys p = (map char_of p.0, sym (map-append char_of xs p.0) ∙ ap (map char_of) p.1)
@@ -46,3 +48,31 @@ unfolding lane
 four_of_word w a b c d p q r s =
     let first : w % 65536 ≡ w / 1 % 65536 = omega arith in
     λ i. (p ∙ ap char_of first) i ∷ q i ∷ r i ∷ s i ∷ []
+
+-- ---- what passes
+
+-- a byte's number stands for its good character
+good_one_seen : (x : ℕ) → x < 256 → good_character x ≡ char_of x
+good_one_seen x small =
+    let byte : x ≡ x % 256 = omega arith in
+    let none : 0 ≡ x / 256 = omega arith in
+    λ i. record { byte = byte i; flag = ap flag_of_number none i }
+
+pub good_seen : (xs : List ℕ) → ((k : ℕ) → get_or xs k 0 < 256) → good_characters xs ≡ map char_of xs
+good_seen [] small = refl
+good_seen (x ∷ xs) small = λ i. good_one_seen x (small 0) i ∷ good_seen xs (λ k. small (suc k)) i
+
+-- numbers that pass are characters that pass
+pub passes_seen : (p p' : PutterState ℕ) (t t' : TakerState ℕ) (xs : List ℕ) → Passes p p' t t' xs → Passes (in_state p) (in_state p') (out_state t) (out_state t') (map char_of xs)
+passes_seen p p' t t' xs passes =
+    let sent = map-append char_of p.sent xs in
+    let count : length (p.sent ++ xs) ≡ length (map char_of p.sent ++ map char_of xs) = sym (length-map (p.sent ++ xs) char_of) ∙ ap length sent in
+    let before : length p.sent ≡ length (map char_of p.sent) = sym (length-map p.sent char_of) in
+    record {
+      met = ap (map char_of) passes.met;
+      putter = ap in_state passes.putter ∙ (λ i. record { ring = p.ring; capacity = p.capacity; sent = sent i; pushed = sent i; heads = p.heads ++ count i ∷ []; floor = count i });
+      taker = ap out_state passes.taker ∙ (λ i. record { ring = t.ring; capacity = t.capacity; taken = sent i; peeked = []; released = t.released ++ count i ∷ []; tails = t.tails ++ count i ∷ []; floor = count i; ended = t.ended; sent = map char_of t.sent });
+      floor = omega (arith, passes.floor, before);
+      heads = subst (λ n. All (λ h. h ≤ n) p'.heads) count passes.heads;
+      rise = passes.rise;
+    }

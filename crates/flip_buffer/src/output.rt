@@ -1,10 +1,11 @@
 //! The end that takes characters out.
-ghost use Rattle.std.specs.Prelude.{◌≡◌, ℕ, ◌+◌, ◌-◌, ◌*◌, ◌%◌, ◌<◌, ◌≤◌, true, List, [], ◌∷◌, ◌++◌, map, length, take, min, max, All};
+ghost use Rattle.std.specs.Prelude.{◌≡◌, ◌↔◌, ℕ, ◌+◌, ◌-◌, ◌*◌, ◌%◌, ◌^◌, ◌<◌, ◌≤◌, true, IsTrue, List, [], ◌∷◌, ◌++◌, map, length, take, min, max, All};
 ghost use mathlib.Core.List.{IsPrefix};
 ghost use Rattle.arrayvec.specs.ArrayVec.{array_vec_len};
 ghost use Rattle.tty_base.specs.declared.characters.Flagged.{Flagged};
 ghost use Rattle.word_ring.specs.Lanes.{lanes};
-ghost use Rattle.word_ring.specs.Ends.{IsOneWithin, AreReleased, with_shown, with_taken};
+ghost use Rattle.word_ring.specs.Ends.{IsOneWithin, AreReleased, NothingWaits, Passes, with_shown, with_taken};
+ghost use Rattle.tty_base.specs.Characters.{good_characters};
 ghost use Rattle.flip_buffer.specs.Drops.{LooksAt, Releases};
 ghost use Rattle.flip_buffer.specs.Packed.{char_of};
 
@@ -231,6 +232,26 @@ impl FlipOut {
         }
         self.release(shown);
         shown
+    }
+
+    /// Whether nothing that was put waits to be taken, as both ends know.
+    #[inline(always)]
+    pub fn nothing_waits(&self, input: &FlipIn) -> bool
+        ensures { IsTrue result ↔ NothingWaits input.now self.now }
+    {
+        self.taker.nothing_waits(&input.putter)
+    }
+
+    /// Takes the good characters of these bytes from the other end, where nothing waits: as if each was
+    /// put, all of them pushed and taken, and the head loaded.
+    #[inline(always)]
+    pub fn pass(&mut self, input: &mut FlipIn, bytes: &[u8; 8])
+        requires ring { input.old.ring ≡ self.old.ring }
+        requires clear { NothingWaits input.old self.old }
+        requires small { length input.old.sent + 8 ≤ 2 ^ 63 }
+        ensures { Passes input.old input.new self.old self.new (good_characters bytes.now) }
+    {
+        self.taker.pass(&mut input.putter, *bytes);
     }
 
     /// Takes over the other end, which first pushes, and answers how many characters were put. From

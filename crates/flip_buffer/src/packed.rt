@@ -101,8 +101,5 @@ fn good_character_of(word: u64) -> Flagged
     requires { word % 65536 < 256 }
     ensures { result ≡ char_of (word % 65536) }
 {
-    Flagged {
-        byte: (word % 256) as u8,
-        flag: Flag::Normal,
-    }
+    Flagged::good((word % 256) as u8)
 }

@@ -1,4 +1,4 @@
-ghost use Rattle.std.specs.Prelude.{◌<◌, ◌≤◌};
+ghost use Rattle.std.specs.Prelude.{◌≡◌, ◌<◌, ◌≤◌};
 
 use crate::{FlipIn, FlipOut, flip};
 use arrayvec::ArrayVec;
@@ -89,7 +89,9 @@ fn eight_characters_are_peeked_and_five_more(rt: HostRuntime) -> Result<(), Fail
 }
 
 // Puts a character and takes it.
-fn passes_one(input: &mut FlipIn, output: &mut FlipOut, c: Flagged) -> bool {
+fn passes_one(input: &mut FlipIn, output: &mut FlipOut, c: Flagged) -> bool
+    ensures { (input.new.ring ≡ input.old.ring) × (output.new.ring ≡ output.old.ring) }
+{
     if input.sent() > 1000 || input.put(c).is_err() {
         return false;
     }
@@ -165,5 +167,31 @@ fn fours_and_eights_from_each_alignment(rt: HostRuntime) -> Result<(), Fail> {
     for lead in 0..4 {
         assert!(rt; pass_by_fours(rt.alloc(), lead)?);
     }
+    Ok(())
+}
+
+// Passes eight bytes, where nothing waits.
+fn passes_eight(input: &mut FlipIn, output: &mut FlipOut, bytes: &[u8; 8]) -> bool
+    requires { input.old.ring ≡ output.old.ring }
+    ensures { (input.new.ring ≡ input.old.ring) × (output.new.ring ≡ output.old.ring) }
+{
+    if input.waiting() > 0 || input.sent() > 1000 || !output.nothing_waits(input) {
+        return false;
+    }
+    output.pass(input, bytes);
+    true
+}
+
+#[test]
+fn eight_bytes_pass_between_two_rounds(rt: HostRuntime) -> Result<(), Fail> {
+    let (mut input, mut output) = flip(rt.alloc(), 64)?;
+    assert!(rt; passes_one(&mut input, &mut output, character(1)));
+    assert!(rt; passes_eight(&mut input, &mut output, b"a window"));
+    assert_eq!(rt; (input.sent(), output.taken(), input.waiting()), (9, 9, 0));
+    assert!(rt; passes_one(&mut input, &mut output, character(2)));
+    assert_eq!(rt;
+        (input.sent(), output.taken(), input.waiting()),
+        (10, 10, 0)
+    );
     Ok(())
 }

@@ -1,6 +1,5 @@
 -- Worked sessions: what came over a line, what is read of it, and what stands on the wire.
 use Rattle.std.specs.Prelude.{ℕ, Bool, true, List, [], ◌∷◌, map, replicate}
-use Rattle.tty_base.specs.declared.characters.Flag.TheVariants.{Normal}
 use Rattle.tty_base.specs.declared.characters.Flag.{Flag}
 use Rattle.tty_base.specs.declared.characters.Flagged.{Flagged}
 use Rattle.tty_modes.specs.declared.words.Word.{Word}
@@ -16,9 +15,6 @@ use Rattle.n_tty.specs.Flow.{after_ixoff_rule}
 
 abbrev pub with_flag : Flag → ℕ → Flagged
 with_flag flag byte = record { byte = byte; flag = flag }
-
-abbrev pub good_characters : List ℕ → List Flagged
-good_characters bytes = map (with_flag Normal) bytes
 
 -- the defaults, changed by words
 abbrev pub modes_by : List Word → Settings

@@ -6,7 +6,8 @@ ghost use Rattle.tty_modes.specs.declared.words.Word.TheVariants.{On, Raw};
 ghost use Rattle.tty_modes.specs.Settings.{sane_modes};
 ghost use Rattle.n_tty.specs.Reading.{after_read};
 ghost use Rattle.n_tty.specs.Receiving.{after_character};
-ghost use Rattle.n_tty.specs.Rows.{line_results, good_characters, with_flag, modes_by, after_line_of, after_characters, reads_of, halted_port, edited_port, unread_port, wire_after_rule};
+ghost use Rattle.tty_base.specs.Characters.{good_characters};
+ghost use Rattle.n_tty.specs.Rows.{line_results, with_flag, modes_by, after_line_of, after_characters, reads_of, halted_port, edited_port, unread_port, wire_after_rule};
 ghost use Rattle.n_tty.specs.States.{fresh_tty};
 ghost use Rattle.n_tty.specs.Writing.{piece_size, piece_text};
 

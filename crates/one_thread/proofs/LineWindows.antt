@@ -3,29 +3,36 @@ use Rattle.std.proofs.Common.{◌≡◌, ℕ, suc, zero, ◌+◌, ◌-◌, ◌^�
 use Rattle.std.specs.List.Sorted.{IsNonDecreasing}
 use Rattle.std.specs.List.{All}
 use Rattle.std.proofs.lemmas.Bool.{cases_lt}
-use Rattle.std.proofs.lemmas.List.{take_more, take-append-drop}
+use Rattle.std.proofs.lemmas.List.{length-map, take_all, take_more, take-append-drop}
 use Rattle.tty_base.specs.declared.characters.Flag.TheVariants.{Normal}
 use Rattle.tty_base.specs.declared.characters.Flagged.{Flagged}
 use Rattle.tty_base.specs.declared.lines.LineStep.{LineStep}
 use Rattle.tty_base.specs.declared.lines.LineStep.TheVariants.{Rx}
 use Rattle.tty_base.specs.Lines.{arrival_count}
+use Rattle.line_steps.specs.Steps.{rx_step}
+use Rattle.tty_base.specs.Characters.{good_character, good_characters}
 use Rattle.word_ring.specs.Ends.{PutterState}
 use Rattle.word_ring.specs.Names.{name_of}
+use Rattle.uart_line.specs.GoodSteps.{good_steps}
 use Rattle.uart_line.specs.LineState.{LineState, HasDone, IsUncut}
 use Rattle.uart_line.specs.Received.{received_list}
 use Rattle.uart_line.specs.Offered.{HandsOver, accepted_list}
 use Rattle.uart_line.proofs.Steps.{arrival_count-append, arrival_count-take}
 use Rattle.tty_calls.specs.declared.answers.Denied.{Denied}
 use Rattle.journal_check.specs.Legal.{received_before}
-use Rattle.port_core.specs.Ports.{PortValue}
+use Rattle.port_core.specs.declared.ports.flushing.Flushed.{Flushed}
+use Rattle.port_core.specs.Flips.{after_meeting}
+use Rattle.port_core.specs.Flushes.{Flushes}
+use Rattle.port_core.specs.Given.{with_put, with_pushed, FlushesGiven, DeniesGiven}
+use Rattle.port_core.specs.Ports.{PortValue, IsPort}
 use Rattle.one_thread.specs.Order.{cuts_after}
 use Rattle.one_thread.specs.Lines.{HasPut, StopsLine}
-use Rattle.one_thread.specs.LineInside.{LineStart, steps_before, steps_of, IsInLine, SeesFrom, IsBetweenSteps, FlushesSince, DeniesCut, PlaysSteps, StopsSteps}
+use Rattle.one_thread.specs.LineInside.{LineStart, steps_before, steps_of, IsInLine, SeesFrom, IsBetweenSteps, FlushesSince, DeniesCut, PlaysSteps, StopsSteps, run_after}
 use Rattle.one_thread.proofs.LineLists.{handed_list, handed_is, no_cut, cuts_same}
 use Rattle.one_thread.proofs.LineSteps.{StepsTo}
 use Rattle.one_thread.proofs.LineCuts.{step_rests, step_flushes}
 use Rattle.one_thread.proofs.LineEnds.{stops_at_cut}
-use Rattle.one_thread.proofs.LineLoop.{stops_early}
+use Rattle.one_thread.proofs.LineLoop.{arrival_count-taken, stops_early}
 
 -- where no more are put, as many are as before
 none_put : (putter now : PutterState Flagged) (line next : LineState) (before : List LineStep) (step : LineStep) → StepsTo putter now line next before step
@@ -259,3 +266,77 @@ module _ (v : PortValue) (putter now : PutterState Flagged) (line next : LineSta
         each = λ b done left script i.
             window_stopped b v putter now line next done steps left run n script i (to (steps_before b ++ done) i.in_line.has_put.done) d w met h;
       }))
+
+-- ---- a whole window that goes past the flip buffer
+
+-- the line has accepted all of these good characters
+pub record AcceptsWindow (line next : LineState) (bytes : List ℕ) : Type 0 where
+  pub some : 0 < length bytes
+  pub done : (before : List LineStep) → HasDone line before → HasDone next (before ++ good_steps bytes)
+  pub uncut : (before : List LineStep) → HasDone line before → (k : ℕ) → k < length bytes → IsUncut line before (take k (good_steps bytes))
+  pub hands_over : (before : List LineStep) → HasDone line before → (capacity : ℕ) (sent : List Flagged) (heads : List ℕ)
+      → HandsOver capacity (received_list before) (received_list (before ++ good_steps bytes)) sent (sent ++ good_characters bytes) heads heads line.report.overruns.items next.report.overruns.items
+  pub most : next.most ≡ line.most
+  pub arrived : next.report.arrived ≡ line.report.arrived + length bytes
+  pub handed : next.handed ≡ line.handed + length bytes
+  pub within : next.handed ≤ next.most
+
+module _ (v : PortValue) (putter : PutterState Flagged) (line next : LineState) (bytes : List ℕ) (run : ℕ)
+    (a : AcceptsWindow line next bytes) (put : line.most ≤ (2 ^ 63 - length putter.sent) + line.handed) where
+  abbrev steps : List LineStep
+  steps = good_steps bytes
+
+  abbrev chars : List Flagged
+  chars = good_characters bytes
+
+  all_steps : take (length bytes) steps ≡ steps
+  all_steps = take_all (length bytes) steps (omega (arith, length-map bytes (rx_step Normal)))
+
+  many : length (putter.sent ++ chars) ≡ length putter.sent + length bytes
+  many = omega (arith, length-append putter.sent chars, length-map bytes good_character)
+
+  given_to : (before : List LineStep) → HasDone line before → WindowTo putter (with_put putter chars) line next before steps (length bytes)
+  given_to before d = record {
+    some = a.some;
+    within = omega (arith, length-map bytes (rx_step Normal));
+    done = subst (λ (l : List LineStep). HasDone next (before ++ l)) (sym all_steps) (a.done before d);
+    uncut = a.uncut before d;
+    hands_over = subst (λ (l : List LineStep). HandsOver putter.capacity (received_list before) (received_list (before ++ l)) putter.sent (putter.sent ++ chars) putter.heads putter.heads line.report.overruns.items next.report.overruns.items)
+        (sym all_steps) (a.hands_over before d putter.capacity putter.sent putter.heads);
+    capacity = refl;
+    name = refl;
+    room = omega (arith, put, a.some, a.most, a.handed, a.within, many);
+    rise = λ r. r;
+    most = a.most;
+    arrived = omega (arith, a.arrived, arrival_count-taken bytes (length bytes) (omega arith));
+  }
+
+  flushes_given : (w : PortValue) (after : PutterState Flagged) (flushed : Flushed) → IsPort v → v.terminal.taken ≡ length v.flip.taken → length bytes ≤ 64
+      → FlushesGiven v w putter after run chars flushed → FlushesSince (length putter.sent) v w (with_put putter chars) after run (run_after run flushed)
+  flushes_given w after flushed port taken few g = record {
+    none = λ le. absurd (omega (arith, le, many, a.some));
+    some = λ lt. record {
+      port = port;
+      taken = taken;
+      met = with_pushed putter chars;
+      hears = refl;
+      left = g.left;
+      flushed = flushed;
+      flushes = subst (λ (m : ℕ). Flushes (record v { flip = after_meeting v.flip (with_put putter chars) }) g.left run 0 m flushed)
+          (omega (arith, many, few, length-map bytes good_character)) g.flushes;
+      next_is = refl;
+      new_is = g.new_is;
+      meets = g.meets;
+    };
+  }
+
+  pub window_given : (w : PortValue) (after : PutterState Flagged) (flushed : Flushed) → IsPort v → v.terminal.taken ≡ length v.flip.taken → length bytes ≤ 64
+      → FlushesGiven v w putter after run chars flushed → PlaysSteps steps v w putter after line next run (run_after run flushed)
+  window_given w after flushed port taken few g =
+      subst (λ (l : List LineStep). PlaysSteps l v w putter after line next run (run_after run flushed)) all_steps
+      (window_plays v putter (with_put putter chars) line next steps run (length bytes) given_to w after (run_after run flushed)
+      (flushes_given w after flushed port taken few g))
+
+  pub window_denied : (d : Denied) (w : PortValue) (met : PutterState Flagged) → DeniesGiven d v w putter met chars → StopsSteps d steps v w putter met line next run
+  window_denied d w met g =
+      window_stops v putter (with_put putter chars) line next steps run (length bytes) given_to d w met (record { hears = g.hears; denies = g.denies })

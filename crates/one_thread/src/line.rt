@@ -1,10 +1,12 @@
 //! The line of a phase: its parts, each window of characters, and each other step, followed by a flush of what
 //! it has put.
 
-ghost use Rattle.std.specs.Prelude.{◌≡◌, ◌≤◌, ◌<◌, ◌+◌, ◌-◌, ◌^◌, [], ◌∷◌, IsTrue, IfOk, IfErr, All, length, map, take, drop};
+ghost use Rattle.std.specs.Prelude.{◌≡◌, ◌≤◌, ◌<◌, ◌+◌, ◌-◌, ◌^◌, [], ◌∷◌, IsTrue, IfSome, IfOk, IfErr, All, length, map, take, drop};
 ghost use Rattle.tty_base.specs.Lines.{arrival, arrival_count, is_step};
 ghost use Rattle.line_steps.specs.Steps.{rx_step, steps_of as steps_of_part};
+ghost use Rattle.word_ring.specs.Ends.{NothingWaits};
 ghost use Rattle.uart_line.specs.GoodSteps.{good_steps};
+ghost use Rattle.uart_line.specs.WholeWindow.{IsOpen};
 ghost use Rattle.uart_line.specs.Received.{closed_script};
 ghost use Rattle.tty_calls.specs.Sessions.{line_on};
 ghost use Rattle.journal_check.specs.Legal.{phase_at};
@@ -158,6 +160,82 @@ struct Passed {
 /// The first of these good characters, or a whole window of them, and a flush of what was put.
 #[inline(always)]
 fn play_window(
+    port: &mut Port,
+    putter: &mut FlipIn,
+    line: &mut Line,
+    bytes: &[u8],
+    run: u32,
+) -> Result<Passed, Denied>
+    requires some { 0 < length bytes.now }
+    requires room { line.old.report.arrived + length bytes.now ≤ line.old.most }
+    requires put { line.old.most ≤ (2 ^ 63 - length putter.old.sent) + line.old.handed }
+    requires ring { putter.old.ring ≡ port.old.flip.ring }
+    requires some_room { 64 ≤ port.old.flip.capacity }
+    requires run { BeginsRun run port.old }
+    ensures some { IfOk result (λ passed. 0 < passed.steps) }
+    ensures within { IfOk result (λ passed. passed.steps ≤ length bytes.now) }
+    ensures ok { IfOk result (λ passed. PlaysSteps (take passed.steps (good_steps bytes.now)) port.old port.new putter.old putter.new line.old line.new run passed.run) }
+    ensures err { IfErr result (λ d. StopsSteps d (good_steps bytes.now) port.old port.new putter.old putter.new line.old line.new run) }
+{
+    match window_to_give(port, putter, line, bytes) {
+        Some(window) => give_window(port, putter, line, window, run),
+        None => put_window(port, putter, line, bytes, run),
+    }
+}
+
+/// The bytes of the whole window that comes, where they are eight and nothing waits in the flip buffer.
+#[inline(always)]
+fn window_to_give<'a>(
+    port: &Port,
+    putter: &FlipIn,
+    line: &Line,
+    bytes: &'a [u8],
+) -> Option<&'a [u8; 8]>
+    ensures within { IfSome result (λ window. 8 ≤ length bytes.now) }
+    ensures first { IfSome result (λ window. take 8 bytes.now ≡ window.now) }
+    ensures open { IfSome result (λ window. IsOpen line.now 8) }
+    ensures clear { IfSome result (λ window. NothingWaits putter.now port.now.flip) }
+{
+    let window = bytes.first_chunk::<8>()?;
+    match line.whole_window(bytes.len()) {
+        Some(8) if port.nothing_waits(putter) => Some(window),
+        _ => None,
+    }
+}
+
+/// The good characters of a whole window go past the flip buffer, as if they were put and flushed.
+#[inline(always)]
+fn give_window(
+    port: &mut Port,
+    putter: &mut FlipIn,
+    line: &mut Line,
+    window: &[u8; 8],
+    run: u32,
+) -> Result<Passed, Denied>
+    requires open { IsOpen line.old 8 }
+    requires clear { NothingWaits putter.old port.old.flip }
+    requires room { line.old.report.arrived + 8 ≤ line.old.most }
+    requires put { line.old.most ≤ (2 ^ 63 - length putter.old.sent) + line.old.handed }
+    requires ring { putter.old.ring ≡ port.old.flip.ring }
+    requires some_room { 64 ≤ port.old.flip.capacity }
+    requires run { BeginsRun run port.old }
+    ensures steps { IfOk result (λ passed. passed.steps ≡ 8) }
+    ensures ok { IfOk result (λ passed. PlaysSteps (good_steps window.now) port.old port.new putter.old putter.new line.old line.new run passed.run) }
+    ensures err { IfErr result (λ d. StopsSteps d (good_steps window.now) port.old port.new putter.old putter.new line.old line.new run) }
+{
+    port.numbers_tell();
+    let _journal = port.journal();
+    line.accept_window(window);
+    let flushed = port.flush_given(putter, run, window)?;
+    Ok(Passed {
+        steps: 8,
+        run: run_after(run, flushed),
+    })
+}
+
+/// They are put one after the other, and flushed from there.
+#[inline(never)]
+fn put_window(
     port: &mut Port,
     putter: &mut FlipIn,
     line: &mut Line,

@@ -2,6 +2,7 @@ pub mod Answering
 pub mod Calls
 pub mod Ending
 pub mod Fitting
+pub mod Giving
 pub mod GoingOn
 pub mod Handing
 pub mod Raising

@@ -1,6 +1,7 @@
 pub mod Attempts
 pub mod Flips
 pub mod Flushes
+pub mod Given
 pub mod Inside
 pub mod Kept
 pub mod Phases

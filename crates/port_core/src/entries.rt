@@ -5,7 +5,7 @@ ghost use Rattle.std.specs.Prelude.{◌≡◌, ◌≤◌, ◌<◌, [], true, IfO
 ghost use Rattle.tty_calls.specs.declared.journals.Who.TheVariants.{Caller, Flusher};
 ghost use Rattle.tty_calls.specs.declared.journals.Event.TheVariants.{Flush};
 ghost use Rattle.tty_calls.specs.Plain.{answer_of, answered, call_of, event_of};
-ghost use Rattle.tty_terminal.specs.Meeting.{IsAnswerRoom, IsRoomFor};
+ghost use Rattle.tty_terminal.specs.Meeting.{IsAnswerRoom, IsRoomFor, room_for_characters};
 ghost use Rattle.port_core.specs.Kept.{asked_after};
 
 use http_server::Log;
@@ -81,6 +81,30 @@ pub(crate) fn reserve_chars(
         Ok(()) => Ok(()),
         Err(NoMemory) => Err(starve(starved)),
     }
+}
+
+/// Takes the memory for a piece of so many characters at most: for its entry, for their list, and what
+/// the terminal needs to receive them.
+#[inline(always)]
+pub(crate) fn reserve_piece(
+    journal: &mut Journal,
+    terminal: &mut Terminal,
+    chars: &mut Chars,
+    most: usize,
+) -> Result<(), NoMemory>
+    requires { most ≤ 64 }
+    ensures journal { journal.new.items ≡ journal.old.items }
+    ensures terminal { terminal.new.terminal ≡ terminal.old.terminal }
+    ensures chars { chars.new.items ≡ chars.old.items }
+    ensures entry { OnOk result (0 < journal.new.spare) }
+    ensures room { OnOk result (most ≤ chars.new.spare) }
+    ensures wire { OnOk result (room_for_characters terminal.new.terminal most ≤ terminal.new.wire_room) }
+    ensures signals { OnOk result (most ≤ terminal.new.signal_room) }
+{
+    journal.reserve(1)?;
+    chars.reserve(most)?;
+    let room = terminal.room_for_characters(most);
+    terminal.reserve(room, most)
 }
 
 /// An empty list with room for so many characters.

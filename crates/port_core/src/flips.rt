@@ -1,15 +1,18 @@
 //! The flip buffer of a port, as the port's calls use it.
 
-ghost use Rattle.std.specs.Prelude.{◌≡◌, ℕ, ◌+◌, ◌-◌, ◌*◌, ◌^◌, ◌≤◌, ◌<◌, [], ◌∷◌, ◌++◌, true, false, length, take};
-ghost use Rattle.word_ring.specs.Ends.{AreReleased, with_shown};
+ghost use Rattle.std.specs.Prelude.{◌≡◌, ℕ, ◌+◌, ◌-◌, ◌*◌, ◌^◌, ◌≤◌, ◌<◌, List, [], ◌∷◌, ◌++◌, true, false, length, take};
+ghost use Rattle.tty_base.specs.Characters.{good_characters};
+ghost use Rattle.tty_base.specs.declared.characters.Flagged.{Flagged};
+ghost use Rattle.word_ring.specs.Ends.{AreReleased, NothingWaits, with_shown};
 ghost use Rattle.flip_buffer.specs.Drops.{LooksAt};
 ghost use Rattle.ldisc_switch.specs.Disciplines.{column_in};
 ghost use Rattle.tty_terminal.specs.Receiving.{accepts, after_characters, AcceptsAll};
 ghost use Rattle.tty_terminal.specs.Meeting.{room_for_characters};
 ghost use Rattle.port_core.specs.Flips.{shown_count, TakesOut, DropsShown, after_meeting, MeetsTaker};
+ghost use Rattle.port_core.specs.Given.{TakesGiven, with_put};
 
 use flip_buffer::{FlipIn, FlipOut};
-use tty_base::Chars;
+use tty_base::{Chars, Flagged, Put};
 use tty_terminal::Terminal;
 
 /// Both ends are told what the other knows: all that was put is pushed, and both know it; and the
@@ -68,9 +71,28 @@ pub(crate) fn hand_over(
     ensures column { column_in terminal.new.terminal.disc ≤ column_in terminal.old.terminal.disc + 2 ^ 22 * count }
 {
     flip.peek(count, chars);
+    let received = receive_front(terminal, chars, count);
+    flip.release(received);
+    received
+}
+
+/// Hands over these characters, which are so many, as far as the discipline accepts, and keeps those.
+#[inline(always)]
+pub(crate) fn receive_front(terminal: &mut Terminal, chars: &mut Chars, count: usize) -> usize
+    requires count { length chars.old.items ≡ count }
+    requires taken { terminal.old.terminal.taken + count < 2 ^ 63 }
+    requires wire { room_for_characters terminal.old.terminal count ≤ terminal.old.wire_room }
+    requires signals { count ≤ terminal.old.signal_room }
+    requires column { column_in terminal.old.terminal.disc + 2 ^ 22 * count < 2 ^ 62 }
+    ensures front { chars.new.items ≡ take result chars.old.items }
+    ensures within { result ≤ count }
+    ensures received { terminal.new.terminal ≡ after_characters terminal.old.terminal (take result chars.old.items) }
+    ensures accepted { AcceptsAll terminal.old.terminal (take result chars.old.items) }
+    ensures stops { result < count → accepts terminal.new.terminal ≡ false }
+    ensures column { column_in terminal.new.terminal.disc ≤ column_in terminal.old.terminal.disc + 2 ^ 22 * count }
+{
     let received = terminal.receive_all(chars.as_slice());
     keep_front(chars, count, received);
-    flip.release(received);
     received
 }
 
@@ -115,4 +137,62 @@ pub(crate) fn drop_rest(flip: &mut FlipOut, putter: FlipIn, dropped: &mut Chars)
 {
     flip.end(putter);
     flip.drop_all(flip.capacity(), dropped);
+}
+
+/// Puts the good characters of these bytes, for which there is room.
+pub(crate) fn put_good(putter: &mut FlipIn, bytes: &[u8])
+    requires room { length putter.old.sent + length bytes.now ≤ putter.old.floor + putter.old.capacity }
+    requires small { length putter.old.sent + length bytes.now ≤ 2 ^ 63 }
+    ensures { putter.new ≡ with_put putter.old (good_characters bytes.now) }
+{
+    for byte in bytes {
+        putter.put_known(Flagged::good(*byte));
+    }
+}
+
+/// Puts the good characters of these bytes where nothing waits, takes the first of them, so many as were
+/// received, and both ends meet. Mostly these are all.
+#[inline(always)]
+pub(crate) fn take_given(flip: &mut FlipOut, putter: &mut FlipIn, bytes: &[u8; 8], received: usize)
+    requires ring { putter.old.ring ≡ flip.old.ring }
+    requires clear { NothingWaits putter.old flip.old }
+    requires few { 8 ≤ putter.old.capacity }
+    requires small { length putter.old.sent + 8 ≤ 2 ^ 63 }
+    requires within { received ≤ 8 }
+    ensures { TakesGiven flip.old flip.new putter.old putter.new (good_characters bytes.now) received }
+{
+    if received == 8 {
+        flip.pass(putter, bytes);
+    } else {
+        take_front(flip, putter, bytes, received);
+    }
+}
+
+/// The same where the discipline did not accept all.
+#[inline(never)]
+fn take_front(flip: &mut FlipOut, putter: &mut FlipIn, bytes: &[u8; 8], count: usize)
+    requires ring { putter.old.ring ≡ flip.old.ring }
+    requires clear { NothingWaits putter.old flip.old }
+    requires few { 8 ≤ putter.old.capacity }
+    requires small { length putter.old.sent + 8 ≤ 2 ^ 63 }
+    requires within { count ≤ 8 }
+    ensures { TakesGiven flip.old flip.new putter.old putter.new (good_characters bytes.now) count }
+{
+    put_good(putter, bytes);
+    let note = putter.note();
+    flip.meet(note);
+    flip.look();
+    skip(flip, count);
+    flip.release(count);
+    tell_each_other(flip, putter);
+}
+
+/// Peeks so many characters that a look has shown.
+fn skip(flip: &mut FlipOut, count: usize)
+    requires { length flip.old.taken + length flip.old.peeked + count ≤ flip.old.floor }
+    ensures { (xs : List Flagged) × (length xs ≡ count) × (flip.new ≡ record flip.old { peeked = flip.old.peeked ++ xs }) }
+{
+    for _ in 0..count {
+        flip.peek_next();
+    }
 }

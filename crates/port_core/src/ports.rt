@@ -5,6 +5,7 @@ ghost use Rattle.tty_calls.specs.declared.journals.Who.TheVariants.{Clock};
 pub(crate) mod attempting;
 mod ending;
 pub(crate) mod flushing;
+mod giving;
 
 use crate::entries::{AskedCalls, reserve_entry};
 use flip_buffer::FlipOut;

@@ -1,7 +1,9 @@
 mod Answering
+mod Entries
 mod ModeTexts
 mod Naming
 mod Numbering
 mod Pieces
+mod Signs
 mod Telling
 mod Tens

@@ -35,7 +35,7 @@ three first t u v a b c put then last =
 pub drop_all : {X : Type 0} (xs : List X) (i : ℕ) → length xs ≤ i → drop i xs ≡ []
 drop_all xs i h = nil_from_length (drop i xs) (omega (arith, length-drop i xs))
 
-all_ascii : (bytes : List ℕ) → list_all (λ byte. nat_lt byte 128) bytes ≡ true → IsAscii bytes
+pub all_ascii : (bytes : List ℕ) → list_all (λ byte. nat_lt byte 128) bytes ≡ true → IsAscii bytes
 all_ascii [] h = IsAscii-nil
 all_ascii (byte ∷ bytes) h =
     let parts = and_parts (nat_lt byte 128) (list_all (λ b. nat_lt b 128) bytes) h in
@@ -48,7 +48,7 @@ pub no_digits : [] ≡ encode_lower []
 unfolding encode_with
 no_digits = refl
 
-byte_digits : (byte high low : ℕ) → high ≡ get_or lower_digits (byte / 16) 0 → low ≡ get_or lower_digits (byte % 16) 0 → high ∷ low ∷ [] ≡ encode_lower (byte ∷ [])
+pub byte_digits : (byte high low : ℕ) → high ≡ get_or lower_digits (byte / 16) 0 → low ≡ get_or lower_digits (byte % 16) 0 → high ∷ low ∷ [] ≡ encode_lower (byte ∷ [])
 unfolding encode_with
 byte_digits byte high low first second = ap (λ h. h ∷ low ∷ []) first ∙ ap (λ l. get_or lower_digits (byte / 16) 0 ∷ l ∷ []) second
 

@@ -1,5 +1,5 @@
 -- The digits of a step before its last, and the last.
-use Rattle.std.proofs.Common.{◌≡◌, ℕ, List, [], ◌++◌, ◌/◌, ◌%◌, ◌<◌, ◌≤◌, ◌^◌, codes, decimal, Result, Ok, Err, OnOk, sym, ap, ◌∙◌, arith, append_assoc, lt-ltb, le-ltb, cond}
+use Rattle.std.proofs.Common.{◌≡◌, ℕ, List, [], ◌∷◌, ◌++◌, ◌+◌, ◌/◌, ◌%◌, ◌<◌, ◌≤◌, ◌^◌, codes, decimal, Result, Ok, Err, OnOk, sym, ap, ◌∙◌, arith, append_assoc, lt-ltb, le-ltb, cond}
 use mathlib.Core.Logic.{⊎_elim}
 use Rattle.std.proofs.lemmas.Fmt.{decimal_digit, decimal_step}
 use Rattle.std.proofs.lemmas.Bool.{cases_order}
@@ -13,6 +13,13 @@ few step h = ap (λ b. cond b [] (decimal (step / 10))) (lt-ltb step 10 h)
 
 many : (step : ℕ) → 10 ≤ step → tens step ≡ decimal (step / 10)
 many step h = ap (λ b. cond b [] (decimal (step / 10))) (le-ltb step 10 h)
+
+-- ten steps share them
+pub tens_shared : (a b : ℕ) → a / 10 ≡ b / 10 → tens a ≡ tens b
+tens_shared a b same =
+    ⊎_elim (λ is. many a (omega (arith, is)) ∙ ap decimal same ∙ sym (many b (omega (arith, is, same))))
+    (λ apart. ⊎_elim (λ less. few a less ∙ sym (few b (omega (arith, less, same)))) (λ more. many a (omega (arith, more)) ∙ ap decimal same ∙ sym (many b (omega (arith, more, same)))) apart)
+    (cases_order a 10)
 
 -- a number of two digits or more, by its last one
 pub by_last_digit : (n : ℕ) → 10 ≤ n → n < 2 ^ 64 → decimal (n / 10) ++ decimal (n % 10) ≡ decimal n
@@ -28,11 +35,19 @@ below_ten step one =
     let same : step % 10 ≡ step = omega (arith, one) in
     ap (λ xs. xs ++ decimal (step % 10)) (few step one) ∙ ap decimal same
 
-with_last : (step : ℕ) → step < 2 ^ 64 → tens step ++ decimal (step % 10) ≡ decimal step
+pub with_last : (step : ℕ) → step < 2 ^ 64 → tens step ++ decimal (step % 10) ≡ decimal step
 with_last step small =
     ⊎_elim (λ is. from_ten step (omega (arith, is)) small)
     (λ apart. ⊎_elim (λ one. below_ten step one) (λ more. from_ten step (omega (arith, more)) small) apart)
     (cases_order step 10)
+
+-- a digit and a blank, alone and after others
+pub spaced : (digit : ℕ) → digit < 10 → (48 + digit) ∷ codes " " ≡ decimal digit ++ codes " "
+spaced digit one = ap (λ xs. xs ++ codes " ") (sym (decimal_digit digit one))
+
+pub spaced_last : (n : ℕ) → 10 ≤ n → n < 2 ^ 64 → decimal (n / 10) ++ (48 + n % 10) ∷ codes " " ≡ decimal n ++ codes " "
+spaced_last n more small =
+    ap (λ xs. decimal (n / 10) ++ xs) (spaced (n % 10) (omega arith)) ∙ sym (append_assoc (decimal (n / 10)) (decimal (n % 10)) (codes " ")) ∙ ap (λ xs. xs ++ codes " ") (by_last_digit n more small)
 
 line_is : (front : List ℕ) (step : ℕ) (call : PlainCall) (answer : PlainAnswer) → step < 2 ^ 64 → (front ++ tens step) ++ call_rest (step % 10) call answer ≡ front ++ call_rest step call answer
 line_is front step call answer small =

@@ -1,5 +1,5 @@
 -- How the printer goes on: for private functions alone.
-use Rattle.std.specs.Prelude.{ℕ, List, [], ◌∷◌, ◌++◌, ◌+◌, ◌-◌, ◌/◌, nat_lt, Option, None, Some, Bool, ◌&&◌, ◌==◌, if◌then◌else◌, codes, decimal, filter, flat_map, length, map, slice_get, slice_index, slice_index_or, slice_set}
+use Rattle.std.specs.Prelude.{◌≡◌, ℕ, List, [], ◌∷◌, ◌++◌, ◌+◌, ◌-◌, ◌/◌, ◌%◌, nat_lt, Option, None, Some, Bool, ◌&&◌, ◌==◌, if◌then◌else◌, codes, decimal, filter, flat_map, length, map, slice_get, slice_index, slice_index_or, slice_set, string_bytes}
 use Rattle.std.specs.List.{range_with_len}
 use Rattle.std.specs.Option.{option_and_then}
 use Rattle.tty_modes.specs.Names.{flag_names}
@@ -8,13 +8,16 @@ use Rattle.tty_modes.specs.Word.{word_text}
 use Rattle.tty_modes.specs.declared.words.Word.TheVariants.{Cc}
 use Rattle.tty_calls.specs.declared.journals.Entry.{Entry}
 use Rattle.tty_calls.specs.declared.journals.PortRun.{PortRun}
+use Rattle.tty_calls.specs.declared.journals.Who.{Who}
 use Rattle.tty_calls.specs.declared.sessions.Script.{Script}
 use Rattle.tty_calls.specs.Plain.{PlainCall, PlainAnswer, PlainEntry, event_of, entries_of}
 use Rattle.tty_calls.specs.Sessions.{PlainScript, script_of, number_in}
 use Rattle.session_print.specs.Words.{verb_of, answer_text}
+use Rattle.session_print.specs.Journals.{event_text, who_text}
 use Rattle.session_print.specs.Lines.{newline, flushed_count, dropped_count}
 use Rattle.session_print.specs.Report.{Told, told_from, answer_of_event}
 use Rattle.session_print.specs.declared.answers.Answers.{Answers}
+use Rattle.session_print.specs.declared.fronts.Front.{Front}
 use Rattle.session_print.specs.declared.places.Place.{Place}
 use Rattle.session_print.specs.declared.places.Places.{Places}
 use Rattle.session_print.specs.declared.places.Turn.{Turn}
@@ -67,6 +70,21 @@ call_rest step call answer = decimal step ++ (codes " " ++ (verb_of call ++ (cod
 -- the digits of a step before the last, as the text of a number begins with them
 abbrev pub tens : ℕ → List ℕ
 tens step = if nat_lt step 10 then [] else decimal (step / 10)
+
+-- what the line of an entry begins with, but for the last digit of its step, and how it goes on
+abbrev pub entry_front : List (List ℕ) → Who → ℕ → List ℕ
+entry_front names who step = who_text names who ++ (codes " " ++ tens step)
+
+-- a part and a generation, between blanks
+abbrev pub places_text : ℕ → ℕ → List ℕ
+places_text part generation = codes " " ++ (decimal part ++ (codes " " ++ (decimal generation ++ codes " ")))
+
+abbrev pub entry_rest : PlainEntry → List ℕ
+entry_rest e = decimal (e.step % 10) ++ (places_text e.part e.generation ++ (event_text e.event ++ newline))
+
+-- that a front is that of its own entry
+abbrev pub Fronts : List (List ℕ) → Front → Type 0
+Fronts names front = string_bytes front.text ≡ entry_front names front.who front.step
 
 -- the scripts of a port's callers
 abbrev pub scripts_for : ℕ → List Script → List PlainScript

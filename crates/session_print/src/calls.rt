@@ -5,7 +5,7 @@ ghost use Rattle.session_print.specs.Report.{calls_text, told_line, told_from};
 ghost use Rattle.session_print.specs.Printing.{sums_on, call_head, call_rest, tens, noted_answer, scripts_for, told_script, steps_then, told_scripts, steps_after};
 
 use super::answers::{Answers, Walked, walk};
-use super::digits::{digit_text, put_number};
+use super::digits::{digit_text, put_tens};
 use super::places::Turn;
 use super::sums::Sums;
 use super::words::{put_answer, verb_of};
@@ -175,10 +175,7 @@ fn set_tens(head: &mut String, front: &str, step: usize) -> Result<(), AllocErro
 {
     head.clear();
     head.push_str(front)?;
-    if step < 10 {
-        return Ok(());
-    }
-    put_number(head, step as u64 / 10)
+    put_tens(head, step as u64)
 }
 
 /// What the line of a call begins with.

@@ -1,5 +1,6 @@
 ghost use Rattle.std.specs.Prelude.{◌≡◌, ◌++◌, ◌+◌, ◌∷◌, [], ◌<◌, ◌≤◌, ◌*◌, OnOk, decimal, length, slice_index, string_bytes, take};
 ghost use Rattle.hex.specs.Hex.{encode_lower, lower_digits};
+ghost use Rattle.session_print.specs.Printing.{tens};
 
 use std::alloc::AllocError;
 use std::str;
@@ -32,6 +33,16 @@ fn put_long_number(text: &mut String, number: u64) -> Result<(), AllocError>
 {
     let mut buffer = itoa::Buffer::new();
     text.push_str(buffer.format(number))
+}
+
+/// Adds what ten steps share of their number: its digits before the last.
+pub(crate) fn put_tens(text: &mut String, step: u64) -> Result<(), AllocError>
+    ensures { OnOk result (string_bytes text.new ≡ string_bytes text.old ++ tens step) }
+{
+    if step < 10 {
+        return Ok(());
+    }
+    put_number(text, step / 10)
 }
 
 /// The text of a number of one digit.

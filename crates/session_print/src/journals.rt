@@ -1,14 +1,19 @@
-ghost use Rattle.std.specs.Prelude.{◌≡◌, ◌++◌, IfOk, OnOk, flat_map, string_bytes};
+ghost use Rattle.std.specs.Prelude.{◌≡◌, ◌++◌, IfOk, OnOk, decimal, flat_map, string_bytes};
 ghost use Rattle.tty_base.specs.declared.characters.Flagged.{Flagged};
 ghost use Rattle.tty_calls.specs.Plain.{answer_of, answered, entry_of, event_of, entries_of};
 ghost use Rattle.tty_calls.specs.Sessions.{session_of};
-ghost use Rattle.session_print.specs.Journals.{journals_text, journal_on, heading, entry_line, who_text, event_text, chars_text, beside_text, char_text, flag_letter as letter_of_flag, overrun_line, line_numbers};
+ghost use Rattle.session_print.specs.Journals.{journals_text, journal_on, heading, entry_line, event_text, chars_text, beside_text, overrun_line, line_numbers};
+ghost use Rattle.session_print.specs.Lines.{newline};
+ghost use Rattle.session_print.specs.Printing.{entry_rest};
 
-use super::digits::put_piece;
+use super::characters::put_each_character;
+use super::digits::put_number;
+use super::fronts::Front;
+use super::parts::put_places;
 use super::words::put_answer;
 use std::alloc::{AllocError, Global};
-use tty_base::{Bytes, Flag, Flagged, LineReport, NoMemory, Overrun};
-use tty_calls::{Answer, Entry, Event, Names, PortRun, Session, Who};
+use tty_base::{Bytes, Flagged, LineReport, NoMemory, Overrun};
+use tty_calls::{Answer, Entry, Event, Names, PortRun, Purge, Session};
 
 /// The journals of a session's ports: for each port, of which there is one run each, its entries, its
 /// overruns, and the numbers of its line.
@@ -63,54 +68,44 @@ fn put_heading(text: &mut String, word: &str, port: usize, lines: usize) -> Resu
 fn put_entries(text: &mut String, names: &Names, entries: &[Entry]) -> Result<(), AllocError>
     ensures { OnOk result (string_bytes text.new ≡ string_bytes text.old ++ flat_map (entry_line names.now) (entries_of entries.now)) }
 {
+    let mut front = Front::new(*text.allocator(), names)?;
     for entry in entries {
-        put_entry(text, names, entry)?;
+        front.turn_to(names, entry.who, entry.step)?;
+        put_entry(text, front.as_str(), entry)?;
     }
     Ok(())
 }
 
-fn put_entry(text: &mut String, names: &Names, entry: &Entry) -> Result<(), AllocError>
-    ensures { OnOk result (string_bytes text.new ≡ string_bytes text.old ++ entry_line names.now (entry_of entry.now)) }
+/// Adds the line of an entry, whose head lacks the last digit of the step.
+#[inline(always)]
+fn put_entry(text: &mut String, head: &str, entry: &Entry) -> Result<(), AllocError>
+    ensures { OnOk result (string_bytes text.new ≡ string_bytes text.old ++ (head.now ++ entry_rest (entry_of entry.now))) }
 {
-    let who = who_of(names, entry.who);
-    let step = entry.step;
-    let part = entry.part;
-    let generation = entry.generation;
-    write!(text, "{who} {step} {part} {generation} ")?;
-    put_event(text, &entry.event)?;
-    text.push_str("\n")
+    let digit = (entry.step % 10) as u8;
+    text.push_str(head)?;
+    put_places(text, digit, entry.part, entry.generation)?;
+    put_event(text, &entry.event)
 }
 
-/// Who made an entry: the name of a caller, or a fixed word.
-fn who_of(names: &Names, who: Who) -> &str
-    ensures { result.now ≡ who_text names.now who }
-{
-    match who {
-        Who::Caller(number) => names.name(usize::from(number)).unwrap_or(""),
-        Who::Flusher => "*flush",
-        Who::Line => "*line",
-        Who::Clock => "*clock",
-        Who::Session => "*session",
-    }
-}
-
+/// Adds an event and the end of its line.
+#[inline(always)]
 fn put_event(text: &mut String, event: &Event) -> Result<(), AllocError>
-    ensures { OnOk result (string_bytes text.new ≡ string_bytes text.old ++ event_text (event_of event.now)) }
+    ensures { OnOk result (string_bytes text.new ≡ string_bytes text.old ++ (event_text (event_of event.now) ++ newline)) }
 {
     match event {
         Event::Answer(answer) => put_answered(text, answer, &[]),
-        Event::Purge(purge) => put_answered(text, &purge.answer, purge.dropped.as_slice()),
-        Event::Part(taken) => write!(text, "part {taken}"),
-        Event::Wait => text.push_str("wait"),
+        Event::Purge(purge) => put_purge(text, purge),
+        Event::Part(taken) => put_counted(text, "part ", u64::from(*taken)),
+        Event::Wait => text.push_str("wait\n"),
         Event::Flush(characters) => {
             text.push_str("flush ")?;
             put_characters(text, characters.as_slice())
         }
-        Event::Tick => text.push_str("tick"),
-        Event::LineEnd(sent) => write!(text, "line_end {sent}"),
-        Event::ClockEnd => text.push_str("clock_end"),
-        Event::CallerEnd => text.push_str("caller_end"),
-        Event::PhaseEnd => text.push_str("phase_end"),
+        Event::Tick => text.push_str("tick\n"),
+        Event::LineEnd(sent) => put_counted(text, "line_end ", *sent),
+        Event::ClockEnd => text.push_str("clock_end\n"),
+        Event::CallerEnd => text.push_str("caller_end\n"),
+        Event::PhaseEnd => text.push_str("phase_end\n"),
         Event::Hangup(dropped) => {
             text.push_str("hangup ")?;
             put_characters(text, dropped.as_slice())
@@ -118,16 +113,37 @@ fn put_event(text: &mut String, event: &Event) -> Result<(), AllocError>
     }
 }
 
-/// Adds an answer, and the characters that were dropped with it.
+/// Adds a word, a number and the end of a line.
+#[inline(always)]
+fn put_counted(text: &mut String, word: &str, number: u64) -> Result<(), AllocError>
+    ensures { OnOk result (string_bytes text.new ≡ string_bytes text.old ++ (word.now ++ (decimal number ++ newline))) }
+{
+    text.push_str(word)?;
+    put_number(text, number)?;
+    text.push_str("\n")
+}
+
+/// Adds an answer with what was dropped. It stands apart, since few calls drop any.
+#[inline(never)]
+fn put_purge(text: &mut String, purge: &Purge) -> Result<(), AllocError>
+    ensures { OnOk result (string_bytes text.new ≡ string_bytes text.old ++ (event_text (answered (answer_of purge.now.answer) purge.now.dropped.items) ++ newline)) }
+{
+    put_answered(text, &purge.answer, purge.dropped.as_slice())
+}
+
+/// Adds an answer, the characters that were dropped with it, and the end of the line.
+#[inline(always)]
 fn put_answered(text: &mut String, answer: &Answer, dropped: &[Flagged]) -> Result<(), AllocError>
-    ensures { OnOk result (string_bytes text.new ≡ string_bytes text.old ++ event_text (answered (answer_of answer.now) dropped.now)) }
+    ensures { OnOk result (string_bytes text.new ≡ string_bytes text.old ++ (event_text (answered (answer_of answer.now) dropped.now) ++ newline)) }
 {
     text.push_str("answer ")?;
     put_answer(text, answer)?;
-    put_beside(text, dropped)
+    put_beside(text, dropped)?;
+    text.push_str("\n")
 }
 
 /// Adds the characters that were dropped beside an answer, where there are any.
+#[inline(always)]
 fn put_beside(text: &mut String, dropped: &[Flagged]) -> Result<(), AllocError>
     ensures { OnOk result (string_bytes text.new ≡ string_bytes text.old ++ beside_text dropped.now) }
 {
@@ -138,35 +154,16 @@ fn put_beside(text: &mut String, dropped: &[Flagged]) -> Result<(), AllocError>
     put_each_character(text, dropped)
 }
 
+/// Adds characters, or a sign where there are none, and the end of a line.
+#[inline(never)]
 fn put_characters(text: &mut String, characters: &[Flagged]) -> Result<(), AllocError>
-    ensures { OnOk result (string_bytes text.new ≡ string_bytes text.old ++ chars_text characters.now) }
+    ensures { OnOk result (string_bytes text.new ≡ string_bytes text.old ++ (chars_text characters.now ++ newline)) }
 {
     if characters.is_empty() {
-        return text.push_str("-");
+        return text.push_str("-\n");
     }
-    put_each_character(text, characters)
-}
-
-fn put_each_character(text: &mut String, characters: &[Flagged]) -> Result<(), AllocError>
-    ensures { OnOk result (string_bytes text.new ≡ string_bytes text.old ++ flat_map char_text characters.now) }
-{
-    for character in characters {
-        text.push_str(flag_letter(character.flag))?;
-        put_piece(text, &[character.byte])?;
-    }
-    Ok(())
-}
-
-fn flag_letter(flag: Flag) -> &'static str
-    ensures { result.now ≡ letter_of_flag flag }
-{
-    match flag {
-        Flag::Normal => "n",
-        Flag::Break => "b",
-        Flag::Parity => "p",
-        Flag::Frame => "f",
-        Flag::Overrun => "o",
-    }
+    put_each_character(text, characters)?;
+    text.push_str("\n")
 }
 
 fn put_overruns(text: &mut String, overruns: &[Overrun]) -> Result<(), AllocError>

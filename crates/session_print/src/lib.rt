@@ -4,10 +4,13 @@
 
 mod answers;
 mod calls;
+mod characters;
 mod digits;
+mod fronts;
 mod journals;
 mod laws;
 mod modes;
+mod parts;
 mod places;
 mod ports;
 mod summaries;

@@ -8,7 +8,8 @@ use Rattle.std.proofs.lemmas.Bool.{cases_eq, ne_eqb, le-ltb}
 use Rattle.tty_base.specs.declared.characters.Flag.TheVariants.{Normal}
 use Rattle.tty_base.specs.declared.characters.Flagged.{Flagged}
 use Rattle.slip_frames.specs.Slip.{end, esc, max_packet}
-use Rattle.slip_frames.specs.Slip.{Spells, nothing, escaped_end, escaped_escape, itself, is_end, with_first_character, pieces, spelling_of_byte, spelling_of, good_characters, bytes_of, is_flagged, text_of, Outcome, silent, packet_of, outcome_of, outcomes}
+use Rattle.tty_base.specs.Characters.{good_characters}
+use Rattle.slip_frames.specs.Slip.{Spells, nothing, escaped_end, escaped_escape, itself, is_end, with_first_character, pieces, spelling_of_byte, spelling_of, bytes_of, is_flagged, text_of, Outcome, silent, packet_of, outcome_of, outcomes}
 use Rattle.slip_frames.specs.Decoding.{rest_with, rest_of}
 
 with_first_character-push : (d : Flagged) (ps : List (List Flagged)) (rest : List Flagged) → with_first_character d (ps ++ rest ∷ []) ≡ with_first_character d ps ++ rest_with d ps rest ∷ []

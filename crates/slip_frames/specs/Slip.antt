@@ -98,7 +98,3 @@ spelling_of_byte b = if b == end then esc ∷ esc_end ∷ [] else if b == esc th
 -- a packet as it is sent
 abbrev pub spelling_of : List ℕ → List ℕ
 spelling_of packet = end ∷ flat_map spelling_of_byte packet ++ end ∷ []
-
--- bytes that came unharmed
-abbrev pub good_characters : List ℕ → List Flagged
-good_characters bytes = map (λ b. record { byte = b; flag = Normal }) bytes

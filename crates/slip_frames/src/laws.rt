@@ -1,7 +1,8 @@
 //! What follows from the definitions alone.
 
 ghost use Rattle.std.specs.Prelude.{◌≡◌, ℕ, ◌<◌, ◌≤◌, ◌↔◌, List, [], ◌∷◌, length};
-ghost use Rattle.slip_frames.specs.Slip.{Spells, text_of, pieces, outcomes, silent, packet_of, spelling_of, good_characters, max_packet};
+ghost use Rattle.tty_base.specs.Characters.{good_characters};
+ghost use Rattle.slip_frames.specs.Slip.{Spells, text_of, pieces, outcomes, silent, packet_of, spelling_of, max_packet};
 
 /// Each piece spells one list of bytes and no other.
 pub fn a_piece_spells_one_text()

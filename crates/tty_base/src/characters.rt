@@ -1,3 +1,6 @@
+ghost use Rattle.std.specs.Prelude.{◌≡◌, ◌<◌, ◌≤◌, ◌+◌, [], ◌∷◌, ◌++◌, length, take};
+ghost use Rattle.tty_base.specs.Characters.{good_character, good_characters};
+
 /// How a character was received (16550 data sheet, line status register).
 #[derive(Clone, Copy, Debug, Default, PartialEq, Eq)]
 pub enum Flag {
@@ -19,4 +22,40 @@ pub enum Flag {
 pub struct Flagged {
     pub byte: u8,
     pub flag: Flag,
+}
+
+impl Flagged {
+    /// A byte that was received without an error.
+    #[inline(always)]
+    pub const fn good(byte: u8) -> Flagged
+        ensures { result ≡ good_character byte }
+    {
+        Flagged {
+            byte,
+            flag: Flag::Normal,
+        }
+    }
+}
+
+/// The four good characters from the place `at` on.
+#[inline(always)]
+pub fn four_good(bytes: &[u8], at: usize) -> [Flagged; 4]
+    requires { at + 4 ≤ length bytes.now }
+    ensures { good_characters (take (at + 4) bytes.now) ≡ good_characters (take at bytes.now) ++ result }
+{
+    [
+        good_at(bytes, at),
+        good_at(bytes, at + 1),
+        good_at(bytes, at + 2),
+        good_at(bytes, at + 3),
+    ]
+}
+
+/// The good character at the place `at`.
+#[inline(always)]
+pub fn good_at(bytes: &[u8], at: usize) -> Flagged
+    requires { at < length bytes.now }
+    ensures { good_characters (take (at + 1) bytes.now) ≡ good_characters (take at bytes.now) ++ result ∷ [] }
+{
+    Flagged::good(bytes[at])
 }

@@ -1,7 +1,9 @@
 ghost use Rattle.std.specs.Prelude.{◌≡◌, ◌+◌, ◌-◌, ◌≤◌, ◌<◌, [], ◌∷◌, ◌++◌, length, take, IfOk, OnOk, OnErr, vec_capacity};
+ghost use Rattle.arrayvec.specs.ArrayVec.{array_vec_len};
+ghost use Rattle.tty_base.specs.Characters.{good_characters};
 
 use super::buffers::NoMemory;
-use super::characters::Flagged;
+use super::characters::{Flagged, four_good, good_at};
 use arrayvec::ArrayVec;
 use std::alloc::Global;
 use std::marker::Model;
@@ -42,6 +44,34 @@ fn moved(near: &ArrayVec<Flagged, NEAR, Global>, more: usize) -> Result<Vec<Flag
     let mut far = near.as_slice().to_vec(*near.allocator())?;
     far.reserve(more)?;
     Ok(far)
+}
+
+/// Adds four characters to those in the list itself.
+#[inline(always)]
+fn push_near(near: &mut ArrayVec<Flagged, NEAR, Global>, chars: [Flagged; 4])
+    requires { array_vec_len near.old + 4 ≤ 8 }
+    ensures items { near.new.items ≡ near.old.items ++ chars }
+    ensures len { array_vec_len near.new ≡ array_vec_len near.old + 4 }
+{
+    let [a, b, c, d] = chars;
+    near.push(a);
+    near.push(b);
+    near.push(c);
+    near.push(d);
+}
+
+/// Adds four characters to those in memory, in room that was reserved.
+#[inline(always)]
+fn push_far(far: &mut Vec<Flagged>, chars: [Flagged; 4])
+    requires { length far.old.items + 4 ≤ vec_capacity far.old }
+    ensures items { far.new.items ≡ far.old.items ++ chars }
+    ensures capacity { vec_capacity far.new ≡ vec_capacity far.old }
+{
+    let [a, b, c, d] = chars;
+    far.push_reserved(a);
+    far.push_reserved(b);
+    far.push_reserved(c);
+    far.push_reserved(d);
 }
 
 impl Chars {
@@ -106,19 +136,54 @@ impl Chars {
         requires { 4 ≤ self.old.spare }
         ensures { self.new ≡ record { items = self.old.items ++ chars; spare = self.old.spare - 4 } }
     {
-        let [a, b, c, d] = chars;
+        match &mut self.held {
+            Held::Near(near) => push_near(near, chars),
+            Held::Far(far) => push_far(far, chars),
+        }
+    }
+
+    /// Adds the good characters of these bytes in room that was reserved. Mostly they are eight.
+    #[inline(always)]
+    pub fn add_good(&mut self, bytes: &[u8])
+        requires { length bytes.now ≤ self.old.spare }
+        ensures { self.new ≡ record { items = self.old.items ++ good_characters bytes.now; spare = self.old.spare - length bytes.now } }
+    {
+        if bytes.len() == 8 {
+            self.add_two_fours(four_good(bytes, 0), four_good(bytes, 4));
+        } else {
+            self.add_any_good(bytes);
+        }
+    }
+
+    // The same for any number of bytes.
+    #[inline(never)]
+    fn add_any_good(&mut self, bytes: &[u8])
+        requires { length bytes.now ≤ self.old.spare }
+        ensures { self.new ≡ record { items = self.old.items ++ good_characters bytes.now; spare = self.old.spare - length bytes.now } }
+    {
+        let whole = bytes.len() / 4;
+        for k in 0..whole {
+            self.add_four(four_good(bytes, 4 * k));
+        }
+        for at in 4 * whole..bytes.len() {
+            self.add(good_at(bytes, at));
+        }
+    }
+
+    // Adds eight characters in room that was reserved.
+    #[inline(always)]
+    fn add_two_fours(&mut self, first: [Flagged; 4], second: [Flagged; 4])
+        requires { 8 ≤ self.old.spare }
+        ensures { self.new ≡ record { items = (self.old.items ++ first) ++ second; spare = self.old.spare - 8 } }
+    {
         match &mut self.held {
             Held::Near(near) => {
-                near.push(a);
-                near.push(b);
-                near.push(c);
-                near.push(d);
+                push_near(near, first);
+                push_near(near, second);
             }
             Held::Far(far) => {
-                far.push_reserved(a);
-                far.push_reserved(b);
-                far.push_reserved(c);
-                far.push_reserved(d);
+                push_far(far, first);
+                push_far(far, second);
             }
         }
     }

@@ -155,6 +155,21 @@ fn a_ninth_character_takes_memory(rt: HostRuntime) -> Result<(), Fail> {
 }
 
 #[test]
+fn good_characters_are_added_from_bytes(rt: HostRuntime) -> Result<(), Fail> {
+    let mut list = Chars::new(rt.alloc());
+    list.add_good(b"abcdefgh");
+    list.reserve(21)?;
+    list.add_good(b"ABCDEFGH");
+    list.add_good(b"0123456789xyz");
+    let bytes = b"abcdefghABCDEFGH0123456789xyz";
+    assert_eq!(rt; list.len(), bytes.len());
+    for (c, byte) in list.as_slice().iter().zip(bytes) {
+        assert_eq!(rt; *c, Flagged::good(*byte));
+    }
+    Ok(())
+}
+
+#[test]
 fn a_shorter_list_keeps_its_room(rt: HostRuntime) -> Result<(), Fail> {
     let c = Flagged::default();
     let mut list = Chars::new(rt.alloc());

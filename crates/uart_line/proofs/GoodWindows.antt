@@ -1,7 +1,7 @@
 -- Good characters, as bytes, up to a whole window.
 use Rattle.std.proofs.Common.{◌≡◌, ℕ, ◌+◌, ◌-◌, ◌<◌, ◌≤◌, Bool, true, false, not, ◌||◌, ◌&&◌, nat_le, nat_lt, if◌then◌else◌, List, [], ◌∷◌, ◌++◌, length, map, take, get_or, reverse, refl, sym, ◌∙◌, ap, subst, arith, append_assoc, append-nil, length-append, length-take}
 use Rattle.std.proofs.lemmas.Bool.Decides.{nat_tests}
-use Rattle.std.proofs.lemmas.List.{length-map, map-append, take-map, take_more}
+use Rattle.std.proofs.lemmas.List.{length-map, map-append, take-map, take_all, take_more}
 use Rattle.tty_base.specs.declared.characters.Flag.TheVariants.{Normal}
 use Rattle.tty_base.specs.declared.characters.Flagged.{Flagged}
 use Rattle.tty_base.specs.declared.lines.LineStep.{LineStep}
@@ -12,8 +12,10 @@ use Rattle.uart_line.specs.Received.{is_masked, trigger_of, idle_of, is_cut, win
 use Rattle.uart_line.specs.LineState.{LineState, HasDone, IsUncut}
 use Rattle.uart_line.specs.Handler.{after_line_step, IsReadOff, Serves}
 use Rattle.uart_line.specs.Offered.{HandsOver}
-use Rattle.uart_line.specs.GoodSteps.{good_character, good_characters, good_steps}
+use Rattle.tty_base.specs.Characters.{good_character, good_characters}
+use Rattle.uart_line.specs.GoodSteps.{good_steps}
 use Rattle.uart_line.specs.WholeWindow.{IsOpen, IsHandedOver}
+use Rattle.uart_line.proofs.Serving.{Serves-all}
 use Rattle.uart_line.proofs.Steps.{cut_after, received_list-step, waiting_list-step, HasDone-uncut, HasDone-cut, HandsOver-cut}
 
 -- one more byte
@@ -243,3 +245,45 @@ module _ (line : LineState) (bytes : List ℕ) (n : ℕ) (within : n ≤ length 
         let h : HandsOver capacity (received_list front) (received_list (front ++ Rx c ∷ [])) s0 s1 h0 h1 there.report.overruns.items new.report.overruns.items =
         HandsOver-cut capacity there new (Rx c) front (good_characters (take n bytes)) s0 s1 h0 h1 cut all served g.uncut.done in
         rw (g.uncut.same, whole, g.uncut.overruns) at h
+
+-- ---- a whole window, of which each is accepted
+
+-- the line once so many more have arrived, and each was accepted
+abbrev with_accepted : LineState → ℕ → LineState
+with_accepted line n = record line {
+  handed = line.handed + n;
+  report = record line.report { arrived = line.report.arrived + n; sent = line.report.sent + n };
+}
+
+module _ (line new : LineState) (bytes : List ℕ) (opens : IsOpen line (length bytes)) (now : new ≡ with_accepted line (length bytes)) where
+  abbrev n : ℕ
+  n = length bytes
+
+  whole_steps : take n (good_steps bytes) ≡ good_steps bytes
+  whole_steps = take_all n (good_steps bytes) (omega (arith, length-map bytes (rx_step Normal)))
+
+  same_but : IsHandedOver line new
+  same_but = record { registers = ap (λ l. l.registers) now; window = ap (λ l. l.window) now; lost = ap (λ l. l.report.fifo_lost) now }
+
+  serves : (capacity : ℕ) (sent : List Flagged) (heads : List ℕ)
+      → Serves capacity (record line { report = record line.report { arrived = line.report.arrived + length (take n bytes) } }) new (good_characters (take n bytes)) sent (sent ++ good_characters bytes) heads heads
+  serves capacity sent heads =
+      subst (λ (bs : List ℕ). Serves capacity (record line { report = record line.report { arrived = line.report.arrived + length bs } }) new (good_characters bs) sent (sent ++ good_characters bytes) heads heads)
+      (sym (take_all n bytes (omega arith)))
+      (Serves-all capacity (record line { report = record line.report { arrived = line.report.arrived + n } }) new (good_characters bytes) n sent (sent ++ good_characters bytes) heads heads
+      (length-map bytes good_character) refl refl now)
+
+  pub done-accepted : (before : List LineStep) → HasDone line before → HasDone new (before ++ good_steps bytes)
+  done-accepted before d =
+      subst (λ (steps : List LineStep). HasDone new (before ++ steps)) whole_steps
+      (done-window line bytes n (omega arith) opens before d 0 new [] (good_characters bytes) [] [] (serves 0 [] []) same_but
+      (omega (arith, d.sent, ap (λ l. l.report.sent) now, ap (λ l. length l.report.overruns.items) now, ap (λ l. l.handed) now)))
+
+  pub uncut-accepted : (before : List LineStep) → HasDone line before → (k : ℕ) → k < n → IsUncut line before (take k (good_steps bytes))
+  uncut-accepted = uncut-window line bytes n (omega arith) opens
+
+  pub hands_over-accepted : (before : List LineStep) → HasDone line before → (capacity : ℕ) (sent : List Flagged) (heads : List ℕ)
+      → HandsOver capacity (received_list before) (received_list (before ++ good_steps bytes)) sent (sent ++ good_characters bytes) heads heads line.report.overruns.items new.report.overruns.items
+  hands_over-accepted before d capacity sent heads =
+      subst (λ (steps : List LineStep). HandsOver capacity (received_list before) (received_list (before ++ steps)) sent (sent ++ good_characters bytes) heads heads line.report.overruns.items new.report.overruns.items) whole_steps
+      (hands_over-window line bytes n (omega arith) opens before d capacity new sent (sent ++ good_characters bytes) heads heads (serves capacity sent heads) same_but)

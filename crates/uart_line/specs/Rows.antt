@@ -4,7 +4,8 @@ use Rattle.tty_base.specs.declared.characters.Flagged.{Flagged}
 use Rattle.tty_base.specs.declared.lines.LineStep.{LineStep}
 use Rattle.tty_base.specs.declared.lines.LineStep.TheVariants.{Idle, Mask, Unmask, Trigger}
 use Rattle.uart_line.specs.Received.{overrun_mark, closed_script}
-use Rattle.uart_line.specs.GoodSteps.{good_character, good_characters, good_steps}
+use Rattle.tty_base.specs.Characters.{good_character, good_characters}
+use Rattle.uart_line.specs.GoodSteps.{good_steps}
 
 -- twenty characters while the handler is masked
 abbrev pub masked_burst : List LineStep

@@ -98,3 +98,21 @@ fn good_characters_are_received_by_windows(rt: HostRuntime) -> Result<(), Fail> 
     }
     Ok(())
 }
+
+#[test]
+fn a_whole_window_is_accepted_and_counted(rt: HostRuntime) -> Result<(), Fail> {
+    let alloc = rt.alloc();
+    let mut line = Line::new(alloc, MOST)?;
+    let mut chars = Chars::new(alloc);
+    chars.reserve(MOST as usize)?;
+    line.step(LineStep::Trigger(8), &mut chars);
+    let bytes = b"ABCDEFGHIJ";
+    assert_eq!(rt; line.whole_window(7), None);
+    if let Some(count) = line.whole_window(bytes.len()) {
+        line.accept_window(&bytes[..count]);
+    }
+    let report = line.into_report();
+    assert_eq!(rt; (report.arrived, report.sent), (8, 8));
+    assert_eq!(rt; report.overruns.len(), 0);
+    Ok(())
+}

@@ -3,17 +3,19 @@
 ghost use Rattle.std.specs.Prelude.{◌≡◌, ◌<◌, ◌≤◌, ◌+◌, ℕ, List, [], ◌∷◌, ◌++◌, take, length, IfSome};
 ghost use Rattle.std.proofs.Common.{◌⊎◌};
 ghost use Rattle.std.specs.List.Sorted.{IsNonDecreasing};
+ghost use Rattle.tty_base.specs.declared.characters.Flagged.{Flagged};
 ghost use Rattle.tty_base.specs.declared.lines.LineStep.{LineStep};
 ghost use Rattle.uart_line.specs.Received.{received_list};
 ghost use Rattle.uart_line.specs.LineState.{HasDone, IsUncut};
 ghost use Rattle.uart_line.specs.Offered.{HandsOver};
 ghost use Rattle.uart_line.specs.Handler.{Serves};
-ghost use Rattle.uart_line.specs.GoodSteps.{good_character, good_characters, good_steps};
+ghost use Rattle.tty_base.specs.Characters.{good_characters};
+ghost use Rattle.uart_line.specs.GoodSteps.{good_steps};
 ghost use Rattle.uart_line.specs.WholeWindow.{IsOpen, IsHandedOver};
 ghost use Rattle.uart_regs.specs.Registers.{bit};
 
 use super::{Line, show};
-use tty_base::{Flag, Flagged, LineStep, Put};
+use tty_base::{Flagged, LineStep, Put, four_good, good_at};
 
 impl Line {
     /// Does the first of these steps, in which good characters arrive; or as many as bring a whole
@@ -44,18 +46,18 @@ impl Line {
         ensures put { self.new.most ≤ P.room put.new + self.new.handed }
         ensures rise { IsNonDecreasing (P.heads put.old) → IsNonDecreasing (P.heads put.new) }
     {
-        let Some(count) = self.open_window(bytes.len()) else {
-            self.advance(LineStep::Rx(good(bytes[0])), put);
+        let Some(count) = self.whole_window(bytes.len()) else {
+            self.advance(LineStep::Rx(Flagged::good(bytes[0])), put);
             return 1;
         };
         self.pass_good(&bytes[..count], put);
         count
     }
 
-    // How many characters make a whole window, where none wait, the handler is not masked, and at least
-    // so many come.
+    /// How many characters make a whole window, where none wait, the handler is not masked, and at least
+    /// so many come.
     #[inline(always)]
-    fn open_window(&self, coming: usize) -> Option<usize>
+    pub fn whole_window(&self, coming: usize) -> Option<usize>
         ensures within { IfSome result (λ count. count ≤ coming) }
         ensures open { IfSome result (λ count. IsOpen self.now count) }
     {
@@ -64,6 +66,33 @@ impl Line {
             return None;
         }
         Some(count)
+    }
+
+    /// Does the steps in which the good characters of a whole window arrive, at the last of which the
+    /// handler runs. Each is accepted, wherever the caller puts them.
+    #[inline(always)]
+    pub fn accept_window(&mut self, bytes: &[u8])
+        requires open { IsOpen self.old (length bytes.now) }
+        requires room { self.old.report.arrived + length bytes.now ≤ self.old.most }
+        ensures done { (before : List LineStep) → HasDone self.old before → HasDone self.new (before ++ good_steps bytes.now) }
+        ensures room { self.new.most ≡ self.old.most }
+        ensures arrived { self.new.report.arrived ≡ self.old.report.arrived + length bytes.now }
+        ensures handed { self.new.handed ≡ self.old.handed + length bytes.now }
+        ensures within { self.new.handed ≤ self.new.most }
+
+        // No cut stands before the last of them.
+        ensures uncut { (before : List LineStep) → HasDone self.old before
+            → (k : ℕ) → k < length bytes.now → IsUncut self.old before (take k (good_steps bytes.now)) }
+
+        ensures hands_over { (before : List LineStep) → HasDone self.old before
+            → (capacity : ℕ) (sent : List Flagged) (heads : List ℕ)
+            → HandsOver capacity (received_list before) (received_list (before ++ good_steps bytes.now))
+            sent (sent ++ good_characters bytes.now) heads heads
+            self.old.report.overruns.items self.new.report.overruns.items }
+    {
+        let count = bytes.len();
+        self.report.arrived += count as u32;
+        self.count_accepted(count);
     }
 
     // Hands over these good characters, as they came.
@@ -124,7 +153,7 @@ impl Line {
     {
         let _ = &self.most;
         for byte in bytes {
-            self.offer(good(*byte), put);
+            self.offer(Flagged::good(*byte), put);
         }
     }
 
@@ -157,39 +186,5 @@ fn put_good<P: Put>(bytes: &[u8], put: &mut P)
     }
     for at in 4 * whole..bytes.len() {
         put.put_known(good_at(bytes, at));
-    }
-}
-
-/// The four good characters from the place `at` on.
-#[inline(always)]
-fn four_good(bytes: &[u8], at: usize) -> [Flagged; 4]
-    requires { at + 4 ≤ length bytes.now }
-    ensures { good_characters (take (at + 4) bytes.now) ≡ good_characters (take at bytes.now) ++ result }
-{
-    [
-        good_at(bytes, at),
-        good_at(bytes, at + 1),
-        good_at(bytes, at + 2),
-        good_at(bytes, at + 3),
-    ]
-}
-
-/// The good character at the place `at`.
-#[inline(always)]
-fn good_at(bytes: &[u8], at: usize) -> Flagged
-    requires { at < length bytes.now }
-    ensures { good_characters (take (at + 1) bytes.now) ≡ good_characters (take at bytes.now) ++ result ∷ [] }
-{
-    good(bytes[at])
-}
-
-/// A byte that came with no error.
-#[inline(always)]
-fn good(byte: u8) -> Flagged
-    ensures { result ≡ good_character byte }
-{
-    Flagged {
-        byte,
-        flag: Flag::Normal,
     }
 }

@@ -1,72 +1,88 @@
 -- Each step on a ring keeps its rule.
-use Rattle.std.proofs.Common.{◌≡◌, ◌≢◌, ℕ, ◌+◌, ◌-◌, ◌*◌, ◌/◌, ◌%◌, ◌<◌, ◌≤◌, true, List, [], ◌∷◌, ◌++◌, length, take, get_or, set, replicate, All, Contains, ◌⊎◌, inl, inr, ⊎_elim, refl, sym, ap, ◌∙◌, subst, arith, length-append, length-take, length-set, get_or-set_same, get_or-set_other}
+use Rattle.std.proofs.Common.{◌≡◌, ◌≢◌, ℕ, ◌+◌, ◌-◌, ◌*◌, ◌/◌, ◌%◌, ◌<◌, ◌≤◌, true, false, List, [], ◌∷◌, ◌++◌, length, take, drop, max, get_or, set, replicate, All, Contains, ◌⊎◌, inl, inr, ⊎_elim, refl, sym, ap, ◌∙◌, subst, arith, length-append, length-take, length-set, get_or-set_same, get_or-set_other}
 use mathlib.Core.List.{IsPrefix}
-use mathlib.Core.Option.{none, some-ne-none}
+use mathlib.Core.Option.{none, some, some-ne-none}
 use Rattle.std.proofs.lemmas.Bool.{cases_lt, false≢true}
 use Rattle.std.proofs.lemmas.List.{set-get_or, get_or-take, length-replicate, get_or-replicate}
-use Rattle.std.proofs.lemmas.List.Elements.{All-push, Contains-append_right}
+use Rattle.std.proofs.lemmas.List.Elements.{All-push, Contains-append_left, Contains-append_right}
 use Rattle.std.proofs.Math.ListN.{get_or-append}
 use Rattle.std.proofs.Math.Seq.{get_or-append_right}
-use Rattle.atomic_table.specs.Table.{State, Me, step, keeps, opening, Allows, Splits, Joins}
+use Rattle.atomic_table.specs.Table.{State, Me, step, Act, keeps, opening, Allows, Splits, Joins}
 use Rattle.word_ring.specs.declared.table.View.{View}
-use Rattle.word_ring.specs.Ends.{IsOneWithin, AreReleased}
+use Rattle.word_ring.specs.Ends.{IsOneWithin, AreReleased, IsReleased}
 use Rattle.word_ring.specs.Lanes.{lane, lanes, whole_words}
-use Rattle.word_ring.specs.Plays.{blank_view, both_ends, with_head, with_written, with_all_pushed, with_tail, with_read, with_taken_to, LoadsHead, StoresLanes, StoresTail, LoadsTail, LoadsLanes, StoresHead, Compares, putter_of, taker_of, note_of, head_note_of, with_note, with_head_note, with_putter}
-use Rattle.word_ring.specs.Rule.{Story, KnowsPuts, KnowsTakes, Knows, Stands, Ring, place}
-use Rattle.word_ring.proofs.Beginnings.{begins_itself, begins_through, begins_length, begins_longer, begins_take, begins_at, begins_from}
-use Rattle.word_ring.proofs.Packing.{lanes_length, lanes_at, whole_length}
+use Rattle.word_ring.specs.Plays.{blank_view, both_ends, with_head, with_written, with_all_pushed, with_tail, with_read, with_taken_to, with_passed, held, TakesSlot, LoadsHead, StoresLanes, StoresTail, LoadsTail, LoadsLanes, StoresHead, Compares, PassesOn, putter_of, taker_of, note_of, head_note_of, with_note, with_head_note, with_putter}
+use Rattle.word_ring.specs.Rule.{Story, KnowsPuts, KnowsTakes, Knows, Slot, Stands, Ring, place}
+use Rattle.word_ring.proofs.Beginnings.{begins_itself, begins_more, begins_through, begins_length, begins_longer, begins_take, begins_at, begins_from, begins_whole}
+use Rattle.word_ring.proofs.Packing.{lanes_length, whole_length}
+use Rattle.word_ring.proofs.Reading.{rest_long, rest_at}
 use Rattle.word_ring.proofs.Released.{released_more, released_push, below_more, released_below}
-use Rattle.word_ring.proofs.Seats.{GoesOn, knows_on, Each, each_set, each_end, known_before, each_join}
+use Rattle.word_ring.proofs.Seats.{GoesOn, knows_on, knows_nothing, Each, each_set, each_end, known_before, each_join}
 use Rattle.word_ring.proofs.Standing.{place_below, stands_index, stands_above, stands_lanes}
 
 abbrev M : Type 0
-M = Me (Unit {0}) View
+M = Me Slot View
 
 abbrev St : Type 0
-St = State (Unit {0}) View
+St = State Slot View
 
-stays : (g : Story) → GoesOn g g
-stays g = record { pushed = begins_itself g.pushed; released = λ hs a. a; taken = omega arith }
+-- what was pushed, released and taken is the same
+stays_on : (g g' : Story) → g.pushed ≡ g'.pushed → g.released ≡ g'.released → g.taken ≡ g'.taken → GoesOn g g'
+stays_on g g' pushed released taken = record {
+  pushed = subst (λ (z : List ℕ). IsPrefix g.pushed z) pushed (begins_itself g.pushed);
+  released = λ hs a. subst (λ (z : List ℕ). AreReleased z hs) released a;
+  taken = omega (arith, ap length taken);
+}
 
 -- a load changes one view alone
 loaded : (n : ℕ) (s : St) (r : Ring n s) (i id : ℕ) (w : View) → Knows n r.story id w → Ring n record { words = set s.words i (get_or s.words i 0); homes = s.homes; views = set s.views id w }
 loaded n s r i id w known = subst (λ (ws : List ℕ). Ring n record { words = ws; homes = s.homes; views = set s.views id w }) (sym (set-get_or s.words i 0)) record {
   story = r.story;
   wide = r.wide;
-  head_is = r.head_is;
-  tail_is = r.tail_is;
+  head = r.head;
+  told = r.told;
+  tail = r.tail;
   taken = r.taken;
   pushed = r.pushed;
   fits = r.fits;
   stands = r.stands;
   released = r.released;
   last = r.last;
+  home = r.home;
   each = each_set n r.story r.story s.views id w r.each known (λ seat v apart k. k);
 }
+
+-- the higher one of two heads, where both were released
+higher_released : (released : List ℕ) (a b : ℕ) → IsReleased released a → IsReleased released b → IsReleased released (max a b)
+higher_released released a b one other = ⊎_elim
+    (λ lt. let is : max a b ≡ b = omega arith in subst (λ (h : ℕ). IsReleased released h) (sym is) other)
+    (λ le. let is : max a b ≡ a = omega arith in subst (λ (h : ℕ). IsReleased released h) (sym is) one)
+    (cases_lt a b)
 
 pub loads_head : (n slots id : ℕ) (me : M) → me.0.puts ≡ true → Allows (Ring n) slots id me 0 (λ x. x) (LoadsHead (step slots 0 0 0 none) me)
 loads_head n slots id me puts s r _ here _ =
     let g : Story = r.story in
-    let h : ℕ = get_or s.words 0 0 in
-    let h_is : h ≡ length g.taken = r.head_is in
     let k : Knows n g id me.0 = r.each id me.0 here in
     let p : KnowsPuts n g id me.0 = k.puts puts in
+    let h : ℕ = max me.0.head (get_or s.words 0 0) in
     let w : View = with_head me.0 h in
-    let among : (h ≡ 0) ⊎ Contains g.released h = subst (λ (z : ℕ). (z ≡ 0) ⊎ Contains g.released z) (sym h_is) r.last in
+    let among : IsReleased g.released h = higher_released g.released me.0.head (get_or s.words 0 0) k.told r.told in
+    let stored = r.head in
+    let least = k.head in
     let known : Knows n g id w = record {
       noted = k.noted;
       noted_heads = k.noted_heads;
       head = omega arith;
+      told = among;
       tail = k.tail;
       puts = λ _. record { at = p.at; capacity = p.capacity; written = p.written; pushed = p.pushed; heads = released_push g.released me.0.heads h p.heads among };
-      takes = λ is. (let t = k.takes is in record { at = t.at; capacity = t.capacity; taken = t.taken; released = t.released; begins = t.begins; read = t.read; known = t.known });
+      takes = λ is. (let t = k.takes is in record { at = t.at; capacity = t.capacity; taken = t.taken; released = t.released; begins = t.begins; read = t.read; known = t.known; out = t.out });
     } in
-    let least = k.head in
     let pushed_is : length me.0.pushed ≡ length g.pushed = ap length p.pushed in
     let written_is : length me.0.written ≡ length g.written = ap length p.written in
     let most = begins_length g.taken g.pushed r.taken in
     let all = begins_length g.pushed g.written r.pushed in
-    (w, keeps, tt, loaded n s r 0 id w known, (refl, refl, omega arith, omega arith, omega arith))
+    (w, keeps, tt, loaded n s r 0 id w known, (refl, refl, omega arith, omega arith))
 
 pub stores_lanes : (n slots id : ℕ) (me : M) (at word k : ℕ) → me.0.puts ≡ true → at ≡ place me.0.capacity (length me.0.written / 4) → 1 < at → k ≤ 4
     → IsPrefix me.0.written (whole_words me.0.written ++ lanes word k) → length (whole_words me.0.written ++ lanes word k) ≤ me.0.head + me.0.capacity
@@ -95,28 +111,31 @@ stores_lanes n slots id me at word k puts at_is inner few goes_on fits s r _ her
       noted = k'.noted;
       noted_heads = k'.noted_heads;
       head = k'.head;
+      told = k'.told;
       tail = k'.tail;
       puts = λ _. record { at = p.at; capacity = p.capacity; written = refl; pushed = p.pushed; heads = p.heads };
-      takes = λ is. (let t = k'.takes is in record { at = t.at; capacity = t.capacity; taken = t.taken; released = t.released; begins = t.begins; read = t.read; known = t.known });
+      takes = λ is. (let t = k'.takes is in record { at = t.at; capacity = t.capacity; taken = t.taken; released = t.released; begins = t.begins; read = t.read; known = t.known; out = t.out });
     } in
     let on : (seat : ℕ) (v : View) → seat ≢ id → Knows n g seat v → Knows n g' seat v = λ seat v apart old. knows_on n g g' seat v
     record { pushed = begins_itself g.pushed; released = λ hs a. a; taken = omega arith }
     (λ q. absurd (apart (q.at ∙ sym p.at)))
-    (λ t. record { at = t.at; capacity = t.capacity; taken = t.taken; released = t.released; begins = t.begins; read = t.read; known = t.known }) old in (
+    (λ t. record { at = t.at; capacity = t.capacity; taken = t.taken; released = t.released; begins = t.begins; read = t.read; known = t.known; out = t.out }) old in (
       w,
       keeps,
       tt,
       record {
         story = g';
         wide = length-set s.words at word ∙ r.wide;
-        head_is = get_or-set_other s.words at 0 word 0 (λ e. omega arith) ∙ r.head_is;
-        tail_is = get_or-set_other s.words at 1 word 0 (λ e. omega arith) ∙ r.tail_is;
+        head = (let same = get_or-set_other s.words at 0 word 0 (λ e. omega arith) in let h = r.head in omega arith);
+        told = subst (IsReleased g.released) (sym (get_or-set_other s.words at 0 word 0 (λ e. omega arith))) r.told;
+        tail = (let same = get_or-set_other s.words at 1 word 0 (λ e. omega arith) in let t = r.tail in omega arith);
         taken = r.taken;
         pushed = begins_through g.pushed g.written xs r.pushed further;
         fits = room;
         stands = stands;
         released = r.released;
         last = r.last;
+        home = r.home;
         each = each_set n g g' s.views id w r.each known on;
       },
       (refl, refl),
@@ -135,28 +154,31 @@ stores_tail n slots id me x puts x_is s r _ here _ =
       noted = begins_through me.0.noted g.pushed g.written k.noted r.pushed;
       noted_heads = k.noted_heads;
       head = k.head;
+      told = k.told;
       tail = (let t = k.tail in omega arith);
       puts = λ _. record { at = p.at; capacity = p.capacity; written = p.written; pushed = p.written; heads = p.heads };
-      takes = λ is. (let t = k.takes is in record { at = t.at; capacity = t.capacity; taken = t.taken; released = t.released; begins = t.begins; read = begins_through me.0.read g.pushed g.written t.read r.pushed; known = t.known });
+      takes = λ is. (let t = k.takes is in record { at = t.at; capacity = t.capacity; taken = t.taken; released = t.released; begins = t.begins; read = begins_through me.0.read g.pushed g.written t.read r.pushed; known = t.known; out = t.out });
     } in
     let on : (seat : ℕ) (v : View) → seat ≢ id → Knows n g seat v → Knows n g' seat v = λ seat v apart old. knows_on n g g' seat v
     record { pushed = r.pushed; released = λ hs a. a; taken = omega arith }
     (λ q. absurd (apart (q.at ∙ sym p.at)))
-    (λ t. record { at = t.at; capacity = t.capacity; taken = t.taken; released = t.released; begins = t.begins; read = begins_through v.read g.pushed g.written t.read r.pushed; known = t.known }) old in (
+    (λ t. record { at = t.at; capacity = t.capacity; taken = t.taken; released = t.released; begins = t.begins; read = begins_through v.read g.pushed g.written t.read r.pushed; known = t.known; out = t.out }) old in (
       w,
       keeps,
       tt,
       record {
         story = g';
         wide = length-set s.words 1 x ∙ r.wide;
-        head_is = get_or-set_other s.words 1 0 x 0 (λ e. omega arith) ∙ r.head_is;
-        tail_is = get_or-set_same s.words 1 x 0 (omega arith) ∙ (x_is ∙ ap length p.written);
+        head = (let same = get_or-set_other s.words 1 0 x 0 (λ e. omega arith) in let h = r.head in omega arith);
+        told = subst (IsReleased g.released) (sym (get_or-set_other s.words 1 0 x 0 (λ e. omega arith))) r.told;
+        tail = (let same = get_or-set_same s.words 1 x 0 (omega arith) ∙ (x_is ∙ ap length p.written) in omega arith);
         taken = begins_through g.taken g.pushed g.written r.taken r.pushed;
         pushed = begins_itself g.written;
         fits = r.fits;
         stands = stands_index n s.words (length g.taken) g.written 1 x (omega arith) r.stands;
         released = r.released;
         last = r.last;
+        home = r.home;
         each = each_set n g g' s.views id w r.each known on;
       },
       (refl, refl),
@@ -165,19 +187,21 @@ stores_tail n slots id me x puts x_is s r _ here _ =
 pub loads_tail : (n slots id : ℕ) (me : M) → me.0.takes ≡ true → Allows (Ring n) slots id me 1 (λ x. x) (LoadsTail (step slots 1 0 0 none) me)
 loads_tail n slots id me takes s r _ here _ =
     let g : Story = r.story in
-    let h : ℕ = get_or s.words 1 0 in
-    let h_is : h ≡ length g.pushed = r.tail_is in
     let k : Knows n g id me.0 = r.each id me.0 here in
     let t : KnowsTakes n g id me.0 = k.takes takes in
+    let h : ℕ = max me.0.tail (get_or s.words 1 0) in
     let w : View = with_tail me.0 h in
+    let stored = r.tail in
     let least = k.tail in
+    let within = begins_length me.0.taken me.0.read t.begins in
+    let bound = t.known in
     let taken_is : length me.0.taken ≡ length g.taken = ap length t.taken in
     let cap = t.capacity in
-    let most = begins_length g.taken g.pushed r.taken in
     let known : Knows n g id w = record {
       noted = k.noted;
       noted_heads = k.noted_heads;
       head = k.head;
+      told = k.told;
       tail = omega arith;
       puts = λ is. (let p = k.puts is in record { at = p.at; capacity = p.capacity; written = p.written; pushed = p.pushed; heads = p.heads });
       takes = λ _. record {
@@ -188,31 +212,31 @@ loads_tail n slots id me takes s r _ here _ =
         begins = begins_itself me.0.taken;
         read = subst (λ (z : List ℕ). IsPrefix z g.pushed) (sym t.taken) r.taken;
         known = omega arith;
+        out = t.out;
       };
     } in
     let all = begins_length g.pushed g.written r.pushed in
     let fits = r.fits in
-    (w, keeps, tt, loaded n s r 1 id w known, (refl, refl, omega arith, omega arith, omega arith, λ is. h_is ∙ sym (ap length (k.puts is).pushed)))
+    let most : me.0.puts ≡ true → h ≤ length me.0.pushed = λ is. (let same : length me.0.pushed ≡ length g.pushed = ap length (k.puts is).pushed in omega arith) in
+    (w, keeps, tt, loaded n s r 1 id w known, (refl, refl, omega arith, omega arith, most))
 
 -- what is read of a word, as far as the tail is known
 read_on : (n : ℕ) (words : List ℕ) (head : ℕ) (read pushed written : List ℕ) (at tail : ℕ) → Stands n words head written → IsPrefix read pushed → IsPrefix pushed written
     → at ≡ place n (length read / 4) → head ≤ length read → length read < tail → tail ≤ length pushed
-    → IsPrefix (take tail (whole_words read ++ lanes (get_or words at 0) 4)) pushed
+    → IsPrefix (take tail (read ++ drop (length read % 4) (lanes (get_or words at 0) 4))) pushed
 read_on n words head read pushed written at tail stands reads pushes at_is low more known =
     let word : ℕ = get_or words at 0 in
-    let xs : List ℕ = whole_words read ++ lanes word 4 in
-    let front : length (whole_words read) ≡ length read / 4 * 4 = whole_length read in
-    let long : length xs ≡ length read / 4 * 4 + 4 = length-append (whole_words read) (lanes word 4) ∙ omega (arith, lanes_length word 4) in
-    let cut = length-take tail xs in
+    let rest : List ℕ = drop (length read % 4) (lanes word 4) in
+    let long = rest_long read word in
+    let cut = length-take tail (read ++ rest) in
     let all = begins_length pushed written pushes in
-    begins_from (take tail xs) pushed (omega arith) (λ i lt. get_or-take tail xs i 0 (omega arith) ∙ ⊎_elim
-    (λ below. get_or-append (whole_words read) (lanes word 4) 0 i (omega arith) ∙ (get_or-take (length read / 4 * 4) read i 0 below ∙ begins_at read pushed reads i (omega arith)))
+    begins_from (take tail (read ++ rest)) pushed (omega arith) (λ i lt. get_or-take tail (read ++ rest) i 0 (omega arith) ∙ ⊎_elim
+    (λ below. get_or-append read rest 0 i below ∙ begins_at read pushed reads i below)
     (λ above.
     let group : i / 4 ≡ length read / 4 = omega arith in
     let here : get_or words (place n (i / 4)) 0 ≡ word = ap (λ (q : ℕ). get_or words (place n q) 0) group ∙ ap (λ (z : ℕ). get_or words z 0) (sym at_is) in
-    let j : i - length (whole_words read) ≡ i % 4 = omega arith in
-    get_or-append_right (whole_words read) (lanes word 4) i 0 (omega arith) ∙ (lanes_at word 4 (i - length (whole_words read)) (omega arith) ∙ (ap (lane word) j ∙ (ap (λ (z : ℕ). lane z (i % 4)) (sym here) ∙ (stands i (omega arith) (omega arith) ∙ sym (begins_at pushed written pushes i (omega arith)))))))
-    (cases_lt i (length read / 4 * 4)))
+    rest_at read word i above (omega arith) ∙ (ap (λ (z : ℕ). lane z (i % 4)) (sym here) ∙ (stands i (omega arith) (omega arith) ∙ sym (begins_at pushed written pushes i (omega arith)))))
+    (cases_lt i (length read)))
 
 pub loads_lanes : (n slots id : ℕ) (me : M) (at : ℕ) → me.0.takes ≡ true → at ≡ place me.0.capacity (length me.0.read / 4) → length me.0.read < me.0.tail
     → Allows (Ring n) slots id me at (λ x. x) (LoadsLanes (step slots at 0 0 none) me)
@@ -221,23 +245,23 @@ loads_lanes n slots id me at takes at_is more s r _ here _ =
     let k : Knows n g id me.0 = r.each id me.0 here in
     let t : KnowsTakes n g id me.0 = k.takes takes in
     let word : ℕ = get_or s.words at 0 in
-    let xs : List ℕ = take me.0.tail (whole_words me.0.read ++ lanes word 4) in
+    let xs : List ℕ = take me.0.tail (me.0.read ++ drop (length me.0.read % 4) (lanes word 4)) in
     let w : View = with_read me.0 xs in
     let start : length me.0.taken ≤ length me.0.read = begins_length me.0.taken me.0.read t.begins in
     let taken_is : length me.0.taken ≡ length g.taken = ap length t.taken in
     let place_is : at ≡ place n (length me.0.read / 4) = at_is ∙ ap (λ (z : ℕ). place z (length me.0.read / 4)) t.capacity in
     let reads : IsPrefix xs g.pushed = read_on n s.words (length g.taken) me.0.read g.pushed g.written at me.0.tail r.stands t.read r.pushed place_is (omega arith) more k.tail in
-    let front : length (whole_words me.0.read) ≡ length me.0.read / 4 * 4 = whole_length me.0.read in
-    let long : length (whole_words me.0.read ++ lanes word 4) ≡ length me.0.read / 4 * 4 + 4 = length-append (whole_words me.0.read) (lanes word 4) ∙ omega (arith, lanes_length word 4) in
-    let cut = length-take me.0.tail (whole_words me.0.read ++ lanes word 4) in
+    let long = rest_long me.0.read word in
+    let cut = length-take me.0.tail (me.0.read ++ drop (length me.0.read % 4) (lanes word 4)) in
     let longer : IsPrefix me.0.read xs = begins_longer me.0.read xs g.pushed t.read reads (omega arith) in
     let known : Knows n g id w = record {
       noted = k.noted;
       noted_heads = k.noted_heads;
       head = k.head;
+      told = k.told;
       tail = k.tail;
       puts = λ is. (let p = k.puts is in record { at = p.at; capacity = p.capacity; written = p.written; pushed = p.pushed; heads = p.heads });
-      takes = λ _. record { at = t.at; capacity = t.capacity; taken = t.taken; released = t.released; begins = begins_through me.0.taken me.0.read xs t.begins longer; read = reads; known = omega arith };
+      takes = λ _. record { at = t.at; capacity = t.capacity; taken = t.taken; released = t.released; begins = begins_through me.0.taken me.0.read xs t.begins longer; read = reads; known = omega arith; out = t.out };
     } in
     let pushed : me.0.puts ≡ true → IsPrefix xs me.0.pushed = λ is. subst (λ (z : List ℕ). IsPrefix xs z) (sym (k.puts is).pushed) reads in
     (w, keeps, tt, loaded n s r at id w known, (refl, refl, longer, pushed))
@@ -261,9 +285,10 @@ stores_head n slots id me x takes low high s r _ here _ =
       noted = k.noted;
       noted_heads = released_more g.released (x ∷ []) me.0.noted_heads k.noted_heads;
       head = omega arith;
+      told = inr (Contains-append_right g.released (x ∷ []) x (0, omega arith, refl));
       tail = k.tail;
       puts = λ is. (let p = k.puts is in record { at = p.at; capacity = p.capacity; written = p.written; pushed = p.pushed; heads = released_more g.released (x ∷ []) me.0.heads p.heads });
-      takes = λ _. record { at = t.at; capacity = t.capacity; taken = refl; released = ap (λ (z : List ℕ). z ++ x ∷ []) t.released; begins = begins_itself xs; read = reads; known = omega arith };
+      takes = λ _. record { at = t.at; capacity = t.capacity; taken = refl; released = ap (λ (z : List ℕ). z ++ x ∷ []) t.released; begins = begins_itself xs; read = reads; known = omega arith; out = t.out };
     } in
     let on : (seat : ℕ) (v : View) → seat ≢ id → Knows n g seat v → Knows n g' seat v = λ seat v apart old. knows_on n g g' seat v on_
     (λ q. record { at = q.at; capacity = q.capacity; written = q.written; pushed = q.pushed; heads = released_more g.released (x ∷ []) v.heads q.heads })
@@ -274,14 +299,16 @@ stores_head n slots id me x takes low high s r _ here _ =
       record {
         story = g';
         wide = length-set s.words 0 x ∙ r.wide;
-        head_is = get_or-set_same s.words 0 x 0 (omega arith) ∙ sym cut;
-        tail_is = get_or-set_other s.words 0 1 x 0 (λ e. omega arith) ∙ r.tail_is;
+        head = (let same = get_or-set_same s.words 0 x 0 (omega arith) in omega arith);
+        told = subst (IsReleased (g.released ++ x ∷ [])) (sym (get_or-set_same s.words 0 x 0 (omega arith))) (inr (Contains-append_right g.released (x ∷ []) x (0, omega arith, refl)));
+        tail = (let same = get_or-set_other s.words 0 1 x 0 (λ e. omega arith) in let t = r.tail in omega arith);
         taken = reads;
         pushed = r.pushed;
         fits = omega arith;
         stands = stands_above n (set s.words 0 x) (length g.taken) (length xs) g.written (omega arith) (stands_index n s.words (length g.taken) g.written 0 x (omega arith) r.stands);
         released = All-push (λ (h : ℕ). h ≤ length xs) g.released x (below_more g.released (length g.taken) (length xs) (omega arith) r.released) (omega arith);
         last = inr (subst (λ (z : ℕ). Contains (g.released ++ x ∷ []) z) (sym cut) (Contains-append_right g.released (x ∷ []) x (0, omega arith, refl)));
+        home = r.home;
         each = each_set n g g' s.views id w r.each known on;
       },
       (refl, refl),
@@ -316,18 +343,20 @@ compares n slots id me takes s r _ here _ =
 
 -- the views alone change
 viewed : (n : ℕ) (s : St) (r : Ring n s) (g' : Story) (views : List View) → g'.written ≡ r.story.written → g'.pushed ≡ r.story.pushed → g'.taken ≡ r.story.taken → g'.released ≡ r.story.released
-    → Each n g' views → Ring n record { words = s.words; homes = s.homes; views = views }
-viewed n s r g' views written pushed taken released each = record {
+    → g'.out ≡ r.story.out → Each n g' views → Ring n record { words = s.words; homes = s.homes; views = views }
+viewed n s r g' views written pushed taken released out each = record {
   story = g';
   wide = r.wide;
-  head_is = r.head_is ∙ ap length (sym taken);
-  tail_is = r.tail_is ∙ ap length (sym pushed);
+  head = subst (λ (z : List ℕ). get_or s.words 0 0 ≤ length z) (sym taken) r.head;
+  told = subst (λ (z : List ℕ). IsReleased z (get_or s.words 0 0)) (sym released) r.told;
+  tail = subst (λ (z : List ℕ). get_or s.words 1 0 ≤ length z) (sym pushed) r.tail;
   taken = subst (λ (z : List ℕ × List ℕ). IsPrefix z.0 z.1) (λ i. (sym taken i, sym pushed i)) r.taken;
   pushed = subst (λ (z : List ℕ × List ℕ). IsPrefix z.0 z.1) (λ i. (sym pushed i, sym written i)) r.pushed;
   fits = subst (λ (z : List ℕ × List ℕ). length z.0 ≤ length z.1 + n) (λ i. (sym written i, sym taken i)) r.fits;
   stands = subst (λ (z : List ℕ × List ℕ). Stands n s.words (length z.0) z.1) (λ i. (sym taken i, sym written i)) r.stands;
   released = subst (λ (z : List ℕ × List ℕ). All (λ h. h ≤ length z.0) z.1) (λ i. (sym taken i, sym released i)) r.released;
-  last = subst (λ (z : List ℕ × List ℕ). (length z.0 ≡ 0) ⊎ Contains z.1 (length z.0)) (λ i. (sym taken i, sym released i)) r.last;
+  last = subst (λ (z : List ℕ × List ℕ). IsReleased z.1 (length z.0)) (λ i. (sym taken i, sym released i)) r.last;
+  home = λ is. r.home (sym out ∙ is);
   each = each;
 }
 
@@ -342,11 +371,12 @@ notes n id v puts s r here =
       noted = subst (λ (z : List ℕ). IsPrefix z g.pushed) (sym p.pushed) (begins_itself g.pushed);
       noted_heads = p.heads;
       head = omega arith;
+      told = inl refl;
       tail = omega arith;
       puts = λ is. absurd (false≢true is);
       takes = λ is. absurd (false≢true is);
     } in
-    viewed n s r g (views ++ note_of v ∷ []) refl refl refl refl (each_end n g views (note_of v) (each_set n g g s.views id v r.each k (λ seat u apart old. old)) known)
+    viewed n s r g (views ++ note_of v ∷ []) refl refl refl refl refl (each_end n g views (note_of v) (each_set n g g s.views id v r.each k (λ seat u apart old. old)) known)
 
 pub notes_head : (n id : ℕ) (v : View) → v.takes ≡ true → Splits (Ring n) id v v (head_note_of v)
 notes_head n id v takes s r here =
@@ -359,41 +389,44 @@ notes_head n id v takes s r here =
       noted = (g.pushed, refl);
       noted_heads = λ i d lt. absurd (omega arith);
       head = omega arith;
+      told = subst (λ (z : List ℕ). IsReleased g.released (length z)) (sym t.taken) r.last;
       tail = omega arith;
       puts = λ is. absurd (false≢true is);
       takes = λ is. absurd (false≢true is);
     } in
-    viewed n s r g (views ++ head_note_of v ∷ []) refl refl refl refl (each_end n g views (head_note_of v) (each_set n g g s.views id v r.each k (λ seat u apart old. old)) known)
+    viewed n s r g (views ++ head_note_of v ∷ []) refl refl refl refl refl (each_end n g views (head_note_of v) (each_set n g g s.views id v r.each k (λ seat u apart old. old)) known)
 
-pub parts : (n id : ℕ) (v : View) → v.puts ≡ true → v.takes ≡ true → Splits (Ring n) id v (putter_of v) (taker_of v)
+pub parts : (n id : ℕ) (v : View) → v.puts ≡ true → v.takes ≡ true → Splits (Ring n) id v (taker_of v) (putter_of v)
 parts n id v puts takes s r here =
     let g : Story = r.story in
     let k : Knows n g id v = r.each id v here in
     let p : KnowsPuts n g id v = k.puts puts in
     let t : KnowsTakes n g id v = k.takes takes in
-    let views : List View = set s.views id (putter_of v) in
-    let g' : Story = record g { taker = length views } in
-    let on_ : GoesOn g g' = record { pushed = begins_itself g.pushed; released = λ hs a. a; taken = omega arith } in
-    let left : Knows n g' id (putter_of v) = record {
+    let views : List View = set s.views id (taker_of v) in
+    let g' : Story = record g { putter = length views } in
+    let on_ : GoesOn g g' = stays_on g g' refl refl refl in
+    let left : Knows n g' id (taker_of v) = record {
       noted = k.noted;
       noted_heads = k.noted_heads;
       head = k.head;
-      tail = k.tail;
-      puts = λ is. record { at = p.at; capacity = p.capacity; written = p.written; pushed = p.pushed; heads = p.heads };
-      takes = λ is. absurd (false≢true is);
-    } in
-    let right : Knows n g' (length views) (taker_of v) = record {
-      noted = k.noted;
-      noted_heads = k.noted_heads;
-      head = k.head;
+      told = k.told;
       tail = k.tail;
       puts = λ is. absurd (false≢true is);
-      takes = λ is. record { at = refl; capacity = t.capacity; taken = t.taken; released = t.released; begins = t.begins; read = t.read; known = t.known };
+      takes = λ is. record { at = t.at; capacity = t.capacity; taken = t.taken; released = t.released; begins = t.begins; read = t.read; known = t.known; out = t.out };
+    } in
+    let right : Knows n g' (length views) (putter_of v) = record {
+      noted = k.noted;
+      noted_heads = k.noted_heads;
+      head = k.head;
+      told = k.told;
+      tail = k.tail;
+      puts = λ is. record { at = refl; capacity = p.capacity; written = p.written; pushed = p.pushed; heads = p.heads };
+      takes = λ is. absurd (false≢true is);
     } in
     let on : (seat : ℕ) (u : View) → seat ≢ id → Knows n g seat u → Knows n g' seat u = λ seat u apart old. knows_on n g g' seat u on_
-    (λ q. record { at = q.at; capacity = q.capacity; written = q.written; pushed = q.pushed; heads = q.heads })
-    (λ q. absurd (apart (q.at ∙ sym t.at))) old in
-    viewed n s r g' (views ++ taker_of v ∷ []) refl refl refl refl (each_end n g' views (taker_of v) (each_set n g g' s.views id (putter_of v) r.each left on) right)
+    (λ q. absurd (apart (q.at ∙ sym p.at)))
+    (λ q. record { at = q.at; capacity = q.capacity; taken = q.taken; released = q.released; begins = q.begins; read = q.read; known = q.known; out = q.out }) old in
+    viewed n s r g' (views ++ putter_of v ∷ []) refl refl refl refl refl (each_end n g' views (putter_of v) (each_set n g g' s.views id (taker_of v) r.each left on) right)
 
 pub meets : (n id other : ℕ) (v w : View) → Joins (Ring n) id v other w (with_note v w) blank_view
 meets n id other v w s r here apart there =
@@ -406,16 +439,17 @@ meets n id other v w s r here apart there =
       noted = o.noted;
       noted_heads = o.noted_heads;
       head = k.head;
+      told = k.told;
       tail = omega arith;
       puts = λ is. (let p = k.puts is in record { at = p.at; capacity = p.capacity; written = p.written; pushed = p.pushed; heads = p.heads });
       takes = λ is. (
           let t = k.takes is in
           let bound = t.known in
           let within = begins_length v.taken v.read t.begins in
-          record { at = t.at; capacity = t.capacity; taken = t.taken; released = t.released; begins = begins_itself v.taken; read = begins_through v.taken v.read g.pushed t.begins t.read; known = omega arith }
+          record { at = t.at; capacity = t.capacity; taken = t.taken; released = t.released; begins = begins_itself v.taken; read = begins_through v.taken v.read g.pushed t.begins t.read; known = omega arith; out = t.out }
           );
     } in
-    viewed n s r g (set (set s.views id (with_note v w)) other blank_view) refl refl refl refl (each_join n g g s.views id other (with_note v w) r.each known (λ seat u a b old. old))
+    viewed n s r g (set (set s.views id (with_note v w)) other blank_view) refl refl refl refl refl (each_join n g g s.views id other (with_note v w) r.each known (λ seat u a b old. old))
 
 pub meets_head : (n id other : ℕ) (v w : View) → Joins (Ring n) id v other w (with_head_note v w) blank_view
 meets_head n id other v w s r here apart there =
@@ -428,11 +462,12 @@ meets_head n id other v w s r here apart there =
       noted = k.noted;
       noted_heads = k.noted_heads;
       head = omega arith;
+      told = higher_released g.released v.head w.head k.told o.told;
       tail = k.tail;
       puts = λ is. (let p = k.puts is in record { at = p.at; capacity = p.capacity; written = p.written; pushed = p.pushed; heads = p.heads });
-      takes = λ is. (let t = k.takes is in record { at = t.at; capacity = t.capacity; taken = t.taken; released = t.released; begins = t.begins; read = t.read; known = t.known });
+      takes = λ is. (let t = k.takes is in record { at = t.at; capacity = t.capacity; taken = t.taken; released = t.released; begins = t.begins; read = t.read; known = t.known; out = t.out });
     } in
-    viewed n s r g (set (set s.views id (with_head_note v w)) other blank_view) refl refl refl refl (each_join n g g s.views id other (with_head_note v w) r.each known (λ seat u a b old. old))
+    viewed n s r g (set (set s.views id (with_head_note v w)) other blank_view) refl refl refl refl refl (each_join n g g s.views id other (with_head_note v w) r.each known (λ seat u a b old. old))
 
 pub ends : (n id other : ℕ) (v w : View) → v.takes ≡ true → w.puts ≡ true → Joins (Ring n) id v other w (with_putter v w) blank_view
 ends n id other v w takes puts s r here apart there =
@@ -451,37 +486,178 @@ ends n id other v w takes puts s r here apart there =
       noted = k.noted;
       noted_heads = k.noted_heads;
       head = k.head;
+      told = k.told;
       tail = omega arith;
       puts = λ is. record { at = refl; capacity = t.capacity; written = p.written; pushed = p.pushed; heads = p.heads };
-      takes = λ is. record { at = t.at; capacity = t.capacity; taken = t.taken; released = t.released; begins = begins_itself v.taken; read = begins_through v.taken v.read g.pushed t.begins t.read; known = omega arith };
+      takes = λ is. record { at = t.at; capacity = t.capacity; taken = t.taken; released = t.released; begins = begins_itself v.taken; read = begins_through v.taken v.read g.pushed t.begins t.read; known = omega arith; out = t.out };
     } in
     let on : (seat : ℕ) (u : View) → seat ≢ id → seat ≢ other → Knows n g seat u → Knows n g' seat u = λ seat u a b old. knows_on n g g' seat u on_
     (λ q. absurd (b (q.at ∙ sym p.at)))
-    (λ q. record { at = q.at; capacity = q.capacity; taken = q.taken; released = q.released; begins = q.begins; read = q.read; known = q.known }) old in
-    viewed n s r g' (set (set s.views id (with_putter v w)) other blank_view) refl refl refl refl (each_join n g g' s.views id other (with_putter v w) r.each known on)
+    (λ q. record { at = q.at; capacity = q.capacity; taken = q.taken; released = q.released; begins = q.begins; read = q.read; known = q.known; out = q.out }) old in
+    viewed n s r g' (set (set s.views id (with_putter v w)) other blank_view) refl refl refl refl refl (each_join n g g' s.views id other (with_putter v w) r.each known on)
 
 -- a new ring
-pub begins : (n : ℕ) → Ring n (opening (replicate (n / 4 + 4) 0) [] (both_ends n))
-begins n =
-    let g : Story = record { written = []; pushed = []; taken = []; released = []; putter = 0; taker = 0 } in
+pub begins : (n : ℕ) (xs : Slot) → Ring n (opening (replicate (n / 4 + 4) 0) (xs ∷ []) (both_ends n))
+begins n xs =
+    let g : Story = record { written = []; pushed = []; taken = []; released = []; putter = 0; taker = 0; out = false } in
     let known : Knows n g 0 (both_ends n) = record {
       noted = ([], refl);
       noted_heads = λ i d lt. absurd (omega arith);
       head = omega arith;
+      told = inl refl;
       tail = omega arith;
       puts = λ is. record { at = refl; capacity = refl; written = refl; pushed = refl; heads = λ i d lt. absurd (omega arith) };
-      takes = λ is. record { at = refl; capacity = refl; taken = refl; released = refl; begins = ([], refl); read = ([], refl); known = omega arith };
+      takes = λ is. record { at = refl; capacity = refl; taken = refl; released = refl; begins = ([], refl); read = ([], refl); known = omega arith; out = refl };
     } in
     record {
       story = g;
       wide = length-replicate (n / 4 + 4) 0;
-      head_is = get_or-replicate (n / 4 + 4) 0 0 0 (omega arith);
-      tail_is = get_or-replicate (n / 4 + 4) 1 0 0 (omega arith);
+      head = subst (λ (z : ℕ). z ≤ 0) (sym (get_or-replicate (n / 4 + 4) 0 0 0 (omega arith))) (omega arith);
+      told = inl (get_or-replicate (n / 4 + 4) 0 0 0 (omega arith));
+      tail = subst (λ (z : ℕ). z ≤ 0) (sym (get_or-replicate (n / 4 + 4) 1 0 0 (omega arith))) (omega arith);
       taken = ([], refl);
       pushed = ([], refl);
       fits = omega arith;
       stands = λ i low high. absurd (omega arith);
       released = λ i d lt. absurd (omega arith);
       last = inl refl;
+      home = λ _. (xs, refl);
       each = each_end n g [] (both_ends n) (λ seat v e. absurd (some-ne-none v (sym e))) known;
     }
+
+-- the slot is taken, once
+pub takes_slot : (n slots id : ℕ) (me : M) → me.0.takes ≡ true → me.0.holds ≡ false → Allows (Ring n) slots id me 0 (λ x. x) (TakesSlot (step slots 0 0 0 none) me)
+takes_slot n slots id me takes holds s r _ here _ =
+    let g : Story = r.story in
+    let k : Knows n g id me.0 = r.each id me.0 here in
+    let t : KnowsTakes n g id me.0 = k.takes takes in
+    let there = r.home (sym t.out ∙ holds) in
+    let g' : Story = record g { out = true } in
+    let w : View = record me.0 { holds = true } in
+    let known : Knows n g' id w = record {
+      noted = k.noted;
+      noted_heads = k.noted_heads;
+      head = k.head;
+      told = k.told;
+      tail = k.tail;
+      puts = λ is. (let p = k.puts is in record { at = p.at; capacity = p.capacity; written = p.written; pushed = p.pushed; heads = p.heads });
+      takes = λ _. record { at = t.at; capacity = t.capacity; taken = t.taken; released = t.released; begins = t.begins; read = t.read; known = t.known; out = refl };
+    } in
+    let on : (seat : ℕ) (v : View) → seat ≢ id → Knows n g seat v → Knows n g' seat v = λ seat v apart old. knows_on n g g' seat v (stays_on g g' refl refl refl)
+    (λ q. record { at = q.at; capacity = q.capacity; written = q.written; pushed = q.pushed; heads = q.heads })
+    (λ u. absurd (apart (u.at ∙ sym t.at))) old in
+    let ring : Ring n record { words = s.words; homes = set s.homes 0 none; views = set s.views id w } = record {
+      story = g';
+      wide = r.wide;
+      head = r.head;
+      told = r.told;
+      tail = r.tail;
+      taken = r.taken;
+      pushed = r.pushed;
+      fits = r.fits;
+      stands = r.stands;
+      released = r.released;
+      last = r.last;
+      home = λ is. absurd (false≢true (sym is));
+      each = each_set n g g' s.views id w r.each known on;
+    } in (
+      w,
+      Act.takes 0 there.0,
+      there.1,
+      subst (λ (ws : List ℕ). Ring n record { words = ws; homes = set s.homes 0 none; views = set s.views id w }) (sym (set-get_or s.words 0 0)) ring,
+      (refl, (there.0, refl)),
+    )
+
+-- all that the putter's seat knew knows the new one
+pub leaves : (n id : ℕ) (v : View) → v.puts ≡ true → v.takes ≡ false → Splits (Ring n) id v blank_view v
+leaves n id v puts alone s r here =
+    let g : Story = r.story in
+    let k : Knows n g id v = r.each id v here in
+    let p : KnowsPuts n g id v = k.puts puts in
+    let views : List View = set s.views id blank_view in
+    let g' : Story = record g { putter = length views } in
+    let right : Knows n g' (length views) v = record {
+      noted = k.noted;
+      noted_heads = k.noted_heads;
+      head = k.head;
+      told = k.told;
+      tail = k.tail;
+      puts = λ is. record { at = refl; capacity = p.capacity; written = p.written; pushed = p.pushed; heads = p.heads };
+      takes = λ is. absurd (false≢true (sym alone ∙ is));
+    } in
+    let on : (seat : ℕ) (u : View) → seat ≢ id → Knows n g seat u → Knows n g' seat u = λ seat u apart old. knows_on n g g' seat u (stays_on g g' refl refl refl)
+    (λ q. absurd (apart (q.at ∙ sym p.at)))
+    (λ q. record { at = q.at; capacity = q.capacity; taken = q.taken; released = q.released; begins = q.begins; read = q.read; known = q.known; out = q.out }) old in
+    viewed n s r g' (views ++ v ∷ []) refl refl refl refl refl (each_end n g' views v (each_set n g g' s.views id blank_view r.each (knows_nothing n g' id) on) right)
+
+-- the numbers in the slot are passed
+pub passes : (n slots id : ℕ) (me : M) → me.0.puts ≡ true → me.0.takes ≡ true → length me.0.taken ≡ length me.0.pushed → length me.0.written ≤ length me.0.pushed
+    → Allows (Ring n) slots id me 0 (λ x. x) (PassesOn (step slots 0 0 0 none) me)
+passes n slots id me puts takes level whole s r _ here _ =
+    let g : Story = r.story in
+    let k : Knows n g id me.0 = r.each id me.0 here in
+    let p : KnowsPuts n g id me.0 = k.puts puts in
+    let t : KnowsTakes n g id me.0 = k.takes takes in
+    let xs : List ℕ = held me.1 in
+    let ys : List ℕ = me.0.pushed ++ xs in
+    let size : ℕ = length ys in
+    let g' : Story = record g { written = ys; pushed = ys; taken = ys; released = g.released ++ size ∷ [] } in
+    let w : View = with_passed me.0 xs in
+    let pushed_is : length me.0.pushed ≡ length g.pushed = ap length p.pushed in
+    let taken_is : length me.0.taken ≡ length g.taken = ap length t.taken in
+    let long : size ≡ length me.0.pushed + length xs = length-append me.0.pushed xs in
+    let met : me.0.taken ≡ me.0.pushed = t.taken ∙ (begins_whole g.taken g.pushed r.taken (omega arith) ∙ sym p.pushed) in
+    let more : IsPrefix g.pushed ys = subst (λ (z : List ℕ). IsPrefix z ys) p.pushed (begins_more me.0.pushed xs) in
+    let there : Contains (g.released ++ size ∷ []) size = Contains-append_right g.released (size ∷ []) size (0, omega arith, refl) in
+    let known_tail = k.tail in
+    let known : Knows n g' id w = record {
+      noted = begins_through me.0.noted g.pushed ys k.noted more;
+      noted_heads = released_more g.released (size ∷ []) me.0.noted_heads k.noted_heads;
+      head = omega arith;
+      told = inr there;
+      tail = omega arith;
+      puts = λ _. record {
+        at = p.at;
+        capacity = p.capacity;
+        written = refl;
+        pushed = refl;
+        heads = released_push (g.released ++ size ∷ []) me.0.heads size (released_more g.released (size ∷ []) me.0.heads p.heads) (inr there);
+      };
+      takes = λ _. record {
+        at = t.at;
+        capacity = t.capacity;
+        taken = refl;
+        released = ap (λ (z : List ℕ). z ++ size ∷ []) t.released;
+        begins = begins_itself ys;
+        read = begins_itself ys;
+        known = omega arith;
+        out = t.out;
+      };
+    } in
+    let on_ : GoesOn g g' = record { pushed = more; released = λ hs a. released_more g.released (size ∷ []) hs a; taken = omega arith } in
+    let on : (seat : ℕ) (v : View) → seat ≢ id → Knows n g seat v → Knows n g' seat v = λ seat v apart old. knows_on n g g' seat v on_
+    (λ q. absurd (apart (q.at ∙ sym p.at)))
+    (λ u. absurd (apart (u.at ∙ sym t.at))) old in
+    let stored = r.head in
+    let shown = r.tail in
+    let ring : Ring n record { words = s.words; homes = s.homes; views = set s.views id w } = record {
+      story = g';
+      wide = r.wide;
+      head = omega arith;
+      told = ⊎_elim (λ z. inl z) (λ c. inr (Contains-append_left g.released (size ∷ []) (get_or s.words 0 0) c)) r.told;
+      tail = omega arith;
+      taken = begins_itself ys;
+      pushed = begins_itself ys;
+      fits = omega arith;
+      stands = λ i low high. absurd (omega arith);
+      released = All-push (λ (h : ℕ). h ≤ size) g.released size (below_more g.released (length g.taken) size (omega arith) r.released) (omega arith);
+      last = inr there;
+      home = r.home;
+      each = each_set n g g' s.views id w r.each known on;
+    } in (
+      w,
+      keeps,
+      tt,
+      subst (λ (ws : List ℕ). Ring n record { words = ws; homes = s.homes; views = set s.views id w }) (sym (set-get_or s.words 0 0)) ring,
+      (refl, refl, met, omega arith),
+    )

@@ -11,7 +11,7 @@ pub long_is : (xs : List ℕ) (word k : ℕ) → length (whole_words xs ++ lanes
 long_is xs word k = let front : length (whole_words xs) ≡ length xs / 4 * 4 = whole_length xs in length-append (whole_words xs) (lanes word k) ∙ omega (arith, lanes_length word k)
 
 -- the numbers of whole words are a list's beginning of that length
-whole_of : (xs ys : List ℕ) → length xs ≡ length (xs ++ ys) / 4 * 4 → whole_words (xs ++ ys) ≡ xs
+pub whole_of : (xs ys : List ℕ) → length xs ≡ length (xs ++ ys) / 4 * 4 → whole_words (xs ++ ys) ≡ xs
 whole_of xs ys is = ap (λ k. take k (xs ++ ys)) (sym is) ∙ take_front xs ys
   where
     take_front : (xs ys : List ℕ) → take (length xs) (xs ++ ys) ≡ xs

@@ -2,6 +2,7 @@ pub mod Beginnings
 pub mod Keeps
 pub mod LastWord
 pub mod Packing
+pub mod Passed
 pub mod Putting
 pub mod Reading
 pub mod Released

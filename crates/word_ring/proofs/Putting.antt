@@ -24,6 +24,7 @@ module _ (capacity sent word : ℕ) (v : View) (p : IsPutting capacity sent word
   pub after_load : (h : ℕ) → v.head ≤ h → IsPutting capacity sent word (with_head v h)
   after_load h le = record {
     puts = p.puts;
+    alone = p.alone;
     room = p.room;
     begins = p.begins;
     pushed = p.pushed;
@@ -36,6 +37,7 @@ module _ (capacity sent word : ℕ) (v : View) (p : IsPutting capacity sent word
   pub after_told : (w : View) → IsPutting capacity sent word (with_head_note v w)
   after_told w = record {
     puts = p.puts;
+    alone = p.alone;
     room = p.room;
     begins = p.begins;
     pushed = p.pushed;
@@ -59,6 +61,7 @@ module _ (capacity sent word : ℕ) (v : View) (p : IsPutting capacity sent word
       ap (λ (xs : List ℕ). xs ++ top_lanes word (sent % 4)) (whole_again v.written (word / 65536 ^ (4 - sent % 4)) (sent % 4) (omega arith)) in
       record {
         puts = p.puts;
+        alone = p.alone;
         room = p.room;
         begins = subst (λ (xs : List ℕ). IsPrefix (sent_of sent word v) xs) (sym same) (begins_itself (sent_of sent word v));
         pushed = subst (λ (xs : List ℕ). IsPrefix (sent_of sent word v) xs) (sym same) (begins_itself (sent_of sent word v));
@@ -93,6 +96,7 @@ module _ (capacity sent word : ℕ) (v : View) (p : IsPutting capacity sent word
         let more : IsPrefix (sent_of sent word v) all = subst (λ (xs : List ℕ). IsPrefix xs all) (sym before_is) (begins_more (whole_words v.written) (top_lanes x 4)) in
         record {
           puts = p.puts;
+          alone = p.alone;
           room = p.room;
           begins = subst (λ (xs : List ℕ). IsPrefix all xs) (sym after_is) (begins_itself all);
           pushed = subst (λ (xs : List ℕ). IsPrefix v.pushed xs) (sym after_is) (begins_through v.pushed (sent_of sent word v) all p.pushed more);
@@ -131,6 +135,7 @@ module _ (capacity sent word : ℕ) (v : View) (p : IsPutting capacity sent word
         let count = p.count in
         record {
           puts = p.puts;
+          alone = p.alone;
           room = p.room;
           begins = subst (λ (xs : List ℕ). IsPrefix filled (xs ++ top_lanes four ((sent + 4) % 4))) (sym whole_is) (begins_more filled (top_lanes four ((sent + 4) % 4)));
           pushed = subst (λ (xs : List ℕ). IsPrefix v.pushed xs) (sym across_is) (begins_through v.pushed old (old ++ lanes four 4) p.pushed (begins_more old (lanes four 4)));
@@ -149,6 +154,7 @@ module _ (capacity sent word : ℕ) (v : View) (p : IsPutting capacity sent word
         let count = p.count in
         record {
           puts = p.puts;
+          alone = p.alone;
           room = p.room;
           begins = subst (λ (xs : List ℕ). IsPrefix v.written xs) (sym next) (begins_through v.written (sent_of sent word v) (sent_of sent word v ++ x ∷ []) p.begins (begins_more (sent_of sent word v) (x ∷ [])));
           pushed = subst (λ (xs : List ℕ). IsPrefix v.pushed xs) (sym next) (begins_through v.pushed (sent_of sent word v) (sent_of sent word v ++ x ∷ []) p.pushed (begins_more (sent_of sent word v) (x ∷ [])));
@@ -176,6 +182,7 @@ module _ (capacity sent word : ℕ) (v : View) (p : IsPutting capacity sent word
         let count = p.count in
         record {
           puts = p.puts;
+          alone = p.alone;
           room = p.room;
           begins = subst (λ (xs : List ℕ). IsPrefix all xs) (full_is ge ∙ sym next) (begins_itself all);
           pushed = subst (λ (xs : List ℕ). IsPrefix v.pushed xs) (sym next) (begins_through v.pushed (sent_of sent word v) (sent_of sent word v ++ x ∷ []) p.pushed (begins_more (sent_of sent word v) (x ∷ [])));

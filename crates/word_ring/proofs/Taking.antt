@@ -1,10 +1,10 @@
 -- What a taker's seat knows fits its numbers after each step.
-use Rattle.std.proofs.Common.{◌≡◌, ◌⊎◌, ℕ, zero, suc, ◌+◌, ◌-◌, ◌*◌, ◌/◌, ◌%◌, ◌^◌, ◌<◌, ◌≤◌, true, List, [], ◌∷◌, ◌++◌, length, min, max, refl, sym, ap, ◌∙◌, subst, ⊎_elim, inr, arith, append_assoc, take, drop, length-take, length-drop}
+use Rattle.std.proofs.Common.{◌≡◌, ◌⊎◌, ℕ, zero, suc, ◌+◌, ◌-◌, ◌*◌, ◌/◌, ◌%◌, ◌^◌, ◌<◌, ◌≤◌, true, false, List, [], ◌∷◌, ◌++◌, length, min, max, refl, sym, ap, ◌∙◌, subst, ⊎_elim, inr, arith, append_assoc, take, drop, length-take, length-drop}
 use mathlib.Core.List.{IsPrefix}
 use mathlib.Core.Option.{none}
 use Rattle.atomic_table.specs.Table.{step, Allows}
 use Rattle.std.specs.Arc.{arc_value}
-use Rattle.std.proofs.lemmas.Bool.{cases_lt}
+use Rattle.std.proofs.lemmas.Bool.{cases_lt, false≢true}
 use Rattle.std.proofs.lemmas.List.{drop_all, drop-take, take_all, take_at, take-append-drop, take-take}
 use Rattle.word_ring.specs.declared.table.View.{View}
 use Rattle.word_ring.specs.declared.taker.Taker.TheInside.{Inside}
@@ -25,8 +25,8 @@ none_peeked taken v count is = drop_all taken (take taken v.read) (omega (arith,
 
 -- a seat that has forgotten what it read fits
 pub clean : (capacity taken word start at : ℕ) (v : View) → v.takes ≡ true → v.capacity ≡ capacity → taken ≡ length v.taken → v.read ≡ v.taken → start ≡ place capacity (taken / 4) → v.tail < 2 ^ 64
-    → (v.puts ≡ true → v.tail ≡ length v.pushed) → (v.puts ≡ true → IsPrefix v.taken v.pushed) → IsTaking capacity taken taken word start at v
-clean capacity taken word start at v takes room count read start_is fits ended begins =
+    → (v.puts ≡ true → v.tail ≡ length v.pushed) → (v.puts ≡ true → IsPrefix v.taken v.pushed) → (v.puts ≡ false → v.pushed ≡ []) → IsTaking capacity taken taken word start at v
+clean capacity taken word start at v takes room count read start_is fits ended begins alone =
     let long = ap length read in
     record {
       takes = takes;
@@ -43,6 +43,7 @@ clean capacity taken word start at v takes room count read start_is fits ended b
       fits = fits;
       ended = ended;
       begins = λ is. subst (λ (z : List ℕ). IsPrefix z v.pushed) (sym read) (begins is);
+      alone = alone;
     }
 
 module _ (capacity taken next word start at : ℕ) (v : View) (t : IsTaking capacity taken next word start at v) where
@@ -50,17 +51,20 @@ module _ (capacity taken next word start at : ℕ) (v : View) (t : IsTaking capa
   pub taken_begins : v.puts ≡ true → IsPrefix v.taken v.pushed
   taken_begins is = begins_through v.taken v.read v.pushed t.goes_on (t.begins is)
 
-  pub after_look : (n : ℕ) → n < 2 ^ 64 → (v.puts ≡ true → n ≡ length v.pushed) → IsTaking capacity taken taken word start at (with_tail v n)
-  after_look n fits all = clean capacity taken word start at (with_tail v n) t.takes t.room t.count refl t.start_is fits all taken_begins
+  -- a look tells no more than all that was put, where that is known
+  pub after_look : (n : ℕ) → n < 2 ^ 64 → (v.puts ≡ true → max v.tail n ≤ length v.pushed) → IsTaking capacity taken taken word start at (with_tail v (max v.tail n))
+  after_look n fits most =
+      let mine = t.fits in
+      clean capacity taken word start at (with_tail v (max v.tail n)) t.takes t.room t.count refl t.start_is (omega arith) (λ is. (let e = t.ended is in let m = most is in omega arith)) taken_begins t.alone
 
   -- it is told what was pushed, which it knew where the putter was taken over
   pub after_told : (w : View) → w.tail < 2 ^ 64 → (v.puts ≡ true → max v.tail w.tail ≤ length v.pushed) → IsTaking capacity taken taken word start at (with_note v w)
   after_told w fits most =
       let mine = t.fits in
-      clean capacity taken word start at (with_note v w) t.takes t.room t.count refl t.start_is (omega arith) (λ is. (let e = t.ended is in let m = most is in omega arith)) taken_begins
+      clean capacity taken word start at (with_note v w) t.takes t.room t.count refl t.start_is (omega arith) (λ is. (let e = t.ended is in let m = most is in omega arith)) taken_begins t.alone
 
   pub after_end : (w : View) → length w.pushed < 2 ^ 64 → max v.tail (length w.pushed) ≤ length w.pushed → IsPrefix v.taken w.pushed → IsTaking capacity taken taken word start at (with_putter v w)
-  after_end w fits most begins = clean capacity taken word start at (with_putter v w) t.takes t.room t.count refl t.start_is (omega arith) (λ is. omega arith) (λ _. begins)
+  after_end w fits most begins = clean capacity taken word start at (with_putter v w) t.takes t.room t.count refl t.start_is (omega arith) (λ is. omega arith) (λ _. begins) (λ is. absurd (false≢true (sym is)))
 
   -- ---- the next number
 
@@ -109,6 +113,7 @@ module _ (capacity taken next word start at : ℕ) (v : View) (t : IsTaking capa
           fits = (let f = t.fits in omega arith);
           ended = λ is. tail ∙ (t.ended (ap (λ z. z.puts) (sym loaded) ∙ is) ∙ ap (λ z. length z.pushed) (sym loaded));
           begins = λ is. subst (λ (z : List ℕ). IsPrefix w.read z) (ap (λ z. z.pushed) (sym loaded)) (pushed (ap (λ z. z.puts) (sym loaded) ∙ is));
+          alone = λ is. ap (λ z. z.pushed) loaded ∙ t.alone (ap (λ z. z.puts) (sym loaded) ∙ is);
         }
 
     peeks_loaded : peeked_of taken (next + 1) w ≡ peeked_of taken next v ++ lane n (next % 4) ∷ []
@@ -143,6 +148,7 @@ module _ (capacity taken next word start at : ℕ) (v : View) (t : IsTaking capa
           fits = t.fits;
           ended = t.ended;
           begins = t.begins;
+          alone = t.alone;
         }
 
     peeks_next : peeked_of taken (next + 1) v ≡ peeked_of taken next v ++ lane word (next % 4) ∷ []
@@ -167,7 +173,7 @@ module _ (capacity taken next word start at : ℕ) (v : View) (t : IsTaking capa
     after_release start' start_is =
         let enough = t.peeked in
         clean capacity head word start' at (with_taken_to v head) t.takes t.room (sym (length-take head v.read ∙ omega arith)) refl start_is t.fits t.ended
-        (λ is. begins_through (take head v.read) v.read v.pushed (begins_take head v.read) (t.begins is))
+        (λ is. begins_through (take head v.read) v.read v.pushed (begins_take head v.read) (t.begins is)) t.alone
 
 pub begins_seen : (t : Inside) (u : TakerState ℕ) → IsTaker t → taker_state t ≡ u → u.ended ≡ true → IsPrefix u.taken u.sent
 begins_seen t u inner e = subst (λ (z : TakerState ℕ). z.ended ≡ true → IsPrefix z.taken z.sent) e (taken_begins _ _ _ _ _ _ _ inner.taking)
@@ -210,7 +216,10 @@ module _ (old new : Inside) (n : ℕ) (xs : List ℕ) (h : HasRead old new n xs)
     key = inner.key;
     words = ap (λ r. r.words) h.ring ∙ inner.words;
     small = inner.small;
-    bare = h.bare ∙ inner.bare;
+    slot = inner.slot;
+    holds = h.bare ∙ inner.holds;
+    tail = inner.tail ∙ sym (ap (λ z. z.tail) h.view);
+    ended = inner.ended ∙ sym (ap (λ z. z.puts) h.view);
     taking = h.taking;
   })
 
@@ -334,7 +343,10 @@ module _ (old new : Inside) (n : ℕ) (inner : IsTaker old) (some : 0 < n) (high
     key = inner.key;
     words = ap (λ r. r.words) ring ∙ inner.words;
     small = inner.small;
-    bare = bare ∙ inner.bare;
+    slot = inner.slot;
+    holds = bare ∙ inner.holds;
+    tail = inner.tail ∙ sym (ap (λ z. z.tail) view);
+    ended = inner.ended ∙ sym (ap (λ z. z.puts) view);
     taking = subst (IsTaking old.capacity (old.taken + n) (old.taken + n) old.word new.start old.at) (sym view) (after_release _ _ _ _ _ _ _ inner.taking (old.taken + n) (omega arith) high new.start start_is);
   })
 

@@ -1,5 +1,6 @@
 -- The two ends of a ring and their notes, as contracts see them: here with numbers, in a layer above with what the numbers stand for.
-use Rattle.std.specs.Prelude.{◌≡◌, ℕ, Bool, List, [], ◌∷◌, ◌++◌, length, All, Contains}
+use Rattle.std.specs.Prelude.{◌≡◌, ℕ, ◌≤◌, Bool, false, List, [], ◌∷◌, ◌++◌, length, All, Contains}
+use Rattle.std.specs.List.Sorted.{IsNonDecreasing}
 use Rattle.std.proofs.Common.{◌⊎◌}
 use mathlib.Core.List.{IsPrefix}
 use Rattle.atomic_table.specs.Seated.{TableId}
@@ -50,9 +51,13 @@ pub record HeadNoteState : Type 0 where
 abbrev pub IsOneWithin : {A : Type 0} → List A → List A → Type 0
 IsOneWithin xs ys = IsPrefix xs ys ⊎ IsPrefix ys xs
 
+-- the head is one that was released, or 0
+abbrev pub IsReleased : List ℕ → ℕ → Type 0
+IsReleased released h = (h ≡ 0) ⊎ Contains released h
+
 -- each of the heads is one that was released, or 0
 abbrev pub AreReleased : List ℕ → List ℕ → Type 0
-AreReleased released heads = All (λ h. (h ≡ 0) ⊎ Contains released h) heads
+AreReleased released heads = All (λ h. IsReleased released h) heads
 
 -- one more head was loaded
 abbrev pub with_loaded : {A : Type 0} → PutterState A → ℕ → PutterState A
@@ -66,3 +71,24 @@ with_shown t tail = record t { peeked = []; tails = t.tails ++ tail ∷ []; floo
 abbrev pub with_taken : {A : Type 0} → TakerState A → List A → TakerState A
 with_taken t [] = t
 with_taken t (x ∷ xs) = record t { taken = t.taken ++ x ∷ xs; peeked = []; released = t.released ++ length (t.taken ++ x ∷ xs) ∷ [] }
+
+-- Nothing that was put waits to be taken, and both ends know it; neither has taken over the other.
+pub record NothingWaits {A : Type 0} (p : PutterState A) (t : TakerState A) : Type 0 where
+  pub capacity : p.capacity ≡ t.capacity
+  pub pushed : length p.pushed ≡ length p.sent
+  pub known : p.floor ≡ length p.sent
+  pub taken : length t.taken ≡ length p.sent
+  pub apart : t.ended ≡ false
+
+-- one more head was stored, and all so far are taken
+abbrev pub with_all_taken : {A : Type 0} → TakerState A → List A → TakerState A
+with_all_taken t xs = record t { taken = xs; peeked = []; released = t.released ++ length xs ∷ []; tails = t.tails ++ length xs ∷ []; floor = length xs }
+
+-- These were put, pushed, looked at and taken, and the head was loaded after it, where nothing waited before.
+pub record Passes {A : Type 0} (p p' : PutterState A) (t t' : TakerState A) (xs : List A) : Type 0 where
+  pub met : t.taken ≡ p.sent
+  pub putter : p' ≡ with_loaded (record p { sent = p.sent ++ xs; pushed = p.sent ++ xs }) (length (p.sent ++ xs))
+  pub taker : t' ≡ with_all_taken t (p.sent ++ xs)
+  pub floor : t.floor ≤ length p.sent
+  pub heads : All (λ h. h ≤ length (p.sent ++ xs)) p'.heads
+  pub rise : IsNonDecreasing p'.heads

@@ -1,17 +1,18 @@
 -- What each step on a ring's table tells its seat.
-use Rattle.std.specs.Prelude.{◌≡◌, ℕ, ◌+◌, ◌≤◌, true, false, List, [], ◌∷◌, ◌++◌, length, take, max, All}
+use Rattle.std.specs.Prelude.{◌≡◌, ℕ, ◌+◌, ◌%◌, ◌≤◌, true, false, List, [], ◌∷◌, ◌++◌, length, take, drop, max, All}
 use mathlib.Core.List.{IsPrefix}
 use Rattle.atomic_table.specs.Table.{Me, Step}
 use Rattle.word_ring.specs.declared.table.View.{View}
 use Rattle.word_ring.specs.Ends.{IsOneWithin, AreReleased}
 use Rattle.word_ring.specs.Lanes.{lanes, whole_words}
+use Rattle.word_ring.specs.Rule.{Slot}
 
 abbrev Mine : Type 0
-Mine = Me (Unit {0}) View
+Mine = Me Slot View
 
 -- a seat that knows nothing
 abbrev pub blank_view : View
-blank_view = record { puts = false; takes = false; capacity = 0; written = []; pushed = []; heads = []; taken = []; read = []; released = []; tails = []; noted = []; noted_heads = []; head = 0; tail = 0 }
+blank_view = record { puts = false; takes = false; capacity = 0; written = []; pushed = []; heads = []; taken = []; read = []; released = []; tails = []; noted = []; noted_heads = []; head = 0; tail = 0; holds = false }
 
 -- the seat of both ends of a new ring
 abbrev pub both_ends : ℕ → View
@@ -37,40 +38,67 @@ with_read v xs = record v { read = xs }
 abbrev pub with_taken_to : View → ℕ → View
 with_taken_to v n = record v { taken = take n v.read; read = take n v.read; released = v.released ++ n ∷ []; head = n }
 
-abbrev pub LoadsHead : Step (Unit {0}) → Mine → ℕ → Mine → Type 0
-LoadsHead s m n m' = (m'.0 ≡ with_head m.0 n) × (m'.1 ≡ m.1) × (m.0.head ≤ n) × (n ≤ length m.0.pushed) × (length m.0.pushed ≤ length m.0.written)
+-- some more are put, pushed, looked at and taken, where none was left
+abbrev pub with_passed : View → List ℕ → View
+with_passed v xs = record v {
+  written = v.pushed ++ xs;
+  pushed = v.pushed ++ xs;
+  heads = v.heads ++ length (v.pushed ++ xs) ∷ [];
+  taken = v.pushed ++ xs;
+  read = v.pushed ++ xs;
+  released = v.released ++ length (v.pushed ++ xs) ∷ [];
+  tails = v.tails ++ length (v.pushed ++ xs) ∷ [];
+  head = length (v.pushed ++ xs);
+  tail = length (v.pushed ++ xs);
+}
+
+-- what the slot that was taken last has
+abbrev pub held : List (ℕ × Slot) → Slot
+held [] = []
+held (x ∷ xs) = x.1
+
+abbrev pub TakesSlot : Step Slot → Mine → ℕ → Mine → Type 0
+TakesSlot s m n m' = (m'.0 ≡ record m.0 { holds = true }) × ((xs : Slot) × (m'.1 ≡ (0, xs) ∷ m.1))
+
+-- what the seat knows of the head may be more than what was stored
+abbrev pub LoadsHead : Step Slot → Mine → ℕ → Mine → Type 0
+LoadsHead s m n m' = (m'.0 ≡ with_head m.0 (max m.0.head n)) × (m'.1 ≡ m.1) × (max m.0.head n ≤ length m.0.pushed) × (length m.0.pushed ≤ length m.0.written)
 
 -- the word is stored with so many lanes
-abbrev pub StoresLanes : ℕ → Step (Unit {0}) → Mine → ℕ → Mine → Type 0
+abbrev pub StoresLanes : ℕ → Step Slot → Mine → ℕ → Mine → Type 0
 StoresLanes k s m n m' = (m'.0 ≡ with_written m.0 (whole_words m.0.written ++ lanes n k)) × (m'.1 ≡ m.1)
 
-abbrev pub StoresTail : Step (Unit {0}) → Mine → ℕ → Mine → Type 0
+abbrev pub StoresTail : Step Slot → Mine → ℕ → Mine → Type 0
 StoresTail s m n m' = (m'.0 ≡ with_all_pushed m.0) × (m'.1 ≡ m.1)
 
-abbrev pub LoadsTail : Step (Unit {0}) → Mine → ℕ → Mine → Type 0
-LoadsTail s m n m' = (m'.0 ≡ with_tail m.0 n) × (m'.1 ≡ m.1) × (m.0.tail ≤ n) × (length m.0.taken ≤ n) × (n ≤ length m.0.taken + m.0.capacity) × (m.0.puts ≡ true → n ≡ length m.0.pushed)
+abbrev pub LoadsTail : Step Slot → Mine → ℕ → Mine → Type 0
+LoadsTail s m n m' = (m'.0 ≡ with_tail m.0 (max m.0.tail n)) × (m'.1 ≡ m.1) × (length m.0.taken ≤ m.0.tail) × (max m.0.tail n ≤ length m.0.taken + m.0.capacity) × (m.0.puts ≡ true → max m.0.tail n ≤ length m.0.pushed)
 
--- of the word all lanes below the known tail are read, and these were pushed
-abbrev pub LoadsLanes : Step (Unit {0}) → Mine → ℕ → Mine → Type 0
-LoadsLanes s m n m' = (m'.0 ≡ with_read m.0 (take m.0.tail (whole_words m.0.read ++ lanes n 4))) × (m'.1 ≡ m.1) × IsPrefix m.0.read m'.0.read × (m.0.puts ≡ true → IsPrefix m'.0.read m.0.pushed)
+-- of the word the next lanes below the known tail are read, and these were pushed
+abbrev pub LoadsLanes : Step Slot → Mine → ℕ → Mine → Type 0
+LoadsLanes s m n m' = (m'.0 ≡ with_read m.0 (take m.0.tail (m.0.read ++ drop (length m.0.read % 4) (lanes n 4)))) × (m'.1 ≡ m.1) × IsPrefix m.0.read m'.0.read × (m.0.puts ≡ true → IsPrefix m'.0.read m.0.pushed)
 
-abbrev pub StoresHead : Step (Unit {0}) → Mine → ℕ → Mine → Type 0
+abbrev pub StoresHead : Step Slot → Mine → ℕ → Mine → Type 0
 StoresHead s m n m' = (m'.0 ≡ with_taken_to m.0 n) × (m'.1 ≡ m.1)
 
 -- what was noted is compared with what was taken
-abbrev pub Compares : Step (Unit {0}) → Mine → ℕ → Mine → Type 0
+abbrev pub Compares : Step Slot → Mine → ℕ → Mine → Type 0
 Compares s m n m' = (m' ≡ m)
     × IsOneWithin m.0.taken m.0.noted
     × AreReleased m.0.released m.0.noted_heads
     × All (λ h. h ≤ length m.0.taken) m.0.noted_heads
     × (m.0.puts ≡ true → IsPrefix m.0.taken m.0.pushed × AreReleased m.0.released m.0.heads × (m.0.tail ≤ length m.0.pushed))
 
--- the two ends of a new ring
+-- the numbers in the slot are passed, where both ends are at hand and nothing waited
+abbrev pub PassesOn : Step Slot → Mine → ℕ → Mine → Type 0
+PassesOn s m n m' = (m'.0 ≡ with_passed m.0 (held m.1)) × (m'.1 ≡ m.1) × (m.0.taken ≡ m.0.pushed) × (m.0.tail ≤ length m.0.pushed)
+
+-- the two ends of a ring
 abbrev pub putter_of : View → View
 putter_of v = record v { takes = false }
 
 abbrev pub taker_of : View → View
-taker_of v = record v { puts = false }
+taker_of v = record v { puts = false; pushed = [] }
 
 -- a note of what the putter knows
 abbrev pub note_of : View → View

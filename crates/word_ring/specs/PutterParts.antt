@@ -1,5 +1,5 @@
 -- What a putter and its note have, and how contracts see them.
-use Rattle.std.specs.Prelude.{◌≡◌, ℕ, ◌+◌, ◌/◌, ◌%◌, ◌^◌, ◌<◌, ◌≤◌, true, List, [], ◌++◌, length, All}
+use Rattle.std.specs.Prelude.{◌≡◌, ℕ, ◌+◌, ◌/◌, ◌%◌, ◌^◌, ◌<◌, ◌≤◌, true, false, List, [], ◌++◌, length, All}
 use Rattle.std.specs.List.Sorted.{IsNonDecreasing}
 use Rattle.std.specs.Arc.{arc_value}
 use mathlib.Core.List.{IsPrefix}
@@ -27,6 +27,7 @@ putter_state p = record {
 -- what a putter's seat knows fits its numbers
 pub record IsPutting (capacity sent word : ℕ) (v : View) : Type 0 where
   pub puts : v.puts ≡ true
+  pub alone : v.takes ≡ false
   pub room : v.capacity ≡ capacity
   -- the last word has the numbers that are stored of it
   pub begins : IsPrefix v.written (sent_of sent word v)
@@ -45,6 +46,7 @@ pub record IsPutter (p : Inside) : Type 0 where
   pub at : p.at ≡ place p.capacity (p.sent / 4)
   pub bare : p.seat.me.1 ≡ []
   pub shown : p.shown ≡ length p.seat.me.0.pushed
+  pub head : p.head ≡ p.seat.me.0.head
   pub putting : IsPutting p.capacity p.sent p.word p.seat.me.0
 
 abbrev pub note_state : NoteInside → NoteState ℕ
@@ -53,4 +55,5 @@ note_state n = record { ring = n.seat.table_id; pushed = n.seat.me.0.noted; head
 pub record IsNote (n : NoteInside) : Type 0 where
   pub bare : n.seat.me.1 ≡ []
   pub tail : n.seat.me.0.tail ≡ length n.seat.me.0.noted
+  pub shown : n.shown ≡ n.seat.me.0.tail
   pub fits : n.seat.me.0.tail < 2 ^ 64

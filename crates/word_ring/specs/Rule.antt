@@ -1,15 +1,14 @@
 -- What holds of a ring between any two steps. Word 0 is the head, word 1 the tail, and the words from 2 on have four numbers each.
-use Rattle.std.specs.Prelude.{◌≡◌, ℕ, ◌+◌, ◌*◌, ◌/◌, ◌%◌, ◌<◌, ◌≤◌, true, List, length, slice_index, All, Contains}
-use Rattle.std.proofs.Common.{◌⊎◌}
+use Rattle.std.specs.Prelude.{◌≡◌, ℕ, ◌+◌, ◌/◌, ◌%◌, ◌<◌, ◌≤◌, Bool, true, false, List, length, slice_index, All}
 use mathlib.Core.List.{IsPrefix}
 use mathlib.Core.Option.{some}
 use lib.ListN.{get_elem?}
 use Rattle.atomic_table.specs.Table.{State}
 use Rattle.word_ring.specs.declared.table.View.{View}
-use Rattle.word_ring.specs.Ends.{AreReleased}
+use Rattle.word_ring.specs.Ends.{AreReleased, IsReleased}
 use Rattle.word_ring.specs.Lanes.{lane}
 
--- What was done so far: the numbers whose word was stored, those of them that were pushed, those of them that were taken, the heads that were stored, and the seats of the two ends.
+-- What was done so far: the numbers whose word was stored or that were passed, those of them that were pushed, those of them that were taken, the heads that were stored or told, the seats of the two ends, and whether the slot was taken.
 pub record Story : Type 0 where
   pub written : List ℕ
   pub pushed : List ℕ
@@ -17,6 +16,7 @@ pub record Story : Type 0 where
   pub released : List ℕ
   pub putter : ℕ
   pub taker : ℕ
+  pub out : Bool
 
 -- what the seat of the putter knows
 pub record KnowsPuts (n : ℕ) (g : Story) (seat : ℕ) (v : View) : Type 0 where
@@ -35,12 +35,14 @@ pub record KnowsTakes (n : ℕ) (g : Story) (seat : ℕ) (v : View) : Type 0 whe
   pub begins : IsPrefix v.taken v.read
   pub read : IsPrefix v.read g.pushed
   pub known : length v.read ≤ v.tail
+  pub out : v.holds ≡ g.out
 
 -- what each seat knows
 pub record Knows (n : ℕ) (g : Story) (seat : ℕ) (v : View) : Type 0 where
   pub noted : IsPrefix v.noted g.pushed
   pub noted_heads : AreReleased g.released v.noted_heads
   pub head : v.head ≤ length g.taken
+  pub told : IsReleased g.released v.head
   pub tail : v.tail ≤ length g.pushed
   pub puts : v.puts ≡ true → KnowsPuts n g seat v
   pub takes : v.takes ≡ true → KnowsTakes n g seat v
@@ -49,19 +51,25 @@ pub record Knows (n : ℕ) (g : Story) (seat : ℕ) (v : View) : Type 0 where
 abbrev pub place : ℕ → ℕ → ℕ
 place n group = 2 + group % (n / 4 + 2)
 
--- each written number from the head's word on stands in its lane
+-- each written number that is not taken stands in its lane
 abbrev pub Stands : ℕ → List ℕ → ℕ → List ℕ → Type 0
-Stands n words head written = (i : ℕ) → head / 4 * 4 ≤ i → i < length written → lane (slice_index words (place n (i / 4))) (i % 4) ≡ slice_index written i
+Stands n words head written = (i : ℕ) → head ≤ i → i < length written → lane (slice_index words (place n (i / 4))) (i % 4) ≡ slice_index written i
 
-pub record Ring (n : ℕ) (s : State (Unit {0}) View) : Type 0 where
+-- what a table's slot has
+abbrev pub Slot : Type 0
+Slot = List ℕ
+
+pub record Ring (n : ℕ) (s : State Slot View) : Type 0 where
   pub story : Story
   pub wide : length s.words ≡ n / 4 + 4
-  pub head_is : slice_index s.words 0 ≡ length story.taken
-  pub tail_is : slice_index s.words 1 ≡ length story.pushed
+  pub head : slice_index s.words 0 ≤ length story.taken
+  pub told : IsReleased story.released (slice_index s.words 0)
+  pub tail : slice_index s.words 1 ≤ length story.pushed
   pub taken : IsPrefix story.taken story.pushed
   pub pushed : IsPrefix story.pushed story.written
   pub fits : length story.written ≤ length story.taken + n
   pub stands : Stands n s.words (length story.taken) story.written
   pub released : All (λ h. h ≤ length story.taken) story.released
-  pub last : (length story.taken ≡ 0) ⊎ Contains story.released (length story.taken)
+  pub last : IsReleased story.released (length story.taken)
+  pub home : story.out ≡ false → (xs : Slot) × (get_elem? s.homes 0 ≡ some (some xs))
   pub each : (seat : ℕ) (v : View) → get_elem? s.views seat ≡ some v → Knows n story seat v

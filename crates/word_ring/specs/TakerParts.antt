@@ -1,5 +1,5 @@
 -- What a taker and its note have, and how contracts see them.
-use Rattle.std.specs.Prelude.{◌≡◌, ℕ, ◌+◌, ◌-◌, ◌*◌, ◌/◌, ◌%◌, ◌^◌, ◌<◌, ◌≤◌, true, List, [], length, take, drop, min, slice_index}
+use Rattle.std.specs.Prelude.{◌≡◌, ℕ, ◌+◌, ◌-◌, ◌*◌, ◌/◌, ◌%◌, ◌^◌, ◌<◌, ◌≤◌, true, false, List, [], ◌∷◌, length, take, drop, min, slice_index}
 use Rattle.std.specs.Arc.{arc_value}
 use mathlib.Core.List.{IsPrefix}
 use Rattle.word_ring.specs.declared.table.View.{View}
@@ -7,7 +7,7 @@ use Rattle.word_ring.specs.declared.taker.HeadNote.TheInside.{Inside as HeadNote
 use Rattle.word_ring.specs.declared.taker.Taker.TheInside.{Inside}
 use Rattle.word_ring.specs.Ends.{TakerState, HeadNoteState}
 use Rattle.word_ring.specs.Lanes.{lane}
-use Rattle.word_ring.specs.Rule.{place}
+use Rattle.word_ring.specs.Rule.{Slot, place}
 
 -- what was peeked: the numbers read after those that were taken, as far as the next one
 abbrev pub peeked_of : ℕ → ℕ → View → List ℕ
@@ -49,13 +49,18 @@ pub record IsTaking (capacity taken next word start at : ℕ) (v : View) : Type 
   -- with the putter taken over, all that was put is known
   pub ended : v.puts ≡ true → v.tail ≡ length v.pushed
   pub begins : v.puts ≡ true → IsPrefix v.read v.pushed
+  -- and else nothing of it
+  pub alone : v.puts ≡ false → v.pushed ≡ []
 
 pub record IsTaker (t : Inside) : Type 0 where
   pub table : t.seat.table_id ≡ (arc_value t.board).shared.table_id
   pub key : (arc_value t.board).shared.key ≡ t.capacity
   pub words : t.seat.table_id.words ≡ t.capacity / 4 + 4
   pub small : t.capacity ≤ 65536
-  pub bare : t.seat.me.1 ≡ []
+  pub slot : Slot
+  pub holds : t.seat.me.1 ≡ (0, slot) ∷ []
+  pub tail : t.tail ≡ t.seat.me.0.tail
+  pub ended : t.ended ≡ t.seat.me.0.puts
   pub taking : IsTaking t.capacity t.taken t.next t.word t.start t.at t.seat.me.0
 
 abbrev pub head_note_state : HeadNoteInside → HeadNoteState
@@ -63,3 +68,4 @@ head_note_state n = record { ring = n.seat.table_id; taken = n.seat.me.0.head }
 
 pub record IsHeadNote (n : HeadNoteInside) : Type 0 where
   pub bare : n.seat.me.1 ≡ []
+  pub taken : n.taken ≡ n.seat.me.0.head

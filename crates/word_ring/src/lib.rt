@@ -3,11 +3,13 @@
 //!
 //! Four numbers share a word of 64 bits. The putter stores a word once for each four numbers and
 //! at a push, and the tail at a push; the taker loads a word once for each four numbers that it
-//! peeks, and stores the head once for all of them.
+//! peeks, and stores the head once for all of them. Where both ends are at hand and nothing waits, eight
+//! numbers are passed from the one to the other with no store at all.
 #![tactic(auto)]
 
 mod lanes;
 mod new;
+mod passing;
 mod putter;
 mod steps;
 mod table;

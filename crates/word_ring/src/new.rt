@@ -2,11 +2,14 @@
 ghost use Rattle.std.specs.Prelude.{◌≡◌, ◌<◌, ◌≤◌, false, [], IfOk};
 
 use crate::putter::Putter;
-use crate::table::{Apart, Board};
+use crate::table::{Apart, Board, HEAD, Slot, TakeSlot};
 use crate::taker::Taker;
 use std::alloc::Global;
 use std::sync::Arc;
 use tty_base::NoMemory;
+
+/// What stands in the slot at first.
+const NO_NUMBERS: Slot = [0; 8];
 
 /// The two ends of a new ring, which has room for `n` numbers.
 pub fn ring(alloc: Global, n: usize) -> Result<(Putter, Taker), NoMemory>
@@ -16,28 +19,36 @@ pub fn ring(alloc: Global, n: usize) -> Result<(Putter, Taker), NoMemory>
 {
     let capacity = n as u64;
     let words = vec![in alloc; 0u64; n / 4 + 4]?;
-    let (table, mut seat) = Board::of_words(alloc, words.as_slice(), &capacity)?;
+    let mut slots = Vec::new(alloc);
+    slots.push(NO_NUMBERS)?;
+    let Ok((table, mut seat)) = Board::new(alloc, words.as_slice(), slots, &capacity) else {
+        return Err(NoMemory);
+    };
+    table.shared.load::<TakeSlot>(&mut seat, HEAD);
     let other = table.shared.split_seat::<Apart>(&mut seat);
     let board = Arc::new(alloc, table)?;
     let shared = Arc::try_clone(&board)?;
     let putter = Putter {
         board,
-        seat,
+        seat: other,
         capacity,
         sent: 0,
         word: 0,
         at: 2,
         shown: 0,
+        head: 0,
     };
     let taker = Taker {
         board: shared,
-        seat: other,
+        seat,
         capacity,
         taken: 0,
         next: 0,
         word: 0,
         start: 2,
         at: 2,
+        tail: 0,
+        ended: false,
     };
     Ok((putter, taker))
 }

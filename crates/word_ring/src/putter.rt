@@ -26,6 +26,8 @@ pub struct Putter {
     pub(crate) at: usize,
     /// How many numbers were pushed.
     pub(crate) shown: u64,
+    /// How many numbers were taken, at least.
+    pub(crate) head: u64,
 }
 
 impl Model for Putter {
@@ -45,6 +47,8 @@ impl Model for Putter {
 #[derive(Drop)]
 pub struct Note {
     pub(crate) seat: Place,
+    /// How many numbers were pushed.
+    pub(crate) shown: u64,
 }
 
 impl Model for Note {
@@ -87,8 +91,7 @@ impl Putter {
         ensures rises { (self.old.floor ≤ self.new.floor) × (self.new.floor ≤ length self.old.pushed) }
         ensures rise { IsNonDecreasing self.new.heads }
     {
-        let head = self.board.shared.load::<LoadHead>(&mut self.seat, HEAD);
-        self.sent - head
+        self.sent - self.load_head()
     }
 
     /// Puts a number. `Full` says how many were put and how many of these were taken, at the head
@@ -104,7 +107,7 @@ impl Putter {
         ensures rises { (self.old.floor ≤ self.new.floor) × (self.new.floor ≤ length self.old.pushed) }
         ensures rise { IsNonDecreasing self.new.heads }
     {
-        let seen = self.board.shared.load::<LoadHead>(&mut self.seat, HEAD);
+        let seen = self.load_head();
         let sent = self.sent;
         if sent - seen == self.capacity {
             return Err(Full { sent, seen });
@@ -209,6 +212,7 @@ impl Putter {
         self.push();
         Note {
             seat: self.board.shared.split_seat::<Noted>(&mut self.seat),
+            shown: self.shown,
         }
     }
 
@@ -221,9 +225,24 @@ impl Putter {
         ensures within { length self.old.pushed ≤ length self.old.sent }
         ensures rise { IsNonDecreasing self.new.heads }
     {
-        let HeadNote { seat } = note;
+        let HeadNote { seat, taken } = note;
         let shared = &self.board.shared;
         shared.join_seat::<HeadNoted>(&mut self.seat, seat);
-        shared.load::<LoadHead>(&mut self.seat, HEAD);
+        self.head = self.head.max(taken);
+        self.load_head();
+    }
+
+    // Loads the head, which may have been told to be higher.
+    #[inline(always)]
+    fn load_head(&mut self) -> u64
+        ensures same { self.new ≡ with_loaded self.old result }
+        ensures rises { (self.old.floor ≤ result) × (result ≤ length self.old.pushed) }
+        ensures within { length self.old.pushed ≤ length self.old.sent }
+        ensures rise { IsNonDecreasing self.new.heads }
+        ensures most { length self.old.sent ≤ result + self.old.capacity }
+    {
+        let head = self.board.shared.load::<LoadHead>(&mut self.seat, HEAD);
+        self.head = self.head.max(head);
+        self.head
     }
 }

@@ -1,7 +1,9 @@
 //! The table that both ends of a ring share: its words, what each seat knows, and what a step tells.
 //! Word 0 is the head, how many numbers were taken; word 1 the tail, how many were pushed; the
-//! words from 2 on have the numbers, four to a word, each at its count.
-ghost use Rattle.word_ring.specs.Plays.{LoadsHead, StoresLanes, StoresTail, LoadsTail, LoadsLanes, StoresHead, Compares, blank_view, putter_of, taker_of, note_of, head_note_of, with_note, with_head_note, with_putter};
+//! words from 2 on have the numbers, four to a word, each at its count. What is passed with both ends
+//! at hand stands in no word, and no head or tail is stored for it: these are then lower than the
+//! counts. Its numbers go through the one slot, which the taker holds.
+ghost use Rattle.word_ring.specs.Plays.{TakesSlot, LoadsHead, StoresLanes, StoresTail, LoadsTail, LoadsLanes, StoresHead, Compares, PassesOn, blank_view, putter_of, taker_of, note_of, head_note_of, with_note, with_head_note, with_putter};
 
 use atomic_table::{Join, Play, Seat, Shared, Split, Table, TableRule};
 use std::alloc::Global;
@@ -40,12 +42,14 @@ pub struct View {
     pub head: u64,
     /// The tail is at least this.
     pub tail: u64,
+    /// The slot was taken.
+    pub holds: bool,
 }
 
 /// The rule of a ring. Its key is the capacity.
 pub struct Fifo;
 
-impl TableRule<(), View, u64> for Fifo {
+impl TableRule<Slot, View, u64> for Fifo {
     ghost use Rattle.word_ring.specs.Rule.{Ring};
     ghost use Rattle.word_ring.specs.Plays.{both_ends};
 
@@ -54,61 +58,87 @@ impl TableRule<(), View, u64> for Fifo {
     ghost first = { both_ends };
 }
 
-pub(crate) type Board = Table<(), View, u64, Fifo, Global>;
+/// Eight numbers below 256.
+pub(crate) type Slot = [u8; 8];
 
-pub(crate) type Steps = Shared<(), View, u64, Fifo>;
+pub(crate) type Board = Table<Slot, View, u64, Fifo, Global>;
 
-pub(crate) type Place = Seat<(), View>;
+pub(crate) type Steps = Shared<Slot, View, u64, Fifo>;
+
+pub(crate) type Place = Seat<Slot, View>;
 
 pub(crate) struct LoadHead;
 
-impl Play<(), View> for LoadHead {
+impl Play<Slot, View> for LoadHead {
     ghost then = { LoadsHead };
 }
 
 pub(crate) struct StoreLanes<const LANES: u64>;
 
-impl<const LANES: u64> Play<(), View> for StoreLanes<LANES> {
+impl<const LANES: u64> Play<Slot, View> for StoreLanes<LANES> {
     ghost then = { StoresLanes LANES };
 }
 
 pub(crate) struct StoreTail;
 
-impl Play<(), View> for StoreTail {
+impl Play<Slot, View> for StoreTail {
     ghost then = { StoresTail };
 }
 
 pub(crate) struct LoadTail;
 
-impl Play<(), View> for LoadTail {
+impl Play<Slot, View> for LoadTail {
     ghost then = { LoadsTail };
 }
 
 pub(crate) struct LoadLanes;
 
-impl Play<(), View> for LoadLanes {
+impl Play<Slot, View> for LoadLanes {
     ghost then = { LoadsLanes };
 }
 
 pub(crate) struct StoreHead;
 
-impl Play<(), View> for StoreHead {
+impl Play<Slot, View> for StoreHead {
     ghost then = { StoresHead };
 }
 
 pub(crate) struct Compare;
 
-impl Play<(), View> for Compare {
+impl Play<Slot, View> for Compare {
     ghost then = { Compares };
 }
 
-/// The first seat becomes the putter's, and the new one is the taker's.
+/// The numbers in the slot are passed.
+pub(crate) struct Pass;
+
+impl Play<Slot, View> for Pass {
+    ghost then = { PassesOn };
+}
+
+/// The slot is taken.
+pub(crate) struct TakeSlot;
+
+impl Play<Slot, View> for TakeSlot {
+    ghost then = { TakesSlot };
+}
+
+/// The first seat becomes the taker's, and the new one is the putter's.
 pub(crate) struct Apart;
 
 impl Split<View> for Apart {
-    ghost left = { putter_of };
+    ghost left = { taker_of };
 
-    ghost right = { taker_of };
+    ghost right = { putter_of };
+}
+
+/// The new seat has all that the first one had.
+pub(crate) struct Left;
+
+impl Split<View> for Left {
+    ghost left = { λ _. blank_view };
+
+    ghost right = { λ v. v };
 }
 
 /// A note of the putter.

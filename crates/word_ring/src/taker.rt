@@ -32,6 +32,10 @@ pub struct Taker {
     pub(crate) start: usize,
     /// The place of the word that has the latest number that was peeked.
     pub(crate) at: usize,
+    /// How many numbers were pushed, at least.
+    pub(crate) tail: u64,
+    /// The putter was taken over.
+    pub(crate) ended: bool,
 }
 
 impl Model for Taker {
@@ -51,6 +55,7 @@ impl Model for Taker {
 #[derive(Drop)]
 pub struct HeadNote {
     pub(crate) seat: Place,
+    pub(crate) taken: u64,
 }
 
 impl Model for HeadNote {
@@ -85,6 +90,7 @@ impl Taker {
     {
         HeadNote {
             seat: self.board.shared.split_seat::<HeadNoted>(&mut self.seat),
+            taken: self.taken,
         }
     }
 
@@ -96,10 +102,11 @@ impl Taker {
         ensures compared { IsOneWithin self.old.taken note.pushed }
         ensures heads { AreReleased self.old.released note.heads × All (λ h. h ≤ length self.old.taken) note.heads }
     {
-        let Note { seat } = note;
+        let Note { seat, shown } = note;
         let shared = &self.board.shared;
         shared.join_seat::<Noted>(&mut self.seat, seat);
         shared.load::<Compare>(&mut self.seat, HEAD);
+        self.tail = self.tail.max(shown);
         self.next = self.taken;
     }
 
@@ -113,8 +120,9 @@ impl Taker {
         ensures begins { self.old.ended ≡ true → IsPrefix self.old.taken self.old.sent }
     {
         let tail = self.board.shared.load::<LoadTail>(&mut self.seat, TAIL);
+        self.tail = self.tail.max(tail);
         self.next = self.taken;
-        (tail - self.taken) as usize
+        (self.tail - self.taken) as usize
     }
 
     /// The next number after those that were taken or peeked, which a look or a note has shown. It stays
@@ -290,10 +298,13 @@ impl Taker {
             word: _,
             at: _,
             shown: _,
+            head: _,
         } = putter;
         let shared = &self.board.shared;
         shared.join_seat::<Ended>(&mut self.seat, seat);
         shared.load::<Compare>(&mut self.seat, HEAD);
+        self.tail = self.tail.max(sent);
+        self.ended = true;
         self.next = self.taken;
         sent
     }

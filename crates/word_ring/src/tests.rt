@@ -131,7 +131,9 @@ fn notes_and_the_end(rt: HostRuntime) -> Result<(), Fail> {
 }
 
 // Puts a number and takes it.
-fn passes_one(putter: &mut Putter, taker: &mut Taker, x: u16) -> bool {
+fn passes_one(putter: &mut Putter, taker: &mut Taker, x: u16) -> bool
+    ensures { (putter.new.ring ≡ putter.old.ring) × (taker.new.ring ≡ taker.old.ring) }
+{
     if putter.sent() > 1000 || putter.put(x).is_err() {
         return false;
     }
@@ -146,6 +148,7 @@ fn passes_one(putter: &mut Putter, taker: &mut Taker, x: u16) -> bool {
 // Puts sixteen numbers by fours.
 fn puts_sixteen(putter: &mut Putter, first: u16) -> bool
     requires { first < 1000 }
+    ensures { putter.new.ring ≡ putter.old.ring }
 {
     for four in 0..4u16 {
         let x = first + 4 * four;
@@ -159,7 +162,9 @@ fn puts_sixteen(putter: &mut Putter, first: u16) -> bool
 }
 
 // Takes sixteen numbers, eight of them at once and then twice four.
-fn take_sixteen(taker: &mut Taker) -> Option<[u64; 4]> {
+fn take_sixteen(taker: &mut Taker) -> Option<[u64; 4]>
+    ensures { taker.new.ring ≡ taker.old.ring }
+{
     if taker.look() < 16 {
         return None;
     }
@@ -202,6 +207,61 @@ fn pass_by_fours(alloc: Global, lead: u16) -> Result<bool, NoMemory>
         }
     }
     Ok(true)
+}
+
+// Passes eight numbers past the words of the ring.
+fn passes_eight(putter: &mut Putter, taker: &mut Taker, first: u8) -> bool
+    requires few { first < 200 }
+    requires ring { putter.old.ring ≡ taker.old.ring }
+    ensures { (putter.new.ring ≡ putter.old.ring) × (taker.new.ring ≡ taker.old.ring) }
+{
+    if putter.sent() > 1000 || putter.waiting() > 0 || !taker.nothing_waits(putter) {
+        return false;
+    }
+    let bytes = [
+        first,
+        first + 1,
+        first + 2,
+        first + 3,
+        first + 4,
+        first + 5,
+        first + 6,
+        first + 7,
+    ];
+    taker.pass(putter, bytes);
+    true
+}
+
+// Passes eights between sixteens that go through the ring's words, after so many single ones.
+fn pass_past_the_words(alloc: Global, lead: u16) -> Result<bool, NoMemory>
+    requires { lead < 4 }
+{
+    let (mut putter, mut taker) = ring(alloc, 24)?;
+    for x in 0..lead {
+        if !passes_one(&mut putter, &mut taker, x) {
+            return Ok(false);
+        }
+    }
+    for round in 0..5u16 {
+        if !passes_eight(&mut putter, &mut taker, round as u8)
+            || !puts_sixteen(&mut putter, round)
+        {
+            return Ok(false);
+        }
+        match take_sixteen(&mut taker) {
+            Some(words) if are_in_order(words, u64::from(round)) => {}
+            _ => return Ok(false),
+        }
+    }
+    Ok(taker.taken() == u64::from(lead) + 120 && putter.sent() == taker.taken())
+}
+
+#[test]
+fn eights_past_the_words_from_each_lane(rt: HostRuntime) -> Result<(), Fail> {
+    for lead in 0..4u16 {
+        assert!(rt; pass_past_the_words(rt.alloc(), lead)?);
+    }
+    Ok(())
 }
 
 #[test]

@@ -3,7 +3,7 @@
 ghost use Rattle.std.specs.Prelude.{◌≡◌, false, IfOk, IfErr, OnOk, OnErr};
 
 use super::Port;
-use crate::entries::{entry_of_flush, reserve_chars, reserve_entry, starve};
+use crate::entries::{entry_of_flush, reserve_piece, starve};
 use crate::flips::{hand_over, look_at};
 use tty_base::Chars;
 use tty_calls::Denied;
@@ -47,11 +47,8 @@ impl Port {
         ensures flushed { IfOk result (λ flushed. Flushes self.old self.new run part most flushed) }
         ensures err { IfErr result (λ d. Denies d self.old self.new) }
     {
-        reserve_entry(&mut self.journal, &mut self.starved)?;
         let mut chars = Chars::new(self.alloc);
-        reserve_chars(&mut chars, &mut self.starved, most)?;
-        let room = self.terminal.room_for_characters(most);
-        if self.terminal.reserve(room, most).is_err() {
+        if reserve_piece(&mut self.journal, &mut self.terminal, &mut chars, most).is_err() {
             return Err(starve(&mut self.starved));
         }
         let count = look_at(&mut self.flip, &self.terminal).min(most);

@@ -26,6 +26,11 @@ play_window-requires-clause-ring c =
     let s = stands_from (good_steps c.args.bytes.now) c.loop-at.at c.args.port.now c.loop-at.port c.args.putter.now c.loop-at.putter c.args.line.now c.loop-at.line c.args.run c.loop-at.next c.loop-at.invariant.plays c.requires.stands in
     s.between.in_line.has_put.ring
 
+pub play_window-requires-clause-some_room : goal.play_window-requires-clause-some_room
+play_window-requires-clause-some_room c =
+    let s = stands_from (good_steps c.args.bytes.now) c.loop-at.at c.args.port.now c.loop-at.port c.args.putter.now c.loop-at.putter c.args.line.now c.loop-at.line c.args.run c.loop-at.next c.loop-at.invariant.plays c.requires.stands in
+    s.between.in_line.some_room
+
 pub play_window-requires-clause-run : goal.play_window-requires-clause-run
 play_window-requires-clause-run c =
     let s = stands_from (good_steps c.args.bytes.now) c.loop-at.at c.args.port.now c.loop-at.port c.args.putter.now c.loop-at.putter c.args.line.now c.loop-at.line c.args.run c.loop-at.next c.loop-at.invariant.plays c.requires.stands in

@@ -1,6 +1,6 @@
 use Rattle.std.proofs.Common.{ap, arith, length}
 use Rattle.std.proofs.lemmas.List.{length-map}
-use Rattle.uart_line.specs.GoodSteps.{good_character, good_characters}
+use Rattle.tty_base.specs.Characters.{good_character, good_characters}
 use Rattle.uart_line.proofs.Serving.{Serves-later, Serves-all}
 use Rattle.uart_line.proofs.Line.hand_over_good.Goals as goal
 

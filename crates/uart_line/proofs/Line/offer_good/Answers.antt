@@ -1,6 +1,6 @@
 use Rattle.std.proofs.Common.{◌≡◌, ◌+◌, ◌-◌, ◌∷◌, [], ◌++◌, ap, arith, take, length}
 use Rattle.std.proofs.lemmas.List.{take_all}
-use Rattle.uart_line.specs.GoodSteps.{good_character, good_characters}
+use Rattle.tty_base.specs.Characters.{good_character, good_characters}
 use Rattle.uart_line.proofs.Offering.{Offering-none, Offering-more}
 use Rattle.uart_line.proofs.GoodWindows.{map-more}
 use Rattle.uart_line.proofs.Line.offer_good.Goals as goal

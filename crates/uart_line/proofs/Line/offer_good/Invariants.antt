@@ -1,5 +1,5 @@
 use Rattle.std.proofs.Common.{◌-◌, length, take}
-use Rattle.uart_line.specs.GoodSteps.{good_characters}
+use Rattle.tty_base.specs.Characters.{good_characters}
 use Rattle.uart_line.proofs.Offering.{Offering}
 use Rattle.uart_line.proofs.Line.offer_good.Given as goal
 

@@ -1,4 +1,4 @@
-use Rattle.uart_line.specs.GoodSteps.{good_characters}
+use Rattle.tty_base.specs.Characters.{good_characters}
 use Rattle.uart_line.proofs.Serving.{Serves-push}
 use Rattle.std.proofs.Common.{refl}
 use Rattle.uart_line.proofs.Line.pass_good.Goals as goal

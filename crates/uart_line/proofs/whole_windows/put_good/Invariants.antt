@@ -1,5 +1,5 @@
 use Rattle.std.proofs.Common.{◌≡◌, ◌≤◌, ◌+◌, ◌*◌, ◌++◌, take}
-use Rattle.uart_line.specs.GoodSteps.{good_characters}
+use Rattle.tty_base.specs.Characters.{good_characters}
 use Rattle.uart_line.proofs.whole_windows.put_good.Given as goal
 
 abbrev pub invariant-loop-k : goal.invariant-loop-k

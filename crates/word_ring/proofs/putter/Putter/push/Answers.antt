@@ -34,6 +34,7 @@ invariant_of-self c =
       small = search rules;
       at = search rules;
       bare = search rules;
+      head = c.self.invariant.head ∙ sym (ap (λ v. v.head) now);
       shown = p.count ∙ sym (ap (λ v. length v.pushed) now);
       putting = subst (IsPutting c.self.inside.capacity c.self.inside.sent c.self.inside.word) (sym now) (after_push _ _ _ _ p);
     }

@@ -26,6 +26,7 @@ invariant_of-self c =
       small = search rules;
       at = c.place_of_next-self-inside.ensures ∙ ap (place c.self.inside.capacity) next;
       bare = search rules;
+      head = c.self.invariant.head ∙ sym (ap (λ (v : View). v.head) c.store_lanes.ensures.stored);
       shown = c.self.invariant.shown ∙ sym (ap (λ (v : View). length v.pushed) c.store_lanes.ensures.stored);
       putting = subst (IsPutting c.self.inside.capacity (c.self.inside.sent + 4) c.args.four) (sym c.store_lanes.ensures.stored)
           (after_across _ _ _ _ c.self.invariant.putting c.joined-full.result c.args.four c.joined-full.ensures (room_for _ _ 4 c.self.invariant c.self.view_is c.requires.room));

@@ -14,6 +14,7 @@ invariant_of-self c = record {
   small = search rules;
   at = (let same : c.self.inside.sent / 4 ≡ (c.self.inside.sent + 1) / 4 = omega (arith, c.if-sent-lt3.true) in c.self.invariant.at ∙ ap (place c.self.inside.capacity) same);
   bare = search rules;
+  head = search rules;
   shown = search rules;
   putting = after_put _ _ _ _ c.self.invariant.putting c.with_next-self-inside.result c.args.x (c.with_next-self-inside.ensures (c.self.inside.sent % 4) (omega arith))
       (room_for _ _ 1 c.self.invariant c.self.view_is (omega (arith, c.requires.room))) c.if-sent-lt3.true;
@@ -46,6 +47,7 @@ invariant_of-self-2 c =
       small = search rules;
       at = c.place_after-self-inside.ensures;
       bare = search rules;
+      head = c.self.invariant.head ∙ sym (ap (λ (v : View). v.head) c.store_lanes.ensures.stored);
       shown = c.self.invariant.shown ∙ sym (ap (λ (v : View). length v.pushed) c.store_lanes.ensures.stored);
       putting = subst (IsPutting c.self.inside.capacity (c.self.inside.sent + 1) c.with_next-self-inside.result) (sym c.store_lanes.ensures.stored)
           (after_store _ _ _ _ p c.with_next-self-inside.result c.args.x (c.with_next-self-inside.ensures (c.self.inside.sent % 4) (omega arith))

@@ -14,6 +14,7 @@ invariant_of-self c =
       small = search rules;
       at = search rules;
       bare = search rules;
+      head = c.self.invariant.head ∙ sym (ap (λ (v : View). v.head) c.store_lanes.ensures.stored);
       shown = c.self.invariant.shown ∙ sym (ap (λ (v : View). length v.pushed) c.store_lanes.ensures.stored);
       putting = subst (IsPutting c.self.inside.capacity (c.self.inside.sent + 4) c.self.inside.word) (sym c.store_lanes.ensures.stored)
           (after_word _ _ _ _ c.self.invariant.putting c.args.word full (room_for _ _ 4 c.self.invariant c.self.view_is c.requires.room));

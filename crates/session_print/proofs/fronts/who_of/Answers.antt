@@ -2,7 +2,7 @@ use Rattle.std.proofs.Common.{◌∙◌, ap, sym, [], get_or}
 use Rattle.std.proofs.lemmas.Option.{unwrap_or-slice_get}
 use Rattle.session_print.specs.Journals.{who_text}
 use Rattle.session_print.proofs.Pieces.{pointed}
-use Rattle.session_print.proofs.journals.who_of.Goals as goal
+use Rattle.session_print.proofs.fronts.who_of.Goals as goal
 
 pub returns-in-Caller : goal.returns-in-Caller
 returns-in-Caller c =

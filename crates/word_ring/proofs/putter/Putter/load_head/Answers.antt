@@ -1,10 +1,10 @@
-use Rattle.std.proofs.Common.{rules, arith, sym, ap, subst, ◌∙◌, length}
+use Rattle.std.proofs.Common.{rules, arith, sym, ap, subst, ◌∙◌, length, max}
 use Rattle.std.specs.List.Sorted.{IsNonDecreasing}
 use Rattle.word_ring.specs.declared.table.View.{View}
 use Rattle.word_ring.specs.PutterParts.{IsPutting}
 use Rattle.word_ring.proofs.Keeps.{loads_head}
 use Rattle.word_ring.proofs.Putting.{after_load}
-use Rattle.word_ring.proofs.putter.Putter.waiting.Goals as goal
+use Rattle.word_ring.proofs.putter.Putter.load_head.Goals as goal
 
 pub load-head-requires : goal.load-head-requires
 load-head-requires c = (search rules, search rules, loads_head _ _ _ _ c.self.invariant.putting.puts)
@@ -18,13 +18,12 @@ invariant_of-self c = record {
   at = search rules;
   bare = search rules;
   shown = c.self.invariant.shown ∙ sym (ap (λ (v : View). length v.pushed) c.load-head.ensures.2.0);
-  putting = subst (IsPutting c.self.inside.capacity c.self.inside.sent c.self.inside.word) (sym c.load-head.ensures.2.0) (after_load _ _ _ _ c.self.invariant.putting c.load-head.result c.load-head.ensures.2.2);
+  head = search rules;
+  putting = subst (IsPutting c.self.inside.capacity c.self.inside.sent c.self.inside.word) (sym c.load-head.ensures.2.0)
+      (after_load _ _ _ _ c.self.invariant.putting (max c.self.inside.seat.me.0.head c.load-head.result) (omega arith));
 }
 
 pub returns-clause-rise : goal.returns-clause-rise
 returns-clause-rise c =
-    let p = after_load _ _ _ _ c.self.invariant.putting c.load-head.result c.load-head.ensures.2.2 in
+    let p = after_load _ _ _ _ c.self.invariant.putting (max c.self.inside.seat.me.0.head c.load-head.result) (omega arith) in
     subst (λ (v : View). IsNonDecreasing v.heads) (sym c.load-head.ensures.2.0) p.rise
-
-pub returns-clause-most : goal.returns-clause-most
-returns-clause-most c = omega (arith, c.self.invariant.putting.fits, c.load-head.ensures.2.2, ap (λ s. s.capacity) c.self.view_is)

@@ -1,0 +1,136 @@
+-- What the two ends are after some numbers were passed, with all that was put taken before.
+use Rattle.std.proofs.Common.{◌≡◌, ℕ, ◌+◌, ◌-◌, ◌*◌, ◌/◌, ◌%◌, ◌^◌, ◌<◌, ◌≤◌, true, false, List, [], ◌∷◌, ◌++◌, length, drop, max, refl, sym, ap, ◌∙◌, subst, arith, append_assoc, length-append, take-append-drop, take}
+use mathlib.Core.List.{IsPrefix}
+use Rattle.std.specs.List.{All}
+use Rattle.std.specs.List.Sorted.{IsNonDecreasing}
+use Rattle.std.proofs.lemmas.Bool.{false≢true}
+use Rattle.word_ring.specs.declared.putter.Putter.TheInside.{Inside as PutterInside}
+use Rattle.word_ring.specs.declared.taker.Taker.TheInside.{Inside as TakerInside}
+use Rattle.word_ring.specs.declared.table.View.{View}
+use Rattle.word_ring.specs.Ends.{PutterState, TakerState, NothingWaits, Passes, with_loaded, with_all_taken}
+use Rattle.word_ring.specs.Lanes.{lanes, top_lanes, whole_words}
+use Rattle.atomic_table.specs.Table.{Me, rest}
+use Rattle.word_ring.specs.Plays.{with_putter, with_passed, held, putter_of, taker_of}
+use Rattle.word_ring.specs.PutterParts.{putter_state, sent_of, IsPutter, IsPutting}
+use Rattle.word_ring.specs.TakerParts.{taker_state, IsTaker, IsTaking, peeked_of}
+use Rattle.word_ring.specs.Rule.{Slot, place}
+use Rattle.word_ring.proofs.Beginnings.{begins_itself, begins_length}
+use Rattle.word_ring.proofs.LastWord.{whole_of}
+use Rattle.word_ring.proofs.Packing.{lanes_length, lanes_split}
+use Rattle.word_ring.proofs.Putting.{all_pushed}
+use Rattle.word_ring.proofs.Released.{rises_push, below_push}
+use Rattle.word_ring.proofs.Taking.{clean, none_peeked}
+
+-- a list that ends with the four numbers of a word, by its whole words and the word's last lanes
+pub ends_in : (front : List ℕ) (four : ℕ) → whole_words (front ++ lanes four 4) ++ top_lanes four (length (front ++ lanes four 4) % 4) ≡ front ++ lanes four 4
+ends_in front four =
+    let all : List ℕ = front ++ lanes four 4 in
+    let k : ℕ = length all % 4 in
+    let low : List ℕ = front ++ lanes four (4 - k) in
+    let parts : low ++ top_lanes four k ≡ all = append_assoc front (lanes four (4 - k)) (top_lanes four k) ∙ ap (λ (xs : List ℕ). front ++ xs) (lanes_split four k (omega arith)) in
+    let long : length all ≡ length front + 4 = length-append front (lanes four 4) ∙ omega (arith, lanes_length four 4) in
+    let short : length low ≡ length front + (4 - k) = length-append front (lanes four (4 - k)) ∙ omega (arith, lanes_length four (4 - k)) in
+    let whole : whole_words all ≡ low = ap whole_words (sym parts) ∙ whole_of low (top_lanes four k) (omega (arith, ap length parts)) in
+    ap (λ (xs : List ℕ). xs ++ top_lanes four k) whole ∙ parts
+
+module _ (p : PutterInside) (t : TakerInside) (ip : IsPutter p) (it : IsTaker t) (clear : NothingWaits (putter_state p) (taker_state t)) where
+  abbrev v : View
+  v = t.seat.me.0
+
+  abbrev w : View
+  w = p.seat.me.0
+
+  -- what the seat of both ends knows
+  abbrev pub both : View
+  both = with_putter v w
+
+  pub sent_is : w.pushed ≡ sent_of p.sent p.word w
+  sent_is = all_pushed p.capacity p.sent p.word w ip.putting (clear.pushed ∙ sym ip.putting.count)
+
+  pub level : length both.taken ≡ length both.pushed
+  level = clear.taken ∙ sym clear.pushed
+
+  pub whole : length both.written ≤ length both.pushed
+  whole = omega (arith, begins_length w.written (sent_of p.sent p.word w) ip.putting.begins, clear.pushed)
+
+  module _ (bytes : List ℕ) (eight : length bytes ≡ 8) (four : ℕ) (last : lanes four 4 ≡ drop 4 bytes) where
+    abbrev pub passed : View
+    passed = with_passed both bytes
+
+    abbrev all : List ℕ
+    all = w.pushed ++ bytes
+
+    pub size : length all ≡ p.sent + 8
+    size = omega (arith, length-append w.pushed bytes, eight, clear.pushed, ip.putting.count)
+
+    sent_now : sent_of (p.sent + 8) four (putter_of passed) ≡ all
+    sent_now =
+        let front : List ℕ = w.pushed ++ take 4 bytes in
+        let parts : front ++ lanes four 4 ≡ all =
+        append_assoc w.pushed (take 4 bytes) (lanes four 4)
+        ∙ (ap (λ (xs : List ℕ). w.pushed ++ (take 4 bytes ++ xs)) last ∙ ap (λ (xs : List ℕ). w.pushed ++ xs) (take-append-drop 4 bytes)) in
+        let is : whole_words all ++ top_lanes four (length all % 4) ≡ all = subst (λ (xs : List ℕ). whole_words xs ++ top_lanes four (length xs % 4) ≡ xs) parts (ends_in front four) in
+        ap (λ (k : ℕ). whole_words all ++ top_lanes four (k % 4)) (sym size) ∙ is
+
+    -- the seat of both ends was made, given the numbers, and passed them
+    pub passed_by : (left : View) (joined exchanged loaded : Me Slot View) → left ≡ w → joined.0 ≡ with_putter v left → exchanged ≡ (joined.0, (0, bytes) ∷ rest joined.1)
+        → loaded.0 ≡ with_passed exchanged.0 (held exchanged.1) → loaded.0 ≡ passed
+    passed_by left joined exchanged loaded leaves joins gets passes =
+        passes ∙ ((λ i. with_passed (gets i).0 (held (gets i).1)) ∙ (λ i. with_passed ((joins ∙ ap (with_putter v) leaves) i) bytes))
+
+    low : w.head ≤ length all
+    low = omega (arith, clear.known, ip.putting.count, size)
+
+    pub putting : IsPutting p.capacity (p.sent + 8) four (putter_of passed)
+    putting = record {
+      puts = refl;
+      alone = refl;
+      room = it.taking.room ∙ sym clear.capacity;
+      begins = subst (λ (xs : List ℕ). IsPrefix all xs) (sym sent_now) (begins_itself all);
+      pushed = subst (λ (xs : List ℕ). IsPrefix all xs) (sym sent_now) (begins_itself all);
+      count = sym (ap length sent_now ∙ size);
+      fits = omega (arith, size);
+      rise = rises_push w.heads w.head (length all) ip.putting.rise ip.putting.most low;
+      most = below_push w.heads w.head (length all) ip.putting.most low;
+    }
+
+    pub taking : (word start at : ℕ) → start ≡ place t.capacity ((p.sent + 8) / 4) → p.sent + 8 < 2 ^ 64 → IsTaking t.capacity (p.sent + 8) (p.sent + 8) word start at (taker_of passed)
+    taking word start at start_is fits = clean t.capacity (p.sent + 8) word start at (taker_of passed) it.taking.takes it.taking.room (sym size) refl start_is (omega (arith, size, fits))
+        (λ is. absurd (false≢true is)) (λ is. absurd (false≢true is)) (λ _. refl)
+
+    module _ (p' : PutterInside) (t' : TakerInside)
+        (putter_ring : p'.seat.table_id ≡ p.seat.table_id) (putter_view : p'.seat.me.0 ≡ putter_of passed)
+        (putter_is : p' ≡ record p { seat = p'.seat; sent = p.sent + 8; word = four; at = p'.at; shown = p.sent + 8; head = p.sent + 8 })
+        (taker_ring : t'.seat.table_id ≡ t.seat.table_id) (taker_view : t'.seat.me.0 ≡ taker_of passed)
+        (taker_is : t' ≡ record t { seat = t'.seat; taken = p.sent + 8; next = p.sent + 8; start = t'.start; tail = p.sent + 8 })
+        (met : both.taken ≡ both.pushed) (floor : both.tail ≤ length both.pushed) where
+      abbrev sent : List ℕ
+      sent = sent_of p.sent p.word w
+
+      all_is : all ≡ sent ++ bytes
+      all_is = ap (λ (xs : List ℕ). xs ++ bytes) sent_is
+
+      putter_now : putter_state p' ≡ with_loaded (record (putter_state p) { sent = sent ++ bytes; pushed = sent ++ bytes }) (length (sent ++ bytes))
+      putter_now =
+          ap putter_state putter_is
+          ∙ (ap (λ (u : View). record { ring = p'.seat.table_id; capacity = p.capacity; sent = sent_of (p.sent + 8) four u; pushed = u.pushed; heads = u.heads; floor = u.head }) putter_view
+          ∙ (λ i. record { ring = putter_ring i; capacity = p.capacity; sent = (sent_now ∙ all_is) i; pushed = all_is i; heads = w.heads ++ length (all_is i) ∷ []; floor = length (all_is i) }))
+
+      none : peeked_of (p.sent + 8) (p.sent + 8) (taker_of passed) ≡ []
+      none = none_peeked (p.sent + 8) (taker_of passed) size refl
+
+      taker_now : taker_state t' ≡ with_all_taken (taker_state t) (sent ++ bytes)
+      taker_now =
+          ap taker_state taker_is
+          ∙ (ap (λ (u : View). record { ring = t'.seat.table_id; capacity = t.capacity; taken = u.taken; peeked = peeked_of (p.sent + 8) (p.sent + 8) u; released = u.released; tails = u.tails; floor = u.tail; ended = u.puts; sent = u.pushed }) taker_view
+          ∙ (λ i. record { ring = taker_ring i; capacity = t.capacity; taken = all_is i; peeked = none i; released = v.released ++ length (all_is i) ∷ []; tails = v.tails ++ length (all_is i) ∷ []; floor = length (all_is i); ended = sym clear.apart i; sent = sym (it.taking.alone clear.apart) i }))
+
+      pub passes : Passes (putter_state p) (putter_state p') (taker_state t) (taker_state t') bytes
+      passes = record {
+        met = met ∙ sent_is;
+        putter = putter_now;
+        taker = taker_now;
+        floor = omega (arith, floor, ap length sent_is);
+        heads = subst (λ (z : PutterState ℕ). All (λ h. h ≤ length (sent ++ bytes)) z.heads) (sym putter_now) (subst (λ (xs : List ℕ). All (λ h. h ≤ length xs) (w.heads ++ length xs ∷ [])) all_is putting.most);
+        rise = subst (λ (z : PutterState ℕ). IsNonDecreasing z.heads) (sym putter_now) (subst (λ (xs : List ℕ). IsNonDecreasing (w.heads ++ length xs ∷ [])) all_is putting.rise);
+      }

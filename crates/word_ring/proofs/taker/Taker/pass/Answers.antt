@@ -1,0 +1,135 @@
+use Rattle.std.proofs.Common.{rules, arith, refl, sym, ap, subst, ◌∙◌, ◌≡◌, ◌+◌, ◌/◌, ◌≤◌, ◌++◌, ◌∷◌, ℕ, length}
+use Rattle.atomic_table.specs.Table.{rest}
+use Rattle.word_ring.specs.declared.putter.Putter.TheInside.{Inside as PutterInside}
+use Rattle.word_ring.specs.declared.table.View.{View}
+use Rattle.word_ring.specs.declared.taker.Taker.TheInside.{Inside as TakerInside}
+use Rattle.word_ring.specs.Ends.{PutterState, TakerState, NothingWaits, Passes}
+use Rattle.word_ring.specs.Plays.{with_putter, putter_of, taker_of}
+use Rattle.word_ring.specs.PutterParts.{putter_state, IsPutting}
+use Rattle.word_ring.specs.Rule.{place}
+use Rattle.word_ring.specs.TakerParts.{taker_state, IsTaking}
+use Rattle.word_ring.proofs.Keeps.{leaves, ends, parts, passes as keeps_passes}
+use Rattle.word_ring.proofs.Passed.{both, level, whole, passed, size, passed_by, putting, taking, passes}
+use Rattle.word_ring.proofs.taker.Taker.pass.Goals as goal
+use Rattle.word_ring.proofs.taker.Taker.pass.Goals.{After-two_words_on-putter-inside}
+
+pub split_seat-seat-requires : goal.split_seat-seat-requires
+split_seat-seat-requires c = (search rules, search rules, leaves _ _ _ c.putter.invariant.putting.puts c.putter.invariant.putting.alone)
+
+pub join_seat-requires : goal.join_seat-requires
+join_seat-requires c = (search rules, search rules, search rules, search rules, ends _ _ _ _ _ c.self.invariant.taking.takes (ap (λ m. m.0.puts) c.split_seat-seat.ensures.4 ∙ c.putter.invariant.putting.puts))
+
+pub load-sent-requires : goal.load-sent-requires
+load-sent-requires c =
+    let clear : NothingWaits (putter_state c.putter.inside) (taker_state c.self.inside) =
+    subst (λ (z : PutterState ℕ × TakerState ℕ). NothingWaits z.0 z.1) (λ i. (sym c.putter.view_is i, sym c.self.view_is i)) c.requires.clear in
+    let here : c.exchange.new.seat.me.0 ≡ both c.putter.inside c.self.inside c.putter.invariant c.self.invariant clear =
+    ap (λ m. m.0) c.exchange.ensures.3 ∙ (ap (λ m. m.0) c.join_seat.ensures.2 ∙ (λ i. with_putter c.self.inside.seat.me.0 (c.split_seat-seat.ensures.4 i).0)) in
+    let even = level c.putter.inside c.self.inside c.putter.invariant c.self.invariant clear in
+    let stored = whole c.putter.inside c.self.inside c.putter.invariant c.self.invariant clear in (
+      search rules,
+      search rules,
+      keeps_passes _ _ _ _ (ap (λ (u : View). u.puts) here) (ap (λ (u : View). u.takes) here ∙ c.self.invariant.taking.takes)
+          (subst (λ (u : View). length u.taken ≡ length u.pushed) (sym here) even)
+          (subst (λ (u : View). length u.written ≤ length u.pushed) (sym here) stored),
+    )
+
+pub split_seat-requires : goal.split_seat-requires
+split_seat-requires c =
+    let puts = ap (λ (u : View). u.puts) c.load-sent.ensures.2.0 ∙ (ap (λ m. m.0.puts) c.exchange.ensures.3 ∙ ap (λ m. m.0.puts) c.join_seat.ensures.2) in
+    let takes = ap (λ (u : View). u.takes) c.load-sent.ensures.2.0 ∙ (ap (λ m. m.0.takes) c.exchange.ensures.3 ∙ ap (λ m. m.0.takes) c.join_seat.ensures.2) in
+    (search rules, search rules, parts _ _ _ puts (takes ∙ c.self.invariant.taking.takes))
+
+module _ (c : After-two_words_on-putter-inside) where
+  abbrev p : PutterInside
+  p = c.putter.inside
+
+  abbrev t : TakerInside
+  t = c.self.inside
+
+  clear : NothingWaits (putter_state p) (taker_state t)
+  clear = subst (λ (z : PutterState ℕ × TakerState ℕ). NothingWaits z.0 z.1) (λ i. (sym c.putter.view_is i, sym c.self.view_is i)) c.requires.clear
+
+  eight : length c.args.bytes ≡ 8
+  eight = search rules
+
+  now : c.load-sent.new.seat.me.0 ≡ passed p t c.putter.invariant c.self.invariant clear c.args.bytes eight c.last_four-putter-inside.result c.last_four-putter-inside.ensures
+  now = passed_by p t c.putter.invariant c.self.invariant clear c.args.bytes eight c.last_four-putter-inside.result c.last_four-putter-inside.ensures
+      c.split_seat-seat.result.me.0 c.join_seat.new.seat.me c.exchange.new.seat.me c.load-sent.new.seat.me
+      (ap (λ m. m.0) c.split_seat-seat.ensures.4) (ap (λ m. m.0) c.join_seat.ensures.2) c.exchange.ensures.3 c.load-sent.ensures.2.0
+
+  long : length (c.putter.inside.seat.me.0.pushed ++ c.args.bytes) ≡ p.sent + 8
+  long = size p t c.putter.invariant c.self.invariant clear c.args.bytes eight c.last_four-putter-inside.result c.last_four-putter-inside.ensures
+
+  table : c.load-sent.new.seat.table_id ≡ t.seat.table_id
+  table = c.load-sent.ensures.0 ∙ (c.exchange.ensures.0 ∙ c.join_seat.ensures.0)
+
+  one_ring : t.seat.table_id ≡ p.seat.table_id
+  one_ring = ap (λ s. s.ring) c.self.view_is ∙ (sym c.requires.ring ∙ sym (ap (λ s. s.ring) c.putter.view_is))
+
+  putter_view : c.split_seat.result.me.0 ≡ putter_of (passed p t c.putter.invariant c.self.invariant clear c.args.bytes eight c.last_four-putter-inside.result c.last_four-putter-inside.ensures)
+  putter_view = ap (λ m. m.0) c.split_seat.ensures.4 ∙ ap putter_of now
+
+  taker_view : c.split_seat.new.seat.me.0 ≡ taker_of (passed p t c.putter.invariant c.self.invariant clear c.args.bytes eight c.last_four-putter-inside.result c.last_four-putter-inside.ensures)
+  taker_view = ap (λ m. m.0) c.split_seat.ensures.2 ∙ ap taker_of now
+
+  putter_ring : c.split_seat.result.table_id ≡ p.seat.table_id
+  putter_ring = c.split_seat.ensures.3 ∙ (table ∙ one_ring)
+
+  taker_ring : c.split_seat.new.seat.table_id ≡ t.seat.table_id
+  taker_ring = c.split_seat.ensures.0 ∙ table
+
+pub invariant_of-self : goal.invariant_of-self
+invariant_of-self c =
+    let d = (goal.at.invariant_of-self c).After-two_words_on-putter-inside in
+    let view = taker_view d in
+    let it = c.self.invariant in
+    record {
+      table = taker_ring d ∙ it.table;
+      key = it.key;
+      words = ap (λ r. r.words) (taker_ring d) ∙ it.words;
+      small = it.small;
+      slot = c.args.bytes;
+      holds = ap (λ m. m.1) c.split_seat.ensures.2
+          ∙ (c.load-sent.ensures.2.1 ∙ (ap (λ m. m.1) c.exchange.ensures.3 ∙ ap (λ l. (0, c.args.bytes) ∷ rest l) (ap (λ m. m.1) c.join_seat.ensures.2 ∙ it.holds)));
+      tail = sym (ap (λ (u : View). u.tail) view ∙ long d);
+      ended = it.ended ∙ ((clear d).apart ∙ sym (ap (λ (u : View). u.puts) view));
+      taking = subst (IsTaking c.self.inside.capacity (c.putter.inside.sent + 8) (c.putter.inside.sent + 8) c.self.inside.word c.two_words_on-putter-inside.result c.self.inside.at) (sym view)
+          (taking (p d) (t d) c.putter.invariant it (clear d) c.args.bytes (eight d) c.last_four-putter-inside.result c.last_four-putter-inside.ensures
+          c.self.inside.word c.two_words_on-putter-inside.result c.self.inside.at
+          (c.two_words_on-putter-inside.ensures ∙ ap (λ (n : ℕ). place n ((c.putter.inside.sent + 8) / 4)) (clear d).capacity)
+          (omega (arith, c.requires.small, ap (λ s. length s.sent) c.putter.view_is, c.putter.invariant.putting.count)));
+    }
+
+pub invariant_of-putter : goal.invariant_of-putter
+invariant_of-putter c =
+    let d = (goal.at.invariant_of-putter c).After-two_words_on-putter-inside in
+    let view = putter_view d in
+    let ip = c.putter.invariant in
+    record {
+      table = putter_ring d ∙ ip.table;
+      key = ip.key;
+      words = ap (λ r. r.words) (putter_ring d) ∙ ip.words;
+      small = ip.small;
+      at = c.two_words_on-putter-inside.ensures;
+      bare = ap (λ m. m.1) c.split_seat.ensures.4;
+      shown = sym (ap (λ (u : View). length u.pushed) view ∙ long d);
+      head = sym (ap (λ (u : View). u.head) view ∙ long d);
+      putting = subst (IsPutting c.putter.inside.capacity (c.putter.inside.sent + 8) c.last_four-putter-inside.result) (sym view)
+          (putting (p d) (t d) ip c.self.invariant (clear d) c.args.bytes (eight d) c.last_four-putter-inside.result c.last_four-putter-inside.ensures);
+    }
+
+pub returns : goal.returns
+returns c =
+    let d = (goal.at.returns c).After-two_words_on-putter-inside in
+    let here : c.exchange.new.seat.me.0 ≡ both (p d) (t d) c.putter.invariant c.self.invariant (clear d) =
+    ap (λ m. m.0) c.exchange.ensures.3 ∙ (ap (λ m. m.0) c.join_seat.ensures.2 ∙ (λ i. with_putter c.self.inside.seat.me.0 (c.split_seat-seat.ensures.4 i).0)) in
+    let sent : ℕ = c.putter.inside.sent + 8 in
+    let at = c.two_words_on-putter-inside.result in
+    let p' : PutterInside = record c.putter.inside { seat = c.split_seat.result; sent = sent; word = c.last_four-putter-inside.result; at = at; shown = sent; head = sent } in
+    let t' : TakerInside = record c.self.inside { seat = c.split_seat.new.seat; taken = sent; next = sent; start = at; tail = sent } in
+    subst (λ (z : PutterState ℕ × TakerState ℕ). Passes z.0 (putter_state p') z.1 (taker_state t') c.args.bytes) (λ i. (c.putter.view_is i, c.self.view_is i))
+    (passes (p d) (t d) c.putter.invariant c.self.invariant (clear d) c.args.bytes (eight d) c.last_four-putter-inside.result c.last_four-putter-inside.ensures
+    p' t' (putter_ring d) (putter_view d) refl (taker_ring d) (taker_view d) refl
+    (subst (λ (u : View). u.taken ≡ u.pushed) here c.load-sent.ensures.2.2)
+    (subst (λ (u : View). u.tail ≤ length u.pushed) here c.load-sent.ensures.2.3))
