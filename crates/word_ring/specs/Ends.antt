@@ -13,7 +13,7 @@ pub record PutterState (A : Type 0) : Type 0 where
   -- all that was put, the oldest first, and the beginning of them that the other end may find
   pub sent : List A
   pub pushed : List A
-  -- the heads that were loaded: how many the other end had taken at each
+  -- the heads that were loaded or told: how many the other end had taken at each
   pub heads : List ℕ
   -- no later head is lower
   pub floor : ℕ
@@ -25,9 +25,9 @@ pub record TakerState (A : Type 0) : Type 0 where
   -- all that was taken, the oldest first, and what was peeked after it and is not yet released
   pub taken : List A
   pub peeked : List A
-  -- the heads that were stored
+  -- the heads that were stored or told
   pub released : List ℕ
-  -- the tails that were loaded: how many were pushed at each
+  -- the tails that were loaded or told: how many were pushed at each
   pub tails : List ℕ
   -- no later tail is lower
   pub floor : ℕ
@@ -80,11 +80,11 @@ pub record NothingWaits {A : Type 0} (p : PutterState A) (t : TakerState A) : Ty
   pub taken : length t.taken ≡ length p.sent
   pub apart : t.ended ≡ false
 
--- one more head was stored, and all so far are taken
+-- all of these are taken, by one more tail and one more head
 abbrev pub with_all_taken : {A : Type 0} → TakerState A → List A → TakerState A
 with_all_taken t xs = record t { taken = xs; peeked = []; released = t.released ++ length xs ∷ []; tails = t.tails ++ length xs ∷ []; floor = length xs }
 
--- These were put, pushed, looked at and taken, and the head was loaded after it, where nothing waited before.
+-- As if these were put, pushed, looked at and taken, and the head was loaded after it, where nothing waited before.
 pub record Passes {A : Type 0} (p p' : PutterState A) (t t' : TakerState A) (xs : List A) : Type 0 where
   pub met : t.taken ≡ p.sent
   pub putter : p' ≡ with_loaded (record p { sent = p.sent ++ xs; pushed = p.sent ++ xs }) (length (p.sent ++ xs))

@@ -4,7 +4,8 @@
 //! Four numbers share a word of 64 bits. The putter stores a word once for each four numbers and
 //! at a push, and the tail at a push; the taker loads a word once for each four numbers that it
 //! peeks, and stores the head once for all of them. Where both ends are at hand and nothing waits, eight
-//! numbers are passed from the one to the other with no store at all.
+//! numbers are passed from the one to the other with no store at all. So a head that the putter was told
+//! may be higher than the one that it loads, and then counts as loaded; and so for the taker with tails.
 #![tactic(auto)]
 
 mod lanes;
