@@ -1,8 +1,9 @@
 -- The rows of a port's callers: for each name the kinds of the calls under it.
-use Rattle.std.proofs.Common.{◌≡◌, inl, inr, ℕ, zero, suc, ◌<◌, ◌==◌, nat_lt, Bool, true, false, cond, List, [], ◌∷◌, ◌++◌, Option, Some, None, length, map, fold, replicate, refl, ap, sym, ◌∙◌, get_or, set, arith, append_assoc, append-nil, length-append, length-set}
+use Rattle.std.proofs.Common.{◌≡◌, inl, inr, ℕ, zero, suc, ◌+◌, ◌<◌, ◌==◌, nat_lt, Bool, true, false, cond, List, [], ◌∷◌, ◌++◌, Option, Some, None, length, map, fold, replicate, refl, ap, sym, ◌∙◌, get_or, slice_get, take, set, arith, append_assoc, append-nil, length-append, length-set}
 use Rattle.std.specs.Str.{bytes_eq}
 use Rattle.std.specs.List.{list_any, position_or_len}
-use Rattle.std.proofs.lemmas.List.{map-set, get_or-map, map-append, length-map, same_lists, get_or_append_left, get_or-set_same, get_or-set_other}
+use Rattle.std.proofs.lemmas.List.{map-set, get_or-map, map-append, length-map, same_lists, get_or_append_left, get_or-set_same, get_or-set_other, take_more}
+use Rattle.std.proofs.lemmas.Option.{get_or_from_slice_get, slice_get_within}
 use Rattle.std.proofs.lemmas.List.Sums.{position_or_len_is}
 use Rattle.std.proofs.lemmas.List.Quantifiers.{position-Some}
 use Rattle.std.proofs.lemmas.Slice.Eq.{bytes_eq-Decides}
@@ -20,6 +21,18 @@ pub row_added : {X Y : Type 0} (f : X → List Y) (rows : List X) (at : ℕ) (d 
     → map f (set rows at row) ≡ set (map f rows) at (get_or (map f rows) at [] ++ more)
 row_added {X} {Y} f rows at d row more within e =
     map-set f rows at row ∙ ap (set (map f rows) at) (e ∙ ap (λ (xs : List Y). xs ++ more) (sym (get_or-map f rows at d [] within)))
+
+-- the kind of a call more
+pub kind_added : (first row new : List AnswerKind) (calls : List PlainCall) (place : ℕ) (call : PlainCall) (kind : AnswerKind) → slice_get calls place ≡ Some call → kind ≡ answer_kind call → new ≡ row ++ kind ∷ []
+    → row ≡ first ++ map answer_kind (take place calls) → new ≡ first ++ map answer_kind (take (place + 1) calls)
+kind_added first row new calls place call kind at is put before =
+    let here : get_or calls place call ≡ call = get_or_from_slice_get calls place call call at in
+    put
+    ∙ ap (λ (xs : List AnswerKind). xs ++ kind ∷ []) before
+    ∙ append_assoc first (map answer_kind (take place calls)) (kind ∷ [])
+    ∙ ap (λ (k : AnswerKind). first ++ (map answer_kind (take place calls) ++ k ∷ [])) (is ∙ ap answer_kind (sym here))
+    ∙ ap (λ (ks : List AnswerKind). first ++ ks) (sym (map-append answer_kind (take place calls) (get_or calls place call ∷ [])))
+    ∙ ap (λ (cs : List PlainCall). first ++ map answer_kind cs) (sym (take_more calls place call (slice_get_within calls place call at)))
 
 -- ---- a name's number is its place
 

@@ -1,5 +1,4 @@
 ghost use Rattle.std.specs.Prelude.{◌≡◌, ◌≤◌, [], ◌++◌, IfOk, OnOk, length, map, replicate};
-ghost use Rattle.tty_calls.specs.Plain.{call_of};
 ghost use Rattle.tty_calls.specs.Sessions.{session_of, script_of, scripts_over};
 ghost use Rattle.check_text.specs.Callers.{answer_kind as kind_of_call, callers_on, caller_named, kind_at};
 ghost use Rattle.check_text.specs.Building.{rows_after, rows_then, scripts_for};
@@ -8,7 +7,7 @@ use super::kinds::{AnswerKind, answer_kind};
 use std::alloc::Global;
 use text_lines::{is_name, name_of};
 use tty_base::NoMemory;
-use tty_calls::{Call, Names, Script, Session};
+use tty_calls::{Calls, Names, Script, Session};
 
 /// The callers of a port. A caller's number is the place of its name.
 #[derive(Drop)]
@@ -110,17 +109,17 @@ fn add_script(names: &Names, rows: &mut [Vec<AnswerKind>], script: &Script) -> R
     match names.number(&script.name) {
         None => Ok(()),
         Some(caller) => {
-            add_kinds(&mut rows[caller], script.calls.as_slice())?;
+            add_kinds(&mut rows[caller], &script.calls)?;
             Ok(())
         }
     }
 }
 
-fn add_kinds(row: &mut Vec<AnswerKind>, calls: &[Call]) -> Result<(), NoMemory>
-    ensures { OnOk result (row.new.items ≡ row.old.items ++ map kind_of_call (map call_of calls.now)) }
+fn add_kinds(row: &mut Vec<AnswerKind>, calls: &Calls) -> Result<(), NoMemory>
+    ensures { OnOk result (row.new.items ≡ row.old.items ++ map kind_of_call calls.now.items) }
 {
-    for call in calls {
-        row.push(answer_kind(call))?;
+    for place in 0..calls.len() {
+        row.push(answer_kind(&calls.at(place)))?;
     }
     Ok(())
 }

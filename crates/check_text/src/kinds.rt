@@ -18,6 +18,7 @@ pub(crate) enum AnswerKind {
 }
 
 /// The kind of a call.
+#[inline(always)]
 pub(crate) fn answer_kind(call: &Call) -> AnswerKind
     ensures { result ≡ kind_of_call (call_of call.now) }
 {

@@ -12,11 +12,10 @@ use Rattle.std.proofs.lemmas.Option.{slice_get_within, slice_get-get_or, slice_g
 use Rattle.std.proofs.lemmas.List.Quantifiers.{position-Some}
 use Rattle.std.proofs.lemmas.Iterator.Adapters.{position_from-zero}
 use Rattle.std.proofs.lemmas.Slice.Eq.{bytes_eq-Decides}
-use Rattle.tty_calls.specs.declared.calls.Call.{Call}
 use Rattle.tty_calls.specs.declared.sessions.Script.{Script}
 use Rattle.tty_calls.specs.declared.journals.Who.{Who}
 use Rattle.tty_calls.specs.declared.journals.Who.TheVariants.{Caller, Flusher, Line, Clock, Session}
-use Rattle.tty_calls.specs.Plain.{PlainCall, PlainEvent, call_of}
+use Rattle.tty_calls.specs.Plain.{PlainCall, PlainEvent}
 use Rattle.tty_calls.specs.Sessions.{PlainScript, PlainPhase, PlainSession, script_of, scripts_on, scripts_over, names_of, number_in, calls_of, call_at}
 use Rattle.tty_calls.specs.Limits.{IsCallWithin, IsScriptWithin, IsPhaseWithin, IsWithinLimits, call_count}
 use Rattle.journal_check.specs.declared.turns.Turn.{Turn}
@@ -440,21 +439,30 @@ others_in_phase p session k Line step event other = tt
 others_in_phase p session k Clock step event other = tt
 others_in_phase p session k Session step event other = tt
 
--- the call of a step, as it stands in the session
-pub call_there : (p : ℕ) (session : PlainSession) (k c : ℕ) (t : Turn) (step : ℕ) (scripts : List Script) (script : Script) (call : Call) → IsWithinLimits session → k < length session.phases → IsOpen p session k c t
-    → map script_of scripts ≡ (phase_at session k).callers → script ≡ get_or scripts t.script script → call ≡ get_or script.calls.items (step - t.first) call → t.first ≤ step → step < t.first + t.steps
-    → call_at p session c step ≡ Some (call_of call)
-call_there p session k c t step scripts script call limits lt o are script_is call_is first within =
-    let i : ℕ = step - t.first in
+-- the script of a turn, as it stands in the session
+turn_script : (p : ℕ) (session : PlainSession) (k c : ℕ) (t : Turn) (scripts : List Script) (script : Script) (o : IsOpen p session k c t) → map script_of scripts ≡ (phase_at session k).callers → script ≡ get_or scripts t.script script → o.script ≡ script_of script
+turn_script p session k c t scripts script o are script_is =
     let place : t.script < length scripts = omega (arith, slice_get_within (phase_at session k).callers t.script o.script o.found, ap (λ (ss : List PlainScript). length ss) are, length-map scripts script_of) in
     let found : slice_get (map script_of scripts) t.script ≡ Some (script_of script) = slice_get-map script_of scripts t.script ∙ ap (option_map script_of) (slice_get_read scripts (length scripts) t.script script refl place script_is) in
     let both : Some o.script ≡ Some (script_of script) = sym o.found ∙ (ap (λ (ss : List PlainScript). slice_get ss t.script) (sym are) ∙ found) in
-    let same : o.script ≡ script_of script = cc in
-    let below : i < length script.calls.items = omega (arith, o.steps, ap (λ (s : PlainScript). length s.calls) same, length-map script.calls.items call_of) in
-    let read : slice_get (map call_of script.calls.items) i ≡ Some (call_of call) = slice_get-map call_of script.calls.items i ∙ ap (option_map call_of) (slice_get_read script.calls.items (length script.calls.items) i call refl below call_is) in
+    cc
+
+-- it has a call for each step of the turn
+pub step_there : (p : ℕ) (session : PlainSession) (k c : ℕ) (t : Turn) (step : ℕ) (scripts : List Script) (script : Script) → IsOpen p session k c t → map script_of scripts ≡ (phase_at session k).callers → script ≡ get_or scripts t.script script
+    → t.first ≤ step → step < t.first + t.steps → step - t.first < length script.calls.items
+step_there p session k c t step scripts script o are script_is first within =
+    omega (arith, o.steps, ap (λ (s : PlainScript). length s.calls) (turn_script p session k c t scripts script o are script_is))
+
+-- the call of a step, as it stands in the session
+pub call_there : (p : ℕ) (session : PlainSession) (k c : ℕ) (t : Turn) (step : ℕ) (scripts : List Script) (script : Script) (call : PlainCall) → IsWithinLimits session → k < length session.phases → IsOpen p session k c t
+    → map script_of scripts ≡ (phase_at session k).callers → script ≡ get_or scripts t.script script → slice_get script.calls.items (step - t.first) ≡ Some call → t.first ≤ step
+    → call_at p session c step ≡ Some call
+call_there p session k c t step scripts script call limits lt o are script_is read first =
+    let i : ℕ = step - t.first in
+    let same : o.script ≡ script_of script = turn_script p session k c t scripts script o are script_is in
     let at : first_step p session k c + i ≡ step = omega (arith, o.first) in
     ap (λ n. call_at p session c n) (sym at)
-    ∙ call_of_phase p session k c i (call_of call) lt (ap (λ (cs : List PlainCall). slice_get cs i) (open_calls p session k c t limits lt o ∙ ap (λ (s : PlainScript). s.calls) same) ∙ read)
+    ∙ call_of_phase p session k c i call lt (ap (λ (cs : List PlainCall). slice_get cs i) (open_calls p session k c t limits lt o ∙ ap (λ (s : PlainScript). s.calls) same) ∙ read)
 
 pub opened_turns : (p : ℕ) (session : PlainSession) (k i : ℕ) (turns after : List Turn) (names : List (List ℕ)) (scripts : List Script) (script : Script) → IsWithinLimits session → k < length session.phases
     → map script_of scripts ≡ (phase_at session k).callers → script ≡ get_or scripts i script → i < length scripts → script.port ≡ p → names ≡ names_of (scripts_over p session.phases)
@@ -464,7 +472,7 @@ opened_turns p session k i turns after names scripts script limits lt are script
     let at : slice_get (phase_at session k).callers i ≡ Some (script_of script) =
     ap (λ (ss : List PlainScript). slice_get ss i) (sym are) ∙ (slice_get-map script_of scripts i ∙ ap (option_map script_of) (slice_get_read scripts (length scripts) i script refl place script_is)) in
     subst (AreTurnsAmong p session k (take (i + 1) (phase_at session k).callers))
-    (sym (after_is ∙ (λ j. turns_with_next turns (number_in (named j) script.name.bytes) k (sym (length-map script.calls.items call_of) j) i)))
+    (sym (after_is ∙ ap (λ (known : List (List ℕ)). turns_with_next turns (number_in known script.name.bytes) k (length script.calls.items) i) named))
     (opens_turn p session k i turns (script_of script) limits lt at (eq-eqb script.port p on_port) among)
 
 pub skipped_turns : (p : ℕ) (session : PlainSession) (k i : ℕ) (turns after : List Turn) (scripts : List Script) (script : Script) → map script_of scripts ≡ (phase_at session k).callers → script ≡ get_or scripts i script → i < length scripts

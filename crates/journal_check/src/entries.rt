@@ -242,7 +242,7 @@ fn try_by_caller(
     }
     let turn = turns[caller as usize];
     let call = call_in(session, port, terminal.phase(), caller, turn, entry.step);
-    try_of_call(alloc, terminal, counts, caller, call, entry)
+    try_of_call(alloc, terminal, counts, caller, &call, entry)
 }
 
 /// Tries a piece of a flush run.

@@ -119,15 +119,15 @@ pub(crate) fn call_in<'a>(
     caller: u16,
     turn: Turn,
     step: u32,
-) -> &'a Call
+) -> Call<'a>
     requires phase { phase < length (session_of session.now).phases }
     requires limits { IsWithinLimits (session_of session.now) }
     requires open { IsOpen port (session_of session.now) phase caller turn }
     requires first { turn.first ≤ step }
     requires within { step < turn.first + turn.steps }
-    ensures { call_at port (session_of session.now) caller step ≡ Some (call_of result.now) }
+    ensures { call_at port (session_of session.now) caller step ≡ Some (call_of result) }
 {
     let _ = (port, caller);
     let script = &scripts_of(session, phase)[turn.script];
-    &script.calls.as_slice()[step as usize - turn.first]
+    script.calls.at(step as usize - turn.first)
 }

@@ -1,11 +1,10 @@
 -- What comes of callers, one after the other.
 use Rattle.std.specs.Prelude.{MatchBool, OnOk, OnErr, IfOk, IfErr, All, sum, slice_get, ◌^◌}
-use Rattle.std.proofs.Common.{◌≡◌, inl, inr, ℕ, ◌+◌, ◌<◌, List, [], ◌∷◌, ◌++◌, suc, Bool, true, false, ◌||◌, Option, Some, None, Result, Ok, Err, length, map, refl, sym, ◌∙◌, ap, subst, arith, zero-add, length-append}
+use Rattle.std.proofs.Common.{◌≡◌, inl, inr, ℕ, ◌+◌, ◌<◌, List, [], ◌∷◌, ◌++◌, suc, Bool, true, false, ◌||◌, Option, Some, None, Result, Ok, Err, length, refl, sym, ◌∙◌, ap, subst, arith, zero-add, length-append}
 use Rattle.tty_calls.specs.declared.answers.Denied.{Denied}
 use Rattle.tty_calls.specs.declared.answers.Denied.TheVariants.{NoMemory, Full}
 use Rattle.tty_calls.specs.declared.sessions.Script.{Script}
-use Rattle.tty_calls.specs.declared.calls.Call.{Call}
-use Rattle.tty_calls.specs.Plain.{PlainCall, call_of}
+use Rattle.tty_calls.specs.Plain.{PlainCall}
 use Rattle.tty_calls.specs.Limits.{IsCallWithin}
 use Rattle.one_thread.specs.Roles.{PlainRole, role_in, calls_in}
 use Rattle.port_cell.specs.Knowledge.{list_seen}
@@ -22,7 +21,6 @@ use Rattle.many_threads.specs.Crews.{plain_role, plain_cast, CanPlay, CanPlayAll
 use Rattle.many_threads.specs.declared.threads.SeatBack.{SeatBack}
 use Rattle.one_thread.specs.declared.roles.Role.{Role}
 use Rattle.many_threads.specs.declared.crews.CallersBack.{CallersBack}
-use Rattle.many_threads.proofs.PartLemmas.{calls_length}
 
 -- ---- lists
 
@@ -149,25 +147,23 @@ pub crew_can : (p : SharedPort) (scripts : List Script) (cast before : List (Opt
 crew_can p scripts cast before last role ss seat h is = subst (λ (o : Option Role). CanPlay p (length (plain_cast scripts before)) (plain_role scripts o)) is h.can
 
 -- what the last caller's thread needs
-pub record Needs (p : SharedPort) (role : Role) (calls : List PlainCall) (count : ℕ) (seat : PortSeat) : Type 0 where
+pub record Needs (p : SharedPort) (role : Role) (calls : List PlainCall) (seat : PortSeat) : Type 0 where
   pub here : IsHere p role.number seat
   pub known : role.number < sum (name_of_port p).counts
   pub within : All IsCallWithin calls
-  pub few : role.first + count < 2 ^ 32
+  pub few : role.first + length calls < 2 ^ 32
   pub between : IsBetween role.number role.first (list_seen seat)
 
-pub crew_needs : (p : SharedPort) (scripts : List Script) (cast before : List (Option Role)) (last : Option Role) (role : Role) (ss : List PortSeat) (seat : PortSeat) (calls : List Call) → Splits p scripts cast before last ss seat → last ≡ Some role → map call_of calls ≡ calls_in (slice_get scripts role.place) → Needs p role (map call_of calls) (length calls) seat
+pub crew_needs : (p : SharedPort) (scripts : List Script) (cast before : List (Option Role)) (last : Option Role) (role : Role) (ss : List PortSeat) (seat : PortSeat) (calls : List PlainCall) → Splits p scripts cast before last ss seat → last ≡ Some role → calls ≡ calls_in (slice_get scripts role.place) → Needs p role calls seat
 crew_needs p scripts cast before last role ss seat calls h is same =
     let n = length (plain_cast scripts before) in
     let can = crew_can p scripts cast before last role ss seat h is in
-    let few : role.first + length (calls_in (slice_get scripts role.place)) < 2 ^ 32 = can.few in
-    let size : length calls ≡ length (calls_in (slice_get scripts role.place)) = sym (calls_length calls) ∙ ap length same in
     let number : role.number ≡ n = can.number in
     record {
       here = subst (λ (k : ℕ). IsHere p k seat) (sym number) h.here;
       known = subst (λ (k : ℕ). k < sum (name_of_port p).counts) (sym number) can.known;
       within = subst (All IsCallWithin) (sym same) can.within;
-      few = omega arith;
+      few = subst (λ (cs : List PlainCall). role.first + length cs < 2 ^ 32) (sym same) can.few;
       between = subst (λ (k : ℕ). IsBetween k role.first (list_seen seat)) (sym number) (subst (IsBetween n role.first) (sym h.seen) can.between);
     }
 
@@ -177,13 +173,13 @@ crew_none p scripts cast before last ss seat back now h is come seats full =
     subst (λ (roles : List (Option PlainRole)). CallersCome p roles now) (sym (h.roles ∙ ap (λ (o : Option Role). rs ++ plain_role scripts o ∷ []) is))
     (callers_none p rs back now seat come seats full h.here h.seen)
 
-pub crew_more : (p : SharedPort) (scripts : List Script) (cast before : List (Option Role)) (last : Option Role) (role : Role) (ss : List PortSeat) (seat : PortSeat) (calls : List Call) (back now : CallersBack) (one : SeatBack) (k : Bool) → Splits p scripts cast before last ss seat → last ≡ Some role → map call_of calls ≡ calls_in (slice_get scripts role.place)
-    → CallersCome p (plain_cast scripts before) back → CallerComes p role.number role.first (map call_of calls) (list_seen seat) one → IsTold one.result k → now.seats.items ≡ back.seats.items ++ one.seat ∷ [] → now.full ≡ (back.full || k) → CallersCome p (plain_cast scripts cast) now
+pub crew_more : (p : SharedPort) (scripts : List Script) (cast before : List (Option Role)) (last : Option Role) (role : Role) (ss : List PortSeat) (seat : PortSeat) (calls : List PlainCall) (back now : CallersBack) (one : SeatBack) (k : Bool) → Splits p scripts cast before last ss seat → last ≡ Some role → calls ≡ calls_in (slice_get scripts role.place)
+    → CallersCome p (plain_cast scripts before) back → CallerComes p role.number role.first calls (list_seen seat) one → IsTold one.result k → now.seats.items ≡ back.seats.items ++ one.seat ∷ [] → now.full ≡ (back.full || k) → CallersCome p (plain_cast scripts cast) now
 crew_more p scripts cast before last role ss seat calls back now one k h is same come comes told seats full =
     let rs = plain_cast scripts before in
     let r = role_in scripts role in
     let can = crew_can p scripts cast before last role ss seat h is in
-    let first = subst (λ (n : ℕ). CallerComes p n role.first (map call_of calls) (list_seen seat) one) can.number comes in
+    let first = subst (λ (n : ℕ). CallerComes p n role.first calls (list_seen seat) one) can.number comes in
     let second = subst (λ (cs : List PlainCall). CallerComes p (length rs) role.first cs (list_seen seat) one) same first in
     let third = subst (λ xs. CallerComes p (length rs) role.first r.calls xs one) h.seen second in
     subst (λ (roles : List (Option PlainRole)). CallersCome p roles now) (sym (h.roles ∙ ap (λ (o : Option Role). rs ++ plain_role scripts o ∷ []) is))

@@ -1,8 +1,7 @@
 -- What the threads of a phase did, from one step to the next.
-use Rattle.std.proofs.Common.{◌≡◌, ◌≢◌, inl, inr, ℕ, ◌+◌, ◌<◌, ◌≤◌, List, [], ◌∷◌, ◌++◌, suc, Bool, true, false, if◌then◌else◌, ne_eqb, Option, Some, Result, Ok, Err, length, get_or, map, refl, sym, ◌∙◌, ap, subst, arith, append_assoc, append-nil, length-append}
-use Rattle.std.specs.Prelude.{slice_get, All, OnErr, option_map, ◌^◌}
-use Rattle.std.proofs.lemmas.Option.{slice_get-map, slice_get_read, slice_get_within, get_or_from_slice_get}
-use Rattle.tty_calls.specs.declared.calls.Call.{Call}
+use Rattle.std.proofs.Common.{◌≡◌, ◌≢◌, inl, inr, ℕ, ◌+◌, ◌<◌, ◌≤◌, List, [], ◌∷◌, ◌++◌, Bool, true, false, if◌then◌else◌, ne_eqb, Option, Some, Result, Ok, Err, length, refl, sym, ◌∙◌, ap, subst, arith, append_assoc, append-nil, length-append}
+use Rattle.std.specs.Prelude.{slice_get, All, OnErr, ◌^◌}
+use Rattle.std.proofs.lemmas.Option.{slice_get_within, get_or_from_slice_get}
 use Rattle.tty_calls.specs.Limits as limits
 use Rattle.tty_calls.specs.Limits.{byte_count, IsCallWithin}
 use Rattle.tty_base.specs.declared.characters.Flagged.{Flagged}
@@ -13,7 +12,7 @@ use Rattle.uart_line.specs.LineState.{LineState}
 use Rattle.uart_line.specs.Offered.{HandsOver, accepted_list}
 use Rattle.tty_calls.specs.declared.journals.Who.{Who}
 use Rattle.tty_calls.specs.declared.journals.Who.TheVariants.{Caller, Clock}
-use Rattle.tty_calls.specs.Plain.{PlainCall, call_of, handle_of, opens, closes, reads, writes, gets_modes, sets_modes, gets_disc, sets_disc, flushes, steers, counts_input, counts_output, excludes, admits, drains, gets_counts, hangs_up, sends_packet, takes_packet, PlainAnswer, PlainEvent, answered, parted, waited, flushed, ticked, line_ended, clock_ended, caller_ended, phase_ended, hung_up}
+use Rattle.tty_calls.specs.Plain.{PlainCall, handle_of, opens, closes, reads, writes, gets_modes, sets_modes, gets_disc, sets_disc, flushes, steers, counts_input, counts_output, excludes, admits, drains, gets_counts, hangs_up, sends_packet, takes_packet, PlainAnswer, PlainEvent, answered, parted, waited, flushed, ticked, line_ended, clock_ended, caller_ended, phase_ended, hung_up}
 use Rattle.tty_terminal.specs.Makers.{IsByItsMaker}
 use Rattle.tty_terminal.specs.Runs.{is_of_call}
 use Rattle.tty_terminal.specs.Marks.{Marks, marks_after, marks_in}
@@ -40,10 +39,6 @@ use Rattle.one_thread.proofs.Ready.{same_bytes}
 pub each_both : (P : Stamped EntryWithCall → Type 0) (xs ys : List (Stamped EntryWithCall)) → parts.Each P xs → parts.Each P ys → parts.Each P (xs ++ ys)
 each_both P [] ys h k = k
 each_both P (x ∷ xs) ys h k = (h.0, each_both P xs ys h.1 k)
-
-pub calls_length : (calls : List Call) → length (map call_of calls) ≡ length calls
-calls_length [] = refl
-calls_length (x ∷ calls) = ap (λ n. suc n) (calls_length calls)
 
 pub where_err : {A E : Type 0} (r : Result A E) (P Q : Type 0) → (P → Q) → OnErr r P → OnErr r Q
 where_err (Ok x) P Q f h = tt
@@ -138,9 +133,6 @@ caller_plays c first step calls start mid new number at h between one =
     }
 
 -- ---- the calls of a script
-
-pub call_there : (calls : List Call) (i : ℕ) (x : Call) → i < length calls → x ≡ get_or calls i x → slice_get (map call_of calls) i ≡ Some (call_of x)
-call_there calls i x within is = slice_get-map call_of calls i ∙ ap (option_map call_of) (slice_get_read calls (length calls) i x refl within is)
 
 call_within : (calls : List PlainCall) (i : ℕ) (x : PlainCall) → All IsCallWithin calls → slice_get calls i ≡ Some x → IsCallWithin x
 call_within calls i x all is = subst IsCallWithin (get_or_from_slice_get calls i x x is) (all i x (slice_get_within calls i x is))

@@ -1,7 +1,6 @@
 //! What a caller's thread does in a phase: its calls, and their end.
 
-ghost use Rattle.std.specs.Prelude.{◌+◌, ◌<◌, ◌^◌, IfErr, OnOk, OnErr, All, length, map, sum};
-ghost use Rattle.tty_calls.specs.Plain.{call_of};
+ghost use Rattle.std.specs.Prelude.{◌+◌, ◌<◌, ◌^◌, IfErr, OnOk, OnErr, All, length, sum};
 ghost use Rattle.tty_calls.specs.Limits.{IsCallWithin};
 ghost use Rattle.port_cell.specs.Knowledge.{list_seen};
 ghost use Rattle.tty_port.specs.Seen.{IsBetween};
@@ -10,7 +9,7 @@ ghost use Rattle.tty_port.specs.Shared.{IsHere, name_of_port};
 ghost use Rattle.many_threads.specs.Parts.{MakesInRole, PlaysCaller};
 
 use std::sync::Wait;
-use tty_calls::{Call, Denied};
+use tty_calls::{Calls, Denied};
 use tty_port::{Gate, Seat, SharedPort};
 
 /// Makes calls of a caller from this step on, each once the one before is answered.
@@ -20,22 +19,23 @@ fn make_calls<R: Wait, G: Gate>(
     seat: &mut Seat,
     caller: u16,
     first: u32,
-    calls: &[Call],
+    calls: &Calls,
     gate: &G,
 ) -> Result<(), Denied>
     requires seat { IsHere shared.now caller seat.old }
     requires known { caller < sum (name_of_port shared.now).counts }
-    requires within { All IsCallWithin (map call_of calls.now) }
-    requires few { first + length calls.now < 2 ^ 32 }
+    requires within { All IsCallWithin calls.now.items }
+    requires few { first + length calls.now.items < 2 ^ 32 }
     requires between { IsBetween caller first (list_seen seat.old) }
     ensures seat { IsHere shared.now caller seat.new }
-    ensures makes { MakesInRole caller first (map call_of calls.now) (list_seen seat.old) seat.new }
-    ensures ok { OnOk result (IsBetween caller (first + length calls.now) (list_seen seat.new)) }
+    ensures makes { MakesInRole caller first calls.now.items (list_seen seat.old) seat.new }
+    ensures ok { OnOk result (IsBetween caller (first + length calls.now.items) (list_seen seat.new)) }
     ensures full { IfErr result (λ d. IsFull (name_of_port shared.now) d (list_seen seat.new)) }
 {
     let mut step = first;
-    for call in calls {
-        let _answer = shared.call(rt, seat, caller, step, call, gate)?;
+    for place in 0..calls.len() {
+        let call = calls.at(place);
+        let _answer = shared.call(rt, seat, caller, step, &call, gate)?;
         step += 1;
     }
     Ok(())
@@ -48,17 +48,17 @@ pub(crate) fn play_caller<R: Wait, G: Gate>(
     seat: &mut Seat,
     caller: u16,
     first: u32,
-    calls: &[Call],
+    calls: &Calls,
     gate: &G,
 ) -> Result<(), Denied>
     requires seat { IsHere shared.now caller seat.old }
     requires known { caller < sum (name_of_port shared.now).counts }
-    requires within { All IsCallWithin (map call_of calls.now) }
-    requires few { first + length calls.now < 2 ^ 32 }
+    requires within { All IsCallWithin calls.now.items }
+    requires few { first + length calls.now.items < 2 ^ 32 }
     requires between { IsBetween caller first (list_seen seat.old) }
     ensures seat { IsHere shared.now caller seat.new }
-    ensures ok { OnOk result (PlaysCaller caller first (map call_of calls.now) (list_seen seat.old) seat.new) }
-    ensures err { OnErr result (MakesInRole caller first (map call_of calls.now) (list_seen seat.old) seat.new) }
+    ensures ok { OnOk result (PlaysCaller caller first calls.now.items (list_seen seat.old) seat.new) }
+    ensures err { OnErr result (MakesInRole caller first calls.now.items (list_seen seat.old) seat.new) }
     ensures full { IfErr result (λ d. IsFull (name_of_port shared.now) d (list_seen seat.new)) }
 {
     make_calls(rt, shared, seat, caller, first, calls, gate)?;

@@ -1,7 +1,6 @@
 //! The callers of a phase, each on a thread of its own.
 
-ghost use Rattle.std.specs.Prelude.{◌≡◌, ◌++◌, ◌∷◌, [], IfOk, length, map, slice_get, ◌||◌};
-ghost use Rattle.tty_calls.specs.Plain.{call_of};
+ghost use Rattle.std.specs.Prelude.{◌≡◌, ◌++◌, ◌∷◌, [], IfOk, length, slice_get, ◌||◌};
 ghost use Rattle.one_thread.specs.Roles.{calls_in};
 ghost use Rattle.tty_port.specs.Shared.{AreHere, opening_history};
 ghost use Rattle.many_threads.specs.Crews.{plain_cast, CanPlayAll, CallersCome, IsTold};
@@ -14,7 +13,7 @@ use std::snapshot::Snapshot;
 use std::sync::Wait;
 use std::thread::{Scope, Threads};
 use tty_base::NoMemory;
-use tty_calls::{Call, Denied, Script};
+use tty_calls::{Calls, Denied, Script};
 use tty_port::{Gate, Seat, SharedPort};
 
 /// What comes of the callers of a phase: their seats in their order, and whether one of them found the
@@ -25,13 +24,14 @@ pub struct CallersBack {
     pub full: bool,
 }
 
-/// The calls of the script at a place.
-fn calls_at(scripts: &[Script], place: usize) -> &[Call]
-    ensures { map call_of result.now ≡ calls_in (slice_get scripts.now place) }
+/// The calls of the script at a place; none where no script stands.
+fn calls_at<'a>(scripts: &'a [Script], place: usize, none: &'a Calls) -> &'a Calls
+    requires { none.now.items ≡ [] }
+    ensures { result.now.items ≡ calls_in (slice_get scripts.now place) }
 {
     match scripts.get(place) {
-        Some(script) => script.calls.as_slice(),
-        None => &[],
+        Some(script) => &script.calls,
+        None => none,
     }
 }
 
@@ -73,10 +73,12 @@ pub(crate) fn play_callers<'s, E, R: Threads + Wait + Sync, G: Gate + Sync>(
     mut seats: Vec<Seat>,
     cast: &[Option<Role>],
     scripts: &'s [Script],
+    none: &'s Calls,
 ) -> Result<CallersBack, NoMemory>
     requires seats { AreHere shared.now (opening_history shared.now) 0 seats.items }
     requires count { length seats.items ≡ length cast.now }
     requires cast { CanPlayAll shared.now 0 (plain_cast scripts.now cast.now) }
+    requires none { none.now.items ≡ [] }
     ensures { IfOk result (λ back. CallersCome shared.now (plain_cast scripts.now cast.now) back) }
 {
     let Some((last, before)) = cast.split_last() else {
@@ -87,12 +89,12 @@ pub(crate) fn play_callers<'s, E, R: Threads + Wait + Sync, G: Gate + Sync>(
         unreachable!()
     };
     let Some(role) = *last else {
-        let others = play_callers(scope, rt, shared, gate, start, seats, before, scripts)?;
+        let others = play_callers(scope, rt, shared, gate, start, seats, before, scripts, none)?;
         return with_seat(others, seat, false);
     };
     let caller = role.number;
     let first = role.first;
-    let calls = calls_at(scripts, role.place);
+    let calls = calls_at(scripts, role.place, none);
     let promise = CallerPromise {
         shared,
         seat: Snapshot::of(&seat),
@@ -101,7 +103,7 @@ pub(crate) fn play_callers<'s, E, R: Threads + Wait + Sync, G: Gate + Sync>(
         calls,
     };
     let child = start_caller(scope, rt, gate, start, seat, promise)?;
-    let others = play_callers(scope, rt, shared, gate, start, seats, before, scripts);
+    let others = play_callers(scope, rt, shared, gate, start, seats, before, scripts, none);
     let SeatBack { seat, result } = child.join(rt)?;
     let full = is_full(result)?;
     with_seat(others?, seat, full)

@@ -1,6 +1,6 @@
 //! The threads of a phase, side by side.
 
-ghost use Rattle.std.specs.Prelude.{◌≡◌, ◌+◌, ◌-◌, ◌≤◌, ◌^◌, false, IsTrue, IfOk, List, All, length};
+ghost use Rattle.std.specs.Prelude.{◌≡◌, ◌+◌, ◌-◌, ◌≤◌, ◌^◌, false, IsTrue, IfOk, List, [], All, length};
 ghost use Rattle.tty_base.specs.Lines.{is_step, arrival_count};
 ghost use Rattle.tty_base.specs.declared.lines.LineStep.{LineStep};
 ghost use Rattle.uart_line.specs.LineState.{HasDone};
@@ -24,7 +24,7 @@ use std::sync::Wait;
 use std::thread;
 use std::thread::{Scope, Threads};
 use tty_base::NoMemory;
-use tty_calls::Script;
+use tty_calls::{Calls, Script};
 use tty_port::{Gate, Seat, SharedPort};
 
 /// The flusher's thread, beside those of the callers.
@@ -39,12 +39,14 @@ fn flush_and_call<'s, E, R: Threads + Wait + Sync, G: Gate + Sync>(
     callers: Vec<Seat>,
     cast: &[Option<Role>],
     scripts: &'s [Script],
+    none: &'s Calls,
 ) -> Result<(FlusherBack, CallersBack), NoMemory>
     requires flusher { IsHere shared.now (name_of_port shared.now).callers flusher }
     requires next { run ≡ next_run (list_seen flusher) }
     requires callers { AreHere shared.now (opening_history shared.now) 0 callers.items }
     requires count { length callers.items ≡ length cast.now }
     requires cast { CanPlayAll shared.now 0 (plain_cast scripts.now cast.now) }
+    requires none { none.now.items ≡ [] }
     ensures flusher { IfOk result (λ r. FlusherComes shared.now run flusher r.0) }
     ensures callers { IfOk result (λ r. CallersCome shared.now (plain_cast scripts.now cast.now) r.1) }
 {
@@ -54,7 +56,7 @@ fn flush_and_call<'s, E, R: Threads + Wait + Sync, G: Gate + Sync>(
         run,
     };
     let child = start_flusher(scope, rt, start, flusher, promise)?;
-    let others = play_callers(scope, rt, shared, gate, start, callers, cast, scripts);
+    let others = play_callers(scope, rt, shared, gate, start, callers, cast, scripts, none);
     let flusher = child.join(rt)?;
     Ok((flusher, others?))
 }
@@ -73,6 +75,7 @@ fn tick_and_flush<'s, E, R: Threads + Wait + Sync, G: Gate + Sync>(
     callers: Vec<Seat>,
     cast: &[Option<Role>],
     scripts: &'s [Script],
+    none: &'s Calls,
 ) -> Result<(SeatBack, (FlusherBack, CallersBack)), NoMemory>
     requires clock { IsHere shared.now ((name_of_port shared.now).callers + 2) clock }
     requires not_over { (marks_at (list_seen clock)).clock_over ≡ false }
@@ -81,6 +84,7 @@ fn tick_and_flush<'s, E, R: Threads + Wait + Sync, G: Gate + Sync>(
     requires callers { AreHere shared.now (opening_history shared.now) 0 callers.items }
     requires count { length callers.items ≡ length cast.now }
     requires cast { CanPlayAll shared.now 0 (plain_cast scripts.now cast.now) }
+    requires none { none.now.items ≡ [] }
     ensures clock { IfOk result (λ r. ClockComes shared.now ticks (list_seen clock) r.0) }
     ensures flusher { IfOk result (λ r. FlusherComes shared.now run flusher r.1.0) }
     ensures callers { IfOk result (λ r. CallersCome shared.now (plain_cast scripts.now cast.now) r.1.1) }
@@ -92,7 +96,7 @@ fn tick_and_flush<'s, E, R: Threads + Wait + Sync, G: Gate + Sync>(
     };
     let child = start_clock(scope, rt, start, clock, promise)?;
     let others = flush_and_call(
-        scope, rt, shared, gate, start, flusher, run, callers, cast, scripts,
+        scope, rt, shared, gate, start, flusher, run, callers, cast, scripts, none,
     );
     let clock = child.join(rt)?;
     Ok((clock, others?))
@@ -117,6 +121,7 @@ fn run_line<'s, E, R: Threads + Wait + Sync, G: Gate + Sync>(
     callers: Vec<Seat>,
     cast: &[Option<Role>],
     scripts: &'s [Script],
+    none: &'s Calls,
 ) -> Result<(LineBack, (SeatBack, (FlusherBack, CallersBack))), NoMemory>
     requires line { IsHere shared.now ((name_of_port shared.now).callers + 1) line }
     requires line_not_over { (marks_at (list_seen line)).line_over ≡ false }
@@ -133,6 +138,7 @@ fn run_line<'s, E, R: Threads + Wait + Sync, G: Gate + Sync>(
     requires callers { AreHere shared.now (opening_history shared.now) 0 callers.items }
     requires count { length callers.items ≡ length cast.now }
     requires cast { CanPlayAll shared.now 0 (plain_cast scripts.now cast.now) }
+    requires none { none.now.items ≡ [] }
     ensures line { IfOk result (λ r. LineComes shared.now steps.now.items receiver.line receiver.putter (list_seen line) r.0) }
     ensures clock { IfOk result (λ r. ClockComes shared.now ticks (list_seen clock) r.1.0) }
     ensures flusher { IfOk result (λ r. FlusherComes shared.now run flusher r.1.1.0) }
@@ -148,7 +154,7 @@ fn run_line<'s, E, R: Threads + Wait + Sync, G: Gate + Sync>(
         scope, rt, alloc, gate, start, line, receiver, phase, promise,
     )?;
     let others = tick_and_flush(
-        scope, rt, shared, gate, start, clock, ticks, flusher, run, callers, cast, scripts,
+        scope, rt, shared, gate, start, clock, ticks, flusher, run, callers, cast, scripts, none,
     );
     let line = child.join(rt)?;
     Ok((line, others?))
@@ -195,16 +201,18 @@ pub fn run_threads<R: Threads + Wait + Sync, G: Gate + Sync>(
 {
     let one = Start::new();
     let start = &one;
+    let no_calls = Calls::new(alloc);
+    let none = &no_calls;
     thread::scope(
         thread::scope_env(),
         rt,
         move |scope| -> Result<(LineBack, (SeatBack, (FlusherBack, CallersBack))), NoMemory>
-            requires { IsHere shared.now ((name_of_port shared.now).callers + 1) line × ((marks_at (list_seen line)).line_over ≡ false) × (receiver.putter.ring ≡ (name_of_port shared.now).ring) × ((marks_at (list_seen line)).sent ≤ length receiver.putter.sent) × ((before : List LineStep) × HasDone receiver.line before) × All (λ step. IsTrue (is_step step)) steps.now.items × (receiver.line.report.arrived + arrival_count steps.now.items ≤ receiver.line.most) × (receiver.line.most ≤ (2 ^ 63 - length receiver.putter.sent) + receiver.line.handed) × IsHere shared.now ((name_of_port shared.now).callers + 2) clock × ((marks_at (list_seen clock)).clock_over ≡ false) × IsHere shared.now (name_of_port shared.now).callers flusher × (run ≡ next_run (list_seen flusher)) × AreHere shared.now (opening_history shared.now) 0 callers.items × (length callers.items ≡ length cast.now) × CanPlayAll shared.now 0 (plain_cast scripts.now cast.now) }
+            requires { IsHere shared.now ((name_of_port shared.now).callers + 1) line × ((marks_at (list_seen line)).line_over ≡ false) × (receiver.putter.ring ≡ (name_of_port shared.now).ring) × ((marks_at (list_seen line)).sent ≤ length receiver.putter.sent) × ((before : List LineStep) × HasDone receiver.line before) × All (λ step. IsTrue (is_step step)) steps.now.items × (receiver.line.report.arrived + arrival_count steps.now.items ≤ receiver.line.most) × (receiver.line.most ≤ (2 ^ 63 - length receiver.putter.sent) + receiver.line.handed) × IsHere shared.now ((name_of_port shared.now).callers + 2) clock × ((marks_at (list_seen clock)).clock_over ≡ false) × IsHere shared.now (name_of_port shared.now).callers flusher × (run ≡ next_run (list_seen flusher)) × AreHere shared.now (opening_history shared.now) 0 callers.items × (length callers.items ≡ length cast.now) × CanPlayAll shared.now 0 (plain_cast scripts.now cast.now) × (none.now.items ≡ []) }
             ensures { IfOk result (λ r. LineComes shared.entry.now steps.entry.now.items receiver.line receiver.putter (list_seen line) r.0) × IfOk result (λ r. ClockComes shared.entry.now ticks (list_seen clock) r.1.0) × IfOk result (λ r. FlusherComes shared.entry.now run flusher r.1.1.0) × IfOk result (λ r. CallersCome shared.entry.now (plain_cast scripts.entry.now cast.entry.now) r.1.1.1) }
         {
             run_line(
                 scope, rt, alloc, shared, gate, start, line, receiver, steps, phase, clock, ticks,
-                flusher, run, callers, cast, scripts,
+                flusher, run, callers, cast, scripts, none,
             )
         },
     )

@@ -1,11 +1,10 @@
 //! How the threads of a phase are made, each with a promise of what comes of it. Where one cannot be made,
 //! those that were made give up.
 
-ghost use Rattle.std.specs.Prelude.{◌≡◌, ◌+◌, ◌-◌, ◌<◌, ◌≤◌, ◌^◌, false, IsTrue, IfOk, List, All, length, map, sum};
+ghost use Rattle.std.specs.Prelude.{◌≡◌, ◌+◌, ◌-◌, ◌<◌, ◌≤◌, ◌^◌, false, IsTrue, IfOk, List, All, length, sum};
 ghost use Rattle.tty_base.specs.Lines.{is_step, arrival_count};
 ghost use Rattle.tty_base.specs.declared.lines.LineStep.{LineStep};
 ghost use Rattle.uart_line.specs.LineState.{HasDone};
-ghost use Rattle.tty_calls.specs.Plain.{call_of};
 ghost use Rattle.tty_calls.specs.Limits.{IsCallWithin};
 ghost use Rattle.port_cell.specs.Knowledge.{list_seen};
 ghost use Rattle.tty_port.specs.Seen.{IsBetween, marks_at, next_run};
@@ -23,7 +22,7 @@ use std::snapshot::Snapshot;
 use std::sync::Wait;
 use std::thread::{Promise, PromisedHandle, Scope};
 use tty_base::NoMemory;
-use tty_calls::Call;
+use tty_calls::Calls;
 use tty_port::{Gate, Seat, SharedPort};
 
 /// A caller's thread makes these calls, from this seat.
@@ -33,11 +32,11 @@ pub(crate) struct CallerPromise<'s> {
     pub(crate) seat: Snapshot<Seat>,
     pub(crate) caller: u16,
     pub(crate) first: u32,
-    pub(crate) calls: &'s [Call],
+    pub(crate) calls: &'s Calls,
 }
 
 impl<'s> Promise<Result<SeatBack, NoMemory>> for CallerPromise<'s> {
-    ghost kept_by = { λ p r. IfOk r (CallerComes p.shared.now p.caller p.first (map call_of p.calls.now) (list_seen p.seat.value)) };
+    ghost kept_by = { λ p r. IfOk r (CallerComes p.shared.now p.caller p.first p.calls.now.items (list_seen p.seat.value)) };
 }
 
 /// The clock's thread makes so many ticks, from this seat.
@@ -88,8 +87,8 @@ pub(crate) fn start_caller<'s, E, R: Wait + Sync, G: Gate + Sync>(
 ) -> Result<PromisedHandle<Result<SeatBack, NoMemory>, CallerPromise<'s>>, NoMemory>
     requires seat { IsHere promise.shared.now promise.caller seat }
     requires known { promise.caller < sum (name_of_port promise.shared.now).counts }
-    requires within { All IsCallWithin (map call_of promise.calls.now) }
-    requires few { promise.first + length promise.calls.now < 2 ^ 32 }
+    requires within { All IsCallWithin promise.calls.now.items }
+    requires few { promise.first + length promise.calls.now.items < 2 ^ 32 }
     requires between { IsBetween promise.caller promise.first (list_seen seat) }
     requires of_seat { promise.seat.value ≡ seat }
     ensures { IfOk result (λ h. h.promise ≡ promise.entry) }
@@ -101,8 +100,8 @@ pub(crate) fn start_caller<'s, E, R: Wait + Sync, G: Gate + Sync>(
     let made = scope.spawn_with(
         promise,
         move || -> Result<SeatBack, NoMemory>
-            requires { IsHere shared.now caller seat × (caller < sum (name_of_port shared.now).counts) × All IsCallWithin (map call_of calls.now) × (first + length calls.now < 2 ^ 32) × IsBetween caller first (list_seen seat) }
-            ensures { IfOk result (CallerComes shared.entry.now caller first (map call_of calls.entry.now) (list_seen seat)) }
+            requires { IsHere shared.now caller seat × (caller < sum (name_of_port shared.now).counts) × All IsCallWithin calls.now.items × (first + length calls.now.items < 2 ^ 32) × IsBetween caller first (list_seen seat) }
+            ensures { IfOk result (CallerComes shared.entry.now caller first calls.entry.now.items (list_seen seat)) }
         { caller_thread(rt, shared, gate, start, seat, caller, first, calls) },
     );
     match made {

@@ -1,10 +1,9 @@
 //! The threads of a phase: what each is given, and what it brings back. None acts before all are made.
 
-ghost use Rattle.std.specs.Prelude.{◌≡◌, ◌+◌, ◌-◌, ◌<◌, ◌≤◌, ◌^◌, false, IsTrue, IfOk, List, All, length, map, sum};
+ghost use Rattle.std.specs.Prelude.{◌≡◌, ◌+◌, ◌-◌, ◌<◌, ◌≤◌, ◌^◌, false, IsTrue, IfOk, List, All, length, sum};
 ghost use Rattle.tty_base.specs.Lines.{is_step, arrival_count};
 ghost use Rattle.tty_base.specs.declared.lines.LineStep.{LineStep};
 ghost use Rattle.uart_line.specs.LineState.{HasDone};
-ghost use Rattle.tty_calls.specs.Plain.{call_of};
 ghost use Rattle.tty_calls.specs.Limits.{IsCallWithin};
 ghost use Rattle.port_cell.specs.Knowledge.{list_seen};
 ghost use Rattle.tty_port.specs.Seen.{IsBetween, marks_at, next_run};
@@ -19,7 +18,7 @@ use crate::starts::Start;
 use flip_buffer::FlipIn;
 use std::sync::Wait;
 use tty_base::{LineStep, NoMemory};
-use tty_calls::{Call, Denied};
+use tty_calls::{Calls, Denied};
 use tty_port::{Gate, Seat, SharedPort};
 use uart_line::Line;
 
@@ -61,14 +60,14 @@ pub(crate) fn caller_thread<R: Wait, G: Gate>(
     mut seat: Seat,
     caller: u16,
     first: u32,
-    calls: &[Call],
+    calls: &Calls,
 ) -> Result<SeatBack, NoMemory>
     requires seat { IsHere shared.now caller seat }
     requires known { caller < sum (name_of_port shared.now).counts }
-    requires within { All IsCallWithin (map call_of calls.now) }
-    requires few { first + length calls.now < 2 ^ 32 }
+    requires within { All IsCallWithin calls.now.items }
+    requires few { first + length calls.now.items < 2 ^ 32 }
     requires between { IsBetween caller first (list_seen seat) }
-    ensures { IfOk result (CallerComes shared.now caller first (map call_of calls.now) (list_seen seat)) }
+    ensures { IfOk result (CallerComes shared.now caller first calls.now.items (list_seen seat)) }
 {
     start.wait(rt)?;
     let result = play_caller(rt, shared, &mut seat, caller, first, calls, gate);

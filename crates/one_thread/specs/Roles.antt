@@ -2,7 +2,7 @@
 use Rattle.std.specs.Prelude.{◌≡◌, ◌≢◌, ◌<◌, ◌+◌, ℕ, List, [], Option, None, Some, All, AllPairs, Contains, length, map, sum, slice_get, slice_index_or}
 use Rattle.tty_calls.specs.declared.sessions.Script.{Script}
 use Rattle.tty_calls.specs.declared.sessions.Session.{Session}
-use Rattle.tty_calls.specs.Plain.{PlainCall, call_of}
+use Rattle.tty_calls.specs.Plain.{PlainCall}
 use Rattle.tty_calls.specs.Limits.{IsCallWithin}
 use Rattle.tty_calls.specs.Sessions.{PlainSession, session_of, scripts_over, names_of, call_at, counts_on}
 use Rattle.tty_terminal.specs.Steps.{callers_in}
@@ -27,7 +27,7 @@ pub record PlainRole : Type 0 where
 -- the calls of a script
 abbrev pub calls_in : Option Script → List PlainCall
 calls_in None = []
-calls_in (Some script) = map call_of script.calls.items
+calls_in (Some script) = script.calls.items
 
 -- a role, with its script among those of the phase
 abbrev pub role_in : List Script → Role → PlainRole

@@ -101,12 +101,12 @@ fn turn_of(port: &Port, roles: &[Role], going: Option<usize>) -> Turn
 }
 
 /// The call of a caller's step, where the phase has one more.
-fn next_call<'a>(role: &Role, scripts: &'a [Script], step: u32) -> Option<&'a Call>
+fn next_call<'a>(role: &Role, scripts: &'a [Script], step: u32) -> Option<Call<'a>>
     requires { role.now.first ≤ step }
-    ensures { MatchOption result (slice_get (calls_in (slice_get scripts.now role.now.place)) (step - role.now.first) ≡ None) (λ call. slice_get (calls_in (slice_get scripts.now role.now.place)) (step - role.now.first) ≡ Some (call_of call.now)) }
+    ensures { MatchOption result (slice_get (calls_in (slice_get scripts.now role.now.place)) (step - role.now.first) ≡ None) (λ call. slice_get (calls_in (slice_get scripts.now role.now.place)) (step - role.now.first) ≡ Some (call_of call)) }
 {
     let script = scripts.get(role.place)?;
-    script.calls.as_slice().get((step - role.first) as usize)
+    script.calls.get((step - role.first) as usize)
 }
 
 /// After an entry that is no flush: the next flush begins a run, and no write goes on.
@@ -221,7 +221,7 @@ fn go_on(
     let role = &roles[place];
     let step = port.caller(role.number).next;
     match next_call(role, scripts, step) {
-        Some(call) => try_call(port, roles, scripts, place, call, stand),
+        Some(call) => try_call(port, roles, scripts, place, &call, stand),
         None => {
             port.caller_end(role.number)?;
             Ok(rest(stand))

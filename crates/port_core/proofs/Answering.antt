@@ -3,7 +3,7 @@ use Rattle.std.specs.Prelude.{MatchBool}
 use Rattle.std.proofs.Common.{◌≡◌, ℕ, List, [], ◌∷◌, ◌++◌, Bool, ◌&&◌, Option, None, Some, is_some, ◌+◌, ◌<◌, ◌≤◌, length, set, refl, sym, ◌∙◌, ap, subst, arith, append-nil}
 use Rattle.tty_base.specs.declared.characters.Flagged.{Flagged}
 use Rattle.word_ring.specs.Ends.{TakerState}
-use Rattle.tty_calls.specs.declared.calls.Call.{Call}
+use Rattle.port_core.specs.declared.waiting.WaitingCall.{WaitingCall}
 use Rattle.tty_calls.specs.Plain.{PlainCall, handle_of, call_of, PlainAnswer, answered, parted, waited, PlainEntry}
 use Rattle.ldisc_switch.specs.Disciplines.{column_in}
 use Rattle.tty_terminal.specs.Terminals.{Terminal, caller_at, has_begun}
@@ -13,13 +13,13 @@ use Rattle.tty_terminal.specs.Steps.{Answers, Drops, MustWait, TakesPart, left_b
 use Rattle.port_core.specs.Flips.{DropsShown}
 use Rattle.port_core.specs.Ports.{PortValue, call_in, kept_with, with_call, with_entry, caller_entry}
 use Rattle.port_core.specs.Attempts.{IsReady, AnswersCall, TakesPartOf, MustGoOnWaiting}
-use Rattle.port_core.specs.Inside.{KeepsCalls}
+use Rattle.port_core.specs.Inside.{call_waiting, KeepsCalls}
 use Rattle.port_core.proofs.GoingOn.{port_callers}
 use Rattle.port_core.proofs.Calls.{known_call, answered_holds, parted_holds, waited_holds, call_goes_on}
 use Rattle.port_core.proofs.Handing.{when_false}
 
 -- what the attempt of a call finds
-pub record IsTried (v : PortValue) (slots : List (Option Call)) (c step : ℕ) (call : PlainCall) : Type 0 where
+pub record IsTried (v : PortValue) (slots : List (Option WaitingCall)) (c step : ℕ) (call : PlainCall) : Type 0 where
   pub keeps : KeepsCalls v slots
   pub few : length v.journal < v.limit
   pub ready : IsReady v c step call
@@ -29,16 +29,16 @@ abbrev pub after_call : PortValue → ℕ → ℕ → PlainCall → Terminal →
 after_call v c step call u f e =
     record v { terminal = u; journal = v.journal ++ e ∷ []; kept = kept_with (has_begun (caller_at v.terminal c)) v.kept c step call; flip = f }
 
-found_now : (v : PortValue) (slots : List (Option Call)) (c step : ℕ) (call : PlainCall) → IsTried v slots c step call
+found_now : (v : PortValue) (slots : List (Option WaitingCall)) (c step : ℕ) (call : PlainCall) → IsTried v slots c step call
     → call_in (kept_with (has_begun (caller_at v.terminal c)) v.kept c step call) c (caller_at v.terminal c).next ≡ Some call
 found_now v slots c step call h =
     subst (λ n. call_in (kept_with (has_begun (caller_at v.terminal c)) v.kept c step call) c n ≡ Some call) h.ready.next (known_call v c step call h.keeps.port h.ready)
 
-known_now : (v : PortValue) (slots : List (Option Call)) (c step : ℕ) (call : PlainCall) → IsTried v slots c step call → c < length v.terminal.callers
+known_now : (v : PortValue) (slots : List (Option WaitingCall)) (c step : ℕ) (call : PlainCall) → IsTried v slots c step call → c < length v.terminal.callers
 known_now v slots c step call h = subst (λ n. c < n) (sym (port_callers v h.keeps.port)) h.ready.known
 
 -- the call is answered
-pub answers_call : (v now : PortValue) (slots : List (Option Call)) (c step : ℕ) (call : PlainCall) (a : PlainAnswer) (dropped : List Flagged) (u : Terminal) (f : TakerState Flagged) → IsTried v slots c step call
+pub answers_call : (v now : PortValue) (slots : List (Option WaitingCall)) (c step : ℕ) (call : PlainCall) (a : PlainAnswer) (dropped : List Flagged) (u : Terminal) (f : TakerState Flagged) → IsTried v slots c step call
     → Answers (is_some (caller_at v.terminal c).waits && quiet v.counts v.terminal) (outcome v.terminal (caller_at v.terminal c) call) a
     → Drops v.terminal (outcome v.terminal (caller_at v.terminal c) call) (length dropped)
     → MatchBool (drops_of (outcome v.terminal (caller_at v.terminal c) call)) (DropsShown v.terminal v.flip f dropped) ((dropped ≡ []) × (f ≡ v.flip))
@@ -71,7 +71,7 @@ answers_call v now slots c step call a dropped u f h answers drops shown taken f
     )
 
 -- a part of a write is taken
-pub takes_part_of : (v now : PortValue) (slots : List (Option Call)) (c step : ℕ) (call : PlainCall) (n : ℕ) (u : Terminal) → IsTried v slots c step call
+pub takes_part_of : (v now : PortValue) (slots : List (Option WaitingCall)) (c step : ℕ) (call : PlainCall) (n : ℕ) (u : Terminal) → IsTried v slots c step call
     → TakesPart (outcome v.terminal (caller_at v.terminal c) call) n
     → u ≡ left_by (outcome v.terminal (caller_at v.terminal c) call) v.terminal → column_in u.disc ≤ column_in v.terminal.disc + 4096
     → now ≡ after_call v c step call (after_part u c (handle_of call) n) v.flip (caller_entry v c (parted n))
@@ -98,7 +98,7 @@ takes_part_of v now slots c step call n u h takes left column now_is =
     )
 
 -- a call begins to wait
-pub begins_to_wait : (v now : PortValue) (slots : List (Option Call)) (c step : ℕ) (call : PlainCall) (copy : Call) → call_of copy ≡ call → IsTried v slots c step call
+pub begins_to_wait : (v now : PortValue) (slots : List (Option WaitingCall)) (c step : ℕ) (call : PlainCall) (copy : WaitingCall) → call_waiting copy ≡ call → IsTried v slots c step call
     → MustWait (outcome v.terminal (caller_at v.terminal c) call) → (caller_at v.terminal c).waits ≡ None
     → now ≡ after_call v c step call (after_wait v.terminal c (handle_of call)) v.flip (caller_entry v c waited)
     → KeepsCalls now (set slots c (Some copy)) × MustGoOnWaiting v now c step call

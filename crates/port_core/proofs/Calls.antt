@@ -5,7 +5,7 @@ use Rattle.std.proofs.lemmas.Bool.Decides.{nat_tests, eqb_tells}
 use Rattle.std.proofs.lemmas.List.{map-append}
 use Rattle.tty_base.specs.declared.characters.Flagged.{Flagged}
 use Rattle.word_ring.specs.Ends.{TakerState}
-use Rattle.tty_calls.specs.declared.calls.Call.{Call}
+use Rattle.port_core.specs.declared.waiting.WaitingCall.{WaitingCall}
 use Rattle.tty_calls.specs.declared.answers.Answer.{Answer}
 use Rattle.tty_calls.specs.Plain.{PlainCall, handle_of, PlainAnswer, idle, answer_of, call_of, PlainEvent, answered, parted, waited, flushed, ticked, line_ended, clock_ended, caller_ended, phase_ended, hung_up, PlainEntry}
 use Rattle.ldisc_switch.specs.Disciplines.{column_in}
@@ -20,12 +20,10 @@ use Rattle.tty_terminal.specs.Standing.{Standing, standing_of, standing_after_ow
 use Rattle.tty_terminal.specs.Runs.{Grows, is_flush, is_of_call, chars_in}
 use Rattle.tty_terminal.proofs.StepLaws.{sent_of, begun_after}
 use Rattle.tty_terminal.proofs.StandingLaws.{step_stands}
-use Rattle.port_core.specs.declared.entries.Asked.{Asked}
-use Rattle.port_core.specs.Kept.{kept_of, asked_after}
 use Rattle.port_core.specs.Flips.{shown_count}
 use Rattle.port_core.specs.Ports.{PlainKept, PortValue, IsPort, call_in, kept_with, with_call, with_entry, AllBegun, caller_entry}
 use Rattle.port_core.specs.Attempts.{IsReady}
-use Rattle.port_core.specs.Inside.{IsWaitingCall, AreWaitingCalls, KeepsCalls}
+use Rattle.port_core.specs.Inside.{call_waiting, IsWaitingCall, AreWaitingCalls, KeepsCalls}
 use Rattle.port_core.proofs.GoingOn.{goes_on, begun_on}
 
 -- ---- the calls that are kept
@@ -80,11 +78,6 @@ begun_append t (x ∷ xs) k all one = (all.0, begun_append t xs k all.1 one)
 begun_with : (b : Bool) (t : Terminal) (ks : List PlainKept) (c step : ℕ) (call : PlainCall) → AllBegun t ks → step < begun_of (caller_at t c) → AllBegun t (kept_with b ks c step call)
 begun_with true t ks c step call all one = all
 begun_with false t ks c step call all one = begun_append t ks (record { caller = c; step = step; call = call }) all one
-
--- what the code notes
-pub kept_is : (b : Bool) (ks : List (Asked × Call)) (asked : Asked) (call : Call) → map kept_of (asked_after b ks asked call) ≡ kept_with b (map kept_of ks) asked.caller asked.step (call_of call)
-kept_is true ks asked call = refl
-kept_is false ks asked call = map-append kept_of ks ((asked, call) ∷ [])
 
 -- ---- outcomes and answers
 
@@ -210,24 +203,24 @@ other_stands v g c event allowed of_call d other =
 -- ---- the calls that callers wait with
 
 -- a copy of the call stands in the caller's slot
-pub record HasCopy (slots : List (Option Call)) (c : ℕ) (call : PlainCall) : Type 0 where
-  pub copy : Call
+pub record HasCopy (slots : List (Option WaitingCall)) (c : ℕ) (call : PlainCall) : Type 0 where
+  pub copy : WaitingCall
   pub there : get_or slots c None ≡ Some copy
-  pub same : call_of copy ≡ call
+  pub same : call_waiting copy ≡ call
 
 -- the slots before and after an entry of a call: where the call waits now, its caller's slot has a copy of it
-pub record HoldsCalls (slots later : List (Option Call)) (c : ℕ) (call : PlainCall) (event : PlainEvent) : Type 0 where
+pub record HoldsCalls (slots later : List (Option WaitingCall)) (c : ℕ) (call : PlainCall) (event : PlainEvent) : Type 0 where
   pub many : length later ≡ length slots
   pub own : (generation : ℕ) (s : Standing) → (standing_after_own event generation s).waits ≡ true → HasCopy later c call
   pub others : (d : ℕ) → (c == d) ≡ false → get_or later d None ≡ get_or slots d None
 
-pub answered_holds : (slots : List (Option Call)) (c : ℕ) (call : PlainCall) (a : PlainAnswer) (dropped : List Flagged) → HoldsCalls slots slots c call (answered a dropped)
+pub answered_holds : (slots : List (Option WaitingCall)) (c : ℕ) (call : PlainCall) (a : PlainAnswer) (dropped : List Flagged) → HoldsCalls slots slots c call (answered a dropped)
 answered_holds slots c call a dropped = record { many = refl; own = λ g s h. absurd (false≢true h); others = λ d h. refl }
 
-pub parted_holds : (slots : List (Option Call)) (c : ℕ) (call : PlainCall) (n : ℕ) → HoldsCalls slots slots c call (parted n)
+pub parted_holds : (slots : List (Option WaitingCall)) (c : ℕ) (call : PlainCall) (n : ℕ) → HoldsCalls slots slots c call (parted n)
 parted_holds slots c call n = record { many = refl; own = λ g s h. absurd (false≢true h); others = λ d h. refl }
 
-pub waited_holds : (slots : List (Option Call)) (c : ℕ) (call : PlainCall) (copy : Call) → c < length slots → call_of copy ≡ call → HoldsCalls slots (set slots c (Some copy)) c call waited
+pub waited_holds : (slots : List (Option WaitingCall)) (c : ℕ) (call : PlainCall) (copy : WaitingCall) → c < length slots → call_waiting copy ≡ call → HoldsCalls slots (set slots c (Some copy)) c call waited
 waited_holds slots c call copy known same =
     record {
       many = length-set slots c (Some copy);
@@ -236,7 +229,7 @@ waited_holds slots c call copy known same =
     }
 
 -- the calls that callers wait with, after an entry of a call
-calls_after : (t u : Terminal) (ks ms : List PlainKept) (slots later : List (Option Call)) (c step : ℕ) (call : PlainCall) → step ≡ (caller_at t c).next → call_in ms c step ≡ Some call → Grows (call_in ks) (call_in ms)
+calls_after : (t u : Terminal) (ks ms : List PlainKept) (slots later : List (Option WaitingCall)) (c step : ℕ) (call : PlainCall) → step ≡ (caller_at t c).next → call_in ms c step ≡ Some call → Grows (call_in ks) (call_in ms)
     → (is_some (caller_at u c).waits ≡ true → (caller_at u c).next ≡ (caller_at t c).next) → (is_some (caller_at u c).waits ≡ true → HasCopy later c call)
     → ((d : ℕ) → (c == d) ≡ false → ((caller_at u d).next ≡ (caller_at t d).next) × (is_some (caller_at u d).waits ≡ is_some (caller_at t d).waits))
     → ((d : ℕ) → (c == d) ≡ false → get_or later d None ≡ get_or slots d None) → handle_of call < 32 → AreWaitingCalls t ks slots → AreWaitingCalls u ms later
@@ -252,7 +245,7 @@ calls_after t u ks ms slots later c step call at_step found grows next own other
       | inr h ↦ (let was = are d (sym (others d h.0).1 ∙ waits) in record {
         copy = was.copy;
         there = slot d h.0 ∙ was.there;
-        found = ap (λ (n : ℕ). call_in ms d n) (others d h.0).0 ∙ grows d (caller_at t d).next (call_of was.copy) was.found;
+        found = ap (λ (n : ℕ). call_in ms d n) (others d h.0).0 ∙ grows d (caller_at t d).next (call_waiting was.copy) was.found;
         number = was.number;
       })
     ]
@@ -262,7 +255,7 @@ some_waits None h = refl
 some_waits (Some x) h = absurd (false≢true (sym h))
 
 -- an entry of a call keeps the port
-pub call_goes_on : (v now : PortValue) (slots later : List (Option Call)) (c step : ℕ) (call : PlainCall) (f : TakerState Flagged) (event : PlainEvent)
+pub call_goes_on : (v now : PortValue) (slots later : List (Option WaitingCall)) (c step : ℕ) (call : PlainCall) (f : TakerState Flagged) (event : PlainEvent)
     → KeepsCalls v slots → length v.journal < v.limit → IsReady v c step call → is_of_call event ≡ true → is_flush event ≡ false
     → Allowed (call_in (kept_with (has_begun (caller_at v.terminal c)) v.kept c step call)) v.counts v.terminal (caller_entry v c event)
     → f.taken ≡ v.flip.taken ++ chars_in event → length (chars_in event) ≤ 65536 → f.capacity ≡ v.flip.capacity → sent_of event v.terminal.sent ≤ f.floor

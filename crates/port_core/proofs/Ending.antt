@@ -9,7 +9,7 @@ use Rattle.tty_calls.specs.Plain.{PlainEntry, line_ended, phase_ended}
 use Rattle.ldisc_switch.specs.declared.kinds.Kind.TheVariants as kind
 use Rattle.ldisc_switch.specs.Disciplines.{column_in, fresh_of}
 use Rattle.tty_terminal.specs.Steps.{Allowed, may_end}
-use Rattle.tty_calls.specs.declared.calls.Call.{Call}
+use Rattle.port_core.specs.declared.waiting.WaitingCall.{WaitingCall}
 use Rattle.port_core.specs.Flips.{after_meeting, MeetsTaker}
 use Rattle.port_core.specs.Phases.{EndsLine, HangsUp}
 use Rattle.port_core.specs.Ports.{PortValue, call_in, with_entry, phase_entry, hangup_entry}
@@ -17,7 +17,7 @@ use Rattle.port_core.specs.Inside.{KeepsCalls}
 use Rattle.port_core.proofs.GoingOn.{still, plainly, port_taken, port_capacity, port_within}
 
 -- the line ends with the number that its putter has put
-pub line_ends : (v now : PortValue) (slots : List (Option Call)) (p q : PutterState Flagged) (f g : TakerState Flagged) (count : ℕ) → KeepsCalls v slots → length v.journal < v.limit → v.terminal.line_over ≡ false
+pub line_ends : (v now : PortValue) (slots : List (Option WaitingCall)) (p q : PutterState Flagged) (f g : TakerState Flagged) (count : ℕ) → KeepsCalls v slots → length v.journal < v.limit → v.terminal.line_over ≡ false
     → v.terminal.sent ≤ length p.sent → f ≡ after_meeting v.flip p → MeetsTaker v.flip p q → g ≡ with_shown f g.floor → length f.taken + count ≡ g.floor → count ≤ f.capacity → f.floor ≤ g.floor
     → now ≡ record (with_entry v (phase_entry v Line (line_ended (length p.sent)))) { flip = g } → KeepsCalls now slots × EndsLine v now p q
 line_ends v now slots p q f g count keeps few over sent met meets looked shown most rises now_is =
@@ -57,7 +57,7 @@ line_ends v now slots p q f g count keeps few over sent met meets looked shown m
     )
 
 -- the phase ends, and both ends meet
-pub phase_ends : (v now : PortValue) (slots : List (Option Call)) (p : PutterState Flagged) (f : TakerState Flagged) → KeepsCalls v slots → length v.journal < v.limit → may_end v.counts v.terminal ≡ true
+pub phase_ends : (v now : PortValue) (slots : List (Option WaitingCall)) (p : PutterState Flagged) (f : TakerState Flagged) → KeepsCalls v slots → length v.journal < v.limit → may_end v.counts v.terminal ≡ true
     → f ≡ after_meeting v.flip p → now ≡ record (with_entry v (phase_entry v Session phase_ended)) { flip = f } → KeepsCalls now slots
 phase_ends v now slots p f keeps few may met now_is =
     let e : PlainEntry = phase_entry v Session phase_ended in
@@ -70,7 +70,7 @@ fresh_column : column_in (fresh_of kind.Tty) ≡ 0
 fresh_column = refl
 
 -- the session hangs the port up
-pub hangs_up : (v now : PortValue) (slots : List (Option Call)) (p : PutterState Flagged) (f : TakerState Flagged) (dropped : List Flagged) → KeepsCalls v slots → length v.journal < v.limit → v.terminal.phase ≡ length v.counts
+pub hangs_up : (v now : PortValue) (slots : List (Option WaitingCall)) (p : PutterState Flagged) (f : TakerState Flagged) (dropped : List Flagged) → KeepsCalls v slots → length v.journal < v.limit → v.terminal.phase ≡ length v.counts
     → v.terminal.sent ≡ length p.sent → f.taken ≡ v.flip.taken ++ dropped → f.taken ≡ p.sent → AreReleased f.released p.heads → f.floor ≡ length p.sent → f.ring ≡ v.flip.ring → f.capacity ≡ v.flip.capacity → f.ended ≡ true
     → now ≡ record (with_entry v (hangup_entry v dropped)) { flip = f } → KeepsCalls now slots × HangsUp v now p
 hangs_up v now slots p f dropped keeps few at_end sent taken all heads floor ring capacity ended now_is =

@@ -11,7 +11,7 @@ use Rattle.flip_buffer.specs.Drops.{LooksAt}
 use Rattle.ldisc_switch.specs.Disciplines.{column_in}
 use Rattle.tty_terminal.specs.Terminals.{Terminal}
 use Rattle.tty_terminal.specs.Receiving.{accepts, after_characters, AcceptsAll}
-use Rattle.tty_calls.specs.declared.calls.Call.{Call}
+use Rattle.port_core.specs.declared.waiting.WaitingCall.{WaitingCall}
 use Rattle.port_core.specs.declared.ports.flushing.Flushed.TheVariants as flushed
 use Rattle.port_core.specs.Flips.{TakesOut, MeetsTaker, after_meeting}
 use Rattle.port_core.specs.Flushes.{IsPieceOf, Takes}
@@ -100,7 +100,7 @@ front_given f h g p q chars xs n tail clear count rises most released met meets 
     }
 
 -- a port whose end is told of what was put
-told_keeps : (v : PortValue) (slots : List (Option Call)) (p : PutterState Flagged) → KeepsCalls v slots → KeepsCalls (record v { flip = after_meeting v.flip p }) slots
+told_keeps : (v : PortValue) (slots : List (Option WaitingCall)) (p : PutterState Flagged) → KeepsCalls v slots → KeepsCalls (record v { flip = after_meeting v.flip p }) slots
 told_keeps v slots p keeps =
     let known = keeps.port.sent in
     record {
@@ -126,7 +126,7 @@ shown_before true shown most line = absurd (false≢true (sym line))
 shown_before false shown most line = refl
 
 -- the piece is handed over
-pub gives_piece : (v now : PortValue) (slots : List (Option Call)) (run n : ℕ) (p q : PutterState Flagged) (g : TakerState Flagged) (chars : List Flagged) (u : Terminal)
+pub gives_piece : (v now : PortValue) (slots : List (Option WaitingCall)) (run n : ℕ) (p q : PutterState Flagged) (g : TakerState Flagged) (chars : List Flagged) (u : Terminal)
     → KeepsCalls v slots → length v.journal < v.limit → IsPieceOf v run 0 (length chars) → is_stuck v.terminal ≡ false → v.terminal.line_over ≡ false → NothingWaits p v.flip
     → TakesGiven v.flip g p q chars n → n ≤ length chars → u ≡ after_characters v.terminal (take n chars) → AcceptsAll v.terminal (take n chars) → (n < length chars → accepts u ≡ false)
     → column_in u.disc ≤ column_in v.terminal.disc + 2 ^ 22 * length chars

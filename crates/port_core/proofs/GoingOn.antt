@@ -17,7 +17,7 @@ use Rattle.tty_terminal.proofs.StandingLaws.{step_stands}
 use Rattle.tty_terminal.proofs.Grown.{leads_grown}
 use Rattle.tty_terminal.proofs.Agreeing.{leads_agrees}
 use Rattle.tty_terminal.proofs.OneRun.{one_more}
-use Rattle.tty_calls.specs.declared.calls.Call.{Call}
+use Rattle.port_core.specs.declared.waiting.WaitingCall.{WaitingCall}
 use Rattle.port_core.specs.Ports.{PlainKept, PortValue, IsPort, call_in, AllBegun, with_entry}
 use Rattle.port_core.specs.Inside.{AreWaitingCalls, KeepsCalls}
 
@@ -110,7 +110,7 @@ plain_stays f counts t e allowed none c =
     subst (StaysAt (standing_of (caller_at t c))) (sym (step_stands f counts t e allowed c))
     (choice_stays (is_caller e.who c) (standing_of (caller_at t c)) _ _ (own_stays e.event e.generation (standing_of (caller_at t c)) none) (other_stays e.event (standing_of (caller_at t c))))
 
-calls_stay : (t u : Terminal) (ks : List PlainKept) (slots : List (Option Call)) → ((c : ℕ) → StaysAt (standing_of (caller_at t c)) (standing_of (caller_at u c))) → AreWaitingCalls t ks slots → AreWaitingCalls u ks slots
+calls_stay : (t u : Terminal) (ks : List PlainKept) (slots : List (Option WaitingCall)) → ((c : ℕ) → StaysAt (standing_of (caller_at t c)) (standing_of (caller_at u c))) → AreWaitingCalls t ks slots → AreWaitingCalls u ks slots
 calls_stay t u ks slots stay are c waits =
     let was = are c (sym (stay c).1 ∙ waits) in
     record { copy = was.copy; there = was.there; found = ap (λ (n : ℕ). call_in ks c n) (stay c).0 ∙ was.found; number = was.number }
@@ -118,7 +118,7 @@ calls_stay t u ks slots stay are c waits =
 -- ---- entries that are of no call
 
 -- such an entry keeps the port; what it takes out of the flip buffer is said
-pub plainly : (v now : PortValue) (slots : List (Option Call)) (f : TakerState Flagged) (e : PlainEntry) → KeepsCalls v slots → length v.journal < v.limit → Allowed (call_in v.kept) v.counts v.terminal e
+pub plainly : (v now : PortValue) (slots : List (Option WaitingCall)) (f : TakerState Flagged) (e : PlainEntry) → KeepsCalls v slots → length v.journal < v.limit → Allowed (call_in v.kept) v.counts v.terminal e
     → f.taken ≡ v.flip.taken ++ chars_in e.event → length (chars_in e.event) ≤ 65536 → f.capacity ≡ v.flip.capacity → sent_of e.event v.terminal.sent ≤ f.floor
     → is_of_call e.event ≡ false → (IsTrue (is_flush e.event) → 0 < e.part → RunHas e.step e.generation v.journal)
     → column_in (after (call_in v.kept) v.terminal e).disc ≤ column_in v.terminal.disc + 2 ^ 28
@@ -143,7 +143,7 @@ plainly v now slots f e p few allowed taken some capacity sent none piece column
     })
 
 -- such an entry that takes nothing out of the flip buffer
-pub still : (v now : PortValue) (slots : List (Option Call)) (f : TakerState Flagged) (e : PlainEntry) → KeepsCalls v slots → length v.journal < v.limit → Allowed (call_in v.kept) v.counts v.terminal e
+pub still : (v now : PortValue) (slots : List (Option WaitingCall)) (f : TakerState Flagged) (e : PlainEntry) → KeepsCalls v slots → length v.journal < v.limit → Allowed (call_in v.kept) v.counts v.terminal e
     → f.taken ≡ v.flip.taken → f.capacity ≡ v.flip.capacity → sent_of e.event v.terminal.sent ≤ f.floor
     → chars_in e.event ≡ [] → is_of_call e.event ≡ false → is_flush e.event ≡ false → (after (call_in v.kept) v.terminal e).disc ≡ v.terminal.disc
     → now ≡ record (with_entry v e) { flip = f } → KeepsCalls now slots

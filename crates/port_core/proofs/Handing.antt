@@ -12,7 +12,7 @@ use Rattle.ldisc_switch.specs.Disciplines.{column_in}
 use Rattle.tty_terminal.specs.Terminals.{Terminal, live_count}
 use Rattle.tty_terminal.specs.Receiving.{accepts, after_characters, AcceptsAll}
 use Rattle.tty_terminal.specs.Steps.{Allowed}
-use Rattle.tty_calls.specs.declared.calls.Call.{Call}
+use Rattle.port_core.specs.declared.waiting.WaitingCall.{WaitingCall}
 use Rattle.port_core.specs.Flips.{TakesOut, shown_count}
 use Rattle.port_core.specs.Flushes.{IsPieceOf, Takes, TakesNone}
 use Rattle.port_core.specs.Ports.{PortValue, IsPort, is_stuck, call_in, flush_entry, with_entry}
@@ -74,7 +74,7 @@ why_stopped n count shown most P within is stops less =
     ⊎_elim (λ early. inr (stops early)) (λ late. inl (omega (arith, within, is, less, late))) (cases_lt n count)
 
 -- a piece of a flush run is handed over
-pub takes_piece : (v now : PortValue) (slots : List (Option Call)) (run part most count shown : ℕ) (f g : TakerState Flagged) (chars : List Flagged) (u : Terminal) → KeepsCalls v slots → length v.journal < v.limit → IsPieceOf v run part most → is_stuck v.terminal ≡ false
+pub takes_piece : (v now : PortValue) (slots : List (Option WaitingCall)) (run part most count shown : ℕ) (f g : TakerState Flagged) (chars : List Flagged) (u : Terminal) → KeepsCalls v slots → length v.journal < v.limit → IsPieceOf v run part most → is_stuck v.terminal ≡ false
     → f ≡ with_shown v.flip f.floor → LooksAt v.flip f f.floor → shown ≡ shown_count v.terminal f.floor → count ≡ min shown most → 0 < count
     → TakesOut f g chars → length chars ≤ count → u ≡ after_characters v.terminal chars → AcceptsAll v.terminal chars → (length chars < count → accepts u ≡ false) → column_in u.disc ≤ column_in v.terminal.disc + 2 ^ 22 * count
     → now ≡ record (with_entry v (flush_entry v run part chars)) { flip = g } → KeepsCalls now slots × Takes v now run part most (length chars)

@@ -1,3 +1,5 @@
+mod CanWait
+mod Emptiness
 pub mod Answering
 pub mod Calls
 pub mod Ending

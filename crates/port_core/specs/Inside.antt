@@ -1,9 +1,9 @@
 -- What the fields of a port stand for, and what they keep.
-use Rattle.std.specs.Prelude.{◌≡◌, ℕ, List, ◌<◌, true, Option, None, Some, is_some, length, map, sum, slice_index_or}
-use Rattle.tty_calls.specs.declared.calls.Call.{Call}
-use Rattle.tty_calls.specs.Plain.{entries_of, call_of, handle_of}
+use Rattle.std.specs.Prelude.{◌≡◌, ℕ, List, Bool, ◌<◌, true, false, Option, None, Some, is_some, length, sum, slice_index_or}
+use Rattle.tty_calls.specs.Plain.{PlainCall, opens, closes, reads, writes, gets_modes, sets_modes, gets_disc, sets_disc, flushes, steers, counts_input, counts_output, excludes, admits, drains, gets_counts, hangs_up, sends_packet, takes_packet, entries_of, handle_of}
+use Rattle.port_core.specs.declared.waiting.WaitingCall.{WaitingCall}
+use Rattle.port_core.specs.declared.waiting.WaitingCall.TheVariants as waiting
 use Rattle.tty_terminal.specs.Terminals.{Terminal, caller_at}
-use Rattle.port_core.specs.Kept.{kept_of}
 use Rattle.port_core.specs.declared.ports.Port.TheInside.{Inside}
 use Rattle.port_core.specs.Ports.{PlainKept, PortValue, IsPort, call_in}
 
@@ -12,26 +12,55 @@ value_of p =
     record {
       terminal = p.terminal.terminal;
       journal = entries_of p.journal.items;
-      kept = map kept_of p.kept.items;
+      kept = p.kept.items;
       counts = p.counts.items;
       limit = p.limit;
       starved = p.starved;
       flip = p.flip;
     }
 
+-- the call that waits
+abbrev pub call_waiting : WaitingCall → PlainCall
+call_waiting (waiting.Read h n) = reads h n
+call_waiting (waiting.Write h bytes) = writes h bytes.items
+call_waiting (waiting.SetModes h when words) = sets_modes h when words.items
+call_waiting (waiting.Drain h) = drains h
+
+-- whether a call may have to wait
+abbrev pub can_wait : PlainCall → Bool
+can_wait (opens h access nonblock) = false
+can_wait (closes h) = false
+can_wait (reads h n) = true
+can_wait (writes h bytes) = true
+can_wait (gets_modes h) = false
+can_wait (sets_modes h when words) = true
+can_wait (gets_disc h) = false
+can_wait (sets_disc h number) = false
+can_wait (flushes h queue) = false
+can_wait (steers h act) = false
+can_wait (counts_input h) = false
+can_wait (counts_output h) = false
+can_wait (excludes h) = false
+can_wait (admits h) = false
+can_wait (drains h) = true
+can_wait (gets_counts h) = false
+can_wait (hangs_up h) = false
+can_wait (sends_packet h bytes) = false
+can_wait (takes_packet h) = false
+
 -- this is a copy of the call that the caller waits with
-pub record IsWaitingCall (t : Terminal) (ks : List PlainKept) (c : ℕ) (slot : Option Call) : Type 0 where
-  pub copy : Call
+pub record IsWaitingCall (t : Terminal) (ks : List PlainKept) (c : ℕ) (slot : Option WaitingCall) : Type 0 where
+  pub copy : WaitingCall
   pub there : slot ≡ Some copy
-  pub found : call_in ks c (caller_at t c).next ≡ Some (call_of copy)
-  pub number : handle_of (call_of copy) < 32
+  pub found : call_in ks c (caller_at t c).next ≡ Some (call_waiting copy)
+  pub number : handle_of (call_waiting copy) < 32
 
 -- of each caller that waits its call is there
-abbrev pub AreWaitingCalls : Terminal → List PlainKept → List (Option Call) → Type 0
+abbrev pub AreWaitingCalls : Terminal → List PlainKept → List (Option WaitingCall) → Type 0
 AreWaitingCalls t ks slots = (c : ℕ) → is_some (caller_at t c).waits ≡ true → IsWaitingCall t ks c (slice_index_or slots c None)
 
 -- a port, and for each of its callers the latest of its calls that waited
-pub record KeepsCalls (v : PortValue) (slots : List (Option Call)) : Type 0 where
+pub record KeepsCalls (v : PortValue) (slots : List (Option WaitingCall)) : Type 0 where
   pub port : IsPort v
   pub many : length slots ≡ sum v.counts
   pub calls : AreWaitingCalls v.terminal v.kept slots

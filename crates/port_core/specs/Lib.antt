@@ -3,6 +3,5 @@ pub mod Flips
 pub mod Flushes
 pub mod Given
 pub mod Inside
-pub mod Kept
 pub mod Phases
 pub mod Ports

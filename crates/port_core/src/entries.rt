@@ -5,34 +5,14 @@ ghost use Rattle.std.specs.Prelude.{◌≡◌, ◌≤◌, ◌<◌, [], true, IfO
 ghost use Rattle.tty_calls.specs.declared.journals.Who.TheVariants.{Caller, Flusher};
 ghost use Rattle.tty_calls.specs.declared.journals.Event.TheVariants.{Flush};
 ghost use Rattle.tty_calls.specs.Plain.{answer_of, answered, call_of, event_of};
+ghost use Rattle.port_core.specs.Inside.{call_waiting, can_wait};
 ghost use Rattle.tty_terminal.specs.Meeting.{IsAnswerRoom, IsRoomFor, room_for_characters};
-ghost use Rattle.port_core.specs.Kept.{asked_after};
 
-use http_server::Log;
+use crate::waiting::WaitingCall;
 use std::alloc::Global;
 use tty_base::{Chars, NoMemory};
 use tty_calls::{Answer, AnswerRoom, Call, Denied, Entry, Event, Journal, Purge, Who};
 use tty_terminal::{ROOM_FOR_CALL, Room, Terminal};
-
-/// A caller's step.
-#[derive(Clone, Copy)]
-pub struct Asked {
-    pub caller: u16,
-    pub step: u32,
-}
-
-/// The calls that a port was asked, each with its caller and step. Proofs alone read it.
-pub(crate) type AskedCalls = Log<Asked, Call>;
-
-/// Notes the call of a caller's step, where it has not begun.
-#[inline(always)]
-pub(crate) fn note_call(kept: &mut AskedCalls, begun: bool, asked: Asked, call: &Call)
-    ensures { kept.new.items ≡ asked_after begun kept.old.items asked call.now }
-{
-    if !begun {
-        *kept = kept.and(&asked, call);
-    }
-}
 
 /// Notes that no memory is left.
 pub(crate) fn starve(starved: &mut bool) -> Denied
@@ -157,12 +137,13 @@ pub(crate) fn purge_into(mut room: Box<Purge>, answer: Answer, dropped: Chars) -
 }
 
 /// A copy of a call that begins to wait.
-pub(crate) fn copy_of(alloc: Global, starved: &mut bool, call: &Call) -> Result<Call, Denied>
-    ensures copy { IfOk result (λ copy. call_of copy ≡ call_of call.now) }
+pub(crate) fn copy_of(alloc: Global, starved: &mut bool, call: &Call) -> Result<WaitingCall, Denied>
+    requires { can_wait (call_of call.now) ≡ true }
+    ensures copy { IfOk result (λ copy. call_waiting copy ≡ call_of call.now) }
     ensures ok { OnOk result (starved.new ≡ starved.old) }
     ensures err { IfErr result (λ d. (d ≡ Denied.NoMemory) × (starved.new ≡ true)) }
 {
-    match call.copy(alloc) {
+    match WaitingCall::of(alloc, call) {
         Ok(copy) => Ok(copy),
         Err(NoMemory) => Err(starve(starved)),
     }

@@ -3,9 +3,11 @@
 //! is a step of the terminal, and the journal is always a run that leads to it.
 #![tactic(auto)]
 
+mod asked;
 mod entries;
 mod flips;
 mod ports;
+mod waiting;
 
 pub use ports::Port;
 pub use ports::attempting::Tried;

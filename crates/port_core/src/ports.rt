@@ -7,13 +7,14 @@ mod ending;
 pub(crate) mod flushing;
 mod giving;
 
-use crate::entries::{AskedCalls, reserve_entry};
+use crate::asked::AskedCalls;
+use crate::entries::reserve_entry;
+use crate::waiting::WaitingCall;
 use flip_buffer::FlipOut;
-use http_server::Log;
 use std::alloc::Global;
 use std::marker::Model;
 use tty_base::{Moves, NoMemory};
-use tty_calls::{Call, Denied, Entry, Event, Journal, PortEnd, Who};
+use tty_calls::{Denied, Entry, Event, Journal, PortEnd, Who};
 use tty_terminal::{CallerState, Piece, Terminal};
 
 /// A port. Contracts see it as the record `PortValue`.
@@ -24,7 +25,7 @@ pub struct Port {
     journal: Journal,
     kept: AskedCalls,
     /// For each caller the latest of its calls that waited.
-    waiting: Vec<Option<Call>>,
+    waiting: Vec<Option<WaitingCall>>,
     counts: Vec<u8>,
     limit: u32,
     starved: bool,
@@ -54,7 +55,7 @@ fn total(callers: &[u8]) -> usize
 }
 
 /// A slot for a waiting call of each of so many callers.
-fn slots_for(alloc: Global, count: usize) -> Result<Vec<Option<Call>>, NoMemory>
+fn slots_for(alloc: Global, count: usize) -> Result<Vec<Option<WaitingCall>>, NoMemory>
     ensures { IfOk result (λ slots. length slots.items ≡ count) }
 {
     let mut slots = Vec::new(alloc);
@@ -85,7 +86,7 @@ impl Port {
             alloc,
             terminal: Terminal::new(alloc, count, flip.capacity() as u32)?,
             journal: Journal::new(alloc),
-            kept: Log::new(),
+            kept: AskedCalls::new(),
             waiting: slots_for(alloc, count)?,
             counts: callers.to_vec(alloc)?,
             limit,

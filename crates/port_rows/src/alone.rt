@@ -86,11 +86,7 @@ fn is_same(one: &Answer, other: &Answer) -> bool {
 }
 
 /// Each call at least once, and what it is answered after those before it.
-fn calls_and_answers(alloc: Global) -> Result<Vec<(Call, Answer)>, AllocError> {
-    let raw = vec![in alloc; Word::Raw]?;
-    let written = b"ab".to_vec(alloc)?;
-    let refused = b"c".to_vec(alloc)?;
-    let sent = b"c".to_vec(alloc)?;
+fn calls_and_answers<'a>(alloc: Global) -> Result<Vec<(Call<'a>, Answer)>, AllocError> {
     let counts = Box::new(alloc, Counts::default())?;
     Ok(vec![in alloc;
         (
@@ -106,7 +102,7 @@ fn calls_and_answers(alloc: Global) -> Result<Vec<(Call, Answer)>, AllocError> {
             Call::SetModes {
                 h: 0,
                 when: When::Now,
-                words: raw
+                words: &[Word::Raw]
             },
             Answer::Done
         ),
@@ -120,13 +116,7 @@ fn calls_and_answers(alloc: Global) -> Result<Vec<(Call, Answer)>, AllocError> {
             },
             Answer::Done
         ),
-        (
-            Call::Write {
-                h: 0,
-                bytes: written
-            },
-            Answer::Count(2)
-        ),
+        (Call::Write { h: 0, bytes: b"ab" }, Answer::Count(2)),
         (Call::Outq { h: 0 }, Answer::Number(2)),
         (
             Call::Xonc {
@@ -147,14 +137,11 @@ fn calls_and_answers(alloc: Global) -> Result<Vec<(Call, Answer)>, AllocError> {
             Answer::Done
         ),
         (
-            Call::SendPacket {
-                h: 0,
-                bytes: refused
-            },
+            Call::SendPacket { h: 0, bytes: b"c" },
             Answer::Refused(Errno::ENOTTY)
         ),
         (Call::SetDisc { h: 0, number: 1 }, Answer::Done),
-        (Call::SendPacket { h: 0, bytes: sent }, Answer::Done),
+        (Call::SendPacket { h: 0, bytes: b"c" }, Answer::Done),
         (Call::TakePacket { h: 0 }, Answer::Refused(Errno::EAGAIN)),
         (Call::Vhangup { h: 0 }, Answer::Done),
         (Call::Read { h: 0, n: 8 }, Answer::Got(Vec::new(alloc))),

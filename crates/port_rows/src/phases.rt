@@ -9,23 +9,34 @@ use many_threads::play;
 use std::alloc::Global;
 use std::test::Fail;
 use tty_base::{Buffer, Counts, Flag, Flagged, LineStep, NoMemory};
-use tty_calls::{Access, Answer, Call, Entry, Event, Phase, Script, Session, When, Who};
+use tty_calls::{Access, Answer, Call, Calls, Entry, Event, Phase, Script, Session, When, Who};
 use tty_modes::Word;
 use tty_port::OpenGate;
+
+/// These calls in a list.
+fn list_of(alloc: Global, calls: &[Call]) -> Result<Calls, NoMemory>
+    ensures { IfOk result (λ list. list.items ≡ map call_of calls.now) }
+{
+    let mut list = Calls::new(alloc);
+    for call in calls {
+        list.add(call)?;
+    }
+    Ok(list)
+}
 
 /// A phase of one port, with these steps of its line and calls of its caller.
 fn phase_of(
     alloc: Global,
     name: ArrayString<16>,
     steps: LineSteps,
-    calls: Vec<Call>,
+    calls: &[Call],
 ) -> Result<Phase, NoMemory>
-    ensures { IfOk result (λ phase. phase_of phase ≡ record { lines = steps.items ∷ []; ticks = 0 ∷ []; callers = record { port = 0; name = name.bytes; calls = map call_of calls.items } ∷ [] }) }
+    ensures { IfOk result (λ phase. phase_of phase ≡ record { lines = steps.items ∷ []; ticks = 0 ∷ []; callers = record { port = 0; name = name.bytes; calls = map call_of calls.now } ∷ [] }) }
 {
     let script = Script {
         port: 0,
         name,
-        calls: Buffer::from_vec(calls),
+        calls: list_of(alloc, calls)?,
     };
     Ok(Phase {
         lines: Buffer::from_vec(vec![in alloc; steps]?),
@@ -67,17 +78,12 @@ fn three_bytes(alloc: Global) -> Result<Session, NoMemory>
     let raw = Call::SetModes {
         h: 0,
         when: When::Now,
-        words: vec![in alloc; Word::Raw]?,
+        words: &[Word::Raw],
     };
-    let opens = phase_of(
-        alloc,
-        name,
-        LineSteps::new(alloc),
-        vec![in alloc; open, raw]?,
-    )?;
-    let arrives = phase_of(alloc, name, three_steps(alloc)?, Vec::new(alloc))?;
-    let calls = vec![in alloc; Call::Read { h: 0, n: 64 }, Call::Close { h: 0 }]?;
-    let reads = phase_of(alloc, name, LineSteps::new(alloc), calls)?;
+    let opens = phase_of(alloc, name, LineSteps::new(alloc), &[open, raw])?;
+    let arrives = phase_of(alloc, name, three_steps(alloc)?, &[])?;
+    let calls = [Call::Read { h: 0, n: 64 }, Call::Close { h: 0 }];
+    let reads = phase_of(alloc, name, LineSteps::new(alloc), &calls)?;
     Ok(Session {
         version: 1,
         ports: 1,

@@ -60,12 +60,12 @@ fn last(shared: &SharedPort, seats: &mut Vec<Seat>) -> Seat
 }
 
 /// Opens a handle of the caller's own number, and then makes two calls in turn, 1,000 times in all.
-fn ask<R: Wait>(
+fn ask<'a, 'c, R: Wait>(
     rt: &R,
     shared: &SharedPort,
     mut seat: Seat,
     caller: u16,
-    calls: (&Call, &Call),
+    calls: (&'a Call<'c>, &'a Call<'c>),
 ) -> Seat
     requires seat { IsHere shared.now caller seat × (list_seen seat ≡ []) }
     requires known { (caller < 2) × (sum (name_of_port shared.now).counts ≡ 2) }
@@ -111,12 +111,12 @@ fn flush<R: Wait>(rt: &R, shared: &SharedPort, mut seat: Seat) -> Seat
 }
 
 /// The callers make their calls beside one another, and beside a flusher.
-fn three<R: Threads + Wait + Sync>(
+fn three<'a, 'c, R: Threads + Wait + Sync>(
     rt: &R,
     shared: &SharedPort,
     seats: (Seat, Seat, Seat),
-    first: (&Call, &Call),
-    second: (&Call, &Call),
+    first: (&'a Call<'c>, &'a Call<'c>),
+    second: (&'a Call<'c>, &'a Call<'c>),
 ) -> (Seat, (Seat, Seat))
     requires first { IsHere shared.now 0 seats.0 × (list_seen seats.0 ≡ []) }
     requires second { IsHere shared.now 1 seats.1 × (list_seen seats.1 ≡ []) }
@@ -142,12 +142,12 @@ fn three<R: Threads + Wait + Sync>(
     )
 }
 
-fn two_of_three<R: Threads + Wait + Sync>(
+fn two_of_three<'a, 'c, R: Threads + Wait + Sync>(
     rt: &R,
     shared: &SharedPort,
     caller: Seat,
     flusher: Seat,
-    calls: (&Call, &Call),
+    calls: (&'a Call<'c>, &'a Call<'c>),
 ) -> (Seat, Seat)
     requires caller { IsHere shared.now 1 caller × (list_seen caller ≡ []) }
     requires flusher { IsHere shared.now 2 flusher × (list_seen flusher ≡ []) }
@@ -187,11 +187,11 @@ fn end(
 }
 
 /// Plays on three threads.
-fn play<R: Threads + Wait + Sync>(
+fn play<'a, 'c, R: Threads + Wait + Sync>(
     rt: &R,
     alloc: Global,
-    first: (&Call, &Call),
-    second: (&Call, &Call),
+    first: (&'a Call<'c>, &'a Call<'c>),
+    second: (&'a Call<'c>, &'a Call<'c>),
 ) -> Result<Port, NoMemory>
     requires numbers { (handle_of (call_of first.0.now) < 32) × (handle_of (call_of first.1.now) < 32) × (handle_of (call_of second.0.now) < 32) × (handle_of (call_of second.1.now) < 32) }
     requires bytes { (byte_count (call_of first.0.now) < 2 ^ 32) × (byte_count (call_of first.1.now) < 2 ^ 32) × (byte_count (call_of second.0.now) < 2 ^ 32) × (byte_count (call_of second.1.now) < 2 ^ 32) }
@@ -237,9 +237,10 @@ fn two_callers_beside_a_flusher(rt: HostRuntime) -> Result<(), Fail> {
 
 #[test]
 fn changes_beside_writes(rt: HostRuntime) -> Result<(), Fail> {
+    let bytes = [b'x'; 5000];
     let write = Call::Write {
         h: 1,
-        bytes: vec![in rt.alloc(); b'x'; 5000]?,
+        bytes: &bytes,
     };
     let first = (
         &Call::SetDisc { h: 0, number: 0 },
@@ -380,11 +381,10 @@ fn next_after(count: u32) -> u32
 
 /// Plays a phase on one thread.
 fn play_alone<R: Wait>(rt: &R, alloc: Global) -> Option<Found> {
-    let words = vec![in alloc; Word::Raw].ok()?;
     let raw = Call::SetModes {
         h: 0,
         when: When::Now,
-        words,
+        words: &[Word::Raw],
     };
     let Ok((mut putter, shared, mut seats)) = share(alloc) else {
         return None;
@@ -565,8 +565,11 @@ fn play_between<R: Threads + Wait + Sync>(rt: &R, alloc: Global, call: &Call) ->
 
 #[test]
 fn a_read_is_answered_between_the_parts_of_a_write(rt: HostRuntime) -> Result<(), Fail> {
-    let bytes = vec![in rt.alloc(); b'a'; 200]?;
-    let write = Call::Write { h: 0, bytes };
+    let bytes = [b'a'; 200];
+    let write = Call::Write {
+        h: 0,
+        bytes: &bytes,
+    };
     let port = play_between(&rt, rt.alloc(), &write).ok_or("denied")?;
     let entries = port.journal().as_slice();
     assert_eq!(rt; entries.len(), 8);

@@ -2,7 +2,6 @@
 
 ghost use Rattle.std.specs.Prelude.{◌≡◌, ◌+◌, ◌*◌, ◌-◌, ◌<◌, ◌≤◌, ◌^◌, ℕ, [], ◌∷◌, map, replicate, codes, IfOk, OnOk};
 ghost use Rattle.std.specs.List.{range_with_len};
-ghost use Rattle.tty_calls.specs.Plain.{call_of};
 ghost use Rattle.tty_calls.specs.Sessions.{script_of, phase_of, session_of};
 ghost use Rattle.session_gen.specs.Draws.{number_after, drawn_line};
 ghost use Rattle.session_gen.specs.Generated.{opening_calls, opening_phase, reading_calls, reading_phase, caller_script, generated_session};
@@ -12,7 +11,7 @@ use arrayvec::ArrayString;
 use line_steps::LineSteps;
 use std::alloc::Global;
 use tty_base::{Buffer, NoMemory};
-use tty_calls::{Access, Call, Phase, Script, Session, When};
+use tty_calls::{Access, Call, Calls, Phase, Script, Session, When};
 use tty_modes::Word;
 
 const PORTS: u8 = 4;
@@ -129,44 +128,41 @@ fn no_ticks(alloc: Global) -> Result<Buffer<u32>, NoMemory>
 }
 
 /// The caller of a port, with its calls in a phase.
-fn script(port: u8, calls: Buffer<Call>) -> Script
-    ensures { script_of result ≡ caller_script port (map call_of calls.items) }
+fn script(port: u8, calls: Calls) -> Script
+    ensures { script_of result ≡ caller_script port calls.items }
 {
     let mut name = ArrayString::new();
     name.push_str("c");
     Script { port, name, calls }
 }
 
-fn calls_to_open(alloc: Global) -> Result<Buffer<Call>, NoMemory>
-    ensures { IfOk result (λ calls. map call_of calls.items ≡ opening_calls) }
+fn calls_to_open(alloc: Global) -> Result<Calls, NoMemory>
+    ensures { IfOk result (λ calls. calls.items ≡ opening_calls) }
 {
-    let words = vec![in alloc; Word::Raw]?;
-    let mut calls = Buffer::new(alloc);
-    calls.reserve(2)?;
-    calls.add(Call::Open {
+    let mut calls = Calls::new(alloc);
+    calls.add(&Call::Open {
         h: 0,
         access: Access::Rw,
         nonblock: true,
-    });
-    calls.add(Call::SetModes {
+    })?;
+    calls.add(&Call::SetModes {
         h: 0,
         when: When::Now,
-        words,
-    });
+        words: &[Word::Raw],
+    })?;
     Ok(calls)
 }
 
-fn calls_to_read(alloc: Global, number: u32, phase: u8, port: u8) -> Result<Buffer<Call>, NoMemory>
+fn calls_to_read(alloc: Global, number: u32, phase: u8, port: u8) -> Result<Calls, NoMemory>
     requires phase { phase < 16 }
     requires port { port < 4 }
-    ensures { IfOk result (λ calls. map call_of calls.items ≡ reading_calls number phase port) }
+    ensures { IfOk result (λ calls. calls.items ≡ reading_calls number phase port) }
 {
-    let mut calls = Buffer::new(alloc);
-    calls.reserve(3)?;
-    calls.add(Call::Read { h: 0, n: READ });
+    let mut calls = Calls::new(alloc);
+    calls.add(&Call::Read { h: 0, n: READ })?;
     if (u64::from(number) + u64::from(phase) + u64::from(port)) % 4 == 0 {
-        calls.add(Call::SetDisc { h: 0, number: 1 });
-        calls.add(Call::SetDisc { h: 0, number: 0 });
+        calls.add(&Call::SetDisc { h: 0, number: 1 })?;
+        calls.add(&Call::SetDisc { h: 0, number: 0 })?;
     }
     Ok(calls)
 }

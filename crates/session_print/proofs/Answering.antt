@@ -1,14 +1,12 @@
 -- The answers of a journal, entry by entry.
-use Rattle.std.proofs.Common.{◌≡◌, inl, inr, ℕ, Bool, true, false, ◌==◌, ◌&&◌, List, [], ◌∷◌, ◌++◌, Option, None, Some, ◌+◌, ◌-◌, ◌<◌, IsSome, arith, slice_get, length, take, get_or, map, set, refl, sym, ap, ◌∙◌, cond, sum_by}
+use Rattle.std.proofs.Common.{◌≡◌, ℕ, Bool, true, false, ◌==◌, List, [], ◌∷◌, ◌++◌, Option, None, Some, ◌+◌, ◌-◌, ◌<◌, IsSome, arith, slice_get, length, take, get_or, refl, sym, ap, ◌∙◌, cond, sum_by}
 use Rattle.std.specs.Option.{option_and_then, option_or}
-use Rattle.std.proofs.lemmas.Bool.{cases_eq, eq-eqb, ne_eqb}
-use Rattle.std.proofs.lemmas.Grind.{get_or-set_at}
-use Rattle.std.proofs.lemmas.List.{get_or-map, get_or-set_other, length-map, map-set, take_more}
+use Rattle.std.proofs.lemmas.Bool.{ne_eqb}
+use Rattle.std.proofs.lemmas.List.{take_more}
 use Rattle.std.proofs.lemmas.Option.{slice_get_read}
 use Rattle.std.proofs.lemmas.List.Sums.{sum_by_push}
 use Rattle.tty_calls.specs.declared.journals.Entry.{Entry}
 use Rattle.tty_calls.specs.Plain.{PlainAnswer, PlainEntry, PlainEvent, entry_of, event_of, entries_of}
-use Rattle.session_print.specs.declared.places.Place.{Place}
 use Rattle.session_print.specs.declared.places.Places.{Places}
 use Rattle.session_print.specs.declared.places.Turn.{Turn}
 use Rattle.session_print.specs.Report.{answer_by, answer_in, answer_of_event}
@@ -57,12 +55,12 @@ merged told true a g x is = is ∙ sym (ap (λ o. option_or o (told g)) is)
 merged told false a g x is = refl
 
 -- the place of the entry that comes next
-answer_next : (es : List Entry) (i : ℕ) (e : Entry) (place : Place) → i < length es → e ≡ get_or es i e → place.after ≡ i + 1 → answer_at es place ≡ answer_of_event (event_of e.event)
+answer_next : (es : List Entry) (i : ℕ) (e : Entry) (place : ℕ) → i < length es → e ≡ get_or es i e → place ≡ i + 1 → answer_at es place ≡ answer_of_event (event_of e.event)
 answer_next es i e place h at after =
-    let later : (place.after == 0) ≡ false = ne_eqb place.after 0 (λ none. omega (arith, after, none)) in
-    let before : place.after - 1 ≡ i = omega (arith, after) in
+    let later : (place == 0) ≡ false = ne_eqb place 0 (λ none. omega (arith, after, none)) in
+    let before : place - 1 ≡ i = omega (arith, after) in
     let told : Option Entry → Option PlainAnswer = option_and_then (λ x. answer_of_event (event_of x.event)) in
-    ap (λ b. told (cond b None (slice_get es (place.after - 1)))) later
+    ap (λ b. told (cond b None (slice_get es (place - 1)))) later
     ∙ ap (λ n. told (slice_get es n)) before
     ∙ ap told (slice_get_read es (length es) i e refl h at)
 
@@ -71,7 +69,7 @@ value_of None h = absurd (cc)
 value_of (Some x) h = (x, refl)
 
 -- one more entry, and its place noted
-pub told_more : (old new : Places) (es : List Entry) (i : ℕ) (e : Entry) (turn : Turn) (place : Place) → i < length es → e ≡ get_or es i e → place.after ≡ i + 1
+pub told_more : (old new : Places) (es : List Entry) (i : ℕ) (e : Entry) (turn : Turn) (place : ℕ) → i < length es → e ≡ get_or es i e → place ≡ i + 1
     → ((c step : ℕ) → entry_answer (Some turn) (entry_of e) c step ≡ answer_by (entry_of e) c step)
     → IsSome (answer_of_event (event_of e.event))
     → ((c step : ℕ) → place_in new c step ≡ cond (same_turn turn (record { caller = c; step = step })) place (place_in old c step))
@@ -98,34 +96,3 @@ told_same places es i e h at by before c step =
     before c step
     ∙ ap (λ o. option_or o (answer_in (entries_of (take i es)) c step)) (by c step)
     ∙ sym (one_more es i e c step h at)
-
--- a place of a row written over, among rows
-row_over : {X : Type 0} (rows : List (List X)) (row : List X) (caller step c k : ℕ) (a none : X) → caller < length rows
-    → ((at : ℕ) → get_or row at none ≡ cond (step == at) a (get_or (get_or rows caller []) at none))
-    → get_or (get_or (set rows caller row) c []) k none ≡ cond ((caller == c) && (step == k)) a (get_or (get_or rows c []) k none)
-row_over {X = X} rows row caller step c k a none within is =
-    let there : ℕ → X = λ n. get_or (get_or rows n []) k none in
-    elim (cases_eq caller c) [
-      | inl same ↦
-          ap (λ r. get_or r k none) (get_or-set_at rows caller c row [] (sym same) within)
-          ∙ is k
-          ∙ ap (λ n. cond (step == k) a (there n)) same
-          ∙ ap (λ b. cond (b && (step == k)) a (there c)) (sym (eq-eqb caller c same))
-      | inr other ↦
-          ap (λ r. get_or r k none) (get_or-set_other rows caller c row [] (λ e. other (sym e)))
-          ∙ ap (λ b. cond (b && (step == k)) a (there c)) (sym (ne_eqb caller c other))
-    ]
-
--- a place noted in its caller's row
-pub row_noted : {V X : Type 0} (items : V → List X) (before rows : List V) (old new : V) (caller at_step : ℕ) (a none : X) → caller < length rows
-    → ((c : ℕ) → get_or (map items rows) c [] ≡ get_or (map items before) c [])
-    → old ≡ get_or rows caller old
-    → ((at : ℕ) → get_or (items new) at none ≡ cond (at_step == at) a (get_or (items old) at none))
-    → (c step : ℕ) → get_or (get_or (map items (set rows caller new)) c []) step none
-    ≡ cond ((caller == c) && (at_step == step)) a (get_or (get_or (map items before) c []) step none)
-row_noted items before rows old new caller at_step a none within longer is put c step =
-    let here : Bool = (caller == c) && (at_step == step) in
-    let row : items old ≡ get_or (map items rows) caller [] = ap items is ∙ sym (get_or-map items rows caller old [] within) in
-    ap (λ rs. get_or (get_or rs c []) step none) (map-set items rows caller new)
-    ∙ row_over (map items rows) (items new) caller at_step c step a none (rw length-map within) (λ at. put at ∙ ap (λ r. cond (at_step == at) a (get_or r at none)) row)
-    ∙ ap (λ r. cond here a (get_or r step none)) (longer c)

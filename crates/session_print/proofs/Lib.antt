@@ -5,5 +5,6 @@ mod Naming
 mod Numbering
 mod Pieces
 mod Signs
+mod Stretches
 mod Telling
 mod Tens

@@ -1,20 +1,21 @@
 -- The lines of calls, told one after the other.
-use Rattle.std.proofs.Common.{◌≡◌, ℕ, List, [], ◌∷◌, ◌++◌, Option, Some, ◌+◌, ◌<◌, length, drop, get_or, map, flat_map, ◌≤◌, refl, sym, ap, ◌∙◌, append_assoc, append-nil}
+use Rattle.std.proofs.Common.{◌≡◌, inl, inr, ℕ, List, [], ◌∷◌, ◌++◌, Option, None, Some, ◌+◌, ◌<◌, length, drop, get_or, map, flat_map, ◌≤◌, refl, sym, ap, ◌∙◌, arith, append_assoc, append-nil, codes, decimal, slice_get}
 use Rattle.std.proofs.lemmas.Grind.{flat_map-append}
-use Rattle.tty_calls.specs.declared.calls.Call.{Call}
+use Rattle.std.proofs.lemmas.Option.{get_or_from_slice_get, slice_get_cases, slice_get_within}
 use Rattle.tty_calls.specs.declared.sessions.Script.{Script}
 use Rattle.tty_calls.specs.declared.sessions.Phase.{Phase}
 use Rattle.tty_calls.specs.Sessions.{PlainScript, phase_of, scripts_over, number_in}
-use Rattle.tty_calls.specs.Plain.{PlainAnswer, call_of}
-use Rattle.session_print.specs.Report.{Told, told_line, told_from}
+use Rattle.tty_calls.specs.Plain.{PlainCall, PlainAnswer}
+use Rattle.session_print.specs.Lines.{call_line}
+use Rattle.session_print.specs.Report.{Told, answered_line, told_line, told_from}
 use Rattle.session_print.proofs.Pieces.{next_item, drop_all}
-use Rattle.session_print.specs.Printing.{call_head, tens, scripts_for, told_script, steps_then, told_scripts, steps_after}
+use Rattle.session_print.specs.Printing.{call_head, call_rest, tens, scripts_for, told_script, steps_then, told_scripts, steps_after}
 
 -- the text so far and the lines of the calls that are left
-pub record Stepping (p : ℕ) (answers : ℕ → ℕ → Option PlainAnswer) (name first : List ℕ) (caller step : ℕ) (calls : List Call) (text front shared : List ℕ) (c s i : ℕ) : Type 0 where
+pub record Stepping (p : ℕ) (answers : ℕ → ℕ → Option PlainAnswer) (name first : List ℕ) (caller step : ℕ) (calls : List PlainCall) (text front shared : List ℕ) (c s i : ℕ) : Type 0 where
   pub same_caller : c ≡ caller
   pub at_step : s ≡ step + i
-  pub left : text ++ flat_map (told_line p answers) (told_from name (Some c) s (map call_of (drop i calls))) ≡ first ++ flat_map (told_line p answers) (told_from name (Some caller) step (map call_of calls))
+  pub left : text ++ flat_map (told_line p answers) (told_from name (Some c) s (drop i calls)) ≡ first ++ flat_map (told_line p answers) (told_from name (Some caller) step calls)
   pub begins : front ≡ call_head p name
   pub shares : shared ≡ front ++ tens s
 
@@ -28,6 +29,52 @@ pub record Scripting (p : ℕ) (answers : ℕ → ℕ → Option PlainAnswer) (n
 pub record Phasing (p : ℕ) (answers : ℕ → ℕ → Option PlainAnswer) (names : List (List ℕ)) (first : List ℕ) (steps : List ℕ) (phases : List Phase) (text now : List ℕ) (i : ℕ) : Type 0 where
   pub left : text ++ flat_map (told_line p answers) (told_scripts names now (scripts_over p (map phase_of (drop i phases)))) ≡ first ++ flat_map (told_line p answers) (told_scripts names steps (scripts_over p (map phase_of phases)))
   pub each : length now ≡ length steps
+
+-- the line of a call and its answer, after what it begins with
+head_line : (p : ℕ) (name : List ℕ) (step : ℕ) (call : PlainCall) (answer : PlainAnswer) → call_head p name ++ call_rest step call answer ≡ call_line p name step call answer
+head_line p name step call answer =
+    let dot : List ℕ = codes "." in
+    let rest : List ℕ = call_rest step call answer in
+    append_assoc (decimal p) (dot ++ (name ++ dot)) rest
+    ∙ ap (λ xs. decimal p ++ (dot ++ xs)) (append_assoc name dot rest)
+
+module _ (p : ℕ) (answers : ℕ → ℕ → Option PlainAnswer) (name first : List ℕ) (caller step : ℕ) (calls : List PlainCall) (text new front shared front_new shared_new : List ℕ) (c s i : ℕ)
+    (h : Stepping p answers name first caller step calls text front shared c s i)
+    (begins : front_new ≡ front) (shares : shared_new ≡ front_new ++ tens (s + 1)) where
+  -- one more call
+  stepping_more : (call : PlainCall) → slice_get calls i ≡ Some call → new ≡ text ++ told_line p answers (record { name = name; caller = Some c; step = s; call = call })
+      → Stepping p answers name first caller step calls new front_new shared_new c (s + 1) (i + 1)
+  stepping_more call at put =
+      let line : Told → List ℕ = told_line p answers in
+      let here : List ℕ = line (record { name = name; caller = Some c; step = s; call = call }) in
+      let rest : List ℕ = flat_map line (told_from name (Some c) (s + 1) (drop (i + 1) calls)) in
+      let next : drop i calls ≡ call ∷ drop (i + 1) calls = next_item calls i call (slice_get_within calls i call at) (sym (get_or_from_slice_get calls i call call at)) in
+      record {
+        same_caller = h.same_caller;
+        at_step = omega (arith, h.at_step);
+        left =
+            ap (λ xs. xs ++ rest) put
+            ∙ append_assoc text here rest
+            ∙ ap (λ cs. text ++ flat_map line (told_from name (Some c) s cs)) (sym next)
+            ∙ h.left;
+        begins = begins ∙ h.begins;
+        shares = shares;
+      }
+
+  -- one that is answered
+  pub stepping_told : (call : PlainCall) (answer : PlainAnswer) → slice_get calls i ≡ Some call → Some answer ≡ answers c s → new ≡ text ++ (front ++ call_rest s call answer)
+      → Stepping p answers name first caller step calls new front_new shared_new c (s + 1) (i + 1)
+  stepping_told call answer at told put =
+      stepping_more call at (put ∙ ap (λ f. text ++ (f ++ call_rest s call answer)) h.begins ∙ ap (λ xs. text ++ xs) (head_line p name s call answer)
+      ∙ ap (λ o. text ++ answered_line p (record { name = name; caller = Some c; step = s; call = call }) o) told)
+
+  -- one that is not
+  pub stepping_silent : i < length calls → None ≡ answers c s → new ≡ text → Stepping p answers name first caller step calls new front_new shared_new c (s + 1) (i + 1)
+  stepping_silent within silent same =
+      elim (slice_get_cases calls i).1 [
+        | inl call ↦ stepping_more call.0 call.2 (same ∙ sym (append-nil text) ∙ ap (λ o. text ++ answered_line p (record { name = name; caller = Some c; step = s; call = call.0 }) o) silent)
+        | inr past ↦ absurd (omega (arith, within, past.0))
+      ]
 
 -- scripts after others
 told_append : (names : List (List ℕ)) (steps : List ℕ) (xs ys : List PlainScript) → told_scripts names steps (xs ++ ys) ≡ told_scripts names steps xs ++ told_scripts names (steps_after names steps xs) ys

@@ -18,26 +18,44 @@ use Rattle.session_print.specs.Lines.{newline, flushed_count, dropped_count}
 use Rattle.session_print.specs.Report.{Told, told_from, answer_of_event}
 use Rattle.session_print.specs.declared.answers.Answers.{Answers}
 use Rattle.session_print.specs.declared.fronts.Front.{Front}
-use Rattle.session_print.specs.declared.places.Place.{Place}
 use Rattle.session_print.specs.declared.places.Places.{Places}
+use Rattle.session_print.specs.declared.places.Stretch.{Stretch}
 use Rattle.session_print.specs.declared.places.Turn.{Turn}
 use Rattle.session_print.specs.declared.sums.Sums.{Sums}
 
 abbrev pub same_turn : Turn → Turn → Bool
 same_turn a b = (a.caller == b.caller) && (a.step == b.step)
 
--- the place of no entry; and the place of a caller and step: what stands in the caller's row
-abbrev pub no_place : Place
-no_place = record { after = 0 }
+-- 64 steps of a caller: the places of the first `count` stand one behind the other, from `first` on, and a place in the list stands over these
+pub record PlainStretch : Type 0 where
+  pub first : ℕ
+  pub count : ℕ
+  pub list : List ℕ
 
-abbrev pub place_in : Places → ℕ → ℕ → Place
-place_in places c step = slice_index_or (slice_index_or (map (λ row. row.items) places.rows.items) c []) step no_place
+abbrev pub stretch_of : Stretch → PlainStretch
+stretch_of s = record { first = s.first; count = s.count; list = s.list.items }
+
+abbrev pub stretches_of : List Stretch → List PlainStretch
+stretches_of row = map stretch_of row
+
+abbrev pub no_stretch : PlainStretch
+no_stretch = record { first = 0; count = 0; list = [] }
+
+-- the place of a step: of a stretch, of a caller's row, and of a caller
+abbrev pub place_at : PlainStretch → ℕ → ℕ
+place_at s step = if slice_index s.list step == 0 then (if nat_lt step s.count then s.first + step else 0) else slice_index s.list step
+
+abbrev pub place_on : List PlainStretch → ℕ → ℕ
+place_on row step = place_at (slice_index_or row (step / 64) no_stretch) (step % 64)
+
+abbrev pub place_in : Places → ℕ → ℕ → ℕ
+place_in places c step = place_on (slice_index_or (map (λ row. stretches_of row.items) places.rows.items) c []) step
 
 -- the entry at a place of a journal, and what it answers
-abbrev pub entry_at : List Entry → Place → Option Entry
-entry_at es place = if place.after == 0 then None else slice_get es (place.after - 1)
+abbrev pub entry_at : List Entry → ℕ → Option Entry
+entry_at es place = if place == 0 then None else slice_get es (place - 1)
 
-abbrev pub answer_at : List Entry → Place → Option PlainAnswer
+abbrev pub answer_at : List Entry → ℕ → Option PlainAnswer
 answer_at es place = option_and_then (λ e. answer_of_event (event_of e.event)) (entry_at es place)
 
 -- the answer to a caller's step

@@ -4,7 +4,7 @@ ghost use Rattle.tty_calls.specs.Plain.{answer_of, entry_of, event_of, entries_o
 ghost use Rattle.session_print.specs.Report.{answer_in, answer_by, answer_of_event};
 ghost use Rattle.session_print.specs.Printing.{noted_answer, entry_answer, sums_of};
 
-use super::places::{Place, Places, Turn};
+use super::places::{Places, Turn, entry_at};
 use super::sums::Sums;
 use std::alloc::Global;
 use tty_base::NoMemory;
@@ -23,7 +23,7 @@ impl<'a> Answers<'a> {
     pub(crate) fn get(&self, turn: Turn) -> Option<&'a Answer>
         ensures { option_map (λ a. answer_of a.now) result ≡ noted_answer self.now turn.caller turn.step }
     {
-        let entry = self.places.get(turn).entry(self.entries)?;
+        let entry = entry_at(self.entries, self.places.get(turn))?;
         answer_to(&entry.event)
     }
 }
@@ -52,10 +52,7 @@ pub(crate) fn walk(alloc: Global, entries: &[Entry]) -> Result<Walked<'_>, NoMem
     for (index, entry) in entries.iter().enumerate() {
         sums.add(&entry.event)?;
         if let Some(turn) = turn_of(entry) {
-            let place = Place {
-                after: index as u32 + 1,
-            };
-            places.note(alloc, turn, place)?;
+            places.note(alloc, turn, index as u32 + 1)?;
         }
     }
     let answers = Answers { entries, places };

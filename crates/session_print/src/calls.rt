@@ -1,4 +1,4 @@
-ghost use Rattle.std.specs.Prelude.{◌≡◌, ◌++◌, ◌+◌, ◌<◌, ◌^◌, Some, IfOk, OnOk, flat_map, length, map, string_bytes};
+ghost use Rattle.std.specs.Prelude.{◌≡◌, ◌++◌, ◌+◌, ◌<◌, ◌^◌, Some, IfOk, OnOk, flat_map, length, string_bytes};
 ghost use Rattle.tty_calls.specs.Plain.{call_of, answer_of};
 ghost use Rattle.tty_calls.specs.Sessions.{script_of, number_in, session_of};
 ghost use Rattle.session_print.specs.Report.{calls_text, told_line, told_from};
@@ -11,7 +11,7 @@ use super::sums::Sums;
 use super::words::{put_answer, verb_of};
 use std::alloc::{AllocError, Global};
 use tty_base::NoMemory;
-use tty_calls::{Answer, Call, Names, PortRun, Script, Session};
+use tty_calls::{Answer, Call, Calls, Names, PortRun, Script, Session};
 
 /// Adds a line for each call of a port that its journal answers, script by script, and gives the sums of
 /// the journal.
@@ -81,7 +81,7 @@ impl Teller<'_> {
             ++ flat_map (told_line self.now.port (noted_answer self.now.answers)) (told_script steps.old.items (script_of script.now) (number_in self.now.names script.now.name.bytes))) }
         ensures steps { OnOk result (steps.new.items ≡ steps_then steps.old.items (script_of script.now) (number_in self.now.names script.now.name.bytes)) }
     {
-        let calls = script.calls.as_slice();
+        let calls = &script.calls;
         match self.names.number(&script.name) {
             None => Ok(()),
             Some(caller) => {
@@ -99,17 +99,17 @@ impl Teller<'_> {
         text: &mut String,
         name: &str,
         first: Turn,
-        calls: &[Call],
+        calls: &Calls,
     ) -> Result<(), AllocError>
-        requires { first.step + length calls.now < 2 ^ 64 }
+        requires { first.step + length calls.now.items < 2 ^ 64 }
         ensures { OnOk result (string_bytes text.new ≡ string_bytes text.old
-            ++ flat_map (told_line self.now.port (noted_answer self.now.answers)) (told_from name.now (Some first.caller) first.step (map call_of calls.now))) }
+            ++ flat_map (told_line self.now.port (noted_answer self.now.answers)) (told_from name.now (Some first.caller) first.step calls.now.items)) }
     {
         let mut head = Head::new(*text.allocator(), self.port, name, first.step)?;
         let mut turn = first;
-        for call in calls {
+        for place in 0..calls.len() {
             if let Some(answer) = self.answers.get(turn) {
-                head.put_call(text, turn.step, call, answer)?;
+                head.put_call(text, turn.step, &calls.at(place), answer)?;
             }
             head.pass(turn.step)?;
             turn.step += 1;

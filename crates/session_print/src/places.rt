@@ -1,9 +1,12 @@
-ghost use Rattle.std.specs.Prelude.{◌≡◌, ℕ, OnOk, if◌then◌else◌, ◌==◌, slice_index_or};
+ghost use Rattle.std.specs.Prelude.{◌≡◌, ℕ, ◌<◌, OnOk, if◌then◌else◌, ◌==◌, slice_index, slice_index_or};
 ghost use Rattle.std.specs.Option.{option_map};
-ghost use Rattle.session_print.specs.Printing.{same_turn, no_place, place_in, entry_at};
+ghost use Rattle.session_print.specs.Printing.{same_turn, stretch_of, stretches_of, no_stretch, place_at, place_on as place_by_row, place_in, entry_at as entry_by_place};
 
 use std::alloc::{AllocError, Global};
 use tty_calls::Entry;
+
+/// How many steps a stretch has.
+const STEPS: usize = 64;
 
 /// A step of a caller: the caller's number, and the number of the step.
 #[derive(Clone, Copy)]
@@ -12,36 +15,39 @@ pub(crate) struct Turn {
     pub(crate) step: usize,
 }
 
-/// A place in a journal: how many entries there are up to it, with its own. At 0 there is none.
-#[derive(Clone, Copy)]
-pub(crate) struct Place {
-    pub(crate) after: u32,
-}
-
-impl Place {
-    /// The entry at this place of a journal.
-    #[inline(always)]
-    pub(crate) fn entry(self, entries: &[Entry]) -> Option<&Entry>
-        ensures { option_map (λ e. e.now) result ≡ entry_at entries.now self }
-    {
-        if self.after == 0 {
-            return None;
-        }
-        entries.get(self.after as usize - 1)
+/// The entry at a place of a journal. A place is how many entries there are up to it, with its own; at
+/// 0 there is none.
+#[inline(always)]
+pub(crate) fn entry_at(entries: &[Entry], place: usize) -> Option<&Entry>
+    ensures { option_map (λ e. e.now) result ≡ entry_by_place entries.now place }
+{
+    if place == 0 {
+        return None;
     }
+    entries.get(place - 1)
 }
 
-/// Places in a journal: for each caller a row, with one for each step. Of a run these are no more than
-/// its session has calls, and each takes four bytes.
+/// Places in a journal: for each caller a row, with a stretch for each 64 steps. Of a run these are no
+/// more than its session has calls. A stretch takes 32 bytes, and only where callers mix four more for
+/// each of its steps.
 #[derive(Drop)]
 pub(crate) struct Places {
-    rows: Vec<Vec<Place>>,
+    rows: Vec<Vec<Stretch>>,
+}
+
+/// The places of 64 steps of a caller. Those of the first `count` stand one behind the other, from
+/// `first` on. A place in the list, where it is not 0, stands over these.
+#[derive(Drop)]
+struct Stretch {
+    first: u32,
+    count: u32,
+    list: Vec<u32>,
 }
 
 impl Places {
     /// No places.
     pub(crate) fn new(alloc: Global) -> Places
-        ensures { (c step : ℕ) → place_in result c step ≡ no_place }
+        ensures { (c step : ℕ) → place_in result c step ≡ 0 }
     {
         Places {
             rows: Vec::new(alloc),
@@ -50,55 +56,110 @@ impl Places {
 
     /// The place of a turn.
     #[inline(always)]
-    pub(crate) fn get(&self, turn: Turn) -> Place
+    pub(crate) fn get(&self, turn: Turn) -> usize
         ensures { result ≡ place_in self.now turn.caller turn.step }
     {
         match self.rows.get(turn.caller) {
-            Some(row) => place_of(row.as_slice(), turn.step),
-            None => Place { after: 0 },
+            Some(row) => place_on(row.as_slice(), turn.step),
+            None => 0,
         }
     }
 
     /// Notes the place of a turn in place of an earlier one.
     #[inline(always)]
-    pub(crate) fn note(&mut self, alloc: Global, turn: Turn, place: Place) -> Result<(), AllocError>
+    pub(crate) fn note(&mut self, alloc: Global, turn: Turn, place: u32) -> Result<(), AllocError>
+        requires { 0 < place }
         ensures { OnOk result ((c step : ℕ) → place_in self.new c step ≡ if same_turn turn (record { caller = c; step = step }) then place else place_in self.old c step) }
     {
         while self.rows.len() <= turn.caller {
             self.rows.push(Vec::new(alloc))?;
         }
-        put_at(&mut self.rows[turn.caller], turn.step, place)
+        note_on(alloc, &mut self.rows[turn.caller], turn.step, place)
     }
 }
 
 /// The place at a step of a row.
 #[inline(always)]
-fn place_of(row: &[Place], step: usize) -> Place
-    ensures { result ≡ slice_index_or row.now step no_place }
+fn place_on(row: &[Stretch], step: usize) -> usize
+    ensures { result ≡ place_by_row (stretches_of row.now) step }
 {
-    row.get(step).copied().unwrap_or(Place { after: 0 })
+    match row.get(step / STEPS) {
+        Some(stretch) => stretch.get(step % STEPS),
+        None => 0,
+    }
 }
 
-/// Puts a place at its step in a row. The answers of a run come step by step, each at the row's end.
+/// Notes the place of a step in a row, which is made longer where it is too short.
 #[inline(always)]
-fn put_at(row: &mut Vec<Place>, step: usize, place: Place) -> Result<(), AllocError>
-    ensures { OnOk result ((at : ℕ) → slice_index_or row.new.items at no_place ≡ if step == at then place else slice_index_or row.old.items at no_place) }
+fn note_on(alloc: Global, row: &mut Vec<Stretch>, step: usize, place: u32) -> Result<(), AllocError>
+    requires { 0 < place }
+    ensures { OnOk result ((at : ℕ) → place_by_row (stretches_of row.new.items) at ≡ if step == at then place else place_by_row (stretches_of row.old.items) at) }
 {
-    if step == row.len() && step < row.capacity() {
-        row.push_reserved(place);
+    while row.len() <= step / STEPS {
+        row.push(Stretch {
+            first: place,
+            count: 0,
+            list: Vec::new(alloc),
+        })?;
+    }
+    row[step / STEPS].note(step % STEPS, place)
+}
+
+impl Stretch {
+    /// The place of a step.
+    #[inline(always)]
+    fn get(&self, step: usize) -> usize
+        ensures { result ≡ place_at (stretch_of self.now) step }
+    {
+        let listed = self.list.get(step).copied().unwrap_or(0);
+        if listed != 0 {
+            return listed as usize;
+        }
+        if step < self.count as usize {
+            return self.first as usize + step;
+        }
+        0
+    }
+
+    /// Notes the place of a step in place of an earlier one. The answers of a run come step by step.
+    #[inline(always)]
+    fn note(&mut self, step: usize, place: u32) -> Result<(), AllocError>
+        requires some { 0 < place }
+        requires within { step < 64 }
+        ensures { OnOk result ((at : ℕ) → place_at (stretch_of self.new) at ≡ if step == at then place else place_at (stretch_of self.old) at) }
+    {
+        let next = self.first as usize + step;
+        if step == self.count as usize && place as usize == next && self.list.len() <= step {
+            self.count += 1;
+            return Ok(());
+        }
+        put_at(&mut self.list, step, place)
+    }
+}
+
+/// Puts a place at its step in a list.
+#[inline(always)]
+fn put_at(list: &mut Vec<u32>, step: usize, place: u32) -> Result<(), AllocError>
+    ensures { OnOk result ((at : ℕ) → slice_index list.new.items at ≡ if step == at then place else slice_index list.old.items at) }
+{
+    if step == list.len() && step < list.capacity() {
+        list.push_reserved(place);
         return Ok(());
     }
-    put_anywhere(row, step, place)
+    put_anywhere(list, step, place)
 }
 
-/// Puts a place at its step in a row, which is made longer where it is too short.
+/// Puts a place at its step in a list, which is made longer where it is too short.
 #[inline(never)]
-fn put_anywhere(row: &mut Vec<Place>, step: usize, place: Place) -> Result<(), AllocError>
-    ensures { OnOk result ((at : ℕ) → slice_index_or row.new.items at no_place ≡ if step == at then place else slice_index_or row.old.items at no_place) }
+fn put_anywhere(list: &mut Vec<u32>, step: usize, place: u32) -> Result<(), AllocError>
+    ensures { OnOk result ((at : ℕ) → slice_index list.new.items at ≡ if step == at then place else slice_index list.old.items at) }
 {
-    while row.len() <= step {
-        row.push(Place { after: 0 })?;
+    if list.len() == 0 {
+        list.reserve(STEPS)?;
     }
-    row[step] = place;
+    while list.len() <= step {
+        list.push(0)?;
+    }
+    list[step] = place;
     Ok(())
 }

@@ -1,22 +1,25 @@
 -- What good arguments are: numbers in their ranges, names, and the verbs that were judged.
-use Rattle.std.proofs.Common.{◌≡◌, ℕ, ◌+◌, ◌<◌, ◌≤◌, ◌==◌, ◌&&◌, nat_le, nat_lt, Bool, true, false, cond, List, [], ◌∷◌, length, Option, Some, None, Result, Ok, Err, refl, sym, ◌∙◌, ap, subst, arith, zero, suc, leb-true, ltb-true}
+use Rattle.std.proofs.Common.{◌≡◌, ℕ, ◌+◌, ◌<◌, ◌≤◌, ◌==◌, ◌&&◌, ◌/◌, nat_le, nat_lt, Bool, true, false, cond, List, [], ◌∷◌, length, Option, Some, None, Result, Ok, Err, refl, sym, ◌∙◌, ap, subst, arith, zero, suc, leb-true, ltb-true}
 use Rattle.std.specs.Prelude.{is_none}
 use Rattle.std.specs.Option.{option_or}
 use Rattle.std.specs.Str.{bytes_eq}
 use Rattle.std.specs.Prelude.{codes}
 use Rattle.std.proofs.lemmas.Bool.{and_parts}
 use Rattle.std.proofs.lemmas.Bool.Decides.{Decides-eqb}
-use Rattle.text_lines.specs.Values.{is_number, number_of, word_at, number_at}
+use Rattle.text_lines.specs.Values.{is_number, is_hex, number_of, word_at, number_at}
 use Rattle.session_text.specs.declared.faults.Reason.{Reason}
 use Rattle.session_text.specs.declared.faults.Reason.TheVariants as reason
 use Rattle.session_text.specs.declared.kinds.Kind.{Kind}
 use Rattle.session_text.specs.declared.kinds.Kind.TheVariants as kind
 use Rattle.session_text.specs.declared.verbs.Verb.{Verb}
-use Rattle.session_text.specs.declared.verbs.Verb.TheVariants.{Session}
+use Rattle.session_text.specs.declared.verbs.Verb.TheVariants.{Session, Call}
+use Rattle.session_text.specs.declared.verbs.CallVerb.{CallVerb}
+use Rattle.session_text.specs.declared.verbs.CallVerb.TheVariants as call
 use Rattle.session_text.specs.declared.stands.Place.{Place}
 use Rattle.session_text.specs.declared.stands.Place.TheVariants as place
 use Rattle.session_text.specs.Verbs.{verb_of}
 use Rattle.session_text.specs.Kinds.{may_have, kind_at, fault_of, fault_from, limit_fault, word_fault}
+use Rattle.session_text.specs.Meaning.{hands_over}
 use Rattle.session_text.specs.Stands.{PlainStand, may_stand, is_good, late_fault, item_fault, unless, verdict_on, verdict_at, first_verdict, verb_verdict}
 
 pub left_none : {X : Type 0} (a b : Option X) → option_or a b ≡ None → a ≡ None
@@ -89,6 +92,41 @@ second_is_number ports verb words least most good two k =
     let word = word_at words 1 in
     number_none (is_number word) (nat_le least (number_of word) && nat_le (number_of word) most)
     (subst (λ (k : Kind). fault_of ports k word ≡ None) k (no_fault_at ports verb words 0 1 parts.1 (omega (arith, both))))
+
+hex_none : (hex fits : Bool) → cond hex (limit_fault fits) (Some reason.Hex) ≡ None → hex ≡ true
+hex_none true fits h = refl
+hex_none false fits h = cc
+
+-- the second of two good arguments is HEX where its kind says so
+second_is_hex : (ports : ℕ) (verb : Verb) (words : List (List ℕ)) (most : ℕ) → is_good ports verb words ≡ true → may_have verb (length words) ≡ (length words == 2) → kind_at verb 1 ≡ kind.Hex most → is_hex (word_at words 1) ≡ true
+second_is_hex ports verb words most good two k =
+    let parts = good_parts ports verb words good in
+    let both : length words ≡ 2 = (Decides-eqb (length words) 2).0 (sym two ∙ parts.0) in
+    let word = word_at words 1 in
+    hex_none (is_hex word) (nat_le (length word / 2) most)
+    (subst (λ (k : Kind). fault_of ports k word ≡ None) k (no_fault_at ports verb words 0 1 parts.1 (omega (arith, both))))
+
+-- what is written or sent is HEX
+pub handed_is_hex : (ports : ℕ) (verb : CallVerb) (words : List (List ℕ)) → hands_over verb ≡ true → is_good ports (Call verb) words ≡ true → is_hex (word_at words 1) ≡ true
+handed_is_hex ports call.Write words over good = second_is_hex ports (Call call.Write) words 65536 good refl refl
+handed_is_hex ports call.Send words over good = second_is_hex ports (Call call.Send) words 65536 good refl refl
+handed_is_hex ports call.Open words over good = absurd (cc)
+handed_is_hex ports call.Close words over good = absurd (cc)
+handed_is_hex ports call.Read words over good = absurd (cc)
+handed_is_hex ports call.GetModes words over good = absurd (cc)
+handed_is_hex ports call.SetModes words over good = absurd (cc)
+handed_is_hex ports call.GetDisc words over good = absurd (cc)
+handed_is_hex ports call.SetDisc words over good = absurd (cc)
+handed_is_hex ports call.Flush words over good = absurd (cc)
+handed_is_hex ports call.Xonc words over good = absurd (cc)
+handed_is_hex ports call.Inq words over good = absurd (cc)
+handed_is_hex ports call.Outq words over good = absurd (cc)
+handed_is_hex ports call.Excl words over good = absurd (cc)
+handed_is_hex ports call.Nxcl words over good = absurd (cc)
+handed_is_hex ports call.Drain words over good = absurd (cc)
+handed_is_hex ports call.Counts words over good = absurd (cc)
+handed_is_hex ports call.Vhangup words over good = absurd (cc)
+handed_is_hex ports call.Take words over good = absurd (cc)
 
 port_from : (ports : ℕ) (verb : Verb) (words : List (List ℕ)) (from at : ℕ) → fault_from ports verb from words ≡ None → kind_at verb (from + at) ≡ kind.Port → number_at words at ≤ ports
 port_from ports verb [] from at h k = omega arith

@@ -4,10 +4,8 @@ use Rattle.std.specs.List.{list_any}
 use Rattle.tty_calls.specs.Plain.{PlainCall}
 use Rattle.tty_calls.specs.Sessions.{PlainScript, script_of}
 use Rattle.tty_calls.specs.declared.sessions.Script.{Script}
-use Rattle.std.proofs.lemmas.List.{map-append, map-set, get_or-map}
-use Rattle.tty_base.specs.declared.buffers.Buffer.{Buffer}
-use Rattle.tty_calls.specs.declared.calls.Call.{Call}
-use Rattle.tty_calls.specs.Plain.{call_of}
+use Rattle.std.proofs.lemmas.List.{map-set, get_or-map}
+use Rattle.tty_calls.specs.declared.kept_calls.Calls.{Calls}
 use Rattle.session_text.specs.declared.stands.Key.{Key}
 use Rattle.session_text.specs.Drafts.{with_call}
 use Rattle.session_text.specs.Stands.{same_key}
@@ -28,14 +26,12 @@ call_added call (first ∷ other ∷ scripts) d script zero n e = absurd (omega 
 call_added call (first ∷ other ∷ scripts) d script (suc last) n e = ap (λ (xs : List PlainScript). script_of first ∷ xs) (call_added call (other ∷ scripts) d script last (omega (arith, n)) e)
 
 -- .. as its script is written
-pub call_pushed : (call : Call) (scripts : List Script) (d : Script) (calls : Buffer Call) (held : List Call) → 0 < length scripts → calls.items ≡ held ++ call ∷ [] → held ≡ (get_or scripts (length scripts - 1) d).calls.items
-    → map script_of (set scripts (length scripts - 1) (record (get_or scripts (length scripts - 1) d) { calls = calls })) ≡ with_call (call_of call) (map script_of scripts)
-call_pushed call scripts d calls held some more same =
+pub call_pushed : (call : PlainCall) (scripts : List Script) (d : Script) (calls : Calls) → 0 < length scripts → calls.items ≡ (get_or scripts (length scripts - 1) d).calls.items ++ call ∷ []
+    → map script_of (set scripts (length scripts - 1) (record (get_or scripts (length scripts - 1) d) { calls = calls })) ≡ with_call call (map script_of scripts)
+call_pushed call scripts d calls some more =
     let last = get_or scripts (length scripts - 1) d in
-    let all : map call_of calls.items ≡ map call_of last.calls.items ++ call_of call ∷ [] =
-    ap (map call_of) more ∙ map-append call_of held (call ∷ []) ∙ ap (λ (xs : List Call). map call_of xs ++ call_of call ∷ []) same in
-    call_added (call_of call) scripts d (record last { calls = calls }) (length scripts - 1) (omega (arith, some))
-    (ap (λ (cs : List PlainCall). record (script_of last) { calls = cs }) all)
+    call_added call scripts d (record last { calls = calls }) (length scripts - 1) (omega (arith, some))
+    (ap (λ (cs : List PlainCall). record (script_of last) { calls = cs }) more)
 
 -- a port's line goes on
 pub line_added : {X Y : Type 0} (f : X → List Y) (lines : List X) (port : ℕ) (d line : X) (steps : List Y) → port < length lines → f line ≡ f (get_or lines port d) ++ steps

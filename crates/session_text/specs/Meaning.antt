@@ -1,5 +1,5 @@
 -- What the items of a session mean.
-use Rattle.std.specs.Prelude.{ℕ, ◌==◌, ◌+◌, List, [], ◌∷◌, ◌++◌, length, map, drop, replicate, slice_index, slice_index_or, slice_set, unwrap_or}
+use Rattle.std.specs.Prelude.{ℕ, ◌==◌, ◌+◌, List, [], ◌∷◌, ◌++◌, length, map, drop, replicate, slice_index, slice_index_or, slice_set, unwrap_or, Bool, true, false, if◌then◌else◌}
 use Rattle.std.specs.List.{filter_map}
 use Rattle.tty_base.specs.declared.characters.Flag.{Flag}
 use Rattle.tty_base.specs.declared.characters.Flag.TheVariants as flag
@@ -63,6 +63,15 @@ call_on call.Flush h arguments = flushes h (unwrap_or (queue_of (word_at argumen
 call_on call.Xonc h arguments = steers h (unwrap_or (act_of (word_at arguments 1)) act.Ion)
 call_on call.Send h arguments = sends_packet h (bytes_of (word_at arguments 1))
 call_on verb h arguments = bare_call verb h
+
+-- whether a call hands over bytes, and those that it does
+abbrev pub hands_over : CallVerb → Bool
+hands_over call.Write = true
+hands_over call.Send = true
+hands_over verb = false
+
+abbrev pub bytes_handed : CallVerb → List (List ℕ) → List ℕ
+bytes_handed verb arguments = if hands_over verb then bytes_of (word_at arguments 1) else []
 
 abbrev pub call_in : CallVerb → List (List ℕ) → PlainCall
 call_in verb arguments = call_on verb (number_at arguments 0) arguments

@@ -35,5 +35,9 @@ phase_view p = record { lines = map (λ steps. steps.items) p.lines.items; ticks
 abbrev pub draft_of : Draft → PlainDraft
 draft_of d = record { flips = d.flips.items; phases = map phase_of d.phases.items; open_phase = option_map phase_view d.open_phase }
 
+-- a reader's two parts, as they are lent
+abbrev pub reading_at : Stand → Draft → PlainReading
+reading_at s d = record { stand = stand_of s; draft = draft_of d }
+
 abbrev pub reading_of : Reader → PlainReading
 reading_of r = record { stand = stand_of r.stand; draft = draft_of r.draft }

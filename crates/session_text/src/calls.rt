@@ -6,19 +6,16 @@ ghost use Rattle.text_lines.specs.Lines.{words_of};
 ghost use Rattle.text_lines.specs.Values.{is_hex, is_number, number_at, word_at};
 ghost use Rattle.session_text.specs.Kinds.{modes_in};
 ghost use Rattle.session_text.specs.Stands.{is_good};
-ghost use Rattle.session_text.specs.Meaning.{characters, steps_in, bare_call, call_on, call_in};
+ghost use Rattle.session_text.specs.Meaning.{characters, steps_in, bare_call, call_on, call_in, hands_over, bytes_handed};
 
 use super::verbs::{CallVerb, LineVerb, Verb};
 use super::words::{access_of, act_of, mode_of, queue_of, when_of};
 use line_steps::LineSteps;
 use std::alloc::Global;
 use text_lines::{Arguments, FirstTwo, bytes_in, number_of, split_word};
-use tty_base::{Buffer, Flag, LineStep, NoMemory};
-use tty_calls::{Access, Act, Call, Queue, When, Words};
+use tty_base::{Flag, LineStep, NoMemory};
+use tty_calls::{Access, Act, Call, Queue, When};
 use tty_modes::Word;
-
-/// How many items room is made for at a time.
-const ROOM: usize = 4;
 
 /// Adds what a line's item does.
 pub(crate) fn add_steps(
@@ -57,58 +54,61 @@ fn add_characters(
     line.add_run(flag, bytes)
 }
 
-/// The call that a verb and its arguments are, which have these mode words.
+/// The call that a verb and its arguments are, which have these mode words and hand over these bytes.
 #[inline(always)]
-pub(crate) fn call_of(
-    alloc: Global,
+pub(crate) fn call_of<'a>(
     ports: u8,
     verb: CallVerb,
     arguments: &Arguments,
-    modes: Words,
-) -> Result<Call, NoMemory>
+    modes: &'a [Word],
+    bytes: &'a [u8],
+) -> Call<'a>
     requires good { IsTrue (is_good ports (Verb.Call verb) arguments.now) }
-    requires modes { modes.items ≡ modes_in arguments.now }
-    ensures { IfOk result (λ call. call_view call ≡ call_in verb arguments.now) }
+    requires modes { modes.now ≡ modes_in arguments.now }
+    requires bytes { bytes.now ≡ bytes_handed verb arguments.now }
+    ensures { call_view result ≡ call_in verb arguments.now }
 {
     let h = arguments.first_number() as u8;
     let word = arguments.second();
     match verb {
-        CallVerb::Open => Ok(Call::Open {
+        CallVerb::Open => Call::Open {
             h,
             access: access_of(word).unwrap_or(Access::Rw),
             nonblock: arguments.count() == 3,
-        }),
-        CallVerb::Read => Ok(Call::Read {
+        },
+        CallVerb::Read => Call::Read {
             h,
             n: second_of(arguments) as u32,
-        }),
-        CallVerb::Write => Ok(Call::Write {
-            h,
-            bytes: bytes_in(alloc, word)?,
-        }),
-        CallVerb::SetModes => Ok(Call::SetModes {
+        },
+        CallVerb::Write => Call::Write { h, bytes },
+        CallVerb::SetModes => Call::SetModes {
             h,
             when: when_of(word).unwrap_or(When::Now),
             words: modes,
-        }),
-        CallVerb::SetDisc => Ok(Call::SetDisc {
+        },
+        CallVerb::SetDisc => Call::SetDisc {
             h,
             number: second_of(arguments) as u32,
-        }),
-        CallVerb::Flush => Ok(Call::Flush {
+        },
+        CallVerb::Flush => Call::Flush {
             h,
             queue: queue_of(word).unwrap_or(Queue::Both),
-        }),
-        CallVerb::Xonc => Ok(Call::Xonc {
+        },
+        CallVerb::Xonc => Call::Xonc {
             h,
             act: act_of(word).unwrap_or(Act::Ion),
-        }),
-        CallVerb::Send => Ok(Call::SendPacket {
-            h,
-            bytes: bytes_in(alloc, word)?,
-        }),
-        _ => Ok(bare_call(verb, h)),
+        },
+        CallVerb::Send => Call::SendPacket { h, bytes },
+        _ => bare_call(verb, h),
     }
+}
+
+/// Whether a call hands over bytes, which its second argument writes.
+#[inline(always)]
+pub(crate) fn hands_over(verb: CallVerb) -> bool
+    ensures { result ≡ hands_over verb }
+{
+    matches!(verb, CallVerb::Write | CallVerb::Send)
 }
 
 /// The number that is the second argument, which was judged to be one.
@@ -122,7 +122,7 @@ fn second_of(arguments: &Arguments) -> u64
 
 /// A call that has its handle alone.
 #[inline(always)]
-fn bare_call(verb: CallVerb, h: u8) -> Call
+fn bare_call<'a>(verb: CallVerb, h: u8) -> Call<'a>
     ensures { call_view result ≡ bare_call verb h }
 {
     match verb {
@@ -140,28 +140,28 @@ fn bare_call(verb: CallVerb, h: u8) -> Call
     }
 }
 
-/// The mode words among the arguments behind the second, and how many arguments there are. Each word is
-/// parted once, for both.
-pub(crate) fn modes_of(alloc: Global, arguments: &FirstTwo) -> Result<(Words, usize), NoMemory>
+/// Makes a list the mode words among the arguments behind the second, and answers how many arguments
+/// there are. Each word is parted once, for both.
+pub(crate) fn modes_into(modes: &mut Vec<Word>, arguments: &FirstTwo) -> Result<usize, NoMemory>
     requires { 2 < length arguments.now }
-    ensures { IfOk result (λ read. (read.0.items ≡ modes_in arguments.now) × (read.1 ≡ length arguments.now)) }
+    ensures words { OnOk result (modes.new.items ≡ modes_in arguments.now) }
+    ensures count { IfOk result (λ count. count ≡ length arguments.now) }
 {
-    let mut modes = Buffer::new(alloc);
-    let count = add_modes(&mut modes, arguments.more())?;
-    Ok((modes.into_vec(), count))
+    modes.clear();
+    add_modes(modes, arguments.more())
 }
 
-/// The same where nothing stands behind the second. It takes no memory.
+/// The mode words where nothing stands behind the second argument.
 #[inline(always)]
-pub(crate) fn no_modes(alloc: Global, arguments: &FirstTwo) -> Words
+pub(crate) fn no_modes<'a>(arguments: &FirstTwo) -> &'a [Word]
     requires { length arguments.now ≤ 2 }
-    ensures { result.items ≡ modes_in arguments.now }
+    ensures { result.now ≡ modes_in arguments.now }
 {
-    Words::new(alloc)
+    &[]
 }
 
 /// Adds the mode words of a line, and counts its words from two on.
-fn add_modes(modes: &mut Buffer<Word>, line: &[u8]) -> Result<usize, NoMemory>
+fn add_modes(modes: &mut Vec<Word>, line: &[u8]) -> Result<usize, NoMemory>
     ensures words { OnOk result (modes.new.items ≡ modes.old.items ++ filter_map mode_in (words_of line.now)) }
     ensures count { IfOk result (λ count. count ≡ length (words_of line.now) + 2) }
 {
@@ -169,23 +169,10 @@ fn add_modes(modes: &mut Buffer<Word>, line: &[u8]) -> Result<usize, NoMemory>
     let mut rest = line;
     while let Some((word, after)) = split_word(rest) {
         if let Some(mode) = mode_of(word) {
-            make_room(modes)?;
-            modes.add(mode);
+            modes.push(mode)?;
         }
         rest = after;
         count += 1;
     }
     Ok(count)
-}
-
-/// Makes room for one more item. It is made for some at once, so that mostly there is some.
-#[inline(always)]
-pub(crate) fn make_room<T>(items: &mut Buffer<T>) -> Result<(), NoMemory>
-    ensures items { items.new.items ≡ items.old.items }
-    ensures room { OnOk result (0 < items.new.spare) }
-{
-    if items.spare() == 0 {
-        items.reserve(ROOM)?;
-    }
-    Ok(())
 }

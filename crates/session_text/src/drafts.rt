@@ -3,18 +3,19 @@ ghost use Rattle.tty_calls.specs.Plain.{call_of as call_view};
 ghost use Rattle.tty_calls.specs.Sessions.{session_of as session_view, phase_of, script_of};
 ghost use Rattle.session_text.specs.Kinds.{modes_in};
 ghost use Rattle.session_text.specs.Stands.{is_good};
-ghost use Rattle.session_text.specs.Meaning.{steps_in, empty_phase};
+ghost use Rattle.session_text.specs.Meaning.{steps_in, call_in, empty_phase};
 ghost use Rattle.session_text.specs.Drafts.{first_draft, all_phases, session_with, with_call, with_open, phase_after, draft_after};
 ghost use Rattle.session_text.specs.Views.{stand_of, phase_view, draft_of};
 
-use super::calls::{add_steps, call_of, make_room};
+use super::calls::{add_steps, call_of, hands_over};
 use super::stands::Stand;
-use super::verbs::{LineVerb, Verb};
+use super::verbs::{CallVerb, LineVerb, Verb};
 use line_steps::LineSteps;
 use std::alloc::Global;
-use text_lines::{Arguments, name_of};
+use text_lines::{Arguments, bytes_into, name_of};
 use tty_base::{Buffer, NoMemory};
-use tty_calls::{Call, Phase, Script, Session, Words};
+use tty_calls::{Call, Calls, Phase, Script, Session};
+use tty_modes::Word;
 
 const FLIP: u32 = 4_096;
 
@@ -33,6 +34,8 @@ pub(crate) struct Draft {
     /// The phases before the open one.
     phases: Buffer<Phase>,
     open_phase: Option<OpenPhase>,
+    /// The bytes of the call that was read last. Their room is used again.
+    bytes: Vec<u8>,
 }
 
 impl Draft {
@@ -44,6 +47,7 @@ impl Draft {
             flips: Vec::new(alloc),
             phases: Buffer::new(alloc),
             open_phase: None,
+            bytes: Vec::new(alloc),
         }
     }
 
@@ -55,10 +59,10 @@ impl Draft {
         stand: &Stand,
         verb: Verb,
         arguments: &Arguments,
-        modes: Words,
+        modes: &[Word],
     ) -> Result<(), NoMemory>
         requires good { IsTrue (is_good stand.now.ports verb arguments.now) }
-        requires modes { modes.items ≡ modes_in arguments.now }
+        requires modes { modes.now ≡ modes_in arguments.now }
         ensures { OnOk result (draft_of self.new ≡ draft_after (stand_of stand.now) (draft_of self.old) verb arguments.now) }
     {
         match verb {
@@ -110,15 +114,15 @@ impl Draft {
         stand: &Stand,
         verb: Verb,
         arguments: &Arguments,
-        modes: Words,
+        modes: &[Word],
     ) -> Result<(), NoMemory>
         requires good { IsTrue (is_good stand.now.ports verb arguments.now) }
-        requires modes { modes.items ≡ modes_in arguments.now }
+        requires modes { modes.now ≡ modes_in arguments.now }
         ensures { OnOk result (draft_of self.new ≡ with_open (draft_of self.old) (phase_after (stand_of stand.now) verb arguments.now)) }
     {
         match &mut self.open_phase {
             None => Ok(()),
-            Some(phase) => phase.add(alloc, stand, verb, arguments, modes),
+            Some(phase) => phase.add(alloc, stand, verb, arguments, modes, &mut self.bytes),
         }
     }
 
@@ -168,10 +172,11 @@ impl OpenPhase {
         stand: &Stand,
         verb: Verb,
         arguments: &Arguments,
-        modes: Words,
+        modes: &[Word],
+        bytes: &mut Vec<u8>,
     ) -> Result<(), NoMemory>
         requires good { IsTrue (is_good stand.now.ports verb arguments.now) }
-        requires modes { modes.items ≡ modes_in arguments.now }
+        requires modes { modes.now ≡ modes_in arguments.now }
         ensures { OnOk result (phase_view self.new ≡ phase_after (stand_of stand.now) verb arguments.now (phase_view self.old)) }
     {
         let ports = stand.ports();
@@ -180,7 +185,7 @@ impl OpenPhase {
                 let script = Script {
                     port: arguments.second_number() as u8,
                     name: name_of(arguments.first()),
-                    calls: Buffer::new(alloc),
+                    calls: Calls::new(alloc),
                 };
                 Ok(self.callers.push(script)?)
             }
@@ -193,8 +198,7 @@ impl OpenPhase {
                 add_to_line(alloc, &mut self.lines, port, ports, step, arguments)
             }
             Verb::Call(call) => {
-                let call = call_of(alloc, ports, call, arguments, modes)?;
-                add_call(&mut self.callers, call)
+                add_call_of(&mut self.callers, ports, call, arguments, modes, bytes)
             }
             _ => Ok(()),
         }
@@ -250,16 +254,39 @@ fn add_to_line(
     Ok(())
 }
 
+/// Adds the call that a verb and its arguments are, which have these mode words, to the last caller's.
+/// Its bytes are written to the list on the way; a call that hands over none does without.
+#[inline(always)]
+fn add_call_of(
+    callers: &mut Vec<Script>,
+    ports: u8,
+    verb: CallVerb,
+    arguments: &Arguments,
+    modes: &[Word],
+    bytes: &mut Vec<u8>,
+) -> Result<(), NoMemory>
+    requires good { IsTrue (is_good ports (Verb.Call verb) arguments.now) }
+    requires modes { modes.now ≡ modes_in arguments.now }
+    ensures { OnOk result (map script_of callers.new.items ≡ with_call (call_in verb arguments.now) (map script_of callers.old.items)) }
+{
+    if hands_over(verb) {
+        bytes_into(bytes, arguments.second())?;
+        let call = call_of(ports, verb, arguments, modes, bytes.as_slice());
+        add_call(callers, &call)
+    } else {
+        let call = call_of(ports, verb, arguments, modes, &[]);
+        add_call(callers, &call)
+    }
+}
+
 /// Adds a call to the last caller's.
 #[inline(always)]
-fn add_call(callers: &mut [Script], call: Call) -> Result<(), NoMemory>
-    ensures { OnOk result (map script_of callers.new ≡ with_call (call_view call) (map script_of callers.old)) }
+fn add_call(callers: &mut [Script], call: &Call) -> Result<(), NoMemory>
+    ensures { OnOk result (map script_of callers.new ≡ with_call (call_view call.now) (map script_of callers.old)) }
 {
     let count = callers.len();
     if count > 0 {
-        let calls = &mut callers[count - 1].calls;
-        make_room(calls)?;
-        calls.add(call);
+        callers[count - 1].calls.add(call)?;
     }
     Ok(())
 }

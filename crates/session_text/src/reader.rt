@@ -7,9 +7,9 @@ ghost use Rattle.tty_calls.specs.Sessions.{session_of as session_view};
 ghost use Rattle.text_lines.specs.Lines.{words_of};
 ghost use Rattle.session_text.specs.Reading.{Gives, first_reading, reading_with, reading_after_line, reading_after_item, session_at_end, session_in};
 ghost use Rattle.session_text.specs.Stands.{verdict_on, is_ended, is_good};
-ghost use Rattle.session_text.specs.Views.{stand_of, reading_of};
+ghost use Rattle.session_text.specs.Views.{stand_of, reading_of, reading_at};
 
-use super::calls::{modes_of, no_modes};
+use super::calls::{modes_into, no_modes};
 use super::drafts::Draft;
 use super::faults::{BadLine, Reason, TextFault};
 use super::stands::{Place, Stand};
@@ -17,13 +17,16 @@ use super::verbs::Verb;
 use std::alloc::Global;
 use text_lines::{Arguments, FirstTwo, is_comment, split_line, split_word};
 use tty_base::NoMemory;
-use tty_calls::{Session, Words};
+use tty_calls::Session;
+use tty_modes::Word;
 
 /// Where the reader of a text stands, and what it has read.
 #[derive(Debug, Drop)]
 pub struct Reader {
     stand: Stand,
     draft: Draft,
+    /// The mode words of the last line of more than two arguments. Their room is used again.
+    modes: Vec<Word>,
 }
 
 impl Reader {
@@ -34,6 +37,7 @@ impl Reader {
         Reader {
             stand: Stand::new(alloc),
             draft: Draft::new(alloc),
+            modes: Vec::new(alloc),
         }
     }
 
@@ -63,8 +67,9 @@ impl Reader {
         ensures { Gives (λ _. reading_of self.new) result (reading_after_item (reading_of self.old) number arguments.now (verdict_on (stand_of self.old.stand) word.now arguments.now)) }
     {
         if arguments.are_all() {
-            let modes = no_modes(alloc, arguments);
-            self.read_by(alloc, number, word, &arguments.whole(), modes)
+            let modes = no_modes(arguments);
+            let (stand, draft) = (&mut self.stand, &mut self.draft);
+            read_by(alloc, stand, draft, number, word, &arguments.whole(), modes)
         } else {
             self.read_longer(alloc, number, word, arguments)
         }
@@ -82,82 +87,11 @@ impl Reader {
         requires { 2 < length arguments.now }
         ensures { Gives (λ _. reading_of self.new) result (reading_after_item (reading_of self.old) number arguments.now (verdict_on (stand_of self.old.stand) word.now arguments.now)) }
     {
-        let (modes, count) = modes_of(alloc, arguments)?;
-        self.read_by(alloc, number, word, &arguments.counted(count), modes)
-    }
-
-    /// Reads an item that has these mode words. It stands twice where items are read, so that the way
-    /// of those that have none carries none.
-    #[inline(always)]
-    fn read_by(
-        &mut self,
-        alloc: Global,
-        number: u32,
-        word: &[u8],
-        arguments: &Arguments,
-        modes: Words,
-    ) -> Result<(), TextFault>
-        requires { modes.items ≡ modes_in arguments.now }
-        ensures { Gives (λ _. reading_of self.new) result (reading_after_item (reading_of self.old) number arguments.now (verdict_on (stand_of self.old.stand) word.now arguments.now)) }
-    {
-        match self.stand.judge(word, arguments, modes.len()) {
-            Ok(verb) => Ok(self.take_item(alloc, verb, arguments, modes)?),
-            Err(reason) => Err(TextFault::Bad(BadLine {
-                line: number,
-                reason,
-            })),
-        }
-    }
-
-    /// Reads an item that is not wrong, and that has these mode words. Most are calls: these are taken
-    /// here, and the others apart.
-    #[inline(always)]
-    fn take_item(
-        &mut self,
-        alloc: Global,
-        verb: Verb,
-        arguments: &Arguments,
-        modes: Words,
-    ) -> Result<(), NoMemory>
-        requires good { IsTrue (is_good self.old.stand.ports verb arguments.now) }
-        requires modes { modes.items ≡ modes_in arguments.now }
-        ensures { OnOk result (reading_of self.new ≡ reading_with (reading_of self.old) verb arguments.now) }
-    {
-        match verb {
-            Verb::Call(call) => self.take_any(alloc, Verb::Call(call), arguments, modes),
-            _ => self.take_apart(alloc, verb, arguments, modes),
-        }
-    }
-
-    #[inline(never)]
-    fn take_apart(
-        &mut self,
-        alloc: Global,
-        verb: Verb,
-        arguments: &Arguments,
-        modes: Words,
-    ) -> Result<(), NoMemory>
-        requires good { IsTrue (is_good self.old.stand.ports verb arguments.now) }
-        requires modes { modes.items ≡ modes_in arguments.now }
-        ensures { OnOk result (reading_of self.new ≡ reading_with (reading_of self.old) verb arguments.now) }
-    {
-        self.take_any(alloc, verb, arguments, modes)
-    }
-
-    #[inline(always)]
-    fn take_any(
-        &mut self,
-        alloc: Global,
-        verb: Verb,
-        arguments: &Arguments,
-        modes: Words,
-    ) -> Result<(), NoMemory>
-        requires good { IsTrue (is_good self.old.stand.ports verb arguments.now) }
-        requires modes { modes.items ≡ modes_in arguments.now }
-        ensures { OnOk result (reading_of self.new ≡ reading_with (reading_of self.old) verb arguments.now) }
-    {
-        self.draft.add(alloc, &self.stand, verb, arguments, modes)?;
-        self.stand.take(alloc, verb, arguments)
+        let count = modes_into(&mut self.modes, arguments)?;
+        let arguments = arguments.counted(count);
+        let modes = self.modes.as_slice();
+        let (stand, draft) = (&mut self.stand, &mut self.draft);
+        read_by(alloc, stand, draft, number, word, &arguments, modes)
     }
 
     /// Whether the session is over.
@@ -179,6 +113,84 @@ impl Reader {
         }
         Ok(self.draft.finish(&self.stand)?)
     }
+}
+
+/// Reads an item that has these mode words. It stands twice where items are read, so that the way
+/// of those that have none carries none.
+#[inline(always)]
+fn read_by(
+    alloc: Global,
+    stand: &mut Stand,
+    draft: &mut Draft,
+    number: u32,
+    word: &[u8],
+    arguments: &Arguments,
+    modes: &[Word],
+) -> Result<(), TextFault>
+    requires { modes.now ≡ modes_in arguments.now }
+    ensures { Gives (λ _. reading_at stand.new draft.new) result (reading_after_item (reading_at stand.old draft.old) number arguments.now (verdict_on (stand_of stand.old) word.now arguments.now)) }
+{
+    match stand.judge(word, arguments, modes.len()) {
+        Ok(verb) => Ok(take_item(alloc, stand, draft, verb, arguments, modes)?),
+        Err(reason) => Err(TextFault::Bad(BadLine {
+            line: number,
+            reason,
+        })),
+    }
+}
+
+/// Reads an item that is not wrong, and that has these mode words. Most are calls: these are taken
+/// here, and the others apart.
+#[inline(always)]
+fn take_item(
+    alloc: Global,
+    stand: &mut Stand,
+    draft: &mut Draft,
+    verb: Verb,
+    arguments: &Arguments,
+    modes: &[Word],
+) -> Result<(), NoMemory>
+    requires good { IsTrue (is_good stand.old.ports verb arguments.now) }
+    requires modes { modes.now ≡ modes_in arguments.now }
+    ensures { OnOk result (reading_at stand.new draft.new ≡ reading_with (reading_at stand.old draft.old) verb arguments.now) }
+{
+    match verb {
+        Verb::Call(call) => take_any(alloc, stand, draft, Verb::Call(call), arguments, modes),
+        _ => take_apart(alloc, stand, draft, verb, arguments, modes),
+    }
+}
+
+#[inline(never)]
+fn take_apart(
+    alloc: Global,
+    stand: &mut Stand,
+    draft: &mut Draft,
+    verb: Verb,
+    arguments: &Arguments,
+    modes: &[Word],
+) -> Result<(), NoMemory>
+    requires good { IsTrue (is_good stand.old.ports verb arguments.now) }
+    requires modes { modes.now ≡ modes_in arguments.now }
+    ensures { OnOk result (reading_at stand.new draft.new ≡ reading_with (reading_at stand.old draft.old) verb arguments.now) }
+{
+    take_any(alloc, stand, draft, verb, arguments, modes)
+}
+
+#[inline(always)]
+fn take_any(
+    alloc: Global,
+    stand: &mut Stand,
+    draft: &mut Draft,
+    verb: Verb,
+    arguments: &Arguments,
+    modes: &[Word],
+) -> Result<(), NoMemory>
+    requires good { IsTrue (is_good stand.old.ports verb arguments.now) }
+    requires modes { modes.now ≡ modes_in arguments.now }
+    ensures { OnOk result (reading_at stand.new draft.new ≡ reading_with (reading_at stand.old draft.old) verb arguments.now) }
+{
+    draft.add(alloc, stand, verb, arguments, modes)?;
+    stand.take(alloc, verb, arguments)
 }
 
 /// The session that a text spells. `Bad` comes exactly where it spells none, and names its first wrong

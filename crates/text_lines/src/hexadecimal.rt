@@ -1,4 +1,4 @@
-ghost use Rattle.std.specs.Prelude.{◌≡◌, ◌==◌, ◌%◌, ◌*◌, ◌+◌, ◌++◌, ℕ, IsTrue, Some, length, IfOk, OnOk};
+ghost use Rattle.std.specs.Prelude.{◌≡◌, ◌==◌, ◌%◌, ◌*◌, ◌+◌, ◌++◌, ℕ, IsTrue, Some, length, IfOk, OnOk, OnErr};
 ghost use Rattle.std.specs.List.{list_all};
 ghost use Rattle.hex.specs.Hex.{hex_digit_value, is_hex_digit};
 ghost use Rattle.text_lines.specs.Values.{is_hex, bytes_of as bytes_written};
@@ -85,14 +85,37 @@ pub fn bytes_in(alloc: Global, word: &[u8]) -> Result<Vec<u8>, NoMemory>
     short_bytes_in(alloc, word)
 }
 
+/// Makes a list the bytes that HEX writes. Only where it is longer than ever before does it take memory;
+/// `NoMemory` leaves it as it was.
+pub fn bytes_into(bytes: &mut Vec<u8>, word: &[u8]) -> Result<(), NoMemory>
+    requires { IsTrue (is_hex word.now) }
+    ensures ok { OnOk result (bytes.new.items ≡ bytes_written word.now) }
+    ensures err { OnErr result (bytes.new.items ≡ bytes.old.items) }
+{
+    write_digits(bytes, word)
+}
+
+/// What was in the list is overwritten, and room is filled only behind it.
+#[inline(always)]
+fn write_digits(bytes: &mut Vec<u8>, word: &[u8]) -> Result<(), NoMemory>
+    requires digits { IsTrue (list_all is_hex_digit word.now) }
+    requires even { length word.now % 2 ≡ 0 }
+    ensures ok { OnOk result (bytes.new.items ≡ bytes_written word.now) }
+    ensures err { OnErr result (bytes.new.items ≡ bytes.old.items) }
+{
+    bytes.resize(word.len() / 2, 0)?;
+    write_bytes(word, bytes);
+    Ok(())
+}
+
 #[inline(always)]
 fn short_bytes_in(alloc: Global, word: &[u8]) -> Result<Vec<u8>, NoMemory>
     requires digits { IsTrue (list_all is_hex_digit word.now) }
     requires even { length word.now % 2 ≡ 0 }
     ensures { IfOk result (λ bytes. bytes.items ≡ bytes_written word.now) }
 {
-    let mut bytes = vec![in alloc; 0; word.len() / 2]?;
-    write_bytes(word, &mut bytes);
+    let mut bytes = Vec::with_capacity(alloc, word.len() / 2)?;
+    write_digits(&mut bytes, word)?;
     Ok(bytes)
 }
 

@@ -13,7 +13,7 @@ mod names;
 mod numbers;
 
 pub use arguments::{Arguments, FirstTwo};
-pub use hexadecimal::{bytes_in, bytes_of, is_hex};
+pub use hexadecimal::{bytes_in, bytes_into, bytes_of, is_hex};
 pub use lines::{is_comment, split_line, split_word, word_at};
 pub use names::{is_name, name_of};
 pub use numbers::{is_number, number_at, number_of, read_number};

@@ -4,16 +4,21 @@ use std::alloc::{AllocError, Global};
 use std::test::Fail;
 use tty_base::{Buffer, Bytes, Chars, Counts, Errno, Flag, Flagged, LineReport, Overrun, Signal};
 use tty_calls::{
-    Access, Answer, Call, Entry, Event, Phase, PortEnd, PortRun, Purge, Script, Session, When, Who,
+    Access, Answer, Call, Calls, Entry, Event, Phase, PortEnd, PortRun, Purge, Script, Session,
+    When, Who,
 };
 use tty_modes::Modes;
 
-fn script_of(port: u8, name: &str, calls: Vec<Call>) -> Script {
-    Script {
+fn script_of(alloc: Global, port: u8, name: &str, calls: &[Call]) -> Result<Script, AllocError> {
+    let mut list = Calls::new(alloc);
+    for call in calls {
+        list.add(call).map_err(|_| AllocError)?;
+    }
+    Ok(Script {
         port,
         name: ArrayString::from(name).unwrap_or(ArrayString::new()),
-        calls: Buffer::from_vec(calls),
-    }
+        calls: list,
+    })
 }
 
 fn phase_of(alloc: Global, callers: Vec<Script>) -> Phase {
@@ -66,7 +71,7 @@ fn chars_of(alloc: Global, chars: &[Flagged]) -> Result<Chars, AllocError> {
     Ok(list)
 }
 
-fn open() -> Call {
+fn open<'a>() -> Call<'a> {
     Call::Open {
         h: 0,
         access: Access::Rw,
@@ -77,10 +82,10 @@ fn open() -> Call {
 /// Two callers, whose answers do not stand in the order of the text.
 fn two_callers(alloc: Global) -> Result<Session, AllocError> {
     let read = Call::Read { h: 0, n: 8 };
-    let first = script_of(0, "a", vec![in alloc; open(), read]?);
-    let second = script_of(0, "b", vec![in alloc; Call::Read { h: 1, n: 8 }]?);
-    let third = script_of(0, "b", vec![in alloc; Call::Close { h: 0 }]?);
-    let fourth = script_of(0, "a", vec![in alloc; Call::Read { h: 0, n: 4 }]?);
+    let first = script_of(alloc, 0, "a", &[open(), read])?;
+    let second = script_of(alloc, 0, "b", &[Call::Read { h: 1, n: 8 }])?;
+    let third = script_of(alloc, 0, "b", &[Call::Close { h: 0 }])?;
+    let fourth = script_of(alloc, 0, "a", &[Call::Read { h: 0, n: 4 }])?;
     let early = phase_of(alloc, vec![in alloc; first, second]?);
     let late = phase_of(alloc, vec![in alloc; third, fourth]?);
     Ok(Session {
@@ -125,29 +130,29 @@ fn each_call_is_told_with_the_answer_of_its_caller_and_step(rt: HostRuntime) -> 
 
 /// One caller on the second of two ports, whose calls are answered in every way.
 fn every_answer(alloc: Global) -> Result<Session, AllocError> {
-    let calls = vec![in alloc;
+    let calls = [
         Call::GetModes { h: 0 },
         Call::Counts { h: 0 },
         Call::Inq { h: 0 },
         Call::Write {
             h: 0,
-            bytes: b"hello".to_vec(alloc)?
+            bytes: b"hello".as_slice(),
         },
         Call::TakePacket { h: 0 },
         Call::Read { h: 0, n: 1 },
         Call::SendPacket {
             h: 0,
-            bytes: b"x".to_vec(alloc)?
+            bytes: b"x".as_slice(),
         },
         Call::Drain { h: 0 },
         Call::SetModes {
             h: 0,
             when: When::Drain,
-            words: Vec::new(alloc)
+            words: &[],
         },
         Call::GetDisc { h: 0 },
-    ]?;
-    let scripts = vec![in alloc; script_of(1, "all_1", calls)]?;
+    ];
+    let scripts = vec![in alloc; script_of(alloc, 1, "all_1", &calls)?]?;
     Ok(Session {
         version: 2,
         ports: 2,
@@ -227,11 +232,11 @@ fn three_bytes(alloc: Global) -> Result<Session, AllocError> {
     let modes = Call::SetModes {
         h: 0,
         when: When::Now,
-        words: Vec::new(alloc),
+        words: &[],
     };
     let read = Call::Read { h: 0, n: 64 };
-    let first = script_of(0, "a", vec![in alloc; open(), modes]?);
-    let second = script_of(0, "a", vec![in alloc; read, Call::Close { h: 0 }]?);
+    let first = script_of(alloc, 0, "a", &[open(), modes])?;
+    let second = script_of(alloc, 0, "a", &[read, Call::Close { h: 0 }])?;
     let early = phase_of(alloc, vec![in alloc; first]?);
     let late = phase_of(alloc, vec![in alloc; second]?);
     Ok(Session {

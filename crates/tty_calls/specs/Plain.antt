@@ -75,9 +75,9 @@ abbrev pub call_of : Call → PlainCall
 call_of (calls.Open h access nonblock) = opens h access nonblock
 call_of (calls.Close h) = closes h
 call_of (calls.Read h n) = reads h n
-call_of (calls.Write h bytes) = writes h bytes.items
+call_of (calls.Write h bytes) = writes h bytes.now
 call_of (calls.GetModes h) = gets_modes h
-call_of (calls.SetModes h when words) = sets_modes h when words.items
+call_of (calls.SetModes h when words) = sets_modes h when words.now
 call_of (calls.GetDisc h) = gets_disc h
 call_of (calls.SetDisc h number) = sets_disc h number
 call_of (calls.Flush h queue) = flushes h queue
@@ -89,7 +89,7 @@ call_of (calls.Nxcl h) = admits h
 call_of (calls.Drain h) = drains h
 call_of (calls.Counts h) = gets_counts h
 call_of (calls.Vhangup h) = hangs_up h
-call_of (calls.SendPacket h bytes) = sends_packet h bytes.items
+call_of (calls.SendPacket h bytes) = sends_packet h bytes.now
 call_of (calls.TakePacket h) = takes_packet h
 
 -- the number of the handle that a call names

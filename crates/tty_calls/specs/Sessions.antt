@@ -6,7 +6,7 @@ use Rattle.tty_base.specs.declared.lines.LineStep.{LineStep}
 use Rattle.tty_calls.specs.declared.sessions.Script.{Script}
 use Rattle.tty_calls.specs.declared.sessions.Phase.{Phase}
 use Rattle.tty_calls.specs.declared.sessions.Session.{Session}
-use Rattle.tty_calls.specs.Plain.{PlainCall, call_of}
+use Rattle.tty_calls.specs.Plain.{PlainCall}
 
 -- one caller's calls in a phase
 pub record PlainScript : Type 0 where
@@ -27,7 +27,7 @@ pub record PlainSession : Type 0 where
   pub phases : List PlainPhase
 
 abbrev pub script_of : Script → PlainScript
-script_of s = record { port = s.port; name = s.name.bytes; calls = map call_of s.calls.items }
+script_of s = record { port = s.port; name = s.name.bytes; calls = s.calls.items }
 
 abbrev pub phase_of : Phase → PlainPhase
 phase_of p = record { lines = map (λ steps. steps.items) p.lines.items; ticks = p.ticks.items; callers = map script_of p.callers.items }

@@ -1,8 +1,6 @@
-ghost use Rattle.std.specs.Prelude.{◌≡◌, IfOk};
+ghost use Rattle.std.specs.Prelude.{◌≡◌};
 ghost use Rattle.tty_calls.specs.Plain.{call_of, handle_of, changes};
 
-use std::alloc::Global;
-use tty_base::{Moves, NoMemory};
 use tty_modes::Word;
 
 /// What a handle may be used for (open(2), access mode).
@@ -47,12 +45,10 @@ pub enum Act {
     Ion,
 }
 
-/// A list of mode words.
-pub type Words = Vec<Word>;
-
-/// A call of a terminal. A handle `h` is a number below 32 that the caller chooses at `Open`.
-#[derive(Debug, Drop)]
-pub enum Call {
+/// A call of a terminal. A handle `h` is a number below 32 that the caller chooses at `Open`. Bytes and
+/// mode words stand with whoever makes the call.
+#[derive(Clone, Copy, Debug)]
+pub enum Call<'a> {
     /// Opens the port under the number `h` (open(2)).
     Open {
         h: u8,
@@ -71,7 +67,7 @@ pub enum Call {
     /// Writes 1 to 65,536 bytes (write(2)).
     Write {
         h: u8,
-        bytes: Vec<u8>,
+        bytes: &'a [u8],
     },
     /// Asks for the modes (ioctl_tty(2), TCGETS).
     GetModes {
@@ -81,7 +77,7 @@ pub enum Call {
     SetModes {
         h: u8,
         when: When,
-        words: Words,
+        words: &'a [Word],
     },
     /// Asks for the number of the line discipline (ioctl_tty(2), TIOCGETD).
     GetDisc {
@@ -133,7 +129,7 @@ pub enum Call {
     /// Sends a packet of 1 to 65,536 bytes (RFC 1055), of which SLIP takes at most 1,006.
     SendPacket {
         h: u8,
-        bytes: Vec<u8>,
+        bytes: &'a [u8],
     },
     /// Takes the first packet that was received (RFC 1055).
     TakePacket {
@@ -141,9 +137,7 @@ pub enum Call {
     },
 }
 
-impl Moves for Call {}
-
-impl Call {
+impl Call<'_> {
     /// The number of the handle that the call names.
     pub fn handle(&self) -> u8
         ensures { result ≡ handle_of (call_of self.now) }
@@ -168,51 +162,5 @@ impl Call {
             Call::Close { .. } | Call::SetDisc { .. } | Call::Vhangup { .. } => true,
             _ => false,
         }
-    }
-
-    /// An equal call, with memory of its own.
-    #[inline(always)]
-    pub fn copy(&self, alloc: Global) -> Result<Call, NoMemory>
-        ensures { IfOk result (λ copy. call_of copy ≡ call_of self.now) }
-    {
-        Ok(match *self {
-            Call::Open {
-                h,
-                access,
-                nonblock,
-            } => Call::Open {
-                h,
-                access,
-                nonblock,
-            },
-            Call::Close { h } => Call::Close { h },
-            Call::Read { h, n } => Call::Read { h, n },
-            Call::Write { h, ref bytes } => Call::Write {
-                h,
-                bytes: bytes.as_slice().to_vec(alloc)?,
-            },
-            Call::GetModes { h } => Call::GetModes { h },
-            Call::SetModes { h, when, ref words } => Call::SetModes {
-                h,
-                when,
-                words: words.as_slice().to_vec(alloc)?,
-            },
-            Call::GetDisc { h } => Call::GetDisc { h },
-            Call::SetDisc { h, number } => Call::SetDisc { h, number },
-            Call::Flush { h, queue } => Call::Flush { h, queue },
-            Call::Xonc { h, act } => Call::Xonc { h, act },
-            Call::Inq { h } => Call::Inq { h },
-            Call::Outq { h } => Call::Outq { h },
-            Call::Excl { h } => Call::Excl { h },
-            Call::Nxcl { h } => Call::Nxcl { h },
-            Call::Drain { h } => Call::Drain { h },
-            Call::Counts { h } => Call::Counts { h },
-            Call::Vhangup { h } => Call::Vhangup { h },
-            Call::SendPacket { h, ref bytes } => Call::SendPacket {
-                h,
-                bytes: bytes.as_slice().to_vec(alloc)?,
-            },
-            Call::TakePacket { h } => Call::TakePacket { h },
-        })
     }
 }

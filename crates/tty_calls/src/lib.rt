@@ -5,12 +5,14 @@
 mod answers;
 mod calls;
 mod journals;
+mod kept_calls;
 mod names;
 mod sessions;
 
 pub use answers::{Answer, AnswerRoom, Denied, PortEnd};
-pub use calls::{Access, Act, Call, Queue, When, Words};
+pub use calls::{Access, Act, Call, Queue, When};
 pub use journals::{Entry, Event, Journal, PortRun, Purge, Who};
+pub use kept_calls::Calls;
 pub use names::Names;
 pub use sessions::{Phase, Script, Session};
 

@@ -1,4 +1,4 @@
-use super::calls::Call;
+use super::kept_calls::Calls;
 use arrayvec::ArrayString;
 use line_steps::LineSteps;
 use tty_base::{Buffer, Moves};
@@ -9,7 +9,7 @@ pub struct Script {
     pub port: u8,
     /// A letter a to z, and up to 15 letters, digits or `_`.
     pub name: ArrayString<16>,
-    pub calls: Buffer<Call>,
+    pub calls: Calls,
 }
 
 /// A part of the session whose work ends before the next phase begins. `lines` and `ticks` have one

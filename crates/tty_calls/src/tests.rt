@@ -2,28 +2,13 @@ use super::*;
 use arrayvec::ArrayString;
 use std::alloc::{AllocError, Global};
 use std::test::Fail;
-use tty_base::{Buffer, Bytes};
+use tty_base::Buffer;
 use tty_modes::Word;
 
 #[test]
-fn a_copy_has_the_same_words_and_bytes(rt: HostRuntime) -> Result<(), Fail> {
+fn a_copy_of_an_answer_has_the_same_bytes(rt: HostRuntime) -> Result<(), Fail> {
     let alloc = rt.alloc();
-    let call = Call::SetModes {
-        h: 3,
-        when: When::Now,
-        words: vec![in alloc; Word::Raw]?,
-    };
-    match call.copy(alloc)? {
-        Call::SetModes { h, when, words } => {
-            assert_eq!(rt; (h, when), (3, When::Now));
-            assert_eq!(rt; words.as_slice(), [Word::Raw].as_slice());
-        }
-        _ => assert!(rt; false),
-    }
     let answer = Answer::Got(b"hi".to_vec(alloc)?).copy(alloc)?;
-    let mut room = Bytes::new(alloc);
-    room.reserve(2)?;
-    assert_eq!(rt; room.len(), 0);
     match answer {
         Answer::Got(bytes) => assert_eq!(rt; bytes.as_slice(), b"hi".as_slice()),
         _ => assert!(rt; false),
@@ -31,11 +16,45 @@ fn a_copy_has_the_same_words_and_bytes(rt: HostRuntime) -> Result<(), Fail> {
     Ok(())
 }
 
+#[test]
+fn each_call_has_its_own_bytes_and_words(rt: HostRuntime) -> Result<(), Fail> {
+    let alloc = rt.alloc();
+    let mut calls = Calls::new(alloc);
+    assert!(rt; calls.get(0).is_none());
+    let words = [Word::Raw];
+    let given = [
+        Call::Write { h: 0, bytes: b"ab" },
+        Call::SetModes {
+            h: 3,
+            when: When::Drain,
+            words: &words,
+        },
+        Call::Vhangup { h: 4 },
+        Call::SendPacket { h: 5, bytes: b"c" },
+    ];
+    for call in &given {
+        calls.add(call)?;
+    }
+    assert_eq!(rt; calls.len(), 4);
+    assert!(rt;
+        matches!(calls.get(0), Some(Call::Write { h: 0, bytes }) if bytes == b"ab".as_slice())
+    );
+    assert!(rt;
+        matches!(calls.get(1), Some(Call::SetModes { h: 3, when: When::Drain, words: given }) if given == words.as_slice())
+    );
+    assert!(rt; matches!(calls.get(2), Some(Call::Vhangup { h: 4 })));
+    assert!(rt;
+        matches!(calls.get(3), Some(Call::SendPacket { h: 5, bytes }) if bytes == b"c".as_slice())
+    );
+    assert!(rt; calls.get(4).is_none());
+    Ok(())
+}
+
 fn script_of(alloc: Global, port: u8, name: &str) -> Result<Script, AllocError> {
     Ok(Script {
         port,
         name: ArrayString::from(name).unwrap_or(ArrayString::new()),
-        calls: Buffer::new(alloc),
+        calls: Calls::new(alloc),
     })
 }
 

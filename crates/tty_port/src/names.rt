@@ -25,7 +25,7 @@ impl Model for PortName {
 /// An entry of a port's journal, with the call that the port keeps for it.
 pub struct HistoryEntry {
     pub(crate) entry: Entry,
-    pub(crate) call: Option<Call>,
+    pub(crate) call: Option<Call<'static>>,
 }
 
 impl Model for HistoryEntry {

@@ -4,9 +4,10 @@ ghost use Rattle.std.specs.Prelude.{◌≡◌, ◌↔◌, ◌<◌, true, false, 
 ghost use Rattle.tty_calls.specs.Plain.{call_of, changes};
 
 use super::Port;
+use crate::asked::Asked;
 use crate::entries::{
-    Asked, Prepared, copy_of, entry_of_call, note_call, prepare, purge_into, reserve_entry,
-    room_for_chars, room_for_purge, trimmed,
+    Prepared, copy_of, entry_of_call, prepare, purge_into, reserve_entry, room_for_chars,
+    room_for_purge, trimmed,
 };
 use crate::flips::drop_shown;
 use tty_calls::{Answer, Call, Denied, Event};
@@ -78,7 +79,7 @@ impl Port {
                 let event = Event::Answer(answer.copy_into(copy));
                 let entry = entry_of_call(caller, step, state.parts, generation, event);
                 self.journal.add(entry);
-                note_call(&mut self.kept, begun, Asked { caller, step }, call);
+                self.kept.note(begun, Asked { caller, step }, call);
                 Ok(Tried::Done(answer))
             }
             Met::Takes(count) => {
@@ -87,7 +88,7 @@ impl Port {
                 let event = Event::Part(count);
                 let entry = entry_of_call(caller, step, state.parts, generation, event);
                 self.journal.add(entry);
-                note_call(&mut self.kept, begun, Asked { caller, step }, call);
+                self.kept.note(begun, Asked { caller, step }, call);
                 Ok(Tried::Part)
             }
             Met::Waits => unreachable!(),
@@ -121,7 +122,7 @@ impl Port {
         let event = purge_into(purge, answer.copy_into(copy), dropped);
         let entry = entry_of_call(caller, step, state.parts, generation, event);
         self.journal.add(entry);
-        note_call(&mut self.kept, begun, Asked { caller, step }, call);
+        self.kept.note(begun, Asked { caller, step }, call);
         Ok(Tried::Done(answer))
     }
 
@@ -143,7 +144,7 @@ impl Port {
         self.terminal.wait(caller, call.handle());
         let entry = entry_of_call(caller, step, state.parts, generation, Event::Wait);
         self.journal.add(entry);
-        note_call(&mut self.kept, begun, Asked { caller, step }, call);
+        self.kept.note(begun, Asked { caller, step }, call);
         Ok(Tried::MustWait)
     }
 
@@ -165,7 +166,7 @@ impl Port {
         let event = Event::Answer(Answer::Idle);
         let entry = entry_of_call(caller, step, state.parts, generation, event);
         self.journal.add(entry);
-        note_call(&mut self.kept, begun, Asked { caller, step }, call);
+        self.kept.note(begun, Asked { caller, step }, call);
         Ok(Tried::Done(Answer::Idle))
     }
 
@@ -179,7 +180,7 @@ impl Port {
             return false;
         }
         match &self.waiting[caller as usize] {
-            Some(call) => self.terminal.must_wait(caller, call),
+            Some(waiting) => self.terminal.must_wait(caller, &waiting.lent()),
             None => false,
         }
     }

@@ -510,7 +510,7 @@ impl Terminal {
             }
             Call::Write { h, bytes } => {
                 let handle = self.handle_for(caller, *h);
-                self.write(caller, handle, bytes.as_slice())
+                self.write(caller, handle, bytes)
             }
             _ => self.act_on_modes(caller, call, room),
         }
@@ -539,7 +539,7 @@ impl Terminal {
             }
             Call::SetModes { h, when, words } => {
                 let handle = self.handle_for(caller, *h);
-                self.set_modes(handle, *when, words.as_slice())
+                self.set_modes(handle, *when, words)
             }
             Call::GetDisc { h } => {
                 let handle = self.handle_for(caller, *h);
@@ -627,7 +627,7 @@ impl Terminal {
             }
             Call::SendPacket { h, bytes } => {
                 let handle = self.handle_for(caller, *h);
-                self.send_packet(handle, bytes.as_slice(), room.packet())
+                self.send_packet(handle, bytes, room.packet())
             }
             Call::TakePacket { h } => {
                 let handle = self.handle_for(caller, *h);

@@ -176,9 +176,7 @@ impl Terminal {
                 Ok(Room::Bytes(room))
             }
             Call::Counts { .. } => Ok(Room::Counts(boxed_counts(alloc, &self.tally.counts)?)),
-            Call::SendPacket { h: _, bytes } => {
-                Ok(Room::Packet(spelled(alloc, bytes.as_slice())?))
-            }
+            Call::SendPacket { h: _, bytes } => { Ok(Room::Packet(spelled(alloc, bytes)?)) }
             _ => match self.fresh_kind(call) {
                 Some(kind) => Ok(Room::Fresh(boxed_fresh(alloc, kind)?)),
                 None => Ok(Room::Nothing),
@@ -294,7 +292,7 @@ impl Terminal {
             }
             Call::Write { h, bytes } => {
                 let handle = self.handle_for(caller, *h);
-                self.write_must_wait(caller, handle, bytes.as_slice())
+                self.write_must_wait(caller, handle, bytes)
             }
             Call::SetModes { h, when, words: _ } => {
                 *when != When::Now && self.must_drain(self.handle_for(caller, *h))

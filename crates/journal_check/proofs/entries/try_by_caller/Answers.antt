@@ -23,5 +23,5 @@ try_of_call-requires-clause-call c =
     c.requires.limits c.requires.turns c.requires.by_caller c.requires.in_phase known in
     let both = step_within c.args.port (session_of c.args.session.now) c.args.terminal.now.terminal.phase c.args.caller (slice_index_or c.args.turns.now c.args.caller no_turn) c.args.entry.now.who c.args.entry.now.step (event_of c.args.entry.now.event)
     own c.requires.by_caller c.requires.in_phase c.requires.of_call in
-    small_call c.args.port (session_of c.args.session.now) c.args.terminal.now.terminal.phase c.args.caller (slice_index_or c.args.turns.now c.args.caller no_turn) c.args.entry.now.step (call_of c.call_in-call.result.now)
+    small_call c.args.port (session_of c.args.session.now) c.args.terminal.now.terminal.phase c.args.caller (slice_index_or c.args.turns.now c.args.caller no_turn) c.args.entry.now.step (call_of c.call_in-call.result)
     c.requires.limits own both.0 both.1 c.call_in-call.ensures

@@ -1,5 +1,4 @@
-use Rattle.std.proofs.Common.{rules, ◌≡◌, ◌++◌, ◌∷◌, [], map, Some, None, Ok}
-use Rattle.tty_calls.specs.Plain.{call_of}
+use Rattle.std.proofs.Common.{rules, ◌≡◌, ◌++◌, ◌∷◌, [], Some, None, Ok}
 use Rattle.port_cell.specs.Knowledge.{list_seen}
 use Rattle.many_threads.specs.Comings.{CallerComes}
 use Rattle.many_threads.specs.Crews.{plain_cast, CallersCome, IsTold}
@@ -34,7 +33,7 @@ start_caller-requires-clause-seat g t c κs within =
     let at : c.args.cast.now ≡ c.in-Some.before.now ++ c.in-Some.last.now ∷ [] = first_of (search rules, cc) in
     let h = splits p c.args.scripts.now c.args.cast.now c.in-Some.before.now c.in-Some.last.now c.args.seats.items c.pop.new.self.items c.in-Some-pop.seat at c.in-Some-pop.ensures.items c.requires.seats c.requires.count c.requires.cast in
     let some : c.in-Some.last.now ≡ Some c.in-Some-last.role = first_of (cc, search rules) in
-    (crew_needs p c.args.scripts.now c.args.cast.now c.in-Some.before.now c.in-Some.last.now c.in-Some-last.role c.pop.new.self.items c.in-Some-pop.seat c.calls_at-calls.result.now h some c.calls_at-calls.ensures).here
+    (crew_needs p c.args.scripts.now c.args.cast.now c.in-Some.before.now c.in-Some.last.now c.in-Some-last.role c.pop.new.self.items c.in-Some-pop.seat c.calls_at-calls.result.now.items h some c.calls_at-calls.ensures).here
 
 pub start_caller-requires-clause-known : goal.start_caller-requires-clause-known
 start_caller-requires-clause-known g t c κs within =
@@ -42,7 +41,7 @@ start_caller-requires-clause-known g t c κs within =
     let at : c.args.cast.now ≡ c.in-Some.before.now ++ c.in-Some.last.now ∷ [] = first_of (search rules, cc) in
     let h = splits p c.args.scripts.now c.args.cast.now c.in-Some.before.now c.in-Some.last.now c.args.seats.items c.pop.new.self.items c.in-Some-pop.seat at c.in-Some-pop.ensures.items c.requires.seats c.requires.count c.requires.cast in
     let some : c.in-Some.last.now ≡ Some c.in-Some-last.role = first_of (cc, search rules) in
-    (crew_needs p c.args.scripts.now c.args.cast.now c.in-Some.before.now c.in-Some.last.now c.in-Some-last.role c.pop.new.self.items c.in-Some-pop.seat c.calls_at-calls.result.now h some c.calls_at-calls.ensures).known
+    (crew_needs p c.args.scripts.now c.args.cast.now c.in-Some.before.now c.in-Some.last.now c.in-Some-last.role c.pop.new.self.items c.in-Some-pop.seat c.calls_at-calls.result.now.items h some c.calls_at-calls.ensures).known
 
 pub start_caller-requires-clause-within : goal.start_caller-requires-clause-within
 start_caller-requires-clause-within g t c κs within =
@@ -50,7 +49,7 @@ start_caller-requires-clause-within g t c κs within =
     let at : c.args.cast.now ≡ c.in-Some.before.now ++ c.in-Some.last.now ∷ [] = first_of (search rules, cc) in
     let h = splits p c.args.scripts.now c.args.cast.now c.in-Some.before.now c.in-Some.last.now c.args.seats.items c.pop.new.self.items c.in-Some-pop.seat at c.in-Some-pop.ensures.items c.requires.seats c.requires.count c.requires.cast in
     let some : c.in-Some.last.now ≡ Some c.in-Some-last.role = first_of (cc, search rules) in
-    (crew_needs p c.args.scripts.now c.args.cast.now c.in-Some.before.now c.in-Some.last.now c.in-Some-last.role c.pop.new.self.items c.in-Some-pop.seat c.calls_at-calls.result.now h some c.calls_at-calls.ensures).within
+    (crew_needs p c.args.scripts.now c.args.cast.now c.in-Some.before.now c.in-Some.last.now c.in-Some-last.role c.pop.new.self.items c.in-Some-pop.seat c.calls_at-calls.result.now.items h some c.calls_at-calls.ensures).within
 
 pub start_caller-requires-clause-few : goal.start_caller-requires-clause-few
 start_caller-requires-clause-few g t c κs within =
@@ -58,7 +57,7 @@ start_caller-requires-clause-few g t c κs within =
     let at : c.args.cast.now ≡ c.in-Some.before.now ++ c.in-Some.last.now ∷ [] = first_of (search rules, cc) in
     let h = splits p c.args.scripts.now c.args.cast.now c.in-Some.before.now c.in-Some.last.now c.args.seats.items c.pop.new.self.items c.in-Some-pop.seat at c.in-Some-pop.ensures.items c.requires.seats c.requires.count c.requires.cast in
     let some : c.in-Some.last.now ≡ Some c.in-Some-last.role = first_of (cc, search rules) in
-    (crew_needs p c.args.scripts.now c.args.cast.now c.in-Some.before.now c.in-Some.last.now c.in-Some-last.role c.pop.new.self.items c.in-Some-pop.seat c.calls_at-calls.result.now h some c.calls_at-calls.ensures).few
+    (crew_needs p c.args.scripts.now c.args.cast.now c.in-Some.before.now c.in-Some.last.now c.in-Some-last.role c.pop.new.self.items c.in-Some-pop.seat c.calls_at-calls.result.now.items h some c.calls_at-calls.ensures).few
 
 pub start_caller-requires-clause-between : goal.start_caller-requires-clause-between
 start_caller-requires-clause-between g t c κs within =
@@ -66,7 +65,7 @@ start_caller-requires-clause-between g t c κs within =
     let at : c.args.cast.now ≡ c.in-Some.before.now ++ c.in-Some.last.now ∷ [] = first_of (search rules, cc) in
     let h = splits p c.args.scripts.now c.args.cast.now c.in-Some.before.now c.in-Some.last.now c.args.seats.items c.pop.new.self.items c.in-Some-pop.seat at c.in-Some-pop.ensures.items c.requires.seats c.requires.count c.requires.cast in
     let some : c.in-Some.last.now ≡ Some c.in-Some-last.role = first_of (cc, search rules) in
-    (crew_needs p c.args.scripts.now c.args.cast.now c.in-Some.before.now c.in-Some.last.now c.in-Some-last.role c.pop.new.self.items c.in-Some-pop.seat c.calls_at-calls.result.now h some c.calls_at-calls.ensures).between
+    (crew_needs p c.args.scripts.now c.args.cast.now c.in-Some.before.now c.in-Some.last.now c.in-Some-last.role c.pop.new.self.items c.in-Some-pop.seat c.calls_at-calls.result.now.items h some c.calls_at-calls.ensures).between
 
 pub play_callers-others-requires-clause-seats : goal.play_callers-others-requires-clause-seats
 play_callers-others-requires-clause-seats g t c κs within =
@@ -89,8 +88,8 @@ returns g t c =
     let h = splits p c.args.scripts.now c.args.cast.now c.in-Some.before.now c.in-Some.last.now c.args.seats.items c.pop.new.self.items c.in-Some-pop.seat at c.in-Some-pop.ensures.items c.requires.seats c.requires.count c.requires.cast in
     let some : c.in-Some.last.now ≡ Some c.in-Some-last.role = first_of (cc, search rules) in
     let one = c.in_ok-seat.field-0 in
-    let comes : CallerComes p c.in-Some-last.role.number c.in-Some-last.role.first (map call_of c.calls_at-calls.result.now) (list_seen c.in-Some-pop.seat) one = first_of (search rules, cc) in
+    let comes : CallerComes p c.in-Some-last.role.number c.in-Some-last.role.first c.calls_at-calls.result.now.items (list_seen c.in-Some-pop.seat) one = first_of (search rules, cc) in
     let is : c.play_callers-others.result ≡ Ok c.in_ok-others-2.field-0 = first_of (cc, search rules) in
     let told : IsTold one.result c.in_ok-full.full = first_of (search rules, cc) in
     let back : CallersCome p (plain_cast c.args.scripts.now c.in-Some.before.now) c.in_ok-others-2.field-0 = at_back c.play_callers-others.result c.in_ok-others-2.field-0 _ is c.play_callers-others.ensures in
-    both_ok c.with_seat-2.result _ _ _ (λ now seats full. crew_more p c.args.scripts.now c.args.cast.now c.in-Some.before.now c.in-Some.last.now c.in-Some-last.role c.pop.new.self.items c.in-Some-pop.seat c.calls_at-calls.result.now c.in_ok-others-2.field-0 now one c.in_ok-full.full h some c.calls_at-calls.ensures back comes told seats full) c.with_seat-2.ensures.seats c.with_seat-2.ensures.full
+    both_ok c.with_seat-2.result _ _ _ (λ now seats full. crew_more p c.args.scripts.now c.args.cast.now c.in-Some.before.now c.in-Some.last.now c.in-Some-last.role c.pop.new.self.items c.in-Some-pop.seat c.calls_at-calls.result.now.items c.in_ok-others-2.field-0 now one c.in_ok-full.full h some c.calls_at-calls.ensures back comes told seats full) c.with_seat-2.ensures.seats c.with_seat-2.ensures.full

@@ -17,7 +17,7 @@ try_call-requires g c = (
   c.requires.0,
   (
     c.requires.1,
-    next_call_is g.scene c.args.scripts.now c.args.roles.now c.args.port.now c.args.stand c.args.place _ c.caller-step.result (call_of c.in-Some.call.now)
+    next_call_is g.scene c.args.scripts.now c.args.roles.now c.args.port.now c.args.stand c.args.place _ c.caller-step.result (call_of c.in-Some.call)
         (turns_at g.scene c.args.scripts.now c.args.roles.now c.args.port.now c.args.stand c.args.place _ c.requires.0 c.requires.1) c.caller-step.ensures c.in-Some.ensures,
   ),
 )

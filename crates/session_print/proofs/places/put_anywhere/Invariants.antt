@@ -1,9 +1,8 @@
-use Rattle.std.proofs.Common.{◌≡◌, ℕ, ◌+◌, ◌-◌, length, slice_index_or}
-use Rattle.session_print.specs.Printing.{no_place}
+use Rattle.std.proofs.Common.{◌≡◌, ℕ, ◌+◌, ◌-◌, length, slice_index}
 use Rattle.session_print.proofs.places.put_anywhere.Given as goal
 
-abbrev pub invariant-loop-row : goal.invariant-loop-row
-invariant-loop-row l = (at : ℕ) → slice_index_or l.row.items at no_place ≡ slice_index_or l.initial.row.items at no_place
+abbrev pub invariant-loop-list : goal.invariant-loop-list
+invariant-loop-list l = (at : ℕ) → slice_index l.list.items at ≡ slice_index l.initial.list.items at
 
-abbrev pub decreases-loop-row : goal.decreases-loop-row
-decreases-loop-row l = l.step + 1 - length l.row.items
+abbrev pub decreases-loop-list : goal.decreases-loop-list
+decreases-loop-list l = l.step + 1 - length l.list.items

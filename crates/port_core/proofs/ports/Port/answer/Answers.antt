@@ -6,14 +6,12 @@ use Rattle.tty_terminal.specs.Terminals.{Terminal, caller_at, has_begun}
 use Rattle.tty_terminal.specs.Calls.{outcome}
 use Rattle.tty_terminal.specs.Meeting.{drops_of}
 use Rattle.tty_terminal.specs.Steps.{after_answer, after_part, with_dropped, left_by}
-use Rattle.tty_calls.specs.declared.calls.Call.{Call}
-use Rattle.port_core.specs.declared.entries.Asked.{Asked}
-use Rattle.port_core.specs.Kept.{kept_of}
+use Rattle.port_core.specs.declared.waiting.WaitingCall.{WaitingCall}
 use Rattle.port_core.specs.Ports.{PortValue, kept_with, caller_entry}
 use Rattle.port_core.specs.Attempts.{IsReady, AnswersCall, TakesPartOf}
 use Rattle.port_core.specs.Inside.{value_of}
 use Rattle.port_core.proofs.GoingOn.{made, entries_added, known_caller, port_bounded}
-use Rattle.port_core.proofs.Calls.{kept_is, begun_is, answers_met, parts_met, none_dropped, with_none_dropped}
+use Rattle.port_core.proofs.Calls.{begun_is, answers_met, parts_met, none_dropped, with_none_dropped}
 use Rattle.port_core.proofs.Answering.{IsTried, after_call, answers_call, takes_part_of}
 use Rattle.tty_calls.specs.Plain.{PlainCall}
 use Rattle.tty_calls.specs.Limits.{byte_count}
@@ -78,7 +76,7 @@ invariant_of-self-in-Gives c =
     let d = c.args.caller in
     let step = c.args.step in
     let call = call_of c.args.call.now in
-    let slots : List (Option Call) = c.self.inside.waiting.items in
+    let slots : List (Option WaitingCall) = c.self.inside.waiting.items in
     let ready : IsReady v d step call = subst (λ (w : PortValue). IsReady w d step call) (sym c.self.view_is) c.requires.ready in
     let few : length v.journal < v.limit = subst (λ (w : PortValue). length w.journal < w.limit) (sym c.self.view_is) c.requires.open.0 in
     let begun : c.is_some-begun.result ≡ has_begun (caller_at v.terminal d) = begun_is v.terminal d c.caller-state.result c.is_some-begun.result c.caller-state.ensures c.is_some-begun.ensures in
@@ -91,8 +89,8 @@ invariant_of-self-in-Gives c =
     let e : PlainEntry = caller_entry v d (answered (answer_of c.in-Gives.answer) []) in
     let entry : entry_of c.entry_of_call-entry.result ≡ e = ap entry_of c.entry_of_call-entry.ensures ∙ (λ i. record { who = Caller d; step = ready.next i; part = (c.caller-state.ensures i).parts; generation = c.generation-generation.ensures i; event = answered (c.copy_into.ensures i) [] }) in
     let js : entries_of c.add.new.self.items ≡ v.journal ++ e ∷ [] = entries_added c.self.inside.journal.items c.reserve_entry.new.journal.items c.entry_of_call-entry.result c.add.new.self.items c.in_ok-reserve_entry.ensures.items (ap (λ b. b.items) c.add.ensures) ∙ ap (λ (x : PlainEntry). v.journal ++ x ∷ []) entry in
-    let kept_plain : map kept_of c.note_call.new.kept.items ≡ kept_with (has_begun (caller_at v.terminal d)) v.kept d step call = ap (λ (xs : List (Asked × Call)). map kept_of xs) c.note_call.ensures ∙ kept_is c.is_some-begun.result c.self.inside.kept.items (record { caller = d; step = step }) c.args.call.now ∙ ap (λ (b : Bool). kept_with b v.kept d step call) begun in
-    let now : PortValue = record v { terminal = c.advance.new.self.terminal; journal = entries_of c.add.new.self.items; kept = map kept_of c.note_call.new.kept.items; starved = c.prepare.new.starved; flip = v.flip } in
+    let kept_plain : c.note.new.self.items ≡ kept_with (has_begun (caller_at v.terminal d)) v.kept d step call = c.note.ensures ∙ ap (λ (b : Bool). kept_with b v.kept d step call) begun in
+    let now : PortValue = record v { terminal = c.advance.new.self.terminal; journal = entries_of c.add.new.self.items; kept = c.note.new.self.items; starved = c.prepare.new.starved; flip = v.flip } in
     let goes : c.advance.new.self.terminal ≡ after_answer (with_dropped c.meet.new.self.terminal 0) d = ap (λ r. r.terminal) c.advance.ensures ∙ ap (λ (w : Terminal). after_answer w d) (sym (with_none_dropped c.meet.new.self.terminal)) in
     let same : now ≡ after_call v d step call (after_answer (with_dropped c.meet.new.self.terminal 0) d) v.flip e = made v _ (after_answer (with_dropped c.meet.new.self.terminal 0) d) _ (v.journal ++ e ∷ []) _ (kept_with (has_begun (caller_at v.terminal d)) v.kept d step call) _ v.flip v.flip goes js kept_plain (c.in_ok-made.ensures.ok ∙ c.in_ok-reserve_entry.ensures.ok) refl in
     let both = answers_call v now slots d step call (answer_of c.in-Gives.answer) [] c.meet.new.self.terminal v.flip tried
@@ -106,7 +104,7 @@ returns-in-Gives-clause-tried c =
     let d = c.args.caller in
     let step = c.args.step in
     let call = call_of c.args.call.now in
-    let slots : List (Option Call) = c.self.inside.waiting.items in
+    let slots : List (Option WaitingCall) = c.self.inside.waiting.items in
     let ready : IsReady v d step call = subst (λ (w : PortValue). IsReady w d step call) (sym c.self.view_is) c.requires.ready in
     let few : length v.journal < v.limit = subst (λ (w : PortValue). length w.journal < w.limit) (sym c.self.view_is) c.requires.open.0 in
     let begun : c.is_some-begun.result ≡ has_begun (caller_at v.terminal d) = begun_is v.terminal d c.caller-state.result c.is_some-begun.result c.caller-state.ensures c.is_some-begun.ensures in
@@ -119,8 +117,8 @@ returns-in-Gives-clause-tried c =
     let e : PlainEntry = caller_entry v d (answered (answer_of c.in-Gives.answer) []) in
     let entry : entry_of c.entry_of_call-entry.result ≡ e = ap entry_of c.entry_of_call-entry.ensures ∙ (λ i. record { who = Caller d; step = ready.next i; part = (c.caller-state.ensures i).parts; generation = c.generation-generation.ensures i; event = answered (c.copy_into.ensures i) [] }) in
     let js : entries_of c.add.new.self.items ≡ v.journal ++ e ∷ [] = entries_added c.self.inside.journal.items c.reserve_entry.new.journal.items c.entry_of_call-entry.result c.add.new.self.items c.in_ok-reserve_entry.ensures.items (ap (λ b. b.items) c.add.ensures) ∙ ap (λ (x : PlainEntry). v.journal ++ x ∷ []) entry in
-    let kept_plain : map kept_of c.note_call.new.kept.items ≡ kept_with (has_begun (caller_at v.terminal d)) v.kept d step call = ap (λ (xs : List (Asked × Call)). map kept_of xs) c.note_call.ensures ∙ kept_is c.is_some-begun.result c.self.inside.kept.items (record { caller = d; step = step }) c.args.call.now ∙ ap (λ (b : Bool). kept_with b v.kept d step call) begun in
-    let now : PortValue = record v { terminal = c.advance.new.self.terminal; journal = entries_of c.add.new.self.items; kept = map kept_of c.note_call.new.kept.items; starved = c.prepare.new.starved; flip = v.flip } in
+    let kept_plain : c.note.new.self.items ≡ kept_with (has_begun (caller_at v.terminal d)) v.kept d step call = c.note.ensures ∙ ap (λ (b : Bool). kept_with b v.kept d step call) begun in
+    let now : PortValue = record v { terminal = c.advance.new.self.terminal; journal = entries_of c.add.new.self.items; kept = c.note.new.self.items; starved = c.prepare.new.starved; flip = v.flip } in
     let goes : c.advance.new.self.terminal ≡ after_answer (with_dropped c.meet.new.self.terminal 0) d = ap (λ r. r.terminal) c.advance.ensures ∙ ap (λ (w : Terminal). after_answer w d) (sym (with_none_dropped c.meet.new.self.terminal)) in
     let same : now ≡ after_call v d step call (after_answer (with_dropped c.meet.new.self.terminal 0) d) v.flip e = made v _ (after_answer (with_dropped c.meet.new.self.terminal 0) d) _ (v.journal ++ e ∷ []) _ (kept_with (has_begun (caller_at v.terminal d)) v.kept d step call) _ v.flip v.flip goes js kept_plain (c.in_ok-made.ensures.ok ∙ c.in_ok-reserve_entry.ensures.ok) refl in
     let both = answers_call v now slots d step call (answer_of c.in-Gives.answer) [] c.meet.new.self.terminal v.flip tried
@@ -134,7 +132,7 @@ invariant_of-self-in-Takes c =
     let d = c.args.caller in
     let step = c.args.step in
     let call = call_of c.args.call.now in
-    let slots : List (Option Call) = c.self.inside.waiting.items in
+    let slots : List (Option WaitingCall) = c.self.inside.waiting.items in
     let ready : IsReady v d step call = subst (λ (w : PortValue). IsReady w d step call) (sym c.self.view_is) c.requires.ready in
     let few : length v.journal < v.limit = subst (λ (w : PortValue). length w.journal < w.limit) (sym c.self.view_is) c.requires.open.0 in
     let begun : c.is_some-begun.result ≡ has_begun (caller_at v.terminal d) = begun_is v.terminal d c.caller-state.result c.is_some-begun.result c.caller-state.ensures c.is_some-begun.ensures in
@@ -147,8 +145,8 @@ invariant_of-self-in-Takes c =
     let e : PlainEntry = caller_entry v d (parted c.in-Takes.count) in
     let entry : entry_of c.entry_of_call-entry-in-Takes.result ≡ e = ap entry_of c.entry_of_call-entry-in-Takes.ensures ∙ (λ i. record { who = Caller d; step = ready.next i; part = (c.caller-state.ensures i).parts; generation = c.generation-generation.ensures i; event = parted c.in-Takes.count }) in
     let js : entries_of c.add-in-Takes.new.self.items ≡ v.journal ++ e ∷ [] = entries_added c.self.inside.journal.items c.reserve_entry.new.journal.items c.entry_of_call-entry-in-Takes.result c.add-in-Takes.new.self.items c.in_ok-reserve_entry.ensures.items (ap (λ b. b.items) c.add-in-Takes.ensures) ∙ ap (λ (x : PlainEntry). v.journal ++ x ∷ []) entry in
-    let kept_plain : map kept_of c.note_call-in-Takes.new.kept.items ≡ kept_with (has_begun (caller_at v.terminal d)) v.kept d step call = ap (λ (xs : List (Asked × Call)). map kept_of xs) c.note_call-in-Takes.ensures ∙ kept_is c.is_some-begun.result c.self.inside.kept.items (record { caller = d; step = step }) c.args.call.now ∙ ap (λ (b : Bool). kept_with b v.kept d step call) begun in
-    let now : PortValue = record v { terminal = c.note_part.new.self.terminal; journal = entries_of c.add-in-Takes.new.self.items; kept = map kept_of c.note_call-in-Takes.new.kept.items; starved = c.prepare.new.starved; flip = v.flip } in
+    let kept_plain : c.note-in-Takes.new.self.items ≡ kept_with (has_begun (caller_at v.terminal d)) v.kept d step call = c.note-in-Takes.ensures ∙ ap (λ (b : Bool). kept_with b v.kept d step call) begun in
+    let now : PortValue = record v { terminal = c.note_part.new.self.terminal; journal = entries_of c.add-in-Takes.new.self.items; kept = c.note-in-Takes.new.self.items; starved = c.prepare.new.starved; flip = v.flip } in
     let goes : c.note_part.new.self.terminal ≡ after_part c.meet.new.self.terminal d (handle_of call) c.in-Takes.count = ap (λ r. r.terminal) c.note_part.ensures ∙ ap (λ (h : ℕ). after_part c.meet.new.self.terminal d h c.in-Takes.count) c.handle.ensures in
     let same : now ≡ after_call v d step call (after_part c.meet.new.self.terminal d (handle_of call) c.in-Takes.count) v.flip e = made v _ (after_part c.meet.new.self.terminal d (handle_of call) c.in-Takes.count) _ (v.journal ++ e ∷ []) _ (kept_with (has_begun (caller_at v.terminal d)) v.kept d step call) _ v.flip v.flip goes js kept_plain (c.in_ok-made.ensures.ok ∙ c.in_ok-reserve_entry.ensures.ok) refl in
     let both = takes_part_of v now slots d step call c.in-Takes.count c.meet.new.self.terminal tried
@@ -161,7 +159,7 @@ returns-in-Takes-clause-tried c =
     let d = c.args.caller in
     let step = c.args.step in
     let call = call_of c.args.call.now in
-    let slots : List (Option Call) = c.self.inside.waiting.items in
+    let slots : List (Option WaitingCall) = c.self.inside.waiting.items in
     let ready : IsReady v d step call = subst (λ (w : PortValue). IsReady w d step call) (sym c.self.view_is) c.requires.ready in
     let few : length v.journal < v.limit = subst (λ (w : PortValue). length w.journal < w.limit) (sym c.self.view_is) c.requires.open.0 in
     let begun : c.is_some-begun.result ≡ has_begun (caller_at v.terminal d) = begun_is v.terminal d c.caller-state.result c.is_some-begun.result c.caller-state.ensures c.is_some-begun.ensures in
@@ -174,8 +172,8 @@ returns-in-Takes-clause-tried c =
     let e : PlainEntry = caller_entry v d (parted c.in-Takes.count) in
     let entry : entry_of c.entry_of_call-entry-in-Takes.result ≡ e = ap entry_of c.entry_of_call-entry-in-Takes.ensures ∙ (λ i. record { who = Caller d; step = ready.next i; part = (c.caller-state.ensures i).parts; generation = c.generation-generation.ensures i; event = parted c.in-Takes.count }) in
     let js : entries_of c.add-in-Takes.new.self.items ≡ v.journal ++ e ∷ [] = entries_added c.self.inside.journal.items c.reserve_entry.new.journal.items c.entry_of_call-entry-in-Takes.result c.add-in-Takes.new.self.items c.in_ok-reserve_entry.ensures.items (ap (λ b. b.items) c.add-in-Takes.ensures) ∙ ap (λ (x : PlainEntry). v.journal ++ x ∷ []) entry in
-    let kept_plain : map kept_of c.note_call-in-Takes.new.kept.items ≡ kept_with (has_begun (caller_at v.terminal d)) v.kept d step call = ap (λ (xs : List (Asked × Call)). map kept_of xs) c.note_call-in-Takes.ensures ∙ kept_is c.is_some-begun.result c.self.inside.kept.items (record { caller = d; step = step }) c.args.call.now ∙ ap (λ (b : Bool). kept_with b v.kept d step call) begun in
-    let now : PortValue = record v { terminal = c.note_part.new.self.terminal; journal = entries_of c.add-in-Takes.new.self.items; kept = map kept_of c.note_call-in-Takes.new.kept.items; starved = c.prepare.new.starved; flip = v.flip } in
+    let kept_plain : c.note-in-Takes.new.self.items ≡ kept_with (has_begun (caller_at v.terminal d)) v.kept d step call = c.note-in-Takes.ensures ∙ ap (λ (b : Bool). kept_with b v.kept d step call) begun in
+    let now : PortValue = record v { terminal = c.note_part.new.self.terminal; journal = entries_of c.add-in-Takes.new.self.items; kept = c.note-in-Takes.new.self.items; starved = c.prepare.new.starved; flip = v.flip } in
     let goes : c.note_part.new.self.terminal ≡ after_part c.meet.new.self.terminal d (handle_of call) c.in-Takes.count = ap (λ r. r.terminal) c.note_part.ensures ∙ ap (λ (h : ℕ). after_part c.meet.new.self.terminal d h c.in-Takes.count) c.handle.ensures in
     let same : now ≡ after_call v d step call (after_part c.meet.new.self.terminal d (handle_of call) c.in-Takes.count) v.flip e = made v _ (after_part c.meet.new.self.terminal d (handle_of call) c.in-Takes.count) _ (v.journal ++ e ∷ []) _ (kept_with (has_begun (caller_at v.terminal d)) v.kept d step call) _ v.flip v.flip goes js kept_plain (c.in_ok-made.ensures.ok ∙ c.in_ok-reserve_entry.ensures.ok) refl in
     let both = takes_part_of v now slots d step call c.in-Takes.count c.meet.new.self.terminal tried

@@ -8,15 +8,13 @@ use Rattle.tty_terminal.specs.Terminals.{Terminal, caller_at, has_begun}
 use Rattle.tty_terminal.specs.Calls.{outcome}
 use Rattle.tty_terminal.specs.Meeting.{drops_of}
 use Rattle.tty_terminal.specs.Steps.{after_answer, with_dropped, left_by}
-use Rattle.tty_calls.specs.declared.calls.Call.{Call}
-use Rattle.port_core.specs.declared.entries.Asked.{Asked}
-use Rattle.port_core.specs.Kept.{kept_of}
+use Rattle.port_core.specs.declared.waiting.WaitingCall.{WaitingCall}
 use Rattle.port_core.specs.Flips.{DropsShown}
 use Rattle.port_core.specs.Ports.{PortValue, kept_with, caller_entry}
 use Rattle.port_core.specs.Attempts.{IsReady, AnswersCall}
 use Rattle.port_core.specs.Inside.{value_of}
 use Rattle.port_core.proofs.GoingOn.{made, entries_added, known_caller, port_bounded, port_taken, port_capacity, port_within, port_few}
-use Rattle.port_core.proofs.Calls.{kept_is, begun_is, answers_met, some_dropped}
+use Rattle.port_core.proofs.Calls.{begun_is, answers_met, some_dropped}
 use Rattle.port_core.proofs.Answering.{IsTried, after_call, answers_call}
 use Rattle.tty_calls.specs.Plain.{PlainAnswer, PlainCall}
 use Rattle.tty_terminal.specs.declared.rooms.Met.TheVariants as met
@@ -87,7 +85,7 @@ invariant_of-self-2 c =
     let d = c.args.caller in
     let step = c.args.step in
     let call = call_of c.args.call.now in
-    let slots : List (Option Call) = c.self.inside.waiting.items in
+    let slots : List (Option WaitingCall) = c.self.inside.waiting.items in
     let ready : IsReady v d step call = subst (λ (w : PortValue). IsReady w d step call) (sym c.self.view_is) c.requires.ready in
     let few : length v.journal < v.limit = subst (λ (w : PortValue). length w.journal < w.limit) (sym c.self.view_is) c.requires.open.0 in
     let begun : c.is_some-begun.result ≡ has_begun (caller_at v.terminal d) = begun_is v.terminal d c.caller-state.result c.is_some-begun.result c.caller-state.ensures c.is_some-begun.ensures in
@@ -100,8 +98,8 @@ invariant_of-self-2 c =
     let e : PlainEntry = caller_entry v d (answered (answer_of c.in-Gives.answer) c.trimmed-dropped.result.items) in
     let entry : entry_of c.entry_of_call-entry.result ≡ e = ap entry_of c.entry_of_call-entry.ensures ∙ (λ i. record { who = Caller d; step = ready.next i; part = (c.caller-state.ensures i).parts; generation = c.generation-generation.ensures i; event = (c.purge_into-event.ensures ∙ ap (λ (a : PlainAnswer). answered a c.trimmed-dropped.result.items) c.copy_into.ensures) i }) in
     let js : entries_of c.add.new.self.items ≡ v.journal ++ e ∷ [] = entries_added c.self.inside.journal.items c.reserve_entry.new.journal.items c.entry_of_call-entry.result c.add.new.self.items c.in_ok-reserve_entry.ensures.items (ap (λ b. b.items) c.add.ensures) ∙ ap (λ (x : PlainEntry). v.journal ++ x ∷ []) entry in
-    let kept_plain : map kept_of c.note_call.new.kept.items ≡ kept_with (has_begun (caller_at v.terminal d)) v.kept d step call = ap (λ (xs : List (Asked × Call)). map kept_of xs) c.note_call.ensures ∙ kept_is c.is_some-begun.result c.self.inside.kept.items (record { caller = d; step = step }) c.args.call.now ∙ ap (λ (b : Bool). kept_with b v.kept d step call) begun in
-    let now : PortValue = record v { terminal = c.advance.new.self.terminal; journal = entries_of c.add.new.self.items; kept = map kept_of c.note_call.new.kept.items; starved = c.prepare.new.starved; flip = c.drop_shown.new.flip } in
+    let kept_plain : c.note.new.self.items ≡ kept_with (has_begun (caller_at v.terminal d)) v.kept d step call = c.note.ensures ∙ ap (λ (b : Bool). kept_with b v.kept d step call) begun in
+    let now : PortValue = record v { terminal = c.advance.new.self.terminal; journal = entries_of c.add.new.self.items; kept = c.note.new.self.items; starved = c.prepare.new.starved; flip = c.drop_shown.new.flip } in
     let goes : c.advance.new.self.terminal ≡ after_answer (with_dropped c.meet.new.self.terminal (length c.trimmed-dropped.result.items)) d = ap (λ r. r.terminal) c.advance.ensures ∙ ap (λ (w : Terminal). after_answer w d) (ap (λ r. r.terminal) c.drop_characters.ensures ∙ ap (λ n. with_dropped c.meet.new.self.terminal n) c.len-count.ensures) in
     let same : now ≡ after_call v d step call (after_answer (with_dropped c.meet.new.self.terminal (length c.trimmed-dropped.result.items)) d) c.drop_shown.new.flip e = made v _ (after_answer (with_dropped c.meet.new.self.terminal (length c.trimmed-dropped.result.items)) d) _ (v.journal ++ e ∷ []) _ (kept_with (has_begun (caller_at v.terminal d)) v.kept d step call) _ c.drop_shown.new.flip c.drop_shown.new.flip goes js kept_plain (c.in_ok-made.ensures.ok ∙ c.in_ok-purge.ensures.ok ∙ c.in_ok-shown.ensures.ok ∙ c.in_ok-reserve_entry.ensures.ok) refl in
     let least : v.terminal.sent ≤ shown.tail = omega (arith, c.self.invariant.port.sent, shown.looks.rises) in
@@ -118,7 +116,7 @@ returns-clause-tried c =
     let d = c.args.caller in
     let step = c.args.step in
     let call = call_of c.args.call.now in
-    let slots : List (Option Call) = c.self.inside.waiting.items in
+    let slots : List (Option WaitingCall) = c.self.inside.waiting.items in
     let ready : IsReady v d step call = subst (λ (w : PortValue). IsReady w d step call) (sym c.self.view_is) c.requires.ready in
     let few : length v.journal < v.limit = subst (λ (w : PortValue). length w.journal < w.limit) (sym c.self.view_is) c.requires.open.0 in
     let begun : c.is_some-begun.result ≡ has_begun (caller_at v.terminal d) = begun_is v.terminal d c.caller-state.result c.is_some-begun.result c.caller-state.ensures c.is_some-begun.ensures in
@@ -131,8 +129,8 @@ returns-clause-tried c =
     let e : PlainEntry = caller_entry v d (answered (answer_of c.in-Gives.answer) c.trimmed-dropped.result.items) in
     let entry : entry_of c.entry_of_call-entry.result ≡ e = ap entry_of c.entry_of_call-entry.ensures ∙ (λ i. record { who = Caller d; step = ready.next i; part = (c.caller-state.ensures i).parts; generation = c.generation-generation.ensures i; event = (c.purge_into-event.ensures ∙ ap (λ (a : PlainAnswer). answered a c.trimmed-dropped.result.items) c.copy_into.ensures) i }) in
     let js : entries_of c.add.new.self.items ≡ v.journal ++ e ∷ [] = entries_added c.self.inside.journal.items c.reserve_entry.new.journal.items c.entry_of_call-entry.result c.add.new.self.items c.in_ok-reserve_entry.ensures.items (ap (λ b. b.items) c.add.ensures) ∙ ap (λ (x : PlainEntry). v.journal ++ x ∷ []) entry in
-    let kept_plain : map kept_of c.note_call.new.kept.items ≡ kept_with (has_begun (caller_at v.terminal d)) v.kept d step call = ap (λ (xs : List (Asked × Call)). map kept_of xs) c.note_call.ensures ∙ kept_is c.is_some-begun.result c.self.inside.kept.items (record { caller = d; step = step }) c.args.call.now ∙ ap (λ (b : Bool). kept_with b v.kept d step call) begun in
-    let now : PortValue = record v { terminal = c.advance.new.self.terminal; journal = entries_of c.add.new.self.items; kept = map kept_of c.note_call.new.kept.items; starved = c.prepare.new.starved; flip = c.drop_shown.new.flip } in
+    let kept_plain : c.note.new.self.items ≡ kept_with (has_begun (caller_at v.terminal d)) v.kept d step call = c.note.ensures ∙ ap (λ (b : Bool). kept_with b v.kept d step call) begun in
+    let now : PortValue = record v { terminal = c.advance.new.self.terminal; journal = entries_of c.add.new.self.items; kept = c.note.new.self.items; starved = c.prepare.new.starved; flip = c.drop_shown.new.flip } in
     let goes : c.advance.new.self.terminal ≡ after_answer (with_dropped c.meet.new.self.terminal (length c.trimmed-dropped.result.items)) d = ap (λ r. r.terminal) c.advance.ensures ∙ ap (λ (w : Terminal). after_answer w d) (ap (λ r. r.terminal) c.drop_characters.ensures ∙ ap (λ n. with_dropped c.meet.new.self.terminal n) c.len-count.ensures) in
     let same : now ≡ after_call v d step call (after_answer (with_dropped c.meet.new.self.terminal (length c.trimmed-dropped.result.items)) d) c.drop_shown.new.flip e = made v _ (after_answer (with_dropped c.meet.new.self.terminal (length c.trimmed-dropped.result.items)) d) _ (v.journal ++ e ∷ []) _ (kept_with (has_begun (caller_at v.terminal d)) v.kept d step call) _ c.drop_shown.new.flip c.drop_shown.new.flip goes js kept_plain (c.in_ok-made.ensures.ok ∙ c.in_ok-purge.ensures.ok ∙ c.in_ok-shown.ensures.ok ∙ c.in_ok-reserve_entry.ensures.ok) refl in
     let least : v.terminal.sent ≤ shown.tail = omega (arith, c.self.invariant.port.sent, shown.looks.rises) in

@@ -4,19 +4,21 @@ use Rattle.tty_calls.specs.Plain.{PlainEntry, waited, handle_of, call_of, entry_
 use Rattle.tty_terminal.specs.Terminals.{caller_at, has_begun}
 use Rattle.tty_terminal.specs.Calls.{outcome}
 use Rattle.tty_terminal.specs.Steps.{MustWait, after_wait}
-use Rattle.tty_calls.specs.declared.calls.Call.{Call}
-use Rattle.port_core.specs.declared.entries.Asked.{Asked}
-use Rattle.port_core.specs.Kept.{kept_of}
+use Rattle.port_core.specs.declared.waiting.WaitingCall.{WaitingCall}
 use Rattle.port_core.specs.Ports.{PortValue, kept_with, caller_entry}
 use Rattle.port_core.specs.Attempts.{IsReady, MustGoOnWaiting}
 use Rattle.port_core.specs.Inside.{value_of}
 use Rattle.port_core.proofs.GoingOn.{made, entries_added, known_caller}
-use Rattle.port_core.proofs.Calls.{kept_is, begun_is}
+use Rattle.port_core.proofs.Calls.{begun_is}
+use Rattle.port_core.proofs.CanWait.{can_wait_here}
 use Rattle.port_core.proofs.Answering.{IsTried, after_call, begins_to_wait}
 use Rattle.port_core.proofs.ports.Port.begin_wait.Goals as goal
 
 pub caller-state-requires : goal.caller-state-requires
 caller-state-requires c = known_caller (value_of c.self.inside) c.args.self.now c.args.caller c.self.view_is c.self.invariant.port c.requires.ready.known
+
+pub copy_of-requires : goal.copy_of-requires
+copy_of-requires c = can_wait_here c.args.self.now.terminal (caller_at c.args.self.now.terminal c.args.caller) (call_of c.args.call.now) c.requires.must
 
 pub wait-requires-clause-known : goal.wait-requires-clause-known
 wait-requires-clause-known c = known_caller (value_of c.self.inside) c.args.self.now c.args.caller c.self.view_is c.self.invariant.port c.requires.ready.known
@@ -27,7 +29,7 @@ invariant_of-self-2 c =
     let d = c.args.caller in
     let step = c.args.step in
     let call = call_of c.args.call.now in
-    let slots : List (Option Call) = c.self.inside.waiting.items in
+    let slots : List (Option WaitingCall) = c.self.inside.waiting.items in
     let ready : IsReady v d step call = subst (λ (w : PortValue). IsReady w d step call) (sym c.self.view_is) c.requires.ready in
     let few : length v.journal < v.limit = subst (λ (w : PortValue). length w.journal < w.limit) (sym c.self.view_is) c.requires.open.0 in
     let begun : c.is_some-begun.result ≡ has_begun (caller_at v.terminal d) = begun_is v.terminal d c.caller-state.result c.is_some-begun.result c.caller-state.ensures c.is_some-begun.ensures in
@@ -35,9 +37,9 @@ invariant_of-self-2 c =
     let e : PlainEntry = caller_entry v d waited in
     let entry : entry_of c.entry_of_call-entry.result ≡ e = ap entry_of c.entry_of_call-entry.ensures ∙ (λ i. record { who = Caller d; step = ready.next i; part = (c.caller-state.ensures i).parts; generation = c.generation-generation.ensures i; event = waited }) in
     let js : entries_of c.add.new.self.items ≡ v.journal ++ e ∷ [] = entries_added c.self.inside.journal.items c.reserve_entry.new.journal.items c.entry_of_call-entry.result c.add.new.self.items c.in_ok-reserve_entry.ensures.items (ap (λ b. b.items) c.add.ensures) ∙ ap (λ (x : PlainEntry). v.journal ++ x ∷ []) entry in
-    let kept_plain : map kept_of c.note_call.new.kept.items ≡ kept_with (has_begun (caller_at v.terminal d)) v.kept d step call = ap (λ (xs : List (Asked × Call)). map kept_of xs) c.note_call.ensures ∙ kept_is c.is_some-begun.result c.self.inside.kept.items (record { caller = d; step = step }) c.args.call.now ∙ ap (λ (b : Bool). kept_with b v.kept d step call) begun in
+    let kept_plain : c.note.new.self.items ≡ kept_with (has_begun (caller_at v.terminal d)) v.kept d step call = c.note.ensures ∙ ap (λ (b : Bool). kept_with b v.kept d step call) begun in
     let left : c.wait.new.self.terminal ≡ after_wait v.terminal d (handle_of call) = ap (λ r. r.terminal) c.wait.ensures ∙ ap (λ (h : ℕ). after_wait v.terminal d h) c.handle.ensures in
-    let now : PortValue = record v { terminal = c.wait.new.self.terminal; journal = entries_of c.add.new.self.items; kept = map kept_of c.note_call.new.kept.items; starved = c.copy_of.new.starved; flip = v.flip } in
+    let now : PortValue = record v { terminal = c.wait.new.self.terminal; journal = entries_of c.add.new.self.items; kept = c.note.new.self.items; starved = c.copy_of.new.starved; flip = v.flip } in
     let same : now ≡ after_call v d step call (after_wait v.terminal d (handle_of call)) v.flip e = made v _ (after_wait v.terminal d (handle_of call)) _ (v.journal ++ e ∷ []) _ (kept_with (has_begun (caller_at v.terminal d)) v.kept d step call) _ v.flip v.flip left js kept_plain (c.in_ok-copy.ensures.ok ∙ c.in_ok-reserve_entry.ensures.ok) refl in
     let must : MustWait (outcome v.terminal (caller_at v.terminal d) call) = subst (λ (w : PortValue). MustWait (outcome w.terminal (caller_at w.terminal d) call)) (sym c.self.view_is) c.requires.must in
     let first : (caller_at v.terminal d).waits ≡ None = subst (λ (w : PortValue). (caller_at w.terminal d).waits ≡ None) (sym c.self.view_is) c.requires.first in
@@ -50,7 +52,7 @@ returns-clause-tried c =
     let d = c.args.caller in
     let step = c.args.step in
     let call = call_of c.args.call.now in
-    let slots : List (Option Call) = c.self.inside.waiting.items in
+    let slots : List (Option WaitingCall) = c.self.inside.waiting.items in
     let ready : IsReady v d step call = subst (λ (w : PortValue). IsReady w d step call) (sym c.self.view_is) c.requires.ready in
     let few : length v.journal < v.limit = subst (λ (w : PortValue). length w.journal < w.limit) (sym c.self.view_is) c.requires.open.0 in
     let begun : c.is_some-begun.result ≡ has_begun (caller_at v.terminal d) = begun_is v.terminal d c.caller-state.result c.is_some-begun.result c.caller-state.ensures c.is_some-begun.ensures in
@@ -58,9 +60,9 @@ returns-clause-tried c =
     let e : PlainEntry = caller_entry v d waited in
     let entry : entry_of c.entry_of_call-entry.result ≡ e = ap entry_of c.entry_of_call-entry.ensures ∙ (λ i. record { who = Caller d; step = ready.next i; part = (c.caller-state.ensures i).parts; generation = c.generation-generation.ensures i; event = waited }) in
     let js : entries_of c.add.new.self.items ≡ v.journal ++ e ∷ [] = entries_added c.self.inside.journal.items c.reserve_entry.new.journal.items c.entry_of_call-entry.result c.add.new.self.items c.in_ok-reserve_entry.ensures.items (ap (λ b. b.items) c.add.ensures) ∙ ap (λ (x : PlainEntry). v.journal ++ x ∷ []) entry in
-    let kept_plain : map kept_of c.note_call.new.kept.items ≡ kept_with (has_begun (caller_at v.terminal d)) v.kept d step call = ap (λ (xs : List (Asked × Call)). map kept_of xs) c.note_call.ensures ∙ kept_is c.is_some-begun.result c.self.inside.kept.items (record { caller = d; step = step }) c.args.call.now ∙ ap (λ (b : Bool). kept_with b v.kept d step call) begun in
+    let kept_plain : c.note.new.self.items ≡ kept_with (has_begun (caller_at v.terminal d)) v.kept d step call = c.note.ensures ∙ ap (λ (b : Bool). kept_with b v.kept d step call) begun in
     let left : c.wait.new.self.terminal ≡ after_wait v.terminal d (handle_of call) = ap (λ r. r.terminal) c.wait.ensures ∙ ap (λ (h : ℕ). after_wait v.terminal d h) c.handle.ensures in
-    let now : PortValue = record v { terminal = c.wait.new.self.terminal; journal = entries_of c.add.new.self.items; kept = map kept_of c.note_call.new.kept.items; starved = c.copy_of.new.starved; flip = v.flip } in
+    let now : PortValue = record v { terminal = c.wait.new.self.terminal; journal = entries_of c.add.new.self.items; kept = c.note.new.self.items; starved = c.copy_of.new.starved; flip = v.flip } in
     let same : now ≡ after_call v d step call (after_wait v.terminal d (handle_of call)) v.flip e = made v _ (after_wait v.terminal d (handle_of call)) _ (v.journal ++ e ∷ []) _ (kept_with (has_begun (caller_at v.terminal d)) v.kept d step call) _ v.flip v.flip left js kept_plain (c.in_ok-copy.ensures.ok ∙ c.in_ok-reserve_entry.ensures.ok) refl in
     let must : MustWait (outcome v.terminal (caller_at v.terminal d) call) = subst (λ (w : PortValue). MustWait (outcome w.terminal (caller_at w.terminal d) call)) (sym c.self.view_is) c.requires.must in
     let first : (caller_at v.terminal d).waits ≡ None = subst (λ (w : PortValue). (caller_at w.terminal d).waits ≡ None) (sym c.self.view_is) c.requires.first in
