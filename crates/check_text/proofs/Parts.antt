@@ -48,6 +48,11 @@ one_with : (c : Flagged) (chars new : List Flagged) (more : Option (List Flagged
 one_with c chars new None e = refl
 one_with c chars new (Some rest) e = ap Some (ap (λ xs. xs ++ rest) e ∙ append_assoc chars (c ∷ []) rest)
 
+-- before the first
+pub chars_first : (chars : List Flagged) (found : Option (List Flagged)) → chars ≡ [] → option_map (λ more. chars ++ more) found ≡ found
+chars_first chars None e = refl
+chars_first chars (Some more) e = ap Some (ap (λ xs. xs ++ more) e)
+
 -- a character more
 pub chars_more : (word rest : List ℕ) (chars new : List Flagged) (c : Flagged) → 3 ≤ length rest → Some c ≡ char_of (get_or rest 0 0) (get_or rest 1 0) (get_or rest 2 0) → new ≡ chars ++ c ∷ []
     → option_map (λ more. chars ++ more) (chars_from rest) ≡ chars_from word → option_map (λ more. new ++ more) (chars_from (take (length rest - 3) (drop 3 rest))) ≡ chars_from word

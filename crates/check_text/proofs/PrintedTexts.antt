@@ -4,11 +4,11 @@ use Rattle.std.specs.Prelude.{filter}
 use Rattle.std.specs.List.{list_all, AllByRecursion, range_with_len, onto_first}
 use Rattle.std.proofs.lemmas.Bool.{and_parts}
 use Rattle.std.proofs.lemmas.Bool.Decides.{nat_tests}
-use Rattle.std.proofs.lemmas.List.{map-append, length-map}
+use Rattle.std.proofs.lemmas.List.{map-append}
 use Rattle.std.proofs.lemmas.List.Elements.{filter-append}
 use Rattle.tty_base.specs.declared.lines.Overrun.{Overrun}
 use Rattle.tty_calls.specs.declared.journals.PortRun.{PortRun}
-use Rattle.tty_calls.specs.Plain.{PlainEntry, entry_of}
+use Rattle.tty_calls.specs.Plain.{PlainEntry}
 use Rattle.tty_calls.specs.Sessions.{PlainSession, scripts_over}
 use Rattle.text_lines.specs.Lines.{is_newline, lines_of, words_of, first_is, says}
 use Rattle.text_lines.specs.Values.{is_digit}
@@ -133,34 +133,29 @@ five_parts : (a b c d e rest : List ℕ) → (a ++ (b ++ (c ++ (d ++ e)))) ++ re
 five_parts a b c d e rest =
     append_assoc a (b ++ (c ++ (d ++ e))) rest ∙ ap (λ xs. a ++ xs) (append_assoc b (c ++ (d ++ e)) rest ∙ ap (λ xs. b ++ xs) (append_assoc c (d ++ e) rest ∙ ap (λ xs. c ++ xs) (append_assoc d e rest)))
 
-entry_count : (run : PortRun) → length (run_of run).journal ≡ length run.journal.items
-entry_count run = length-map run.journal.items entry_of
-
 run_told : (port : ℕ) (session : PlainSession) (run : PortRun) → port < 2 ^ 64 → IsRunOf (callers_on port session) (run_of run) → RunTold port session run
 run_told port session run small h =
     let callers = callers_on port session in
     let plain = run_of run in
     let entries = entries_told callers plain.journal (own_names (scripts_over port session.phases)) h.entries in
-    let count = entry_count run in
     let e_text = flat_map (entry_line callers.names) plain.journal in
     let o_text = flat_map overrun_line plain.overruns in
-    let first_text = heading (codes "journal") port (length run.journal.items) in
+    let first_text = heading (codes "journal") port (length plain.journal) in
     let second_text = heading (codes "overruns") port (length plain.overruns) in
     let n_text = line_numbers port run.line in
-    let first = heading_words (codes "journal") port (length run.journal.items) in
+    let first = heading_words (codes "journal") port (length plain.journal) in
     let second = heading_words (codes "overruns") port (length plain.overruns) in
     let numbers = numbers_words port plain in record {
       lines = entries.lines;
       are = entries.are;
       told_is = λ rest.
           ap told (five_parts first_text e_text second_text o_text n_text rest)
-          ∙ line_told first_text (e_text ++ (second_text ++ (o_text ++ (n_text ++ rest)))) first (heading_printed (codes "journal") port (length run.journal.items) (omega arith) refl refl small (omega (arith, h.within.entries, count)))
+          ∙ line_told first_text (e_text ++ (second_text ++ (o_text ++ (n_text ++ rest)))) first (heading_printed (codes "journal") port (length plain.journal) (omega arith) refl refl small (omega (arith, h.within.entries)))
           ∙ ap (λ (ls : List Line). first ∷ ls) (entries.told_is (second_text ++ (o_text ++ (n_text ++ rest)))
           ∙ ap (λ (ls : List Line). entries.lines ++ ls) (line_told second_text (o_text ++ (n_text ++ rest)) second (heading_printed (codes "overruns") port (length plain.overruns) (omega arith) refl refl small (omega (arith, h.within.overruns)))
           ∙ ap (λ (ls : List Line). second ∷ ls) (overruns_told plain.overruns (n_text ++ rest) h.within.each
           ∙ ap (λ (ls : List Line). map overrun_words plain.overruns ++ ls) (line_told n_text rest numbers (numbers_printed port run small h.within))))
-          ∙ sym (regroup entries.lines (map overrun_words plain.overruns) (told rest) second numbers))
-          ∙ ap (λ n. heading_words (codes "journal") port n ∷ ((entries.lines ++ second ∷ (map overrun_words plain.overruns ++ numbers ∷ [])) ++ told rest)) (sym count);
+          ∙ sym (regroup entries.lines (map overrun_words plain.overruns) (told rest) second numbers));
     }
 
 -- ---- all runs

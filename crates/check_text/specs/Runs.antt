@@ -2,7 +2,7 @@
 use Rattle.std.specs.Prelude.{ℕ, List}
 use Rattle.tty_base.specs.declared.lines.Overrun.{Overrun}
 use Rattle.tty_calls.specs.declared.journals.PortRun.{PortRun}
-use Rattle.tty_calls.specs.Plain.{PlainEntry, entries_of}
+use Rattle.tty_calls.specs.Plain.{PlainEntry}
 
 pub record PlainRun : Type 0 where
   pub journal : List PlainEntry
@@ -13,7 +13,7 @@ pub record PlainRun : Type 0 where
 
 abbrev pub run_of : PortRun → PlainRun
 run_of run = record {
-  journal = entries_of run.journal.items;
+  journal = run.journal.items;
   overruns = run.line.overruns.items;
   arrived = run.line.arrived;
   lost = run.line.fifo_lost;

@@ -1,4 +1,4 @@
-ghost use Rattle.std.specs.Prelude.{◌≡◌, ◌<◌, IfOk, IfSome, option_map};
+ghost use Rattle.std.specs.Prelude.{◌≡◌, ◌<◌, [], IfSome};
 ghost use Rattle.hex.specs.Hex.{hex_digit_value};
 ghost use Rattle.session_text.specs.declared.faults.Reason.TheVariants.{Hex};
 ghost use Rattle.check_text.specs.Fields.{or_else};
@@ -7,30 +7,27 @@ ghost use Rattle.check_text.specs.Results.{ReadsAs};
 
 use super::faults::LineFault;
 use session_text::Reason;
-use std::alloc::Global;
-use tty_base::{Chars, Flag, Flagged, NoMemory};
+use tty_base::{Chars, Flag, Flagged};
 
-/// The characters that CHARS writes.
-pub(crate) fn characters_of(alloc: Global, word: &[u8]) -> Result<Chars, LineFault>
-    ensures { ReadsAs (λ chars. chars.items) result (or_else Hex (chars_of word.now)) }
+/// Reads the characters that CHARS writes.
+pub(crate) fn read_characters(word: &[u8], characters: &mut Chars) -> Result<(), LineFault>
+    ensures { ReadsAs (λ _. characters.new.items) result (or_else Hex (chars_of word.now)) }
 {
+    characters.truncate(0);
     if word == b"-".as_slice() {
-        return Ok(Chars::new(alloc));
+        return Ok(());
     }
-    match characters_from(alloc, word)? {
-        Some(characters) => Ok(characters),
-        None => Err(LineFault::Wrong(Reason::Hex)),
-    }
+    add_characters(word, characters)
 }
 
-fn characters_from(alloc: Global, word: &[u8]) -> Result<Option<Chars>, NoMemory>
-    ensures { IfOk result (λ found. option_map (λ chars. chars.items) found ≡ chars_from word.now) }
+fn add_characters(word: &[u8], characters: &mut Chars) -> Result<(), LineFault>
+    requires { characters.old.items ≡ [] }
+    ensures { ReadsAs (λ _. characters.new.items) result (or_else Hex (chars_from word.now)) }
 {
-    let mut characters = Chars::new(alloc);
     let mut rest = word;
     while let [letter, high, low, after @ ..] = rest {
         match character_of(*letter, *high, *low) {
-            None => return Ok(None),
+            None => return Err(LineFault::Wrong(Reason::Hex)),
             Some(character) => {
                 characters.reserve(1)?;
                 characters.add(character);
@@ -38,11 +35,11 @@ fn characters_from(alloc: Global, word: &[u8]) -> Result<Option<Chars>, NoMemory
         }
         rest = after;
     }
-    Ok(if rest.is_empty() {
-        Some(characters)
+    if rest.is_empty() {
+        Ok(())
     } else {
-        None
-    })
+        Err(LineFault::Wrong(Reason::Hex))
+    }
 }
 
 fn character_of(letter: u8, high: u8, low: u8) -> Option<Flagged>

@@ -1,33 +1,39 @@
-ghost use Rattle.std.specs.Prelude.{◌≡◌, Ok, Err, IfOk, MatchResult};
-ghost use Rattle.tty_calls.specs.Plain.{answer_of, event_of, entry_of, answered, flushed, hung_up, parted, line_ended, PlainEvent};
+ghost use Rattle.std.specs.Prelude.{◌≡◌, Ok, Err, MatchResult};
+ghost use Rattle.tty_calls.specs.Plain.{answer_of, flushed, hung_up, parted, waited, line_ended, PlainEvent};
 ghost use Rattle.text_lines.specs.Lines.{words_of};
 ghost use Rattle.check_text.specs.Fields.{in_front, at_end};
 ghost use Rattle.check_text.specs.Entries.{ends_in_number, maker_of as maker_named, who_of as who_named, who_in as read_who, call_of_entry as call_in_entry, chars_in as read_chars, ends_in_chars, with_dropped as read_dropped, event_by as read_event_by, event_in as read_event, entry_in as read_entry, fixed_in as read_fixed, heading_in as read_heading, overrun_in as read_overrun, numbers_in as read_numbers};
 ghost use Rattle.check_text.specs.Results.{ReadsAs};
-ghost use Rattle.check_text.specs.Views.{callers_of};
+ghost use Rattle.check_text.specs.Views.{callers_of, entry_with, event_with};
 
 use super::answers::answer_in;
 use super::callers::Callers;
-use super::characters::characters_of;
+use super::characters::read_characters;
 use super::faults::LineFault;
 use super::fields::{after_first, no_more, number_in, port_in, word_in};
 use super::kinds::{AnswerKind, EventKind, kind_of};
+use super::read_entries::{ReadEntry, ReadEvent};
 use session_text::Reason;
 use std::alloc::Global;
 use text_lines::split_word;
-use tty_base::{Chars, NoMemory, Overrun};
-use tty_calls::{Answer, Entry, Event, Purge, Who};
+use tty_base::{Chars, Overrun};
+use tty_calls::{Answer, Who};
 
-/// The entry that a line writes.
-pub(crate) fn entry_in(alloc: Global, callers: &Callers, words: &[u8]) -> Result<Entry, LineFault>
-    ensures { ReadsAs entry_of result (read_entry (callers_of callers.now) (words_of words.now)) }
+/// The entry that a line writes; its characters become these.
+pub(crate) fn entry_in(
+    alloc: Global,
+    callers: &Callers,
+    words: &[u8],
+    characters: &mut Chars,
+) -> Result<ReadEntry, LineFault>
+    ensures { ReadsAs (entry_with characters.new.items) result (read_entry (callers_of callers.now) (words_of words.now)) }
 {
     let (who, rest) = who_in(callers, words)?;
     let (step, rest) = number_in(rest)?;
     let (part, rest) = number_in(rest)?;
     let (generation, rest) = number_in(rest)?;
-    let event = event_in(alloc, callers, who, step, rest)?;
-    Ok(Entry {
+    let event = event_in(alloc, callers, who, step, rest, characters)?;
+    Ok(ReadEntry {
         who,
         step,
         part,
@@ -81,12 +87,13 @@ fn event_in(
     who: Who,
     step: u32,
     words: &[u8],
-) -> Result<Event, LineFault>
-    ensures { ReadsAs event_of result (read_event (callers_of callers.now) who step (words_of words.now)) }
+    characters: &mut Chars,
+) -> Result<ReadEvent, LineFault>
+    ensures { ReadsAs (event_with characters.new.items) result (read_event (callers_of callers.now) who step (words_of words.now)) }
 {
     let (word, rest) = word_in(words)?;
     match kind_of(word) {
-        Some(kind) => event_by(alloc, callers, who, step, kind, rest),
+        Some(kind) => event_by(alloc, callers, who, step, kind, rest, characters),
         None => Err(LineFault::Wrong(Reason::Word)),
     }
 }
@@ -98,28 +105,37 @@ fn event_by(
     step: u32,
     kind: EventKind,
     words: &[u8],
-) -> Result<Event, LineFault>
-    ensures { ReadsAs event_of result (read_event_by (callers_of callers.now) who step kind (words_of words.now)) }
+    characters: &mut Chars,
+) -> Result<ReadEvent, LineFault>
+    ensures { ReadsAs (event_with characters.new.items) result (read_event_by (callers_of callers.now) who step kind (words_of words.now)) }
 {
     match kind {
-        EventKind::Answer => answer_event(alloc, callers, who, step, words),
-        EventKind::Part => Ok(part_event(callers, who, step, words)?),
-        EventKind::Wait => Ok(wait_event(callers, who, step, words)?),
-        EventKind::Flush => flush_event(alloc, words),
-        EventKind::Hangup => hangup_event(alloc, words),
-        EventKind::LineEnd => Ok(line_end_event(words)?),
-        EventKind::Tick => Ok(bare_event(words, Event::Tick)?),
-        EventKind::ClockEnd => Ok(bare_event(words, Event::ClockEnd)?),
-        EventKind::CallerEnd => Ok(bare_event(words, Event::CallerEnd)?),
-        EventKind::PhaseEnd => Ok(bare_event(words, Event::PhaseEnd)?),
+        EventKind::Answer => answer_event(alloc, callers, who, step, words, characters),
+        EventKind::Part => Ok(ReadEvent::Part(part_in(callers, who, step, words)?)),
+        EventKind::Wait => {
+            wait_in(callers, who, step, words)?;
+            Ok(ReadEvent::Wait)
+        }
+        EventKind::Flush => flush_event(words, characters),
+        EventKind::Hangup => hangup_event(words, characters),
+        EventKind::LineEnd => Ok(ReadEvent::LineEnd(sent_in(words)?)),
+        EventKind::Tick => {
+            no_more(words)?;
+            Ok(ReadEvent::Tick)
+        }
+        EventKind::ClockEnd => {
+            no_more(words)?;
+            Ok(ReadEvent::ClockEnd)
+        }
+        EventKind::CallerEnd => {
+            no_more(words)?;
+            Ok(ReadEvent::CallerEnd)
+        }
+        EventKind::PhaseEnd => {
+            no_more(words)?;
+            Ok(ReadEvent::PhaseEnd)
+        }
     }
-}
-
-fn bare_event(words: &[u8], event: Event) -> Result<Event, Reason>
-    ensures { MatchResult result (λ same. at_end (event_of event) (words_of words.now) ≡ Ok (event_of same)) (λ reason. at_end (event_of event) (words_of words.now) ≡ Err reason) }
-{
-    no_more(words)?;
-    Ok(event)
 }
 
 /// The kind of the call that an entry speaks of: its maker is a caller, whose script has the step.
@@ -138,85 +154,84 @@ fn answer_event(
     who: Who,
     step: u32,
     words: &[u8],
-) -> Result<Event, LineFault>
-    ensures { ReadsAs event_of result (read_event_by (callers_of callers.now) who step EventKind.Answer (words_of words.now)) }
+    dropped: &mut Chars,
+) -> Result<ReadEvent, LineFault>
+    ensures { ReadsAs (event_with dropped.new.items) result (read_event_by (callers_of callers.now) who step EventKind.Answer (words_of words.now)) }
 {
     let kind = call_of_entry(callers, who, step)?;
     let (answer, rest) = answer_in(alloc, kind, words)?;
-    with_dropped(alloc, answer, rest)
+    with_dropped(answer, rest, dropped)
 }
 
 /// An answer, and the characters that were dropped beside it.
-fn with_dropped(alloc: Global, answer: Answer, words: &[u8]) -> Result<Event, LineFault>
-    ensures { ReadsAs event_of result (read_dropped (answer_of answer) (words_of words.now)) }
+fn with_dropped(answer: Answer, words: &[u8], dropped: &mut Chars) -> Result<ReadEvent, LineFault>
+    ensures { ReadsAs (event_with dropped.new.items) result (read_dropped (answer_of answer) (words_of words.now)) }
 {
     match split_word(words) {
-        None => Ok(Event::Answer(answer)),
+        None => {
+            dropped.truncate(0);
+            Ok(ReadEvent::Answer(answer))
+        }
         Some((word, rest)) => {
             if word != b"drop".as_slice() {
                 return Err(LineFault::Wrong(Reason::Word));
             }
-            let (characters, rest) = characters_in(alloc, rest)?;
+            let rest = characters_in(rest, dropped)?;
             no_more(rest)?;
-            Ok(purge_event(alloc, answer, characters)?)
+            Ok(ReadEvent::Answer(answer))
         }
     }
 }
 
-fn purge_event(alloc: Global, answer: Answer, dropped: Chars) -> Result<Event, NoMemory>
-    ensures { IfOk result (λ event. event_of event ≡ answered (answer_of answer) dropped.items) }
-{
-    let purge = Box::new(alloc, Purge { answer, dropped })?;
-    Ok(Event::Purge(purge))
-}
-
-fn part_event(callers: &Callers, who: Who, step: u32, words: &[u8]) -> Result<Event, Reason>
-    ensures { MatchResult result (λ event. read_event_by (callers_of callers.now) who step EventKind.Part (words_of words.now) ≡ Ok (event_of event)) (λ reason. read_event_by (callers_of callers.now) who step EventKind.Part (words_of words.now) ≡ Err reason) }
+/// How many bytes a part took.
+fn part_in(callers: &Callers, who: Who, step: u32, words: &[u8]) -> Result<u32, Reason>
+    ensures { MatchResult result (λ taken. read_event_by (callers_of callers.now) who step EventKind.Part (words_of words.now) ≡ Ok (parted taken)) (λ reason. read_event_by (callers_of callers.now) who step EventKind.Part (words_of words.now) ≡ Err reason) }
 {
     call_of_entry(callers, who, step)?;
     let (taken, rest) = number_in(words)?;
     no_more(rest)?;
-    Ok(Event::Part(taken))
+    Ok(taken)
 }
 
-fn wait_event(callers: &Callers, who: Who, step: u32, words: &[u8]) -> Result<Event, Reason>
-    ensures { MatchResult result (λ event. read_event_by (callers_of callers.now) who step EventKind.Wait (words_of words.now) ≡ Ok (event_of event)) (λ reason. read_event_by (callers_of callers.now) who step EventKind.Wait (words_of words.now) ≡ Err reason) }
+fn wait_in(callers: &Callers, who: Who, step: u32, words: &[u8]) -> Result<(), Reason>
+    ensures { MatchResult result (λ _. read_event_by (callers_of callers.now) who step EventKind.Wait (words_of words.now) ≡ Ok waited) (λ reason. read_event_by (callers_of callers.now) who step EventKind.Wait (words_of words.now) ≡ Err reason) }
 {
     call_of_entry(callers, who, step)?;
-    no_more(words)?;
-    Ok(Event::Wait)
+    no_more(words)
 }
 
-fn line_end_event(words: &[u8]) -> Result<Event, Reason>
-    ensures { MatchResult result (λ event. ends_in_number line_ended (words_of words.now) ≡ Ok (event_of event)) (λ reason. ends_in_number line_ended (words_of words.now) ≡ Err reason) }
+/// How many characters were sent by the line's end.
+fn sent_in(words: &[u8]) -> Result<u64, Reason>
+    ensures { MatchResult result (λ sent. ends_in_number line_ended (words_of words.now) ≡ Ok (line_ended sent)) (λ reason. ends_in_number line_ended (words_of words.now) ≡ Err reason) }
 {
     let (sent, rest) = number_in(words)?;
     no_more(rest)?;
-    Ok(Event::LineEnd(u64::from(sent)))
+    Ok(u64::from(sent))
 }
 
-fn flush_event(alloc: Global, words: &[u8]) -> Result<Event, LineFault>
-    ensures { ReadsAs event_of result (ends_in_chars flushed (words_of words.now)) }
+fn flush_event(words: &[u8], characters: &mut Chars) -> Result<ReadEvent, LineFault>
+    ensures { ReadsAs (event_with characters.new.items) result (ends_in_chars flushed (words_of words.now)) }
 {
-    let (characters, rest) = characters_in(alloc, words)?;
+    let rest = characters_in(words, characters)?;
     no_more(rest)?;
-    Ok(Event::Flush(characters))
+    Ok(ReadEvent::Flush)
 }
 
-fn hangup_event(alloc: Global, words: &[u8]) -> Result<Event, LineFault>
-    ensures { ReadsAs event_of result (ends_in_chars hung_up (words_of words.now)) }
+fn hangup_event(words: &[u8], dropped: &mut Chars) -> Result<ReadEvent, LineFault>
+    ensures { ReadsAs (event_with dropped.new.items) result (ends_in_chars hung_up (words_of words.now)) }
 {
-    let (characters, rest) = characters_in(alloc, words)?;
+    let rest = characters_in(words, dropped)?;
     no_more(rest)?;
-    Ok(Event::Hangup(characters))
+    Ok(ReadEvent::Hangup)
 }
 
-/// The characters that are the first word, and what follows it.
-fn characters_in(alloc: Global, words: &[u8]) -> Result<(Chars, &[u8]), LineFault>
-    ensures { ReadsAs (λ parts. in_front (words_of parts.1.now) parts.0.items) result (read_chars (words_of words.now)) }
+/// What follows the first word. The characters that it writes become these.
+fn characters_in<'a>(words: &'a [u8], characters: &mut Chars) -> Result<&'a [u8], LineFault>
+    ensures { ReadsAs (λ rest. in_front (words_of rest.now) characters.new.items) result (read_chars (words_of words.now)) }
 {
     let (word, rest) = word_in(words)?;
-    Ok((characters_of(alloc, word)?, rest))
+    read_characters(word, characters)?;
+    Ok(rest)
 }
 
 /// A line that is one fixed word.

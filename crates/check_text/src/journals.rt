@@ -1,6 +1,5 @@
-ghost use Rattle.std.specs.Prelude.{◌≡◌, [], ◌∷◌, ◌++◌, IfOk, OnOk, length, map, slice_get};
+ghost use Rattle.std.specs.Prelude.{◌≡◌, [], ◌∷◌, ◌++◌, IfOk, OnOk, map, slice_get};
 ghost use Rattle.std.specs.List.{range_with_len};
-ghost use Rattle.tty_calls.specs.Plain.{entry_of};
 ghost use Rattle.tty_calls.specs.Sessions.{session_of};
 ghost use Rattle.text_lines.specs.Lines.{words_of};
 ghost use Rattle.session_text.specs.Reading.{Gives};
@@ -8,17 +7,18 @@ ghost use Rattle.check_text.specs.Callers.{callers_on};
 ghost use Rattle.check_text.specs.Journals.{first_journals, run_due as due_run, entries_due as due_entries, overruns_due as due_overruns, is_over as is_last, entry_by, line_by, journals_after_line, runs_at_end};
 ghost use Rattle.check_text.specs.Results.{ReadsAs};
 ghost use Rattle.check_text.specs.Runs.{run_of};
-ghost use Rattle.check_text.specs.Views.{callers_of, journals_of};
+ghost use Rattle.check_text.specs.Views.{callers_of, entry_with, journals_of};
 
 use super::callers::Callers;
 use super::entries::{entry_in, fixed_in, heading_in, numbers_in, overrun_in};
 use super::faults::LineFault;
+use super::read_entries::{ReadEntry, add_entry};
 use session_text::{BadLine, Reason, TextFault};
 use std::alloc::Global;
 use std::mem;
 use text_lines::{is_comment, split_word};
-use tty_base::{Buffer, LineReport, NoMemory, Overruns};
-use tty_calls::{Entry, Journal, PortRun, Session};
+use tty_base::{Buffer, Chars, LineReport, NoMemory, Overruns};
+use tty_calls::{Journal, PortRun, Session};
 
 /// Which line is due.
 #[derive(Clone, Copy, Debug, PartialEq, Eq)]
@@ -49,6 +49,8 @@ pub(crate) struct Journals {
     runs: Vec<PortRun>,
     entries: Journal,
     overruns: Overruns,
+    /// The characters of the entry that is read.
+    characters: Chars,
 }
 
 impl Journals {
@@ -60,8 +62,9 @@ impl Journals {
             callers: callers_by_port(alloc, session)?,
             due: Due::Journals,
             runs: Vec::new(alloc),
-            entries: Buffer::new(alloc),
+            entries: Journal::new(alloc),
             overruns: Buffer::new(alloc),
+            characters: Chars::new(alloc),
         })
     }
 
@@ -125,21 +128,11 @@ impl Journals {
     fn read_entry(&mut self, alloc: Global, left: u32, words: &[u8]) -> Result<(), LineFault>
         ensures { ReadsAs (λ _. journals_of self.new) result (line_by (journals_of self.old) (Due.Entry left) (words_of words.now)) }
     {
-        let entry = self.entry_in(alloc, words)?;
-        self.entries.reserve(1)?;
-        self.entries.add(entry);
+        let callers = self.callers.as_slice();
+        let entry = entry_due(alloc, callers, self.runs.len(), words, &mut self.characters)?;
+        add_entry(&mut self.entries, &entry.lent(self.characters.as_slice()))?;
         self.due = entries_due(left.saturating_sub(1));
         Ok(())
-    }
-
-    /// The entry that a line writes, of the port that is due.
-    fn entry_in(&self, alloc: Global, words: &[u8]) -> Result<Entry, LineFault>
-        ensures { ReadsAs entry_of result (entry_by (slice_get (journals_of self.now).callers (length (journals_of self.now).runs)) (words_of words.now)) }
-    {
-        match self.callers.get(self.runs.len()) {
-            Some(callers) => entry_in(alloc, callers, words),
-            None => Err(LineFault::Wrong(Reason::Order)),
-        }
     }
 
     fn read_overrun(&mut self, left: u32, words: &[u8]) -> Result<(), LineFault>
@@ -157,7 +150,7 @@ impl Journals {
     {
         let port = self.runs.len();
         let numbers = numbers_in(port, words)?;
-        let journal = mem::replace(&mut self.entries, Buffer::new(alloc));
+        let journal = mem::replace(&mut self.entries, Journal::new(alloc));
         let overruns = mem::replace(&mut self.overruns, Buffer::new(alloc));
         let line = LineReport {
             arrived: numbers.arrived,
@@ -181,6 +174,22 @@ impl Journals {
             }));
         }
         Ok(self.runs)
+    }
+}
+
+/// The entry that a line writes, of the port that is due; its characters become these.
+fn entry_due(
+    alloc: Global,
+    callers: &[Callers],
+    port: usize,
+    words: &[u8],
+    characters: &mut Chars,
+) -> Result<ReadEntry, LineFault>
+    ensures { ReadsAs (entry_with characters.new.items) result (entry_by (slice_get (map callers_of callers.now) port) (words_of words.now)) }
+{
+    match callers.get(port) {
+        Some(callers) => entry_in(alloc, callers, words, characters),
+        None => Err(LineFault::Wrong(Reason::Order)),
     }
 }
 

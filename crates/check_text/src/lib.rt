@@ -10,6 +10,7 @@ mod fields;
 mod journals;
 mod kinds;
 mod laws;
+mod read_entries;
 mod reader;
 
 pub use laws::{

@@ -2,7 +2,7 @@ use super::*;
 use session_text::{BadLine, Reason, TextFault};
 use std::test::Fail;
 use tty_base::{Errno, Flag, Flagged, Overrun};
-use tty_calls::{Answer, Event, Who};
+use tty_calls::{AnswerRef, Event, Who};
 use tty_modes::Modes;
 
 #[test]
@@ -24,47 +24,50 @@ fn each_kind_of_line_is_read(rt: HostRuntime) -> Result<(), Fail> {
             seen: 3,
         };
         assert_eq!(rt; run.line.overruns.as_slice(), [overrun].as_slice());
-        let entries = run.journal.as_slice();
-        assert_eq!(rt; entries.len(), 17);
-        for (place, entry) in entries.iter().enumerate() {
-            let is_there = match (place, &entry.event) {
+        assert_eq!(rt; run.journal.len(), 17);
+        for place in 0..run.journal.len() {
+            let entry = run.journal.at(place);
+            let is_there = match (place, entry.event) {
                 (0, Event::LineEnd(0)) => entry.who == Who::Line,
-                (1, Event::Answer(Answer::Done)) => entry.who == Who::Caller(0),
                 (2, Event::Wait) => entry.step == 1,
                 (3, Event::Tick) => entry.who == Who::Clock,
                 (4, Event::Flush(characters)) => {
                     characters.len() == 5
-                        && characters.as_slice().get(1)
+                        && characters.get(1)
                             == Some(&Flagged {
                                 byte: 10,
                                 flag: Flag::Parity,
                             })
                 }
-                (5, Event::Answer(Answer::Got(bytes))) => bytes.as_slice() == b"hi".as_slice(),
                 (6, Event::Part(1)) => entry.part == 0,
-                (7, Event::Purge(purge)) => {
-                    entry.part == 1
-                        && matches!(purge.answer, Answer::Count(2))
-                        && purge.dropped.len() == 0
-                }
-                (8, Event::Answer(Answer::ModesAre(modes))) => *modes == Modes::sane(),
-                (9, Event::Purge(purge)) => {
-                    matches!(purge.answer, Answer::Number(0)) && purge.dropped.len() == 1
-                }
-                (10, Event::Answer(Answer::CountsAre(counts))) => {
-                    counts.breaks == 3 && counts.pfull == u64::MAX
-                }
-                (11, Event::Answer(Answer::Refused(errno))) => *errno == Errno::EBADF,
                 (12, Event::CallerEnd) => entry.generation == 1,
                 (13, Event::ClockEnd) | (14, Event::PhaseEnd) => true,
-                (15, Event::Hangup(dropped)) => dropped.len() == 0,
+                (15, Event::Hangup(dropped)) => dropped.is_empty(),
                 (16, Event::CallerEnd) => entry.step == 9,
+                (_, Event::Answer { answer, dropped }) => {
+                    entry.who == Who::Caller(0)
+                        && entry.part == u32::from(place == 7)
+                        && is_answer(place, &answer)
+                        && dropped.len() == usize::from(place == 9)
+                }
                 _ => false,
             };
             assert!(rt; is_there, "at {place}");
         }
     }
     Ok(())
+}
+
+/// Whether this is the answer that the text writes at a place.
+fn is_answer(place: usize, answer: &AnswerRef) -> bool {
+    match (place, *answer) {
+        (1, AnswerRef::Done) | (7, AnswerRef::Count(2)) | (9, AnswerRef::Number(0)) => true,
+        (5, AnswerRef::Got(bytes)) => bytes == b"hi".as_slice(),
+        (8, AnswerRef::ModesAre(modes)) => *modes == Modes::sane(),
+        (10, AnswerRef::CountsAre(counts)) => counts.breaks == 3 && counts.pfull == u64::MAX,
+        (11, AnswerRef::Refused(errno)) => errno == Errno::EBADF,
+        _ => false,
+    }
 }
 
 #[test]

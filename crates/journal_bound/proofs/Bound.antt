@@ -7,12 +7,12 @@ use Rattle.std.proofs.lemmas.List.Elements.{All-head, All-tail}
 use Rattle.std.proofs.lemmas.List.Sums.{sum_by-cons, sum_by-append}
 use Rattle.tty_base.specs.declared.characters.Flagged.{Flagged}
 use Rattle.tty_calls.specs.declared.journals.PortRun.{PortRun}
-use Rattle.tty_calls.specs.Plain.{PlainCall, PlainEntry, entry_of, entries_of}
+use Rattle.tty_calls.specs.Plain.{PlainCall, PlainEntry, chars_in}
 use Rattle.tty_calls.specs.Sessions.{PlainScript, PlainPhase, PlainSession, ticks_on, scripts_on, scripts_over, names_of, calls_of, call_at, counts_on}
 use Rattle.tty_calls.specs.Limits.{IsPhaseWithin, IsWithinLimits, call_count, character_count, tick_count}
 use Rattle.tty_terminal.specs.declared.callers.CallerState.{CallerState}
 use Rattle.tty_terminal.specs.Terminals.{Terminal, opening, caller_at}
-use Rattle.tty_terminal.specs.Runs.{chars_in, chars_of}
+use Rattle.tty_terminal.specs.Runs.{chars_of}
 use Rattle.tty_terminal.specs.Standing.{Standing, standing_of, at_first}
 use Rattle.tty_terminal.specs.Marks.{marks_of, marks_in, no_marks}
 use Rattle.tty_terminal.proofs.CallerLists.{all_idle}
@@ -116,10 +116,9 @@ opening_sound p session n capacity c =
 pub bounded : (p : ℕ) (session : PlainSession) (run : PortRun) (t : Terminal) → IsWithinLimits session → IsCutShort p session run t
     → length run.journal.items ≤ 2 * byte_count_on p session.phases + 2 * call_count_on p session.phases + character_count p session.phases + tick_count p session.phases + 1217
 bounded p session run t limits h =
-    let es : List PlainEntry = entries_of run.journal.items in
+    let es : List PlainEntry = run.journal.items in
     let callers : ℕ = sum (counts_on p session) in
     let n : ℕ = length (opening callers (flip_on p session)).callers in
-    let as_many : length es ≡ length run.journal.items = length-map run.journal.items entry_of in
     let ends = leads_uses p session n (opening callers (flip_on p session)) es t h.on_the_way.steps h.on_the_way.in_phases (λ c. opening_sound p session callers (flip_on p session) c) refl in
     let spent_all = all_spent p session n t.phase (λ c. standing_of (caller_at t c)) ends.sound in
     let costs = scripts_cost (scripts_over p session.phases) in
@@ -132,7 +131,7 @@ bounded p session run t limits h =
     let ticks = few_ticks p session es h.ticks in
     let chars = few_characters p session run (chars_of es) h.chars in
     let few = limits.few_phases in
-    omega (arith, as_many, ends.few, spent_all, costs, one, scripts, same_marks, marks, extras_parts es, hangups, ticks, chars, few)
+    omega (arith, ends.few, spent_all, costs, one, scripts, same_marks, marks, extras_parts es, hangups, ticks, chars, few)
 
 -- ---- with the limits
 

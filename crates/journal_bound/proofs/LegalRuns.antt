@@ -3,7 +3,7 @@ use Rattle.std.proofs.Common.{◌≡◌, inr, ℕ, zero, suc, ◌+◌, ◌<◌, 
 use Rattle.std.proofs.lemmas.Bool.{eqb-true, ne_eqb}
 use Rattle.tty_base.specs.declared.lines.Overrun.{Overrun}
 use Rattle.tty_calls.specs.declared.journals.PortRun.{PortRun}
-use Rattle.tty_calls.specs.Plain.{PlainEvent, answered, parted, waited, flushed, ticked, line_ended, clock_ended, caller_ended, phase_ended, hung_up, PlainEntry, entries_of}
+use Rattle.tty_calls.specs.Plain.{PlainEvent, answered, parted, waited, flushed, ticked, line_ended, clock_ended, caller_ended, phase_ended, hung_up, PlainEntry}
 use Rattle.tty_calls.specs.Sessions.{PlainPhase, PlainSession, ticks_on}
 use Rattle.tty_terminal.specs.Terminals.{Terminal}
 use Rattle.tty_terminal.specs.Runs.{chars_of, phase_after}
@@ -161,7 +161,7 @@ pub legal_is_short : (p : ℕ) (session : PlainSession) (run : PortRun) (t : Ter
 legal_is_short p session run t h =
     record {
       on_the_way = h.on_the_way;
-      ticks = finished_ticks p session run.line.overruns.items session.phases 0 (entries_of run.journal.items) h.account.finished;
-      last = inr (finished_last p session run.line.overruns.items session.phases 0 (entries_of run.journal.items) h.account.finished);
-      chars = ([], append-nil (chars_of (entries_of run.journal.items)) ∙ h.account.chars);
+      ticks = finished_ticks p session run.line.overruns.items session.phases 0 run.journal.items h.account.finished;
+      last = inr (finished_last p session run.line.overruns.items session.phases 0 run.journal.items h.account.finished);
+      chars = ([], append-nil (chars_of run.journal.items) ∙ h.account.chars);
     }

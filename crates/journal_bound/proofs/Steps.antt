@@ -5,7 +5,7 @@ use Rattle.std.specs.Prelude.{nat_lt}
 use Rattle.tty_base.specs.declared.counters.Errno.TheVariants.{EAGAIN, EMSGSIZE}
 use Rattle.tty_calls.specs.declared.journals.Who.{Who}
 use Rattle.tty_calls.specs.declared.journals.Who.TheVariants.{Caller, Flusher, Line, Clock, Session}
-use Rattle.tty_calls.specs.Plain.{PlainCall, opens, closes, reads, writes, gets_modes, sets_modes, gets_disc, sets_disc, flushes, steers, counts_input, counts_output, excludes, admits, drains, gets_counts, hangs_up, sends_packet, takes_packet, PlainAnswer, done, refused, PlainEvent, answered, parted, waited, flushed, ticked, line_ended, clock_ended, caller_ended, phase_ended, hung_up, PlainEntry, is_caller}
+use Rattle.tty_calls.specs.Plain.{PlainCall, opens, closes, reads, writes, gets_modes, sets_modes, gets_disc, sets_disc, flushes, steers, counts_input, counts_output, excludes, admits, drains, gets_counts, hangs_up, sends_packet, takes_packet, PlainAnswer, done, refused, PlainEvent, answered, parted, waited, flushed, ticked, line_ended, clock_ended, caller_ended, phase_ended, hung_up, PlainEntry, is_caller, chars_in}
 use Rattle.tty_calls.specs.Sessions.{PlainSession, scripts_on, call_at, counts_on}
 use Rattle.flow_control.specs.Output.{room_of}
 use Rattle.slip_frames.specs.Slip.{max_packet, spelling_of}
@@ -18,7 +18,7 @@ use Rattle.tty_terminal.specs.Outcomes.{Outcome, gives, refuses, does, on_access
 use Rattle.tty_terminal.specs.Packets.{with_packet_sent, sending_outcome}
 use Rattle.tty_terminal.specs.Calls.{outcome_of}
 use Rattle.tty_terminal.specs.Steps.{Answers, MustWait, TakesPart, IsAllowed, Allowed, after}
-use Rattle.tty_terminal.specs.Runs.{Leads, chars_in, phase_after}
+use Rattle.tty_terminal.specs.Runs.{Leads, phase_after}
 use Rattle.tty_terminal.specs.Standing.{Standing, standing_of, standing_after_own, standing_after_other, standing_after}
 use Rattle.tty_terminal.specs.Marks.{Marks, marks_of, marks_after}
 use Rattle.tty_terminal.proofs.StandingLaws.{step_stands}

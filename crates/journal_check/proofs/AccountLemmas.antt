@@ -1,13 +1,13 @@
 -- Overruns, the characters of a journal, and those that a line's overruns leave of its received list.
-use Rattle.std.proofs.Common.{◌≡◌, inl, inr, ℕ, zero, suc, ◌+◌, ◌-◌, ◌<◌, ◌≤◌, ◌==◌, Bool, true, false, ◌||◌, if◌then◌else◌, List, [], ◌∷◌, ◌++◌, length, take, drop, get_or, refl, sym, ◌∙◌, ap, subst, arith, add-one, drop-cons, append_assoc, length-append}
+use Rattle.std.proofs.Common.{◌≡◌, inl, inr, ℕ, zero, suc, ◌+◌, ◌-◌, ◌<◌, ◌≤◌, ◌==◌, Bool, true, false, ◌||◌, if◌then◌else◌, List, [], ◌∷◌, ◌++◌, Some, length, take, drop, get_or, slice_get, refl, sym, ◌∙◌, ap, subst, arith, add-one, drop-cons, append_assoc, length-append}
 use Rattle.std.specs.List.{list_any}
 use Rattle.std.proofs.lemmas.Bool.{false≢true, eqb-true, eq-eqb, cases_lt}
 use Rattle.std.proofs.lemmas.List.{take_at, take-append-drop, take_rest}
+use Rattle.std.proofs.lemmas.Option.{get_or_from_slice_get, slice_get_within}
 use Rattle.tty_base.specs.declared.characters.Flagged.{Flagged}
 use Rattle.tty_base.specs.declared.lines.Overrun.{Overrun}
-use Rattle.tty_calls.specs.declared.journals.Entry.{Entry}
-use Rattle.tty_calls.specs.Plain.{entry_of, entries_of}
-use Rattle.tty_terminal.specs.Runs.{chars_in, chars_of}
+use Rattle.tty_calls.specs.Plain.{PlainEntry, chars_in}
+use Rattle.tty_terminal.specs.Runs.{chars_of}
 use Rattle.uart_line.specs.Offered.{kept_list_from, AreShown}
 use Rattle.journal_check.specs.Accounts.{Walk, is_at, kept_from}
 
@@ -32,6 +32,9 @@ shown_none capacity k floor = tt
 
 next_parts : {X : Type 0} (xs : List X) (i : ℕ) (d : X) → i < length xs → drop i xs ≡ get_or xs i d ∷ drop (i + 1) xs
 next_parts xs i d lt = drop-cons xs i d lt ∙ ap (λ (n : ℕ). get_or xs i d ∷ drop n xs) (sym (add-one i))
+
+pub next_at : {X : Type 0} (xs : List X) (i : ℕ) (x : X) → slice_get xs i ≡ Some x → drop i xs ≡ x ∷ drop (i + 1) xs
+next_at xs i x at = next_parts xs i x (slice_get_within xs i x at) ∙ ap (λ y. y ∷ drop (i + 1) xs) (get_or_from_slice_get xs i x x at)
 
 pub shown_next : (capacity k floor : ℕ) (os : List Overrun) (i : ℕ) (d : Overrun) → i < length os → AreShown capacity k floor (drop i os) → IsShown capacity k floor (get_or os i d) × AreShown capacity (k + 1) ((get_or os i d).at + 1) (drop (i + 1) os)
 shown_next capacity k floor os i d lt h = shown_cons capacity k floor (get_or os i d) (drop (i + 1) os) (subst (AreShown capacity k floor) (next_parts os i d lt) h)
@@ -59,32 +62,29 @@ front_is xs front rest is = ap (λ (ys : List Flagged). take (length front) ys) 
 pub rest_is : (xs front : List Flagged) → take (length front) xs ≡ front → xs ≡ front ++ take (length xs - length front) (drop (length front) xs)
 rest_is xs front is = sym (take-append-drop (length front) xs) ∙ ap (λ (ys : List Flagged). ys ++ drop (length front) xs) is ∙ ap (λ (ys : List Flagged). front ++ ys) (sym (take_rest xs (length front)))
 
-entries_next : (entries : List Entry) (i : ℕ) (d : Entry) → i < length entries → chars_of (entries_of (drop i entries)) ≡ chars_in (entry_of (get_or entries i d)).event ++ chars_of (entries_of (drop (i + 1) entries))
-entries_next entries i d lt = ap (λ (es : List Entry). chars_of (entries_of es)) (next_parts entries i d lt)
-
 append_same : (front xs ys : List Flagged) → front ++ xs ≡ front ++ ys → xs ≡ ys
 append_same [] xs ys h = h
 append_same (c ∷ front) xs ys h = append_same front xs ys (cc)
 
-pub record CharsGoOn (entries : List Entry) (i : ℕ) (list left : List Flagged) : Type 0 where
-  pub goes_on : chars_of (entries_of entries) ≡ list → chars_of (entries_of (drop i entries)) ≡ left
-  pub came : chars_of (entries_of (drop i entries)) ≡ left → chars_of (entries_of entries) ≡ list
+pub record CharsGoOn (es : List PlainEntry) (i : ℕ) (list left : List Flagged) : Type 0 where
+  pub goes_on : chars_of es ≡ list → chars_of (drop i es) ≡ left
+  pub came : chars_of (drop i es) ≡ left → chars_of es ≡ list
 
-pub chars_next : (entries : List Entry) (i : ℕ) (entry : Entry) (list rest front left : List Flagged) → i < length entries → entry ≡ get_or entries i entry → front ≡ chars_in (entry_of entry).event → rest ≡ front ++ left
-    → (chars_of (entries_of entries) ≡ list → chars_of (entries_of (drop i entries)) ≡ rest) → (chars_of (entries_of (drop i entries)) ≡ rest → chars_of (entries_of entries) ≡ list) → CharsGoOn entries (i + 1) list left
-chars_next entries i entry list rest front left lt is front_is parts goes_on came =
-    let next : chars_of (entries_of (drop i entries)) ≡ front ++ chars_of (entries_of (drop (i + 1) entries)) =
-    entries_next entries i entry lt ∙ ap (λ (cs : List Flagged). cs ++ chars_of (entries_of (drop (i + 1) entries))) (ap (λ (e : Entry). chars_in (entry_of e).event) (sym is) ∙ sym front_is) in
+pub chars_next : (es : List PlainEntry) (i : ℕ) (e : PlainEntry) (list rest front left : List Flagged) → slice_get es i ≡ Some e → front ≡ chars_in e.event → rest ≡ front ++ left
+    → (chars_of es ≡ list → chars_of (drop i es) ≡ rest) → (chars_of (drop i es) ≡ rest → chars_of es ≡ list) → CharsGoOn es (i + 1) list left
+chars_next es i e list rest front left at front_is parts goes_on came =
+    let next : chars_of (drop i es) ≡ front ++ chars_of (drop (i + 1) es) =
+    ap (λ (xs : List PlainEntry). chars_of xs) (next_at es i e at) ∙ ap (λ (cs : List Flagged). cs ++ chars_of (drop (i + 1) es)) (sym front_is) in
     record {
-      goes_on = λ whole. append_same front (chars_of (entries_of (drop (i + 1) entries))) left (sym next ∙ goes_on whole ∙ parts);
+      goes_on = λ whole. append_same front (chars_of (drop (i + 1) es)) left (sym next ∙ goes_on whole ∙ parts);
       came = λ h. came (next ∙ ap (λ (cs : List Flagged). front ++ cs) h ∙ sym parts);
     }
 
-pub not_next : (entries : List Entry) (i : ℕ) (entry : Entry) (list rest front : List Flagged) → i < length entries → entry ≡ get_or entries i entry → front ≡ chars_in (entry_of entry).event → ((left : List Flagged) → rest ≡ front ++ left → ⊥)
-    → (chars_of (entries_of entries) ≡ list → chars_of (entries_of (drop i entries)) ≡ rest) → chars_of (entries_of entries) ≡ list → ⊥
-not_next entries i entry list rest front lt is front_is none goes_on whole =
-    none (chars_of (entries_of (drop (i + 1) entries)))
-    (sym (goes_on whole) ∙ (entries_next entries i entry lt ∙ ap (λ (cs : List Flagged). cs ++ chars_of (entries_of (drop (i + 1) entries))) (ap (λ (e : Entry). chars_in (entry_of e).event) (sym is) ∙ sym front_is)))
+pub not_next : (es : List PlainEntry) (i : ℕ) (e : PlainEntry) (list rest front : List Flagged) → slice_get es i ≡ Some e → front ≡ chars_in e.event → ((left : List Flagged) → rest ≡ front ++ left → ⊥)
+    → (chars_of es ≡ list → chars_of (drop i es) ≡ rest) → chars_of es ≡ list → ⊥
+not_next es i e list rest front at front_is none goes_on whole =
+    none (chars_of (drop (i + 1) es))
+    (sym (goes_on whole) ∙ (ap (λ (xs : List PlainEntry). chars_of xs) (next_at es i e at) ∙ ap (λ (cs : List Flagged). cs ++ chars_of (drop (i + 1) es)) (sym front_is)))
 
 -- ---- what the overruns leave
 

@@ -6,7 +6,6 @@ use Rattle.std.proofs.lemmas.Option.{slice_get_read, slice_get_within}
 use Rattle.tty_base.specs.declared.characters.Flagged.{Flagged}
 use Rattle.tty_base.specs.declared.lines.Overrun.{Overrun}
 use Rattle.tty_calls.specs.declared.journals.PortRun.{PortRun}
-use Rattle.tty_calls.specs.Plain.{entries_of}
 use Rattle.tty_calls.specs.Sessions.{PlainSession, ticks_on}
 use Rattle.uart_line.specs.Received.{received_list}
 use Rattle.uart_line.specs.Offered.{kept_list, AreShown}
@@ -37,12 +36,12 @@ pub record Keeps (p : ℕ) (session : PlainSession) (run : PortRun) (b : Bool) :
   pub to : IsTrue b → IsKept p session run
   pub of : IsKept p session run → IsTrue b
 
-pub kept_as_found : (p : ℕ) (session : PlainSession) (run : PortRun) (r : Received) → IsReceived p session run.line.overruns.items r → AreShown (flip_on p session) 0 0 run.line.overruns.items → HasNoWrong p session (entries_of run.journal.items)
-    → FinishedAsWell p session run.line.overruns.items (λ k. get_or r.sents.items k 0) (λ k. ticks_on p (phase_at session k)) (entries_of run.journal.items)
+pub kept_as_found : (p : ℕ) (session : PlainSession) (run : PortRun) (r : Received) → IsReceived p session run.line.overruns.items r → AreShown (flip_on p session) 0 0 run.line.overruns.items → HasNoWrong p session run.journal.items
+    → FinishedAsWell p session run.line.overruns.items (λ k. get_or r.sents.items k 0) (λ k. ticks_on p (phase_at session k)) run.journal.items
 kept_as_found p session run r received shown no_wrong =
-    finished_as_well p session run.line.overruns.items (λ k. get_or r.sents.items k 0) (λ k. ticks_on p (phase_at session k)) (entries_of run.journal.items) (sents_are p session run.line.overruns.items r received shown) (λ k. refl) no_wrong
+    finished_as_well p session run.line.overruns.items (λ k. get_or r.sents.items k 0) (λ k. ticks_on p (phase_at session k)) run.journal.items (sents_are p session run.line.overruns.items r received shown) (λ k. refl) no_wrong
 
-pub accounted : (p : ℕ) (session : PlainSession) (run : PortRun) → AreShown (flip_on p session) 0 0 run.line.overruns.items → IsKept p session run → AreSeen p session (entries_of run.journal.items) run.line.overruns.items → IsAccounted p session run
+pub accounted : (p : ℕ) (session : PlainSession) (run : PortRun) → AreShown (flip_on p session) 0 0 run.line.overruns.items → IsKept p session run → AreSeen p session run.journal.items run.line.overruns.items → IsAccounted p session run
 accounted p session run shown kept seen = record {
   finished = kept.finished;
   chars = kept.chars;
@@ -61,26 +60,26 @@ nothing_yet p session = omega (arith, ap (λ (cs : List Flagged). length cs) (no
 
 -- what is found of the overruns
 pub seen_as_found : (p : ℕ) (session : PlainSession) (run : PortRun) (r : Received) (starts stops : List ℕ) → IsReceived p session run.line.overruns.items r → AreShown (flip_on p session) 0 0 run.line.overruns.items → IsKept p session run
-    → starts ≡ 0 ∷ phase_starts 0 (entries_of run.journal.items) → stops ≡ line_stops 0 (entries_of run.journal.items)
-    → (are_between r.ends.items starts stops 0 run.line.overruns.items ≡ true → AreSeen p session (entries_of run.journal.items) run.line.overruns.items) × (AreSeen p session (entries_of run.journal.items) run.line.overruns.items → are_between r.ends.items starts stops 0 run.line.overruns.items ≡ true)
+    → starts ≡ 0 ∷ phase_starts 0 run.journal.items → stops ≡ line_stops 0 run.journal.items
+    → (are_between r.ends.items starts stops 0 run.line.overruns.items ≡ true → AreSeen p session run.journal.items run.line.overruns.items) × (AreSeen p session run.journal.items run.line.overruns.items → are_between r.ends.items starts stops 0 run.line.overruns.items ≡ true)
 seen_as_found p session run r starts stops received shown kept starts_is stops_is =
-    seen_as_between p session (entries_of run.journal.items) r.ends.items starts stops (flip_on p session) 0 0 0 run.line.overruns.items
-    (knows_when p session run.line.overruns.items (entries_of run.journal.items) r.ends.items starts stops kept.finished received.many_ends received.ends starts_is stops_is)
+    seen_as_between p session run.journal.items r.ends.items starts stops (flip_on p session) 0 0 0 run.line.overruns.items
+    (knows_when p session run.line.overruns.items run.journal.items r.ends.items starts stops kept.finished received.many_ends received.ends starts_is stops_is)
     shown (omega arith) (nothing_yet p session)
 
-pub enough : (p : ℕ) (session : PlainSession) (run : PortRun) (r : Received) (starts stops : List ℕ) → IsReceived p session run.line.overruns.items r → IsKept p session run → starts ≡ 0 ∷ phase_starts 0 (entries_of run.journal.items) → stops ≡ line_stops 0 (entries_of run.journal.items)
+pub enough : (p : ℕ) (session : PlainSession) (run : PortRun) (r : Received) (starts stops : List ℕ) → IsReceived p session run.line.overruns.items r → IsKept p session run → starts ≡ 0 ∷ phase_starts 0 run.journal.items → stops ≡ line_stops 0 run.journal.items
     → (length r.ends.items ≤ length starts) × (length r.ends.items ≤ length stops)
 enough p session run r starts stops received kept starts_is stops_is = (
-  omega (arith, received.many_ends, starts_enough p session run.line.overruns.items 0 session.phases (entries_of run.journal.items) 0 kept.finished, ap (λ (xs : List ℕ). length xs) starts_is),
-  omega (arith, received.many_ends, stops_enough p session run.line.overruns.items 0 session.phases (entries_of run.journal.items) 0 kept.finished, ap (λ (xs : List ℕ). length xs) stops_is),
+  omega (arith, received.many_ends, starts_enough p session run.line.overruns.items 0 session.phases run.journal.items 0 kept.finished, ap (λ (xs : List ℕ). length xs) starts_is),
+  omega (arith, received.many_ends, stops_enough p session run.line.overruns.items 0 session.phases run.journal.items 0 kept.finished, ap (λ (xs : List ℕ). length xs) stops_is),
 )
 
 -- ---- one port
 
-pub finds_legal : (p : ℕ) (session : PlainSession) (run : PortRun) → HasNoWrong p session (entries_of run.journal.items) → IsAccounted p session run → Finds p session run Legal
+pub finds_legal : (p : ℕ) (session : PlainSession) (run : PortRun) → HasNoWrong p session run.journal.items → IsAccounted p session run → Finds p session run Legal
 finds_legal p session run no_wrong h = legal_if_accounted p session run no_wrong h
 
-pub finds_account : (p : ℕ) (session : PlainSession) (run : PortRun) → HasNoWrong p session (entries_of run.journal.items) → (IsAccounted p session run → ⊥) → Finds p session run Account
+pub finds_account : (p : ℕ) (session : PlainSession) (run : PortRun) → HasNoWrong p session run.journal.items → (IsAccounted p session run → ⊥) → Finds p session run Account
 finds_account p session run no_wrong not = (no_wrong, λ legal. not (accounted_if_legal p session run legal))
 
 -- ---- all ports
@@ -114,7 +113,7 @@ found_more session runs p run (Some q) at legal found = found
 pub so_far_legal : (session : PlainSession) (runs : List PortRun) (p : ℕ) (run : PortRun) (account account' : Option ℕ) → p < length runs → run ≡ get_or runs p run → SoFar session runs p account → IsLegalOn p session run → account' ≡ account → SoFar session runs (p + 1) account'
 so_far_legal session runs p run account account' lt is h legal same =
     subst (SoFar session runs (p + 1)) (sym same) (record {
-      no_wrong = more_at session runs p run (λ q r. HasNoWrong q session (entries_of r.journal.items)) (run_at runs p run lt is) (no_wrong_if_legal p session run legal) h.no_wrong;
+      no_wrong = more_at session runs p run (λ q r. HasNoWrong q session r.journal.items) (run_at runs p run lt is) (no_wrong_if_legal p session run legal) h.no_wrong;
       found = found_more session runs p run account (run_at runs p run lt is) legal h.found;
     })
 
@@ -125,11 +124,11 @@ found_account session runs p run (Some q) at not found = found
 pub so_far_account : (session : PlainSession) (runs : List PortRun) (p : ℕ) (run : PortRun) (account account' : Option ℕ) → p < length runs → run ≡ get_or runs p run → SoFar session runs p account → Finds p session run Account → account' ≡ first_found account p → SoFar session runs (p + 1) account'
 so_far_account session runs p run account account' lt is h finds same =
     subst (SoFar session runs (p + 1)) (sym same) (record {
-      no_wrong = more_at session runs p run (λ q r. HasNoWrong q session (entries_of r.journal.items)) (run_at runs p run lt is) finds.0 h.no_wrong;
+      no_wrong = more_at session runs p run (λ q r. HasNoWrong q session r.journal.items) (run_at runs p run lt is) finds.0 h.no_wrong;
       found = found_account session runs p run account (run_at runs p run lt is) finds.1 h.found;
     })
 
-pub is_wrong_there : (session : PlainSession) (runs : List PortRun) (p n : ℕ) (run : PortRun) (account : Option ℕ) → p < length runs → run ≡ get_or runs p run → SoFar session runs p account → IsFirstWrong p session (entries_of run.journal.items) n → FirstIsWrong session runs p n
+pub is_wrong_there : (session : PlainSession) (runs : List PortRun) (p n : ℕ) (run : PortRun) (account : Option ℕ) → p < length runs → run ≡ get_or runs p run → SoFar session runs p account → IsFirstWrong p session run.journal.items n → FirstIsWrong session runs p n
 is_wrong_there session runs p n run account lt is h wrong = record { run = run; is_run = run_at runs p run lt is; before = h.no_wrong; wrong = wrong }
 
 past_runs : (runs : List PortRun) (ports q : ℕ) (run : PortRun) → length runs ≤ ports → slice_get runs q ≡ Some run → q < ports

@@ -1,17 +1,17 @@
 -- A port's journal from its first entry on.
-use Rattle.std.proofs.Common.{◌≡◌, ℕ, suc, ◌+◌, ◌*◌, ◌^◌, ◌<◌, ◌≤◌, ◌==◌, Bool, true, false, MatchBool, List, [], ◌∷◌, ◌++◌, Option, length, take, drop, map, get_or, replicate, refl, sym, ◌∙◌, ap, subst, arith, drop-cons}
+use Rattle.std.proofs.Common.{◌≡◌, ℕ, ◌+◌, ◌*◌, ◌^◌, ◌<◌, ◌≤◌, ◌==◌, Bool, true, false, MatchBool, List, [], ◌∷◌, ◌++◌, Option, Some, length, take, drop, map, get_or, slice_get, replicate, sym, ◌∙◌, ap, subst, arith}
 use Rattle.std.specs.Prelude.{sum, filter}
 use Rattle.std.proofs.lemmas.Bool.{false≢true}
-use Rattle.std.proofs.lemmas.List.{get_or-map, get_or-replicate, length-replicate, length-map, length-take-le, take-append-drop, take_all, map_more}
+use Rattle.std.proofs.lemmas.List.{get_or-map, get_or-replicate, length-replicate, length-map, length-take-le, take-append-drop, take_all, take_more}
+use Rattle.std.proofs.lemmas.Option.{get_or_from_slice_get, slice_get_within}
 use Rattle.std.proofs.lemmas.List.Elements.{All-get_or}
 use Rattle.line_steps.specs.declared.LineSteps.{LineSteps}
 use Rattle.tty_calls.specs.declared.sessions.Script.{Script}
 use Rattle.tty_calls.specs.declared.sessions.Phase.{Phase}
 use Rattle.tty_calls.specs.declared.sessions.Session.{Session}
-use Rattle.tty_calls.specs.declared.journals.Entry.{Entry}
 use Rattle.tty_calls.specs.declared.journals.Who.{Who}
 use Rattle.tty_calls.specs.declared.journals.Who.TheVariants as who
-use Rattle.tty_calls.specs.Plain.{PlainCall, PlainEvent, answered, parted, waited, flushed, ticked, line_ended, clock_ended, caller_ended, phase_ended, hung_up, PlainEntry, entry_of, entries_of}
+use Rattle.tty_calls.specs.Plain.{PlainCall, PlainEvent, answered, parted, waited, flushed, ticked, line_ended, clock_ended, caller_ended, phase_ended, hung_up, PlainEntry, chars_in}
 use Rattle.tty_calls.specs.Sessions.{PlainSession, script_of, phase_of, session_of, scripts_on, scripts_over, call_at, counts_on}
 use Rattle.tty_calls.specs.Limits.{IsPhaseWithin, IsWithinLimits}
 use Rattle.tty_terminal.specs.Terminals.{Terminal, opening}
@@ -19,7 +19,7 @@ use Rattle.tty_terminal.specs.Outcomes.{Outcome, unknown, waits, takes, gives}
 use Rattle.tty_terminal.specs.Calls.{outcome_of}
 use Rattle.tty_terminal.specs.Steps.{Drops, IsAllowed, after}
 use Rattle.tty_terminal.specs.Terminals.{caller_at}
-use Rattle.tty_terminal.specs.Runs.{Leads, chars_in}
+use Rattle.tty_terminal.specs.Runs.{Leads}
 use Rattle.tty_terminal.proofs.StepLaws.{step_does, Within}
 use Rattle.tty_terminal.proofs.Runs.{run_bounded, run_capacity, run_within}
 use Rattle.tty_terminal.proofs.WaitLaws.{run_part_count}
@@ -29,6 +29,7 @@ use Rattle.journal_check.specs.Legal.{flip_on}
 use Rattle.journal_check.specs.Verdicts.{IsFine, AreFineTo, HasNoWrong, IsFirstWrong}
 use Rattle.journal_check.specs.Scripts.{no_turn, IsIdle, AreIdle}
 use Rattle.journal_check.specs.Replaying.{IsReady, Follows}
+use Rattle.journal_check.proofs.AccountLemmas.{next_at}
 use Rattle.journal_check.proofs.NameLemmas.{names_few, length_over, no_calls_yet}
 use Rattle.journal_check.proofs.ReplayLemmas.{follows_leads}
 
@@ -126,48 +127,37 @@ ready p session before r limits port few h =
 
 -- ---- the loop over the entries
 
-pub entries_more : (entries : List Entry) (i : ℕ) (entry : Entry) → i < length entries → entry ≡ get_or entries i entry → entries_of (take i entries) ++ entry_of entry ∷ [] ≡ entries_of (take (i + 1) entries)
-entries_more entries i entry lt is =
-    ap (λ (e : Entry). entries_of (take i entries) ++ entry_of e ∷ []) is ∙ sym (map_more entry_of entries i entry lt)
+entries_more : (es : List PlainEntry) (i : ℕ) (e : PlainEntry) → slice_get es i ≡ Some e → take i es ++ e ∷ [] ≡ take (i + 1) es
+entries_more es i e at =
+    ap (λ (x : PlainEntry). take i es ++ x ∷ []) (sym (get_or_from_slice_get es i e e at)) ∙ sym (take_more es i e (slice_get_within es i e at))
 
-map_append : (xs ys : List Entry) → entries_of (xs ++ ys) ≡ entries_of xs ++ entries_of ys
-map_append [] ys = refl
-map_append (x ∷ xs) ys = ap (λ (es : List PlainEntry). entry_of x ∷ es) (map_append xs ys)
+entries_split : (es : List PlainEntry) (i : ℕ) (e : PlainEntry) → slice_get es i ≡ Some e → es ≡ take i es ++ e ∷ drop (i + 1) es
+entries_split es i e at = sym (take-append-drop i es) ∙ ap (λ (xs : List PlainEntry). take i es ++ xs) (next_at es i e at)
 
-entries_split : (entries : List Entry) (i : ℕ) (entry : Entry) → i < length entries → entry ≡ get_or entries i entry → entries_of entries ≡ entries_of (take i entries) ++ entry_of entry ∷ entries_of (drop (suc i) entries)
-entries_split entries i entry lt is =
-    ap entries_of (sym (take-append-drop i entries))
-    ∙ map_append (take i entries) (drop i entries)
-    ∙ ap (λ (es : List Entry). entries_of (take i entries) ++ entries_of es) (drop-cons entries i entry lt)
-    ∙ ap (λ (e : Entry). entries_of (take i entries) ++ entry_of e ∷ entries_of (drop (suc i) entries)) (sym is)
+pub goes_through : (p : ℕ) (session : PlainSession) (es : List PlainEntry) (i : ℕ) (e : PlainEntry) (r after : Replay) (b : Bool) → slice_get es i ≡ Some e → b ≡ true
+    → MatchBool b (IsFine p session (take i es) r.terminal.terminal e × Follows p session (take i es ++ e ∷ []) after) (IsFine p session (take i es) r.terminal.terminal e → ⊥)
+    → Follows p session (take (i + 1) es) after
+goes_through p session es i e r after true at fine h = subst (λ (xs : List PlainEntry). Follows p session xs after) (entries_more es i e at) h.1
+goes_through p session es i e r after false at fine h = absurd (false≢true fine)
 
-pub few_before : (entries : List Entry) (i : ℕ) → i < length entries → length (entries_of (take i entries)) ≡ i
-few_before entries i lt = length-map (take i entries) entry_of ∙ length-take-le i entries (omega arith)
-
-pub goes_through : (p : ℕ) (session : PlainSession) (entries : List Entry) (i : ℕ) (entry : Entry) (r after : Replay) (b : Bool) → i < length entries → entry ≡ get_or entries i entry → b ≡ true
-    → MatchBool b (IsFine p session (entries_of (take i entries)) r.terminal.terminal (entry_of entry) × Follows p session (entries_of (take i entries) ++ entry_of entry ∷ []) after) (IsFine p session (entries_of (take i entries)) r.terminal.terminal (entry_of entry) → ⊥)
-    → Follows p session (entries_of (take (i + 1) entries)) after
-goes_through p session entries i entry r after true lt is fine h = subst (λ (es : List PlainEntry). Follows p session es after) (entries_more entries i entry lt is) h.1
-goes_through p session entries i entry r after false lt is fine h = absurd (false≢true fine)
-
-pub is_wrong : (p : ℕ) (session : PlainSession) (entries : List Entry) (i : ℕ) (entry : Entry) (r after : Replay) (b : Bool) → i < length entries → entry ≡ get_or entries i entry → b ≡ false → Follows p session (entries_of (take i entries)) r
-    → MatchBool b (IsFine p session (entries_of (take i entries)) r.terminal.terminal (entry_of entry) × Follows p session (entries_of (take i entries) ++ entry_of entry ∷ []) after) (IsFine p session (entries_of (take i entries)) r.terminal.terminal (entry_of entry) → ⊥)
-    → IsFirstWrong p session (entries_of entries) i
-is_wrong p session entries i entry r after true lt is wrong follows h = absurd (false≢true (sym wrong))
-is_wrong p session entries i entry r after false lt is wrong follows h = record {
-  before = entries_of (take i entries);
-  entry = entry_of entry;
-  rest = entries_of (drop (suc i) entries);
-  parts = entries_split entries i entry lt is;
-  place = few_before entries i lt;
+pub is_wrong : (p : ℕ) (session : PlainSession) (es : List PlainEntry) (i : ℕ) (e : PlainEntry) (r after : Replay) (b : Bool) → slice_get es i ≡ Some e → b ≡ false → Follows p session (take i es) r
+    → MatchBool b (IsFine p session (take i es) r.terminal.terminal e × Follows p session (take i es ++ e ∷ []) after) (IsFine p session (take i es) r.terminal.terminal e → ⊥)
+    → IsFirstWrong p session es i
+is_wrong p session es i e r after true at wrong follows h = absurd (false≢true (sym wrong))
+is_wrong p session es i e r after false at wrong follows h = record {
+  before = take i es;
+  entry = e;
+  rest = drop (i + 1) es;
+  parts = entries_split es i e at;
+  place = length-take-le i es (let lt = slice_get_within es i e at in omega (arith, lt));
   terminal = r.terminal.terminal;
   fine = follows.fine;
   wrong = h;
 }
 
-pub none_wrong : (p : ℕ) (session : PlainSession) (entries : List Entry) (i : ℕ) (r : Replay) → length entries ≤ i → Follows p session (entries_of (take i entries)) r → HasNoWrong p session (entries_of entries)
-none_wrong p session entries i r all follows =
-    (r.terminal.terminal, subst (λ (es : List Entry). AreFineTo p session (entries_of es) r.terminal.terminal) (take_all i entries all) follows.fine)
+pub none_wrong : (p : ℕ) (session : PlainSession) (es : List PlainEntry) (i : ℕ) (r : Replay) → length es ≤ i → Follows p session (take i es) r → HasNoWrong p session es
+none_wrong p session es i r all follows =
+    (r.terminal.terminal, subst (λ (xs : List PlainEntry). AreFineTo p session xs r.terminal.terminal) (take_all i es all) follows.fine)
 
 pub few_scripts_of : (p : ℕ) (phase : Phase) (scripts : List Script) (count : ℕ) → scripts ≡ phase.callers.items → count ≡ length (filter (λ s. s.port == p) (map script_of scripts)) → length (scripts_on p (phase_of phase)) ≤ 16 → count < 256
 few_scripts_of p phase scripts count are is few =

@@ -1,20 +1,20 @@
 -- How many characters a journal had taken before a phase and before the end of its line, and what an overrun has seen.
-use Rattle.std.proofs.Common.{◌≡◌, inl, inr, ℕ, zero, suc, ◌+◌, ◌-◌, ◌<◌, ◌≤◌, ◌==◌, nat_lt, nat_le, Bool, true, false, ◌&&◌, if◌then◌else◌, List, [], ◌∷◌, ◌++◌, length, get_or, drop, map, reverse, refl, sym, ◌∙◌, ap, subst, arith, length-append, length-drop, append_assoc}
+use Rattle.std.proofs.Common.{◌≡◌, inl, inr, ℕ, zero, suc, ◌+◌, ◌-◌, ◌<◌, ◌≤◌, ◌==◌, nat_lt, nat_le, Bool, true, false, ◌&&◌, if◌then◌else◌, List, [], ◌∷◌, ◌++◌, Some, length, get_or, drop, slice_get, map, reverse, refl, sym, ◌∙◌, ap, subst, arith, length-append, length-drop, append_assoc}
 use Rattle.std.proofs.lemmas.Bool.{false≢true, cases_lt, and_parts, le-leb, leb-true, lt-ltb, ltb-true}
 use Rattle.std.proofs.lemmas.Bool.Decides.{nat_tests}
 use Rattle.std.proofs.lemmas.Grind.{flat_map-append}
 use Rattle.std.proofs.lemmas.List.{reverse-append, take_all}
 use Rattle.tty_base.specs.declared.lines.LineStep.{LineStep}
 use Rattle.tty_base.specs.declared.lines.Overrun.{Overrun}
-use Rattle.tty_calls.specs.Plain.{PlainEvent, answered, parted, waited, flushed, ticked, line_ended, clock_ended, caller_ended, phase_ended, hung_up, PlainEntry}
+use Rattle.tty_calls.specs.Plain.{PlainEvent, answered, parted, waited, flushed, ticked, line_ended, clock_ended, caller_ended, phase_ended, hung_up, PlainEntry, chars_in}
 use Rattle.tty_calls.specs.Sessions.{PlainPhase, PlainSession, line_on}
-use Rattle.tty_terminal.specs.Runs.{chars_in, chars_of}
+use Rattle.tty_terminal.specs.Runs.{chars_of}
 use Rattle.uart_line.specs.Received.{received_list, received_list_after, is_cut, window, window_output, closed_script, script}
 use Rattle.uart_line.specs.Offered.{AreShown}
 use Rattle.journal_check.specs.Legal.{phase_at, script_of_first, script_on, is_phase_end, line_ends, line_ends_in, session_events, session_events_in, before_phase, before_line_end, IsOfPhase, AreSeen, IsFinishedFrom}
 use Rattle.journal_check.specs.Receipts.{received_count}
 use Rattle.journal_check.specs.Seen.{phase_starts, line_stops, phase_from, are_between}
-use Rattle.journal_check.proofs.AccountLemmas.{shown_cons}
+use Rattle.journal_check.proofs.AccountLemmas.{shown_cons, next_at}
 use Rattle.journal_check.proofs.ReceiptLemmas.{first_more}
 use Rattle.journal_check.proofs.Truths.{all_four, nothing_first, nothing_rest}
 
@@ -380,3 +380,34 @@ knows_when p session overruns journal ends starts stops finished many are starts
     first : (k : ℕ) → k < length session.phases → get_or (0 ∷ phase_starts 0 journal) k 0 ≡ length (chars_of (before_phase k journal))
     first zero lt = sym (ap (λ (xs : List PlainEntry). length (chars_of xs)) (none_before journal))
     first (suc k) lt = (let h = starts_are 0 journal k (omega (arith, starts_enough p session overruns 0 session.phases journal 0 finished, lt)) in omega (arith, h))
+
+-- ---- a walk over the entries
+
+pub size_at : (es : List PlainEntry) (i : ℕ) (e : PlainEntry) → slice_get es i ≡ Some e → length (chars_of (drop i es)) ≡ length (chars_in e.event) + length (chars_of (drop (i + 1) es))
+size_at es i e at = ap (λ (xs : List PlainEntry). length (chars_of xs)) (next_at es i e at) ∙ size_cons e (drop (i + 1) es)
+
+pub starts_more : (es : List PlainEntry) (i n m : ℕ) (e : PlainEntry) (starts next all : List ℕ) → slice_get es i ≡ Some e → m ≡ n + length (chars_in e.event)
+    → next ≡ (if is_phase_end e.event then starts ++ m ∷ [] else starts) → starts ++ phase_starts n (drop i es) ≡ all → next ++ phase_starts m (drop (i + 1) es) ≡ all
+starts_more es i n m e starts next all at counted is so =
+    ap (λ (xs : List ℕ). xs ++ phase_starts m (drop (i + 1) es)) is
+    ∙ either (is_phase_end e.event) m (phase_starts m (drop (i + 1) es))
+    ∙ (λ j. starts ++ (if is_phase_end e.event then counted j ∷ phase_starts (counted j) (drop (i + 1) es) else phase_starts (counted j) (drop (i + 1) es)))
+    ∙ ap (λ (xs : List PlainEntry). starts ++ phase_starts n xs) (sym (next_at es i e at))
+    ∙ so
+  where
+    either : (b : Bool) (k : ℕ) (rest : List ℕ) → (if b then starts ++ k ∷ [] else starts) ++ rest ≡ starts ++ (if b then k ∷ rest else rest)
+    either true k rest = append_assoc starts (k ∷ []) rest
+    either false k rest = refl
+
+pub stops_more : (es : List PlainEntry) (i n m : ℕ) (e : PlainEntry) (stops next all : List ℕ) → slice_get es i ≡ Some e → m ≡ n + length (chars_in e.event)
+    → next ≡ (if length (line_ends e.event) == 0 then stops else stops ++ n ∷ []) → stops ++ line_stops n (drop i es) ≡ all → next ++ line_stops m (drop (i + 1) es) ≡ all
+stops_more es i n m e stops next all at counted is so =
+    ap (λ (xs : List ℕ). xs ++ line_stops m (drop (i + 1) es)) is
+    ∙ either (length (line_ends e.event) == 0) (line_stops m (drop (i + 1) es))
+    ∙ (λ j. stops ++ (if length (line_ends e.event) == 0 then line_stops (counted j) (drop (i + 1) es) else n ∷ line_stops (counted j) (drop (i + 1) es)))
+    ∙ ap (λ (xs : List PlainEntry). stops ++ line_stops n xs) (sym (next_at es i e at))
+    ∙ so
+  where
+    either : (b : Bool) (rest : List ℕ) → (if b then stops else stops ++ n ∷ []) ++ rest ≡ stops ++ (if b then rest else n ∷ rest)
+    either true rest = refl
+    either false rest = append_assoc stops (n ∷ []) rest

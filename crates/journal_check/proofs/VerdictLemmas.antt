@@ -3,7 +3,7 @@ use Rattle.std.proofs.Common.{◌≡◌, ◌<◌, ℕ, List, [], ◌∷◌, ◌+
 use Rattle.std.proofs.lemmas.List.{append-nil}
 use Rattle.std.proofs.lemmas.Bool.{cases_lt}
 use Rattle.tty_calls.specs.declared.journals.PortRun.{PortRun}
-use Rattle.tty_calls.specs.Plain.{PlainEntry, entries_of}
+use Rattle.tty_calls.specs.Plain.{PlainEntry}
 use Rattle.tty_calls.specs.Sessions.{PlainSession, call_at}
 use Rattle.tty_terminal.specs.Terminals.{Terminal}
 use Rattle.tty_terminal.specs.Steps.{after}
@@ -15,21 +15,21 @@ use Rattle.journal_check.proofs.FineLemmas.{AreFine-from_run, Leads-from_fine, A
 
 -- ---- legal runs
 
-pub no_wrong_if_legal : (p : ℕ) (session : PlainSession) (run : PortRun) → IsLegalOn p session run → HasNoWrong p session (entries_of run.journal.items)
+pub no_wrong_if_legal : (p : ℕ) (session : PlainSession) (run : PortRun) → IsLegalOn p session run → HasNoWrong p session run.journal.items
 no_wrong_if_legal p session run (t, legal) =
-    (t, AreFine-from_run p session [] (opening_of p session) (entries_of run.journal.items) t legal.on_the_way.steps legal.on_the_way.in_phases legal.on_the_way.one)
+    (t, AreFine-from_run p session [] (opening_of p session) run.journal.items t legal.on_the_way.steps legal.on_the_way.in_phases legal.on_the_way.one)
 
 pub accounted_if_legal : (p : ℕ) (session : PlainSession) (run : PortRun) → IsLegalOn p session run → IsAccounted p session run
 accounted_if_legal p session run (t, legal) = legal.account
 
-pub legal_if_accounted : (p : ℕ) (session : PlainSession) (run : PortRun) → HasNoWrong p session (entries_of run.journal.items) → IsAccounted p session run → IsLegalOn p session run
+pub legal_if_accounted : (p : ℕ) (session : PlainSession) (run : PortRun) → HasNoWrong p session run.journal.items → IsAccounted p session run → IsLegalOn p session run
 legal_if_accounted p session run (t, fine) account = (
   t,
   record {
     on_the_way = record {
-      steps = Leads-from_fine p session [] (opening_of p session) (entries_of run.journal.items) t fine;
-      in_phases = AreInPhases-from_fine p session [] (opening_of p session) (entries_of run.journal.items) t fine;
-      one = OneGeneration-from_fine p session [] (opening_of p session) (entries_of run.journal.items) t tt fine;
+      steps = Leads-from_fine p session [] (opening_of p session) run.journal.items t fine;
+      in_phases = AreInPhases-from_fine p session [] (opening_of p session) run.journal.items t fine;
+      one = OneGeneration-from_fine p session [] (opening_of p session) run.journal.items t tt fine;
     };
     account = account;
   },
@@ -112,24 +112,24 @@ one_run runs p a b first second = let same : Some a ≡ Some b = sym first ∙ s
 
 wrong_and_wrong : (session : PlainSession) (runs : List PortRun) (p n q m : ℕ) → FirstIsWrong session runs p n → FirstIsWrong session runs q m → p < q → ⊥
 wrong_and_wrong session runs p n q m first second less =
-    no_wrong_not_wrong p session (entries_of first.run.journal.items) n (second.before p less first.run first.is_run) first.wrong
+    no_wrong_not_wrong p session first.run.journal.items n (second.before p less first.run first.is_run) first.wrong
 
 same_wrong : (session : PlainSession) (runs : List PortRun) (p n q m : ℕ) → FirstIsWrong session runs p n → FirstIsWrong session runs q m → p ≡ q → Wrong p n ≡ Wrong q m
 same_wrong session runs p n q m first second same =
     let run : first.run ≡ second.run = one_run runs p first.run second.run first.is_run (ap (slice_get runs) same ∙ second.is_run) in
-    let moved : IsFirstWrong p session (entries_of second.run.journal.items) n = subst (λ (r : PortRun). IsFirstWrong p session (entries_of r.journal.items) n) run first.wrong in
-    let there : IsFirstWrong q session (entries_of second.run.journal.items) n = subst (λ (k : ℕ). IsFirstWrong k session (entries_of second.run.journal.items) n) same moved in
-    let place : n ≡ m = wrong_at_one q session (entries_of second.run.journal.items) n m there second.wrong in
+    let moved : IsFirstWrong p session second.run.journal.items n = subst (λ (r : PortRun). IsFirstWrong p session r.journal.items n) run first.wrong in
+    let there : IsFirstWrong q session second.run.journal.items n = subst (λ (k : ℕ). IsFirstWrong k session second.run.journal.items n) same moved in
+    let place : n ≡ m = wrong_at_one q session second.run.journal.items n m there second.wrong in
     (λ i. Wrong (same i) (place i))
 
 legal_not_wrong : (session : PlainSession) (runs : List PortRun) (p n : ℕ) → AreLegal session runs → FirstIsWrong session runs p n → ⊥
 legal_not_wrong session runs p n legal wrong =
-    no_wrong_not_wrong p session (entries_of wrong.run.journal.items) n
+    no_wrong_not_wrong p session wrong.run.journal.items n
     (no_wrong_if_legal p session wrong.run (legal.each p wrong.run wrong.is_run)) wrong.wrong
 
 account_not_wrong : (session : PlainSession) (runs : List PortRun) (p n q : ℕ) → FirstIsWrong session runs p n → FirstIsNotLegal session runs q → ⊥
 account_not_wrong session runs p n q wrong account =
-    no_wrong_not_wrong p session (entries_of wrong.run.journal.items) n (account.no_wrong p wrong.run wrong.is_run) wrong.wrong
+    no_wrong_not_wrong p session wrong.run.journal.items n (account.no_wrong p wrong.run wrong.is_run) wrong.wrong
 
 legal_not_account : (session : PlainSession) (runs : List PortRun) (p : ℕ) → AreLegal session runs → FirstIsNotLegal session runs p → ⊥
 legal_not_account session runs p legal account = account.not_legal (legal.each p account.run account.is_run)

@@ -2,7 +2,6 @@
 use Rattle.std.specs.Prelude.{◌≡◌, ℕ, ◌<◌, List, Option, None, Some, length, slice_get}
 use Rattle.tty_base.specs.Lines.{arrival_count}
 use Rattle.tty_calls.specs.declared.journals.PortRun.{PortRun}
-use Rattle.tty_calls.specs.Plain.{entries_of}
 use Rattle.tty_calls.specs.Sessions.{PlainSession}
 use Rattle.tty_terminal.specs.Runs.{chars_of}
 use Rattle.uart_line.specs.Received.{received_list, lost_count}
@@ -17,13 +16,13 @@ pub record IsKept (p : ℕ) (session : PlainSession) (run : PortRun) : Type 0 wh
   pub arrived : run.line.arrived ≡ arrival_count (script_on p session)
   pub fifo_lost : run.line.fifo_lost ≡ lost_count (script_on p session)
   pub sent : run.line.sent ≡ length (kept_list (received_list (script_on p session)) run.line.overruns.items)
-  pub chars : chars_of (entries_of run.journal.items) ≡ kept_list (received_list (script_on p session)) run.line.overruns.items
-  pub finished : IsFinished p session run.line.overruns.items (entries_of run.journal.items)
+  pub chars : chars_of run.journal.items ≡ kept_list (received_list (script_on p session)) run.line.overruns.items
+  pub finished : IsFinished p session run.line.overruns.items run.journal.items
 
 abbrev pub Finds : ℕ → PlainSession → PortRun → Finding → Type 0
 Finds p session run Legal = IsLegalOn p session run
-Finds p session run (Wrong place) = IsFirstWrong p session (entries_of run.journal.items) place
-Finds p session run Account = HasNoWrong p session (entries_of run.journal.items) × (IsLegalOn p session run → ⊥)
+Finds p session run (Wrong place) = IsFirstWrong p session run.journal.items place
+Finds p session run Account = HasNoWrong p session run.journal.items × (IsLegalOn p session run → ⊥)
 
 -- the first port so far that is not legal although no entry is wrong
 pub record IsFirstAccount (session : PlainSession) (runs : List PortRun) (p : ℕ) : Type 0 where

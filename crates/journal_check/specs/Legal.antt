@@ -8,7 +8,7 @@ use Rattle.tty_base.specs.declared.lines.Overrun.{Overrun}
 use Rattle.tty_calls.specs.declared.journals.PortRun.{PortRun}
 use Rattle.tty_calls.specs.declared.journals.Who.{Who}
 use Rattle.tty_calls.specs.declared.journals.Who.TheVariants.{Caller, Flusher, Line, Clock, Session}
-use Rattle.tty_calls.specs.Plain.{PlainEvent, answered, parted, waited, flushed, ticked, line_ended, clock_ended, caller_ended, phase_ended, hung_up, PlainEntry, entries_of, is_caller}
+use Rattle.tty_calls.specs.Plain.{PlainEvent, answered, parted, waited, flushed, ticked, line_ended, clock_ended, caller_ended, phase_ended, hung_up, PlainEntry, is_caller}
 use Rattle.tty_calls.specs.Sessions.{PlainScript, PlainPhase, PlainSession, line_on, ticks_on, scripts_on, scripts_over, names_of, calls_of, call_at, counts_on}
 use Rattle.uart_line.specs.Received.{received_list, lost_count, script}
 use Rattle.tty_base.specs.Lines.{arrival_count}
@@ -268,17 +268,17 @@ pub record IsOnTheWay (p : ℕ) (session : PlainSession) (journal : List PlainEn
 -- The account of a port: the journal is finished, its characters are those that the line received without the overruns, each
 -- overrun is shown at a full buffer, and the line's report has the numbers of the line's steps.
 pub record IsAccounted (p : ℕ) (session : PlainSession) (run : PortRun) : Type 0 where
-  pub finished : IsFinished p session run.line.overruns.items (entries_of run.journal.items)
-  pub chars : chars_of (entries_of run.journal.items) ≡ kept_list (received_list (script_on p session)) run.line.overruns.items
+  pub finished : IsFinished p session run.line.overruns.items run.journal.items
+  pub chars : chars_of run.journal.items ≡ kept_list (received_list (script_on p session)) run.line.overruns.items
   pub shown : AreShown (flip_on p session) 0 0 run.line.overruns.items
-  pub seen : AreSeen p session (entries_of run.journal.items) run.line.overruns.items
+  pub seen : AreSeen p session run.journal.items run.line.overruns.items
   pub arrived : run.line.arrived ≡ arrival_count (script_on p session)
   pub fifo_lost : run.line.fifo_lost ≡ lost_count (script_on p session)
   pub sent : run.line.sent ≡ length (kept_list (received_list (script_on p session)) run.line.overruns.items)
 
 -- a legal run, which leads to this terminal
 pub record IsLegal (p : ℕ) (session : PlainSession) (run : PortRun) (t : Terminal) : Type 0 where
-  pub on_the_way : IsOnTheWay p session (entries_of run.journal.items) t
+  pub on_the_way : IsOnTheWay p session run.journal.items t
   pub account : IsAccounted p session run
 
 -- the run of a port is legal: it leads to some terminal

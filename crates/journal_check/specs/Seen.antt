@@ -1,8 +1,7 @@
 -- How many characters were taken by when: for private functions alone.
 use Rattle.std.specs.Prelude.{ℕ, ◌+◌, ◌==◌, ◌&&◌, nat_lt, nat_le, Bool, true, List, [], ◌∷◌, if◌then◌else◌, length, drop, slice_index}
 use Rattle.tty_base.specs.declared.lines.Overrun.{Overrun}
-use Rattle.tty_calls.specs.Plain.{PlainEntry}
-use Rattle.tty_terminal.specs.Runs.{chars_in}
+use Rattle.tty_calls.specs.Plain.{PlainEntry, chars_in}
 use Rattle.journal_check.specs.Legal.{is_phase_end, line_ends}
 
 -- how many characters were taken before each later phase, where so many were before these entries

@@ -2,7 +2,7 @@
 use Rattle.std.specs.Prelude.{◌≡◌, ◌⊎◌, ◌≤◌, ◌+◌, ◌==◌, ℕ, zero, suc, List, [], ◌∷◌, Bool, true, false, ◌&&◌, if◌then◌else◌, length}
 use mathlib.Core.List.{IsPrefix}
 use Rattle.tty_calls.specs.declared.journals.PortRun.{PortRun}
-use Rattle.tty_calls.specs.Plain.{PlainEvent, answered, parted, waited, flushed, ticked, line_ended, clock_ended, caller_ended, phase_ended, hung_up, PlainEntry, entries_of}
+use Rattle.tty_calls.specs.Plain.{PlainEvent, answered, parted, waited, flushed, ticked, line_ended, clock_ended, caller_ended, phase_ended, hung_up, PlainEntry}
 use Rattle.tty_calls.specs.Sessions.{PlainSession, ticks_on}
 use Rattle.uart_line.specs.Received.{received_list}
 use Rattle.uart_line.specs.Offered.{kept_list}
@@ -36,7 +36,7 @@ after_phases (suc k) (e ∷ es) = if is_phase_end e.event then after_phases k es
 -- A run of the session as far as it went, up to this terminal: in one generation, with at most the session's ticks in each phase,
 -- nothing but one hangup after the last, and characters that begin those that the line kept.
 pub record IsCutShort (p : ℕ) (session : PlainSession) (run : PortRun) (t : Terminal) : Type 0 where
-  pub on_the_way : IsOnTheWay p session (entries_of run.journal.items) t
-  pub ticks : (k : ℕ) → tick_count_in k 0 (entries_of run.journal.items) ≤ ticks_on p (phase_at session k)
-  pub last : (after_phases (length session.phases) (entries_of run.journal.items) ≡ []) ⊎ HangsUp (after_phases (length session.phases) (entries_of run.journal.items))
-  pub chars : IsPrefix (chars_of (entries_of run.journal.items)) (kept_list (received_list (script_on p session)) run.line.overruns.items)
+  pub on_the_way : IsOnTheWay p session run.journal.items t
+  pub ticks : (k : ℕ) → tick_count_in k 0 run.journal.items ≤ ticks_on p (phase_at session k)
+  pub last : (after_phases (length session.phases) run.journal.items ≡ []) ⊎ HangsUp (after_phases (length session.phases) run.journal.items)
+  pub chars : IsPrefix (chars_of run.journal.items) (kept_list (received_list (script_on p session)) run.line.overruns.items)

@@ -2,7 +2,7 @@
 -- is not legal although no entry is wrong.
 use Rattle.std.specs.Prelude.{◌≡◌, ℕ, ◌<◌, List, [], ◌∷◌, ◌++◌, Some, length, slice_get, sum}
 use Rattle.tty_calls.specs.declared.journals.PortRun.{PortRun}
-use Rattle.tty_calls.specs.Plain.{PlainEntry, entries_of}
+use Rattle.tty_calls.specs.Plain.{PlainEntry}
 use Rattle.tty_calls.specs.Sessions.{PlainSession, call_at, counts_on}
 use Rattle.tty_terminal.specs.Terminals.{Terminal, opening}
 use Rattle.tty_terminal.specs.Steps.{Allowed, after}
@@ -56,7 +56,7 @@ abbrev pub IsLegalAt : PlainSession → List PortRun → ℕ → Type 0
 IsLegalAt session runs p = OfRun runs p (IsLegalOn p session)
 
 abbrev pub HasNoWrongAt : PlainSession → List PortRun → ℕ → Type 0
-HasNoWrongAt session runs p = OfRun runs p (λ run. HasNoWrong p session (entries_of run.journal.items))
+HasNoWrongAt session runs p = OfRun runs p (λ run. HasNoWrong p session run.journal.items)
 
 -- each port's run is legal
 pub record AreLegal (session : PlainSession) (runs : List PortRun) : Type 0 where
@@ -67,7 +67,7 @@ pub record FirstIsWrong (session : PlainSession) (runs : List PortRun) (p n : �
   pub run : PortRun
   pub is_run : slice_get runs p ≡ Some run
   pub before : (q : ℕ) → q < p → HasNoWrongAt session runs q
-  pub wrong : IsFirstWrong p session (entries_of run.journal.items) n
+  pub wrong : IsFirstWrong p session run.journal.items n
 
 -- no entry is wrong, and this port's run is the first that is not legal
 pub record FirstIsNotLegal (session : PlainSession) (runs : List PortRun) (p : ℕ) : Type 0 where

@@ -1,7 +1,6 @@
 //! The account of a port: what its journal and its line report owe beside entries that are fine.
 
 ghost use Rattle.std.specs.Prelude.{◌≡◌, ◌↔◌, ◌<◌, ◌≤◌, IsTrue, IfOk, length};
-ghost use Rattle.tty_calls.specs.Plain.{entries_of};
 ghost use Rattle.tty_calls.specs.Sessions.{session_of};
 ghost use Rattle.tty_calls.specs.Limits.{IsWithinLimits};
 ghost use Rattle.uart_line.specs.Offered.{AreShown};
@@ -36,10 +35,9 @@ fn is_kept(session: &Session, port: usize, run: &PortRun, received: &Received) -
     requires limits { IsWithinLimits (session_of session.now) }
     requires received { IsReceived port (session_of session.now) run.now.line.overruns.items received.now }
     requires shown { AreShown (flip_on port (session_of session.now)) 0 0 run.now.line.overruns.items }
-    requires no_wrong { HasNoWrong port (session_of session.now) (entries_of run.now.journal.items) }
+    requires no_wrong { HasNoWrong port (session_of session.now) run.now.journal.items }
     ensures { IsTrue result ↔ IsKept port (session_of session.now) run.now }
 {
-    let entries = run.journal.as_slice();
     if run.line.arrived != received.arrived {
         return false;
     }
@@ -49,10 +47,10 @@ fn is_kept(session: &Session, port: usize, run: &PortRun, received: &Received) -
     if run.line.sent != received.kept.len() as u64 {
         return false;
     }
-    if !are_chars_of(entries, received.kept.as_slice()) {
+    if !are_chars_of(&run.journal, received.kept.as_slice()) {
         return false;
     }
-    goes_well(session, port, received.sents.as_slice(), entries)
+    goes_well(session, port, received.sents.as_slice(), &run.journal)
 }
 
 /// Whether each overrun has seen taken what was taken before its phase, and nothing after the end of
@@ -67,12 +65,12 @@ fn is_seen(
     requires received { IsReceived port (session_of session.now) run.now.line.overruns.items received.now }
     requires shown { AreShown (flip_on port (session_of session.now)) 0 0 run.now.line.overruns.items }
     requires kept { IsKept port (session_of session.now) run.now }
-    ensures { IfOk result (λ seen. IsTrue seen ↔ AreSeen port (session_of session.now) (entries_of run.now.journal.items) run.now.line.overruns.items) }
+    ensures { IfOk result (λ seen. IsTrue seen ↔ AreSeen port (session_of session.now) run.now.journal.items run.now.line.overruns.items) }
 {
     let _ = session;
     let _ = port;
     let _ = received.kept.len();
-    let taken = taken_by(alloc, run.journal.as_slice())?;
+    let taken = taken_by(alloc, &run.journal)?;
     Ok(are_between(
         received.ends.as_slice(),
         taken.starts.as_slice(),
@@ -90,7 +88,7 @@ pub(crate) fn is_accounted(
 ) -> Result<bool, NoMemory>
     requires port { port < (session_of session.now).ports }
     requires limits { IsWithinLimits (session_of session.now) }
-    requires no_wrong { HasNoWrong port (session_of session.now) (entries_of run.now.journal.items) }
+    requires no_wrong { HasNoWrong port (session_of session.now) run.now.journal.items }
     ensures { IfOk result (λ right. IsTrue right ↔ IsAccounted port (session_of session.now) run.now) }
 {
     let overruns = run.line.overruns.as_slice();

@@ -1,45 +1,45 @@
 //! Answers compared.
 
 ghost use Rattle.std.specs.Prelude.{◌≡◌, ◌↔◌, IsTrue};
-ghost use Rattle.tty_calls.specs.Plain.{answer_of};
+ghost use Rattle.tty_calls.specs.Plain.{answer_lent};
 
-use tty_calls::Answer;
+use tty_calls::AnswerRef;
 
 /// Whether two answers are the same.
-pub(crate) fn is_same(one: &Answer, other: &Answer) -> bool
-    ensures { IsTrue result ↔ (answer_of one.now ≡ answer_of other.now) }
+pub(crate) fn is_same(one: &AnswerRef, other: &AnswerRef) -> bool
+    ensures { IsTrue result ↔ (answer_lent one.now ≡ answer_lent other.now) }
 {
-    match one {
-        Answer::Done => match other {
-            Answer::Done => true,
+    match *one {
+        AnswerRef::Done => match *other {
+            AnswerRef::Done => true,
             _ => false,
         },
-        Answer::Count(count) => match other {
-            Answer::Count(number) => count == number,
+        AnswerRef::Count(count) => match *other {
+            AnswerRef::Count(number) => count == number,
             _ => false,
         },
-        Answer::Got(bytes) => match other {
-            Answer::Got(others) => bytes.as_slice() == others.as_slice(),
+        AnswerRef::Got(bytes) => match *other {
+            AnswerRef::Got(others) => bytes == others,
             _ => false,
         },
-        Answer::Number(number) => match other {
-            Answer::Number(count) => number == count,
+        AnswerRef::Number(number) => match *other {
+            AnswerRef::Number(count) => number == count,
             _ => false,
         },
-        Answer::ModesAre(modes) => match other {
-            Answer::ModesAre(others) => modes == others,
+        AnswerRef::ModesAre(modes) => match *other {
+            AnswerRef::ModesAre(others) => modes == others,
             _ => false,
         },
-        Answer::CountsAre(counts) => match other {
-            Answer::CountsAre(others) => **counts == **others,
+        AnswerRef::CountsAre(counts) => match *other {
+            AnswerRef::CountsAre(others) => *counts == *others,
             _ => false,
         },
-        Answer::Refused(errno) => match other {
-            Answer::Refused(cause) => errno == cause,
+        AnswerRef::Refused(errno) => match *other {
+            AnswerRef::Refused(cause) => errno == cause,
             _ => false,
         },
-        Answer::Idle => match other {
-            Answer::Idle => true,
+        AnswerRef::Idle => match *other {
+            AnswerRef::Idle => true,
             _ => false,
         },
     }

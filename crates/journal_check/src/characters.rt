@@ -2,21 +2,21 @@
 
 ghost use Rattle.std.specs.Prelude.{◌≡◌, ◌↔◌, ◌≤◌, ◌<◌, ◌^◌, IsTrue, length};
 ghost use Rattle.tty_base.specs.declared.characters.Flagged.{Flagged};
-ghost use Rattle.tty_calls.specs.Plain.{event_of, entries_of};
-ghost use Rattle.tty_terminal.specs.Runs.{chars_in, chars_of};
+ghost use Rattle.tty_calls.specs.Plain.{event_of, chars_in};
+ghost use Rattle.tty_terminal.specs.Runs.{chars_of};
 ghost use Rattle.journal_check.specs.Accounts.{StartsWith};
 
 use tty_base::Flagged;
-use tty_calls::{Entry, Event};
+use tty_calls::{Event, Journal};
 
 /// The characters that an event hands over or drops.
-pub(crate) fn chars_of_event(event: &Event) -> &[Flagged]
+pub(crate) fn chars_of_event<'a>(event: &Event<'a>) -> &'a [Flagged]
     ensures { result.now ≡ chars_in (event_of event.now) }
 {
-    match event {
-        Event::Purge(purge) => purge.dropped.as_slice(),
-        Event::Flush(chars) => chars.as_slice(),
-        Event::Hangup(dropped) => dropped.as_slice(),
+    match *event {
+        Event::Answer { dropped, .. } => dropped,
+        Event::Flush(chars) => chars,
+        Event::Hangup(dropped) => dropped,
         _ => &[],
     }
 }
@@ -50,11 +50,12 @@ fn rest_after<'a>(list: &'a [Flagged], front: &[Flagged]) -> Option<&'a [Flagged
 }
 
 /// Whether the characters of these entries are these.
-pub(crate) fn are_chars_of(entries: &[Entry], list: &[Flagged]) -> bool
-    ensures { IsTrue result ↔ (chars_of (entries_of entries.now) ≡ list.now) }
+pub(crate) fn are_chars_of(journal: &Journal, list: &[Flagged]) -> bool
+    ensures { IsTrue result ↔ (chars_of journal.now.items ≡ list.now) }
 {
     let mut rest = list;
-    for entry in entries {
+    for place in 0..journal.len() {
+        let entry = journal.at(place);
         match rest_after(rest, chars_of_event(&entry.event)) {
             Some(left) => rest = left,
             None => return false,

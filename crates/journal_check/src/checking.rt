@@ -1,7 +1,6 @@
 //! The judge of the journals of a session.
 
 ghost use Rattle.std.specs.Prelude.{◌≡◌, ◌<◌, IfOk, length};
-ghost use Rattle.tty_calls.specs.Plain.{entries_of};
 ghost use Rattle.tty_calls.specs.Sessions.{session_of};
 ghost use Rattle.tty_calls.specs.Limits.{IsWithinLimits};
 ghost use Rattle.journal_check.specs.Verdicts.{HasNoWrong, Fits};
@@ -35,7 +34,7 @@ fn judge_run(
     requires limits { IsWithinLimits (session_of session.now) }
     ensures { IfOk result (λ finding. Finds port (session_of session.now) run.now finding) }
 {
-    match first_wrong(alloc, session, port, run.journal.as_slice())? {
+    match first_wrong(alloc, session, port, &run.journal)? {
         Some(entry) => Ok(Finding::Wrong(entry)),
         None => judge_account(alloc, session, port, run),
     }
@@ -50,7 +49,7 @@ fn judge_account(
 ) -> Result<Finding, NoMemory>
     requires port { port < (session_of session.now).ports }
     requires limits { IsWithinLimits (session_of session.now) }
-    requires no_wrong { HasNoWrong port (session_of session.now) (entries_of run.now.journal.items) }
+    requires no_wrong { HasNoWrong port (session_of session.now) run.now.journal.items }
     ensures { IfOk result (λ finding. Finds port (session_of session.now) run.now finding) }
 {
     if is_accounted(alloc, session, port, run)? {

@@ -50,7 +50,7 @@ pub(crate) fn stays(terminal: &Terminal, callers: usize, latest: u32, entry: &En
     ensures { IsTrue result ↔ Stays terminal.now.terminal latest entry.now.who entry.now.part entry.now.generation (event_of entry.now.event) }
 {
     match entry.event {
-        Event::Answer(_) | Event::Purge(_) | Event::Part(_) | Event::Wait => {
+        Event::Answer { .. } | Event::Part(_) | Event::Wait => {
             call_stays(terminal, callers, entry.who, entry.generation)
         }
         Event::Flush(_) => entry.part == 0 || latest == entry.generation,
@@ -173,7 +173,7 @@ fn try_other(
         Event::ClockEnd => Ok(try_clock_end(terminal, entry)),
         Event::CallerEnd => Ok(try_caller_end(terminal, callers, entry)),
         Event::PhaseEnd => Ok(try_phase_end(terminal, counts, entry)),
-        Event::Hangup(dropped) => { try_hangup(alloc, terminal, counts, entry, dropped.as_slice()) }
+        Event::Hangup(dropped) => { try_hangup(alloc, terminal, counts, entry, dropped) }
         _ => unreachable!(),
     }
 }
@@ -200,14 +200,10 @@ fn try_of_call(
     ensures column { OnOk result (column_in terminal.new.terminal.disc ≤ column_in terminal.old.terminal.disc + 4096) }
 {
     match &entry.event {
-        Event::Answer(answer) => {
+        Event::Answer { answer, dropped } => {
             let callers = callers_of(counts, terminal.phase());
-            try_answer(alloc, terminal, callers, caller, call, answer, 0)
-        }
-        Event::Purge(purge) => {
-            let callers = callers_of(counts, terminal.phase());
-            let count = purge.dropped.len();
-            try_answer(alloc, terminal, callers, caller, call, &purge.answer, count)
+            let count = dropped.len();
+            try_answer(alloc, terminal, callers, caller, call, answer, count)
         }
         Event::Part(count) => try_part(alloc, terminal, caller, call, *count),
         Event::Wait => Ok(try_wait(terminal, caller, call)),
@@ -279,13 +275,13 @@ pub(crate) fn try_entry(
     ensures column { OnOk result (column_in terminal.new.terminal.disc ≤ column_in terminal.old.terminal.disc + 2 ^ 28) }
 {
     match &entry.event {
-        Event::Answer(_) | Event::Purge(_) | Event::Part(_) | Event::Wait => match entry.who {
+        Event::Answer { .. } | Event::Part(_) | Event::Wait => match entry.who {
             Who::Caller(caller) => {
                 try_by_caller(alloc, terminal, turns, counts, session, port, caller, entry)
             }
             _ => Ok(false),
         },
-        Event::Flush(chars) => try_piece(terminal, entry, chars.as_slice()),
+        Event::Flush(chars) => try_piece(terminal, entry, chars),
         _ => try_other(alloc, terminal, turns.len(), counts, entry),
     }
 }

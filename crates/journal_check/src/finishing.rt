@@ -1,14 +1,14 @@
 //! Whether a journal is finished.
 
 ghost use Rattle.std.specs.Prelude.{◌≡◌, ◌+◌, ◌≤◌, ◌<◌, ◌^◌, length, slice_index};
-ghost use Rattle.tty_calls.specs.Plain.{event_of, entries_of};
+ghost use Rattle.tty_calls.specs.Plain.{event_of};
 ghost use Rattle.tty_calls.specs.Sessions.{session_of, ticks_on};
 ghost use Rattle.tty_calls.specs.Limits.{IsWithinLimits};
 ghost use Rattle.tty_terminal.specs.Runs.{phase_after};
 ghost use Rattle.journal_check.specs.Legal.{phase_at};
 ghost use Rattle.journal_check.specs.Finishing.{may_go as may_stand, ticks_after, is_hangup as hangs_up, goes_well as goes_well_from};
 
-use tty_calls::{Entry, Event, Session};
+use tty_calls::{Event, Journal, Session};
 
 /// Whether an event may stand in a phase whose line sends so many characters by its end, and whose
 /// clock has so many ticks, of which so many have passed.
@@ -34,7 +34,7 @@ fn is_hangup(event: &Event) -> bool
 
 /// How many ticks have passed in the phase after an event.
 fn ticks_so_far(event: &Event, passed: usize) -> usize
-    requires { passed < 2 ^ 63 }
+    requires { passed + 1 < 2 ^ 64 }
     ensures value { result ≡ ticks_after (event_of event.now) passed }
     ensures most { result ≤ passed + 1 }
 {
@@ -47,7 +47,7 @@ fn ticks_so_far(event: &Event, passed: usize) -> usize
 
 /// The phase that runs after an event.
 fn phase_then(event: &Event, phase: usize) -> usize
-    requires { phase < 2 ^ 63 }
+    requires { phase + 1 < 2 ^ 64 }
     ensures value { result ≡ phase_after (event_of event.now) phase }
     ensures most { result ≤ phase + 1 }
 {
@@ -72,17 +72,18 @@ fn ticks_in(session: &Session, port: usize, phase: usize) -> u32
 
 /// Whether these entries go through the phases, with so many characters sent at the end of each
 /// phase's line, to a hangup after the last.
-pub(crate) fn goes_well(session: &Session, port: usize, sents: &[usize], entries: &[Entry]) -> bool
+pub(crate) fn goes_well(session: &Session, port: usize, sents: &[usize], journal: &Journal) -> bool
     requires port { port < (session_of session.now).ports }
     requires limits { IsWithinLimits (session_of session.now) }
     requires sents { length sents.now ≡ length (session_of session.now).phases }
-    ensures { result ≡ goes_well_from (λ k. slice_index sents.now k) (λ k. ticks_on port (phase_at (session_of session.now) k)) (length (session_of session.now).phases) 0 0 (entries_of entries.now) }
+    ensures { result ≡ goes_well_from (λ k. slice_index sents.now k) (λ k. ticks_on port (phase_at (session_of session.now) k)) (length (session_of session.now).phases) 0 0 journal.now.items }
 {
     let mut phase = 0;
     let mut passed = 0;
-    for (place, entry) in entries.iter().enumerate() {
+    for place in 0..journal.len() {
+        let entry = journal.at(place);
         if phase >= sents.len() {
-            return is_hangup(&entry.event) && place + 1 == entries.len();
+            return is_hangup(&entry.event) && place + 1 == journal.len();
         }
         if !may_go(
             &entry.event,

@@ -1,7 +1,6 @@
 //! The judge of one port's journal.
 
 ghost use Rattle.std.specs.Prelude.{◌≡◌, ◌==◌, [], ◌<◌, ◌≤◌, ◌^◌, MatchOption, IfOk, length, map, filter, sum};
-ghost use Rattle.tty_calls.specs.Plain.{entries_of};
 ghost use Rattle.tty_calls.specs.Sessions.{script_of, session_of, scripts_over, names_of, counts_on};
 ghost use Rattle.tty_calls.specs.Limits.{IsWithinLimits};
 ghost use Rattle.journal_check.specs.Verdicts.{HasNoWrong, IsFirstWrong};
@@ -12,7 +11,7 @@ use crate::replay::{Replay, begin_phase, judge};
 use crate::turns::{NO_TURN, Turn};
 use std::alloc::Global;
 use tty_base::NoMemory;
-use tty_calls::{Entry, Names, Script, Session};
+use tty_calls::{Journal, Names, Script, Session};
 use tty_terminal::Terminal;
 
 /// The most entries of a journal that is judged. A longer one is want of memory.
@@ -96,16 +95,17 @@ fn first_wrong_of(
     replay: &mut Replay,
     session: &Session,
     port: usize,
-    entries: &[Entry],
+    journal: &Journal,
 ) -> Result<Option<u32>, NoMemory>
     requires port { port < (session_of session.now).ports }
     requires limits { IsWithinLimits (session_of session.now) }
-    requires few { length entries.now < 2 ^ 31 }
+    requires few { length journal.now.items < 2 ^ 31 }
     requires first { Follows port (session_of session.now) [] replay.old }
-    ensures { IfOk result (λ found. MatchOption found (HasNoWrong port (session_of session.now) (entries_of entries.now)) (λ place. IsFirstWrong port (session_of session.now) (entries_of entries.now) place)) }
+    ensures { IfOk result (λ found. MatchOption found (HasNoWrong port (session_of session.now) journal.now.items) (λ place. IsFirstWrong port (session_of session.now) journal.now.items place)) }
 {
-    for (place, entry) in entries.iter().enumerate() {
-        if !judge(alloc, replay, session, port, entry)? {
+    for place in 0..journal.len() {
+        let entry = journal.at(place);
+        if !judge(alloc, replay, session, port, &entry)? {
             return Ok(Some(place as u32));
         }
     }
@@ -117,15 +117,15 @@ pub(crate) fn first_wrong(
     alloc: Global,
     session: &Session,
     port: usize,
-    entries: &[Entry],
+    journal: &Journal,
 ) -> Result<Option<u32>, NoMemory>
     requires port { port < (session_of session.now).ports }
     requires limits { IsWithinLimits (session_of session.now) }
-    ensures { IfOk result (λ found. MatchOption found (HasNoWrong port (session_of session.now) (entries_of entries.now)) (λ place. IsFirstWrong port (session_of session.now) (entries_of entries.now) place)) }
+    ensures { IfOk result (λ found. MatchOption found (HasNoWrong port (session_of session.now) journal.now.items) (λ place. IsFirstWrong port (session_of session.now) journal.now.items place)) }
 {
-    if entries.len() > MOST_ENTRIES {
+    if journal.len() > MOST_ENTRIES {
         return Err(NoMemory);
     }
     let mut replay = begin(alloc, session, port)?;
-    first_wrong_of(alloc, &mut replay, session, port, entries)
+    first_wrong_of(alloc, &mut replay, session, port, journal)
 }

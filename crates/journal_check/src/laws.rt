@@ -3,7 +3,7 @@
 ghost use Rattle.std.specs.Prelude.{◌≡◌, ℕ, List, []};
 ghost use Rattle.tty_base.specs.declared.lines.Overrun.{Overrun};
 ghost use Rattle.tty_calls.specs.declared.journals.PortRun.{PortRun};
-ghost use Rattle.tty_calls.specs.Plain.{PlainEntry, entries_of};
+ghost use Rattle.tty_calls.specs.Plain.{PlainEntry};
 ghost use Rattle.tty_calls.specs.Sessions.{PlainSession, call_at, counts_on};
 ghost use Rattle.tty_terminal.specs.Terminals.{Terminal};
 ghost use Rattle.tty_terminal.specs.Runs.{Leads};
@@ -19,13 +19,13 @@ pub fn at_most_one_verdict_fits()
 
 /// A legal run has no wrong entry, and its account is right.
 pub fn a_legal_run_has_no_wrong_entry()
-    ensures no_wrong { (p : ℕ) (session : PlainSession) (run : PortRun) → IsLegalOn p session run → HasNoWrong p session (entries_of run.journal.items) }
+    ensures no_wrong { (p : ℕ) (session : PlainSession) (run : PortRun) → IsLegalOn p session run → HasNoWrong p session run.journal.items }
     ensures accounted { (p : ℕ) (session : PlainSession) (run : PortRun) → IsLegalOn p session run → IsAccounted p session run }
 {}
 
 /// A run without a wrong entry whose account is right is legal.
 pub fn an_accounted_run_without_wrong_entries_is_legal()
-    ensures { (p : ℕ) (session : PlainSession) (run : PortRun) → HasNoWrong p session (entries_of run.journal.items) → IsAccounted p session run → IsLegalOn p session run }
+    ensures { (p : ℕ) (session : PlainSession) (run : PortRun) → HasNoWrong p session run.journal.items → IsAccounted p session run → IsLegalOn p session run }
 {}
 
 /// The entries of a phase are those of a finished journal where the terminals at the phase's two ends say so.

@@ -1,7 +1,7 @@
 //! What the overruns of a line have seen taken.
 
 ghost use Rattle.std.specs.Prelude.{◌≡◌, ◌+◌, ◌≤◌, ◌<◌, ◌^◌, ◌∷◌, ◌++◌, [], IfOk, OnOk, ◌==◌, if◌then◌else◌, length, drop};
-ghost use Rattle.tty_calls.specs.Plain.{event_of, entries_of};
+ghost use Rattle.tty_calls.specs.Plain.{event_of};
 ghost use Rattle.tty_terminal.specs.Runs.{chars_of};
 ghost use Rattle.journal_check.specs.Legal.{is_phase_end as ends_phase, line_ends};
 ghost use Rattle.journal_check.specs.Seen.{phase_starts, line_stops, phase_from, are_between};
@@ -9,7 +9,7 @@ ghost use Rattle.journal_check.specs.Seen.{phase_starts, line_stops, phase_from,
 use crate::characters::chars_of_event;
 use std::alloc::Global;
 use tty_base::{NoMemory, Overrun};
-use tty_calls::{Entry, Event};
+use tty_calls::{Event, Journal};
 
 /// How many characters a journal had taken where each phase began, and where its line ended.
 #[derive(Drop)]
@@ -37,16 +37,17 @@ fn is_no_line_end(event: &Event) -> bool
 }
 
 /// How many characters the entries had taken where phases began and lines ended.
-pub(crate) fn taken_by(alloc: Global, entries: &[Entry]) -> Result<Taken, NoMemory>
-    requires { length (chars_of (entries_of entries.now)) < 2 ^ 64 }
-    ensures starts { IfOk result (λ taken. taken.starts.items ≡ 0 ∷ phase_starts 0 (entries_of entries.now)) }
-    ensures stops { IfOk result (λ taken. taken.stops.items ≡ line_stops 0 (entries_of entries.now)) }
+pub(crate) fn taken_by(alloc: Global, journal: &Journal) -> Result<Taken, NoMemory>
+    requires { length (chars_of journal.now.items) < 2 ^ 64 }
+    ensures starts { IfOk result (λ taken. taken.starts.items ≡ 0 ∷ phase_starts 0 journal.now.items) }
+    ensures stops { IfOk result (λ taken. taken.stops.items ≡ line_stops 0 journal.now.items) }
 {
     let mut starts = Vec::new(alloc);
     starts.push(0)?;
     let mut stops = Vec::new(alloc);
     let mut count = 0;
-    for entry in entries {
+    for place in 0..journal.len() {
+        let entry = journal.at(place);
         note_stop(&mut stops, &entry.event, count)?;
         count += chars_of_event(&entry.event).len();
         note_start(&mut starts, &entry.event, count)?;

@@ -2,7 +2,7 @@
 
 ghost use Rattle.std.specs.Prelude.{◌≡◌, ◌↔◌, List, ◌+◌, ◌*◌, ◌^◌, ◌≤◌, ◌<◌, ◌&&◌, false, Some, is_some, IsTrue, IfOk, OnOk, length};
 ghost use Rattle.tty_base.specs.declared.characters.Flagged.{Flagged};
-ghost use Rattle.tty_calls.specs.Plain.{call_of, answer_of, handle_of, idle};
+ghost use Rattle.tty_calls.specs.Plain.{call_of, answer_lent, handle_of, idle};
 ghost use Rattle.ldisc_switch.specs.Disciplines.{column_in};
 ghost use Rattle.tty_terminal.specs.Terminals.{caller_at, live_count};
 ghost use Rattle.tty_terminal.specs.Receiving.{after_characters, AcceptsAll};
@@ -14,7 +14,7 @@ ghost use Rattle.journal_check.specs.Trying.{Tries, IsSmall, IsSmallCall, IsAnsw
 use crate::answers::is_same;
 use std::alloc::Global;
 use tty_base::{Flagged, NoMemory};
-use tty_calls::{Answer, Call};
+use tty_calls::{AnswerRef, Call};
 use tty_terminal::{Met, Piece, ROOM_FOR_CALL, Terminal};
 
 /// The most characters of one piece of a flush run.
@@ -207,11 +207,11 @@ fn meet_in_room(
 }
 
 /// Whether an answer says that nothing can come any more.
-fn is_idle(answer: &Answer) -> bool
-    ensures { IsTrue result ↔ (answer_of answer.now ≡ idle) }
+fn is_idle(answer: &AnswerRef) -> bool
+    ensures { IsTrue result ↔ (answer_lent answer.now ≡ idle) }
 {
     match answer {
-        Answer::Idle => true,
+        AnswerRef::Idle => true,
         _ => false,
     }
 }
@@ -243,13 +243,13 @@ fn try_idle(
     callers: u8,
     caller: u16,
     call: &Call,
-    answer: &Answer,
+    answer: &AnswerRef,
     dropped: usize,
 ) -> bool
     requires known { caller < length terminal.old.terminal.callers }
     requires small { IsSmall terminal.old.terminal }
     requires must { MustWait (outcome terminal.old.terminal (caller_at terminal.old.terminal caller) (call_of call.now)) }
-    ensures tries { Tries (IsAnsweredBy terminal.old.terminal callers caller (call_of call.now) (answer_of answer.now) dropped)
+    ensures tries { Tries (IsAnsweredBy terminal.old.terminal callers caller (call_of call.now) (answer_lent answer.now) dropped)
         (after_answer (with_dropped (left_by (outcome terminal.old.terminal (caller_at terminal.old.terminal caller) (call_of call.now)) terminal.old.terminal) dropped) caller) terminal.new.terminal result }
     ensures column { column_in terminal.new.terminal.disc ≡ column_in terminal.old.terminal.disc }
 {
@@ -269,14 +269,14 @@ fn try_given(
     callers: u8,
     caller: u16,
     call: &Call,
-    answer: &Answer,
+    answer: &AnswerRef,
     dropped: usize,
 ) -> Result<bool, NoMemory>
     requires known { caller < length terminal.old.terminal.callers }
     requires small { IsSmall terminal.old.terminal }
     requires call { IsSmallCall (call_of call.now) }
     requires at_once { is_wait (outcome terminal.old.terminal (caller_at terminal.old.terminal caller) (call_of call.now)) ≡ false }
-    ensures tries { IfOk result (λ made. Tries (IsAnsweredBy terminal.old.terminal callers caller (call_of call.now) (answer_of answer.now) dropped)
+    ensures tries { IfOk result (λ made. Tries (IsAnsweredBy terminal.old.terminal callers caller (call_of call.now) (answer_lent answer.now) dropped)
         (after_answer (with_dropped (left_by (outcome terminal.old.terminal (caller_at terminal.old.terminal caller) (call_of call.now)) terminal.old.terminal) dropped) caller) terminal.new.terminal made) }
     ensures column { OnOk result (column_in terminal.new.terminal.disc ≤ column_in terminal.old.terminal.disc + 4096) }
 {
@@ -287,7 +287,7 @@ fn try_given(
     }
     match meet_in_room(alloc, terminal, caller, call)? {
         Met::Gives(given) => {
-            if !is_same(&given, answer) {
+            if !is_same(&given.lent(), answer) {
                 return Ok(false);
             }
             terminal.drop_characters(dropped as u64);
@@ -306,13 +306,13 @@ pub(crate) fn try_answer(
     callers: u8,
     caller: u16,
     call: &Call,
-    answer: &Answer,
+    answer: &AnswerRef,
     dropped: usize,
 ) -> Result<bool, NoMemory>
     requires known { caller < length terminal.old.terminal.callers }
     requires small { IsSmall terminal.old.terminal }
     requires call { IsSmallCall (call_of call.now) }
-    ensures tries { IfOk result (λ made. Tries (IsAnsweredBy terminal.old.terminal callers caller (call_of call.now) (answer_of answer.now) dropped)
+    ensures tries { IfOk result (λ made. Tries (IsAnsweredBy terminal.old.terminal callers caller (call_of call.now) (answer_lent answer.now) dropped)
         (after_answer (with_dropped (left_by (outcome terminal.old.terminal (caller_at terminal.old.terminal caller) (call_of call.now)) terminal.old.terminal) dropped) caller) terminal.new.terminal made) }
     ensures column { OnOk result (column_in terminal.new.terminal.disc ≤ column_in terminal.old.terminal.disc + 4096) }
 {

@@ -103,7 +103,7 @@ fn is_in_turn(turn: &Turn, step: usize, event: &Event) -> bool
         → (IsTrue (is_caller_end (event_of event.now)) → turn.now.first + turn.now.steps ≤ step) → IsTrue result }
 {
     match event {
-        Event::Answer(_) | Event::Purge(_) | Event::Part(_) | Event::Wait => {
+        Event::Answer { .. } | Event::Part(_) | Event::Wait => {
             step >= turn.first && step - turn.first < turn.steps
         }
         Event::CallerEnd => step >= turn.first && step - turn.first >= turn.steps,

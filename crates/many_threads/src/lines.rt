@@ -38,8 +38,11 @@ fn give_way<R: Wait>(
     ensures rise { IsNonDecreasing putter.old.heads → IsNonDecreasing putter.new.heads }
 {
     let waiting = putter.waiting();
-    if patience == 0 || waiting <= putter.capacity() as u64 / 2 {
-        return patience;
+    if waiting <= putter.capacity() as u64 / 2 {
+        return PATIENCE;
+    }
+    if patience == 0 {
+        return 0;
     }
     shared.pause(rt, seat);
     if putter.waiting() < waiting {

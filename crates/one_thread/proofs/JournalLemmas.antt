@@ -2,10 +2,10 @@
 use Rattle.std.proofs.Common.{◌≡◌, inl, inr, ℕ, zero, suc, ◌+◌, ◌<◌, ◌≤◌, Bool, true, false, ◌&&◌, ◌==◌, if◌then◌else◌, List, [], ◌∷◌, ◌++◌, Option, length, refl, sym, ◌∙◌, ap, subst, arith, append-nil, append_assoc, length-append, zero-add, add-zero}
 use Rattle.std.proofs.lemmas.Bool.{eq-eqb, ne_eqb}
 use Rattle.tty_base.specs.declared.characters.Flagged.{Flagged}
-use Rattle.tty_calls.specs.Plain.{PlainCall, PlainEvent, answered, parted, waited, flushed, ticked, line_ended, clock_ended, caller_ended, phase_ended, hung_up, PlainEntry}
+use Rattle.tty_calls.specs.Plain.{PlainCall, PlainEvent, answered, parted, waited, flushed, ticked, line_ended, clock_ended, caller_ended, phase_ended, hung_up, PlainEntry, chars_in}
 use Rattle.tty_terminal.specs.Terminals.{Terminal}
 use Rattle.tty_terminal.specs.Steps.{after}
-use Rattle.tty_terminal.specs.Runs.{Leads, chars_in, chars_of, phase_after}
+use Rattle.tty_terminal.specs.Runs.{Leads, chars_of, phase_after}
 use Rattle.tty_terminal.specs.Marks.{Marks, marks_of, marks_after}
 use Rattle.tty_terminal.proofs.MarkLaws.{step_marks}
 use Rattle.journal_check.specs.Legal.{line_ends, line_ends_in, session_events, session_events_in, is_phase_end, before_phase, before_line_end}

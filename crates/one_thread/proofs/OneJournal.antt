@@ -10,14 +10,14 @@ use Rattle.tty_base.specs.declared.lines.Overrun.{Overrun}
 use Rattle.tty_calls.specs.declared.journals.PortRun.{PortRun}
 use Rattle.tty_calls.specs.declared.journals.Who.{Who}
 use Rattle.tty_calls.specs.declared.journals.Who.TheVariants.{Caller, Flusher, Line, Clock, Session}
-use Rattle.tty_calls.specs.Plain.{PlainCall, PlainEvent, answered, parted, waited, flushed, ticked, line_ended, clock_ended, caller_ended, phase_ended, hung_up, PlainEntry, entries_of}
+use Rattle.tty_calls.specs.Plain.{PlainCall, PlainEvent, answered, parted, waited, flushed, ticked, line_ended, clock_ended, caller_ended, phase_ended, hung_up, PlainEntry, chars_in}
 use Rattle.tty_calls.specs.Sessions.{PlainPhase, PlainSession, ticks_on, call_at, counts_on}
 use Rattle.uart_line.specs.Received.{received_list}
 use Rattle.uart_line.specs.Offered.{kept_list}
 use Rattle.tty_terminal.specs.declared.callers.Piece.{Piece}
 use Rattle.tty_terminal.specs.Terminals.{Terminal}
 use Rattle.tty_terminal.specs.Steps.{follows, ByCaller, IsAllowed, Allowed}
-use Rattle.tty_terminal.specs.Runs.{Leads, chars_in, chars_of, phase_after}
+use Rattle.tty_terminal.specs.Runs.{Leads, chars_of, phase_after}
 use Rattle.journal_check.proofs.PhaseLemmas.{phase-after}
 use Rattle.journal_check.specs.Legal.{phase_at, ClockMark, clock_ends, clock_marks, clock_marks_in, line_ends, line_ends_in, session_events, session_events_in, ticks_of, sent_by, script_on, IsInPhase, AreInPhases, IsFinishedFrom, IsLegal, IsLegalOn}
 use Rattle.one_thread.specs.Order.{Place, first_place, next_place, is_after_flush, IsPieceOf, IsInTurn, AreInTurn, IsInOneOrder}
@@ -263,18 +263,18 @@ comes_to p session overruns k (phase ∷ phases) journal h =
 
 -- ---- two runs
 
-whole : (p : ℕ) (session : PlainSession) (run : PortRun) (t : Terminal) → IsLegal p session run t → IsInOneOrder p session (entries_of run.journal.items) run.line.overruns.items → IsRest p session (first_place p session) (entries_of run.journal.items)
+whole : (p : ℕ) (session : PlainSession) (run : PortRun) (t : Terminal) → IsLegal p session run t → IsInOneOrder p session run.journal.items run.line.overruns.items → IsRest p session (first_place p session) run.journal.items
 whole p session run t h order =
-    let comes = comes_to p session run.line.overruns.items 0 session.phases (entries_of run.journal.items) h.account.finished in
-    let end : phase_from 0 (entries_of run.journal.items) ≡ length session.phases = (let all = comes.ends 0 in omega arith) in
+    let comes = comes_to p session run.line.overruns.items 0 session.phases run.journal.items h.account.finished in
+    let end : phase_from 0 run.journal.items ≡ length session.phases = (let all = comes.ends 0 in omega arith) in
     record { last = t; leads = h.on_the_way.steps; turns = order.turns; phases = h.on_the_way.in_phases; ends = end }
 
-pub one_run : (p : ℕ) (session : PlainSession) (run other : PortRun) → IsLegalOn p session run → IsLegalOn p session other → IsInOneOrder p session (entries_of run.journal.items) run.line.overruns.items
-    → IsInOneOrder p session (entries_of other.journal.items) other.line.overruns.items → run.line.overruns.items ≡ other.line.overruns.items → entries_of run.journal.items ≡ entries_of other.journal.items
+pub one_run : (p : ℕ) (session : PlainSession) (run other : PortRun) → IsLegalOn p session run → IsLegalOn p session other → IsInOneOrder p session run.journal.items run.line.overruns.items
+    → IsInOneOrder p session other.journal.items other.line.overruns.items → run.line.overruns.items ≡ other.line.overruns.items → run.journal.items ≡ other.journal.items
 one_run p session run other h h' order order' lost =
-    let comes = comes_to p session run.line.overruns.items 0 session.phases (entries_of run.journal.items) h.1.account.finished in
-    let comes' = comes_to p session other.line.overruns.items 0 session.phases (entries_of other.journal.items) h'.1.account.finished in
-    one_journal p session (first_place p session) (entries_of run.journal.items) (entries_of other.journal.items) (whole p session run h.0 h.1 order) (whole p session other h'.0 h'.1 order')
+    let comes = comes_to p session run.line.overruns.items 0 session.phases run.journal.items h.1.account.finished in
+    let comes' = comes_to p session other.line.overruns.items 0 session.phases other.journal.items h'.1.account.finished in
+    one_journal p session (first_place p session) run.journal.items other.journal.items (whole p session run h.0 h.1 order) (whole p session other h'.0 h'.1 order')
     (record {
       chars = h.1.account.chars ∙ (ap (λ (o : List Overrun). kept_list (received_list (script_on p session)) o) lost ∙ sym h'.1.account.chars);
       lines = comes.lines ∙ (ap (λ (o : List Overrun). all_lines p session o 0 session.phases) lost ∙ sym comes'.lines);

@@ -20,7 +20,7 @@ use Rattle.tty_calls.specs.declared.answers.PortEnd.{PortEnd}
 use Rattle.tty_calls.specs.declared.journals.PortRun.{PortRun}
 use Rattle.tty_calls.specs.declared.journals.Who.{Who}
 use Rattle.tty_calls.specs.declared.journals.Who.TheVariants.{Session}
-use Rattle.tty_calls.specs.Plain.{PlainCall, PlainEvent, PlainEntry, hung_up, entry_of, entries_of}
+use Rattle.tty_calls.specs.Plain.{PlainCall, PlainEvent, PlainEntry, hung_up}
 use Rattle.tty_calls.specs.Sessions.{PlainPhase, PlainSession, call_at, counts_on, ticks_on, scripts_on}
 use Rattle.tty_calls.specs.Limits.{character_count}
 use Rattle.tty_terminal.specs.Terminals.{Terminal, opening}
@@ -113,20 +113,19 @@ begins_kept s v putter line done left put is begins =
 
 few_entries : (v : PortValue) (line : LineState) (run : PortRun) (end : PortEnd) → IsLeftOf v line run end → v.limit ≡ 4194304 → length run.journal.items ≤ 4194304
 few_entries v line run end left limit =
-    let count = length-map run.journal.items entry_of in
     let same = ap (λ (es : List PlainEntry). length es) left.journal in
     let few = left.port.few in
-    omega (arith, count, same, few, limit)
+    omega (arith, same, few, limit)
 
 -- so many entries are told as are printed
-pub told_full : (run : PortRun) (journal : List PlainEntry) → entries_of run.journal.items ≡ journal → length journal ≡ 4194304 → length run.journal.items ≡ 4194304
-told_full run journal is full = sym (length-map run.journal.items entry_of) ∙ ap (λ (es : List PlainEntry). length es) is ∙ full
+pub told_full : (run : PortRun) (journal : List PlainEntry) → run.journal.items ≡ journal → length journal ≡ 4194304 → length run.journal.items ≡ 4194304
+told_full run journal is full = ap (λ (es : List PlainEntry). length es) is ∙ full
 
 pub full_played : (s : Scene) (v : PortValue) (flip : TakerState Flagged) (putter : PutterState Flagged) (line : LineState) (run : PortRun) (end : PortEnd)
     → IsPortOf s v → IsFullRun s v putter line → IsPrefix v.flip.taken putter.sent → flip.taken ≡ v.flip.taken → flip.capacity ≡ v.flip.capacity → IsLeftOf (record v { flip = flip }) line run end → IsPlayedOn s.port s.session run end
 full_played s v flip putter line run end of full begins taken capacity left =
     let count : length run.journal.items ≡ 4194304 = told_full run v.journal left.journal full.full in
-    let chars : chars_of (entries_of run.journal.items) ≡ v.flip.taken = ap chars_of left.journal ∙ left.port.chars ∙ taken in
+    let chars : chars_of run.journal.items ≡ v.flip.taken = ap chars_of left.journal ∙ left.port.chars ∙ taken in
     let overruns : run.line.overruns.items ≡ line.report.overruns.items = ap (λ (r : LineReport). r.overruns.items) left.report in
     record {
       terminal = v.terminal;
@@ -203,7 +202,7 @@ hung_account : (s : Scene) (v w : PortValue) (putter : PutterState Flagged) (lin
     → w.journal ≡ v.journal ++ e ∷ [] → e.event ≡ hung_up dropped → w.flip.taken ≡ putter.sent → IsLeftOf w line run end → IsAccounted s.port s.session run
 hung_account s v w putter line run end e dropped at_end journal event all left =
     let n : ℕ = length s.session.phases in
-    let entries : entries_of run.journal.items ≡ v.journal ++ e ∷ [] = left.journal ∙ journal in
+    let entries : run.journal.items ≡ v.journal ++ e ∷ [] = left.journal ∙ journal in
     let overruns : run.line.overruns.items ≡ line.report.overruns.items = ap (λ (r : LineReport). r.overruns.items) left.report in
     let put = at_end.has_put in
     let handed : List Flagged = received_list (script_of_first s.port s.session n) in
@@ -235,9 +234,9 @@ hung_played s v flip putter now w line run end at_end port same hang left =
     let e : PlainEntry = hangup_entry (record v { flip = flip }) hang.dropped in
     let journal : w.journal ≡ v.journal ++ e ∷ [] = ap (λ (x : PortValue). x.journal) hang.appends.appended in
     let account = hung_account s v w putter line run end e hang.dropped at_end journal refl (hang.all ∙ same) left in
-    let way : IsOnTheWay s.port s.session (entries_of run.journal.items) w.terminal =
+    let way : IsOnTheWay s.port s.session run.journal.items w.terminal =
     subst (λ (es : List PlainEntry). IsOnTheWay s.port s.session es w.terminal) (sym left.journal) (hung_on_the_way s (record v { flip = flip }) w now at_end.port_of.counts (on_the_way s v at_end.port_of port) left.port hang) in
-    let entries : entries_of run.journal.items ≡ v.journal ++ e ∷ [] = left.journal ∙ journal in
+    let entries : run.journal.items ≡ v.journal ++ e ∷ [] = left.journal ∙ journal in
     let limit : w.limit ≡ 4194304 = ap (λ (x : PortValue). x.limit) hang.appends.appended ∙ at_end.port_of.limit in
     let after_all : after_phases n (v.journal ++ e ∷ []) ≡ e ∷ [] = ap (λ j. after_phases j (v.journal ++ e ∷ [])) (sym (add-zero n)) ∙ up_after n 0 v.journal (e ∷ []) at_end.played.up_to in
     record {
@@ -248,7 +247,7 @@ hung_played s v flip putter now w line run end at_end port same hang left =
         on_the_way = way;
         ticks = λ k. subst (λ (es : List PlainEntry). tick_count_in k 0 es ≤ ticks_on s.port (phase_at s.session k)) (sym entries) (hangup_ticks s v.journal e hang.dropped refl at_end.played.ticks k);
         last = inr (record { entry = e; dropped = hang.dropped; alone = ap (after_phases n) entries ∙ after_all; is_hangup = refl });
-        chars = prefix_same (chars_of (entries_of run.journal.items)) (kept_list (received_list (script_on s.port s.session)) run.line.overruns.items) account.chars;
+        chars = prefix_same (chars_of run.journal.items) (kept_list (received_list (script_on s.port s.session)) run.line.overruns.items) account.chars;
       };
       legal = λ other. record { on_the_way = way; account = account };
     }
@@ -257,7 +256,7 @@ pub hung_in_order : (s : Scene) (v : PortValue) (flip : TakerState Flagged) (now
     → IsOfScene s v → IsPort v → v.terminal.phase ≡ length s.session.phases → HaveSeenAll s v.journal line.report.overruns.items → HangsUp (record v { flip = flip }) w now → IsLeftOf w line run end → IsRunInOrder s.port s.session run
 hung_in_order s v flip now w line run end of_scene port past see_all hang left other =
     let e : PlainEntry = hangup_entry (record v { flip = flip }) hang.dropped in
-    let entries : entries_of run.journal.items ≡ v.journal ++ e ∷ [] = left.journal ∙ ap (λ (x : PortValue). x.journal) hang.appends.appended in
+    let entries : run.journal.items ≡ v.journal ++ e ∷ [] = left.journal ∙ ap (λ (x : PortValue). x.journal) hang.appends.appended in
     let overruns : run.line.overruns.items ≡ line.report.overruns.items = ap (λ (r : LineReport). r.overruns.items) left.report in
     record {
       turns = subst (λ (es : List PlainEntry). AreInTurn s.port s.session (first_place s.port s.session) es) (sym entries) (hangup_in_turn s v e hang.dropped of_scene port past refl refl);

@@ -6,14 +6,14 @@ use Rattle.std.proofs.lemmas.Bool.{false≢true, eqb-true, le-leb, lt-leb}
 use Rattle.tty_base.specs.declared.characters.Flagged.{Flagged}
 use Rattle.tty_calls.specs.declared.journals.Who.{Who}
 use Rattle.tty_calls.specs.declared.journals.Who.TheVariants.{Caller, Flusher, Line, Clock, Session}
-use Rattle.tty_calls.specs.Plain.{PlainAnswer, idle, PlainEvent, answered, parted, waited, flushed, ticked, line_ended, clock_ended, caller_ended, phase_ended, hung_up}
+use Rattle.tty_calls.specs.Plain.{PlainAnswer, idle, PlainEvent, answered, parted, waited, flushed, ticked, line_ended, clock_ended, caller_ended, phase_ended, hung_up, chars_in}
 use Rattle.tty_calls.specs.Sessions.{PlainSession, scripts_on, call_at, counts_on}
 use Rattle.tty_terminal.specs.Terminals.{Terminal, caller_at}
 use Rattle.tty_terminal.specs.Receiving.{accepts, after_character, after_characters, AcceptsAll}
 use Rattle.tty_terminal.specs.Outcomes as outcomes
 use Rattle.tty_terminal.specs.Calls.{outcome_of}
 use Rattle.tty_terminal.specs.Steps.{quiet, Answers, Drops, MustWait, TakesPart, IsFlush, IsAllowed}
-use Rattle.tty_terminal.specs.Runs.{chars_in, phase_after}
+use Rattle.tty_terminal.specs.Runs.{phase_after}
 use Rattle.journal_check.specs.Legal.{ClockMark, ticks, clock_ends, clock_marks, line_ends, first_step, steps_in, IsInPhase}
 use Rattle.one_thread.specs.Order.{Place, accepted_front, due, turn, is_most, is_after_flush, IsPieceOf}
 use Rattle.journal_check.proofs.Truths.{if_false, if_true}

@@ -9,7 +9,7 @@ use Rattle.tty_calls.specs.declared.answers.PortEnd.{PortEnd}
 use Rattle.tty_calls.specs.declared.journals.PortRun.{PortRun}
 use Rattle.tty_calls.specs.declared.answers.Denied.{Denied}
 use Rattle.tty_calls.specs.declared.answers.Denied.TheVariants.{NoMemory, Full}
-use Rattle.tty_calls.specs.Plain.{PlainEntry, phase_ended, entries_of}
+use Rattle.tty_calls.specs.Plain.{PlainEntry, phase_ended}
 use Rattle.tty_calls.specs.Sessions.{PlainSession, ticks_on, call_at, counts_on}
 use Rattle.journal_check.specs.Legal.{phase_at, script_of_first, script_on, received_before, is_phase_end, IsFinishedFrom, IsFinished, AreSeen, AreInPhases, flip_on}
 use Rattle.journal_check.specs.Short.{tick_count_in, after_phases}
@@ -106,7 +106,7 @@ IsStopped d s station = StopsFull d s station.port station.putter station.line
 -- what is left of a port and its line
 pub record IsLeftOf (v : PortValue) (line : LineState) (run : PortRun) (end : PortEnd) : Type 0 where
   pub port : IsPort v
-  pub journal : entries_of run.journal.items ≡ v.journal
+  pub journal : run.journal.items ≡ v.journal
   pub at_end : IsEndOf v.terminal end
   pub report : run.line ≡ line.report
 

@@ -2,7 +2,6 @@
 use Rattle.std.specs.Prelude.{◌≡◌, ◌≢◌, ◌≤◌, ℕ, List, Some, length, slice_get}
 use Rattle.tty_calls.specs.declared.answers.PortEnd.{PortEnd}
 use Rattle.tty_calls.specs.declared.journals.PortRun.{PortRun}
-use Rattle.tty_calls.specs.Plain.{entries_of}
 use Rattle.tty_calls.specs.Sessions.{PlainSession}
 use Rattle.tty_terminal.specs.Terminals.{Terminal}
 use Rattle.journal_check.specs.Legal.{IsLegal}
@@ -33,7 +32,7 @@ pub record ArePlayed (session : PlainSession) (runs : List PortRun) (ends : List
 
 -- a run is in the order of one thread, unless its journal is full
 abbrev pub IsRunInOrder : ℕ → PlainSession → PortRun → Type 0
-IsRunInOrder p session run = length run.journal.items ≢ 4194304 → IsInOneOrder p session (entries_of run.journal.items) run.line.overruns.items
+IsRunInOrder p session run = length run.journal.items ≢ 4194304 → IsInOneOrder p session run.journal.items run.line.overruns.items
 
 abbrev pub AreInOneOrder : PlainSession → List PortRun → Type 0
 AreInOneOrder session runs = (p : ℕ) (run : PortRun) → slice_get runs p ≡ Some run → IsRunInOrder p session run

@@ -2,7 +2,6 @@
 
 ghost use Rattle.std.specs.Prelude.{◌≡◌, ℕ};
 ghost use Rattle.tty_calls.specs.declared.journals.PortRun.{PortRun};
-ghost use Rattle.tty_calls.specs.Plain.{entries_of};
 ghost use Rattle.tty_calls.specs.Sessions.{PlainSession};
 ghost use Rattle.journal_check.specs.Legal.{IsLegalOn};
 ghost use Rattle.one_thread.specs.Order.{IsInOneOrder};
@@ -11,6 +10,6 @@ ghost use Rattle.one_thread.specs.Order.{IsInOneOrder};
 /// order, and lost the same characters, have the same entries.
 pub fn a_session_has_one_journal()
     ensures { (p : ℕ) (session : PlainSession) (run other : PortRun) → IsLegalOn p session run → IsLegalOn p session other
-        → IsInOneOrder p session (entries_of run.journal.items) run.line.overruns.items → IsInOneOrder p session (entries_of other.journal.items) other.line.overruns.items
-        → run.line.overruns.items ≡ other.line.overruns.items → entries_of run.journal.items ≡ entries_of other.journal.items }
+        → IsInOneOrder p session run.journal.items run.line.overruns.items → IsInOneOrder p session other.journal.items other.line.overruns.items
+        → run.line.overruns.items ≡ other.line.overruns.items → run.journal.items ≡ other.journal.items }
 {}

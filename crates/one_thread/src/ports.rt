@@ -3,7 +3,6 @@
 ghost use Rattle.std.specs.Prelude.{◌≡◌, ◌<◌, ◌≤◌, IfOk, IfErr, length};
 ghost use Rattle.tty_base.specs.Lines.{arrival, arrival_count};
 ghost use Rattle.tty_calls.specs.Limits.{IsWithinLimits, character_count};
-ghost use Rattle.tty_calls.specs.Plain.{entries_of};
 ghost use Rattle.tty_calls.specs.Sessions.{session_of};
 ghost use Rattle.one_thread.specs.Roles.{Scene, scene_of, names_in};
 ghost use Rattle.one_thread.specs.Phases.{HaveSeenAll, IsBeforePhase, IsPortOf, IsFullRun, IsAtEnd, IsStopped, IsLeftOf};
@@ -101,7 +100,7 @@ fn left_of(port: Port, line: Line) -> (PortRun, PortEnd)
 pub fn stop(mut port: Port, mut putter: FlipIn, line: Line) -> (PortRun, PortEnd)
     requires { putter.ring ≡ port.flip.ring }
     ensures played { (s : Scene) → IsPortOf s port → IsFullRun s port putter line → IsPlayedOn s.port s.session result.0 result.1 }
-    ensures journal { entries_of result.0.journal.items ≡ port.journal }
+    ensures journal { result.0.journal.items ≡ port.journal }
 {
     port.meet(&mut putter);
     left_of(port, line)

@@ -7,7 +7,7 @@ use Rattle.tty_base.specs.declared.characters.Flagged.{Flagged}
 use Rattle.word_ring.specs.Ends.{TakerState}
 use Rattle.port_core.specs.declared.waiting.WaitingCall.{WaitingCall}
 use Rattle.tty_calls.specs.declared.answers.Answer.{Answer}
-use Rattle.tty_calls.specs.Plain.{PlainCall, handle_of, PlainAnswer, idle, answer_of, call_of, PlainEvent, answered, parted, waited, flushed, ticked, line_ended, clock_ended, caller_ended, phase_ended, hung_up, PlainEntry}
+use Rattle.tty_calls.specs.Plain.{PlainCall, handle_of, PlainAnswer, idle, answer_of, call_of, PlainEvent, answered, parted, waited, flushed, ticked, line_ended, clock_ended, caller_ended, phase_ended, hung_up, PlainEntry, chars_in}
 use Rattle.ldisc_switch.specs.Disciplines.{column_in}
 use Rattle.tty_terminal.specs.declared.callers.Bound.{Bound}
 use Rattle.tty_terminal.specs.declared.callers.CallerState.{CallerState}
@@ -17,7 +17,7 @@ use Rattle.tty_terminal.specs.Outcomes.{Outcome, unknown, waits, takes, gives}
 use Rattle.tty_terminal.specs.Meeting.{Meets, drops_of}
 use Rattle.tty_terminal.specs.Steps.{Answers, Drops, MustWait, TakesPart, left_by, with_dropped, Allowed, after, quiet}
 use Rattle.tty_terminal.specs.Standing.{Standing, standing_of, standing_after_own, standing_after_other}
-use Rattle.tty_terminal.specs.Runs.{Grows, is_flush, is_of_call, chars_in}
+use Rattle.tty_terminal.specs.Runs.{Grows, is_flush, is_of_call}
 use Rattle.tty_terminal.proofs.StepLaws.{sent_of, begun_after}
 use Rattle.tty_terminal.proofs.StandingLaws.{step_stands}
 use Rattle.port_core.specs.Flips.{shown_count}

@@ -1,19 +1,17 @@
 -- A port goes on by an entry: what it keeps.
-use Rattle.std.proofs.Common.{◌≡◌, ℕ, List, [], ◌∷◌, ◌++◌, IsTrue, Bool, true, false, Option, ◌+◌, ◌^◌, ◌<◌, ◌≤◌, if◌then◌else◌, length, sum, refl, sym, ◌∙◌, ap, subst, arith, length-append, append-nil}
+use Rattle.std.proofs.Common.{◌≡◌, ℕ, List, [], ◌∷◌, ◌++◌, IsTrue, Bool, true, false, Option, ◌+◌, ◌^◌, ◌<◌, ◌≤◌, if◌then◌else◌, length, sum, refl, sym, ◌∙◌, ap, subst, arith, rules, length-append, append-nil}
 use Rattle.std.proofs.lemmas.Bool.{false≢true}
-use Rattle.std.proofs.lemmas.List.{map-append}
 use Rattle.tty_base.specs.declared.characters.Flagged.{Flagged}
 use Rattle.word_ring.specs.Ends.{TakerState}
-use Rattle.tty_calls.specs.declared.journals.Entry.{Entry}
-use Rattle.tty_calls.specs.Plain.{PlainCall, PlainEvent, answered, parted, waited, flushed, ticked, line_ended, clock_ended, caller_ended, phase_ended, hung_up, PlainEntry, entry_of, entries_of, is_caller}
+use Rattle.tty_calls.specs.Plain.{PlainCall, PlainEvent, answered, parted, waited, flushed, ticked, line_ended, clock_ended, caller_ended, phase_ended, hung_up, PlainEntry, is_caller, chars_in}
 use Rattle.ldisc_switch.specs.Disciplines.{column_in}
 use Rattle.tty_terminal.specs.Terminals.{Terminal, caller_at, begun_of, opening}
 use Rattle.tty_terminal.specs.Steps.{Allowed, after}
 use Rattle.tty_terminal.specs.Standing.{Standing, standing_of, standing_after_own, standing_after_other}
-use Rattle.tty_terminal.specs.Runs.{IsRun, Grows, AgreesOn, RunHas, GoesOnInGeneration, is_flush, is_of_call, chars_in}
+use Rattle.tty_terminal.specs.Runs.{IsRun, Grows, AgreesOn, RunHas, GoesOnInGeneration, is_flush, is_of_call}
 use Rattle.tty_terminal.proofs.Runs.{leads_more, chars_append, Bounded, run_bounded, run_callers, run_capacity, run_in_line, run_within, run_taken}
 use Rattle.tty_terminal.proofs.StepLaws.{sent_of, sent_after, begun_after}
-use Rattle.tty_terminal.proofs.StandingLaws.{step_stands}
+use Rattle.tty_terminal.proofs.StandingLaws.{step_stands, run_stands}
 use Rattle.tty_terminal.proofs.Grown.{leads_grown}
 use Rattle.tty_terminal.proofs.Agreeing.{leads_agrees}
 use Rattle.tty_terminal.proofs.OneRun.{one_more}
@@ -115,6 +113,34 @@ calls_stay t u ks slots stay are c waits =
     let was = are c (sym (stay c).1 ∙ waits) in
     record { copy = was.copy; there = was.there; found = ap (λ (n : ℕ). call_in ks c n) (stay c).0 ∙ was.found; number = was.number }
 
+-- ---- the first entry
+
+-- a port with no entries, on a flip buffer from which nothing was taken
+fresh_keeps : (counts : List ℕ) (limit : ℕ) (starved : Bool) (flip : TakerState Flagged) (slots : List (Option WaitingCall)) → limit ≤ 4194304 → flip.taken ≡ [] → flip.capacity ≤ 65536 → length slots ≡ sum counts
+    → KeepsCalls (record { terminal = opening (sum counts) flip.capacity; journal = []; kept = []; counts = counts; limit = limit; starved = starved; flip = flip }) slots
+fresh_keeps counts limit starved flip slots few fresh small many =
+    record {
+      port = record {
+        run = refl;
+        one = search rules;
+        chars = sym fresh;
+        sent = omega arith;
+        capacity = small;
+        bounded = rw fresh (omega arith);
+        column = omega arith;
+        few = omega arith;
+        limit = few;
+        begun = tt;
+      };
+      many = many;
+      calls = λ c waits. absurd (false≢true (sym (ap (λ (s : Standing). s.waits) (run_stands (call_in []) counts flip.capacity [] (opening (sum counts) flip.capacity) refl c)) ∙ waits));
+    }
+
+pub begins : (v : PortValue) (slots : List (Option WaitingCall)) → v.terminal ≡ opening (sum v.counts) v.flip.capacity → v.journal ≡ [] → v.kept ≡ [] → v.limit ≤ 4194304 → v.flip.taken ≡ [] → v.flip.capacity ≤ 65536 → length slots ≡ sum v.counts → KeepsCalls v slots
+begins v slots terminal journal kept few fresh small many =
+    subst (λ (w : PortValue). KeepsCalls w slots) (λ i. record v { terminal = sym terminal i; journal = sym journal i; kept = sym kept i })
+    (fresh_keeps v.counts v.limit v.starved v.flip slots few fresh small many)
+
 -- ---- entries that are of no call
 
 -- such an entry keeps the port; what it takes out of the flip buffer is said
@@ -159,8 +185,8 @@ pub made : (v : PortValue) (t u : Terminal) (js ls : List PlainEntry) (ks ms : L
 made v t u js ls ks ms starved f g p q r s w = λ i. record { terminal = p i; journal = q i; kept = r i; counts = v.counts; limit = v.limit; starved = s i; flip = w i }
 
 -- an entry is added to a journal
-pub entries_added : (es fs : List Entry) (e : Entry) (gs : List Entry) → fs ≡ es → gs ≡ fs ++ e ∷ [] → entries_of gs ≡ entries_of es ++ entry_of e ∷ []
-entries_added es fs e gs same added = ap entries_of added ∙ map-append entry_of fs (e ∷ []) ∙ ap (λ (xs : List Entry). entries_of xs ++ entry_of e ∷ []) same
+pub entry_added : (js ks ls : List PlainEntry) (d e : PlainEntry) → ks ≡ js → ls ≡ ks ++ d ∷ [] → d ≡ e → ls ≡ js ++ e ∷ []
+entry_added js ks ls d e same added is = added ∙ (λ i. same i ++ is i ∷ [])
 
 -- a flip buffer from which nothing was taken
 pub none_taken : (f g : TakerState Flagged) → g.taken ≡ f.taken → g.taken ≡ f.taken ++ []

@@ -1,6 +1,6 @@
 -- What the fields of a port stand for, and what they keep.
 use Rattle.std.specs.Prelude.{◌≡◌, ℕ, List, Bool, ◌<◌, true, false, Option, None, Some, is_some, length, sum, slice_index_or}
-use Rattle.tty_calls.specs.Plain.{PlainCall, opens, closes, reads, writes, gets_modes, sets_modes, gets_disc, sets_disc, flushes, steers, counts_input, counts_output, excludes, admits, drains, gets_counts, hangs_up, sends_packet, takes_packet, entries_of, handle_of}
+use Rattle.tty_calls.specs.Plain.{PlainCall, reads, writes, sets_modes, drains, handle_of}
 use Rattle.port_core.specs.declared.waiting.WaitingCall.{WaitingCall}
 use Rattle.port_core.specs.declared.waiting.WaitingCall.TheVariants as waiting
 use Rattle.tty_terminal.specs.Terminals.{Terminal, caller_at}
@@ -11,7 +11,7 @@ abbrev pub value_of : Inside → PortValue
 value_of p =
     record {
       terminal = p.terminal.terminal;
-      journal = entries_of p.journal.items;
+      journal = p.journal.items;
       kept = p.kept.items;
       counts = p.counts.items;
       limit = p.limit;
@@ -28,25 +28,11 @@ call_waiting (waiting.Drain h) = drains h
 
 -- whether a call may have to wait
 abbrev pub can_wait : PlainCall → Bool
-can_wait (opens h access nonblock) = false
-can_wait (closes h) = false
 can_wait (reads h n) = true
 can_wait (writes h bytes) = true
-can_wait (gets_modes h) = false
 can_wait (sets_modes h when words) = true
-can_wait (gets_disc h) = false
-can_wait (sets_disc h number) = false
-can_wait (flushes h queue) = false
-can_wait (steers h act) = false
-can_wait (counts_input h) = false
-can_wait (counts_output h) = false
-can_wait (excludes h) = false
-can_wait (admits h) = false
 can_wait (drains h) = true
-can_wait (gets_counts h) = false
-can_wait (hangs_up h) = false
-can_wait (sends_packet h bytes) = false
-can_wait (takes_packet h) = false
+can_wait other = false
 
 -- this is a copy of the call that the caller waits with
 pub record IsWaitingCall (t : Terminal) (ks : List PlainKept) (c : ℕ) (slot : Option WaitingCall) : Type 0 where

@@ -3,15 +3,14 @@
 
 ghost use Rattle.std.specs.Prelude.{◌≡◌, ◌≤◌, ◌<◌, [], true, IfOk, IfErr, OnOk};
 ghost use Rattle.tty_calls.specs.declared.journals.Who.TheVariants.{Caller, Flusher};
-ghost use Rattle.tty_calls.specs.declared.journals.Event.TheVariants.{Flush};
-ghost use Rattle.tty_calls.specs.Plain.{answer_of, answered, call_of, event_of};
+ghost use Rattle.tty_calls.specs.Plain.{call_of, entry_of, event_of, flushed};
 ghost use Rattle.port_core.specs.Inside.{call_waiting, can_wait};
-ghost use Rattle.tty_terminal.specs.Meeting.{IsAnswerRoom, IsRoomFor, room_for_characters};
+ghost use Rattle.tty_terminal.specs.Meeting.{IsRoomFor, room_for_characters};
 
 use crate::waiting::WaitingCall;
 use std::alloc::Global;
-use tty_base::{Chars, NoMemory};
-use tty_calls::{Answer, AnswerRoom, Call, Denied, Entry, Event, Journal, Purge, Who};
+use tty_base::{Chars, Flagged, NoMemory};
+use tty_calls::{Call, Denied, Entry, Event, Journal, Who};
 use tty_terminal::{ROOM_FOR_CALL, Room, Terminal};
 
 /// Notes that no memory is left.
@@ -23,23 +22,23 @@ pub(crate) fn starve(starved: &mut bool) -> Denied
     Denied::NoMemory
 }
 
-/// What a call needs beside the port: room for the journal's copy of its answer; and what the terminal
-/// needs.
-#[derive(Drop)]
-pub(crate) struct Prepared {
-    pub(crate) copy: AnswerRoom,
-    pub(crate) room: Room,
-}
-
-/// Takes the memory for one entry, or notes that none is left.
+/// Takes the memory for one entry, which gives at most so many bytes and takes at most so many characters
+/// out of the flip buffer; or notes that none is left.
 #[inline(always)]
-pub(crate) fn reserve_entry(journal: &mut Journal, starved: &mut bool) -> Result<(), Denied>
+pub(crate) fn reserve_entry(
+    journal: &mut Journal,
+    starved: &mut bool,
+    bytes: usize,
+    characters: usize,
+) -> Result<(), Denied>
     ensures items { journal.new.items ≡ journal.old.items }
     ensures room { OnOk result (0 < journal.new.spare) }
+    ensures bytes { OnOk result (bytes ≤ journal.new.spare_bytes) }
+    ensures characters { OnOk result (characters ≤ journal.new.spare_characters) }
     ensures ok { OnOk result (starved.new ≡ starved.old) }
     ensures err { IfErr result (λ d. (d ≡ Denied.NoMemory) × (starved.new ≡ true)) }
 {
-    match journal.reserve(1) {
+    match journal.reserve(bytes, characters) {
         Ok(()) => Ok(()),
         Err(NoMemory) => Err(starve(starved)),
     }
@@ -77,11 +76,12 @@ pub(crate) fn reserve_piece(
     ensures terminal { terminal.new.terminal ≡ terminal.old.terminal }
     ensures chars { chars.new.items ≡ chars.old.items }
     ensures entry { OnOk result (0 < journal.new.spare) }
+    ensures characters { OnOk result (most ≤ journal.new.spare_characters) }
     ensures room { OnOk result (most ≤ chars.new.spare) }
     ensures wire { OnOk result (room_for_characters terminal.new.terminal most ≤ terminal.new.wire_room) }
     ensures signals { OnOk result (most ≤ terminal.new.signal_room) }
 {
-    journal.reserve(1)?;
+    journal.reserve(0, most)?;
     chars.reserve(most)?;
     let room = terminal.room_for_characters(most);
     terminal.reserve(room, most)
@@ -103,39 +103,6 @@ pub(crate) fn room_for_chars(
     Ok(chars)
 }
 
-/// The same characters, without the room that was not used, as far as memory is there for a copy.
-pub(crate) fn trimmed(alloc: Global, chars: Chars) -> Chars
-    ensures { result.items ≡ chars.items }
-{
-    match chars.copy(alloc) {
-        Ok(exact) => exact,
-        Err(NoMemory) => chars,
-    }
-}
-
-/// A box for the entry of a call that drops characters, or notes that no memory is left.
-#[inline(never)]
-pub(crate) fn room_for_purge(alloc: Global, starved: &mut bool) -> Result<Box<Purge>, Denied>
-    ensures ok { OnOk result (starved.new ≡ starved.old) }
-    ensures err { IfErr result (λ d. (d ≡ Denied.NoMemory) × (starved.new ≡ true)) }
-{
-    let answer = Answer::Done;
-    let dropped = Chars::new(alloc);
-    match Box::new(alloc, Purge { answer, dropped }) {
-        Ok(room) => Ok(room),
-        Err(_) => Err(starve(starved)),
-    }
-}
-
-/// An answer and what was dropped with it, in a box that was made for them. It takes no memory.
-#[inline(never)]
-pub(crate) fn purge_into(mut room: Box<Purge>, answer: Answer, dropped: Chars) -> Event
-    ensures { event_of result ≡ answered (answer_of answer) dropped.items }
-{
-    *room = Purge { answer, dropped };
-    Event::Purge(room)
-}
-
 /// A copy of a call that begins to wait.
 pub(crate) fn copy_of(alloc: Global, starved: &mut bool, call: &Call) -> Result<WaitingCall, Denied>
     requires { can_wait (call_of call.now) ≡ true }
@@ -149,37 +116,33 @@ pub(crate) fn copy_of(alloc: Global, starved: &mut bool, call: &Call) -> Result<
     }
 }
 
-/// What a call needs that is answered or takes a part.
+/// What the terminal needs for a call that is answered or takes a part.
 #[inline(always)]
-fn room_for_call(alloc: Global, terminal: &mut Terminal, call: &Call) -> Result<Prepared, NoMemory>
+fn room_for_call(alloc: Global, terminal: &mut Terminal, call: &Call) -> Result<Room, NoMemory>
     ensures same { terminal.new.terminal ≡ terminal.old.terminal }
-    ensures copy { IfOk result (λ p. IsAnswerRoom terminal.new.terminal (call_of call.now) p.copy) }
-    ensures room { IfOk result (λ p. IsRoomFor terminal.new.terminal (call_of call.now) p.room) }
+    ensures room { IfOk result (λ room. IsRoomFor terminal.new.terminal (call_of call.now) room) }
     ensures wire { OnOk result (ROOM_FOR_CALL ≤ terminal.new.wire_room) }
 {
     terminal.reserve(ROOM_FOR_CALL, 0)?;
-    let copy = terminal.answer_room(alloc, call)?;
-    let room = terminal.make_room(alloc, call)?;
-    Ok(Prepared { copy, room })
+    terminal.make_room(alloc, call)
 }
 
-/// What a call needs that is answered or takes a part, or notes that no memory is left.
+/// What the terminal needs for a call that is answered or takes a part, or notes that no memory is left.
 #[inline(always)]
 pub(crate) fn prepare(
     alloc: Global,
     terminal: &mut Terminal,
     starved: &mut bool,
     call: &Call,
-) -> Result<Prepared, Denied>
+) -> Result<Room, Denied>
     ensures terminal { terminal.new.terminal ≡ terminal.old.terminal }
     ensures wire { OnOk result (ROOM_FOR_CALL ≤ terminal.new.wire_room) }
-    ensures copy { IfOk result (λ p. IsAnswerRoom terminal.new.terminal (call_of call.now) p.copy) }
-    ensures room { IfOk result (λ p. IsRoomFor terminal.new.terminal (call_of call.now) p.room) }
+    ensures room { IfOk result (λ room. IsRoomFor terminal.new.terminal (call_of call.now) room) }
     ensures ok { OnOk result (starved.new ≡ starved.old) }
     ensures err { IfErr result (λ d. (d ≡ Denied.NoMemory) × (starved.new ≡ true)) }
 {
     match room_for_call(alloc, terminal, call) {
-        Ok(made) => Ok(made),
+        Ok(room) => Ok(room),
         Err(NoMemory) => Err(starve(starved)),
     }
 }
@@ -190,9 +153,9 @@ pub(crate) fn entry_of_call(
     step: u32,
     part: u32,
     generation: u32,
-    event: Event,
-) -> Entry
-    ensures { result ≡ record { who = Caller caller; step = step; part = part; generation = generation; event = event } }
+    event: Event<'_>,
+) -> Entry<'_>
+    ensures { entry_of result ≡ record { who = Caller caller; step = step; part = part; generation = generation; event = event_of event.entry } }
 {
     Entry {
         who: Who::Caller(caller),
@@ -205,8 +168,8 @@ pub(crate) fn entry_of_call(
 
 /// An entry of a piece of a flush run.
 #[inline(always)]
-pub(crate) fn entry_of_flush(run: u32, part: u32, generation: u32, chars: Chars) -> Entry
-    ensures { result ≡ record { who = Flusher; step = run; part = part; generation = generation; event = Flush chars } }
+pub(crate) fn entry_of_flush(run: u32, part: u32, generation: u32, chars: &[Flagged]) -> Entry<'_>
+    ensures { entry_of result ≡ record { who = Flusher; step = run; part = part; generation = generation; event = flushed chars.now } }
 {
     Entry {
         who: Who::Flusher,

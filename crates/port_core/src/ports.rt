@@ -1,5 +1,5 @@
 ghost use Rattle.std.specs.Prelude.{◌≡◌, ◌↔◌, ℕ, List, Option, [], ◌∷◌, ◌++◌, Bool, true, false, ◌+◌, ◌≤◌, ◌<◌, IsTrue, IfOk, IfErr, OnOk, OnErr, length, sum};
-ghost use Rattle.tty_calls.specs.Plain.{PlainCall, entries_of, ticked, clock_ended};
+ghost use Rattle.tty_calls.specs.Plain.{PlainCall, ticked, clock_ended};
 ghost use Rattle.tty_calls.specs.declared.journals.Who.TheVariants.{Clock};
 
 pub(crate) mod attempting;
@@ -127,7 +127,7 @@ impl Port {
         ensures err { IfErr result (λ d. Denies d self.old self.new) }
     {
         self.gate()?;
-        reserve_entry(&mut self.journal, &mut self.starved)?;
+        reserve_entry(&mut self.journal, &mut self.starved, 0, 0)?;
         let entry = Entry {
             who: Who::Clock,
             step: self.terminal.phase(),
@@ -136,7 +136,7 @@ impl Port {
             event: Event::Tick,
         };
         self.terminal.raise_tick();
-        self.journal.add(entry);
+        self.journal.add(&entry);
         Ok(())
     }
 
@@ -148,7 +148,7 @@ impl Port {
         ensures err { IfErr result (λ d. Denies d self.old self.new) }
     {
         self.gate()?;
-        reserve_entry(&mut self.journal, &mut self.starved)?;
+        reserve_entry(&mut self.journal, &mut self.starved, 0, 0)?;
         let entry = Entry {
             who: Who::Clock,
             step: self.terminal.phase(),
@@ -157,7 +157,7 @@ impl Port {
             event: Event::ClockEnd,
         };
         self.terminal.end_clock();
-        self.journal.add(entry);
+        self.journal.add(&entry);
         Ok(())
     }
 
@@ -171,7 +171,7 @@ impl Port {
         ensures err { IfErr result (λ d. Denies d self.old self.new) }
     {
         self.gate()?;
-        reserve_entry(&mut self.journal, &mut self.starved)?;
+        reserve_entry(&mut self.journal, &mut self.starved, 0, 0)?;
         let entry = Entry {
             who: Who::Caller(caller),
             step: self.terminal.caller(caller).next,
@@ -180,7 +180,7 @@ impl Port {
             event: Event::CallerEnd,
         };
         self.terminal.end_caller(caller);
-        self.journal.add(entry);
+        self.journal.add(&entry);
         Ok(())
     }
 
@@ -256,7 +256,7 @@ impl Port {
     /// The journal so far. It is always a run that leads to the terminal, and its characters are those
     /// taken out of the flip buffer.
     pub fn journal(&self) -> &Journal
-        ensures entries { entries_of result.now.items ≡ self.now.journal }
+        ensures entries { result.now.items ≡ self.now.journal }
         ensures port { IsPort self.now }
     {
         &self.journal
@@ -303,7 +303,7 @@ impl Port {
     /// The journal, and what is left at the end. The journal is a run of every session that has the
     /// calls that the port kept, or at least those of its entries.
     pub fn into_journal(self) -> (Journal, PortEnd)
-        ensures journal { entries_of result.0.items ≡ self.journal }
+        ensures journal { result.0.items ≡ self.journal }
         ensures port { IsPort self }
         ensures run { (session : ℕ → ℕ → Option PlainCall) → Grows (call_in self.kept) session → IsRun session self.counts self.flip.capacity self.journal self.terminal }
         ensures agrees { (session : ℕ → ℕ → Option PlainCall) → AgreesOn (call_in self.kept) session self.journal → IsRun session self.counts self.flip.capacity self.journal self.terminal }

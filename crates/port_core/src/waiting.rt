@@ -1,13 +1,18 @@
 //! Calls that wait.
 
-ghost use Rattle.std.specs.Prelude.{◌≡◌, true, IfOk};
-ghost use Rattle.tty_calls.specs.Plain.{call_of};
+ghost use Rattle.std.specs.Prelude.{◌≡◌, ◌↔◌, ◌^◌, ◌<◌, true, IsTrue, IfOk, length};
+ghost use Rattle.tty_calls.specs.Plain.{call_of, handle_of};
+ghost use Rattle.ldisc_switch.specs.Disciplines.{column_in};
+ghost use Rattle.tty_terminal.specs.Terminals.{caller_at};
+ghost use Rattle.tty_terminal.specs.Calls.{outcome};
+ghost use Rattle.tty_terminal.specs.Steps.{MustWait};
 ghost use Rattle.port_core.specs.Inside.{call_waiting, can_wait};
 
 use std::alloc::Global;
 use tty_base::NoMemory;
 use tty_calls::{Call, When};
 use tty_modes::Word;
+use tty_terminal::Terminal;
 
 /// A call that waits, with memory of its own. Other calls than these four never do.
 #[derive(Drop)]
@@ -58,5 +63,17 @@ impl WaitingCall {
             },
             WaitingCall::Drain { h } => Call::Drain { h: *h },
         }
+    }
+
+    /// Whether the call of this caller must wait. It stands apart, since most calls that wait are reads,
+    /// and those are asked in place.
+    #[inline(never)]
+    pub(crate) fn must_wait(&self, caller: u16, terminal: &Terminal) -> bool
+        requires known { caller < length terminal.now.terminal.callers }
+        requires number { handle_of (call_waiting self.now) < 32 }
+        requires column { column_in terminal.now.terminal.disc < 2 ^ 62 }
+        ensures { IsTrue result ↔ MustWait (outcome terminal.now.terminal (caller_at terminal.now.terminal caller) (call_waiting self.now)) }
+    {
+        terminal.must_wait(caller, &self.lent())
     }
 }

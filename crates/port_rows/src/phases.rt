@@ -9,7 +9,9 @@ use many_threads::play;
 use std::alloc::Global;
 use std::test::Fail;
 use tty_base::{Buffer, Counts, Flag, Flagged, LineStep, NoMemory};
-use tty_calls::{Access, Answer, Call, Calls, Entry, Event, Phase, Script, Session, When, Who};
+use tty_calls::{
+    Access, AnswerRef, Call, Calls, Event, Journal, Phase, Script, Session, When, Who,
+};
 use tty_modes::Word;
 use tty_port::OpenGate;
 
@@ -93,26 +95,25 @@ fn three_bytes(alloc: Global) -> Result<Session, NoMemory>
 }
 
 /// The answer of a step of the caller.
-fn answer_at(entries: &[Entry], step: u32) -> Option<&Answer> {
-    for entry in entries {
+fn answer_at(journal: &Journal, step: u32) -> Option<AnswerRef<'_>> {
+    for place in 0..journal.len() {
+        let entry = journal.at(place);
         if entry.who == Who::Caller(0) && entry.step == step {
-            match &entry.event {
-                Event::Answer(answer) => return Some(answer),
-                Event::Purge(purge) => return Some(&purge.answer),
-                _ => {}
+            if let Event::Answer { answer, .. } = entry.event {
+                return Some(answer);
             }
         }
     }
     None
 }
 
-fn is_done(entries: &[Entry], step: u32) -> bool {
-    matches!(answer_at(entries, step), Some(Answer::Done))
+fn is_done(journal: &Journal, step: u32) -> bool {
+    matches!(answer_at(journal, step), Some(AnswerRef::Done))
 }
 
-fn is_got(entries: &[Entry], step: u32, wanted: &[u8]) -> bool {
-    match answer_at(entries, step) {
-        Some(Answer::Got(bytes)) => bytes.as_slice() == wanted,
+fn is_got(journal: &Journal, step: u32, wanted: &[u8]) -> bool {
+    match answer_at(journal, step) {
+        Some(AnswerRef::Got(bytes)) => bytes == wanted,
         _ => false,
     }
 }
@@ -128,11 +129,10 @@ fn three_bytes_are_read_in_the_phase_after_they_came(rt: HostRuntime) -> Result<
     ) else {
         unreachable!()
     };
-    let entries = run.journal.as_slice();
-    assert!(rt; is_done(entries, 0));
-    assert!(rt; is_done(entries, 1));
-    assert!(rt; is_got(entries, 2, b"hi\n"));
-    assert!(rt; is_done(entries, 3));
+    assert!(rt; is_done(&run.journal, 0));
+    assert!(rt; is_done(&run.journal, 1));
+    assert!(rt; is_got(&run.journal, 2, b"hi\n"));
+    assert!(rt; is_done(&run.journal, 3));
     assert_eq!(rt; run.line.arrived, 3);
     assert_eq!(rt; run.line.fifo_lost, 0);
     assert_eq!(rt; run.line.sent, 3);

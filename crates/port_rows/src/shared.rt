@@ -15,7 +15,7 @@ use std::sync::atomic::{AtomicU64, Ordering};
 use std::test::Fail;
 use std::thread::{Threads, join, yield_now};
 use tty_base::{Errno, Flag, Flagged, NoMemory, Put};
-use tty_calls::{Access, Answer, Call, Denied, Entry, Event, When, Who};
+use tty_calls::{Access, Answer, AnswerRef, Call, Denied, Event, Journal, When, Who};
 use tty_modes::Word;
 use tty_port::{Gate, OpenGate, Seat, SharedPort};
 
@@ -208,12 +208,11 @@ fn play<'a, 'c, R: Threads + Wait + Sync>(
 }
 
 /// How many steps of the caller are answered, where they are answered in their order.
-fn answered(entries: &[Entry], caller: u16) -> Option<u32> {
+fn answered(journal: &Journal, caller: u16) -> Option<u32> {
     let mut next = 0;
-    for entry in entries {
-        if entry.who == Who::Caller(caller)
-            && matches!(entry.event, Event::Answer(_) | Event::Purge(_))
-        {
+    for place in 0..journal.len() {
+        let entry = journal.at(place);
+        if entry.who == Who::Caller(caller) && matches!(entry.event, Event::Answer { .. }) {
             if entry.step != next || next > 1000 {
                 return None;
             }
@@ -228,10 +227,10 @@ fn two_callers_beside_a_flusher(rt: HostRuntime) -> Result<(), Fail> {
     let first = (&Call::Inq { h: 0 }, &Call::Outq { h: 0 });
     let second = (&Call::Inq { h: 1 }, &Call::Outq { h: 1 });
     let port = play(&rt, rt.alloc(), first, second)?;
-    let entries = port.journal().as_slice();
-    assert_eq!(rt; answered(entries, 0), Some(1001));
-    assert_eq!(rt; answered(entries, 1), Some(1001));
-    assert_eq!(rt; entries.len(), 2003);
+    let journal = port.journal();
+    assert_eq!(rt; answered(journal, 0), Some(1001));
+    assert_eq!(rt; answered(journal, 1), Some(1001));
+    assert_eq!(rt; journal.len(), 2003);
     Ok(())
 }
 
@@ -247,9 +246,9 @@ fn changes_beside_writes(rt: HostRuntime) -> Result<(), Fail> {
         &Call::SetDisc { h: 0, number: 1 },
     );
     let port = play(&rt, rt.alloc(), first, (&write, &write))?;
-    let entries = port.journal().as_slice();
-    assert_eq!(rt; answered(entries, 0), Some(1001));
-    assert_eq!(rt; answered(entries, 1), Some(1001));
+    let journal = port.journal();
+    assert_eq!(rt; answered(journal, 0), Some(1001));
+    assert_eq!(rt; answered(journal, 1), Some(1001));
     assert_eq!(rt; port.generation(), 1000);
     Ok(())
 }
@@ -434,9 +433,10 @@ fn each_seat_makes_its_entries(rt: HostRuntime) -> Result<(), Fail> {
         (Who::Caller(0), 3),
         (Who::Caller(1), 0),
     ];
-    let entries = found.port.journal().as_slice();
-    assert_eq!(rt; entries.len(), makers.len());
-    for (entry, maker) in entries.iter().zip(&makers) {
+    let journal = found.port.journal();
+    assert_eq!(rt; journal.len(), makers.len());
+    for (place, maker) in makers.iter().enumerate() {
+        let entry = journal.get(place).ok_or("no entry")?;
         assert_eq!(rt; (entry.who, entry.step), *maker);
     }
     Ok(())
@@ -571,11 +571,19 @@ fn a_read_is_answered_between_the_parts_of_a_write(rt: HostRuntime) -> Result<()
         bytes: &bytes,
     };
     let port = play_between(&rt, rt.alloc(), &write).ok_or("denied")?;
-    let entries = port.journal().as_slice();
-    assert_eq!(rt; entries.len(), 8);
-    let (part, read) = (&entries[2], &entries[3]);
+    let journal = port.journal();
+    assert_eq!(rt; journal.len(), 8);
+    let (part, read) = (journal.at(2), journal.at(3));
     assert!(rt; part.who == Who::Caller(0) && matches!(part.event, Event::Part(64)));
     assert!(rt; read.who == Who::Caller(1));
-    assert!(rt; matches!(read.event, Event::Answer(Answer::Refused(Errno::EAGAIN))));
+    assert!(rt;
+        matches!(
+            read.event,
+            Event::Answer {
+                answer: AnswerRef::Refused(Errno::EAGAIN),
+                ..
+            }
+        )
+    );
     Ok(())
 }

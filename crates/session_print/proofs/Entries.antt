@@ -1,11 +1,11 @@
 -- The lines of entries, from what their steps share.
-use Rattle.std.proofs.Common.{◌≡◌, ℕ, List, [], ◌∷◌, ◌++◌, ◌+◌, ◌%◌, ◌<◌, ◌^◌, codes, cond, decimal, drop, flat_map, get_or, is_ok, length, Result, OnOk, sym, ap, ◌∙◌, arith, append_assoc}
+use Rattle.std.proofs.Common.{◌≡◌, ℕ, List, [], ◌∷◌, ◌++◌, ◌+◌, ◌%◌, ◌<◌, ◌^◌, codes, cond, decimal, drop, flat_map, is_ok, slice_get, Some, Result, OnOk, sym, ap, ◌∙◌, arith, append_assoc}
 use Rattle.std.proofs.lemmas.Fmt.{decimal_digit}
+use Rattle.std.proofs.lemmas.Option.{get_or_from_slice_get, slice_get_within}
 use Rattle.std.proofs.lemmas.Str.{IsUtf8-from_ascii}
 use Rattle.std.proofs.lemmas.Str.Ascii.{IsAscii-nil, IsAscii-cons}
 use Rattle.std.specs.Str.{IsUtf8}
-use Rattle.tty_calls.specs.declared.journals.Entry.{Entry}
-use Rattle.tty_calls.specs.Plain.{PlainEntry, entry_of, entries_of}
+use Rattle.tty_calls.specs.Plain.{PlainEntry}
 use Rattle.session_print.specs.Journals.{entry_line, event_text, who_text}
 use Rattle.session_print.specs.Lines.{newline}
 use Rattle.session_print.specs.Printing.{entry_front, entry_rest, places_text, tens}
@@ -62,12 +62,12 @@ line_is names e small =
     ∙ ap (λ xs. who ++ (codes " " ++ (decimal e.step ++ xs))) (places_before e.part e.generation end)
 
 -- the line of one more entry
-pub entry_more : (first text new head : List ℕ) (names : List (List ℕ)) (es : List Entry) (i : ℕ) (e : Entry) → i < length es → e ≡ get_or es i e → e.step < 2 ^ 64 → head ≡ entry_front names e.who e.step
-    → new ≡ text ++ (head ++ entry_rest (entry_of e)) → text ++ flat_map (entry_line names) (entries_of (drop i es)) ≡ first
-    → new ++ flat_map (entry_line names) (entries_of (drop (i + 1) es)) ≡ first
-entry_more first text new head names es i e within at small front put left =
-    let rest : List ℕ = flat_map (entry_line names) (entries_of (drop (i + 1) es)) in
-    ap (λ xs. xs ++ rest) (put ∙ ap (λ xs. text ++ (xs ++ entry_rest (entry_of e))) front ∙ ap (λ xs. text ++ xs) (line_is names (entry_of e) small))
-    ∙ append_assoc text (entry_line names (entry_of e)) rest
-    ∙ ap (λ xs. text ++ flat_map (entry_line names) (entries_of xs)) (sym (next_item es i e within at))
+pub entry_more : (first text new head : List ℕ) (names : List (List ℕ)) (es : List PlainEntry) (i : ℕ) (e : PlainEntry) → slice_get es i ≡ Some e → e.step < 2 ^ 64 → head ≡ entry_front names e.who e.step
+    → new ≡ text ++ (head ++ entry_rest e) → text ++ flat_map (entry_line names) (drop i es) ≡ first
+    → new ++ flat_map (entry_line names) (drop (i + 1) es) ≡ first
+entry_more first text new head names es i e at small front put left =
+    let rest : List ℕ = flat_map (entry_line names) (drop (i + 1) es) in
+    ap (λ xs. xs ++ rest) (put ∙ ap (λ xs. text ++ (xs ++ entry_rest e)) front ∙ ap (λ xs. text ++ xs) (line_is names e small))
+    ∙ append_assoc text (entry_line names e) rest
+    ∙ ap (λ xs. text ++ flat_map (entry_line names) xs) (sym (next_item es i e (slice_get_within es i e at) (sym (get_or_from_slice_get es i e e at))))
     ∙ left

@@ -9,7 +9,7 @@ use Rattle.tty_base.specs.declared.lines.Overrun.{Overrun}
 use Rattle.tty_calls.specs.declared.journals.Who.{Who}
 use Rattle.tty_calls.specs.declared.journals.Who.TheVariants.{Caller, Flusher, Line, Clock, Session}
 use Rattle.tty_calls.specs.declared.journals.PortRun.{PortRun}
-use Rattle.tty_calls.specs.Plain.{PlainEvent, answered, parted, waited, flushed, ticked, line_ended, clock_ended, caller_ended, phase_ended, hung_up, PlainEntry, entries_of}
+use Rattle.tty_calls.specs.Plain.{PlainEvent, answered, parted, waited, flushed, ticked, line_ended, clock_ended, caller_ended, phase_ended, hung_up, PlainEntry}
 use Rattle.tty_calls.specs.Sessions.{PlainSession, scripts_over, names_of}
 use Rattle.session_print.specs.Words.{answer_text}
 use Rattle.session_print.specs.Lines.{newline}
@@ -74,7 +74,7 @@ line_numbers p r =
 abbrev pub journal_on : ℕ → PlainSession → PortRun → List ℕ
 journal_on p session run =
     heading (codes "journal") p (length run.journal.items)
-    ++ (flat_map (entry_line (names_of (scripts_over p session.phases))) (entries_of run.journal.items)
+    ++ (flat_map (entry_line (names_of (scripts_over p session.phases))) run.journal.items
     ++ (heading (codes "overruns") p (length run.line.overruns.items)
     ++ (flat_map overrun_line run.line.overruns.items ++ line_numbers p run.line)))
 

@@ -2,7 +2,7 @@
 use Rattle.std.specs.Prelude.{◌≡◌, ℕ, List, Some, flat_map, slice_get}
 use Rattle.std.specs.List.{AllZip, concat}
 use Rattle.tty_calls.specs.declared.journals.PortRun.{PortRun}
-use Rattle.tty_calls.specs.Plain.{PlainCall, PlainAnswer, PlainEntry, entries_of}
+use Rattle.tty_calls.specs.Plain.{PlainCall, PlainAnswer, PlainEntry}
 use Rattle.tty_calls.specs.Sessions.{PlainSession, scripts_over, names_of, call_at}
 use Rattle.session_print.specs.Lines.{call_line}
 use Rattle.session_print.specs.Report.{answer_in, calls_text}
@@ -25,6 +25,6 @@ pub record IsLineOf (p : ℕ) (session : PlainSession) (es : List PlainEntry) (c
 -- the lines of a port's calls: one for each, in the text's order
 abbrev pub TellsEachCall : Type 0
 TellsEachCall =
-    (p : ℕ) (session : PlainSession) (run : PortRun) → AnswersEvery p session (entries_of run.journal.items)
+    (p : ℕ) (session : PlainSession) (run : PortRun) → AnswersEvery p session run.journal.items
     → (lines : List (List ℕ)) × (calls_text p session run ≡ concat lines)
-    × AllZip (IsLineOf p session (entries_of run.journal.items)) (flat_map (λ script. script.calls) (scripts_over p session.phases)) lines
+    × AllZip (IsLineOf p session run.journal.items) (flat_map (λ script. script.calls) (scripts_over p session.phases)) lines

@@ -5,7 +5,7 @@ use Rattle.tty_base.specs.declared.lines.LineReport.{LineReport}
 use Rattle.tty_base.specs.declared.counters.Counts.{Counts}
 use Rattle.tty_base.specs.declared.counters.Signal.{Signal}
 use Rattle.tty_calls.specs.declared.journals.PortRun.{PortRun}
-use Rattle.tty_calls.specs.Plain.{PlainCall, PlainAnswer, PlainEvent, answered, parted, waited, flushed, ticked, line_ended, clock_ended, caller_ended, phase_ended, hung_up, PlainEntry, entries_of}
+use Rattle.tty_calls.specs.Plain.{PlainCall, PlainAnswer, PlainEvent, answered, parted, waited, flushed, ticked, line_ended, clock_ended, caller_ended, phase_ended, hung_up, PlainEntry}
 use Rattle.tty_calls.specs.Sessions.{PlainSession}
 use Rattle.session_print.specs.Ends.{PlainEnd}
 use Rattle.session_print.specs.Words.{verb_of, answer_text, counts_text, signal_name}
@@ -85,5 +85,5 @@ wire_line p wire = codes "port " ++ (decimal p ++ (codes " wire " ++ (wire_text 
 -- what a report says of a port, after all calls
 abbrev pub port_text : PlainSession → ℕ → PortRun → PlainEnd → List ℕ
 port_text session p run end =
-    line_line session p run.line ++ (input_line p (entries_of run.journal.items) ++ (counts_line p end.counts
+    line_line session p run.line ++ (input_line p run.journal.items ++ (counts_line p end.counts
     ++ (signals_line p end.signals ++ (generation_line p end.generation ++ wire_line p end.wire))))

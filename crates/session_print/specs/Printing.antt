@@ -6,11 +6,10 @@ use Rattle.tty_modes.specs.Names.{flag_names}
 use Rattle.tty_modes.specs.Settings.{Settings, has_flag, character}
 use Rattle.tty_modes.specs.Word.{word_text}
 use Rattle.tty_modes.specs.declared.words.Word.TheVariants.{Cc}
-use Rattle.tty_calls.specs.declared.journals.Entry.{Entry}
 use Rattle.tty_calls.specs.declared.journals.PortRun.{PortRun}
 use Rattle.tty_calls.specs.declared.journals.Who.{Who}
 use Rattle.tty_calls.specs.declared.sessions.Script.{Script}
-use Rattle.tty_calls.specs.Plain.{PlainCall, PlainAnswer, PlainEntry, event_of, entries_of}
+use Rattle.tty_calls.specs.Plain.{PlainCall, PlainAnswer, PlainEntry}
 use Rattle.tty_calls.specs.Sessions.{PlainScript, script_of, number_in}
 use Rattle.session_print.specs.Words.{verb_of, answer_text}
 use Rattle.session_print.specs.Journals.{event_text, who_text}
@@ -52,15 +51,15 @@ abbrev pub place_in : Places → ℕ → ℕ → ℕ
 place_in places c step = place_on (slice_index_or (map (λ row. stretches_of row.items) places.rows.items) c []) step
 
 -- the entry at a place of a journal, and what it answers
-abbrev pub entry_at : List Entry → ℕ → Option Entry
+abbrev pub entry_at : List PlainEntry → ℕ → Option PlainEntry
 entry_at es place = if place == 0 then None else slice_get es (place - 1)
 
-abbrev pub answer_at : List Entry → ℕ → Option PlainAnswer
-answer_at es place = option_and_then (λ e. answer_of_event (event_of e.event)) (entry_at es place)
+abbrev pub answer_at : List PlainEntry → ℕ → Option PlainAnswer
+answer_at es place = option_and_then (λ e. answer_of_event e.event) (entry_at es place)
 
 -- the answer to a caller's step
 abbrev pub noted_answer : Answers → ℕ → ℕ → Option PlainAnswer
-noted_answer answers c step = answer_at answers.entries.now (place_in answers.places c step)
+noted_answer answers c step = answer_at answers.journal.now.items (place_in answers.places c step)
 
 -- what an entry answers to a caller's step, where it answers this turn
 abbrev pub entry_answer : Option Turn → PlainEntry → ℕ → ℕ → Option PlainAnswer
@@ -72,7 +71,7 @@ abbrev pub sums_of : List PlainEntry → Sums
 sums_of es = record { flushed = flushed_count es; dropped = dropped_count es }
 
 abbrev pub sums_on : PortRun → Sums
-sums_on run = sums_of (entries_of run.journal.items)
+sums_on run = sums_of run.journal.items
 
 abbrev pub sums_line : ℕ → Sums → List ℕ
 sums_line p sums =

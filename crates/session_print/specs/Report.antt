@@ -2,7 +2,7 @@
 use Rattle.std.specs.Prelude.{ℕ, List, [], ◌∷◌, ◌++◌, ◌+◌, ◌==◌, ◌&&◌, Bool, false, Option, None, Some, if◌then◌else◌, length, flat_map, codes}
 use Rattle.std.specs.Option.{option_or}
 use Rattle.tty_calls.specs.declared.journals.PortRun.{PortRun}
-use Rattle.tty_calls.specs.Plain.{PlainCall, PlainAnswer, PlainEvent, answered, parted, waited, flushed, ticked, line_ended, clock_ended, caller_ended, phase_ended, hung_up, PlainEntry, entries_of, is_caller}
+use Rattle.tty_calls.specs.Plain.{PlainCall, PlainAnswer, PlainEvent, answered, parted, waited, flushed, ticked, line_ended, clock_ended, caller_ended, phase_ended, hung_up, PlainEntry, is_caller}
 use Rattle.tty_calls.specs.Sessions.{PlainScript, PlainSession, scripts_over, names_of, number_in, calls_under}
 use Rattle.session_print.specs.Lines.{call_line, port_text, newline}
 use Rattle.session_print.specs.Ends.{PlainEnd}
@@ -66,7 +66,7 @@ told_line p answers t = answered_line p t (answer_to answers t.caller t.step)
 
 -- the lines of the calls of a port
 abbrev pub calls_text : ℕ → PlainSession → PortRun → List ℕ
-calls_text p session run = flat_map (told_line p (answer_in (entries_of run.journal.items))) (told_on p session)
+calls_text p session run = flat_map (told_line p (answer_in run.journal.items)) (told_on p session)
 
 -- the lines of the calls of all ports, from this port on; there is one run for each port
 abbrev pub calls_from : ℕ → PlainSession → List PortRun → List ℕ

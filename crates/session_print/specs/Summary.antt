@@ -1,7 +1,7 @@
 -- The summary of a session that a number gives: what is counted over all its ports.
 use Rattle.std.specs.Prelude.{ℕ, sum_by, List, ◌++◌, codes, decimal, length}
 use Rattle.tty_calls.specs.declared.journals.PortRun.{PortRun}
-use Rattle.tty_calls.specs.Plain.{PlainAnswer, done, count_is, got, number_is, modes_are, counts_are, refused, idle, PlainEvent, answered, parted, waited, flushed, ticked, line_ended, clock_ended, caller_ended, phase_ended, hung_up, PlainEntry, entries_of}
+use Rattle.tty_calls.specs.Plain.{PlainAnswer, done, count_is, got, number_is, modes_are, counts_are, refused, idle, PlainEvent, answered, parted, waited, flushed, ticked, line_ended, clock_ended, caller_ended, phase_ended, hung_up, PlainEntry}
 use Rattle.tty_calls.specs.Limits.{call_count}
 use Rattle.tty_calls.specs.Sessions.{PlainSession}
 use Rattle.session_print.specs.Ends.{PlainEnd}
@@ -39,10 +39,10 @@ abbrev pub all_arrived : List PortRun → ℕ
 all_arrived runs = sum_by (λ run. run.line.arrived) runs
 
 abbrev pub all_flushed : List PortRun → ℕ
-all_flushed runs = sum_by (λ run. flushed_count (entries_of run.journal.items)) runs
+all_flushed runs = sum_by (λ run. flushed_count run.journal.items) runs
 
 abbrev pub all_got : List PortRun → ℕ
-all_got runs = sum_by (λ run. got_count (entries_of run.journal.items)) runs
+all_got runs = sum_by (λ run. got_count run.journal.items) runs
 
 abbrev pub all_generations : List PlainEnd → ℕ
 all_generations ends = sum_by (λ end. end.generation) ends

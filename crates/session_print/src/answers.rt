@@ -1,6 +1,6 @@
 ghost use Rattle.std.specs.Prelude.{◌≡◌, ℕ, IfOk, IfSome, IsSome};
 ghost use Rattle.std.specs.Option.{option_map};
-ghost use Rattle.tty_calls.specs.Plain.{answer_of, entry_of, event_of, entries_of};
+ghost use Rattle.tty_calls.specs.Plain.{answer_lent, entry_of, event_of};
 ghost use Rattle.session_print.specs.Report.{answer_in, answer_by, answer_of_event};
 ghost use Rattle.session_print.specs.Printing.{noted_answer, entry_answer, sums_of};
 
@@ -8,22 +8,23 @@ use super::places::{Places, Turn, entry_at};
 use super::sums::Sums;
 use std::alloc::Global;
 use tty_base::NoMemory;
-use tty_calls::{Answer, Entry, Event, Who};
+use tty_calls::{AnswerRef, Entry, Event, Journal, Who};
 
-/// The answers of a journal: its entries, and for each turn the place of the entry that answers it.
+/// The answers of a journal: the journal, and for each turn the place of the entry that answers it.
 #[derive(Drop)]
 pub(crate) struct Answers<'a> {
-    entries: &'a [Entry],
+    journal: &'a Journal,
     places: Places,
 }
 
 impl<'a> Answers<'a> {
     /// The answer to a turn.
     #[inline(always)]
-    pub(crate) fn get(&self, turn: Turn) -> Option<&'a Answer>
-        ensures { option_map (λ a. answer_of a.now) result ≡ noted_answer self.now turn.caller turn.step }
+    pub(crate) fn get(&self, turn: Turn) -> Option<AnswerRef<'a>>
+        ensures { option_map answer_lent result ≡ noted_answer self.now turn.caller turn.step }
     {
-        let entry = entry_at(self.entries, self.places.get(turn))?;
+        let journal = self.journal;
+        let entry = entry_at(journal, self.places.get(turn))?;
         answer_to(&entry.event)
     }
 }
@@ -37,11 +38,11 @@ pub(crate) struct Walked<'a> {
 
 /// Walks over a journal. It is large, and is waited for: so it is walked once for all that a report
 /// says of it. More entries than can be counted are want of memory.
-pub(crate) fn walk(alloc: Global, entries: &[Entry]) -> Result<Walked<'_>, NoMemory>
-    ensures answers { IfOk result (λ walked. (c step : ℕ) → noted_answer walked.answers c step ≡ answer_in (entries_of entries.now) c step) }
-    ensures sums { IfOk result (λ walked. walked.sums ≡ sums_of (entries_of entries.now)) }
+pub(crate) fn walk(alloc: Global, journal: &Journal) -> Result<Walked<'_>, NoMemory>
+    ensures answers { IfOk result (λ walked. (c step : ℕ) → noted_answer walked.answers c step ≡ answer_in journal.now.items c step) }
+    ensures sums { IfOk result (λ walked. walked.sums ≡ sums_of journal.now.items) }
 {
-    if entries.len() > u32::MAX as usize {
+    if journal.len() > u32::MAX as usize {
         return Err(NoMemory);
     }
     let mut places = Places::new(alloc);
@@ -49,13 +50,14 @@ pub(crate) fn walk(alloc: Global, entries: &[Entry]) -> Result<Walked<'_>, NoMem
         flushed: 0,
         dropped: 0,
     };
-    for (index, entry) in entries.iter().enumerate() {
+    for index in 0..journal.len() {
+        let entry = journal.at(index);
         sums.add(&entry.event)?;
-        if let Some(turn) = turn_of(entry) {
+        if let Some(turn) = turn_of(&entry) {
             places.note(alloc, turn, index as u32 + 1)?;
         }
     }
-    let answers = Answers { entries, places };
+    let answers = Answers { journal, places };
     Ok(Walked { answers, sums })
 }
 
@@ -77,12 +79,11 @@ fn turn_of(entry: &Entry) -> Option<Turn>
 
 /// The answer that an event gives.
 #[inline(always)]
-fn answer_to(event: &Event) -> Option<&Answer>
-    ensures { option_map (λ a. answer_of a.now) result ≡ answer_of_event (event_of event.now) }
+fn answer_to<'a>(event: &Event<'a>) -> Option<AnswerRef<'a>>
+    ensures { option_map answer_lent result ≡ answer_of_event (event_of event.now) }
 {
-    match event {
-        Event::Answer(answer) => Some(answer),
-        Event::Purge(purge) => Some(&purge.answer),
+    match *event {
+        Event::Answer { answer, .. } => Some(answer),
         _ => None,
     }
 }

@@ -1,5 +1,5 @@
 ghost use Rattle.std.specs.Prelude.{◌≡◌, ◌++◌, ◌+◌, ◌<◌, ◌^◌, Some, IfOk, OnOk, flat_map, length, string_bytes};
-ghost use Rattle.tty_calls.specs.Plain.{call_of, answer_of};
+ghost use Rattle.tty_calls.specs.Plain.{call_of, answer_lent};
 ghost use Rattle.tty_calls.specs.Sessions.{script_of, number_in, session_of};
 ghost use Rattle.session_print.specs.Report.{calls_text, told_line, told_from};
 ghost use Rattle.session_print.specs.Printing.{sums_on, call_head, call_rest, tens, noted_answer, scripts_for, told_script, steps_then, told_scripts, steps_after};
@@ -11,7 +11,7 @@ use super::sums::Sums;
 use super::words::{put_answer, verb_of};
 use std::alloc::{AllocError, Global};
 use tty_base::NoMemory;
-use tty_calls::{Answer, Call, Calls, Names, PortRun, Script, Session};
+use tty_calls::{AnswerRef, Call, Calls, Names, PortRun, Script, Session};
 
 /// Adds a line for each call of a port that its journal answers, script by script, and gives the sums of
 /// the journal.
@@ -26,7 +26,7 @@ pub(crate) fn put_calls(
     ensures sums { IfOk result (λ sums. sums ≡ sums_on run.now) }
 {
     let names = Names::on_port(alloc, session, port)?;
-    let Walked { answers, sums } = walk(alloc, run.journal.as_slice())?;
+    let Walked { answers, sums } = walk(alloc, &run.journal)?;
     let teller = Teller {
         port,
         names,
@@ -109,7 +109,7 @@ impl Teller<'_> {
         let mut turn = first;
         for place in 0..calls.len() {
             if let Some(answer) = self.answers.get(turn) {
-                head.put_call(text, turn.step, &calls.at(place), answer)?;
+                head.put_call(text, turn.step, &calls.at(place), &answer)?;
             }
             head.pass(turn.step)?;
             turn.step += 1;
@@ -159,10 +159,10 @@ impl Head {
         text: &mut String,
         step: usize,
         call: &Call,
-        answer: &Answer,
+        answer: &AnswerRef,
     ) -> Result<(), AllocError>
         requires { string_bytes self.now.shared ≡ string_bytes self.now.front ++ tens step }
-        ensures { OnOk result (string_bytes text.new ≡ string_bytes text.old ++ (string_bytes self.now.front ++ call_rest step (call_of call.now) (answer_of answer.now))) }
+        ensures { OnOk result (string_bytes text.new ≡ string_bytes text.old ++ (string_bytes self.now.front ++ call_rest step (call_of call.now) (answer_lent answer.now))) }
     {
         put_call(text, self.shared.as_str(), step as u64 % 10, call, answer)
     }
@@ -194,10 +194,10 @@ fn put_call(
     head: &str,
     digit: u64,
     call: &Call,
-    answer: &Answer,
+    answer: &AnswerRef,
 ) -> Result<(), AllocError>
     requires { digit < 10 }
-    ensures { OnOk result (string_bytes text.new ≡ string_bytes text.old ++ (head.now ++ call_rest digit (call_of call.now) (answer_of answer.now))) }
+    ensures { OnOk result (string_bytes text.new ≡ string_bytes text.old ++ (head.now ++ call_rest digit (call_of call.now) (answer_lent answer.now))) }
 {
     text.push_str(head)?;
     text.push_str(digit_text(digit))?;

@@ -1,6 +1,6 @@
 ghost use Rattle.std.specs.Prelude.{◌≡◌, ◌++◌, IfOk, OnOk, decimal, flat_map, string_bytes};
 ghost use Rattle.tty_base.specs.declared.characters.Flagged.{Flagged};
-ghost use Rattle.tty_calls.specs.Plain.{answer_of, answered, entry_of, event_of, entries_of};
+ghost use Rattle.tty_calls.specs.Plain.{answer_lent, answered, entry_of, event_of};
 ghost use Rattle.tty_calls.specs.Sessions.{session_of};
 ghost use Rattle.session_print.specs.Journals.{journals_text, journal_on, heading, entry_line, event_text, chars_text, beside_text, overrun_line, line_numbers};
 ghost use Rattle.session_print.specs.Lines.{newline};
@@ -13,7 +13,7 @@ use super::parts::put_places;
 use super::words::put_answer;
 use std::alloc::{AllocError, Global};
 use tty_base::{Bytes, Flagged, LineReport, NoMemory, Overrun};
-use tty_calls::{Answer, Entry, Event, Names, PortRun, Purge, Session};
+use tty_calls::{AnswerRef, Entry, Event, Journal, Names, PortRun, Session};
 
 /// The journals of a session's ports: for each port, of which there is one run each, its entries, its
 /// overruns, and the numbers of its line.
@@ -52,7 +52,7 @@ fn put_journal(
 {
     let names = Names::on_port(alloc, session, port)?;
     put_heading(text, "journal", port, run.journal.len())?;
-    put_entries(text, &names, run.journal.as_slice())?;
+    put_entries(text, &names, &run.journal)?;
     put_heading(text, "overruns", port, run.line.overruns.len())?;
     put_overruns(text, run.line.overruns.as_slice())?;
     put_line_numbers(text, port, &run.line)?;
@@ -65,13 +65,14 @@ fn put_heading(text: &mut String, word: &str, port: usize, lines: usize) -> Resu
     write!(text, "{word} {port} {lines}\n")
 }
 
-fn put_entries(text: &mut String, names: &Names, entries: &[Entry]) -> Result<(), AllocError>
-    ensures { OnOk result (string_bytes text.new ≡ string_bytes text.old ++ flat_map (entry_line names.now) (entries_of entries.now)) }
+fn put_entries(text: &mut String, names: &Names, journal: &Journal) -> Result<(), AllocError>
+    ensures { OnOk result (string_bytes text.new ≡ string_bytes text.old ++ flat_map (entry_line names.now) journal.now.items) }
 {
     let mut front = Front::new(*text.allocator(), names)?;
-    for entry in entries {
+    for place in 0..journal.len() {
+        let entry = journal.at(place);
         front.turn_to(names, entry.who, entry.step)?;
-        put_entry(text, front.as_str(), entry)?;
+        put_entry(text, front.as_str(), &entry)?;
     }
     Ok(())
 }
@@ -92,23 +93,22 @@ fn put_entry(text: &mut String, head: &str, entry: &Entry) -> Result<(), AllocEr
 fn put_event(text: &mut String, event: &Event) -> Result<(), AllocError>
     ensures { OnOk result (string_bytes text.new ≡ string_bytes text.old ++ (event_text (event_of event.now) ++ newline)) }
 {
-    match event {
-        Event::Answer(answer) => put_answered(text, answer, &[]),
-        Event::Purge(purge) => put_purge(text, purge),
-        Event::Part(taken) => put_counted(text, "part ", u64::from(*taken)),
+    match *event {
+        Event::Answer { answer, dropped } => put_answered(text, &answer, dropped),
+        Event::Part(taken) => put_counted(text, "part ", u64::from(taken)),
         Event::Wait => text.push_str("wait\n"),
         Event::Flush(characters) => {
             text.push_str("flush ")?;
-            put_characters(text, characters.as_slice())
+            put_characters(text, characters)
         }
         Event::Tick => text.push_str("tick\n"),
-        Event::LineEnd(sent) => put_counted(text, "line_end ", *sent),
+        Event::LineEnd(sent) => put_counted(text, "line_end ", sent),
         Event::ClockEnd => text.push_str("clock_end\n"),
         Event::CallerEnd => text.push_str("caller_end\n"),
         Event::PhaseEnd => text.push_str("phase_end\n"),
         Event::Hangup(dropped) => {
             text.push_str("hangup ")?;
-            put_characters(text, dropped.as_slice())
+            put_characters(text, dropped)
         }
     }
 }
@@ -123,18 +123,14 @@ fn put_counted(text: &mut String, word: &str, number: u64) -> Result<(), AllocEr
     text.push_str("\n")
 }
 
-/// Adds an answer with what was dropped. It stands apart, since few calls drop any.
-#[inline(never)]
-fn put_purge(text: &mut String, purge: &Purge) -> Result<(), AllocError>
-    ensures { OnOk result (string_bytes text.new ≡ string_bytes text.old ++ (event_text (answered (answer_of purge.now.answer) purge.now.dropped.items) ++ newline)) }
-{
-    put_answered(text, &purge.answer, purge.dropped.as_slice())
-}
-
 /// Adds an answer, the characters that were dropped with it, and the end of the line.
 #[inline(always)]
-fn put_answered(text: &mut String, answer: &Answer, dropped: &[Flagged]) -> Result<(), AllocError>
-    ensures { OnOk result (string_bytes text.new ≡ string_bytes text.old ++ (event_text (answered (answer_of answer.now) dropped.now) ++ newline)) }
+fn put_answered(
+    text: &mut String,
+    answer: &AnswerRef,
+    dropped: &[Flagged],
+) -> Result<(), AllocError>
+    ensures { OnOk result (string_bytes text.new ≡ string_bytes text.old ++ (event_text (answered (answer_lent answer.now) dropped.now) ++ newline)) }
 {
     text.push_str("answer ")?;
     put_answer(text, answer)?;

@@ -1,9 +1,10 @@
 ghost use Rattle.std.specs.Prelude.{◌≡◌, ℕ, ◌<◌, OnOk, if◌then◌else◌, ◌==◌, slice_index, slice_index_or};
 ghost use Rattle.std.specs.Option.{option_map};
+ghost use Rattle.tty_calls.specs.Plain.{entry_of};
 ghost use Rattle.session_print.specs.Printing.{same_turn, stretch_of, stretches_of, no_stretch, place_at, place_on as place_by_row, place_in, entry_at as entry_by_place};
 
 use std::alloc::{AllocError, Global};
-use tty_calls::Entry;
+use tty_calls::{Entry, Journal};
 
 /// How many steps a stretch has.
 const STEPS: usize = 64;
@@ -18,13 +19,13 @@ pub(crate) struct Turn {
 /// The entry at a place of a journal. A place is how many entries there are up to it, with its own; at
 /// 0 there is none.
 #[inline(always)]
-pub(crate) fn entry_at(entries: &[Entry], place: usize) -> Option<&Entry>
-    ensures { option_map (λ e. e.now) result ≡ entry_by_place entries.now place }
+pub(crate) fn entry_at(journal: &Journal, place: usize) -> Option<Entry<'_>>
+    ensures { option_map entry_of result ≡ entry_by_place journal.now.items place }
 {
     if place == 0 {
         return None;
     }
-    entries.get(place - 1)
+    journal.get(place - 1)
 }
 
 /// Places in a journal: for each caller a row, with a stretch for each 64 steps. Of a run these are no

@@ -1,6 +1,6 @@
 ghost use Rattle.std.specs.Prelude.{◌≡◌, IfOk, map, sum_by, length};
 ghost use Rattle.tty_calls.specs.Limits.{call_count};
-ghost use Rattle.tty_calls.specs.Plain.{answer_of, entry_of, entries_of};
+ghost use Rattle.tty_calls.specs.Plain.{answer_lent, event_of};
 ghost use Rattle.tty_calls.specs.Sessions.{script_of, phase_of, session_of};
 ghost use Rattle.session_print.specs.Ends.{end_of};
 ghost use Rattle.session_print.specs.Lines.{flushed_count};
@@ -9,7 +9,7 @@ ghost use Rattle.session_print.specs.Summary.{summary_text, all_arrived, all_flu
 use super::sums::flushed_in;
 use std::alloc::Global;
 use tty_base::{Bytes, NoMemory};
-use tty_calls::{Answer, Entry, Event, Phase, PortEnd, PortRun, Script, Session};
+use tty_calls::{AnswerRef, Event, Journal, Phase, PortEnd, PortRun, Script, Session};
 
 /// The summary of a session that a number gives: its calls, the characters that arrived and that were
 /// flushed, the bytes that reads were answered, and the generations, over all ports. There is one run,
@@ -86,7 +86,7 @@ fn handed_on(runs: &[PortRun]) -> Result<Handed, NoMemory>
     let mut flushed = 0u64;
     let mut got = 0u64;
     for run in runs {
-        let more = handed_in(run.journal.as_slice())?;
+        let more = handed_in(&run.journal)?;
         flushed = flushed.checked_add(more.flushed).ok_or(NoMemory)?;
         got = got.checked_add(more.got).ok_or(NoMemory)?;
     }
@@ -94,35 +94,35 @@ fn handed_on(runs: &[PortRun]) -> Result<Handed, NoMemory>
 }
 
 /// What a journal flushes and answers, counted in one walk.
-fn handed_in(entries: &[Entry]) -> Result<Handed, NoMemory>
-    ensures flushed { IfOk result (λ handed. handed.flushed ≡ flushed_count (entries_of entries.now)) }
-    ensures got { IfOk result (λ handed. handed.got ≡ got_count (entries_of entries.now)) }
+fn handed_in(journal: &Journal) -> Result<Handed, NoMemory>
+    ensures flushed { IfOk result (λ handed. handed.flushed ≡ flushed_count journal.now.items) }
+    ensures got { IfOk result (λ handed. handed.got ≡ got_count journal.now.items) }
 {
     let mut flushed = 0u64;
     let mut got = 0u64;
-    for entry in entries {
+    for place in 0..journal.len() {
+        let entry = journal.at(place);
         let more = flushed_in(&entry.event);
         flushed = flushed.checked_add(more).ok_or(NoMemory)?;
-        got = got.checked_add(got_in(entry)).ok_or(NoMemory)?;
+        got = got.checked_add(got_in(&entry.event)).ok_or(NoMemory)?;
     }
     Ok(Handed { flushed, got })
 }
 
-fn got_in(entry: &Entry) -> u64
-    ensures { result ≡ got_by_event (entry_of entry.now).event }
+fn got_in(event: &Event) -> u64
+    ensures { result ≡ got_by_event (event_of event.now) }
 {
-    match &entry.event {
-        Event::Answer(answer) => got_by(answer),
-        Event::Purge(purge) => got_by(&purge.answer),
+    match event {
+        Event::Answer { answer, .. } => got_by(answer),
         _ => 0,
     }
 }
 
-fn got_by(answer: &Answer) -> u64
-    ensures { result ≡ got_by_answer (answer_of answer.now) }
+fn got_by(answer: &AnswerRef) -> u64
+    ensures { result ≡ got_by_answer (answer_lent answer.now) }
 {
     match answer {
-        Answer::Got(bytes) => bytes.len() as u64,
+        AnswerRef::Got(bytes) => bytes.len() as u64,
         _ => 0,
     }
 }

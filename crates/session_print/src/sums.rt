@@ -1,8 +1,8 @@
-ghost use Rattle.std.specs.Prelude.{◌≡◌, ◌+◌, OnOk};
+ghost use Rattle.std.specs.Prelude.{◌≡◌, ◌+◌, IfOk, OnOk, length};
 ghost use Rattle.tty_calls.specs.Plain.{event_of};
 ghost use Rattle.session_print.specs.Lines.{flushed_in as flushed_by, dropped_in as dropped_by};
 
-use tty_base::NoMemory;
+use tty_base::{Flagged, NoMemory};
 use tty_calls::Event;
 
 /// How many characters a journal flushes, and how many were dropped beside its answers and at its
@@ -21,10 +21,12 @@ impl Sums {
         ensures flushed { OnOk result (self.new.flushed ≡ self.old.flushed + flushed_by (event_of event.now)) }
         ensures dropped { OnOk result (self.new.dropped ≡ self.old.dropped + dropped_by (event_of event.now)) }
     {
-        let flushed = flushed_in(event);
-        self.flushed = self.flushed.checked_add(flushed).ok_or(NoMemory)?;
-        let dropped = dropped_in(event);
-        self.dropped = self.dropped.checked_add(dropped).ok_or(NoMemory)?;
+        match event {
+            Event::Answer { dropped, .. } => self.dropped = with_more(self.dropped, dropped)?,
+            Event::Flush(characters) => self.flushed = with_more(self.flushed, characters)?,
+            Event::Hangup(dropped) => self.dropped = with_more(self.dropped, dropped)?,
+            _ => {}
+        }
         Ok(())
     }
 }
@@ -40,14 +42,10 @@ pub(crate) fn flushed_in(event: &Event) -> u64
     }
 }
 
-/// How many characters are dropped with an event.
+/// A sum with so many characters more.
 #[inline(always)]
-fn dropped_in(event: &Event) -> u64
-    ensures { result ≡ dropped_by (event_of event.now) }
+fn with_more(sum: u64, characters: &[Flagged]) -> Result<u64, NoMemory>
+    ensures { IfOk result (λ more. more ≡ sum + length characters.now) }
 {
-    match event {
-        Event::Purge(purge) => purge.dropped.len() as u64,
-        Event::Hangup(characters) => characters.len() as u64,
-        _ => 0,
-    }
+    sum.checked_add(characters.len() as u64).ok_or(NoMemory)
 }

@@ -71,7 +71,7 @@ pub fn answer_text(alloc: Global, answer: &Answer) -> Result<Bytes, NoMemory>
     ensures { IfOk result (λ text. text.items ≡ text_of_answer (answer_of answer.now)) }
 {
     let mut text = String::new(alloc);
-    put_answer(&mut text, answer)?;
+    put_answer(&mut text, &answer.lent())?;
     Ok(Bytes::from_vec(text.into_bytes()))
 }
 

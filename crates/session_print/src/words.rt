@@ -1,27 +1,27 @@
 ghost use Rattle.std.specs.Prelude.{◌≡◌, ◌++◌, OnOk, codes, string_bytes};
-ghost use Rattle.tty_calls.specs.Plain.{call_of, answer_of};
+ghost use Rattle.tty_calls.specs.Plain.{call_of, answer_lent};
 ghost use Rattle.session_print.specs.Words.{verb_of as verb_in, errno_name as name_of_errno, signal_name as name_of_signal, counts_text, got_text, answer_text};
 
 use super::digits::{put_hex, put_number};
 use super::modes::put_modes;
 use std::alloc::AllocError;
 use tty_base::{Counts, Errno, Signal};
-use tty_calls::{Answer, Call};
+use tty_calls::{AnswerRef, Call};
 
 /// Adds the text of an answer.
 #[inline(always)]
-pub(crate) fn put_answer(text: &mut String, answer: &Answer) -> Result<(), AllocError>
-    ensures { OnOk result (string_bytes text.new ≡ string_bytes text.old ++ answer_text (answer_of answer.now)) }
+pub(crate) fn put_answer(text: &mut String, answer: &AnswerRef) -> Result<(), AllocError>
+    ensures { OnOk result (string_bytes text.new ≡ string_bytes text.old ++ answer_text (answer_lent answer.now)) }
 {
-    match answer {
-        Answer::Done => text.push_str("ok"),
-        Answer::Count(taken) => put_number(text, u64::from(*taken)),
-        Answer::Got(bytes) => put_got(text, bytes.as_slice()),
-        Answer::Number(number) => put_number(text, u64::from(*number)),
-        Answer::ModesAre(modes) => put_modes(text, modes),
-        Answer::CountsAre(counts) => put_counts(text, counts),
-        Answer::Refused(errno) => text.push_str(errno_name(*errno)),
-        Answer::Idle => text.push_str("idle"),
+    match *answer {
+        AnswerRef::Done => text.push_str("ok"),
+        AnswerRef::Count(taken) => put_number(text, u64::from(taken)),
+        AnswerRef::Got(bytes) => put_got(text, bytes),
+        AnswerRef::Number(number) => put_number(text, u64::from(number)),
+        AnswerRef::ModesAre(modes) => put_modes(text, modes),
+        AnswerRef::CountsAre(counts) => put_counts(text, counts),
+        AnswerRef::Refused(errno) => text.push_str(errno_name(errno)),
+        AnswerRef::Idle => text.push_str("idle"),
     }
 }
 

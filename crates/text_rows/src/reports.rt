@@ -1,11 +1,16 @@
+ghost use Rattle.std.specs.Prelude.{◌≡◌, length};
+ghost use Rattle.tty_calls.specs.Plain.{answer_lent, bytes_by, bytes_in, chars_in, event_of};
+
 use arrayvec::ArrayString;
 use session_print::{each_call_has_its_line, journal_text, play_text, report};
 use std::alloc::{AllocError, Global};
 use std::test::Fail;
-use tty_base::{Buffer, Bytes, Chars, Counts, Errno, Flag, Flagged, LineReport, Overrun, Signal};
+use tty_base::{
+    Buffer, Bytes, Counts, Errno, Flag, Flagged, LineReport, NoMemory, Overrun, Signal,
+};
 use tty_calls::{
-    Access, Answer, Call, Calls, Entry, Event, Phase, PortEnd, PortRun, Purge, Script, Session,
-    When, Who,
+    Access, AnswerRef, Call, Calls, Entry, Event, Journal, Phase, PortEnd, PortRun, Script,
+    Session, When, Who,
 };
 use tty_modes::Modes;
 
@@ -29,7 +34,7 @@ fn phase_of(alloc: Global, callers: Vec<Script>) -> Phase {
     }
 }
 
-fn entry_of(who: Who, step: u32, generation: u32, event: Event) -> Entry {
+fn entry_of<'a>(who: Who, step: u32, generation: u32, event: Event<'a>) -> Entry<'a> {
     Entry {
         who,
         step,
@@ -39,20 +44,64 @@ fn entry_of(who: Who, step: u32, generation: u32, event: Event) -> Entry {
     }
 }
 
-fn answer_of(caller: u16, step: u32, answer: Answer) -> Entry {
-    entry_of(Who::Caller(caller), step, 0, Event::Answer(answer))
+fn answer_of<'a>(caller: u16, step: u32, answer: AnswerRef<'a>) -> Entry<'a> {
+    let event = Event::Answer {
+        answer,
+        dropped: &[],
+    };
+    entry_of(Who::Caller(caller), step, 0, event)
 }
 
-fn run_of(alloc: Global, journal: Vec<Entry>) -> PortRun {
-    PortRun {
-        journal: Buffer::from_vec(journal),
+/// How many bytes an event gives.
+fn bytes_of(event: &Event) -> usize
+    ensures { result ≡ length (bytes_by (event_of event.now)) }
+{
+    match event {
+        Event::Answer { answer, .. } => got_by(answer),
+        _ => 0,
+    }
+}
+
+fn got_by(answer: &AnswerRef) -> usize
+    ensures { result ≡ length (bytes_in (answer_lent answer.now)) }
+{
+    match answer {
+        AnswerRef::Got(bytes) => bytes.len(),
+        _ => 0,
+    }
+}
+
+/// How many characters an event takes out of the flip buffer.
+fn characters_of(event: &Event) -> usize
+    ensures { result ≡ length (chars_in (event_of event.now)) }
+{
+    match event {
+        Event::Answer { dropped, .. } => dropped.len(),
+        Event::Flush(characters) => characters.len(),
+        Event::Hangup(dropped) => dropped.len(),
+        _ => 0,
+    }
+}
+
+fn journal_of(alloc: Global, entries: &[Entry]) -> Result<Journal, NoMemory> {
+    let mut journal = Journal::new(alloc);
+    for entry in entries {
+        journal.reserve(bytes_of(&entry.event), characters_of(&entry.event))?;
+        journal.add(entry);
+    }
+    Ok(journal)
+}
+
+fn run_of(alloc: Global, entries: &[Entry]) -> Result<PortRun, NoMemory> {
+    Ok(PortRun {
+        journal: journal_of(alloc, entries)?,
         line: LineReport {
             arrived: 0,
             fifo_lost: 0,
             sent: 0,
             overruns: Buffer::new(alloc),
         },
-    }
+    })
 }
 
 fn end_of(alloc: Global) -> PortEnd {
@@ -62,13 +111,6 @@ fn end_of(alloc: Global) -> PortEnd {
         generation: 0,
         wire: Bytes::new(alloc),
     }
-}
-
-fn chars_of(alloc: Global, chars: &[Flagged]) -> Result<Chars, AllocError> {
-    let mut list = Chars::new(alloc);
-    list.reserve(chars.len()).map_err(|_| AllocError)?;
-    list.append(chars);
-    Ok(list)
 }
 
 fn open<'a>() -> Call<'a> {
@@ -96,18 +138,18 @@ fn two_callers(alloc: Global) -> Result<Session, AllocError> {
     })
 }
 
-fn run_of_two(alloc: Global) -> Result<PortRun, AllocError> {
-    let hi = chars_of(alloc, &[Flagged::default(); 2])?;
-    let journal = vec![in alloc;
-        answer_of(1, 0, Answer::Refused(Errno::EBADF)),
-        answer_of(0, 0, Answer::Done),
-        entry_of(Who::Flusher, 0, 0, Event::Flush(hi)),
-        answer_of(0, 1, Answer::Got(b"hi".to_vec(alloc)?)),
+fn run_of_two(alloc: Global) -> Result<PortRun, NoMemory> {
+    let two = [Flagged::default(); 2];
+    let entries = [
+        answer_of(1, 0, AnswerRef::Refused(Errno::EBADF)),
+        answer_of(0, 0, AnswerRef::Done),
+        entry_of(Who::Flusher, 0, 0, Event::Flush(&two)),
+        answer_of(0, 1, AnswerRef::Got(b"hi")),
         entry_of(Who::Caller(0), 2, 0, Event::CallerEnd),
-        answer_of(0, 2, Answer::Idle),
-        answer_of(1, 1, Answer::Done),
-    ]?;
-    Ok(run_of(alloc, journal))
+        answer_of(0, 2, AnswerRef::Idle),
+        answer_of(1, 1, AnswerRef::Done),
+    ];
+    run_of(alloc, &entries)
 }
 
 #[test]
@@ -161,40 +203,43 @@ fn every_answer(alloc: Global) -> Result<Session, AllocError> {
     })
 }
 
-fn answers(alloc: Global) -> Result<PortRun, AllocError> {
-    let counts = Box::new(
-        alloc,
-        Counts {
-            mark: 1,
-            parity: 2,
-            frame: 3,
-            breaks: 4,
-            cut: 5,
-            echo: 6,
-            pin: 7,
-            pout: 8,
-            pbad: 9,
-            pfull: 10,
-        },
-    )?;
-    let journal = vec![in alloc;
-        answer_of(0, 0, Answer::ModesAre(Modes::sane())),
-        answer_of(0, 1, Answer::CountsAre(counts)),
-        answer_of(0, 2, Answer::Number(4_294_967_295)),
-        answer_of(0, 3, Answer::Count(5)),
-        answer_of(0, 4, Answer::Got([0, 0xaf].to_vec(alloc)?)),
-        answer_of(0, 5, Answer::Got(Vec::new(alloc))),
-        answer_of(0, 6, Answer::Refused(Errno::EMSGSIZE)),
-        answer_of(0, 7, Answer::Idle),
-        answer_of(0, 8, Answer::Done),
-    ]?;
-    Ok(run_of(alloc, journal))
+fn answers(alloc: Global) -> Result<PortRun, NoMemory> {
+    let counts = Counts {
+        mark: 1,
+        parity: 2,
+        frame: 3,
+        breaks: 4,
+        cut: 5,
+        echo: 6,
+        pin: 7,
+        pout: 8,
+        pbad: 9,
+        pfull: 10,
+    };
+    answers_with(alloc, &(Modes::sane(), counts))
+}
+
+/// Both stand behind one reference, so that all entries have one lifetime.
+fn answers_with(alloc: Global, told: &(Modes, Counts)) -> Result<PortRun, NoMemory> {
+    let (modes, counts) = told;
+    let entries = [
+        answer_of(0, 0, AnswerRef::ModesAre(modes)),
+        answer_of(0, 1, AnswerRef::CountsAre(counts)),
+        answer_of(0, 2, AnswerRef::Number(4_294_967_295)),
+        answer_of(0, 3, AnswerRef::Count(5)),
+        answer_of(0, 4, AnswerRef::Got(&[0, 0xaf])),
+        answer_of(0, 5, AnswerRef::Got(&[])),
+        answer_of(0, 6, AnswerRef::Refused(Errno::EMSGSIZE)),
+        answer_of(0, 7, AnswerRef::Idle),
+        answer_of(0, 8, AnswerRef::Done),
+    ];
+    run_of(alloc, &entries)
 }
 
 #[test]
 fn every_answer_and_every_port_is_told(rt: HostRuntime) -> Result<(), Fail> {
     let alloc = rt.alloc();
-    let runs = [run_of(alloc, Vec::new(alloc)), answers(alloc)?];
+    let runs = [run_of(alloc, &[])?, answers(alloc)?];
     let ends = [end_of(alloc), end_of(alloc)];
     let text = report(alloc, &every_answer(alloc)?, &runs, &ends)?;
     assert_eq!(rt;
@@ -254,27 +299,27 @@ fn good(byte: u8) -> Flagged {
     }
 }
 
-fn run_of_three_bytes(alloc: Global) -> Result<PortRun, AllocError> {
-    let three = chars_of(alloc, &[good(b'h'), good(b'i'), good(10)])?;
+fn run_of_three_bytes(alloc: Global) -> Result<PortRun, NoMemory> {
+    let three = [good(b'h'), good(b'i'), good(10)];
     let caller = Who::Caller(0);
-    let journal = vec![in alloc;
+    let entries = [
         entry_of(Who::Line, 0, 0, Event::LineEnd(0)),
-        answer_of(0, 0, Answer::Done),
-        answer_of(0, 1, Answer::Done),
+        answer_of(0, 0, AnswerRef::Done),
+        answer_of(0, 1, AnswerRef::Done),
         entry_of(caller, 2, 0, Event::CallerEnd),
         entry_of(Who::Clock, 0, 0, Event::ClockEnd),
         entry_of(Who::Session, 0, 0, Event::PhaseEnd),
-        entry_of(Who::Flusher, 0, 0, Event::Flush(three)),
+        entry_of(Who::Flusher, 0, 0, Event::Flush(&three)),
         entry_of(Who::Line, 1, 0, Event::LineEnd(3)),
-        answer_of(0, 2, Answer::Got(b"hi\n".to_vec(alloc)?)),
-        answer_of(0, 3, Answer::Done),
+        answer_of(0, 2, AnswerRef::Got(b"hi\n")),
+        answer_of(0, 3, AnswerRef::Done),
         entry_of(caller, 4, 1, Event::CallerEnd),
         entry_of(Who::Clock, 1, 1, Event::ClockEnd),
         entry_of(Who::Session, 1, 1, Event::PhaseEnd),
-        entry_of(Who::Session, 2, 1, Event::Hangup(Chars::new(alloc))),
-    ]?;
+        entry_of(Who::Session, 2, 1, Event::Hangup(&[])),
+    ];
     Ok(PortRun {
-        journal: Buffer::from_vec(journal),
+        journal: journal_of(alloc, &entries)?,
         line: LineReport {
             arrived: 3,
             fifo_lost: 0,
@@ -341,6 +386,11 @@ fn flagged(flag: Flag) -> Flagged {
 #[test]
 fn further_entries_and_overruns_are_told(rt: HostRuntime) -> Result<(), Fail> {
     let alloc = rt.alloc();
+    let dropped = [good(b'x')];
+    let purge = Event::Answer {
+        answer: AnswerRef::Done,
+        dropped: &dropped,
+    };
     let kinds = [
         flagged(Flag::Normal),
         flagged(Flag::Break),
@@ -348,29 +398,21 @@ fn further_entries_and_overruns_are_told(rt: HostRuntime) -> Result<(), Fail> {
         flagged(Flag::Frame),
         flagged(Flag::Overrun),
     ];
-    let characters = chars_of(alloc, &kinds)?;
-    let purge = Box::new(
-        alloc,
-        Purge {
-            answer: Answer::Done,
-            dropped: chars_of(alloc, &[good(b'x')])?,
-        },
-    )?;
     let caller = Who::Caller(0);
-    let journal = vec![in alloc;
+    let entries = [
         entry_of(caller, 0, 0, Event::Wait),
         entry_of(caller, 0, 0, Event::Part(64)),
         entry_of(Who::Clock, 0, 0, Event::Tick),
-        entry_of(caller, 0, 0, Event::Purge(purge)),
-        entry_of(Who::Session, 1, 0, Event::Hangup(characters)),
-    ]?;
+        entry_of(caller, 0, 0, purge),
+        entry_of(Who::Session, 1, 0, Event::Hangup(&kinds)),
+    ];
     let overrun = Overrun {
         at: 64,
         sent: 64,
         seen: 0,
     };
     let run = PortRun {
-        journal: Buffer::from_vec(journal),
+        journal: journal_of(alloc, &entries)?,
         line: LineReport {
             arrived: 70,
             fifo_lost: 5,

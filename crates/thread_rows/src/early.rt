@@ -4,7 +4,7 @@ use super::places::{Place, answers, are_in_order};
 use super::plays::played_behind;
 use std::sync::Wait;
 use std::test::Fail;
-use tty_calls::{Entry, Event, Who};
+use tty_calls::{Event, Journal, Who};
 use tty_port::Gate;
 
 /// A caller waits for characters of the line.
@@ -39,13 +39,13 @@ impl Gate for BeforeLineEnd {
     }
 }
 
-fn is_flush(entry: &Entry) -> bool {
-    matches!(entry.event, Event::Flush(_))
+fn is_flush(journal: &Journal, place: usize) -> bool {
+    matches!(journal.get(place), Some(entry) if matches!(entry.event, Event::Flush(_)))
 }
 
-/// Whether an entry is the end of this phase's line.
-fn is_line_end(entry: &Entry, phase: u32) -> bool {
-    entry.step == phase && matches!(entry.event, Event::LineEnd(_))
+/// Whether the entry at a place is the end of this phase's line.
+fn is_line_end(journal: &Journal, place: usize, phase: u32) -> bool {
+    matches!(journal.get(place), Some(entry) if entry.step == phase && matches!(entry.event, Event::LineEnd(_)))
 }
 
 #[test]
@@ -56,10 +56,10 @@ fn flush_early(rt: HostRuntime) -> Result<(), Fail> {
     let played = played_behind(&rt, rt.alloc(), A_READ_BESIDE_THE_LINE, &gate)?;
     assert_eq!(rt; played.status, 0);
     assert!(rt; gate.after_the_read.was_met());
-    let entries = played.entries();
-    let flush = entries.iter().position(|entry| is_flush(entry));
-    let read = entries.iter().position(|entry| answers(entry, 0, 2));
-    let end = entries.iter().position(|entry| is_line_end(entry, 1));
+    let journal = played.journal().ok_or("no port")?;
+    let flush = (0..journal.len()).find(|place| is_flush(journal, *place));
+    let read = (0..journal.len()).find(|place| answers(journal, *place, 0, 2));
+    let end = (0..journal.len()).find(|place| is_line_end(journal, *place, 1));
     assert!(rt; are_in_order(flush, read, end));
     Ok(())
 }

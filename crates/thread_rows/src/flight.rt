@@ -4,7 +4,7 @@ use super::places::{Place, answers, are_in_order};
 use super::plays::played_behind;
 use std::sync::Wait;
 use std::test::Fail;
-use tty_calls::{Entry, Event, Who};
+use tty_calls::{Event, Journal, Who};
 use tty_port::Gate;
 
 /// One caller writes in four parts, and another reads, beside it.
@@ -44,8 +44,11 @@ impl Gate for BetweenParts {
     }
 }
 
-/// Whether an entry is this part of the write.
-fn is_part(entry: &Entry, part: u32) -> bool {
+/// Whether the entry at a place is this part of the write.
+fn is_part(journal: &Journal, place: usize, part: u32) -> bool {
+    let Some(entry) = journal.get(place) else {
+        return false;
+    };
     entry.who == Who::Caller(0)
         && entry.step == 1
         && entry.part == part
@@ -62,10 +65,10 @@ fn two_in_flight(rt: HostRuntime) -> Result<(), Fail> {
     assert_eq!(rt; played.status, 0);
     assert!(rt; gate.after_a_part.was_met());
     assert!(rt; gate.after_the_read.was_met());
-    let entries = played.entries();
-    let first = entries.iter().position(|entry| is_part(entry, 0));
-    let read = entries.iter().position(|entry| answers(entry, 1, 0));
-    let second = entries.iter().position(|entry| is_part(entry, 1));
+    let journal = played.journal().ok_or("no port")?;
+    let first = (0..journal.len()).find(|place| is_part(journal, *place, 0));
+    let read = (0..journal.len()).find(|place| answers(journal, *place, 1, 0));
+    let second = (0..journal.len()).find(|place| is_part(journal, *place, 1));
     assert!(rt; are_in_order(first, read, second));
     Ok(())
 }

@@ -9,7 +9,7 @@ use std::sync::atomic::{AtomicBool, AtomicU32, Ordering};
 use std::test::Fail;
 use std::thread::{self, Threads};
 use tty_base::Errno;
-use tty_calls::{Answer, Event, Who};
+use tty_calls::{AnswerRef, Event, Who};
 use tty_port::Gate;
 use tty_rows::written_out;
 
@@ -116,33 +116,30 @@ impl Gate for AtPass {
 }
 
 /// What a caller's step was answered.
-fn answer_of(outcome: &Outcome, caller: u16, step: u32) -> Option<&Answer> {
-    let entry = outcome
-        .entries()
-        .iter()
-        .find(|entry| answers(entry, caller, step))?;
-    match &entry.event {
-        Event::Answer(answer) => Some(answer),
-        Event::Purge(purge) => Some(&purge.answer),
+fn answer_of(outcome: &Outcome, caller: u16, step: u32) -> Option<AnswerRef<'_>> {
+    let journal = outcome.journal()?;
+    let place = (0..journal.len()).find(|place| answers(journal, *place, caller, step))?;
+    match journal.get(place)?.event {
+        Event::Answer { answer, .. } => Some(answer),
         _ => None,
     }
 }
 
 /// Whether a write was done whole, or refused because of the call that was held.
-fn may_be_written(answer: Option<&Answer>, held: &str) -> bool {
+fn may_be_written(answer: Option<AnswerRef>, held: &str) -> bool {
     match answer {
-        Some(Answer::Count(200)) => true,
-        Some(Answer::Refused(Errno::EIO)) => held != NO_CHANGE,
+        Some(AnswerRef::Count(200)) => true,
+        Some(AnswerRef::Refused(Errno::EIO)) => held != NO_CHANGE,
         _ => false,
     }
 }
 
 /// Whether a read of which no byte came ended as the call that was held has it.
-fn may_be_read(answer: Option<&Answer>, held: &str) -> bool {
+fn may_be_read(answer: Option<AnswerRef>, held: &str) -> bool {
     match answer {
-        Some(Answer::Got(bytes)) => held == HANGUP && bytes.len() == 0,
-        Some(Answer::Refused(Errno::EIO)) => held == CHANGE,
-        Some(Answer::Idle) => held == NO_CHANGE,
+        Some(AnswerRef::Got(bytes)) => held == HANGUP && bytes.is_empty(),
+        Some(AnswerRef::Refused(Errno::EIO)) => held == CHANGE,
+        Some(AnswerRef::Idle) => held == NO_CHANGE,
         _ => false,
     }
 }

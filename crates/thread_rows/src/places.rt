@@ -2,7 +2,7 @@
 
 use std::sync::atomic::{AtomicBool, Ordering};
 use std::thread;
-use tty_calls::{Entry, Event, Who};
+use tty_calls::{Event, Journal, Who};
 
 /// How many turns a thread waits at most.
 pub(crate) const MOST_TURNS: u32 = 10_000_000;
@@ -44,11 +44,14 @@ impl Place {
     }
 }
 
-/// Whether an entry is the answer of a caller's step.
-pub(crate) fn answers(entry: &Entry, caller: u16, step: u32) -> bool {
+/// Whether the entry at a place is the answer of a caller's step.
+pub(crate) fn answers(journal: &Journal, place: usize, caller: u16, step: u32) -> bool {
+    let Some(entry) = journal.get(place) else {
+        return false;
+    };
     entry.who == Who::Caller(caller)
         && entry.step == step
-        && matches!(entry.event, Event::Answer(_) | Event::Purge(_))
+        && matches!(entry.event, Event::Answer { .. })
 }
 
 /// Whether all three are there, one after the other.

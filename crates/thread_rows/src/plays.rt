@@ -6,7 +6,7 @@ use std::sync::Wait;
 use std::test::Fail;
 use std::thread::Threads;
 use tty_base::{Bytes, MemSink, MemSource};
-use tty_calls::Entry;
+use tty_calls::Journal;
 use tty_port::{Gate, OpenGate};
 use tty_rows::{with_journals, written_out};
 use tty_run::{Ran, Runs, tty_run};
@@ -27,10 +27,10 @@ pub(crate) struct Outcome {
 
 impl Outcome {
     /// The journal of the first port.
-    pub(crate) fn entries(&self) -> &[Entry] {
+    pub(crate) fn journal(&self) -> Option<&Journal> {
         match self.runs.as_slice().first() {
-            Some(run) => run.journal.as_slice(),
-            None => &[],
+            Some(run) => Some(&run.journal),
+            None => None,
         }
     }
 }

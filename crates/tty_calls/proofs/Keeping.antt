@@ -3,13 +3,14 @@ use Rattle.std.proofs.Common.{◌≡◌, ℕ, suc, List, [], ◌∷◌, ◌++◌
 use Rattle.std.proofs.lemmas.List.{take-append-le, drop-append-le, length-drop, map-append}
 use Rattle.std.specs.Prelude.{All}
 use Rattle.tty_modes.specs.declared.words.Word.{Word}
-use Rattle.tty_calls.specs.declared.kept_calls.Part.{Part}
+use Rattle.tty_calls.specs.declared.parts.Part.{Part}
 use Rattle.tty_calls.specs.declared.kept_calls.KeptCall.{KeptCall}
 use Rattle.tty_calls.specs.declared.kept_calls.KeptCall.TheVariants as kept
 use Rattle.tty_calls.specs.Plain.{PlainCall, writes, sets_modes, sends_packet}
-use Rattle.tty_calls.specs.Kept.{Extends, IsKept, IsPartOf, kept_in, part_of}
+use Rattle.tty_calls.specs.Kept.{IsKept, kept_in}
+use Rattle.tty_calls.specs.Parts.{Extends, IsPartOf, part_of}
 
-part_stays : {A : Type 0} (xs ys : List A) (part : Part) → IsPartOf (length xs) part → part_of (xs ++ ys) part ≡ part_of xs part
+pub part_stays : {A : Type 0} (xs ys : List A) (part : Part) → IsPartOf (length xs) part → part_of (xs ++ ys) part ≡ part_of xs part
 part_stays xs ys part within =
     ap (take part.count) (drop-append-le part.first xs ys (omega (arith, within)))
     ∙ take-append-le part.count (drop part.first xs) ys (omega (arith, within, length-drop part.first xs))

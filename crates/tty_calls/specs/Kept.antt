@@ -1,8 +1,8 @@
 -- Calls in a list, as contracts see them, and as they are kept: bytes and mode words of all stand in a list
 -- each, and a call names a part of it.
-use Rattle.std.specs.Prelude.{◌≡◌, ℕ, ◌+◌, ◌≤◌, List, ◌++◌, take, drop}
+use Rattle.std.specs.Prelude.{ℕ, List}
 use Rattle.tty_modes.specs.declared.words.Word.{Word}
-use Rattle.tty_calls.specs.declared.kept_calls.Part.{Part}
+use Rattle.tty_calls.specs.Parts.{IsPartOf, part_of}
 use Rattle.tty_calls.specs.declared.kept_calls.KeptCall.{KeptCall}
 use Rattle.tty_calls.specs.declared.kept_calls.KeptCall.TheVariants as kept
 use Rattle.tty_calls.specs.Plain.{PlainCall, opens, closes, reads, writes, gets_modes, sets_modes, gets_disc, sets_disc, flushes, steers, counts_input, counts_output, excludes, admits, drains, gets_counts, hangs_up, sends_packet, takes_packet}
@@ -10,9 +10,6 @@ use Rattle.tty_calls.specs.Plain.{PlainCall, opens, closes, reads, writes, gets_
 -- the calls, in order
 pub record CallList : Type 0 where
   pub items : List PlainCall
-
-abbrev pub part_of : {A : Type 0} → List A → Part → List A
-part_of list part = take part.count (drop part.first list)
 
 -- the call that a kept one is, beside the lists
 abbrev pub kept_in : List ℕ → List Word → KeptCall → PlainCall
@@ -36,32 +33,9 @@ kept_in bytes words (kept.Vhangup h) = hangs_up h
 kept_in bytes words (kept.SendPacket h part) = sends_packet h (part_of bytes part)
 kept_in bytes words (kept.TakePacket h) = takes_packet h
 
--- a list with none or some more at its end
-abbrev pub Extends : {A : Type 0} → List A → List A → Type 0
-Extends {A} old new = (more : List A) × (new ≡ old ++ more)
-
--- whether a part lies within a list of this length
-abbrev pub IsPartOf : ℕ → Part → Type 0
-IsPartOf count part = part.first + part.count ≤ count
-
 -- whether the parts that a call names lie within lists of these lengths
 abbrev pub IsKept : ℕ → ℕ → KeptCall → Type 0
-IsKept bytes words (kept.Open h access nonblock) = Unit {0}
-IsKept bytes words (kept.Close h) = Unit {0}
-IsKept bytes words (kept.Read h n) = Unit {0}
 IsKept bytes words (kept.Write h part) = IsPartOf bytes part
-IsKept bytes words (kept.GetModes h) = Unit {0}
 IsKept bytes words (kept.SetModes h when part) = IsPartOf words part
-IsKept bytes words (kept.GetDisc h) = Unit {0}
-IsKept bytes words (kept.SetDisc h number) = Unit {0}
-IsKept bytes words (kept.Flush h queue) = Unit {0}
-IsKept bytes words (kept.Xonc h act) = Unit {0}
-IsKept bytes words (kept.Inq h) = Unit {0}
-IsKept bytes words (kept.Outq h) = Unit {0}
-IsKept bytes words (kept.Excl h) = Unit {0}
-IsKept bytes words (kept.Nxcl h) = Unit {0}
-IsKept bytes words (kept.Drain h) = Unit {0}
-IsKept bytes words (kept.Counts h) = Unit {0}
-IsKept bytes words (kept.Vhangup h) = Unit {0}
 IsKept bytes words (kept.SendPacket h part) = IsPartOf bytes part
-IsKept bytes words (kept.TakePacket h) = Unit {0}
+IsKept bytes words other = Unit {0}

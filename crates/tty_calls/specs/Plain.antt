@@ -1,5 +1,5 @@
 -- Calls, answers and entries as plain data: lists in place of lists with room.
-use Rattle.std.specs.Prelude.{◌≡◌, ◌≤◌, ℕ, List, [], Bool, true, false, ◌==◌, length, map}
+use Rattle.std.specs.Prelude.{ℕ, List, [], Bool, true, false, ◌==◌}
 use Rattle.tty_base.specs.declared.characters.Flagged.{Flagged}
 use Rattle.tty_base.specs.declared.counters.Counts.{Counts}
 use Rattle.tty_base.specs.declared.counters.Errno.{Errno}
@@ -13,8 +13,8 @@ use Rattle.tty_calls.specs.declared.calls.Call.{Call}
 use Rattle.tty_calls.specs.declared.calls.Call.TheVariants as calls
 use Rattle.tty_calls.specs.declared.answers.Answer.{Answer}
 use Rattle.tty_calls.specs.declared.answers.Answer.TheVariants as answers
-use Rattle.tty_calls.specs.declared.answers.AnswerRoom.{AnswerRoom}
-use Rattle.tty_calls.specs.declared.answers.AnswerRoom.TheVariants as rooms
+use Rattle.tty_calls.specs.declared.answers.AnswerRef.{AnswerRef}
+use Rattle.tty_calls.specs.declared.answers.AnswerRef.TheVariants as refs
 use Rattle.tty_calls.specs.declared.journals.Who.{Who}
 use Rattle.tty_calls.specs.declared.journals.Who.TheVariants.{Caller, Flusher, Line, Clock, Session}
 use Rattle.tty_calls.specs.declared.journals.Event.{Event}
@@ -157,40 +157,42 @@ bytes_in (counts_are counts) = []
 bytes_in (refused errno) = []
 bytes_in idle = []
 
--- whether an answer can be copied into room: its bytes have room for them, and its counts a box
-abbrev pub Fits : PlainAnswer → AnswerRoom → Type 0
-Fits done room = Unit {0}
-Fits (count_is taken) room = Unit {0}
-Fits (got bytes) rooms.Nothing = ⊥
-Fits (got bytes) (rooms.Bytes room) = (room.items ≡ []) × (length bytes ≤ room.spare)
-Fits (got bytes) (rooms.Counts room) = ⊥
-Fits (number_is n) room = Unit {0}
-Fits (modes_are modes) room = Unit {0}
-Fits (counts_are counts) rooms.Nothing = ⊥
-Fits (counts_are counts) (rooms.Bytes room) = ⊥
-Fits (counts_are counts) (rooms.Counts room) = Unit {0}
-Fits (refused errno) room = Unit {0}
-Fits idle room = Unit {0}
+abbrev pub answer_lent : AnswerRef → PlainAnswer
+answer_lent refs.Done = done
+answer_lent (refs.Count taken) = count_is taken
+answer_lent (refs.Got bytes) = got bytes.now
+answer_lent (refs.Number n) = number_is n
+answer_lent (refs.ModesAre modes) = modes_are modes.now
+answer_lent (refs.CountsAre counts) = counts_are counts.now
+answer_lent (refs.Refused errno) = refused errno
+answer_lent refs.Idle = idle
 
 abbrev pub event_of : Event → PlainEvent
-event_of (events.Answer answer) = answered (answer_of answer) []
-event_of (events.Purge purge) = answered (answer_of purge.value.answer) purge.value.dropped.items
+event_of (events.Answer answer dropped) = answered (answer_lent answer) dropped.now
 event_of (events.Part taken) = parted taken
 event_of events.Wait = waited
-event_of (events.Flush chars) = flushed chars.items
+event_of (events.Flush chars) = flushed chars.now
 event_of events.Tick = ticked
 event_of (events.LineEnd sent) = line_ended sent
 event_of events.ClockEnd = clock_ended
 event_of events.CallerEnd = caller_ended
 event_of events.PhaseEnd = phase_ended
-event_of (events.Hangup dropped) = hung_up dropped.items
+event_of (events.Hangup dropped) = hung_up dropped.now
+
+-- the bytes that an event gives
+abbrev pub bytes_by : PlainEvent → List ℕ
+bytes_by (answered a dropped) = bytes_in a
+bytes_by other = []
+
+-- the characters that an event takes out of the flip buffer
+abbrev pub chars_in : PlainEvent → List Flagged
+chars_in (answered a dropped) = dropped
+chars_in (flushed chars) = chars
+chars_in (hung_up dropped) = dropped
+chars_in other = []
 
 abbrev pub entry_of : Entry → PlainEntry
 entry_of e = record { who = e.who; step = e.step; part = e.part; generation = e.generation; event = event_of e.event }
-
--- a journal's entries
-abbrev pub entries_of : List Entry → List PlainEntry
-entries_of es = map entry_of es
 
 -- whether the caller of this number made an entry
 abbrev pub is_caller : Who → ℕ → Bool

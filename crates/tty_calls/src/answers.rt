@@ -1,8 +1,7 @@
-ghost use Rattle.std.specs.Prelude.{◌≡◌, IfOk};
-ghost use Rattle.tty_calls.specs.Plain.{answer_of, got, counts_are, Fits};
+ghost use Rattle.std.specs.Prelude.{◌≡◌};
+ghost use Rattle.tty_calls.specs.Plain.{answer_of, answer_lent};
 
-use std::alloc::Global;
-use tty_base::{Buffer, Bytes, Counts, Errno, Moves, NoMemory, Signal};
+use tty_base::{Buffer, Bytes, Counts, Errno, Moves, Signal};
 use tty_modes::Modes;
 
 /// What a call is answered.
@@ -28,81 +27,36 @@ pub enum Answer {
 
 impl Moves for Answer {}
 
-/// Room for a copy of an answer, which is made before there is one.
-#[derive(Drop)]
-pub enum AnswerRoom {
-    /// None is needed.
-    Nothing,
-    /// Room for the bytes that it gives.
-    Bytes(Bytes),
-    /// A box for the counts that it tells.
-    Counts(Box<Counts>),
-}
-
 impl Answer {
-    /// An equal answer, with memory of its own.
-    pub fn copy(&self, alloc: Global) -> Result<Answer, NoMemory>
-        ensures { IfOk result (λ copy. answer_of copy ≡ answer_of self.now) }
-    {
-        match self {
-            Answer::Got(bytes) => Ok(Answer::Got(bytes.as_slice().to_vec(alloc)?)),
-            Answer::Done => Ok(Answer::Done),
-            Answer::Count(count) => Ok(Answer::Count(*count)),
-            Answer::Number(number) => Ok(Answer::Number(*number)),
-            Answer::ModesAre(modes) => Ok(Answer::ModesAre(*modes)),
-            Answer::CountsAre(counts) => Ok(Answer::CountsAre(Box::new(alloc, **counts)?)),
-            Answer::Refused(errno) => Ok(Answer::Refused(*errno)),
-            Answer::Idle => Ok(Answer::Idle),
-        }
-    }
-
-    /// An equal answer, in room that was made for it. It takes no memory.
+    /// The answer, lent.
     #[inline(always)]
-    pub fn copy_into(&self, room: AnswerRoom) -> Answer
-        requires { Fits (answer_of self.now) room }
-        ensures { answer_of result ≡ answer_of self.now }
+    pub fn lent(&self) -> AnswerRef<'_>
+        ensures { answer_lent result ≡ answer_of self.now }
     {
         match self {
-            Answer::Got(bytes) => Answer::Got(bytes_into(room, bytes.as_slice())),
-            Answer::Done => Answer::Done,
-            Answer::Count(count) => Answer::Count(*count),
-            Answer::Number(number) => Answer::Number(*number),
-            Answer::ModesAre(modes) => Answer::ModesAre(*modes),
-            Answer::CountsAre(counts) => Answer::CountsAre(counts_into(room, counts)),
-            Answer::Refused(errno) => Answer::Refused(*errno),
-            Answer::Idle => Answer::Idle,
+            Answer::Done => AnswerRef::Done,
+            Answer::Count(count) => AnswerRef::Count(*count),
+            Answer::Got(bytes) => AnswerRef::Got(bytes.as_slice()),
+            Answer::Number(number) => AnswerRef::Number(*number),
+            Answer::ModesAre(modes) => AnswerRef::ModesAre(modes),
+            Answer::CountsAre(counts) => AnswerRef::CountsAre(counts),
+            Answer::Refused(errno) => AnswerRef::Refused(*errno),
+            Answer::Idle => AnswerRef::Idle,
         }
     }
 }
 
-/// Bytes in room that was made for them.
-#[inline(never)]
-fn bytes_into(room: AnswerRoom, bytes: &[u8]) -> Vec<u8>
-    requires { Fits (got bytes.now) room }
-    ensures { result.items ≡ bytes.now }
-{
-    match room {
-        AnswerRoom::Bytes(mut copy) => {
-            copy.append(bytes);
-            copy.into_vec()
-        }
-        _ => unreachable!(),
-    }
-}
-
-/// Counts in a box that was made for some.
-#[inline(never)]
-fn counts_into(room: AnswerRoom, counts: &Counts) -> Box<Counts>
-    requires { Fits (counts_are counts.now) room }
-    ensures { result.value ≡ counts.now }
-{
-    match room {
-        AnswerRoom::Counts(mut copy) => {
-            *copy = *counts;
-            copy
-        }
-        _ => unreachable!(),
-    }
+/// An answer whose bytes, modes and counts stand with whoever tells it.
+#[derive(Clone, Copy, Debug)]
+pub enum AnswerRef<'a> {
+    Done,
+    Count(u32),
+    Got(&'a [u8]),
+    Number(u32),
+    ModesAre(&'a Modes),
+    CountsAre(&'a Counts),
+    Refused(Errno),
+    Idle,
 }
 
 /// Why a port made no entry.

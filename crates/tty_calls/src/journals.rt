@@ -1,8 +1,9 @@
 ghost use Rattle.std.specs.Prelude.{◌≡◌};
 ghost use Rattle.tty_calls.specs.Plain.{is_caller};
 
-use super::answers::Answer;
-use tty_base::{Buffer, Chars, LineReport, Moves};
+use super::answers::AnswerRef;
+use super::kept_entries::Journal;
+use tty_base::{Flagged, LineReport, Moves};
 
 /// Who made an entry. A caller's number is the place of its name in the order in which names first
 /// occur for the port.
@@ -27,27 +28,20 @@ impl Who {
     }
 }
 
-/// An answer, and the characters of the flip buffer that were dropped with it.
-#[derive(Debug, Drop)]
-pub struct Purge {
-    pub answer: Answer,
-    pub dropped: Chars,
-}
-
-/// What one entry of a journal says.
-#[derive(Debug, Drop)]
-pub enum Event {
-    /// A call was answered.
-    Answer(Answer),
-    /// A call was answered, and characters of the flip buffer were dropped with it. They stand apart,
-    /// since few calls drop any.
-    Purge(Box<Purge>),
+/// What one entry of a journal says. Bytes and characters stand with whoever tells it.
+#[derive(Clone, Copy, Debug)]
+pub enum Event<'a> {
+    /// A call was answered, and these characters of the flip buffer were dropped with it.
+    Answer {
+        answer: AnswerRef<'a>,
+        dropped: &'a [Flagged],
+    },
     /// A write took so many bytes, and is not over.
     Part(u32),
     /// A call must wait.
     Wait,
     /// These characters went from the flip buffer to the line discipline.
-    Flush(Chars),
+    Flush(&'a [Flagged]),
     /// A tenth of a second passed.
     Tick,
     /// The line of the phase is over, and so many characters were sent so far.
@@ -59,12 +53,12 @@ pub enum Event {
     /// The phase is over.
     PhaseEnd,
     /// The session hangs the port up, and these characters are dropped.
-    Hangup(Chars),
+    Hangup(&'a [Flagged]),
 }
 
 /// An entry of a port's journal: one atomic event.
-#[derive(Debug, Drop)]
-pub struct Entry {
+#[derive(Clone, Copy, Debug)]
+pub struct Entry<'a> {
     pub who: Who,
     /// The caller's step, the number of the flush run, or the phase.
     pub step: u32,
@@ -72,13 +66,8 @@ pub struct Entry {
     pub part: u32,
     /// How many discipline changes, hangups and last closes came before.
     pub generation: u32,
-    pub event: Event,
+    pub event: Event<'a>,
 }
-
-impl Moves for Entry {}
-
-/// What happened on a port, in order.
-pub type Journal = Buffer<Entry>;
 
 /// One port's journal, and what its line did.
 #[derive(Debug, Drop)]

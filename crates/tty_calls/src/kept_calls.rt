@@ -3,20 +3,15 @@
 ghost use Rattle.std.specs.Prelude.{◌≡◌, ◌<◌, Some, [], ◌∷◌, ◌++◌, IfOk, OnOk, OnErr, length, slice_get};
 ghost use Rattle.std.specs.Option.{option_map};
 ghost use Rattle.tty_calls.specs.Plain.{call_of};
-ghost use Rattle.tty_calls.specs.Kept.{Extends, IsKept, IsPartOf, kept_in, part_of};
+ghost use Rattle.tty_calls.specs.Kept.{IsKept, kept_in};
+ghost use Rattle.tty_calls.specs.Parts.{Extends};
 
 use super::calls::{Access, Act, Call, Queue, When};
+use super::parts::{Part, keep, part_in};
 use std::alloc::Global;
 use std::marker::Model;
 use tty_base::{Moves, NoMemory};
 use tty_modes::Word;
-
-/// A part of a list: where it begins, and how many elements it has.
-#[derive(Clone, Copy, Debug)]
-struct Part {
-    first: u32,
-    count: u32,
-}
 
 /// A call that names parts of lists.
 #[derive(Clone, Copy, Debug)]
@@ -90,8 +85,7 @@ enum KeptCall {
     },
 }
 
-/// Calls, in order. One takes twelve bytes, and those that it hands over and its mode words stand with
-/// those of all others.
+/// Calls, in order. One takes twelve bytes; the bytes and the mode words of all stand in a list each.
 #[derive(Debug, Drop)]
 pub struct Calls {
     kept: Vec<KeptCall>,
@@ -111,30 +105,6 @@ impl Model for Calls {
 }
 
 impl Moves for Calls {}
-
-/// The part of a list.
-#[inline(always)]
-fn part_in<T>(list: &[T], part: Part) -> &[T]
-    requires { IsPartOf (length list.now) part }
-    ensures { result.now ≡ part_of list.now part }
-{
-    let first = part.first as usize;
-    &list[first..first + part.count as usize]
-}
-
-/// Adds elements to a list, and answers which part of it they are. A part ends below 2^32, and more is
-/// want of memory.
-fn keep<T: Copy>(list: &mut Vec<T>, more: &[T]) -> Result<Part, NoMemory>
-    ensures list { OnOk result (list.new.items ≡ list.old.items ++ more.now) }
-    ensures part { IfOk result (λ part. part ≡ record { first = length list.old.items; count = length more.now }) }
-    ensures err { OnErr result (list.new.items ≡ list.old.items) }
-{
-    let (Ok(first), Ok(count)) = (u32::try_from(list.len()), u32::try_from(more.len())) else {
-        return Err(NoMemory);
-    };
-    list.extend_from_slice(more)?;
-    Ok(Part { first, count })
-}
 
 /// A call that was kept, beside the lists that it names parts of.
 #[inline(always)]

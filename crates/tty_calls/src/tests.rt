@@ -2,17 +2,41 @@ use super::*;
 use arrayvec::ArrayString;
 use std::alloc::{AllocError, Global};
 use std::test::Fail;
-use tty_base::Buffer;
+use tty_base::{Buffer, Flagged};
 use tty_modes::Word;
 
 #[test]
-fn a_copy_of_an_answer_has_the_same_bytes(rt: HostRuntime) -> Result<(), Fail> {
+fn each_entry_has_its_own_bytes_and_characters(rt: HostRuntime) -> Result<(), Fail> {
     let alloc = rt.alloc();
-    let answer = Answer::Got(b"hi".to_vec(alloc)?).copy(alloc)?;
-    match answer {
-        Answer::Got(bytes) => assert_eq!(rt; bytes.as_slice(), b"hi".as_slice()),
-        _ => assert!(rt; false),
-    }
+    let characters = [Flagged::good(65), Flagged::good(66)];
+    let mut journal = Journal::new(alloc);
+    journal.reserve(2, 0)?;
+    journal.add(&Entry {
+        who: Who::Caller(1),
+        step: 7,
+        part: 0,
+        generation: 2,
+        event: Event::Answer {
+            answer: AnswerRef::Got(b"hi"),
+            dropped: &[],
+        },
+    });
+    journal.reserve(0, 2)?;
+    journal.add(&Entry {
+        who: Who::Flusher,
+        step: 3,
+        part: 1,
+        generation: 2,
+        event: Event::Flush(&characters),
+    });
+    assert_eq!(rt; journal.len(), 2);
+    assert!(rt;
+        matches!(journal.get(0), Some(Entry { who: Who::Caller(1), step: 7, part: 0, generation: 2, event: Event::Answer { answer: AnswerRef::Got(bytes), dropped } }) if bytes == b"hi".as_slice() && dropped.is_empty())
+    );
+    assert!(rt;
+        matches!(journal.get(1), Some(Entry { who: Who::Flusher, step: 3, part: 1, generation: 2, event: Event::Flush(flushed) }) if flushed == characters.as_slice())
+    );
+    assert!(rt; journal.get(2).is_none());
     Ok(())
 }
 

@@ -9,7 +9,7 @@ use Rattle.std.proofs.lemmas.List.{take_all}
 use Rattle.std.proofs.lemmas.Grind.{flat_map-append}
 use Rattle.std.proofs.lemmas.Option.{slice_get_within}
 use Rattle.tty_calls.specs.declared.journals.PortRun.{PortRun}
-use Rattle.tty_calls.specs.Plain.{PlainCall, PlainAnswer, PlainEvent, answered, parted, waited, flushed, ticked, line_ended, clock_ended, caller_ended, phase_ended, hung_up, PlainEntry, entries_of, is_caller}
+use Rattle.tty_calls.specs.Plain.{PlainCall, PlainAnswer, PlainEvent, answered, parted, waited, flushed, ticked, line_ended, clock_ended, caller_ended, phase_ended, hung_up, PlainEntry, is_caller}
 use Rattle.tty_calls.specs.Sessions.{PlainScript, PlainPhase, PlainSession, scripts_on, scripts_over, calls_of, call_at}
 use Rattle.tty_terminal.specs.Terminals.{Terminal}
 use Rattle.session_print.specs.Report.{answer_of_event, answer_by, answer_in}
@@ -201,9 +201,9 @@ once es c x [] is one = absurd (omega (arith, one))
 once es c x (a ∷ []) is one = record { answer = a; once = is; printed = one_answer_in es c x a is }
 once es c x (a ∷ b ∷ more) is one = absurd (omega (arith, one))
 
-pub answered_once : (p : ℕ) (session : PlainSession) (run : PortRun) (t : Terminal) → IsLegal p session run t → (c step : ℕ) (call : PlainCall) → call_at p session c step ≡ Some call → IsAnsweredOnce (entries_of run.journal.items) c step
+pub answered_once : (p : ℕ) (session : PlainSession) (run : PortRun) (t : Terminal) → IsLegal p session run t → (c step : ℕ) (call : PlainCall) → call_at p session c step ≡ Some call → IsAnsweredOnce run.journal.items c step
 answered_once p session run t h c step call is =
-    let es : List PlainEntry = entries_of run.journal.items in
+    let es : List PlainEntry = run.journal.items in
     let all : first_step p session (length session.phases) c ≡ length (calls_of (scripts_over p session.phases) (name_at p session c)) =
     ap (λ phases. length (calls_of (scripts_over p phases) (name_at p session c))) (take_all (length session.phases) session.phases (omega arith))
     in

@@ -3,7 +3,7 @@ use Rattle.std.specs.Prelude.{◌≡◌, ◌≢◌, ◌⊎◌, ◌≤◌, ℕ, L
 use Rattle.std.specs.List.{list_any}
 use Rattle.tty_base.specs.Outside.{Rose, TookCount, GivesFront}
 use Rattle.tty_calls.specs.declared.journals.PortRun.{PortRun}
-use Rattle.tty_calls.specs.Plain.{PlainAnswer, PlainEntry, entries_of}
+use Rattle.tty_calls.specs.Plain.{PlainAnswer, PlainEntry}
 use Rattle.tty_calls.specs.Sessions.{PlainSession}
 use Rattle.tty_terminal.specs.Terminals.{Terminal}
 use Rattle.session_text.specs.declared.faults.BadLine.{BadLine}
@@ -38,7 +38,7 @@ has_full_journal runs = list_any (λ run. length run.journal.items == 4194304) r
 
 -- the run of a port is in the order of one thread
 abbrev pub IsOrdered : ℕ → PlainSession → PortRun → Type 0
-IsOrdered p session run = IsInOneOrder p session (entries_of run.journal.items) run.line.overruns.items
+IsOrdered p session run = IsInOneOrder p session run.journal.items run.line.overruns.items
 
 -- on threads the entries of different makers are in no order of their own
 abbrev pub IsInAnyOrder : ℕ → PlainSession → PortRun → Type 0

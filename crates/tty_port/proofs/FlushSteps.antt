@@ -2,10 +2,10 @@
 use Rattle.std.proofs.Common.{◌≡◌, ℕ, ◌+◌, ◌*◌, ◌<◌, ◌≤◌, List, [], ◌∷◌, ◌++◌, Bool, true, false, IsTrue, if◌then◌else◌, ne_eqb, ◌==◌, ◌&&◌, ◌||◌, Option, None, Some, length, refl, sym, ◌∙◌, ap, subst, arith, append_assoc, append-nil, length-append}
 use Rattle.std.proofs.lemmas.Bool.{eq-eqb}
 use Rattle.tty_base.specs.declared.characters.Flagged.{Flagged}
-use Rattle.tty_calls.specs.Plain.{PlainEntry}
+use Rattle.tty_calls.specs.Plain.{PlainEntry, chars_in}
 use Rattle.tty_terminal.specs.declared.callers.Piece.{Piece}
 use Rattle.tty_terminal.specs.Steps.{follows}
-use Rattle.tty_terminal.specs.Runs.{chars_of, chars_in}
+use Rattle.tty_terminal.specs.Runs.{chars_of}
 use Rattle.port_core.specs.declared.ports.flushing.Flushed.{Flushed}
 use Rattle.port_core.specs.declared.ports.flushing.Flushed.TheVariants as outcome
 use Rattle.port_cell.specs.declared.kept.Stamped.{Stamped}

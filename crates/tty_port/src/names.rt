@@ -24,7 +24,7 @@ impl Model for PortName {
 
 /// An entry of a port's journal, with the call that the port keeps for it.
 pub struct HistoryEntry {
-    pub(crate) entry: Entry,
+    pub(crate) entry: Entry<'static>,
     pub(crate) call: Option<Call<'static>>,
 }
 

@@ -3,10 +3,10 @@ use Rattle.std.proofs.Common.{◌≡◌, ℕ, ◌+◌, ◌≤◌, List, [], ◌�
 use Rattle.std.proofs.lemmas.Bool.{false≢true}
 use Rattle.std.proofs.lemmas.List.{length-replicate}
 use Rattle.tty_base.specs.declared.characters.Flagged.{Flagged}
-use Rattle.tty_calls.specs.Plain.{PlainCall, PlainEntry}
+use Rattle.tty_calls.specs.Plain.{PlainCall, PlainEntry, chars_in}
 use Rattle.tty_terminal.specs.Terminals.{Terminal, opening, idle_caller, caller_at}
 use Rattle.tty_terminal.specs.Steps.{Allowed, after}
-use Rattle.tty_terminal.specs.Runs.{Leads, IsRun, chars_in, chars_of}
+use Rattle.tty_terminal.specs.Runs.{Leads, IsRun, chars_of}
 use Rattle.tty_terminal.proofs.CallerLists.{all_idle}
 use Rattle.tty_terminal.proofs.StepLaws.{step_does, InLine, Within}
 

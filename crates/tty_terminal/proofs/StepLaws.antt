@@ -5,7 +5,7 @@ use Rattle.std.proofs.lemmas.Bool.{and_parts, or_cases, eqb-true, false≢true}
 use Rattle.tty_base.specs.declared.characters.Flagged.{Flagged}
 use Rattle.tty_calls.specs.declared.journals.Who.{Who}
 use Rattle.tty_calls.specs.declared.journals.Who.TheVariants.{Caller, Flusher, Line, Clock, Session}
-use Rattle.tty_calls.specs.Plain.{PlainCall, PlainAnswer, PlainEvent, answered, parted, waited, flushed, ticked, line_ended, clock_ended, caller_ended, phase_ended, hung_up, PlainEntry}
+use Rattle.tty_calls.specs.Plain.{PlainCall, PlainAnswer, PlainEvent, answered, parted, waited, flushed, ticked, line_ended, clock_ended, caller_ended, phase_ended, hung_up, PlainEntry, chars_in}
 use Rattle.tty_terminal.specs.declared.callers.Bound.{Bound}
 use Rattle.tty_terminal.specs.declared.callers.CallerState.{CallerState}
 use Rattle.tty_terminal.specs.declared.callers.Piece.{Piece}
@@ -15,7 +15,6 @@ use Rattle.tty_terminal.specs.Generations.{after_hangup, caller_after_hangup}
 use Rattle.tty_terminal.specs.Outcomes.{Outcome, unknown, waits, takes, gives}
 use Rattle.tty_terminal.specs.Calls.{outcome_of}
 use Rattle.tty_terminal.specs.Steps.{Drops, left_by, IsAnswer, IsPart, IsWait, IsFlush, IsCallerEnd, ByCaller, by_caller, IsAllowed, after_event, Allowed, after, with_dropped, with_caller, bound_at, caller_after_answer, after_answer, caller_after_wait, after_wait, caller_after_part, after_part, after_caller_end, caller_after_phase, handle_number, next_phase, follows}
-use Rattle.tty_terminal.specs.Runs.{chars_in}
 use Rattle.tty_terminal.proofs.CallerLists.{set_relates, map_relates, Stays, hangup_stays, begun_most}
 use Rattle.tty_terminal.proofs.Effects.{Keeps, outcome_keeps, total_of}
 

@@ -17,8 +17,6 @@ use Rattle.tty_terminal.specs.declared.rooms.Room.{Room}
 use Rattle.tty_terminal.specs.declared.rooms.Room.TheVariants as room
 use Rattle.tty_terminal.specs.declared.rooms.Met.{Met}
 use Rattle.tty_terminal.specs.declared.rooms.Met.TheVariants as met
-use Rattle.tty_calls.specs.declared.answers.AnswerRoom.{AnswerRoom}
-use Rattle.tty_calls.specs.declared.answers.AnswerRoom.TheVariants as copy
 use Rattle.tty_terminal.specs.Terminals.{Terminal, handle_at}
 use Rattle.tty_terminal.specs.Outcomes.{Outcome, unknown, waits, takes, gives}
 use Rattle.tty_terminal.specs.Opening.{is_last_live}
@@ -71,7 +69,7 @@ abbrev pub packet_room : Disc → ℕ
 packet_room (disc.Tty tty) = 0
 packet_room (disc.Slip slip) = length (first_packet slip)
 
--- the room that the answer to a call needs
+-- how many bytes the answer to a call gives at most
 abbrev pub room_for : Terminal → PlainCall → ℕ
 room_for t (opens h access nonblock) = 0
 room_for t (closes h) = 0
@@ -278,35 +276,3 @@ needs_room (gets_counts h) = true
 needs_room (hangs_up h) = true
 needs_room (sends_packet h bytes) = true
 needs_room (takes_packet h) = true
-
--- room for a copy of the answer to a call was made
-abbrev pub IsBytesRoom : ℕ → AnswerRoom → Type 0
-IsBytesRoom n copy.Nothing = ⊥
-IsBytesRoom n (copy.Bytes bytes) = (bytes.items ≡ []) × (n ≤ bytes.spare)
-IsBytesRoom n (copy.Counts counts) = ⊥
-
-abbrev pub IsCountsRoom : AnswerRoom → Type 0
-IsCountsRoom copy.Nothing = ⊥
-IsCountsRoom (copy.Bytes bytes) = ⊥
-IsCountsRoom (copy.Counts counts) = Unit {0}
-
-abbrev pub IsAnswerRoom : Terminal → PlainCall → AnswerRoom → Type 0
-IsAnswerRoom t (opens h access nonblock) room = Unit {0}
-IsAnswerRoom t (closes h) room = Unit {0}
-IsAnswerRoom t (reads h n) room = IsBytesRoom (read_room t n t.disc) room
-IsAnswerRoom t (writes h bytes) room = Unit {0}
-IsAnswerRoom t (gets_modes h) room = Unit {0}
-IsAnswerRoom t (sets_modes h when words) room = Unit {0}
-IsAnswerRoom t (gets_disc h) room = Unit {0}
-IsAnswerRoom t (sets_disc h n) room = Unit {0}
-IsAnswerRoom t (flushes h queue) room = Unit {0}
-IsAnswerRoom t (steers h act) room = Unit {0}
-IsAnswerRoom t (counts_input h) room = Unit {0}
-IsAnswerRoom t (counts_output h) room = Unit {0}
-IsAnswerRoom t (excludes h) room = Unit {0}
-IsAnswerRoom t (admits h) room = Unit {0}
-IsAnswerRoom t (drains h) room = Unit {0}
-IsAnswerRoom t (gets_counts h) room = IsCountsRoom room
-IsAnswerRoom t (hangs_up h) room = Unit {0}
-IsAnswerRoom t (sends_packet h bytes) room = Unit {0}
-IsAnswerRoom t (takes_packet h) room = IsBytesRoom (packet_room t.disc) room

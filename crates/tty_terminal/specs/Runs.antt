@@ -4,7 +4,7 @@ use Rattle.std.specs.Prelude.{◌≡◌, ℕ, List, [], ◌∷◌, ◌++◌, Boo
 use Rattle.tty_base.specs.declared.characters.Flagged.{Flagged}
 use Rattle.tty_calls.specs.declared.journals.Who.{Who}
 use Rattle.tty_calls.specs.declared.journals.Who.TheVariants.{Caller, Flusher, Line, Clock, Session}
-use Rattle.tty_calls.specs.Plain.{PlainCall, PlainEvent, answered, parted, waited, flushed, ticked, line_ended, clock_ended, caller_ended, phase_ended, hung_up, PlainEntry, is_caller}
+use Rattle.tty_calls.specs.Plain.{PlainCall, PlainEvent, answered, parted, waited, flushed, ticked, line_ended, clock_ended, caller_ended, phase_ended, hung_up, PlainEntry, is_caller, chars_in}
 use Rattle.tty_terminal.specs.Terminals.{Terminal, opening, caller_at}
 use Rattle.tty_terminal.specs.Steps.{Allowed, after}
 
@@ -83,19 +83,6 @@ abbrev pub GoesOnInGeneration : Terminal → PlainEntry → Type 0
 GoesOnInGeneration t e =
     (c : ℕ) → is_of_call e.event ≡ true → is_caller e.who c ≡ true → 0 < (caller_at t c).parts → is_some (caller_at t c).waits ≡ false
     → (caller_at t c).generation ≡ e.generation
-
--- the characters that an event hands over or drops
-abbrev pub chars_in : PlainEvent → List Flagged
-chars_in (answered a dropped) = dropped
-chars_in (parted taken) = []
-chars_in waited = []
-chars_in (flushed chars) = chars
-chars_in ticked = []
-chars_in (line_ended n) = []
-chars_in clock_ended = []
-chars_in caller_ended = []
-chars_in phase_ended = []
-chars_in (hung_up dropped) = dropped
 
 -- the characters of a journal, in the order of its entries
 abbrev pub chars_of : List PlainEntry → List Flagged

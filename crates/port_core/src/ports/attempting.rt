@@ -5,12 +5,10 @@ ghost use Rattle.tty_calls.specs.Plain.{call_of, changes};
 
 use super::Port;
 use crate::asked::Asked;
-use crate::entries::{
-    Prepared, copy_of, entry_of_call, prepare, purge_into, reserve_entry, room_for_chars,
-    room_for_purge, trimmed,
-};
+use crate::entries::{copy_of, entry_of_call, prepare, reserve_entry, room_for_chars};
 use crate::flips::drop_shown;
-use tty_calls::{Answer, Call, Denied, Event};
+use crate::waiting::WaitingCall;
+use tty_calls::{Answer, AnswerRef, Call, Denied, Event};
 use tty_terminal::Met;
 
 /// What an attempt of a call came to.
@@ -70,24 +68,26 @@ impl Port {
         let state = self.terminal.caller(caller);
         let begun = state.bound.is_some();
         let generation = self.terminal.generation();
-        reserve_entry(&mut self.journal, &mut self.starved)?;
-        let made = prepare(self.alloc, &mut self.terminal, &mut self.starved, call)?;
-        let Prepared { copy, room } = made;
+        let bytes = self.terminal.room_for(call);
+        reserve_entry(&mut self.journal, &mut self.starved, bytes, 0)?;
+        let room = prepare(self.alloc, &mut self.terminal, &mut self.starved, call)?;
         match self.terminal.meet(caller, call, room) {
             Met::Gives(answer) => {
                 self.terminal.advance(caller);
-                let event = Event::Answer(answer.copy_into(copy));
+                let event = Event::Answer {
+                    answer: answer.lent(),
+                    dropped: &[],
+                };
                 let entry = entry_of_call(caller, step, state.parts, generation, event);
-                self.journal.add(entry);
+                self.journal.add(&entry);
                 self.kept.note(begun, Asked { caller, step }, call);
                 Ok(Tried::Done(answer))
             }
             Met::Takes(count) => {
-                drop(copy);
                 self.terminal.note_part(caller, call.handle(), count);
                 let event = Event::Part(count);
                 let entry = entry_of_call(caller, step, state.parts, generation, event);
-                self.journal.add(entry);
+                self.journal.add(&entry);
                 self.kept.note(begun, Asked { caller, step }, call);
                 Ok(Tried::Part)
             }
@@ -106,22 +106,24 @@ impl Port {
         let state = self.terminal.caller(caller);
         let begun = state.bound.is_some();
         let generation = self.terminal.generation();
-        reserve_entry(&mut self.journal, &mut self.starved)?;
-        let mut shown = room_for_chars(self.alloc, &mut self.starved, self.flip.capacity())?;
-        let purge = room_for_purge(self.alloc, &mut self.starved)?;
-        let made = prepare(self.alloc, &mut self.terminal, &mut self.starved, call)?;
-        let Prepared { copy, room } = made;
-        drop_shown(&self.terminal, &mut self.flip, &mut shown);
-        let dropped = trimmed(self.alloc, shown);
+        let bytes = self.terminal.room_for(call);
+        let capacity = self.flip.capacity();
+        reserve_entry(&mut self.journal, &mut self.starved, bytes, capacity)?;
+        let mut dropped = room_for_chars(self.alloc, &mut self.starved, capacity)?;
+        let room = prepare(self.alloc, &mut self.terminal, &mut self.starved, call)?;
+        drop_shown(&self.terminal, &mut self.flip, &mut dropped);
         let count = dropped.len() as u64;
         let Met::Gives(answer) = self.terminal.meet(caller, call, room) else {
             unreachable!()
         };
         self.terminal.drop_characters(count);
         self.terminal.advance(caller);
-        let event = purge_into(purge, answer.copy_into(copy), dropped);
+        let event = Event::Answer {
+            answer: answer.lent(),
+            dropped: dropped.as_slice(),
+        };
         let entry = entry_of_call(caller, step, state.parts, generation, event);
-        self.journal.add(entry);
+        self.journal.add(&entry);
         self.kept.note(begun, Asked { caller, step }, call);
         Ok(Tried::Done(answer))
     }
@@ -138,12 +140,12 @@ impl Port {
         let state = self.terminal.caller(caller);
         let begun = state.bound.is_some();
         let generation = self.terminal.generation();
-        reserve_entry(&mut self.journal, &mut self.starved)?;
+        reserve_entry(&mut self.journal, &mut self.starved, 0, 0)?;
         let copy = copy_of(self.alloc, &mut self.starved, call)?;
         self.waiting[caller as usize] = Some(copy);
         self.terminal.wait(caller, call.handle());
         let entry = entry_of_call(caller, step, state.parts, generation, Event::Wait);
-        self.journal.add(entry);
+        self.journal.add(&entry);
         self.kept.note(begun, Asked { caller, step }, call);
         Ok(Tried::MustWait)
     }
@@ -161,11 +163,14 @@ impl Port {
         let state = self.terminal.caller(caller);
         let begun = state.bound.is_some();
         let generation = self.terminal.generation();
-        reserve_entry(&mut self.journal, &mut self.starved)?;
+        reserve_entry(&mut self.journal, &mut self.starved, 0, 0)?;
         self.terminal.advance(caller);
-        let event = Event::Answer(Answer::Idle);
+        let event = Event::Answer {
+            answer: AnswerRef::Idle,
+            dropped: &[],
+        };
         let entry = entry_of_call(caller, step, state.parts, generation, event);
-        self.journal.add(entry);
+        self.journal.add(&entry);
         self.kept.note(begun, Asked { caller, step }, call);
         Ok(Tried::Done(Answer::Idle))
     }
@@ -180,7 +185,10 @@ impl Port {
             return false;
         }
         match &self.waiting[caller as usize] {
-            Some(waiting) => self.terminal.must_wait(caller, &waiting.lent()),
+            Some(WaitingCall::Read { h, n }) => self
+                .terminal
+                .must_wait(caller, &Call::Read { h: *h, n: *n }),
+            Some(waiting) => waiting.must_wait(caller, &self.terminal),
             None => false,
         }
     }

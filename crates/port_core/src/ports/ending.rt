@@ -3,7 +3,7 @@
 ghost use Rattle.std.specs.Prelude.{◌≡◌, ◌≤◌, true, false, IfErr, OnOk, OnErr, length};
 
 use super::Port;
-use crate::entries::{reserve_entry, room_for_chars, starve, trimmed};
+use crate::entries::{reserve_entry, room_for_chars, starve};
 use crate::flips::{drop_rest, look_at, tell_each_other};
 use flip_buffer::FlipIn;
 use ldisc_switch::{Kind, fresh};
@@ -48,7 +48,7 @@ impl Port {
         ensures putter { OnErr result (putter.new ≡ putter.old) }
     {
         self.gate()?;
-        reserve_entry(&mut self.journal, &mut self.starved)?;
+        reserve_entry(&mut self.journal, &mut self.starved, 0, 0)?;
         tell_each_other(&mut self.flip, putter);
         self.flip.look(); // so what was put fits beside what was taken
         let sent = putter.sent();
@@ -60,7 +60,7 @@ impl Port {
             event: Event::LineEnd(sent),
         };
         self.terminal.end_line(sent);
-        self.journal.add(entry);
+        self.journal.add(&entry);
         Ok(())
     }
 
@@ -74,7 +74,7 @@ impl Port {
         ensures putter { OnErr result (putter.new ≡ putter.old) }
     {
         self.gate()?;
-        reserve_entry(&mut self.journal, &mut self.starved)?;
+        reserve_entry(&mut self.journal, &mut self.starved, 0, 0)?;
         tell_each_other(&mut self.flip, putter);
         let entry = Entry {
             who: Who::Session,
@@ -84,7 +84,7 @@ impl Port {
             event: Event::PhaseEnd,
         };
         self.terminal.begin_phase();
-        self.journal.add(entry);
+        self.journal.add(&entry);
         Ok(())
     }
 
@@ -99,22 +99,22 @@ impl Port {
         ensures err { IfErr result (λ d. Denies d self.old self.new) }
     {
         self.gate()?;
-        reserve_entry(&mut self.journal, &mut self.starved)?;
-        let mut rest = room_for_chars(self.alloc, &mut self.starved, self.flip.capacity())?;
+        let capacity = self.flip.capacity();
+        reserve_entry(&mut self.journal, &mut self.starved, 0, capacity)?;
+        let mut dropped = room_for_chars(self.alloc, &mut self.starved, capacity)?;
         let Ok(disc) = fresh(self.alloc, Kind::Tty) else {
             return Err(starve(&mut self.starved));
         };
         let generation = self.terminal.generation();
-        drop_rest(&mut self.flip, putter, &mut rest);
-        let dropped = trimmed(self.alloc, rest);
+        drop_rest(&mut self.flip, putter, &mut dropped);
         self.terminal.hang_up(disc);
         self.terminal.drop_characters(dropped.len() as u64);
-        self.journal.add(Entry {
+        self.journal.add(&Entry {
             who: Who::Session,
             step: self.counts.len() as u32,
             part: 0,
             generation,
-            event: Event::Hangup(dropped),
+            event: Event::Hangup(dropped.as_slice()),
         });
         Ok(())
     }

@@ -58,8 +58,8 @@ impl Port {
         let generation = self.terminal.generation();
         let took = hand_over(&mut self.terminal, &mut self.flip, count, &mut chars);
         self.terminal.note_piece(run, part);
-        self.journal
-            .add(entry_of_flush(run, part, generation, chars));
+        let entry = entry_of_flush(run, part, generation, chars.as_slice());
+        self.journal.add(&entry);
         Ok(Flushed::Took(took as u32))
     }
 }

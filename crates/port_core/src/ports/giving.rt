@@ -89,7 +89,8 @@ impl Port {
         let received = receive_front(&mut self.terminal, &mut chars, 8);
         take_given(&mut self.flip, putter, bytes, received);
         self.terminal.note_piece(run, 0);
-        self.journal.add(entry_of_flush(run, 0, generation, chars));
+        let entry = entry_of_flush(run, 0, generation, chars.as_slice());
+        self.journal.add(&entry);
         Ok(Flushed::Took(received as u32))
     }
 

@@ -15,7 +15,7 @@ use ldisc_switch::{Disc, Kind, fresh};
 use slip_frames::{SlipFault, encode};
 use std::alloc::Global;
 use tty_base::{Bytes, Counts, NoMemory};
-use tty_calls::{AnswerRoom, Call, Queue, When};
+use tty_calls::{Call, Queue, When};
 
 /// A packet as it is spelled, unless it is too long.
 #[inline(never)]
@@ -72,7 +72,7 @@ impl Terminal {
     ghost use Rattle.tty_terminal.specs.Switching.{number_of};
     ghost use Rattle.tty_terminal.specs.Calls.{outcome, input_count};
     ghost use Rattle.tty_terminal.specs.Steps.{MustWait, is_wait};
-    ghost use Rattle.tty_terminal.specs.Meeting.{room_for, fresh_kind, needs_room, drops_of, IsRoomFor, IsAnswerRoom};
+    ghost use Rattle.tty_terminal.specs.Meeting.{room_for, fresh_kind, needs_room, drops_of, IsRoomFor};
     ghost use Rattle.tty_terminal.specs.Questions.{must_drain, rest_waits, call_waits, call_drops};
 
     /// The number of the discipline that is installed (linux/tty.h).
@@ -102,7 +102,8 @@ impl Terminal {
         self.wire.held() as u32
     }
 
-    /// The room that the answer to a call needs.
+    /// How many bytes the answer to a call gives at most.
+    #[inline(always)]
     pub fn room_for(&self, call: &Call) -> usize
         ensures { result ≡ room_for self.now.terminal (call_of call.now) }
     {
@@ -181,23 +182,6 @@ impl Terminal {
                 Some(kind) => Ok(Room::Fresh(boxed_fresh(alloc, kind)?)),
                 None => Ok(Room::Nothing),
             },
-        }
-    }
-
-    /// Room for a copy of the answer to a call.
-    #[inline(always)]
-    pub fn answer_room(&self, alloc: Global, call: &Call) -> Result<AnswerRoom, NoMemory>
-        ensures { IfOk result (λ room. IsAnswerRoom self.now.terminal (call_of call.now) room) }
-    {
-        match call {
-            Call::Read { .. } | Call::TakePacket { .. } => {
-                let room = room_for_bytes(alloc, self.room_for(call))?;
-                Ok(AnswerRoom::Bytes(room))
-            }
-            Call::Counts { .. } => {
-                Ok(AnswerRoom::Counts(boxed_counts(alloc, &self.tally.counts)?))
-            }
-            _ => Ok(AnswerRoom::Nothing),
         }
     }
 

@@ -1,9 +1,7 @@
 use Rattle.std.proofs.Common.{◌≡◌, List, length, get_or, sym, ◌∙◌, ap}
 use Rattle.std.proofs.lemmas.Bool.{false≢true}
 use Rattle.tty_base.specs.declared.characters.Flagged.{Flagged}
-use Rattle.tty_calls.specs.declared.journals.Entry.{Entry}
 use Rattle.tty_calls.specs.declared.journals.PortRun.{PortRun}
-use Rattle.tty_calls.specs.Plain.{entries_of}
 use Rattle.tty_calls.specs.Sessions.{PlainSession, session_of, ticks_on}
 use Rattle.tty_terminal.specs.Runs.{chars_of}
 use Rattle.uart_line.specs.Received.{received_list}
@@ -26,7 +24,7 @@ returns-then-not-are_chars_of c =
     let same = kept_is c.args.port (session_of c.args.session.now) c.args.run.now.line.overruns.items c.args.received.now c.requires.received c.requires.shown in (
       λ is. absurd (false≢true is),
       λ kept. absurd (false≢true (sym c.if-not-are_chars_of.true
-          ∙ c.are_chars_of.ensures.1 (ap (λ (es : List Entry). chars_of (entries_of es)) c.as_slice-entries.ensures ∙ (kept.chars ∙ (sym same ∙ sym c.as_slice.ensures))))),
+          ∙ c.are_chars_of.ensures.1 (kept.chars ∙ (sym same ∙ sym c.as_slice.ensures)))),
     )
 
 pub returns : goal.returns
@@ -36,10 +34,10 @@ returns c =
     let r : Received = c.args.received.now in
     let same = kept_is c.args.port session run.line.overruns.items r c.requires.received c.requires.shown in
     let found = kept_as_found c.args.port session run r c.requires.received c.requires.shown c.requires.no_wrong in
-    let well : c.goes_well.result ≡ goes_well (λ k. get_or r.sents.items k 0) (λ k. ticks_on c.args.port (phase_at session k)) (length session.phases) 0 0 (entries_of run.journal.items) =
-    c.goes_well.ensures ∙ (λ i. goes_well (λ k. get_or (c.as_slice-2.ensures.value i) k 0) (λ k. ticks_on c.args.port (phase_at session k)) (length session.phases) 0 0 (entries_of (c.as_slice-entries.ensures i))) in
-    let chars : chars_of (entries_of run.journal.items) ≡ kept_list (received_list (script_on c.args.port session)) run.line.overruns.items =
-    ap (λ (es : List Entry). chars_of (entries_of es)) (sym c.as_slice-entries.ensures) ∙ (c.are_chars_of.ensures.0 c.if-not-are_chars_of.false ∙ (c.as_slice.ensures ∙ same)) in (
+    let well : c.goes_well.result ≡ goes_well (λ k. get_or r.sents.items k 0) (λ k. ticks_on c.args.port (phase_at session k)) (length session.phases) 0 0 run.journal.items =
+    c.goes_well.ensures ∙ (λ i. goes_well (λ k. get_or (c.as_slice-2.ensures.value i) k 0) (λ k. ticks_on c.args.port (phase_at session k)) (length session.phases) 0 0 run.journal.items) in
+    let chars : chars_of run.journal.items ≡ kept_list (received_list (script_on c.args.port session)) run.line.overruns.items =
+    c.are_chars_of.ensures.0 c.if-not-are_chars_of.false ∙ (c.as_slice.ensures ∙ same) in (
       λ is. record {
         arrived = c.if-run-received.false ∙ c.requires.received.arrived;
         fifo_lost = c.if-run-received-2.false ∙ c.requires.received.fifo_lost;

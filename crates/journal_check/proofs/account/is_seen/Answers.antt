@@ -1,9 +1,6 @@
 use Rattle.std.proofs.Common.{◌≡◌, ◌∷◌, ℕ, List, length, sym, ◌∙◌, ap, arith}
 use Rattle.tty_base.specs.declared.characters.Flagged.{Flagged}
-use Rattle.tty_calls.specs.declared.journals.Entry.{Entry}
-use Rattle.tty_calls.specs.Plain.{entries_of}
 use Rattle.tty_calls.specs.Sessions.{session_of}
-use Rattle.tty_terminal.specs.Runs.{chars_of}
 use Rattle.journal_check.specs.Seen.{phase_starts, line_stops, are_between}
 use Rattle.journal_check.proofs.CheckLemmas.{kept_is, enough, seen_as_found}
 use Rattle.journal_check.proofs.account.is_seen.Goals as goal
@@ -17,28 +14,27 @@ taken_by-requires c =
       c.len.ensures,
       ap (λ (cs : List Flagged). length cs) same,
       ap (λ (cs : List Flagged). length cs) c.requires.kept.chars,
-      ap (λ (es : List Entry). length (chars_of (entries_of es))) c.as_slice.ensures,
     )
 
 pub are_between-requires-clause-starts : goal.are_between-requires-clause-starts
 are_between-requires-clause-starts c =
-    let starts : c.in_ok-taken.taken.starts.items ≡ 0 ∷ phase_starts 0 (entries_of c.args.run.now.journal.items) = c.in_ok-taken.ensures.starts ∙ ap (λ (es : List Entry). 0 ∷ phase_starts 0 (entries_of es)) c.as_slice.ensures in
-    let stops : c.in_ok-taken.taken.stops.items ≡ line_stops 0 (entries_of c.args.run.now.journal.items) = c.in_ok-taken.ensures.stops ∙ ap (λ (es : List Entry). line_stops 0 (entries_of es)) c.as_slice.ensures in
+    let starts : c.in_ok-taken.taken.starts.items ≡ 0 ∷ phase_starts 0 c.args.run.now.journal.items = c.in_ok-taken.ensures.starts in
+    let stops : c.in_ok-taken.taken.stops.items ≡ line_stops 0 c.args.run.now.journal.items = c.in_ok-taken.ensures.stops in
     let both = enough c.args.port (session_of c.args.session.now) c.args.run.now c.args.received.now c.in_ok-taken.taken.starts.items c.in_ok-taken.taken.stops.items c.requires.received c.requires.kept starts stops in
-    omega (arith, both.0, ap (λ (xs : List ℕ). length xs) c.as_slice-2.ensures.value, ap (λ (xs : List ℕ). length xs) c.as_slice-3.ensures.value)
+    omega (arith, both.0, ap (λ (xs : List ℕ). length xs) c.as_slice.ensures.value, ap (λ (xs : List ℕ). length xs) c.as_slice-2.ensures.value)
 
 pub are_between-requires-clause-stops : goal.are_between-requires-clause-stops
 are_between-requires-clause-stops c =
-    let starts : c.in_ok-taken.taken.starts.items ≡ 0 ∷ phase_starts 0 (entries_of c.args.run.now.journal.items) = c.in_ok-taken.ensures.starts ∙ ap (λ (es : List Entry). 0 ∷ phase_starts 0 (entries_of es)) c.as_slice.ensures in
-    let stops : c.in_ok-taken.taken.stops.items ≡ line_stops 0 (entries_of c.args.run.now.journal.items) = c.in_ok-taken.ensures.stops ∙ ap (λ (es : List Entry). line_stops 0 (entries_of es)) c.as_slice.ensures in
+    let starts : c.in_ok-taken.taken.starts.items ≡ 0 ∷ phase_starts 0 c.args.run.now.journal.items = c.in_ok-taken.ensures.starts in
+    let stops : c.in_ok-taken.taken.stops.items ≡ line_stops 0 c.args.run.now.journal.items = c.in_ok-taken.ensures.stops in
     let both = enough c.args.port (session_of c.args.session.now) c.args.run.now c.args.received.now c.in_ok-taken.taken.starts.items c.in_ok-taken.taken.stops.items c.requires.received c.requires.kept starts stops in
-    omega (arith, both.1, ap (λ (xs : List ℕ). length xs) c.as_slice-2.ensures.value, ap (λ (xs : List ℕ). length xs) c.as_slice-4.ensures.value)
+    omega (arith, both.1, ap (λ (xs : List ℕ). length xs) c.as_slice.ensures.value, ap (λ (xs : List ℕ). length xs) c.as_slice-3.ensures.value)
 
 pub returns : goal.returns
 returns c =
-    let starts : c.in_ok-taken.taken.starts.items ≡ 0 ∷ phase_starts 0 (entries_of c.args.run.now.journal.items) = c.in_ok-taken.ensures.starts ∙ ap (λ (es : List Entry). 0 ∷ phase_starts 0 (entries_of es)) c.as_slice.ensures in
-    let stops : c.in_ok-taken.taken.stops.items ≡ line_stops 0 (entries_of c.args.run.now.journal.items) = c.in_ok-taken.ensures.stops ∙ ap (λ (es : List Entry). line_stops 0 (entries_of es)) c.as_slice.ensures in
+    let starts : c.in_ok-taken.taken.starts.items ≡ 0 ∷ phase_starts 0 c.args.run.now.journal.items = c.in_ok-taken.ensures.starts in
+    let stops : c.in_ok-taken.taken.stops.items ≡ line_stops 0 c.args.run.now.journal.items = c.in_ok-taken.ensures.stops in
     let found = seen_as_found c.args.port (session_of c.args.session.now) c.args.run.now c.args.received.now c.in_ok-taken.taken.starts.items c.in_ok-taken.taken.stops.items c.requires.received c.requires.shown c.requires.kept starts stops in
     let is : c.are_between.result ≡ are_between c.args.received.now.ends.items c.in_ok-taken.taken.starts.items c.in_ok-taken.taken.stops.items 0 c.args.run.now.line.overruns.items =
-    c.are_between.ensures ∙ (λ i. are_between (c.as_slice-2.ensures.value i) (c.as_slice-3.ensures.value i) (c.as_slice-4.ensures.value i) 0 (c.as_slice-5.ensures i)) in
+    c.are_between.ensures ∙ (λ i. are_between (c.as_slice.ensures.value i) (c.as_slice-2.ensures.value i) (c.as_slice-3.ensures.value i) 0 (c.as_slice-4.ensures i)) in
     (λ h. found.0 (sym is ∙ h), λ h. is ∙ found.1 h)

@@ -22,6 +22,28 @@ end-requires c =
     let s : Scene = record { port = length c.loop-port.yielded; session = session_of c.args.session.now } in
     can_end s c.in-Some.port.station c.in-Some.port.end (c.requires.in_play (length c.loop-port.yielded) c.in-Some.port at).stands
 
+pub add-requires : goal.add-requires
+add-requires c =
+    let gives = c.into_iter-port-iterator.ensures.into_iter_gives in
+    let count : into_iter_len c.into_iter-port-iterator.result ≡ length c.args.ports.items = omega (arith, gives.1) in
+    let turn = YieldsList-turn (YieldsList-from_vec c.args.ports.items gives.0 count) c.loop-port.yielded c.loop-port.port-iterator c.loop-port.yielded_by c.next.result c.next.new.self c.in-Some.port c.in-Some.is c.next.ensures.steps in
+    let below = turn.0 in
+    let room = c.loop-port.invariant.room_for_runs in
+    let all = c.requires.all in
+    let ports = c.from-count.ensures in
+    omega (arith, room, below, all, ports)
+
+pub add-requires-in-loop-port : goal.add-requires-in-loop-port
+add-requires-in-loop-port c =
+    let gives = c.into_iter-port-iterator.ensures.into_iter_gives in
+    let count : into_iter_len c.into_iter-port-iterator.result ≡ length c.args.ports.items = omega (arith, gives.1) in
+    let turn = YieldsList-turn (YieldsList-from_vec c.args.ports.items gives.0 count) c.loop-port.yielded c.loop-port.port-iterator c.loop-port.yielded_by c.next.result c.next.new.self c.in-Some.port c.in-Some.is c.next.ensures.steps in
+    let below = turn.0 in
+    let room = c.loop-port.invariant.room_for_ends in
+    let all = c.requires.all in
+    let ports = c.from-count.ensures in
+    omega (arith, room, below, all, ports)
+
 pub loop-port-preserved : goal.loop-port-preserved
 loop-port-preserved c =
     let gives = c.into_iter-port-iterator.ensures.into_iter_gives in

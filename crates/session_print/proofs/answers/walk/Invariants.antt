@@ -1,5 +1,4 @@
 use Rattle.std.proofs.Common.{◌≡◌, ℕ, take}
-use Rattle.tty_calls.specs.Plain.{entries_of}
 use Rattle.session_print.specs.Lines.{flushed_count, dropped_count}
 use Rattle.session_print.specs.Report.{answer_in}
 use Rattle.session_print.specs.Printing.{answer_at, place_in}
@@ -7,7 +6,7 @@ use Rattle.session_print.proofs.answers.walk.Given as goal
 
 abbrev pub invariant-loop-index : goal.invariant-loop-index
 invariant-loop-index l = record {
-  notes : (c step : ℕ) → answer_at l.entries (place_in l.places c step) ≡ answer_in (entries_of (take l.index l.entries)) c step;
-  flushes : l.sums.flushed ≡ flushed_count (entries_of (take l.index l.entries));
-  drops : l.sums.dropped ≡ dropped_count (entries_of (take l.index l.entries));
+  notes : (c step : ℕ) → answer_at l.journal.items (place_in l.places c step) ≡ answer_in (take l.index l.journal.items) c step;
+  flushes : l.sums.flushed ≡ flushed_count (take l.index l.journal.items);
+  drops : l.sums.dropped ≡ dropped_count (take l.index l.journal.items);
 }

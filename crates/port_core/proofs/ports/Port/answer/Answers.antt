@@ -1,6 +1,6 @@
-use Rattle.std.proofs.Common.{◌≡◌, ℕ, List, Option, [], ◌∷◌, ◌++◌, Bool, false, Some, ◌+◌, ◌<◌, ◌≤◌, length, map, refl, sym, ◌∙◌, ap, subst, arith, append-nil}
+use Rattle.std.proofs.Common.{◌≡◌, ℕ, List, Option, [], ◌∷◌, ◌++◌, Bool, false, Some, ◌+◌, ◌<◌, ◌≤◌, length, refl, sym, ◌∙◌, ap, subst, arith, append-nil}
 use Rattle.tty_calls.specs.declared.journals.Who.TheVariants.{Caller}
-use Rattle.tty_calls.specs.Plain.{PlainEntry, answered, parted, handle_of, call_of, answer_of, entry_of, entries_of}
+use Rattle.tty_calls.specs.Plain.{PlainEntry, answered, parted, handle_of, call_of, answer_of, entry_of, bytes_by, bytes_in}
 use Rattle.ldisc_switch.specs.Disciplines.{column_in}
 use Rattle.tty_terminal.specs.Terminals.{Terminal, caller_at, has_begun}
 use Rattle.tty_terminal.specs.Calls.{outcome}
@@ -10,7 +10,7 @@ use Rattle.port_core.specs.declared.waiting.WaitingCall.{WaitingCall}
 use Rattle.port_core.specs.Ports.{PortValue, kept_with, caller_entry}
 use Rattle.port_core.specs.Attempts.{IsReady, AnswersCall, TakesPartOf}
 use Rattle.port_core.specs.Inside.{value_of}
-use Rattle.port_core.proofs.GoingOn.{made, entries_added, known_caller, port_bounded}
+use Rattle.port_core.proofs.GoingOn.{made, entry_added, known_caller, port_bounded}
 use Rattle.port_core.proofs.Calls.{begun_is, answers_met, parts_met, none_dropped, with_none_dropped}
 use Rattle.port_core.proofs.Answering.{IsTried, after_call, answers_call, takes_part_of}
 use Rattle.tty_calls.specs.Plain.{PlainCall}
@@ -53,9 +53,15 @@ advance-requires-clause-few c =
     let w : Leaves c.self.inside.terminal.terminal c.meet.new.self.terminal = leaves_of c.self.inside.terminal.terminal c.prepare.new.terminal.terminal c.meet.new.self.terminal c.args.caller (call_of c.args.call.now) c.prepare.ensures.terminal c.meet.ensures.left in
     omega (arith, (w.caller c.args.caller).next, (port_bounded (value_of c.self.inside) c.self.invariant.port).next c.args.caller)
 
-pub copy_into-requires : goal.copy_into-requires
-copy_into-requires c =
-    (answer_fits c.prepare.new.terminal.terminal (caller_at c.prepare.new.terminal.terminal c.args.caller) (call_of c.args.call.now) c.in_ok-made.made.copy c.in_ok-made.ensures.copy).fits c.in-Gives.answer c.in-Gives.ensures.met
+pub add-requires-clause-bytes : goal.add-requires-clause-bytes
+add-requires-clause-bytes c =
+    let t : Terminal = c.self.inside.terminal.terminal in
+    let d = c.args.caller in
+    let call = call_of c.args.call.now in
+    let meets : Meets (outcome t (caller_at t d) call) (met.Gives c.in-Gives.answer) = subst (λ (u : Terminal). Meets (outcome u (caller_at u d) call) (met.Gives c.in-Gives.answer)) c.prepare.ensures.terminal c.in-Gives.ensures.met in
+    let few = (answer_fits t (caller_at t d) call).fits c.in-Gives.answer meets in
+    let bytes = ap (λ (e : PlainEntry). bytes_by e.event) c.entry_of_call-entry.ensures ∙ ap bytes_in c.lent.ensures in
+    rw bytes (omega (arith, few, c.room_for-bytes.ensures, c.in_ok-reserve_entry.ensures.bytes))
 
 pub note_part-requires-clause-parts : goal.note_part-requires-clause-parts
 note_part-requires-clause-parts c =
@@ -87,12 +93,12 @@ invariant_of-self-in-Gives c =
     let column : column_in c.meet.new.self.terminal.disc ≤ column_in v.terminal.disc + 4096 = subst (λ (t : Terminal). column_in c.meet.new.self.terminal.disc ≤ column_in t.disc + 4096) c.prepare.ensures.terminal c.meet.ensures.column in
     let keeps : drops_of o ≡ false = subst (λ (w : PortValue). drops_of (outcome w.terminal (caller_at w.terminal d) call) ≡ false) (sym c.self.view_is) c.requires.keeps in
     let e : PlainEntry = caller_entry v d (answered (answer_of c.in-Gives.answer) []) in
-    let entry : entry_of c.entry_of_call-entry.result ≡ e = ap entry_of c.entry_of_call-entry.ensures ∙ (λ i. record { who = Caller d; step = ready.next i; part = (c.caller-state.ensures i).parts; generation = c.generation-generation.ensures i; event = answered (c.copy_into.ensures i) [] }) in
-    let js : entries_of c.add.new.self.items ≡ v.journal ++ e ∷ [] = entries_added c.self.inside.journal.items c.reserve_entry.new.journal.items c.entry_of_call-entry.result c.add.new.self.items c.in_ok-reserve_entry.ensures.items (ap (λ b. b.items) c.add.ensures) ∙ ap (λ (x : PlainEntry). v.journal ++ x ∷ []) entry in
+    let entry : entry_of c.entry_of_call-entry.result ≡ e = c.entry_of_call-entry.ensures ∙ (λ i. record { who = Caller d; step = ready.next i; part = (c.caller-state.ensures i).parts; generation = c.generation-generation.ensures i; event = answered (c.lent.ensures i) [] }) in
+    let js : c.add.new.self.items ≡ v.journal ++ e ∷ [] = entry_added v.journal _ _ _ e c.in_ok-reserve_entry.ensures.items c.add.ensures entry in
     let kept_plain : c.note.new.self.items ≡ kept_with (has_begun (caller_at v.terminal d)) v.kept d step call = c.note.ensures ∙ ap (λ (b : Bool). kept_with b v.kept d step call) begun in
-    let now : PortValue = record v { terminal = c.advance.new.self.terminal; journal = entries_of c.add.new.self.items; kept = c.note.new.self.items; starved = c.prepare.new.starved; flip = v.flip } in
+    let now : PortValue = record v { terminal = c.advance.new.self.terminal; journal = c.add.new.self.items; kept = c.note.new.self.items; starved = c.prepare.new.starved; flip = v.flip } in
     let goes : c.advance.new.self.terminal ≡ after_answer (with_dropped c.meet.new.self.terminal 0) d = ap (λ r. r.terminal) c.advance.ensures ∙ ap (λ (w : Terminal). after_answer w d) (sym (with_none_dropped c.meet.new.self.terminal)) in
-    let same : now ≡ after_call v d step call (after_answer (with_dropped c.meet.new.self.terminal 0) d) v.flip e = made v _ (after_answer (with_dropped c.meet.new.self.terminal 0) d) _ (v.journal ++ e ∷ []) _ (kept_with (has_begun (caller_at v.terminal d)) v.kept d step call) _ v.flip v.flip goes js kept_plain (c.in_ok-made.ensures.ok ∙ c.in_ok-reserve_entry.ensures.ok) refl in
+    let same : now ≡ after_call v d step call (after_answer (with_dropped c.meet.new.self.terminal 0) d) v.flip e = made v _ (after_answer (with_dropped c.meet.new.self.terminal 0) d) _ (v.journal ++ e ∷ []) _ (kept_with (has_begun (caller_at v.terminal d)) v.kept d step call) _ v.flip v.flip goes js kept_plain (c.in_ok-room.ensures.ok ∙ c.in_ok-reserve_entry.ensures.ok) refl in
     let both = answers_call v now slots d step call (answer_of c.in-Gives.answer) [] c.meet.new.self.terminal v.flip tried
     (answers_met _ o c.in-Gives.answer (subst (λ (x : Outcome). Meets x (met.Gives c.in-Gives.answer)) same_o c.in-Gives.ensures.met)) (none_dropped v.terminal o keeps)
     (when_false (drops_of o) _ _ keeps (refl, refl)) (sym (append-nil v.flip.taken)) (omega arith) refl c.self.invariant.port.sent left column same in
@@ -115,12 +121,12 @@ returns-in-Gives-clause-tried c =
     let column : column_in c.meet.new.self.terminal.disc ≤ column_in v.terminal.disc + 4096 = subst (λ (t : Terminal). column_in c.meet.new.self.terminal.disc ≤ column_in t.disc + 4096) c.prepare.ensures.terminal c.meet.ensures.column in
     let keeps : drops_of o ≡ false = subst (λ (w : PortValue). drops_of (outcome w.terminal (caller_at w.terminal d) call) ≡ false) (sym c.self.view_is) c.requires.keeps in
     let e : PlainEntry = caller_entry v d (answered (answer_of c.in-Gives.answer) []) in
-    let entry : entry_of c.entry_of_call-entry.result ≡ e = ap entry_of c.entry_of_call-entry.ensures ∙ (λ i. record { who = Caller d; step = ready.next i; part = (c.caller-state.ensures i).parts; generation = c.generation-generation.ensures i; event = answered (c.copy_into.ensures i) [] }) in
-    let js : entries_of c.add.new.self.items ≡ v.journal ++ e ∷ [] = entries_added c.self.inside.journal.items c.reserve_entry.new.journal.items c.entry_of_call-entry.result c.add.new.self.items c.in_ok-reserve_entry.ensures.items (ap (λ b. b.items) c.add.ensures) ∙ ap (λ (x : PlainEntry). v.journal ++ x ∷ []) entry in
+    let entry : entry_of c.entry_of_call-entry.result ≡ e = c.entry_of_call-entry.ensures ∙ (λ i. record { who = Caller d; step = ready.next i; part = (c.caller-state.ensures i).parts; generation = c.generation-generation.ensures i; event = answered (c.lent.ensures i) [] }) in
+    let js : c.add.new.self.items ≡ v.journal ++ e ∷ [] = entry_added v.journal _ _ _ e c.in_ok-reserve_entry.ensures.items c.add.ensures entry in
     let kept_plain : c.note.new.self.items ≡ kept_with (has_begun (caller_at v.terminal d)) v.kept d step call = c.note.ensures ∙ ap (λ (b : Bool). kept_with b v.kept d step call) begun in
-    let now : PortValue = record v { terminal = c.advance.new.self.terminal; journal = entries_of c.add.new.self.items; kept = c.note.new.self.items; starved = c.prepare.new.starved; flip = v.flip } in
+    let now : PortValue = record v { terminal = c.advance.new.self.terminal; journal = c.add.new.self.items; kept = c.note.new.self.items; starved = c.prepare.new.starved; flip = v.flip } in
     let goes : c.advance.new.self.terminal ≡ after_answer (with_dropped c.meet.new.self.terminal 0) d = ap (λ r. r.terminal) c.advance.ensures ∙ ap (λ (w : Terminal). after_answer w d) (sym (with_none_dropped c.meet.new.self.terminal)) in
-    let same : now ≡ after_call v d step call (after_answer (with_dropped c.meet.new.self.terminal 0) d) v.flip e = made v _ (after_answer (with_dropped c.meet.new.self.terminal 0) d) _ (v.journal ++ e ∷ []) _ (kept_with (has_begun (caller_at v.terminal d)) v.kept d step call) _ v.flip v.flip goes js kept_plain (c.in_ok-made.ensures.ok ∙ c.in_ok-reserve_entry.ensures.ok) refl in
+    let same : now ≡ after_call v d step call (after_answer (with_dropped c.meet.new.self.terminal 0) d) v.flip e = made v _ (after_answer (with_dropped c.meet.new.self.terminal 0) d) _ (v.journal ++ e ∷ []) _ (kept_with (has_begun (caller_at v.terminal d)) v.kept d step call) _ v.flip v.flip goes js kept_plain (c.in_ok-room.ensures.ok ∙ c.in_ok-reserve_entry.ensures.ok) refl in
     let both = answers_call v now slots d step call (answer_of c.in-Gives.answer) [] c.meet.new.self.terminal v.flip tried
     (answers_met _ o c.in-Gives.answer (subst (λ (x : Outcome). Meets x (met.Gives c.in-Gives.answer)) same_o c.in-Gives.ensures.met)) (none_dropped v.terminal o keeps)
     (when_false (drops_of o) _ _ keeps (refl, refl)) (sym (append-nil v.flip.taken)) (omega arith) refl c.self.invariant.port.sent left column same in
@@ -143,12 +149,12 @@ invariant_of-self-in-Takes c =
     let column : column_in c.meet.new.self.terminal.disc ≤ column_in v.terminal.disc + 4096 = subst (λ (t : Terminal). column_in c.meet.new.self.terminal.disc ≤ column_in t.disc + 4096) c.prepare.ensures.terminal c.meet.ensures.column in
     let keeps : drops_of o ≡ false = subst (λ (w : PortValue). drops_of (outcome w.terminal (caller_at w.terminal d) call) ≡ false) (sym c.self.view_is) c.requires.keeps in
     let e : PlainEntry = caller_entry v d (parted c.in-Takes.count) in
-    let entry : entry_of c.entry_of_call-entry-in-Takes.result ≡ e = ap entry_of c.entry_of_call-entry-in-Takes.ensures ∙ (λ i. record { who = Caller d; step = ready.next i; part = (c.caller-state.ensures i).parts; generation = c.generation-generation.ensures i; event = parted c.in-Takes.count }) in
-    let js : entries_of c.add-in-Takes.new.self.items ≡ v.journal ++ e ∷ [] = entries_added c.self.inside.journal.items c.reserve_entry.new.journal.items c.entry_of_call-entry-in-Takes.result c.add-in-Takes.new.self.items c.in_ok-reserve_entry.ensures.items (ap (λ b. b.items) c.add-in-Takes.ensures) ∙ ap (λ (x : PlainEntry). v.journal ++ x ∷ []) entry in
+    let entry : entry_of c.entry_of_call-entry-in-Takes.result ≡ e = c.entry_of_call-entry-in-Takes.ensures ∙ (λ i. record { who = Caller d; step = ready.next i; part = (c.caller-state.ensures i).parts; generation = c.generation-generation.ensures i; event = parted c.in-Takes.count }) in
+    let js : c.add-in-Takes.new.self.items ≡ v.journal ++ e ∷ [] = entry_added v.journal _ _ _ e c.in_ok-reserve_entry.ensures.items c.add-in-Takes.ensures entry in
     let kept_plain : c.note-in-Takes.new.self.items ≡ kept_with (has_begun (caller_at v.terminal d)) v.kept d step call = c.note-in-Takes.ensures ∙ ap (λ (b : Bool). kept_with b v.kept d step call) begun in
-    let now : PortValue = record v { terminal = c.note_part.new.self.terminal; journal = entries_of c.add-in-Takes.new.self.items; kept = c.note-in-Takes.new.self.items; starved = c.prepare.new.starved; flip = v.flip } in
+    let now : PortValue = record v { terminal = c.note_part.new.self.terminal; journal = c.add-in-Takes.new.self.items; kept = c.note-in-Takes.new.self.items; starved = c.prepare.new.starved; flip = v.flip } in
     let goes : c.note_part.new.self.terminal ≡ after_part c.meet.new.self.terminal d (handle_of call) c.in-Takes.count = ap (λ r. r.terminal) c.note_part.ensures ∙ ap (λ (h : ℕ). after_part c.meet.new.self.terminal d h c.in-Takes.count) c.handle.ensures in
-    let same : now ≡ after_call v d step call (after_part c.meet.new.self.terminal d (handle_of call) c.in-Takes.count) v.flip e = made v _ (after_part c.meet.new.self.terminal d (handle_of call) c.in-Takes.count) _ (v.journal ++ e ∷ []) _ (kept_with (has_begun (caller_at v.terminal d)) v.kept d step call) _ v.flip v.flip goes js kept_plain (c.in_ok-made.ensures.ok ∙ c.in_ok-reserve_entry.ensures.ok) refl in
+    let same : now ≡ after_call v d step call (after_part c.meet.new.self.terminal d (handle_of call) c.in-Takes.count) v.flip e = made v _ (after_part c.meet.new.self.terminal d (handle_of call) c.in-Takes.count) _ (v.journal ++ e ∷ []) _ (kept_with (has_begun (caller_at v.terminal d)) v.kept d step call) _ v.flip v.flip goes js kept_plain (c.in_ok-room.ensures.ok ∙ c.in_ok-reserve_entry.ensures.ok) refl in
     let both = takes_part_of v now slots d step call c.in-Takes.count c.meet.new.self.terminal tried
     (parts_met o c.in-Takes.count (subst (λ (x : Outcome). Meets x (met.Takes c.in-Takes.count)) same_o c.in-Takes.ensures.met)) left column same in
     both.0
@@ -170,12 +176,12 @@ returns-in-Takes-clause-tried c =
     let column : column_in c.meet.new.self.terminal.disc ≤ column_in v.terminal.disc + 4096 = subst (λ (t : Terminal). column_in c.meet.new.self.terminal.disc ≤ column_in t.disc + 4096) c.prepare.ensures.terminal c.meet.ensures.column in
     let keeps : drops_of o ≡ false = subst (λ (w : PortValue). drops_of (outcome w.terminal (caller_at w.terminal d) call) ≡ false) (sym c.self.view_is) c.requires.keeps in
     let e : PlainEntry = caller_entry v d (parted c.in-Takes.count) in
-    let entry : entry_of c.entry_of_call-entry-in-Takes.result ≡ e = ap entry_of c.entry_of_call-entry-in-Takes.ensures ∙ (λ i. record { who = Caller d; step = ready.next i; part = (c.caller-state.ensures i).parts; generation = c.generation-generation.ensures i; event = parted c.in-Takes.count }) in
-    let js : entries_of c.add-in-Takes.new.self.items ≡ v.journal ++ e ∷ [] = entries_added c.self.inside.journal.items c.reserve_entry.new.journal.items c.entry_of_call-entry-in-Takes.result c.add-in-Takes.new.self.items c.in_ok-reserve_entry.ensures.items (ap (λ b. b.items) c.add-in-Takes.ensures) ∙ ap (λ (x : PlainEntry). v.journal ++ x ∷ []) entry in
+    let entry : entry_of c.entry_of_call-entry-in-Takes.result ≡ e = c.entry_of_call-entry-in-Takes.ensures ∙ (λ i. record { who = Caller d; step = ready.next i; part = (c.caller-state.ensures i).parts; generation = c.generation-generation.ensures i; event = parted c.in-Takes.count }) in
+    let js : c.add-in-Takes.new.self.items ≡ v.journal ++ e ∷ [] = entry_added v.journal _ _ _ e c.in_ok-reserve_entry.ensures.items c.add-in-Takes.ensures entry in
     let kept_plain : c.note-in-Takes.new.self.items ≡ kept_with (has_begun (caller_at v.terminal d)) v.kept d step call = c.note-in-Takes.ensures ∙ ap (λ (b : Bool). kept_with b v.kept d step call) begun in
-    let now : PortValue = record v { terminal = c.note_part.new.self.terminal; journal = entries_of c.add-in-Takes.new.self.items; kept = c.note-in-Takes.new.self.items; starved = c.prepare.new.starved; flip = v.flip } in
+    let now : PortValue = record v { terminal = c.note_part.new.self.terminal; journal = c.add-in-Takes.new.self.items; kept = c.note-in-Takes.new.self.items; starved = c.prepare.new.starved; flip = v.flip } in
     let goes : c.note_part.new.self.terminal ≡ after_part c.meet.new.self.terminal d (handle_of call) c.in-Takes.count = ap (λ r. r.terminal) c.note_part.ensures ∙ ap (λ (h : ℕ). after_part c.meet.new.self.terminal d h c.in-Takes.count) c.handle.ensures in
-    let same : now ≡ after_call v d step call (after_part c.meet.new.self.terminal d (handle_of call) c.in-Takes.count) v.flip e = made v _ (after_part c.meet.new.self.terminal d (handle_of call) c.in-Takes.count) _ (v.journal ++ e ∷ []) _ (kept_with (has_begun (caller_at v.terminal d)) v.kept d step call) _ v.flip v.flip goes js kept_plain (c.in_ok-made.ensures.ok ∙ c.in_ok-reserve_entry.ensures.ok) refl in
+    let same : now ≡ after_call v d step call (after_part c.meet.new.self.terminal d (handle_of call) c.in-Takes.count) v.flip e = made v _ (after_part c.meet.new.self.terminal d (handle_of call) c.in-Takes.count) _ (v.journal ++ e ∷ []) _ (kept_with (has_begun (caller_at v.terminal d)) v.kept d step call) _ v.flip v.flip goes js kept_plain (c.in_ok-room.ensures.ok ∙ c.in_ok-reserve_entry.ensures.ok) refl in
     let both = takes_part_of v now slots d step call c.in-Takes.count c.meet.new.self.terminal tried
     (parts_met o c.in-Takes.count (subst (λ (x : Outcome). Meets x (met.Takes c.in-Takes.count)) same_o c.in-Takes.ensures.met)) left column same in
     subst (λ (w : PortValue). TakesPartOf w now d step call) c.self.view_is both.1

@@ -1,8 +1,8 @@
 use Rattle.std.specs.Prelude.{MatchBool}
-use Rattle.std.proofs.Common.{◌≡◌, ℕ, List, Option, [], ◌∷◌, ◌++◌, Bool, true, false, Some, ◌+◌, ◌-◌, min, if◌then◌else◌, ◌<◌, ◌≤◌, length, map, refl, sym, ◌∙◌, ap, subst, arith}
+use Rattle.std.proofs.Common.{◌≡◌, ℕ, List, Option, [], ◌∷◌, ◌++◌, Bool, true, false, Some, ◌+◌, ◌-◌, min, if◌then◌else◌, ◌<◌, ◌≤◌, length, refl, sym, ◌∙◌, ap, subst, arith}
 use Rattle.tty_base.specs.declared.characters.Flagged.{Flagged}
 use Rattle.tty_calls.specs.declared.journals.Who.TheVariants.{Caller}
-use Rattle.tty_calls.specs.Plain.{PlainEntry, answered, call_of, answer_of, entry_of, entries_of}
+use Rattle.tty_calls.specs.Plain.{PlainEntry, answered, call_of, answer_of, entry_of, bytes_by, bytes_in, chars_in}
 use Rattle.ldisc_switch.specs.Disciplines.{column_in}
 use Rattle.tty_terminal.specs.Terminals.{Terminal, caller_at, has_begun}
 use Rattle.tty_terminal.specs.Calls.{outcome}
@@ -13,10 +13,10 @@ use Rattle.port_core.specs.Flips.{DropsShown}
 use Rattle.port_core.specs.Ports.{PortValue, kept_with, caller_entry}
 use Rattle.port_core.specs.Attempts.{IsReady, AnswersCall}
 use Rattle.port_core.specs.Inside.{value_of}
-use Rattle.port_core.proofs.GoingOn.{made, entries_added, known_caller, port_bounded, port_taken, port_capacity, port_within, port_few}
+use Rattle.port_core.proofs.GoingOn.{made, entry_added, known_caller, port_bounded, port_taken, port_capacity, port_within, port_few}
 use Rattle.port_core.proofs.Calls.{begun_is, answers_met, some_dropped}
 use Rattle.port_core.proofs.Answering.{IsTried, after_call, answers_call}
-use Rattle.tty_calls.specs.Plain.{PlainAnswer, PlainCall}
+use Rattle.tty_calls.specs.Plain.{PlainCall}
 use Rattle.tty_terminal.specs.declared.rooms.Met.TheVariants as met
 use Rattle.tty_terminal.specs.Outcomes.{Outcome}
 use Rattle.tty_terminal.specs.Meeting.{Meets}
@@ -39,8 +39,11 @@ shown_few : (over : Bool) (tail taken sent n : ℕ) → n ≡ (if over then min 
 shown_few true tail taken sent n is = omega arith
 shown_few false tail taken sent n is = omega arith
 
+drops_within : (v : PortValue) (f : TakerState Flagged) (chars : List Flagged) → IsPort v → DropsShown v.terminal v.flip f chars → length chars ≤ v.flip.capacity
+drops_within v f chars p shown = omega (arith, shown_few v.terminal.line_over shown.tail v.terminal.taken v.terminal.sent (length chars) shown.all, shown.looks.most, port_taken v p)
+
 drops_few : (v : PortValue) (f : TakerState Flagged) (chars : List Flagged) → IsPort v → DropsShown v.terminal v.flip f chars → length chars ≤ 65536
-drops_few v f chars p shown = omega (arith, shown_few v.terminal.line_over shown.tail v.terminal.taken v.terminal.sent (length chars) shown.all, shown.looks.most, port_taken v p, p.capacity)
+drops_few v f chars p shown = omega (arith, drops_within v f chars p shown, p.capacity)
 
 pub caller-state-requires : goal.caller-state-requires
 caller-state-requires c = known_caller (value_of c.self.inside) c.args.self.now c.args.caller c.self.view_is c.self.invariant.port c.requires.ready.known
@@ -61,8 +64,8 @@ pub drop_characters-requires : goal.drop_characters-requires
 drop_characters-requires c =
     let w : Leaves c.self.inside.terminal.terminal c.meet.new.self.terminal = leaves_of c.self.inside.terminal.terminal c.prepare.new.terminal.terminal c.meet.new.self.terminal c.args.caller (call_of c.args.call.now) c.prepare.ensures.terminal c.meet.ensures.left in
     let v : PortValue = value_of c.self.inside in
-    let shown : DropsShown v.terminal v.flip c.drop_shown.new.flip c.trimmed-dropped.result.items = subst (λ (t : Terminal). DropsShown t v.flip c.drop_shown.new.flip c.trimmed-dropped.result.items) c.prepare.ensures.terminal (subst (λ (chars : List Flagged). DropsShown c.prepare.new.terminal.terminal v.flip c.drop_shown.new.flip chars) (sym c.trimmed-dropped.ensures) c.drop_shown.ensures) in
-    omega (arith, w.taken, drops_few v c.drop_shown.new.flip c.trimmed-dropped.result.items c.self.invariant.port shown, port_few v c.self.invariant.port, port_taken v c.self.invariant.port, c.len-count.ensures)
+    let shown : DropsShown v.terminal v.flip c.drop_shown.new.flip c.drop_shown.new.dropped.items = subst (λ (t : Terminal). DropsShown t v.flip c.drop_shown.new.flip c.drop_shown.new.dropped.items) c.prepare.ensures.terminal c.drop_shown.ensures in
+    omega (arith, w.taken, drops_few v c.drop_shown.new.flip c.drop_shown.new.dropped.items c.self.invariant.port shown, port_few v c.self.invariant.port, port_taken v c.self.invariant.port, c.len-count.ensures)
 
 pub advance-requires-clause-known : goal.advance-requires-clause-known
 advance-requires-clause-known c =
@@ -74,14 +77,27 @@ advance-requires-clause-few c =
     let w : Leaves c.self.inside.terminal.terminal c.meet.new.self.terminal = leaves_of c.self.inside.terminal.terminal c.prepare.new.terminal.terminal c.meet.new.self.terminal c.args.caller (call_of c.args.call.now) c.prepare.ensures.terminal c.meet.ensures.left in
     omega (arith, ap (λ (t : Terminal). (caller_at t c.args.caller).next) (ap (λ r. r.terminal) c.drop_characters.ensures), (w.caller c.args.caller).next, (port_bounded (value_of c.self.inside) c.self.invariant.port).next c.args.caller)
 
-pub copy_into-requires : goal.copy_into-requires
-copy_into-requires c =
-    (answer_fits c.prepare.new.terminal.terminal (caller_at c.prepare.new.terminal.terminal c.args.caller) (call_of c.args.call.now) c.in_ok-made.made.copy c.in_ok-made.ensures.copy).fits c.in-Gives.answer c.in-Gives.ensures.met
+pub add-requires-clause-bytes : goal.add-requires-clause-bytes
+add-requires-clause-bytes c =
+    let t : Terminal = c.self.inside.terminal.terminal in
+    let d = c.args.caller in
+    let call = call_of c.args.call.now in
+    let meets : Meets (outcome t (caller_at t d) call) (met.Gives c.in-Gives.answer) = subst (λ (u : Terminal). Meets (outcome u (caller_at u d) call) (met.Gives c.in-Gives.answer)) c.prepare.ensures.terminal c.in-Gives.ensures.met in
+    let few = (answer_fits t (caller_at t d) call).fits c.in-Gives.answer meets in
+    let bytes = ap (λ (e : PlainEntry). bytes_by e.event) c.entry_of_call-entry.ensures ∙ ap bytes_in c.lent.ensures in
+    rw bytes (omega (arith, few, c.room_for-bytes.ensures, c.in_ok-reserve_entry.ensures.bytes))
+
+pub add-requires-clause-characters : goal.add-requires-clause-characters
+add-requires-clause-characters c =
+    let v : PortValue = value_of c.self.inside in
+    let shown : DropsShown v.terminal v.flip c.drop_shown.new.flip c.drop_shown.new.dropped.items = subst (λ (t : Terminal). DropsShown t v.flip c.drop_shown.new.flip c.drop_shown.new.dropped.items) c.prepare.ensures.terminal c.drop_shown.ensures in
+    let characters = ap (λ (e : PlainEntry). chars_in e.event) c.entry_of_call-entry.ensures ∙ c.as_slice.ensures in
+    rw characters (omega (arith, drops_within v c.drop_shown.new.flip c.drop_shown.new.dropped.items c.self.invariant.port shown, c.capacity-capacity.ensures, c.in_ok-reserve_entry.ensures.characters))
 
 pub invariant_of-self-2 : goal.invariant_of-self-2
 invariant_of-self-2 c =
     let v : PortValue = value_of c.self.inside in
-    let shown : DropsShown v.terminal v.flip c.drop_shown.new.flip c.trimmed-dropped.result.items = subst (λ (t : Terminal). DropsShown t v.flip c.drop_shown.new.flip c.trimmed-dropped.result.items) c.prepare.ensures.terminal (subst (λ (chars : List Flagged). DropsShown c.prepare.new.terminal.terminal v.flip c.drop_shown.new.flip chars) (sym c.trimmed-dropped.ensures) c.drop_shown.ensures) in
+    let shown : DropsShown v.terminal v.flip c.drop_shown.new.flip c.drop_shown.new.dropped.items = subst (λ (t : Terminal). DropsShown t v.flip c.drop_shown.new.flip c.drop_shown.new.dropped.items) c.prepare.ensures.terminal c.drop_shown.ensures in
     let d = c.args.caller in
     let step = c.args.step in
     let call = call_of c.args.call.now in
@@ -95,24 +111,24 @@ invariant_of-self-2 c =
     let left : c.meet.new.self.terminal ≡ left_by o v.terminal = c.meet.ensures.left ∙ ap (λ (t : Terminal). left_by (outcome t (caller_at t d) call) t) c.prepare.ensures.terminal in
     let column : column_in c.meet.new.self.terminal.disc ≤ column_in v.terminal.disc + 4096 = subst (λ (t : Terminal). column_in c.meet.new.self.terminal.disc ≤ column_in t.disc + 4096) c.prepare.ensures.terminal c.meet.ensures.column in
     let drops : drops_of o ≡ true = subst (λ (w : PortValue). drops_of (outcome w.terminal (caller_at w.terminal d) call) ≡ true) (sym c.self.view_is) c.requires.drops in
-    let e : PlainEntry = caller_entry v d (answered (answer_of c.in-Gives.answer) c.trimmed-dropped.result.items) in
-    let entry : entry_of c.entry_of_call-entry.result ≡ e = ap entry_of c.entry_of_call-entry.ensures ∙ (λ i. record { who = Caller d; step = ready.next i; part = (c.caller-state.ensures i).parts; generation = c.generation-generation.ensures i; event = (c.purge_into-event.ensures ∙ ap (λ (a : PlainAnswer). answered a c.trimmed-dropped.result.items) c.copy_into.ensures) i }) in
-    let js : entries_of c.add.new.self.items ≡ v.journal ++ e ∷ [] = entries_added c.self.inside.journal.items c.reserve_entry.new.journal.items c.entry_of_call-entry.result c.add.new.self.items c.in_ok-reserve_entry.ensures.items (ap (λ b. b.items) c.add.ensures) ∙ ap (λ (x : PlainEntry). v.journal ++ x ∷ []) entry in
+    let e : PlainEntry = caller_entry v d (answered (answer_of c.in-Gives.answer) c.drop_shown.new.dropped.items) in
+    let entry : entry_of c.entry_of_call-entry.result ≡ e = c.entry_of_call-entry.ensures ∙ (λ i. record { who = Caller d; step = ready.next i; part = (c.caller-state.ensures i).parts; generation = c.generation-generation.ensures i; event = answered (c.lent.ensures i) (c.as_slice.ensures i) }) in
+    let js : c.add.new.self.items ≡ v.journal ++ e ∷ [] = entry_added v.journal _ _ _ e c.in_ok-reserve_entry.ensures.items c.add.ensures entry in
     let kept_plain : c.note.new.self.items ≡ kept_with (has_begun (caller_at v.terminal d)) v.kept d step call = c.note.ensures ∙ ap (λ (b : Bool). kept_with b v.kept d step call) begun in
-    let now : PortValue = record v { terminal = c.advance.new.self.terminal; journal = entries_of c.add.new.self.items; kept = c.note.new.self.items; starved = c.prepare.new.starved; flip = c.drop_shown.new.flip } in
-    let goes : c.advance.new.self.terminal ≡ after_answer (with_dropped c.meet.new.self.terminal (length c.trimmed-dropped.result.items)) d = ap (λ r. r.terminal) c.advance.ensures ∙ ap (λ (w : Terminal). after_answer w d) (ap (λ r. r.terminal) c.drop_characters.ensures ∙ ap (λ n. with_dropped c.meet.new.self.terminal n) c.len-count.ensures) in
-    let same : now ≡ after_call v d step call (after_answer (with_dropped c.meet.new.self.terminal (length c.trimmed-dropped.result.items)) d) c.drop_shown.new.flip e = made v _ (after_answer (with_dropped c.meet.new.self.terminal (length c.trimmed-dropped.result.items)) d) _ (v.journal ++ e ∷ []) _ (kept_with (has_begun (caller_at v.terminal d)) v.kept d step call) _ c.drop_shown.new.flip c.drop_shown.new.flip goes js kept_plain (c.in_ok-made.ensures.ok ∙ c.in_ok-purge.ensures.ok ∙ c.in_ok-shown.ensures.ok ∙ c.in_ok-reserve_entry.ensures.ok) refl in
+    let now : PortValue = record v { terminal = c.advance.new.self.terminal; journal = c.add.new.self.items; kept = c.note.new.self.items; starved = c.prepare.new.starved; flip = c.drop_shown.new.flip } in
+    let goes : c.advance.new.self.terminal ≡ after_answer (with_dropped c.meet.new.self.terminal (length c.drop_shown.new.dropped.items)) d = ap (λ r. r.terminal) c.advance.ensures ∙ ap (λ (w : Terminal). after_answer w d) (ap (λ r. r.terminal) c.drop_characters.ensures ∙ ap (λ n. with_dropped c.meet.new.self.terminal n) c.len-count.ensures) in
+    let same : now ≡ after_call v d step call (after_answer (with_dropped c.meet.new.self.terminal (length c.drop_shown.new.dropped.items)) d) c.drop_shown.new.flip e = made v _ (after_answer (with_dropped c.meet.new.self.terminal (length c.drop_shown.new.dropped.items)) d) _ (v.journal ++ e ∷ []) _ (kept_with (has_begun (caller_at v.terminal d)) v.kept d step call) _ c.drop_shown.new.flip c.drop_shown.new.flip goes js kept_plain (c.in_ok-room.ensures.ok ∙ c.in_ok-dropped.ensures.ok ∙ c.in_ok-reserve_entry.ensures.ok) refl in
     let least : v.terminal.sent ≤ shown.tail = omega (arith, c.self.invariant.port.sent, shown.looks.rises) in
     let most : shown.tail ≤ v.terminal.taken + v.terminal.capacity = omega (arith, shown.looks.most, port_taken v c.self.invariant.port, port_capacity v c.self.invariant.port) in
-    let both = answers_call v now slots d step call (answer_of c.in-Gives.answer) c.trimmed-dropped.result.items c.meet.new.self.terminal c.drop_shown.new.flip tried
-    (answers_met _ o c.in-Gives.answer (subst (λ (x : Outcome). Meets x (met.Gives c.in-Gives.answer)) same_o c.in-Gives.ensures.met)) (some_dropped v.terminal o shown.tail (length c.trimmed-dropped.result.items) drops least most shown.all)
-    (when_true (drops_of o) _ _ drops shown) shown.takes_out.taken (drops_few v c.drop_shown.new.flip c.trimmed-dropped.result.items c.self.invariant.port shown) shown.takes_out.capacity (omega (arith, least, shown.looks.floor)) left column same in
+    let both = answers_call v now slots d step call (answer_of c.in-Gives.answer) c.drop_shown.new.dropped.items c.meet.new.self.terminal c.drop_shown.new.flip tried
+    (answers_met _ o c.in-Gives.answer (subst (λ (x : Outcome). Meets x (met.Gives c.in-Gives.answer)) same_o c.in-Gives.ensures.met)) (some_dropped v.terminal o shown.tail (length c.drop_shown.new.dropped.items) drops least most shown.all)
+    (when_true (drops_of o) _ _ drops shown) shown.takes_out.taken (drops_few v c.drop_shown.new.flip c.drop_shown.new.dropped.items c.self.invariant.port shown) shown.takes_out.capacity (omega (arith, least, shown.looks.floor)) left column same in
     both.0
 
 pub returns-clause-tried : goal.returns-clause-tried
 returns-clause-tried c =
     let v : PortValue = value_of c.self.inside in
-    let shown : DropsShown v.terminal v.flip c.drop_shown.new.flip c.trimmed-dropped.result.items = subst (λ (t : Terminal). DropsShown t v.flip c.drop_shown.new.flip c.trimmed-dropped.result.items) c.prepare.ensures.terminal (subst (λ (chars : List Flagged). DropsShown c.prepare.new.terminal.terminal v.flip c.drop_shown.new.flip chars) (sym c.trimmed-dropped.ensures) c.drop_shown.ensures) in
+    let shown : DropsShown v.terminal v.flip c.drop_shown.new.flip c.drop_shown.new.dropped.items = subst (λ (t : Terminal). DropsShown t v.flip c.drop_shown.new.flip c.drop_shown.new.dropped.items) c.prepare.ensures.terminal c.drop_shown.ensures in
     let d = c.args.caller in
     let step = c.args.step in
     let call = call_of c.args.call.now in
@@ -126,16 +142,16 @@ returns-clause-tried c =
     let left : c.meet.new.self.terminal ≡ left_by o v.terminal = c.meet.ensures.left ∙ ap (λ (t : Terminal). left_by (outcome t (caller_at t d) call) t) c.prepare.ensures.terminal in
     let column : column_in c.meet.new.self.terminal.disc ≤ column_in v.terminal.disc + 4096 = subst (λ (t : Terminal). column_in c.meet.new.self.terminal.disc ≤ column_in t.disc + 4096) c.prepare.ensures.terminal c.meet.ensures.column in
     let drops : drops_of o ≡ true = subst (λ (w : PortValue). drops_of (outcome w.terminal (caller_at w.terminal d) call) ≡ true) (sym c.self.view_is) c.requires.drops in
-    let e : PlainEntry = caller_entry v d (answered (answer_of c.in-Gives.answer) c.trimmed-dropped.result.items) in
-    let entry : entry_of c.entry_of_call-entry.result ≡ e = ap entry_of c.entry_of_call-entry.ensures ∙ (λ i. record { who = Caller d; step = ready.next i; part = (c.caller-state.ensures i).parts; generation = c.generation-generation.ensures i; event = (c.purge_into-event.ensures ∙ ap (λ (a : PlainAnswer). answered a c.trimmed-dropped.result.items) c.copy_into.ensures) i }) in
-    let js : entries_of c.add.new.self.items ≡ v.journal ++ e ∷ [] = entries_added c.self.inside.journal.items c.reserve_entry.new.journal.items c.entry_of_call-entry.result c.add.new.self.items c.in_ok-reserve_entry.ensures.items (ap (λ b. b.items) c.add.ensures) ∙ ap (λ (x : PlainEntry). v.journal ++ x ∷ []) entry in
+    let e : PlainEntry = caller_entry v d (answered (answer_of c.in-Gives.answer) c.drop_shown.new.dropped.items) in
+    let entry : entry_of c.entry_of_call-entry.result ≡ e = c.entry_of_call-entry.ensures ∙ (λ i. record { who = Caller d; step = ready.next i; part = (c.caller-state.ensures i).parts; generation = c.generation-generation.ensures i; event = answered (c.lent.ensures i) (c.as_slice.ensures i) }) in
+    let js : c.add.new.self.items ≡ v.journal ++ e ∷ [] = entry_added v.journal _ _ _ e c.in_ok-reserve_entry.ensures.items c.add.ensures entry in
     let kept_plain : c.note.new.self.items ≡ kept_with (has_begun (caller_at v.terminal d)) v.kept d step call = c.note.ensures ∙ ap (λ (b : Bool). kept_with b v.kept d step call) begun in
-    let now : PortValue = record v { terminal = c.advance.new.self.terminal; journal = entries_of c.add.new.self.items; kept = c.note.new.self.items; starved = c.prepare.new.starved; flip = c.drop_shown.new.flip } in
-    let goes : c.advance.new.self.terminal ≡ after_answer (with_dropped c.meet.new.self.terminal (length c.trimmed-dropped.result.items)) d = ap (λ r. r.terminal) c.advance.ensures ∙ ap (λ (w : Terminal). after_answer w d) (ap (λ r. r.terminal) c.drop_characters.ensures ∙ ap (λ n. with_dropped c.meet.new.self.terminal n) c.len-count.ensures) in
-    let same : now ≡ after_call v d step call (after_answer (with_dropped c.meet.new.self.terminal (length c.trimmed-dropped.result.items)) d) c.drop_shown.new.flip e = made v _ (after_answer (with_dropped c.meet.new.self.terminal (length c.trimmed-dropped.result.items)) d) _ (v.journal ++ e ∷ []) _ (kept_with (has_begun (caller_at v.terminal d)) v.kept d step call) _ c.drop_shown.new.flip c.drop_shown.new.flip goes js kept_plain (c.in_ok-made.ensures.ok ∙ c.in_ok-purge.ensures.ok ∙ c.in_ok-shown.ensures.ok ∙ c.in_ok-reserve_entry.ensures.ok) refl in
+    let now : PortValue = record v { terminal = c.advance.new.self.terminal; journal = c.add.new.self.items; kept = c.note.new.self.items; starved = c.prepare.new.starved; flip = c.drop_shown.new.flip } in
+    let goes : c.advance.new.self.terminal ≡ after_answer (with_dropped c.meet.new.self.terminal (length c.drop_shown.new.dropped.items)) d = ap (λ r. r.terminal) c.advance.ensures ∙ ap (λ (w : Terminal). after_answer w d) (ap (λ r. r.terminal) c.drop_characters.ensures ∙ ap (λ n. with_dropped c.meet.new.self.terminal n) c.len-count.ensures) in
+    let same : now ≡ after_call v d step call (after_answer (with_dropped c.meet.new.self.terminal (length c.drop_shown.new.dropped.items)) d) c.drop_shown.new.flip e = made v _ (after_answer (with_dropped c.meet.new.self.terminal (length c.drop_shown.new.dropped.items)) d) _ (v.journal ++ e ∷ []) _ (kept_with (has_begun (caller_at v.terminal d)) v.kept d step call) _ c.drop_shown.new.flip c.drop_shown.new.flip goes js kept_plain (c.in_ok-room.ensures.ok ∙ c.in_ok-dropped.ensures.ok ∙ c.in_ok-reserve_entry.ensures.ok) refl in
     let least : v.terminal.sent ≤ shown.tail = omega (arith, c.self.invariant.port.sent, shown.looks.rises) in
     let most : shown.tail ≤ v.terminal.taken + v.terminal.capacity = omega (arith, shown.looks.most, port_taken v c.self.invariant.port, port_capacity v c.self.invariant.port) in
-    let both = answers_call v now slots d step call (answer_of c.in-Gives.answer) c.trimmed-dropped.result.items c.meet.new.self.terminal c.drop_shown.new.flip tried
-    (answers_met _ o c.in-Gives.answer (subst (λ (x : Outcome). Meets x (met.Gives c.in-Gives.answer)) same_o c.in-Gives.ensures.met)) (some_dropped v.terminal o shown.tail (length c.trimmed-dropped.result.items) drops least most shown.all)
-    (when_true (drops_of o) _ _ drops shown) shown.takes_out.taken (drops_few v c.drop_shown.new.flip c.trimmed-dropped.result.items c.self.invariant.port shown) shown.takes_out.capacity (omega (arith, least, shown.looks.floor)) left column same in
+    let both = answers_call v now slots d step call (answer_of c.in-Gives.answer) c.drop_shown.new.dropped.items c.meet.new.self.terminal c.drop_shown.new.flip tried
+    (answers_met _ o c.in-Gives.answer (subst (λ (x : Outcome). Meets x (met.Gives c.in-Gives.answer)) same_o c.in-Gives.ensures.met)) (some_dropped v.terminal o shown.tail (length c.drop_shown.new.dropped.items) drops least most shown.all)
+    (when_true (drops_of o) _ _ drops shown) shown.takes_out.taken (drops_few v c.drop_shown.new.flip c.drop_shown.new.dropped.items c.self.invariant.port shown) shown.takes_out.capacity (omega (arith, least, shown.looks.floor)) left column same in
     subst (λ (w : PortValue). AnswersCall w now d step call (answer_of c.in-Gives.answer)) c.self.view_is both.1

@@ -1,6 +1,6 @@
-use Rattle.std.proofs.Common.{◌≡◌, List, Option, [], ◌∷◌, ◌++◌, Bool, true, false, ◌&&◌, is_some, ◌<◌, length, map, refl, sym, ◌∙◌, ap, subst, arith, append-nil}
+use Rattle.std.proofs.Common.{◌≡◌, List, Option, [], ◌∷◌, ◌++◌, Bool, true, false, ◌&&◌, is_some, ◌<◌, length, refl, sym, ◌∙◌, ap, subst, arith, append-nil}
 use Rattle.tty_calls.specs.declared.journals.Who.TheVariants.{Caller}
-use Rattle.tty_calls.specs.Plain.{PlainEntry, answered, idle, call_of, entry_of, entries_of}
+use Rattle.tty_calls.specs.Plain.{PlainEntry, answered, idle, call_of, entry_of}
 use Rattle.tty_terminal.specs.Terminals.{Terminal, caller_at, has_begun}
 use Rattle.tty_terminal.specs.Calls.{outcome}
 use Rattle.tty_terminal.specs.Meeting.{drops_of}
@@ -9,7 +9,7 @@ use Rattle.port_core.specs.declared.waiting.WaitingCall.{WaitingCall}
 use Rattle.port_core.specs.Ports.{PortValue, kept_with, caller_entry}
 use Rattle.port_core.specs.Attempts.{IsReady, AnswersCall}
 use Rattle.port_core.specs.Inside.{value_of}
-use Rattle.port_core.proofs.GoingOn.{made, entries_added, known_caller, port_bounded}
+use Rattle.port_core.proofs.GoingOn.{made, entry_added, known_caller, port_bounded}
 use Rattle.port_core.proofs.Calls.{begun_is, idle_answers, left_waiting, waiting_drops, waiting_keeps, with_none_dropped}
 use Rattle.port_core.proofs.Answering.{IsTried, after_call, answers_call}
 use Rattle.port_core.proofs.Handing.{when_false}
@@ -40,11 +40,11 @@ invariant_of-self-2 c =
     let begun : c.is_some-begun.result ≡ has_begun (caller_at v.terminal d) = begun_is v.terminal d c.caller-state.result c.is_some-begun.result c.caller-state.ensures c.is_some-begun.ensures in
     let tried : IsTried v slots d step call = record { keeps = c.self.invariant; few = few; ready = ready } in
     let e : PlainEntry = caller_entry v d (answered idle []) in
-    let entry : entry_of c.entry_of_call-entry.result ≡ e = ap entry_of c.entry_of_call-entry.ensures ∙ (λ i. record { who = Caller d; step = ready.next i; part = (c.caller-state.ensures i).parts; generation = c.generation-generation.ensures i; event = answered idle [] }) in
-    let js : entries_of c.add.new.self.items ≡ v.journal ++ e ∷ [] = entries_added c.self.inside.journal.items c.reserve_entry.new.journal.items c.entry_of_call-entry.result c.add.new.self.items c.in_ok-reserve_entry.ensures.items (ap (λ b. b.items) c.add.ensures) ∙ ap (λ (x : PlainEntry). v.journal ++ x ∷ []) entry in
+    let entry : entry_of c.entry_of_call-entry.result ≡ e = c.entry_of_call-entry.ensures ∙ (λ i. record { who = Caller d; step = ready.next i; part = (c.caller-state.ensures i).parts; generation = c.generation-generation.ensures i; event = answered idle [] }) in
+    let js : c.add.new.self.items ≡ v.journal ++ e ∷ [] = entry_added v.journal _ _ _ e c.in_ok-reserve_entry.ensures.items c.add.ensures entry in
     let kept_plain : c.note.new.self.items ≡ kept_with (has_begun (caller_at v.terminal d)) v.kept d step call = c.note.ensures ∙ ap (λ (b : Bool). kept_with b v.kept d step call) begun in
     let left : c.advance.new.self.terminal ≡ after_answer (with_dropped v.terminal 0) d = ap (λ r. r.terminal) c.advance.ensures ∙ (ap (λ (w : Terminal). after_answer w d) (sym (with_none_dropped v.terminal))) in
-    let now : PortValue = record v { terminal = c.advance.new.self.terminal; journal = entries_of c.add.new.self.items; kept = c.note.new.self.items; starved = c.reserve_entry.new.starved; flip = v.flip } in
+    let now : PortValue = record v { terminal = c.advance.new.self.terminal; journal = c.add.new.self.items; kept = c.note.new.self.items; starved = c.reserve_entry.new.starved; flip = v.flip } in
     let same : now ≡ after_call v d step call (after_answer (with_dropped v.terminal 0) d) v.flip e = made v _ (after_answer (with_dropped v.terminal 0) d) _ (v.journal ++ e ∷ []) _ (kept_with (has_begun (caller_at v.terminal d)) v.kept d step call) _ v.flip v.flip left js kept_plain c.in_ok-reserve_entry.ensures.ok refl in
     let o = outcome v.terminal (caller_at v.terminal d) call in
     let must : MustWait o = subst (λ (w : PortValue). MustWait (outcome w.terminal (caller_at w.terminal d) call)) (sym c.self.view_is) c.requires.must in
@@ -66,11 +66,11 @@ returns-clause-tried c =
     let begun : c.is_some-begun.result ≡ has_begun (caller_at v.terminal d) = begun_is v.terminal d c.caller-state.result c.is_some-begun.result c.caller-state.ensures c.is_some-begun.ensures in
     let tried : IsTried v slots d step call = record { keeps = c.self.invariant; few = few; ready = ready } in
     let e : PlainEntry = caller_entry v d (answered idle []) in
-    let entry : entry_of c.entry_of_call-entry.result ≡ e = ap entry_of c.entry_of_call-entry.ensures ∙ (λ i. record { who = Caller d; step = ready.next i; part = (c.caller-state.ensures i).parts; generation = c.generation-generation.ensures i; event = answered idle [] }) in
-    let js : entries_of c.add.new.self.items ≡ v.journal ++ e ∷ [] = entries_added c.self.inside.journal.items c.reserve_entry.new.journal.items c.entry_of_call-entry.result c.add.new.self.items c.in_ok-reserve_entry.ensures.items (ap (λ b. b.items) c.add.ensures) ∙ ap (λ (x : PlainEntry). v.journal ++ x ∷ []) entry in
+    let entry : entry_of c.entry_of_call-entry.result ≡ e = c.entry_of_call-entry.ensures ∙ (λ i. record { who = Caller d; step = ready.next i; part = (c.caller-state.ensures i).parts; generation = c.generation-generation.ensures i; event = answered idle [] }) in
+    let js : c.add.new.self.items ≡ v.journal ++ e ∷ [] = entry_added v.journal _ _ _ e c.in_ok-reserve_entry.ensures.items c.add.ensures entry in
     let kept_plain : c.note.new.self.items ≡ kept_with (has_begun (caller_at v.terminal d)) v.kept d step call = c.note.ensures ∙ ap (λ (b : Bool). kept_with b v.kept d step call) begun in
     let left : c.advance.new.self.terminal ≡ after_answer (with_dropped v.terminal 0) d = ap (λ r. r.terminal) c.advance.ensures ∙ (ap (λ (w : Terminal). after_answer w d) (sym (with_none_dropped v.terminal))) in
-    let now : PortValue = record v { terminal = c.advance.new.self.terminal; journal = entries_of c.add.new.self.items; kept = c.note.new.self.items; starved = c.reserve_entry.new.starved; flip = v.flip } in
+    let now : PortValue = record v { terminal = c.advance.new.self.terminal; journal = c.add.new.self.items; kept = c.note.new.self.items; starved = c.reserve_entry.new.starved; flip = v.flip } in
     let same : now ≡ after_call v d step call (after_answer (with_dropped v.terminal 0) d) v.flip e = made v _ (after_answer (with_dropped v.terminal 0) d) _ (v.journal ++ e ∷ []) _ (kept_with (has_begun (caller_at v.terminal d)) v.kept d step call) _ v.flip v.flip left js kept_plain c.in_ok-reserve_entry.ensures.ok refl in
     let o = outcome v.terminal (caller_at v.terminal d) call in
     let must : MustWait o = subst (λ (w : PortValue). MustWait (outcome w.terminal (caller_at w.terminal d) call)) (sym c.self.view_is) c.requires.must in

@@ -1,6 +1,6 @@
-use Rattle.std.proofs.Common.{◌≡◌, ℕ, List, Option, [], ◌∷◌, ◌++◌, Bool, None, ◌<◌, length, map, refl, sym, ◌∙◌, ap, subst}
+use Rattle.std.proofs.Common.{◌≡◌, ℕ, List, Option, [], ◌∷◌, ◌++◌, Bool, None, ◌<◌, length, refl, sym, ◌∙◌, ap, subst}
 use Rattle.tty_calls.specs.declared.journals.Who.TheVariants.{Caller}
-use Rattle.tty_calls.specs.Plain.{PlainEntry, waited, handle_of, call_of, entry_of, entries_of}
+use Rattle.tty_calls.specs.Plain.{PlainEntry, waited, handle_of, call_of, entry_of}
 use Rattle.tty_terminal.specs.Terminals.{caller_at, has_begun}
 use Rattle.tty_terminal.specs.Calls.{outcome}
 use Rattle.tty_terminal.specs.Steps.{MustWait, after_wait}
@@ -8,7 +8,7 @@ use Rattle.port_core.specs.declared.waiting.WaitingCall.{WaitingCall}
 use Rattle.port_core.specs.Ports.{PortValue, kept_with, caller_entry}
 use Rattle.port_core.specs.Attempts.{IsReady, MustGoOnWaiting}
 use Rattle.port_core.specs.Inside.{value_of}
-use Rattle.port_core.proofs.GoingOn.{made, entries_added, known_caller}
+use Rattle.port_core.proofs.GoingOn.{made, entry_added, known_caller}
 use Rattle.port_core.proofs.Calls.{begun_is}
 use Rattle.port_core.proofs.CanWait.{can_wait_here}
 use Rattle.port_core.proofs.Answering.{IsTried, after_call, begins_to_wait}
@@ -35,11 +35,11 @@ invariant_of-self-2 c =
     let begun : c.is_some-begun.result ≡ has_begun (caller_at v.terminal d) = begun_is v.terminal d c.caller-state.result c.is_some-begun.result c.caller-state.ensures c.is_some-begun.ensures in
     let tried : IsTried v slots d step call = record { keeps = c.self.invariant; few = few; ready = ready } in
     let e : PlainEntry = caller_entry v d waited in
-    let entry : entry_of c.entry_of_call-entry.result ≡ e = ap entry_of c.entry_of_call-entry.ensures ∙ (λ i. record { who = Caller d; step = ready.next i; part = (c.caller-state.ensures i).parts; generation = c.generation-generation.ensures i; event = waited }) in
-    let js : entries_of c.add.new.self.items ≡ v.journal ++ e ∷ [] = entries_added c.self.inside.journal.items c.reserve_entry.new.journal.items c.entry_of_call-entry.result c.add.new.self.items c.in_ok-reserve_entry.ensures.items (ap (λ b. b.items) c.add.ensures) ∙ ap (λ (x : PlainEntry). v.journal ++ x ∷ []) entry in
+    let entry : entry_of c.entry_of_call-entry.result ≡ e = c.entry_of_call-entry.ensures ∙ (λ i. record { who = Caller d; step = ready.next i; part = (c.caller-state.ensures i).parts; generation = c.generation-generation.ensures i; event = waited }) in
+    let js : c.add.new.self.items ≡ v.journal ++ e ∷ [] = entry_added v.journal _ _ _ e c.in_ok-reserve_entry.ensures.items c.add.ensures entry in
     let kept_plain : c.note.new.self.items ≡ kept_with (has_begun (caller_at v.terminal d)) v.kept d step call = c.note.ensures ∙ ap (λ (b : Bool). kept_with b v.kept d step call) begun in
     let left : c.wait.new.self.terminal ≡ after_wait v.terminal d (handle_of call) = ap (λ r. r.terminal) c.wait.ensures ∙ ap (λ (h : ℕ). after_wait v.terminal d h) c.handle.ensures in
-    let now : PortValue = record v { terminal = c.wait.new.self.terminal; journal = entries_of c.add.new.self.items; kept = c.note.new.self.items; starved = c.copy_of.new.starved; flip = v.flip } in
+    let now : PortValue = record v { terminal = c.wait.new.self.terminal; journal = c.add.new.self.items; kept = c.note.new.self.items; starved = c.copy_of.new.starved; flip = v.flip } in
     let same : now ≡ after_call v d step call (after_wait v.terminal d (handle_of call)) v.flip e = made v _ (after_wait v.terminal d (handle_of call)) _ (v.journal ++ e ∷ []) _ (kept_with (has_begun (caller_at v.terminal d)) v.kept d step call) _ v.flip v.flip left js kept_plain (c.in_ok-copy.ensures.ok ∙ c.in_ok-reserve_entry.ensures.ok) refl in
     let must : MustWait (outcome v.terminal (caller_at v.terminal d) call) = subst (λ (w : PortValue). MustWait (outcome w.terminal (caller_at w.terminal d) call)) (sym c.self.view_is) c.requires.must in
     let first : (caller_at v.terminal d).waits ≡ None = subst (λ (w : PortValue). (caller_at w.terminal d).waits ≡ None) (sym c.self.view_is) c.requires.first in
@@ -58,11 +58,11 @@ returns-clause-tried c =
     let begun : c.is_some-begun.result ≡ has_begun (caller_at v.terminal d) = begun_is v.terminal d c.caller-state.result c.is_some-begun.result c.caller-state.ensures c.is_some-begun.ensures in
     let tried : IsTried v slots d step call = record { keeps = c.self.invariant; few = few; ready = ready } in
     let e : PlainEntry = caller_entry v d waited in
-    let entry : entry_of c.entry_of_call-entry.result ≡ e = ap entry_of c.entry_of_call-entry.ensures ∙ (λ i. record { who = Caller d; step = ready.next i; part = (c.caller-state.ensures i).parts; generation = c.generation-generation.ensures i; event = waited }) in
-    let js : entries_of c.add.new.self.items ≡ v.journal ++ e ∷ [] = entries_added c.self.inside.journal.items c.reserve_entry.new.journal.items c.entry_of_call-entry.result c.add.new.self.items c.in_ok-reserve_entry.ensures.items (ap (λ b. b.items) c.add.ensures) ∙ ap (λ (x : PlainEntry). v.journal ++ x ∷ []) entry in
+    let entry : entry_of c.entry_of_call-entry.result ≡ e = c.entry_of_call-entry.ensures ∙ (λ i. record { who = Caller d; step = ready.next i; part = (c.caller-state.ensures i).parts; generation = c.generation-generation.ensures i; event = waited }) in
+    let js : c.add.new.self.items ≡ v.journal ++ e ∷ [] = entry_added v.journal _ _ _ e c.in_ok-reserve_entry.ensures.items c.add.ensures entry in
     let kept_plain : c.note.new.self.items ≡ kept_with (has_begun (caller_at v.terminal d)) v.kept d step call = c.note.ensures ∙ ap (λ (b : Bool). kept_with b v.kept d step call) begun in
     let left : c.wait.new.self.terminal ≡ after_wait v.terminal d (handle_of call) = ap (λ r. r.terminal) c.wait.ensures ∙ ap (λ (h : ℕ). after_wait v.terminal d h) c.handle.ensures in
-    let now : PortValue = record v { terminal = c.wait.new.self.terminal; journal = entries_of c.add.new.self.items; kept = c.note.new.self.items; starved = c.copy_of.new.starved; flip = v.flip } in
+    let now : PortValue = record v { terminal = c.wait.new.self.terminal; journal = c.add.new.self.items; kept = c.note.new.self.items; starved = c.copy_of.new.starved; flip = v.flip } in
     let same : now ≡ after_call v d step call (after_wait v.terminal d (handle_of call)) v.flip e = made v _ (after_wait v.terminal d (handle_of call)) _ (v.journal ++ e ∷ []) _ (kept_with (has_begun (caller_at v.terminal d)) v.kept d step call) _ v.flip v.flip left js kept_plain (c.in_ok-copy.ensures.ok ∙ c.in_ok-reserve_entry.ensures.ok) refl in
     let must : MustWait (outcome v.terminal (caller_at v.terminal d) call) = subst (λ (w : PortValue). MustWait (outcome w.terminal (caller_at w.terminal d) call)) (sym c.self.view_is) c.requires.must in
     let first : (caller_at v.terminal d).waits ≡ None = subst (λ (w : PortValue). (caller_at w.terminal d).waits ≡ None) (sym c.self.view_is) c.requires.first in

@@ -1,11 +1,11 @@
-use Rattle.std.proofs.Common.{◌≡◌, [], ◌∷◌, ◌++◌, ◌<◌, length, refl, sym, ◌∙◌, subst, ap, false}
-use Rattle.tty_calls.specs.Plain.{PlainEntry, caller_ended, entries_of}
+use Rattle.std.proofs.Common.{◌≡◌, [], ◌∷◌, ◌++◌, ◌<◌, length, refl, sym, subst, ap, false}
+use Rattle.tty_calls.specs.Plain.{PlainEntry, caller_ended}
 use Rattle.tty_calls.specs.declared.journals.Who.TheVariants.{Caller}
 use Rattle.tty_terminal.specs.Terminals.{caller_at, has_begun}
 use Rattle.tty_terminal.specs.Steps.{Allowed, after}
 use Rattle.port_core.specs.Ports.{PortValue, with_entry, call_in, Appends, end_entry}
 use Rattle.port_core.specs.Inside.{value_of}
-use Rattle.port_core.proofs.GoingOn.{still, made, entries_added, known_caller}
+use Rattle.port_core.proofs.GoingOn.{still, made, entry_added, known_caller}
 use Rattle.port_core.proofs.ports.Port.caller_end.Goals as goal
 
 pub caller-requires : goal.caller-requires
@@ -24,8 +24,8 @@ invariant_of-self-2 c =
     let next : c.caller.result.next ≡ (caller_at v.terminal c.args.caller).next = ap (λ s. s.next) c.caller.ensures in
     let e : PlainEntry = end_entry v c.args.caller in
     let entry : record { who = Caller c.args.caller; step = c.caller.result.next; part = 0; generation = c.generation.result; event = caller_ended } ≡ e = λ i. record { who = Caller c.args.caller; step = next i; part = 0; generation = c.generation.ensures i; event = caller_ended } in
-    let js : entries_of c.add.new.self.items ≡ v.journal ++ e ∷ [] = entries_added c.self.inside.journal.items c.reserve_entry.new.journal.items _ c.add.new.self.items c.in_ok-reserve_entry.ensures.items (ap (λ b. b.items) c.add.ensures) ∙ ap (λ (x : PlainEntry). v.journal ++ x ∷ []) entry in
-    let now : PortValue = record v { terminal = c.end_caller.new.self.terminal; journal = entries_of c.add.new.self.items; starved = c.reserve_entry.new.starved; flip = v.flip } in
+    let js : c.add.new.self.items ≡ v.journal ++ e ∷ [] = entry_added v.journal _ _ _ e c.in_ok-reserve_entry.ensures.items c.add.ensures entry in
+    let now : PortValue = record v { terminal = c.end_caller.new.self.terminal; journal = c.add.new.self.items; starved = c.reserve_entry.new.starved; flip = v.flip } in
     let same : now ≡ record (with_entry v e) { flip = v.flip } = made v _ (after (call_in v.kept) v.terminal e) _ (v.journal ++ e ∷ []) v.kept v.kept _ v.flip v.flip (ap (λ r. r.terminal) c.end_caller.ensures) js refl c.in_ok-reserve_entry.ensures.ok refl in
     let allowed : Allowed (call_in v.kept) v.counts v.terminal e = (refl, record { known = known; at_step = refl; at_part = refl; not_over = not_over; between = between }) in
     still v now c.self.inside.waiting.items v.flip e c.self.invariant few allowed refl refl c.self.invariant.port.sent refl refl refl refl same
@@ -40,8 +40,8 @@ returns-clause-ok c =
     let next : c.caller.result.next ≡ (caller_at v.terminal c.args.caller).next = ap (λ s. s.next) c.caller.ensures in
     let e : PlainEntry = end_entry v c.args.caller in
     let entry : record { who = Caller c.args.caller; step = c.caller.result.next; part = 0; generation = c.generation.result; event = caller_ended } ≡ e = λ i. record { who = Caller c.args.caller; step = next i; part = 0; generation = c.generation.ensures i; event = caller_ended } in
-    let js : entries_of c.add.new.self.items ≡ v.journal ++ e ∷ [] = entries_added c.self.inside.journal.items c.reserve_entry.new.journal.items _ c.add.new.self.items c.in_ok-reserve_entry.ensures.items (ap (λ b. b.items) c.add.ensures) ∙ ap (λ (x : PlainEntry). v.journal ++ x ∷ []) entry in
-    let now : PortValue = record v { terminal = c.end_caller.new.self.terminal; journal = entries_of c.add.new.self.items; starved = c.reserve_entry.new.starved; flip = v.flip } in
+    let js : c.add.new.self.items ≡ v.journal ++ e ∷ [] = entry_added v.journal _ _ _ e c.in_ok-reserve_entry.ensures.items c.add.ensures entry in
+    let now : PortValue = record v { terminal = c.end_caller.new.self.terminal; journal = c.add.new.self.items; starved = c.reserve_entry.new.starved; flip = v.flip } in
     let same : now ≡ record (with_entry v e) { flip = v.flip } = made v _ (after (call_in v.kept) v.terminal e) _ (v.journal ++ e ∷ []) v.kept v.kept _ v.flip v.flip (ap (λ r. r.terminal) c.end_caller.ensures) js refl c.in_ok-reserve_entry.ensures.ok refl in
     let allowed : Allowed (call_in v.kept) v.counts v.terminal e = (refl, record { known = known; at_step = refl; at_part = refl; not_over = not_over; between = between }) in
     subst (λ (x : PortValue). Appends x now x.flip (end_entry x c.args.caller)) c.self.view_is (record { allowed = allowed; appended = same })

@@ -1,5 +1,5 @@
 use Rattle.std.proofs.Common.{refl, string_bytes}
-use Rattle.tty_calls.specs.Plain.{call_of, answer_of}
+use Rattle.tty_calls.specs.Plain.{call_of, answer_lent}
 use Rattle.session_print.specs.Printing.{noted_answer}
 use Rattle.session_print.proofs.Telling.{stepping_told, stepping_silent}
 use Rattle.session_print.proofs.calls.Teller.put_steps.Goals as goal
@@ -17,6 +17,6 @@ loop-place-preserved c =
     let shared_new = string_bytes c.pass.new.self.shared in
     let at = c.loop-place in
     elim c.match-get.branch [
-      | in-Some+in_ok-put_call w ↦ told text new front shared front_new shared_new at.turn.caller at.turn.step at.place at.invariant c.pass.ensures.front c.in_ok-pass.ensures.shared (call_of w.at.result) (answer_of w.in-Some.answer.now) w.at.ensures w.in-Some.ensures (rw w.text-is w.in_ok-put_call.ensures)
+      | in-Some+in_ok-put_call w ↦ told text new front shared front_new shared_new at.turn.caller at.turn.step at.place at.invariant c.pass.ensures.front c.in_ok-pass.ensures.shared (call_of w.at.result) (answer_lent w.in-Some.answer) w.at.ensures w.in-Some.ensures (rw w.text-is w.in_ok-put_call.ensures)
       | in_default w ↦ silent text new front shared front_new shared_new at.turn.caller at.turn.step at.place at.invariant c.pass.ensures.front c.in_ok-pass.ensures.shared (rw (← c.len-place-end.ensures) c.loop-place-test.true) w.in_default.ensures (rw w.text-is refl)
     ]

@@ -1,6 +1,4 @@
 use Rattle.std.proofs.Common.{sym, ap, ◌∙◌, length}
-use Rattle.std.proofs.lemmas.List.{length-map}
-use Rattle.tty_calls.specs.Plain.{entry_of}
 use Rattle.port_core.specs.Ports.{call_in}
 use Rattle.tty_port.proofs.Histories.{history_length, is_history}
 use Rattle.tty_port.proofs.kept_port.KeptPort.entry_count.Goals as goal
@@ -9,7 +7,7 @@ pub returns-clause-count : goal.returns-clause-count
 returns-clause-count c =
     let v = c.deref-port.result.now in
     rw (← c.deref-port.ensures)
-    (c.len.ensures ∙ sym (length-map c.journal.result.now.items entry_of) ∙ ap length c.journal.ensures.entries
+    (c.len.ensures ∙ ap length c.journal.ensures.entries
     ∙ sym (history_length c.args.self.now.callers (call_in v.kept) v.journal v.terminal.generation))
 
 pub returns-clause-history : goal.returns-clause-history

@@ -1,6 +1,4 @@
 use Rattle.std.proofs.Common.{sym, ap, ◌∙◌, length}
-use Rattle.std.proofs.lemmas.List.{length-map}
-use Rattle.tty_calls.specs.Plain.{entry_of}
 use Rattle.port_core.specs.Ports.{call_in}
 use Rattle.tty_port.proofs.Histories.{history_length}
 use Rattle.tty_port.proofs.kept_port.KeptPortKept.count.Goals as goal
@@ -9,5 +7,5 @@ pub returns : goal.returns
 returns c =
     let v = c.deref.result.now in
     rw (← c.deref.ensures)
-    (c.len.ensures ∙ sym (length-map c.journal.result.now.items entry_of) ∙ ap length c.journal.ensures.entries
+    (c.len.ensures ∙ ap length c.journal.ensures.entries
     ∙ sym (history_length c.args.self.now.callers (call_in v.kept) v.journal v.terminal.generation))

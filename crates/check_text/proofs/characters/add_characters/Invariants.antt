@@ -1,6 +1,6 @@
 use Rattle.std.proofs.Common.{◌≡◌, ◌++◌, length, option_map}
 use Rattle.check_text.specs.Characters.{chars_from}
-use Rattle.check_text.proofs.characters.characters_from.Given as goal
+use Rattle.check_text.proofs.characters.add_characters.Given as goal
 
 abbrev pub invariant-loop-rest : goal.invariant-loop-rest
 invariant-loop-rest l = option_map (λ more. l.characters.items ++ more) (chars_from l.rest) ≡ chars_from l.word
