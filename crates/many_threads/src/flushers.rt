@@ -28,13 +28,14 @@ pub(crate) fn play_flusher<R: Wait>(
 {
     let mut next = run;
     for _ in rt.forever() {
+        let since = shared.flusher_changes();
         let count = shared.flush_run(rt, seat, next)?;
         if count > 0 {
             next += 1;
         } else if shared.ended(rt, seat) {
             return Ok(next);
         } else {
-            shared.pause(rt, seat);
+            shared.flusher_pause(rt, since);
         }
     }
     unreachable!()

@@ -15,7 +15,7 @@ use crate::starting::{
     ClockPromise, FlusherPromise, LinePromise, start_clock, start_flusher, start_line,
 };
 use crate::starts::Start;
-use crate::threads::{FlusherBack, LineBack, Receiver, SeatBack};
+use crate::threads::{FlusherBack, LineBack, Receiver, SeatBack, tick_all};
 use line_steps::LineSteps;
 use one_thread::Role;
 use std::alloc::Global;
@@ -61,7 +61,7 @@ fn flush_and_call<'s, E, R: Threads + Wait + Sync, G: Gate + Sync>(
     Ok((flusher, others?))
 }
 
-/// The clock's thread, beside those of flusher and callers.
+/// The clock's thread, beside those of flusher and callers. A clock without ticks needs none.
 fn tick_and_flush<'s, E, R: Threads + Wait + Sync, G: Gate + Sync>(
     scope: &Scope<'s, E>,
     rt: &'s R,
@@ -89,6 +89,14 @@ fn tick_and_flush<'s, E, R: Threads + Wait + Sync, G: Gate + Sync>(
     ensures flusher { IfOk result (λ r. FlusherComes shared.now run flusher r.1.0) }
     ensures callers { IfOk result (λ r. CallersCome shared.now (plain_cast scripts.now cast.now) r.1.1) }
 {
+    if ticks == 0 {
+        // what is left to the clock is its end
+        let clock = tick_all(rt, shared, clock, 0);
+        let others = flush_and_call(
+            scope, rt, shared, gate, start, flusher, run, callers, cast, scripts, none,
+        )?;
+        return Ok((clock, others));
+    }
     let promise = ClockPromise {
         shared,
         seat: Snapshot::of(&clock),

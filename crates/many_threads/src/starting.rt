@@ -16,6 +16,7 @@ use crate::threads::{
     FlusherBack, LineBack, Receiver, SeatBack, caller_thread, clock_thread, flusher_thread,
     line_thread,
 };
+use core::thread::Stack;
 use line_steps::LineSteps;
 use std::alloc::Global;
 use std::snapshot::Snapshot;
@@ -24,6 +25,9 @@ use std::thread::{Promise, PromisedHandle, Scope};
 use tty_base::NoMemory;
 use tty_calls::Calls;
 use tty_port::{Gate, Seat, SharedPort};
+
+/// The size of a thread's stack. Those of a phase are kept for the next only where all of them are small.
+const STACK: usize = 1_048_576;
 
 /// A caller's thread makes these calls, from this seat.
 #[derive(Drop)]
@@ -97,7 +101,8 @@ pub(crate) fn start_caller<'s, E, R: Wait + Sync, G: Gate + Sync>(
     let caller = promise.caller;
     let first = promise.first;
     let calls = promise.calls;
-    let made = scope.spawn_with(
+    let made = Stack::new().stack_size(STACK).spawn_scoped_with(
+        scope,
         promise,
         move || -> Result<SeatBack, NoMemory>
             requires { IsHere shared.now caller seat × (caller < sum (name_of_port shared.now).counts) × All IsCallWithin calls.now.items × (first + length calls.now.items < 2 ^ 32) × IsBetween caller first (list_seen seat) }
@@ -125,7 +130,8 @@ pub(crate) fn start_clock<'s, E, R: Wait + Sync>(
 {
     let shared = promise.shared;
     let ticks = promise.ticks;
-    let made = scope.spawn_with(
+    let made = Stack::new().stack_size(STACK).spawn_scoped_with(
+        scope,
         promise,
         move || -> Result<SeatBack, NoMemory>
             requires { IsHere shared.now ((name_of_port shared.now).callers + 2) seat × ((marks_at (list_seen seat)).clock_over ≡ false) }
@@ -153,7 +159,8 @@ pub(crate) fn start_flusher<'s, E, R: Wait + Sync>(
 {
     let shared = promise.shared;
     let run = promise.run;
-    let made = scope.spawn_with(
+    let made = Stack::new().stack_size(STACK).spawn_scoped_with(
+        scope,
         promise,
         move || -> Result<FlusherBack, NoMemory>
             requires { IsHere shared.now (name_of_port shared.now).callers seat × (run ≡ next_run (list_seen seat)) }
@@ -194,7 +201,8 @@ pub(crate) fn start_line<'s, E, R: Wait + Sync, G: Gate + Sync>(
     let Ok(steps) = promise.steps.written_out(alloc) else {
         return Err(start.refuse(rt));
     };
-    let made = scope.spawn_with(
+    let made = Stack::new().stack_size(STACK).spawn_scoped_with(
+        scope,
         promise,
         move || -> Result<LineBack, NoMemory>
             requires { IsHere shared.now ((name_of_port shared.now).callers + 1) seat × ((marks_at (list_seen seat)).line_over ≡ false) × (receiver.putter.ring ≡ (name_of_port shared.now).ring) × ((marks_at (list_seen seat)).sent ≤ length receiver.putter.sent) × ((before : List LineStep) × HasDone receiver.line before) × All (λ step. IsTrue (is_step step)) steps.items × (receiver.line.report.arrived + arrival_count steps.items ≤ receiver.line.most) × (receiver.line.most ≤ (2 ^ 63 - length receiver.putter.sent) + receiver.line.handed) }

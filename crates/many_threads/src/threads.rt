@@ -74,12 +74,22 @@ pub(crate) fn caller_thread<R: Wait, G: Gate>(
     Ok(SeatBack { seat, result })
 }
 
+/// The clock's part of a phase.
+pub(crate) fn tick_all<R: Wait>(rt: &R, shared: &SharedPort, mut seat: Seat, ticks: u32) -> SeatBack
+    requires seat { IsHere shared.now ((name_of_port shared.now).callers + 2) seat }
+    requires not_over { (marks_at (list_seen seat)).clock_over ≡ false }
+    ensures { ClockComes shared.now ticks (list_seen seat) result }
+{
+    let result = play_clock(rt, shared, &mut seat, ticks);
+    SeatBack { seat, result }
+}
+
 /// The clock's thread.
 pub(crate) fn clock_thread<R: Wait>(
     rt: &R,
     shared: &SharedPort,
     start: &Start,
-    mut seat: Seat,
+    seat: Seat,
     ticks: u32,
 ) -> Result<SeatBack, NoMemory>
     requires seat { IsHere shared.now ((name_of_port shared.now).callers + 2) seat }
@@ -87,8 +97,7 @@ pub(crate) fn clock_thread<R: Wait>(
     ensures { IfOk result (ClockComes shared.now ticks (list_seen seat)) }
 {
     start.wait(rt)?;
-    let result = play_clock(rt, shared, &mut seat, ticks);
-    Ok(SeatBack { seat, result })
+    Ok(tick_all(rt, shared, seat, ticks))
 }
 
 /// The flusher's thread.

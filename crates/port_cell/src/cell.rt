@@ -11,6 +11,7 @@ use crate::plays::{Deal, TakeIn};
 use crate::rule::{CellRule, Opening};
 use crate::sleepers::Sleepers;
 use crate::view::View;
+use crate::waiters::Waiters;
 use atomic_table::{Refused, Table};
 use std::alloc::Global;
 use std::snapshot::Snapshot;
@@ -39,7 +40,7 @@ pub(crate) const COUNT: usize = 2;
 pub struct Cell<V: Kept> {
     pub(crate) table: Board<V>,
     pub(crate) for_turn: Sleepers,
-    pub(crate) for_change: Sleepers,
+    pub(crate) for_change: Waiters,
     ghost counted: { (table.shared.table_id.words ≡ 3) × (table.shared.table_id.slots ≡ 1) },
 }
 
@@ -70,7 +71,7 @@ impl<V: Kept> Cell<V> {
         let cell = Cell {
             table,
             for_turn: Sleepers::new(),
-            for_change: Sleepers::new(),
+            for_change: Waiters::new(),
         };
         let all = cell.deal(alloc, first, seats)?;
         Ok((cell, all))

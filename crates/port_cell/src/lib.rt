@@ -18,6 +18,7 @@ mod sleepers;
 mod tests;
 mod turns;
 mod view;
+mod waiters;
 
 pub use cell::{Cell, Seat};
 pub use kept::{Kept, Stamped};
@@ -26,3 +27,4 @@ pub use references::{Changing, Users};
 pub use rule::{CellRule, Opening};
 pub use turns::Turn;
 pub use view::{Joined, User, View};
+pub use waiters::{ChangeCount, Waiters};

@@ -202,6 +202,6 @@ impl<V: Kept> Cell<V> {
 
     /// Wakes those who wait for a change.
     pub fn wake(&self) {
-        self.for_change.call_all();
+        self.for_change.wake();
     }
 }

@@ -1,16 +1,15 @@
-// Who sleeps at a cell, so that a call where nobody does is no call of the system.
+// Who sleeps until the turn is given back, so that a call where nobody does is no call of the system.
 
 use std::sync::Wait;
 use std::sync::atomic::{AtomicU64, Ordering};
-use std::time::Duration;
 
 const NOBODY: u32 = 0;
 
 const SOMEBODY: u32 = 1;
 
 /// Whether somebody sleeps, or is about to, who was not called. Who wants to sleep announces it first; who
-/// changes something calls after that. So whoever looks once more between the two misses no change, and of
-/// many changes only the first calls the system.
+/// gives the turn back calls after that. So whoever looks once more between the two misses no call, and of
+/// many calls only the first calls the system.
 #[derive(Drop)]
 pub(crate) struct Sleepers {
     asleep: AtomicU64,
@@ -33,22 +32,10 @@ impl Sleepers {
         self.asleep.park(rt, SOMEBODY);
     }
 
-    /// The same, for no longer than `patience`.
-    pub(crate) fn sleep_for<R: Wait>(&self, rt: &R, patience: Duration) {
-        self.asleep.park_timeout(rt, SOMEBODY, patience);
-    }
-
-    /// Wakes one who sleeps, where somebody was announced. It announces those whom it leaves asleep.
+    /// Wakes one who sleeps, where somebody was announced. Who wakes announces those who are left asleep.
     pub(crate) fn call_one(&self) {
         if self.was_announced() {
             self.asleep.wake_one();
-        }
-    }
-
-    /// Wakes all who sleep, where somebody was announced.
-    pub(crate) fn call_all(&self) {
-        if self.was_announced() {
-            self.asleep.wake_all();
         }
     }
 

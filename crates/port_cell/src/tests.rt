@@ -136,6 +136,15 @@ fn three_seats(rt: HostRuntime) -> Result<(), Fail> {
     Ok(())
 }
 
+#[test]
+fn a_wake_counts_as_a_change(rt: HostRuntime) {
+    let waiters = Waiters::new();
+    let before = waiters.changes();
+    assert_eq!(rt; waiters.changes(), before);
+    waiters.wake();
+    assert_ne!(rt; waiters.changes(), before);
+}
+
 fn both<R: Threads + Wait + Abort + Sync>(
     rt: &R,
     cell: &Cell<Log>,
@@ -205,6 +214,7 @@ fn visit<R: Wait>(rt: &R, cell: &Cell<Log>, seat: &mut Seat<Log>) -> bool
     ensures seat { IsFree (identity_of cell.now) seat.new }
     ensures still { IsTrue result }
 {
+    let since = cell.changes();
     match cell.enter(seat) {
         Ok(generation) => {
             let first = look(rt, cell, seat);
@@ -213,7 +223,7 @@ fn visit<R: Wait>(rt: &R, cell: &Cell<Log>, seat: &mut Seat<Log>) -> bool
             first == generation && second == generation
         }
         Err(_) => {
-            cell.park(rt, seat);
+            cell.park(rt, seat, since);
             true
         }
     }
@@ -257,9 +267,10 @@ fn settle<R: Wait>(rt: &R, cell: &Cell<Log>, seat: &mut Seat<Log>)
     ensures alone { IsAlone seat.new × (number_of seat.new ≡ number_of seat.old) }
 {
     for _ in rt.forever() {
+        let since = cell.changes();
         match cell.settled(seat) {
             Ok(()) => return,
-            Err(_) => cell.park(rt, seat),
+            Err(_) => cell.park(rt, seat, since),
         }
     }
     unreachable!()
@@ -284,12 +295,13 @@ fn change<R: Wait + Abort>(rt: &R, cell: &Cell<Log>, seat: &mut Seat<Log>, numbe
     requires { IsFree (identity_of cell.now) seat.old × (number_of seat.old ≡ number) }
     ensures { IsFree (identity_of cell.now) seat.new × (number_of seat.new ≡ number) }
 {
+    let since = cell.changes();
     match cell.mark(seat) {
         Ok(()) => {
             settle(rt, cell, seat);
             raise(rt, cell, seat, number);
         }
-        Err(_) => cell.park(rt, seat),
+        Err(_) => cell.park(rt, seat, since),
     }
 }
 

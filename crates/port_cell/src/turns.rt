@@ -13,13 +13,10 @@ ghost use Rattle.port_cell.specs.Joining.{Becomes};
 use crate::cell::{COUNT, Cell, Seat, TURN};
 use crate::kept::Kept;
 use crate::plays::{Give, Note, Take, Told};
+use crate::waiters::ChangeCount;
 use std::hint::spin_loop;
 use std::marker::Brand;
 use std::sync::Wait;
-use std::time::Duration;
-
-// The longest that a seat waits for a change without a look, in milliseconds.
-const PATIENCE: u64 = 1;
 
 // How often a seat looks for the turn before it sleeps: for about as long as a turn lasts.
 const LOOKS: u32 = 64;
@@ -149,16 +146,19 @@ impl<V: Kept> Cell<V> {
         self.for_turn.call_one();
     }
 
-    /// Waits until something may have changed: an entry, a reference, or the generation. It comes back
-    /// without a change too.
-    pub fn park<R: Wait>(&self, rt: &R, seat: &mut Seat<V>)
+    /// How many changes there were: entries, references, or generations, after which `wake` was called.
+    pub fn changes(&self) -> ChangeCount {
+        self.for_change.changes()
+    }
+
+    /// Waits for a change since that count, which was asked for before a look that found nothing to do. It
+    /// comes back without a change too, after a millisecond at the latest.
+    pub fn park<R: Wait>(&self, rt: &R, seat: &mut Seat<V>, since: ChangeCount)
         requires seat { IsSeat (identity_of self.now) seat.old }
         requires none { has_turn seat.old ≡ false }
         ensures { seat.new ≡ seat.old }
     {
         let _seat = &*seat;
-        self.for_change.announce();
-        self.for_change
-            .sleep_for(rt, Duration::from_millis(PATIENCE));
+        self.for_change.wait(rt, since);
     }
 }

@@ -102,8 +102,9 @@ fn flush<R: Wait>(rt: &R, shared: &SharedPort, mut seat: Seat) -> Seat
     ensures { IsHere shared.now 2 result }
 {
     for _ in rt.forever() {
+        let since = shared.flusher_changes();
         match shared.flush_run(rt, &mut seat, 0) {
-            Ok(0) => shared.pause(rt, &mut seat),
+            Ok(0) => shared.flusher_pause(rt, since),
             _ => return seat,
         }
     }

@@ -17,6 +17,7 @@ ghost use Rattle.tty_port.specs.Shared.{IsHere, IsHolding, name_of_port};
 
 use crate::gates::Gate;
 use crate::shared::{Seat, SharedPort};
+use crate::waking::Woken;
 use port_core::Tried;
 use std::sync::Wait;
 use tty_calls::{Answer, Call, Denied, Who};
@@ -122,11 +123,12 @@ impl SharedPort {
         ensures err { OnErr result (MakesNone seat.old seat.new) }
         ensures full { IfErr result (λ d. IsFull (name_of_port self.now) d (list_seen seat.new)) }
     {
+        let since = self.cell.changes();
         match self.attempt(rt, seat, caller, step, call) {
             Ok(Tried::Done(answer)) => Ok(Some(answer)),
             Ok(Tried::Part) => Ok(None),
             Ok(Tried::MustWait) => {
-                self.rest(rt, seat, *waits);
+                self.rest(rt, seat, waits.then_some(since));
                 *waits = true;
                 Ok(None)
             }
@@ -159,18 +161,26 @@ impl SharedPort {
         let mut turn = self.cell.turn(rt, seat);
         let found = turn.value().entry_count();
         let tried = turn.value().attempt(caller, step, call);
-        let wakes = may_end_waits(&tried);
-        self.end_turn(seat, turn, found, wakes);
+        self.end_turn(seat, turn, found, woken_by(call, &tried));
         tried
     }
 }
 
-/// Whether others may go on after an attempt: not where the call waits, or is told that all wait.
-fn may_end_waits(tried: &Result<Tried, Denied>) -> bool {
-    match tried {
-        Ok(Tried::Done(answer)) => !matches!(answer, Answer::Idle),
-        Ok(Tried::Part) => true,
-        Ok(Tried::MustWait) => false,
-        Err(_) => true,
+/// Who may go on after an attempt. A call that waits, or is told that all wait, left everything as it was;
+/// of the others some only ask, a write leaves less room, and a read leaves more of it to the flusher.
+fn woken_by(call: &Call, tried: &Result<Tried, Denied>) -> Woken {
+    match (tried, call) {
+        (Ok(Tried::MustWait | Tried::Done(Answer::Idle)), _) => Woken::Nobody,
+        (Ok(_), Call::Read { .. }) => Woken::Flusher,
+        (
+            Ok(_),
+            Call::Write { .. }
+            | Call::GetModes { .. }
+            | Call::GetDisc { .. }
+            | Call::Counts { .. }
+            | Call::Inq { .. }
+            | Call::Outq { .. },
+        ) => Woken::Nobody,
+        _ => Woken::All,
     }
 }

@@ -17,6 +17,7 @@ ghost use Rattle.tty_port.specs.Shared.{IsHere, IsByItself, name_of_port, table_
 
 use crate::kept_port::KeptPort;
 use crate::shared::{Seat, SharedPort};
+use crate::waking::Woken;
 use port_cell::{Kept, Turn};
 use port_core::Tried;
 use std::sync::Wait;
@@ -82,7 +83,7 @@ impl SharedPort {
         if raised {
             self.install(seat, turn);
         } else {
-            self.end_turn(seat, turn, found, true);
+            self.end_turn(seat, turn, found, Woken::All);
             self.cell.unmark(seat);
         }
     }
@@ -108,5 +109,6 @@ impl SharedPort {
         self.cell.note(seat, &mut turn);
         self.cell.install(seat, &mut turn);
         self.cell.give(seat, turn);
+        self.wake_flusher();
     }
 }

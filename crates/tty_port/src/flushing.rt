@@ -12,6 +12,7 @@ ghost use Rattle.tty_port.specs.Going.{FlushTurns, IsFlushing};
 ghost use Rattle.tty_port.specs.Shared.{IsHere, IsHolding, name_of_port};
 
 use crate::shared::{Seat, SharedPort};
+use crate::waking::Woken;
 use port_core::Flushed;
 use std::sync::Wait;
 use tty_calls::Denied;
@@ -33,7 +34,7 @@ impl SharedPort {
         self.hold(rt, seat);
         let result = self.flush_held(rt, seat, run);
         self.release(seat);
-        self.wake_where(!matches!(result, Ok(0)));
+        self.wake(woken_by_run(&result));
         result
     }
 
@@ -85,8 +86,24 @@ impl SharedPort {
         let mut turn = self.cell.turn(rt, seat);
         let found = turn.value().entry_count();
         let flushed = turn.value().flush_piece(run, part);
-        // those who wait are woken once for the whole run
-        self.end_turn(seat, turn, found, false);
+        self.end_turn(seat, turn, found, woken_by_piece(part, &flushed));
         flushed
+    }
+}
+
+/// Who is woken by a piece: all by the first of a run, to take its characters while more come, and nobody
+/// by each of the next, since all are woken once more at the end of the run.
+fn woken_by_piece(part: u32, flushed: &Result<Flushed, Denied>) -> Woken {
+    match flushed {
+        Ok(Flushed::Took(_)) if part == 0 => Woken::All,
+        _ => Woken::Nobody,
+    }
+}
+
+/// Who is woken at the end of a run.
+fn woken_by_run(run: &Result<u32, Denied>) -> Woken {
+    match run {
+        Ok(0) => Woken::Nobody,
+        _ => Woken::All,
     }
 }

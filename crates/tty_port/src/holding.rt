@@ -8,6 +8,7 @@ ghost use Rattle.port_cell.specs.Seats.{KeepsTurn, KeepsWord};
 ghost use Rattle.tty_port.specs.Shared.{IsHere, IsHolding, IsMarking, IsByItself};
 
 use crate::shared::{Seat, SharedPort};
+use port_cell::ChangeCount;
 use std::sync::Wait;
 
 impl SharedPort {
@@ -20,9 +21,10 @@ impl SharedPort {
         ensures clear { changing_in (last_word seat.new) ≡ 0 }
     {
         for _ in rt.forever() {
+            let since = self.cell.changes();
             match self.cell.enter(seat) {
                 Ok(_) => return,
-                Err(_) => self.cell.park(rt, seat),
+                Err(_) => self.cell.park(rt, seat, since),
             }
         }
         unreachable!()
@@ -38,9 +40,9 @@ impl SharedPort {
         self.cell.leave(seat);
     }
 
-    /// Gives the reference back, and in a later rest of one call does so until something may have changed.
-    /// The first is short: when this call began to wait, nobody else was woken to see that all wait.
-    pub(crate) fn rest<R: Wait>(&self, rt: &R, seat: &mut Seat, again: bool)
+    /// Gives the reference back for a while. Where a count of changes is given, it waits for one since. The
+    /// first rest of a call is short: when it began to wait, nobody else was woken to see that all wait.
+    pub(crate) fn rest<R: Wait>(&self, rt: &R, seat: &mut Seat, since: Option<ChangeCount>)
         requires { IsHolding self.now (number_of seat.old) seat.old }
         ensures seat { IsHolding self.now (number_of seat.old) seat.new }
         ensures turn { KeepsTurn seat.old seat.new }
@@ -48,8 +50,8 @@ impl SharedPort {
         ensures clear { changing_in (last_word seat.new) ≡ 0 }
     {
         self.release(seat);
-        if again {
-            self.cell.park(rt, seat);
+        if let Some(since) = since {
+            self.cell.park(rt, seat, since);
         }
         self.hold(rt, seat);
     }
@@ -62,9 +64,10 @@ impl SharedPort {
         ensures stepped { step_count seat.old < step_count seat.new }
     {
         for _ in rt.forever() {
+            let since = self.cell.changes();
             match self.cell.mark(seat) {
                 Ok(()) => return,
-                Err(_) => self.cell.park(rt, seat),
+                Err(_) => self.cell.park(rt, seat, since),
             }
         }
         unreachable!()
@@ -79,9 +82,10 @@ impl SharedPort {
         ensures unused { users_in (last_word seat.new) ≡ 0 }
     {
         for _ in rt.forever() {
+            let since = self.cell.changes();
             match self.cell.settled(seat) {
                 Ok(()) => return,
-                Err(_) => self.cell.park(rt, seat),
+                Err(_) => self.cell.park(rt, seat, since),
             }
         }
         unreachable!()

@@ -14,6 +14,7 @@ mod laws;
 mod names;
 mod shared;
 mod turns;
+mod waking;
 
 pub use gates::{Gate, OpenGate};
 pub use kept_port::KeptPort;

@@ -11,7 +11,7 @@ ghost use Rattle.tty_port.specs.Histories.{history_in, name_in};
 ghost use Rattle.tty_port.specs.Placed.{IsHistoryOf};
 
 use crate::kept_port::KeptPort;
-use port_cell::Cell;
+use port_cell::{Cell, Waiters};
 use port_core::Port;
 use std::alloc::Global;
 use tty_base::NoMemory;
@@ -23,6 +23,7 @@ pub type Seat = port_cell::Seat<KeptPort>;
 #[derive(Drop)]
 pub struct SharedPort {
     pub(crate) cell: Cell<KeptPort>,
+    pub(crate) for_flusher: Waiters,
     ghost counted: { seat_count cell ≡ (opening_value cell).callers + 4 },
 }
 
@@ -46,7 +47,11 @@ impl SharedPort {
         };
         kept.entry_count();
         let (cell, all) = Cell::new(alloc, kept, seats)?;
-        Ok((SharedPort { cell }, all))
+        let shared = SharedPort {
+            cell,
+            for_flusher: Waiters::new(),
+        };
+        Ok((shared, all))
     }
 
     /// Ends the sharing, with all the seats that `new` gave, in any order. The history of the port goes
@@ -61,7 +66,10 @@ impl SharedPort {
         ensures history { IsHistoryOf (name_of_port self).callers result (history_in (name_of_port self).callers result) }
         ensures generation { generation_of (history_in (name_of_port self).callers result) ≡ generation_of (opening_history self) + total install_count seats.items }
     {
-        let SharedPort { cell } = self;
+        let SharedPort {
+            cell,
+            for_flusher: _,
+        } = self;
         let kept = cell.close(seats);
         kept.entry_count();
         let KeptPort { port, callers: _ } = kept;

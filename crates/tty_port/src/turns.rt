@@ -17,20 +17,21 @@ ghost use Rattle.tty_port.specs.Shared.{IsHere, name_of_port, table_of};
 
 use crate::kept_port::KeptPort;
 use crate::shared::{Seat, SharedPort};
+use crate::waking::Woken;
 use flip_buffer::FlipIn;
 use port_cell::Turn;
 use std::sync::Wait;
 use tty_calls::Denied;
 
 impl SharedPort {
-    /// Notes what this turn added to so many entries, where that is anything, and gives the turn back. Then,
-    /// where it may end a wait, wakes those who wait for a change.
+    /// Notes what this turn added to so many entries, where that is anything, and gives the turn back. Then
+    /// wakes those who may go on.
     pub(crate) fn end_turn(
         &self,
         seat: &mut Seat,
         mut turn: Turn<KeptPort>,
         found: u64,
-        wakes: bool,
+        woken: Woken,
     )
         requires seat { IsSeat (table_of self.now) seat.old }
         requires turn { has_turn seat.old ≡ true }
@@ -51,14 +52,7 @@ impl SharedPort {
             self.cell.note(seat, &mut turn);
         }
         self.cell.give(seat, turn);
-        self.wake_where(wakes);
-    }
-
-    /// Wakes those who wait for a change, where it is to.
-    pub(crate) fn wake_where(&self, wakes: bool) {
-        if wakes {
-            self.cell.wake();
-        }
+        self.wake(woken);
     }
 
     /// A tenth of a second passed.
@@ -75,7 +69,7 @@ impl SharedPort {
         let mut turn = self.cell.turn(rt, seat);
         let found = turn.value().entry_count();
         let result = turn.value().tick();
-        self.end_turn(seat, turn, found, true);
+        self.end_turn(seat, turn, found, Woken::All);
         result
     }
 
@@ -92,7 +86,7 @@ impl SharedPort {
         let mut turn = self.cell.turn(rt, seat);
         let found = turn.value().entry_count();
         let result = turn.value().clock_end();
-        self.end_turn(seat, turn, found, true);
+        self.end_turn(seat, turn, found, Woken::All);
         result
     }
 
@@ -118,7 +112,7 @@ impl SharedPort {
         let mut turn = self.cell.turn(rt, seat);
         let found = turn.value().entry_count();
         let result = turn.value().line_end(putter);
-        self.end_turn(seat, turn, found, true);
+        self.end_turn(seat, turn, found, Woken::All);
         result
     }
 
@@ -136,7 +130,7 @@ impl SharedPort {
         let mut turn = self.cell.turn(rt, seat);
         let found = turn.value().entry_count();
         let result = turn.value().caller_end(caller);
-        self.end_turn(seat, turn, found, true);
+        self.end_turn(seat, turn, found, Woken::All);
         result
     }
 
@@ -155,14 +149,5 @@ impl SharedPort {
         let ended = turn.value().may_end();
         self.cell.give(seat, turn);
         ended
-    }
-
-    /// Waits until something may have happened. It comes back without that too, since what a line
-    /// pushes is no step of the port.
-    pub fn pause<R: Wait>(&self, rt: &R, seat: &mut Seat)
-        requires { IsHere self.now (number_of seat.old) seat.old }
-        ensures { seat.new ≡ seat.old }
-    {
-        self.cell.park(rt, seat);
     }
 }

@@ -1,9 +1,7 @@
 use Rattle.std.proofs.Common.{rules, arith, ◌≡◌, ◌+◌, ◌<◌, ◌∷◌, true, sum, refl, sym, ◌∙◌, subst}
-use Rattle.port_cell.specs.Knowledge.{list_seen}
-use Rattle.tty_port.specs.Seen.{next_run}
 use Rattle.tty_port.specs.Flushing.{run_past}
 use Rattle.tty_port.specs.Shared.{IsHere, name_of_port}
-use Rattle.many_threads.specs.Parts.{FlushesRuns, StopsFlusher}
+use Rattle.many_threads.specs.Parts.{StopsFlusher}
 use Rattle.many_threads.proofs.PartLemmas.{run_goes_on, makes_same, run_made, runs_more, same_number, next_number, where_any_err}
 use Rattle.many_threads.proofs.flushers.play_flusher.Goals as goal
 
@@ -73,7 +71,7 @@ loop-preserved g c =
     record {
       can_next = tt;
       finite = tt;
-      seat = subst (λ s. IsHere p name.callers s) (sym c.pause.ensures) here;
-      numbered = subst (λ s. c.loop.next ≡ next_run (list_seen s)) (sym c.pause.ensures) next;
-      so_far = (more, subst (λ s. FlushesRuns name.callers c.args.run c.args.seat.now more c.loop.next s) (sym c.pause.ensures) made);
+      seat = here;
+      numbered = next;
+      so_far = (more, made);
     }
