@@ -1,5 +1,7 @@
 //! Draws of a linear congruence.
 
+ghost use Rattle.std.specs.Prelude.{◌≡◌, ◌+◌, ◌<◌, ◌≤◌};
+
 /// What the next draws are made from.
 #[derive(Drop)]
 pub(crate) struct Draws {
@@ -12,14 +14,20 @@ impl Draws {
     }
 
     /// The next draw, a number below this one, or 0.
-    pub(crate) fn below(&mut self, most: u32) -> u32 {
+    pub(crate) fn below(&mut self, most: u32) -> u32
+        ensures below { 0 < most → result < most }
+        ensures none { most ≡ 0 → result ≡ 0 }
+    {
         let next = self.state.wrapping_mul(1_664_525);
         self.state = next.wrapping_add(1_013_904_223);
         (self.state >> 12).checked_rem(most).unwrap_or(0)
     }
 
     /// A draw of so many numbers from the least on.
-    pub(crate) fn number_from(&mut self, least: u32, count: u32) -> u32 {
+    pub(crate) fn number_from(&mut self, least: u32, count: u32) -> u32
+        ensures least { least ≤ result }
+        ensures below { 0 < count → result < least + count }
+    {
         self.below(count).saturating_add(least)
     }
 

@@ -1,12 +1,16 @@
 //! Whole sessions.
 
+ghost use Rattle.std.specs.Prelude.{◌≡◌, ℕ, List, [], ◌∷◌, ◌++◌, IfOk, string_bytes};
+
 use super::calls::put_call;
 use super::draws::Draws;
 use super::lines::{put_number, put_step};
 use std::alloc::{AllocError, Global};
 
-/// The text of the session that is drawn from a number.
-pub fn drawn_session(alloc: Global, number: u32) -> Result<String, AllocError> {
+/// The text of the session that is drawn from a number. Its last line is `end`.
+pub fn drawn_session(alloc: Global, number: u32) -> Result<String, AllocError>
+    ensures { IfOk result (λ text. (before : List ℕ) × (string_bytes text ≡ before ++ 101 ∷ 110 ∷ 100 ∷ 10 ∷ [])) }
+{
     let mut draws = Draws::new(number);
     let mut text = String::new(alloc);
     let ports = draws.number_from(1, 3);

@@ -31,7 +31,7 @@ const STRIDE: u32 = 16;
 /// How a line goes on.
 #[derive(Clone, Copy)]
 struct Pace {
-    /// So many steps come before the next look.
+    /// So many steps more come before the next look.
     steps: u32,
     /// How long it may still wait for room while nothing happens.
     patience: u32,
@@ -74,7 +74,7 @@ fn give_way<R: Wait>(
         let waiting = putter.waiting();
         if patience == 0 || waiting <= putter.capacity() as u64 / 2 {
             return Pace {
-                steps: STRIDE,
+                steps: STRIDE - 1,
                 patience,
                 since,
             };
