@@ -2,7 +2,7 @@
 
    A jw_tty is a terminal's line discipline with its modes, its output, the signals that it raised, and a clock. Characters
    come in by jw_receive and jw_receive_bytes, programs read and write by jw_read and jw_write, and what goes out is taken by jw_take_wire.
-   It is termios(3) in the profile that the README of the repository tells.
+   It is termios(3) in the profile of docs/PROFILE.md.
 
    Link libtty_c.a, and heap.c or three functions like those in it. What a program owes, which nothing checks:
 
@@ -14,6 +14,8 @@
      fork of a program with threads. */
 #ifndef JINTHWYR_H
 #define JINTHWYR_H
+
+#define JINTHWYR_VERSION "0.1.0"
 
 #include <stdbool.h>
 #include <stddef.h>
