@@ -8,7 +8,7 @@ ghost use Rattle.char_lanes.specs.Between.{AreBetween, is_outside};
 ghost use Rattle.char_lanes.specs.Runs.{IsIn, bytes_in, number_of, number_of_flag};
 
 use std::simd::prelude::*;
-use tty_base::{Flag, Flagged};
+use tty_base::{Flag, Flagged, rest_of};
 
 /// How many characters stand in a vector.
 const EIGHT: usize = 8;
@@ -122,15 +122,6 @@ fn is_none_of(byte: u8, without: &[u8]) -> bool
         }
     }
     true
-}
-
-/// The characters after so many.
-#[inline(always)]
-fn rest_of(chars: &[Flagged], count: usize) -> &[Flagged]
-    requires { count ≤ length chars.now }
-    ensures { result.now ≡ drop count chars.now }
-{
-    &chars[count..]
 }
 
 /// The eight characters after so many.
@@ -302,6 +293,3 @@ fn outside(lanes: u8x16, first: u8, last: u8) -> u64
         .simd_gt(u8x16::splat(last - first))
         .to_bitmask()
 }
-
-#[cfg(test)]
-mod tests;

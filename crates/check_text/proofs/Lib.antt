@@ -12,4 +12,5 @@ mod AnsweringModes
 mod PrintedEntries
 mod PrintedTexts
 mod EntryLines
+mod Short
 pub mod Within

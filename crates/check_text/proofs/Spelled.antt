@@ -1,6 +1,6 @@
 -- Texts that are checked, and what is read of them, each way.
 use Rattle.std.proofs.Common.{◌≡◌, ◌⊎◌, inl, inr, ℕ, ◌≤◌, Bool, true, false, not, cond, List, [], ◌∷◌, ◌++◌, Option, Some, None, Result, Ok, Err, length, map, refl, ap, sym, subst, ◌∙◌, arith, Vec, Global}
-use Rattle.std.specs.Prelude.{filter, IfOk}
+use Rattle.std.specs.Prelude.{filter, All, IfOk}
 use Rattle.std.proofs.lemmas.List.FromFn.{length-map-range_with_len}
 use Rattle.tty_calls.specs.declared.journals.PortRun.{PortRun}
 use Rattle.tty_calls.specs.declared.sessions.Session.{Session}
@@ -22,6 +22,7 @@ use Rattle.check_text.specs.Reading.{PlainCheck, check_with, check_after, check_
 use Rattle.check_text.specs.Runs.{PlainRun, run_of}
 use Rattle.check_text.specs.Grammar.{journals_lines, most, Spells}
 use Rattle.check_text.specs.Views.{check_of}
+use Rattle.check_text.proofs.Short.{spelled_short}
 use Rattle.check_text.proofs.Walks.{then_reads, reads}
 use Rattle.check_text.proofs.Whole.{journals_read, journals_back}
 
@@ -133,6 +134,10 @@ Given = Result (Session × Vec PortRun Global) TextFault
 pub given_spells : (text : List ℕ) (result : Given) → Gives (λ check. check_of check.0 check.1.items) result (check_in text) → IfOk result (λ check. Spells text (session_of check.0) (map run_of check.1.items))
 given_spells text (Ok check) h = read_spells text (check_of check.0 check.1.items) h
 given_spells text (Err fault) h = tt
+
+pub given_short : (text : List ℕ) (result : Given) → Gives (λ check. check_of check.0 check.1.items) result (check_in text) → IfOk result (λ check. All (λ run. length run.journal.items ≤ length text) check.1.items)
+given_short text (Ok check) h = spelled_short text (session_of check.0) check.1.items (read_spells text (check_of check.0 check.1.items) h)
+given_short text (Err fault) h = tt
 
 pub given_bad : (text : List ℕ) (result : Given) → Gives (λ check. check_of check.0 check.1.items) result (check_in text) → (line : BadLine) → result ≡ Err (Bad line) → refusal text ≡ Some line
 given_bad text (Ok check) h line e = cc

@@ -19,6 +19,3 @@ pub use laws::{
     spells_one_session_and_its_runs, worked_texts_are_refused_at_their_lines,
 };
 pub use reader::parse_check;
-
-#[cfg(test)]
-mod tests;

@@ -1,4 +1,4 @@
-ghost use Rattle.std.specs.Prelude.{◌≡◌, ◌⊎◌, Some, IfOk, map};
+ghost use Rattle.std.specs.Prelude.{◌≡◌, ◌≤◌, ◌⊎◌, All, Some, IfOk, length, map};
 ghost use Rattle.tty_calls.specs.Sessions.{session_of};
 ghost use Rattle.session_text.specs.Reading.{Gives};
 ghost use Rattle.session_text.specs.Refusals.{lines_in};
@@ -14,11 +14,13 @@ use std::alloc::Global;
 use text_lines::split_line;
 use tty_calls::{PortRun, Session};
 
-/// The session that a text spells, and after it the run of each of its ports. `Bad` comes exactly
+/// The session that a text spells, and after it the run of each of its ports, whose journals have no
+/// more entries than the text has bytes. `Bad` comes exactly
 /// where it spells none, and names its first wrong line, counted from 1 and as far as 32 bits count,
 /// and why that line is wrong.
 pub fn parse_check(alloc: Global, text: &[u8]) -> Result<(Session, Vec<PortRun>), TextFault>
     ensures ok { IfOk result (λ check. Spells text.now (session_of check.0) (map run_of check.1.items)) }
+    ensures short { IfOk result (λ check. All (λ run. length run.journal.items ≤ length text.now) check.1.items) }
     ensures bad { (line : BadLine) → result ≡ Err (TextFault.Bad line) → refusal text.now ≡ Some line }
     ensures refused { (line : BadLine) → refusal text.now ≡ Some line → (result ≡ Err (TextFault.Bad line)) ⊎ (result ≡ Err TextFault.NoMemory) }
 {

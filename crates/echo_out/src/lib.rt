@@ -201,6 +201,3 @@ fn pair(a: u8, b: u8) -> Echo
     out.push(b);
     out
 }
-
-#[cfg(test)]
-mod tests;

@@ -41,6 +41,11 @@ pub took : {A : Type 0} (t : TakerState A) (xs : List A) → Took t (with_taken 
 took t [] = record { ring = refl; capacity = refl; taken = sym (append-nil t.taken); tails = refl; floor = refl; ended = refl; sent = refl }
 took t (x ∷ xs) = record { ring = refl; capacity = refl; taken = refl; tails = refl; floor = refl; ended = refl; sent = refl }
 
+-- where all that was peeked is taken, nothing is peeked
+pub none_left : {A : Type 0} (t : TakerState A) (xs : List A) → xs ≡ t.peeked → (with_taken t xs).peeked ≡ []
+none_left t [] all = sym all
+none_left t (x ∷ xs) all = refl
+
 -- the characters of a word
 pub four_of_word : (w : ℕ) (a b c d : Flagged) → a ≡ char_of (w % 65536) → b ≡ char_of (w / 65536 % 65536) → c ≡ char_of (w / 4294967296 % 65536) → d ≡ char_of (w / 281474976710656 % 65536)
     → a ∷ b ∷ c ∷ d ∷ [] ≡ map char_of (lanes w 4)

@@ -1,5 +1,5 @@
 -- What the two ends of a flip buffer have, and how contracts see them.
-use Rattle.std.specs.Prelude.{◌≡◌}
+use Rattle.std.specs.Prelude.{◌≤◌}
 use Rattle.tty_base.specs.declared.characters.Flagged.{Flagged}
 use Rattle.word_ring.specs.Ends.{PutterState, TakerState, NoteState}
 use Rattle.flip_buffer.specs.declared.input.FlipIn.TheInside.{Inside as InInside}
@@ -16,6 +16,9 @@ flip_note n = note_state n.note
 abbrev pub flip_out : OutInside → TakerState Flagged
 flip_out f = out_state f.taker
 
--- the capacity is that of the ring
-abbrev pub HasCapacity : OutInside → Type 0
-HasCapacity f = f.capacity ≡ f.taker.capacity
+-- each end has room for a whole window of the line, and for a piece of a flush
+abbrev pub HasRoomIn : InInside → Type 0
+HasRoomIn f = 64 ≤ f.putter.capacity
+
+abbrev pub HasRoomOut : OutInside → Type 0
+HasRoomOut f = 64 ≤ f.taker.capacity

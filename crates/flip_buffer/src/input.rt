@@ -1,5 +1,5 @@
 //! The end that puts characters in, and its notes.
-ghost use Rattle.std.specs.Prelude.{◌≡◌, ◌+◌, ◌<◌, ◌≤◌, ◌^◌, ◌↔◌, [], ◌∷◌, ◌++◌, length, IsTrue, OnOk, OnErr, MatchResult};
+ghost use Rattle.std.specs.Prelude.{◌≡◌, ◌+◌, ◌<◌, ◌≤◌, ◌^◌, [], ◌∷◌, ◌++◌, length, OnOk, OnErr, MatchResult};
 ghost use Rattle.std.specs.List.Sorted.{IsNonDecreasing};
 ghost use Rattle.word_ring.specs.Ends.{with_loaded};
 
@@ -20,9 +20,11 @@ impl Model for FlipIn {
 
     ghost Value = { PutterState Flagged };
 
-    ghost use Rattle.flip_buffer.specs.Parts.{flip_in};
+    ghost use Rattle.flip_buffer.specs.Parts.{flip_in, HasRoomIn};
 
     ghost view = { flip_in };
+
+    ghost invariant = { HasRoomIn };
 }
 
 /// What was pushed, and the heads that were loaded, when the note was given.
@@ -43,7 +45,7 @@ impl Model for FlipNote {
 }
 
 impl Put for FlipIn {
-    ghost use Rattle.std.specs.Prelude.{◌≡◌, ◌+◌, ◌-◌, ◌^◌, length};
+    ghost use Rattle.std.specs.Prelude.{◌≡◌, ◌-◌, ◌^◌, length};
     ghost use Rattle.word_ring.specs.Names.{name_of};
 
     ghost sent = { λ f. f.sent };
@@ -56,9 +58,7 @@ impl Put for FlipIn {
 
     ghost name = { λ f. name_of f.ring };
 
-    ghost room = { λ f. 2 ^ 63 - length f.sent };
-
-    ghost free = { λ f. f.floor + f.capacity - length f.sent };
+    ghost numbers_left = { λ f. 2 ^ 63 - length f.sent };
 
     /// Puts a character. `Full` says how many were put and how many of these were taken, at the head
     /// that this call loaded, and comes where as many as the capacity are left.
@@ -70,51 +70,15 @@ impl Put for FlipIn {
             (λ _. length self.old.sent < self.new.floor + self.old.capacity)
             (λ f. (f ≡ record { sent = length self.old.sent; seen = self.new.floor }) × (length self.old.sent ≡ self.new.floor + self.old.capacity)) }
         ensures rises { (self.old.floor ≤ self.new.floor) × (self.new.floor ≤ length self.old.pushed) }
-        ensures rise { IsNonDecreasing self.new.heads }
+        ensures ordered { IsNonDecreasing self.new.heads }
     {
         self.putter.put(number_of(c))
-    }
-
-    /// Whether so many more characters find room, by the head that this call loads.
-    #[inline(always)]
-    fn has_room(&mut self, count: usize) -> bool
-        ensures same { self.new ≡ with_loaded self.old self.new.floor }
-        ensures room { IsTrue result ↔ length self.old.sent + count ≤ self.new.floor + self.old.capacity }
-        ensures fits { length self.old.sent ≤ self.new.floor + self.old.capacity }
-        ensures rises { (self.old.floor ≤ self.new.floor) × (self.new.floor ≤ length self.old.pushed) }
-        ensures rise { IsNonDecreasing self.new.heads }
-    {
-        let waiting = self.waiting();
-        count as u64 <= self.putter.capacity() - waiting
-    }
-
-    /// Puts a character for which there is room by the latest head that was loaded.
-    #[inline(always)]
-    fn put_known(&mut self, c: Flagged)
-        requires small { length self.old.sent < 2 ^ 63 }
-        requires room { length self.old.sent < self.old.floor + self.old.capacity }
-        ensures { self.new ≡ record self.old { sent = self.old.sent ++ c ∷ [] } }
-    {
-        self.putter.put_known(number_of(c));
-    }
-
-    /// Puts four characters for which there is room by the latest head that was loaded.
-    #[inline(always)]
-    fn put_four(&mut self, chars: [Flagged; 4])
-        requires small { length self.old.sent + 4 ≤ 2 ^ 63 }
-        requires room { length self.old.sent + 4 ≤ self.old.floor + self.old.capacity }
-        ensures same { self.new ≡ record self.old { sent = self.old.sent ++ chars } }
-        ensures count { length self.new.sent ≡ length self.old.sent + 4 }
-    {
-        let [a, b, c, d] = chars;
-        self.putter
-            .put_four([number_of(a), number_of(b), number_of(c), number_of(d)]);
     }
 
     /// Makes all that was put visible to the other end.
     fn push(&mut self)
         ensures same { self.new ≡ record self.old { pushed = self.old.sent } }
-        ensures rise { IsNonDecreasing self.new.heads }
+        ensures ordered { IsNonDecreasing self.new.heads }
     {
         self.putter.push();
     }
@@ -126,10 +90,12 @@ impl Moves for FlipNote {}
 
 impl FlipIn {
     /// How many characters the buffer has room for.
+    #[inline(always)]
     pub fn capacity(&self) -> usize
-        ensures { result ≡ self.now.capacity }
+        ensures count { result ≡ self.now.capacity }
+        ensures least { 64 ≤ self.now.capacity }
     {
-        self.putter.capacity() as usize
+        self.putter.capacity()
     }
 
     /// How many characters were put.
@@ -145,16 +111,26 @@ impl FlipIn {
         ensures count { result + self.new.floor ≡ length self.old.sent }
         ensures most { result ≤ self.old.capacity }
         ensures rises { (self.old.floor ≤ self.new.floor) × (self.new.floor ≤ length self.old.pushed) }
-        ensures rise { IsNonDecreasing self.new.heads }
+        ensures ordered { IsNonDecreasing self.new.heads }
     {
         self.putter.waiting()
+    }
+
+    /// Puts a character for which there is room by the latest head that was loaded.
+    #[inline(always)]
+    pub fn put_known(&mut self, c: Flagged)
+        requires small { length self.old.sent < 2 ^ 63 }
+        requires room { length self.old.sent < self.old.floor + self.old.capacity }
+        ensures { self.new ≡ record self.old { sent = self.old.sent ++ c ∷ [] } }
+    {
+        self.putter.put_known(number_of(c));
     }
 
     /// Pushes, and gives a note of what this end knows, which the other end can be told.
     pub fn note(&mut self) -> FlipNote
         ensures same { self.new ≡ record self.old { pushed = self.old.sent } }
         ensures note { result ≡ record { ring = self.old.ring; pushed = self.old.sent; heads = self.old.heads } }
-        ensures rise { IsNonDecreasing self.new.heads }
+        ensures ordered { IsNonDecreasing self.new.heads }
     {
         FlipNote {
             note: self.putter.note(),
@@ -168,7 +144,7 @@ impl FlipIn {
         ensures same { self.new ≡ with_loaded self.old self.new.floor }
         ensures rises { (self.old.floor ≤ self.new.floor) × (note.taken ≤ self.new.floor) × (self.new.floor ≤ length self.old.pushed) }
         ensures within { length self.old.pushed ≤ length self.old.sent }
-        ensures rise { IsNonDecreasing self.new.heads }
+        ensures ordered { IsNonDecreasing self.new.heads }
     {
         self.putter.meet(note);
     }

@@ -8,8 +8,8 @@ mod input;
 mod new;
 mod output;
 mod packed;
-#[cfg(test)]
-mod tests;
+mod passing;
+mod peeking;
 
 pub use input::{FlipIn, FlipNote};
 pub use new::flip;

@@ -14,5 +14,5 @@ pub fn flip(alloc: Global, n: usize) -> Result<(FlipIn, FlipOut), NoMemory>
     ensures output { IfOk result (λ e. e.1 ≡ record { ring = e.1.ring; capacity = n; taken = []; peeked = []; released = []; tails = []; floor = 0; ended = false; sent = [] }) }
 {
     let (putter, taker) = ring(alloc, n)?;
-    Ok((FlipIn { putter }, FlipOut { taker, capacity: n }))
+    Ok((FlipIn { putter }, FlipOut { taker }))
 }

@@ -1,16 +1,13 @@
 //! The end that takes characters out.
-ghost use Rattle.std.specs.Prelude.{◌≡◌, ◌↔◌, ℕ, ◌+◌, ◌-◌, ◌*◌, ◌%◌, ◌^◌, ◌<◌, ◌≤◌, true, IsTrue, List, [], ◌∷◌, ◌++◌, map, length, take, min, max, All};
+ghost use Rattle.std.specs.Prelude.{◌≡◌, ℕ, ◌+◌, ◌-◌, ◌<◌, ◌≤◌, true, List, [], ◌∷◌, ◌++◌, length, take, min, max, All};
 ghost use mathlib.Core.List.{IsPrefix};
 ghost use Rattle.arrayvec.specs.ArrayVec.{array_vec_len};
 ghost use Rattle.tty_base.specs.declared.characters.Flagged.{Flagged};
-ghost use Rattle.word_ring.specs.Lanes.{lanes};
-ghost use Rattle.word_ring.specs.Ends.{IsOneWithin, AreReleased, NothingWaits, Passes, with_shown, with_taken};
-ghost use Rattle.tty_base.specs.Characters.{good_characters};
+ghost use Rattle.word_ring.specs.Ends.{IsOneWithin, AreReleased, with_shown, with_taken};
 ghost use Rattle.flip_buffer.specs.Drops.{LooksAt, Releases};
-ghost use Rattle.flip_buffer.specs.Packed.{char_of};
 
 use crate::input::{FlipIn, FlipNote};
-use crate::packed::{add_characters, character_of};
+use crate::packed::{add_each, character_of};
 use arrayvec::ArrayVec;
 use std::marker::Model;
 use tty_base::{Chars, Flagged, Moves};
@@ -20,7 +17,6 @@ use word_ring::{HeadNote, Taker};
 #[derive(Drop)]
 pub struct FlipOut {
     pub(crate) taker: Taker,
-    pub(crate) capacity: usize,
 }
 
 impl Model for FlipOut {
@@ -29,11 +25,11 @@ impl Model for FlipOut {
 
     ghost Value = { TakerState Flagged };
 
-    ghost use Rattle.flip_buffer.specs.Parts.{flip_out, HasCapacity};
+    ghost use Rattle.flip_buffer.specs.Parts.{flip_out, HasRoomOut};
 
     ghost view = { flip_out };
 
-    ghost invariant = { HasCapacity };
+    ghost invariant = { HasRoomOut };
 }
 
 impl Moves for FlipOut {}
@@ -43,7 +39,7 @@ impl FlipOut {
     pub fn capacity(&self) -> usize
         ensures { result ≡ self.now.capacity }
     {
-        self.capacity
+        self.taker.capacity()
     }
 
     /// How many characters were taken.
@@ -89,99 +85,11 @@ impl FlipOut {
 
     /// The next character after those that were taken or peeked, which a look or a note has shown. It
     /// stays in the buffer until it is released.
-    pub fn peek_next(&mut self) -> Flagged
+    pub(crate) fn peek_next(&mut self) -> Flagged
         requires { length self.old.taken + length self.old.peeked < self.old.floor }
         ensures { self.new ≡ record self.old { peeked = self.old.peeked ++ result ∷ [] } }
     {
         character_of(self.taker.peek_next())
-    }
-
-    /// So many characters after those that were taken or peeked, which a look or a note has shown, are
-    /// added to `out` in room that was reserved. They stay in the buffer until they are released.
-    #[inline(always)]
-    pub fn peek(&mut self, count: usize, out: &mut Chars)
-        requires shown { length self.old.taken + length self.old.peeked + count ≤ self.old.floor }
-        requires room { count ≤ out.old.spare }
-        ensures peeks { (xs : List Flagged) × (length xs ≡ count) × (out.new ≡ record { items = out.old.items ++ xs; spare = out.old.spare - count }) × (self.new ≡ record self.old { peeked = self.old.peeked ++ xs }) }
-    {
-        self.peek_eights(count / 8, out);
-        if count % 8 > 0 {
-            self.peek_rest(count % 8, out);
-        }
-    }
-
-    // The same, by fours.
-    #[inline(never)]
-    fn peek_rest(&mut self, count: usize, out: &mut Chars)
-        requires shown { length self.old.taken + length self.old.peeked + count ≤ self.old.floor }
-        requires room { count ≤ out.old.spare }
-        ensures peeks { (xs : List Flagged) × (length xs ≡ count) × (out.new ≡ record { items = out.old.items ++ xs; spare = out.old.spare - count }) × (self.new ≡ record self.old { peeked = self.old.peeked ++ xs }) }
-    {
-        self.peek_fours(count / 4, out);
-        self.peek_each(count % 4, out);
-    }
-
-    // The same, one after the other.
-    fn peek_each(&mut self, lone: usize, out: &mut Chars)
-        requires shown { length self.old.taken + length self.old.peeked + lone ≤ self.old.floor }
-        requires room { lone ≤ out.old.spare }
-        ensures peeks { (xs : List Flagged) × (length xs ≡ lone) × (out.new ≡ record { items = out.old.items ++ xs; spare = out.old.spare - lone }) × (self.new ≡ record self.old { peeked = self.old.peeked ++ xs }) }
-    {
-        for _ in 0..lone {
-            out.add(self.peek_next());
-        }
-    }
-
-    // The same for so many times four.
-    fn peek_fours(&mut self, fours: usize, out: &mut Chars)
-        requires shown { length self.old.taken + length self.old.peeked + 4 * fours ≤ self.old.floor }
-        requires room { 4 * fours ≤ out.old.spare }
-        ensures peeks { (xs : List Flagged) × (length xs ≡ 4 * fours) × (out.new ≡ record { items = out.old.items ++ xs; spare = out.old.spare - 4 * fours }) × (self.new ≡ record self.old { peeked = self.old.peeked ++ xs }) }
-    {
-        for _ in 0..fours {
-            add_characters(self.peek_four(), out);
-        }
-    }
-
-    // The same for so many times eight.
-    #[inline(always)]
-    fn peek_eights(&mut self, eights: usize, out: &mut Chars)
-        requires shown { length self.old.taken + length self.old.peeked + 8 * eights ≤ self.old.floor }
-        requires room { 8 * eights ≤ out.old.spare }
-        ensures peeks { (xs : List Flagged) × (length xs ≡ 8 * eights) × (out.new ≡ record { items = out.old.items ++ xs; spare = out.old.spare - 8 * eights }) × (self.new ≡ record self.old { peeked = self.old.peeked ++ xs }) }
-    {
-        for _ in 0..eights {
-            self.add_eight(out);
-        }
-    }
-
-    // The same for eight.
-    #[inline(always)]
-    fn add_eight(&mut self, out: &mut Chars)
-        requires shown { length self.old.taken + length self.old.peeked + 8 ≤ self.old.floor }
-        requires room { 8 ≤ out.old.spare }
-        ensures peeks { (xs : List Flagged) × (length xs ≡ 8) × (out.new ≡ record { items = out.old.items ++ xs; spare = out.old.spare - 8 }) × (self.new ≡ record self.old { peeked = self.old.peeked ++ xs }) }
-    {
-        let (first, second) = self.peek_eight();
-        add_characters(first, out);
-        add_characters(second, out);
-    }
-
-    // The next eight characters, as the lanes of two words.
-    #[inline(always)]
-    fn peek_eight(&mut self) -> (u64, u64)
-        requires shown { length self.old.taken + length self.old.peeked + 8 ≤ self.old.floor }
-        ensures { self.new ≡ record self.old { peeked = (self.old.peeked ++ map char_of (lanes result.0 4)) ++ map char_of (lanes result.1 4) } }
-    {
-        self.taker.peek_eight()
-    }
-
-    // The next four characters, as the lanes of a word.
-    fn peek_four(&mut self) -> u64
-        requires shown { length self.old.taken + length self.old.peeked + 4 ≤ self.old.floor }
-        ensures { self.new ≡ record self.old { peeked = self.old.peeked ++ map char_of (lanes result 4) } }
-    {
-        self.taker.peek_four()
     }
 
     /// Takes the first `n` characters that were peeked, by one store of the head, and the others are
@@ -206,11 +114,9 @@ impl FlipOut {
         ensures ended { self.old.ended ≡ true → self.new.floor ≡ length self.old.sent }
         ensures begins { self.old.ended ≡ true → IsPrefix self.new.taken self.old.sent }
     {
-        let count = self.look().min(most);
-        for _ in 0..count {
-            out.push(self.peek_next());
-        }
-        self.release(count);
+        let mut numbers = ArrayVec::new();
+        let count = self.taker.take(most, &mut numbers);
+        add_each(numbers.as_slice(), out);
         count
     }
 
@@ -222,6 +128,7 @@ impl FlipOut {
         ensures moves { (xs : List Flagged) × (length xs ≡ result) × (out.new ≡ record { items = out.old.items ++ xs; spare = out.old.spare - result }) × (self.new.taken ≡ self.old.taken ++ xs) }
         ensures shown { (tail : ℕ) × LooksAt self.old self.new tail × (result ≡ min most (tail - length self.old.taken)) }
         ensures same { (self.new.ring ≡ self.old.ring) × (self.new.capacity ≡ self.old.capacity) × (self.new.ended ≡ self.old.ended) × (self.new.sent ≡ self.old.sent) }
+        ensures peeked { self.new.peeked ≡ [] }
         ensures released { Releases self.old self.new }
         ensures ended { self.old.ended ≡ true → self.new.floor ≡ length self.old.sent }
         ensures begins { self.old.ended ≡ true → IsPrefix self.new.taken self.old.sent }
@@ -232,26 +139,6 @@ impl FlipOut {
         }
         self.release(shown);
         shown
-    }
-
-    /// Whether nothing that was put waits to be taken, as both ends know.
-    #[inline(always)]
-    pub fn nothing_waits(&self, input: &FlipIn) -> bool
-        ensures { IsTrue result ↔ NothingWaits input.now self.now }
-    {
-        self.taker.nothing_waits(&input.putter)
-    }
-
-    /// Takes the good characters of these bytes from the other end, where nothing waits: as if each was
-    /// put, all of them pushed and taken, and the head loaded.
-    #[inline(always)]
-    pub fn pass(&mut self, input: &mut FlipIn, bytes: &[u8; 8])
-        requires ring { input.old.ring ≡ self.old.ring }
-        requires clear { NothingWaits input.old self.old }
-        requires small { length input.old.sent + 8 ≤ 2 ^ 63 }
-        ensures { Passes input.old input.new self.old self.new (good_characters bytes.now) }
-    {
-        self.taker.pass(&mut input.putter, *bytes);
     }
 
     /// Takes over the other end, which first pushes, and answers how many characters were put. From

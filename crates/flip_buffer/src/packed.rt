@@ -1,8 +1,10 @@
 //! A character in a number of 16 bits.
-ghost use Rattle.std.specs.Prelude.{◌≡◌, ◌-◌, ◌/◌, ◌%◌, ◌<◌, ◌≤◌, ◌++◌, map, IsTrue};
+ghost use Rattle.std.specs.Prelude.{◌≡◌, ◌+◌, ◌-◌, ◌/◌, ◌%◌, ◌<◌, ◌≤◌, ◌++◌, map, length, IsTrue};
+ghost use Rattle.arrayvec.specs.ArrayVec.{array_vec_len};
 ghost use Rattle.word_ring.specs.Lanes.{lanes};
 ghost use Rattle.flip_buffer.specs.Packed.{char_of, flag_of_number};
 
+use arrayvec::ArrayVec;
 use tty_base::{Chars, Flag, Flagged};
 
 #[inline(always)]
@@ -51,6 +53,16 @@ pub(crate) fn character_of(x: u16) -> Flagged
     }
 }
 
+/// Adds the characters that these numbers stand for.
+pub(crate) fn add_each(numbers: &[u16], out: &mut ArrayVec<Flagged, 64>)
+    requires { array_vec_len out.old + length numbers.now ≤ 64 }
+    ensures { out.new.items ≡ out.old.items ++ map char_of numbers.now }
+{
+    for x in numbers {
+        out.push(character_of(*x));
+    }
+}
+
 /// Adds the characters that the numbers of a word stand for, in room that was reserved. Mostly all of
 /// them are good.
 #[inline(always)]
@@ -70,7 +82,7 @@ pub(crate) fn add_characters(word: u64, out: &mut Chars)
     }
 }
 
-/// The same for any word.
+/// Adds the characters of a word of which one or more may have an error.
 #[inline(never)]
 fn add_any_characters(word: u64, out: &mut Chars)
     requires { 4 ≤ out.old.spare }

@@ -8,6 +8,3 @@ mod tally;
 pub use laws::room_makes_no_difference;
 pub use output::Wire;
 pub use tally::{Counter, Signals, Tally};
-
-#[cfg(test)]
-mod tests;

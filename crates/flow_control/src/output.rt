@@ -1,6 +1,6 @@
 //! The wire, held output, and what halts it.
 
-ghost use Rattle.std.specs.Prelude.{◌≡◌, ◌≤◌, ◌<◌, ◌+◌, ◌-◌, [], ◌∷◌, ◌++◌, length, take, false, true, IfOk, OnOk, OnErr, vec_len, vec_capacity};
+ghost use Rattle.std.specs.Prelude.{◌≡◌, ◌≤◌, ◌<◌, ◌+◌, ◌-◌, [], ◌∷◌, ◌++◌, length, take, false, true, IfOk, OnOk, OnErr, if◌then◌else◌, vec_len, vec_capacity};
 ghost use Rattle.flow_control.specs.Output.{after_reset, after_start, after_tco_on, with_held_sent, has_room, idle_output, is_halted, on_wire, after_release, room_of, after_try, without_front};
 
 use std::alloc::Global;
@@ -10,8 +10,8 @@ use tty_base::{Bytes, Moves, NoMemory};
 /// How many bytes can be held while output is halted.
 const HELD_BYTES: usize = 4096;
 
-/// What a port sends: the wire, which is all that went out so far, and behind it up to 4,096 bytes that wait while output
-/// is halted. Two halts can stand, that of STOP and that of TCOOFF (tcflow(3)); the one that goes last lets out what waits,
+/// What a port sends: the wire, which is all that went out and was not taken, and behind it up to 4,096 bytes that wait
+/// while output is halted. Two halts can stand, that of STOP and that of TCOOFF (tcflow(3)); the one that goes last lets out what waits,
 /// in the order in which it was sent.
 ///
 /// Room on the wire is reserved before bytes are sent, so that only `new` and `reserve` take memory. Contracts see it as
@@ -129,6 +129,17 @@ impl Wire {
         self.stopped = false;
     }
 
+    /// Resumes output that STOP halted, where this applies.
+    pub fn start_where(&mut self, applies: bool)
+        requires { length self.old.held ≤ self.old.spare }
+        ensures after { self.new ≡ (if applies then after_start self.old else self.old) }
+        ensures spent { self.old.spare + length self.new.held ≤ self.new.spare + length self.old.held }
+    {
+        if applies {
+            self.start();
+        }
+    }
+
     /// TCOOFF halts output.
     pub fn tco_off(&mut self)
         ensures { self.new ≡ record self.old { off = true } }
@@ -207,7 +218,7 @@ impl Wire {
         self.stopped || self.off
     }
 
-    /// All bytes that went to the wire, in order.
+    /// The bytes that went to the wire and were not taken, in order.
     pub fn wire(&self) -> &[u8]
         ensures { result.now ≡ self.now.wire }
     {
@@ -224,7 +235,7 @@ impl Wire {
         self.wire.take_front(n, out);
     }
 
-    /// All bytes that went to the wire, as a list of their own. It takes no memory.
+    /// The bytes that went to the wire and were not taken, as a list of their own. It takes no memory.
     pub fn into_wire(self) -> Bytes
         ensures { result.items ≡ self.wire }
     {

@@ -120,6 +120,3 @@ fn handle_after_hangup(slot: Option<HandleState>) -> Option<HandleState>
         ..handle
     })
 }
-
-#[cfg(test)]
-mod tests;

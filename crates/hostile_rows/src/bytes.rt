@@ -1,9 +1,10 @@
 //! Bytes that no text has: 0 and 255 in each place, and what parts words.
 
-use super::tables::{CHECK, ONE, Told, told_of};
+use super::tables::{CHECK, ONE};
 use std::alloc::{AllocError, Global};
 use std::process::Abort;
 use std::test::Fail;
+use tty_rows::{Told, told_of};
 
 /// Three bytes are read, and the port is closed; and the journal of that.
 const SESSION: &[u8] =

@@ -1,8 +1,8 @@
 //! Long texts and long lines. `tools/hostile_texts` has them in full length.
 
-use super::tables::{CHECK, ONE, is_refused, told_of};
+use super::tables::{CHECK, ONE, is_refused};
 use std::test::Fail;
-use tty_rows::written_out;
+use tty_rows::{told_of, written_out};
 
 /// Long texts, each with its first wrong line and the reason.
 const LONG: [(&str, u32, &str); 16] = [

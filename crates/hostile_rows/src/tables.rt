@@ -1,21 +1,13 @@
 //! Tables of refused lines, and how they are tried.
 
-use std::alloc::{AllocError, Global};
+use std::alloc::Global;
 use std::process::Abort;
 use std::test::Fail;
-use tty_base::{Bytes, MemSink, MemSource};
-use tty_one::{Ran, tty_one};
-use tty_rows::written_out;
+use tty_rows::{told_of, written_out};
 
 pub(crate) const ONE: &[&str] = &["run", "--one"];
 
 pub(crate) const CHECK: &[&str] = &["check"];
-
-/// How many bytes a source or a sink moves at most in one call.
-const PIECE: usize = 4_096;
-
-/// How many bytes a sink takes in all: more than any of these texts has told of it.
-const ROOM: usize = 4_096;
 
 /// What stands before a line, the number of the line, and lines that are refused there, each with its
 /// reason. In all texts `[61*4095]` stands for 4,095 times 61.
@@ -24,24 +16,6 @@ pub(crate) struct Table {
     pub(crate) before: &'static str,
     pub(crate) line: u32,
     pub(crate) rows: &'static [(&'static str, &'static str)],
-}
-
-/// What a call of the program came to: its status, and the text that it gave.
-#[derive(Drop)]
-pub(crate) struct Told {
-    pub(crate) status: u8,
-    pub(crate) text: Vec<u8>,
-}
-
-/// What is told of a text with these words.
-pub(crate) fn told_of(alloc: Global, words: &[&str], text: Vec<u8>) -> Result<Told, AllocError> {
-    let mut source = MemSource::new(Bytes::from_vec(text), PIECE, Vec::new(alloc));
-    let Ok(mut sink) = MemSink::new(alloc, PIECE, ROOM, Vec::new(alloc)) else {
-        return Err(AllocError);
-    };
-    let Ran { status, .. } = tty_one(alloc, words, &mut source, &mut sink);
-    let text = sink.given().to_vec(alloc)?;
-    Ok(Told { status, text })
 }
 
 /// The text is refused at this line for this reason.

@@ -27,7 +27,8 @@ use Rattle.journal_bound.proofs.Names.{names_own, worth_of, worth_once, worth_ov
 use Rattle.journal_bound.proofs.Spent.{cost, spent, IsSound}
 use Rattle.journal_bound.proofs.Steps.{own, mark_count, spent_in, extras, leads_uses}
 use Rattle.journal_bound.proofs.Ends.{few_marks, hangup_count, few_hangups, ticks_in, phase_ends_in, all_ticks}
-use Rattle.journal_bound.proofs.Characters.{received_few, script_arrivals, kept_few}
+use Rattle.uart_line.proofs.Arrivals.{received_few}
+use Rattle.journal_bound.proofs.Characters.{script_arrivals, kept_few}
 
 -- ---- a caller
 

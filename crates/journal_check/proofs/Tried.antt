@@ -1,5 +1,6 @@
--- What the outcome of a call tells of an entry of it; and characters that are handed over one by one.
-use Rattle.std.proofs.Common.{◌≡◌, ℕ, zero, suc, Bool, false, ◌+◌, ◌<◌, ◌≤◌, ◌^◌, List, [], ◌∷◌, Some, true, IsTrue, length, drop, drop-cons, add-one, get_or, sym, ◌∙◌, ap, subst, arith}
+-- What the outcome of a call tells of an entry of it; and characters that are handed over.
+use Rattle.std.proofs.Common.{◌≡◌, ℕ, zero, suc, Bool, false, ◌+◌, ◌<◌, ◌≤◌, ◌^◌, List, [], ◌∷◌, Some, true, length, take, take_all, ◌==◌, inl, inr, ne_eqb, sym, ◌∙◌, ap, subst, arith}
+use Rattle.std.proofs.lemmas.Bool.{cases_lt, eqb-false, true_from_ne_false, false≢true}
 use Rattle.tty_base.specs.declared.characters.Flagged.{Flagged}
 use Rattle.tty_calls.specs.Plain.{PlainCall}
 use Rattle.tty_terminal.specs.Terminals.{Terminal, caller_at}
@@ -11,13 +12,7 @@ use Rattle.tty_terminal.specs.Meeting.{Meets}
 use Rattle.tty_terminal.specs.Steps.{left_by, TakesPart, DropsAt}
 use Rattle.tty_terminal.proofs.Effects.{Leaves, outcome_keeps}
 use Rattle.tty_terminal.proofs.WaitLaws.{part_more}
-use Rattle.journal_check.specs.Trying.{IsSmall, IsSmallCall}
-
--- the next of characters that are all accepted is
-pub accepts_next : (t : Terminal) (xs : List Flagged) (i : ℕ) → i < length xs → AcceptsAll t (drop i xs) → IsTrue (accepts t)
-accepts_next t [] i lt all = absurd (omega arith)
-accepts_next t (x ∷ xs) zero lt all = all.0
-accepts_next t (x ∷ xs) (suc i) lt all = accepts_next t xs i (omega arith) all
+use Rattle.journal_check.specs.Trying.{Tries, IsSmall, IsSmallCall}
 
 -- what a call leaves, of callers and numbers
 pub left_leaves : (t : Terminal) (c : ℕ) (call : PlainCall) → Leaves t (left_by (outcome t (caller_at t c) call) t)
@@ -45,23 +40,28 @@ pub part_small : (t : Terminal) (c n : ℕ) (call : PlainCall) → IsSmallCall c
 part_small t c n call small took =
     omega (arith, ((left_leaves t c call).caller c).taken, part_more t (caller_at t c) call n took, small.bytes)
 
--- ---- characters that are handed over one by one
+-- ---- characters that are handed over
 
-pub record GoesOver (t u : Terminal) (xs : List Flagged) (i : ℕ) : Type 0 where
-  pub goes_on : AcceptsAll t xs → AcceptsAll u (drop i xs)
-  pub came : AcceptsAll u (drop i xs) → AcceptsAll t xs
-  pub after : after_characters t xs ≡ after_characters u (drop i xs)
+-- where all are accepted, so is the next after some of them
+next_accepted : (t : Terminal) (xs : List Flagged) (n : ℕ) → n < length xs → AcceptsAll t xs → accepts (after_characters t (take n xs)) ≡ true
+next_accepted t [] n some all = absurd (omega (arith, some))
+next_accepted t (x ∷ xs) zero some all = all.0
+next_accepted t (x ∷ xs) (suc n) some all = next_accepted (after_character t x) xs n (omega (arith, some)) all.1
 
-pub goes_over : (t u v : Terminal) (xs : List Flagged) (i : ℕ) (d : Flagged) → i < length xs → accepts u ≡ true → v ≡ after_character u (get_or xs i d)
-    → (AcceptsAll t xs → AcceptsAll u (drop i xs)) → (AcceptsAll u (drop i xs) → AcceptsAll t xs) → after_characters t xs ≡ after_characters u (drop i xs)
-    → GoesOver t v xs (i + 1)
-goes_over t u v xs i d lt is next goes_on came after =
-    let parts : drop i xs ≡ get_or xs i d ∷ drop (i + 1) xs = drop-cons xs i d lt ∙ ap (λ (n : ℕ). get_or xs i d ∷ drop n xs) (sym (add-one i)) in
-    record {
-      goes_on = λ all. subst (λ (w : Terminal). AcceptsAll w (drop (i + 1) xs)) (sym next) (let rest = subst (AcceptsAll u) parts (goes_on all) in rest.1);
-      came = λ rest. came (subst (AcceptsAll u) (sym parts) (is, subst (λ (w : Terminal). AcceptsAll w (drop (i + 1) xs)) next rest));
-      after = after ∙ ap (λ (cs : List Flagged). after_characters u cs) parts ∙ ap (λ (w : Terminal). after_characters w (drop (i + 1) xs)) (sym next);
-    }
+-- where so many were received as there are, all are accepted, and else they are not
+pub all_or_not : (t u : Terminal) (xs : List Flagged) (n : ℕ) (made : Bool) → made ≡ (n == length xs) → n ≤ length xs → u ≡ after_characters t (take n xs) → AcceptsAll t (take n xs)
+    → (n < length xs → accepts u ≡ false) → Tries (AcceptsAll t xs) (after_characters t xs) u made
+all_or_not t u xs n made is within left front stops = elim (cases_lt n (length xs)) [
+  | inl some ↦
+      let not : made ≡ false = is ∙ ne_eqb n (length xs) (λ e. omega (arith, some, e)) in
+      subst (Tries (AcceptsAll t xs) (after_characters t xs) u) (sym not)
+      (λ all. false≢true (sym (stops some) ∙ ap accepts left ∙ next_accepted t xs n some all))
+  | inr none ↦
+      let whole : take n xs ≡ xs = take_all n xs none in
+      let yes : made ≡ true = is ∙ true_from_ne_false (n == length xs) (λ no. eqb-false n (length xs) no (omega (arith, within, none))) in
+      subst (Tries (AcceptsAll t xs) (after_characters t xs) u) (sym yes)
+      (subst (AcceptsAll t) whole front, left ∙ ap (after_characters t) whole)
+]
 
 -- ---- characters that an answer drops
 

@@ -1,6 +1,6 @@
 -- What can be said of the runs of a session: that all are legal, which port has the first wrong entry, or which is the first that
 -- is not legal although no entry is wrong.
-use Rattle.std.specs.Prelude.{◌≡◌, ℕ, ◌<◌, List, [], ◌∷◌, ◌++◌, Some, length, slice_get, sum}
+use Rattle.std.specs.Prelude.{◌≡◌, ℕ, ◌<◌, ◌^◌, List, [], ◌∷◌, ◌++◌, Some, length, slice_get, sum}
 use Rattle.tty_calls.specs.declared.journals.PortRun.{PortRun}
 use Rattle.tty_calls.specs.Plain.{PlainEntry}
 use Rattle.tty_calls.specs.Sessions.{PlainSession, call_at, counts_on}
@@ -10,6 +10,10 @@ use Rattle.tty_terminal.specs.Runs.{OneGeneration}
 use Rattle.journal_check.specs.Legal.{flip_on, IsInPhase, IsLegalOn}
 use Rattle.journal_check.specs.declared.verdicts.Verdict.{Verdict}
 use Rattle.journal_check.specs.declared.verdicts.Verdict.TheVariants.{Legal, Wrong, Account}
+
+-- a journal of fewer than 2^31 entries, so that a number of 32 bits counts them, and each number that they raise by one
+abbrev pub IsCountable : PortRun → Type 0
+IsCountable run = length run.journal.items < 2 ^ 31
 
 -- An entry is fine after these entries, which lead to this terminal: it is a step of the terminal, it leaves each flush run and
 -- each call between its waits in one generation, and it is of its phase. It is wrong where one of these fails.

@@ -1,9 +1,9 @@
 //! The judge of the journals of a session.
 
-ghost use Rattle.std.specs.Prelude.{◌≡◌, ◌<◌, IfOk, length};
+ghost use Rattle.std.specs.Prelude.{◌≡◌, ◌<◌, All, IfOk, length};
 ghost use Rattle.tty_calls.specs.Sessions.{session_of};
 ghost use Rattle.tty_calls.specs.Limits.{IsWithinLimits};
-ghost use Rattle.journal_check.specs.Verdicts.{HasNoWrong, Fits};
+ghost use Rattle.journal_check.specs.Verdicts.{IsCountable, HasNoWrong, Fits};
 ghost use Rattle.journal_check.specs.Findings.{Finds, first_found};
 
 use crate::account::is_accounted;
@@ -32,6 +32,7 @@ fn judge_run(
 ) -> Result<Finding, NoMemory>
     requires port { port < (session_of session.now).ports }
     requires limits { IsWithinLimits (session_of session.now) }
+    requires few { IsCountable run.now }
     ensures { IfOk result (λ finding. Finds port (session_of session.now) run.now finding) }
 {
     match first_wrong(alloc, session, port, &run.journal)? {
@@ -59,11 +60,12 @@ fn judge_account(
 }
 
 /// Judges the runs of a session, one for each port: whether all are legal, else the first port with a
-/// wrong entry and the first of these, else the first port whose run is all the same not legal. A
-/// journal of more than 2,147,483,647 entries is want of memory.
+/// wrong entry and the first of these, else the first port whose run is all the same not legal. Each
+/// journal has fewer than 2^31 entries, as each has that a text of fewer bytes spells.
 pub fn check(alloc: Global, session: &Session, runs: &[PortRun]) -> Result<Verdict, NoMemory>
     requires runs { length runs.now ≡ (session_of session.now).ports }
     requires limits { IsWithinLimits (session_of session.now) }
+    requires few { All IsCountable runs.now }
     ensures { IfOk result (λ verdict. Fits (session_of session.now) runs.now verdict) }
 {
     let mut account = None;

@@ -14,9 +14,6 @@ use tty_base::NoMemory;
 use tty_calls::{Journal, Names, Script, Session};
 use tty_terminal::Terminal;
 
-/// The most entries of a journal that is judged. A longer one is want of memory.
-const MOST_ENTRIES: usize = 0x7fff_ffff;
-
 /// How many of these scripts are of a port.
 fn count_of(scripts: &[Script], port: usize) -> usize
     ensures { result ≡ length (filter (λ s. s.port == port) (map script_of scripts.now)) }
@@ -121,11 +118,9 @@ pub(crate) fn first_wrong(
 ) -> Result<Option<u32>, NoMemory>
     requires port { port < (session_of session.now).ports }
     requires limits { IsWithinLimits (session_of session.now) }
+    requires few { length journal.now.items < 2 ^ 31 }
     ensures { IfOk result (λ found. MatchOption found (HasNoWrong port (session_of session.now) journal.now.items) (λ place. IsFirstWrong port (session_of session.now) journal.now.items place)) }
 {
-    if journal.len() > MOST_ENTRIES {
-        return Err(NoMemory);
-    }
     let mut replay = begin(alloc, session, port)?;
     first_wrong_of(alloc, &mut replay, session, port, journal)
 }

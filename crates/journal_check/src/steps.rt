@@ -152,13 +152,7 @@ fn receive_all(terminal: &mut Terminal, chars: &[Flagged]) -> bool
     ensures tries { Tries (AcceptsAll terminal.old.terminal chars.now) (after_characters terminal.old.terminal chars.now) terminal.new.terminal result }
     ensures column { column_in terminal.new.terminal.disc ≤ column_in terminal.old.terminal.disc + 2 ^ 22 * length chars.now }
 {
-    for c in chars {
-        if !terminal.accepts() {
-            return false;
-        }
-        terminal.receive(*c);
-    }
-    true
+    terminal.receive_all(chars) == chars.len()
 }
 
 /// Tries a piece of a flush run.

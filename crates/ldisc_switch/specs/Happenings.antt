@@ -11,7 +11,7 @@ use Rattle.n_slip.specs.History as slip
 use Rattle.ldisc_switch.specs.declared.kinds.Kind.{Kind}
 use Rattle.ldisc_switch.specs.declared.discipline.Disc.{Disc}
 use Rattle.ldisc_switch.specs.declared.discipline.Disc.TheVariants as disc
-use Rattle.ldisc_switch.specs.Disciplines.{fresh_of, after_character_of}
+use Rattle.ldisc_switch.specs.Disciplines.{DiscOnPort, fresh_of, after_character_of}
 
 -- what a character comes upon, and what its effect depends on: the modes, the tick, and the port's output and counts
 pub record Conditions : Type 0 where
@@ -36,6 +36,13 @@ pub data Happening : Type 0 where
   ixoff_rule : Happening
   -- the oldest packet leaves
   packet_take : Happening
+
+-- these characters at a tick, each with the port's output and counts as those before it left them
+abbrev pub characters_at : Settings → (now : ℕ) → List Flagged → DiscOnPort → List Happening
+characters_at modes now [] port = []
+characters_at modes now (c ∷ cs) port =
+    character (record { modes = modes; tick = now; output = port.output; tally = port.tally }) c
+    ∷ characters_at modes now cs (after_character_of modes now c port.disc port.output port.tally)
 
 -- a discipline after one event; bytes are read and written under N_TTY alone, and packets are under N_SLIP alone
 abbrev pub after_one : Disc → Happening → Disc

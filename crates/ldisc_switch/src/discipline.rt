@@ -1,8 +1,8 @@
-ghost use Rattle.std.specs.Prelude.{◌≡◌, ◌+◌, ◌*◌, ◌^◌, ◌<◌, ◌≤◌, List, length, take, [], ◌∷◌, ◌++◌, IfOk, true};
+ghost use Rattle.std.specs.Prelude.{◌≡◌, ◌+◌, ◌*◌, ◌^◌, ◌<◌, ◌≤◌, List, length, take, [], ◌∷◌, ◌++◌, IfOk, ℕ, true, false};
 ghost use Rattle.tty_modes.specs.Settings.{Settings};
 ghost use Rattle.flow_control.specs.declared.tally.Tally.{Tally};
 ghost use Rattle.ldisc_switch.specs.Disciplines.{kind_of, fresh_of, accepts_of, unread_of, Fits, column_in, last_in, pending_count_of, after_ixoff_rule_of, disc_on_port, after_character_of, after_characters_of, AcceptsAllOf};
-ghost use Rattle.ldisc_switch.specs.Happenings.{Conditions, Happening, character, ixoff_rule, HasHappened};
+ghost use Rattle.ldisc_switch.specs.Happenings.{Conditions, Happening, character, characters_at, ixoff_rule, HasHappened};
 
 use crate::Kind;
 use flow_control::{Tally, Wire};
@@ -118,35 +118,40 @@ impl Disc {
         }
     }
 
-    /// Receives the characters at the front that concern few rules, all at once, and the rule for ixoff does nothing at them.
-    /// Answers how many; `receive` is for the next, if it is accepted.
-    #[inline(always)]
-    pub fn receive_run(
+    /// Receives characters from the front, each at this tick and with the rule for ixoff after it, up to the first that is
+    /// not accepted. Answers how many; under N_SLIP these are all.
+    pub fn receive_all(
         &mut self,
         chars: &[Flagged],
         now: u64,
         modes: &Modes,
         wire: &mut Wire,
+        tally: &mut Tally,
     ) -> usize
         requires fitting { Fits modes.now self.old }
         requires room { pending_count_of self.old wire.old + CHARACTER_ROOM * length chars.now ≤ wire.old.spare }
-        requires column { column_in self.old < 2 ^ 62 }
+        requires signals { length chars.now ≤ tally.old.signals.spare }
+        requires column { column_in self.old + 2 ^ 22 * length chars.now < 2 ^ 62 }
         ensures within { result ≤ length chars.now }
-        ensures after { (tally : Tally) → disc_on_port self.new wire.new tally
-            ≡ after_characters_of modes.now now (take result chars.now) (disc_on_port self.old wire.old tally) }
-        ensures accepted { (tally : Tally) → AcceptsAllOf modes.now now (take result chars.now) (disc_on_port self.old wire.old tally) }
+        ensures after { disc_on_port self.new wire.new tally.new
+            ≡ after_characters_of modes.now now (take result chars.now) (disc_on_port self.old wire.old tally.old) }
+        ensures accepted { AcceptsAllOf modes.now now (take result chars.now) (disc_on_port self.old wire.old tally.old) }
+        ensures stops { result < length chars.now → accepts_of modes.now self.new ≡ false }
+        ensures happened { (kind : Kind) (events : List Happening) → HasHappened self.old kind events →
+            HasHappened self.new kind
+            (events ++ characters_at modes.now now (take result chars.now) (disc_on_port self.old wire.old tally.old)) }
         ensures fits { Fits modes.now self.new }
         ensures spent { wire.old.spare + pending_count_of self.new wire.new
             ≤ wire.new.spare + (pending_count_of self.old wire.old + CHARACTER_ROOM * result) }
-        ensures moved { column_in self.new ≤ column_in self.old + result }
+        ensures signals { tally.old.signals.spare ≤ tally.new.signals.spare + result }
+        ensures moved { column_in self.new ≤ column_in self.old + 2 ^ 22 * result }
+        ensures past { last_in self.old ≤ now → last_in self.new ≤ now }
     {
         match self {
-            Disc::Tty(tty) => tty.receive_run(chars, now, modes, wire),
+            Disc::Tty(tty) => tty.receive_all(chars, now, modes, wire, tally),
             Disc::Slip(slip) => {
-                if wire.noted() {
-                    return 0;
-                }
-                slip.receive_run(chars)
+                hear_all(slip, chars, modes, wire, tally);
+                chars.len()
             }
         }
     }
@@ -167,4 +172,19 @@ impl Disc {
             Disc::Slip(_) => apply_ixoff_rule(0, false, modes, wire),
         }
     }
+}
+
+/// N_SLIP receives characters, and the rule for ixoff follows: after the first it has nothing left to tell.
+fn hear_all(slip: &mut NSlip, chars: &[Flagged], modes: &Modes, wire: &mut Wire, tally: &mut Tally)
+    requires room { length chars.now ≤ wire.old.spare }
+    ensures after { (now : ℕ) → disc_on_port (Disc.Slip slip.new) wire.new tally.new
+        ≡ after_characters_of modes.now now chars.now (disc_on_port (Disc.Slip slip.old) wire.old tally.old) }
+    ensures spent { wire.old.spare ≤ wire.new.spare + length chars.now }
+    ensures signals { tally.new.signals ≡ tally.old.signals }
+{
+    if chars.is_empty() {
+        return;
+    }
+    slip.receive_all(chars, tally);
+    apply_ixoff_rule(0, false, modes, wire);
 }

@@ -12,6 +12,3 @@ pub use laws::{
     calls_of_n_slip, calls_of_n_tty, column_of_all_posted, kind_stays, one_more,
     packets_of_all_heard, room_makes_no_difference, rule_under_n_slip,
 };
-
-#[cfg(test)]
-mod tests;

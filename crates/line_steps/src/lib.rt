@@ -5,12 +5,9 @@
 ghost use Rattle.std.specs.Prelude.{◌≡◌, ◌≤◌, ◌-◌, ◌^◌, [], ◌∷◌, ◌++◌, if◌then◌else◌, IfOk, OnOk, OnErr, length, map, take, min};
 ghost use Rattle.line_steps.specs.Steps.{rx_step, steps_of, steps_in};
 
-#[cfg(test)]
-mod tests;
-
 use std::alloc::Global;
 use std::marker::Model;
-use tty_base::{Flag, Flagged, LineStep, Moves, NoMemory};
+use tty_base::{Flag, Flagged, LineStep, Moves, NoMemory, front_of};
 
 /// How many steps are written out at a time.
 const PIECE: usize = 64;
@@ -168,7 +165,7 @@ fn write_run(steps: &mut Vec<LineStep>, flag: Flag, bytes: &[u8]) -> Result<(), 
     while !rest.is_empty() {
         let (front, after) = rest.split_at(rest.len().min(PIECE));
         set_piece(&mut piece, flag, front);
-        steps.extend_from_slice(first_steps(&piece, front.len()))?;
+        steps.extend_from_slice(front_of(&piece, front.len()))?;
         rest = after;
     }
     Ok(())
@@ -195,12 +192,4 @@ fn set_flagged(piece: &mut [LineStep; PIECE], flag: Flag, bytes: &[u8])
         let byte = bytes[place];
         piece[place] = LineStep::Rx(Flagged { byte, flag });
     }
-}
-
-#[inline(always)]
-fn first_steps(piece: &[LineStep; PIECE], count: usize) -> &[LineStep]
-    requires { count ≤ 64 }
-    ensures { result.now ≡ take count piece.now }
-{
-    &piece[..count]
 }

@@ -7,7 +7,7 @@ ghost use Rattle.line_store.specs.Pieces.{after_front};
 use super::queue::Queue;
 use std::alloc::Global;
 use std::marker::Model;
-use tty_base::{Bytes, Flagged, NoMemory};
+use tty_base::{Bytes, Flagged, NoMemory, front_of};
 
 /// How many bytes a read gets at most.
 const MOST: usize = 4096;
@@ -202,14 +202,6 @@ fn shorten_first(lengths: &mut Queue<u16>, count: usize)
     } else {
         lengths.set_first((first - count) as u16);
     }
-}
-
-/// The first bytes, so many.
-fn front_of(bytes: &[u8], count: usize) -> &[u8]
-    requires { count ≤ length bytes.now }
-    ensures { result.now ≡ take count bytes.now }
-{
-    &bytes[..count]
 }
 
 /// Moves the first bytes, so many, to the end of `out`.

@@ -21,7 +21,7 @@ use Rattle.port_cell.specs.Entries as histories
 use Rattle.port_cell.specs.Entries.{Keeps, Begins, entries_by}
 use Rattle.port_cell.specs.Knowledge.{number_of, list_seen, own_entries}
 use Rattle.port_cell.proofs.Histories.{each_append}
-use Rattle.tty_port.specs.Inside.{EntryWithCall}
+use Rattle.tty_port.specs.Inside.{Name, EntryWithCall}
 use Rattle.tty_port.specs.Histories.{seat_of}
 use Rattle.tty_port.specs.Seen.{entries_in, marks_at, next_run, IsBetween}
 use Rattle.tty_port.specs.Placed.{ArePlaced}
@@ -262,9 +262,9 @@ makes_same s = record { found = ([], sym (append-nil (list_seen s)), tt); own = 
 abbrev pub run_made : (number count : ℕ) → PortSeat → PortSeat → RunMade
 run_made number count before after = record { number = number; count = count; before = before; after = after }
 
-pub runs_more : (m run : ℕ) (start : PortSeat) (runs : List RunMade) (number count next : ℕ) (mid after new : PortSeat) → FlushesRuns m run start runs number mid → FlushesRun m number count mid after → next ≡ run_past number count → MakesNone after new
-    → FlushesRuns m run start (run_made number count mid after ∷ runs) next new
-runs_more m run start runs number count next mid after new h one numbered none = (h, one, numbered, none)
+pub runs_more : (name : Name) (run : ℕ) (start : PortSeat) (runs : List RunMade) (number count next : ℕ) (mid after new : PortSeat) → FlushesRuns name run start runs number mid → FlushesRun name number count mid after → next ≡ run_past number count → MakesNone after new
+    → FlushesRuns name run start (run_made number count mid after ∷ runs) next new
+runs_more name run start runs number count next mid after new h one numbered none = (h, one, numbered, none)
 
 pub same_number : (number count : ℕ) → count ≡ 0 → number ≡ run_past number count
 same_number number count none = sym (ap (λ (k : ℕ). run_past number k) none)
@@ -274,8 +274,8 @@ next_number number next count some is =
     let differs : count ≢ 0 = λ e. omega arith in
     is ∙ sym (ap (λ (b : Bool). if b then number else number + 1) (ne_eqb count 0 differs))
 
-pub flusher_begins : (m run : ℕ) (start : PortSeat) (runs : List RunMade) (next : ℕ) (new : PortSeat) → FlushesRuns m run start runs next new → Begins (list_seen start) (list_seen new)
-flusher_begins m run start [] next new h = begins_kept (number_of start) (list_seen start) (list_seen new) h.1.found
-flusher_begins m run start (r ∷ runs) next new h =
-    begins_on (list_seen start) (list_seen r.before) (list_seen new) (flusher_begins m run start runs r.number r.before h.0)
+pub flusher_begins : (name : Name) (run : ℕ) (start : PortSeat) (runs : List RunMade) (next : ℕ) (new : PortSeat) → FlushesRuns name run start runs next new → Begins (list_seen start) (list_seen new)
+flusher_begins name run start [] next new h = begins_kept (number_of start) (list_seen start) (list_seen new) h.1.found
+flusher_begins name run start (r ∷ runs) next new h =
+    begins_on (list_seen start) (list_seen r.before) (list_seen new) (flusher_begins name run start runs r.number r.before h.0)
     (begins_on (list_seen r.before) (list_seen r.after) (list_seen new) h.1.begins (begins_kept (number_of r.after) (list_seen r.after) (list_seen new) h.3.found))

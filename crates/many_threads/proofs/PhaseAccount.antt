@@ -285,7 +285,7 @@ module _ (s : Scene) (p : SharedPort) (rs : List (Option PlainRole)) (v w : Port
     flusher_from : Begins xs zs
     flusher_from =
         subst (λ (l : List (Stamped EntryWithCall)). Begins l zs) (shared.dealt.flusher.seen ∙ shared.opening)
-        (flusher_begins m run dealt.flusher (flusher.last ∷ flusher.runs) next back.seats.flusher flusher.flushes)
+        (flusher_begins (name_of_port p) run dealt.flusher (flusher.last ∷ flusher.runs) next back.seats.flusher flusher.flushes)
 
     -- what was made before the flusher's last look, and after it
     abbrev seen : List (Stamped EntryWithCall)

@@ -32,7 +32,7 @@ pub record ClockComes (p : SharedPort) (ticks : ℕ) (start : List (Stamped Entr
 pub record FlusherComes (p : SharedPort) (run : ℕ) (start : PortSeat) (back : FlusherBack) : Type 0 where
   pub here : IsHere p (name_of_port p).callers back.seat
   pub ok : IfOk back.result (λ next. PlaysFlusher (name_of_port p) run start next back.seat)
-  pub err : OnErr back.result (StopsFlusher (name_of_port p).callers run start back.seat)
+  pub err : OnErr back.result (StopsFlusher (name_of_port p) run start back.seat)
   pub full : IfErr back.result (λ d. IsFull (name_of_port p) d (list_seen back.seat))
 
 pub record LineComes (p : SharedPort) (steps : List LineStep) (line : LineState) (putter : PutterState Flagged) (start : List (Stamped EntryWithCall)) (back : LineBack) : Type 0 where

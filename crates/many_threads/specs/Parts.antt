@@ -118,26 +118,26 @@ pub record RunMade : Type 0 where
   pub before : PortSeat
   pub after : PortSeat
 
--- The flusher, whose seat has the number m, made these flush runs, the latest first, and nothing else. The first has the number
+-- The flusher of the port with this name made these flush runs, the latest first, and nothing else. The first has the number
 -- `run`, and each other one the number after the run before it, which `next` is after the latest.
-abbrev pub FlushesRuns : (m run : ℕ) → PortSeat → List RunMade → ℕ → PortSeat → Type 0
-FlushesRuns m run start [] next new = (next ≡ run) × MakesNone start new
-FlushesRuns m run start (r ∷ runs) next new =
-    FlushesRuns m run start runs r.number r.before × FlushesRun m r.number r.count r.before r.after × (next ≡ run_past r.number r.count) × MakesNone r.after new
+abbrev pub FlushesRuns : Name → (run : ℕ) → PortSeat → List RunMade → ℕ → PortSeat → Type 0
+FlushesRuns name run start [] next new = (next ≡ run) × MakesNone start new
+FlushesRuns name run start (r ∷ runs) next new =
+    FlushesRuns name run start runs r.number r.before × FlushesRun name r.number r.count r.before r.after × (next ≡ run_past r.number r.count) × MakesNone r.after new
 
 -- The last of the runs found nothing more to hand over, and the look after it that the phase may end.
 pub record PlaysFlusher (name : Name) (run : ℕ) (start : PortSeat) (next : ℕ) (new : PortSeat) : Type 0 where
   pub runs : List RunMade
   pub last : RunMade
-  pub flushes : FlushesRuns name.callers run start (last ∷ runs) next new
+  pub flushes : FlushesRuns name run start (last ∷ runs) next new
   pub none : last.count ≡ 0
   pub left : HasNothingLeft (terminal_at name (list_seen last.after))
   pub numbered : next ≡ next_run (list_seen new)
   pub ended : may_end name.counts (terminal_at name (list_seen new)) ≡ true
 
 -- flush runs, the last of which was denied
-pub record StopsFlusher (m run : ℕ) (start new : PortSeat) : Type 0 where
+pub record StopsFlusher (name : Name) (run : ℕ) (start new : PortSeat) : Type 0 where
   pub runs : List RunMade
   pub last : RunMade
   pub next : ℕ
-  pub flushes : FlushesRuns m run start (last ∷ runs) next new
+  pub flushes : FlushesRuns name run start (last ∷ runs) next new

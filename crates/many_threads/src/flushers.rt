@@ -23,19 +23,18 @@ pub(crate) fn play_flusher<R: Wait>(
     requires next { run ≡ next_run (list_seen seat.old) }
     ensures seat { IsHere shared.now (name_of_port shared.now).callers seat.new }
     ensures ok { IfOk result (λ next. PlaysFlusher (name_of_port shared.now) run seat.old next seat.new) }
-    ensures err { OnErr result (StopsFlusher (name_of_port shared.now).callers run seat.old seat.new) }
+    ensures err { OnErr result (StopsFlusher (name_of_port shared.now) run seat.old seat.new) }
     ensures full { IfErr result (λ d. IsFull (name_of_port shared.now) d (list_seen seat.new)) }
 {
     let mut next = run;
     for _ in rt.forever() {
-        let since = shared.flusher_changes();
         let count = shared.flush_run(rt, seat, next)?;
         if count > 0 {
             next += 1;
         } else if shared.ended(rt, seat) {
             return Ok(next);
         } else {
-            shared.flusher_pause(rt, since);
+            shared.flusher_pause(rt);
         }
     }
     unreachable!()

@@ -1,5 +1,6 @@
-//! A session played on threads. In each phase a port has a thread for each caller, and one each for line,
-//! flusher and clock, side by side over the seats of a shared port, all joined before the phase ends.
+//! A session played on threads. In each phase a port has a thread for each caller, one each for line and
+//! flusher, and one for a clock that ticks, side by side over the seats of a shared port, all joined before
+//! the phase ends.
 #![tactic(auto)]
 
 mod callers;
@@ -17,7 +18,4 @@ mod starts;
 mod stations;
 mod threads;
 
-pub use crews::CallersBack;
 pub use playing::play;
-pub use running::run_threads;
-pub use threads::{FlusherBack, LineBack, Receiver, SeatBack};

@@ -218,8 +218,8 @@ fn end_phase(port: &mut Port, putter: &mut FlipIn, next: u32) -> Result<PhaseEnd
     }
 }
 
-/// Plays a phase of a port: its callers, line, flusher and clock side by side on threads, and then its
-/// end. A port whose journal is full plays no further phase.
+/// Plays a phase of a port: its callers, line, flusher and a clock that ticks side by side on threads, and
+/// then its end. A port whose journal is full plays no further phase.
 pub(crate) fn play_shared<R: Threads + Wait + Sync, G: Gate + Sync>(
     rt: &R,
     alloc: Global,

@@ -33,8 +33,9 @@ fn end_all(alloc: Global, session: &Session, ports: Vec<PortInPlay>) -> Result<P
 }
 
 /// Plays a session on threads. In each phase the ports are played side by side, each with a thread for
-/// each caller and one each for line, flusher and clock, and all threads end before the next phase. A
-/// port whose journal is full plays no further phase; after the last phase each other is hung up.
+/// each caller, one each for line and flusher, and one for a clock that ticks, and all threads end before
+/// the next phase. A port whose journal is full plays no further phase; after the last phase each other is
+/// hung up.
 pub fn play<R: Threads + Wait + Sync, G: Gate + Sync>(
     rt: &R,
     alloc: Global,

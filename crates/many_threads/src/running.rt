@@ -170,7 +170,7 @@ fn run_line<'s, E, R: Threads + Wait + Sync, G: Gate + Sync>(
 
 /// The threads of a phase side by side, none of which acts before all are made. Where one cannot be made,
 /// nothing is played.
-pub fn run_threads<R: Threads + Wait + Sync, G: Gate + Sync>(
+pub(crate) fn run_threads<R: Threads + Wait + Sync, G: Gate + Sync>(
     rt: &R,
     alloc: Global,
     shared: &SharedPort,

@@ -24,31 +24,31 @@ use uart_line::Line;
 
 /// What a caller's thread, or the clock's, brings back.
 #[derive(Drop)]
-pub struct SeatBack {
-    pub seat: Seat,
-    pub result: Result<(), Denied>,
+pub(crate) struct SeatBack {
+    pub(crate) seat: Seat,
+    pub(crate) result: Result<(), Denied>,
 }
 
 /// What the flusher's thread brings back: the number of the next flush run, where it was not denied.
 #[derive(Drop)]
-pub struct FlusherBack {
-    pub seat: Seat,
-    pub result: Result<u32, Denied>,
+pub(crate) struct FlusherBack {
+    pub(crate) seat: Seat,
+    pub(crate) result: Result<u32, Denied>,
 }
 
 /// What the line's thread is given and brings back: the line, and the putting end of the flip buffer.
 #[derive(Drop)]
-pub struct Receiver {
-    pub line: Line,
-    pub putter: FlipIn,
+pub(crate) struct Receiver {
+    pub(crate) line: Line,
+    pub(crate) putter: FlipIn,
 }
 
 /// What the line's thread brings back.
 #[derive(Drop)]
-pub struct LineBack {
-    pub seat: Seat,
-    pub receiver: Receiver,
-    pub result: Result<(), Denied>,
+pub(crate) struct LineBack {
+    pub(crate) seat: Seat,
+    pub(crate) receiver: Receiver,
+    pub(crate) result: Result<(), Denied>,
 }
 
 /// A caller's thread.

@@ -41,7 +41,7 @@ with_packets-fed piece c waiting =
     ]
 
 -- what a character ended is what the decoder told
-outcomes_at-answer : (list : List Flagged) (c : Flagged) (piece : BegunPiece) → piece ≡ piece_of (rest_of list) → outcomes_at list c ≡ outcomes_by_answer (answer_to piece c) (cond (is_end c) (packet_in piece) [])
+pub outcomes_at-answer : (list : List Flagged) (c : Flagged) (piece : BegunPiece) → piece ≡ piece_of (rest_of list) → outcomes_at list c ≡ outcomes_by_answer (answer_to piece c) (cond (is_end c) (packet_in piece) [])
 outcomes_at-answer list c piece h =
     ap (λ (os : List Outcome). drop (length (outcomes list)) os) (outcomes_more list c (record { piece = piece; packet = [] }) h)
     ∙ drop-append_seam (outcomes list) (outcomes_by_answer (answer_to piece c) (cond (is_end c) (packet_in piece) []))

@@ -1,3 +1,5 @@
 pub mod Packets
 pub mod Happenings
 pub mod TextRuns
+pub mod FrontLemmas
+pub mod CountLemmas

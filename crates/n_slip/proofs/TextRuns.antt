@@ -1,10 +1,10 @@
 -- Characters that stand for themselves within a piece end none, and are not counted.
-use Rattle.std.proofs.Common.{◌≡◌, ℕ, cond, ◌&&◌, ◌==◌, List, [], ◌∷◌, ap, sym, refl, ◌∙◌, ne_eqb}
+use Rattle.std.proofs.Common.{◌≡◌, cond, ◌&&◌, ◌==◌, List, [], ◌∷◌, ap, sym, refl, ◌∙◌, ne_eqb}
 use Rattle.std.specs.List.{AllByRecursion}
 use Rattle.tty_base.specs.declared.characters.Flagged.{Flagged}
 use Rattle.tty_base.specs.declared.counters.Counts.{Counts}
 use Rattle.slip_frames.specs.declared.receiving.Fed.TheVariants.{Going}
-use Rattle.slip_frames.specs.Slip.{end, is_normal, is_end}
+use Rattle.slip_frames.specs.Slip.{end, is_normal}
 use Rattle.slip_frames.specs.Decoding.{Decoding, BegunPiece, answer_to, answer_to_end, piece_after_character, packet_in, decoding_after_character, decoding_after_characters, IsText}
 use Rattle.n_slip.specs.Discipline.{Slip, packets_after_answer, after_character, after_characters, counts_with_flag, counts_with_piece, counts_after_character, counts_after_characters}
 

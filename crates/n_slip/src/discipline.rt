@@ -1,4 +1,4 @@
-ghost use Rattle.std.specs.Prelude.{◌≡◌, ◌+◌, ◌-◌, ◌<◌, ◌≤◌, [], ◌∷◌, ◌++◌, List, length, take, drop, nat_le, IfOk, if◌then◌else◌};
+ghost use Rattle.std.specs.Prelude.{◌≡◌, ◌+◌, ◌-◌, ◌<◌, ◌≤◌, [], ◌∷◌, ◌++◌, List, length, map, take, drop, nat_le, IfOk, if◌then◌else◌};
 ghost use Rattle.flow_control.specs.Output.{room_of, after_send};
 ghost use Rattle.tty_base.specs.declared.counters.Counts.{Counts};
 ghost use Rattle.flow_control.specs.Counting.{with_count};
@@ -51,14 +51,18 @@ impl NSlip {
         self.step(c, tally)
     }
 
-    /// Takes the characters at the front that stand for themselves within a piece, all at once. Answers how many; none of them
-    /// is counted.
-    pub fn receive_run(&mut self, chars: &[Flagged]) -> usize
-        ensures within { result ≤ length chars.now }
-        ensures after { self.new ≡ after_characters self.old (take result chars.now) }
-        ensures counts { (counts : Counts) → counts_after_characters self.old (take result chars.now) counts ≡ counts }
+    /// Takes characters of the line, one after the other: all of them, since N_SLIP accepts every one.
+    pub fn receive_all(&mut self, chars: &[Flagged], tally: &mut Tally)
+        ensures after { self.new ≡ after_characters self.old chars.now }
+        ensures counts { tally.new
+            ≡ record tally.old { counts = counts_after_characters self.old chars.now tally.old.counts } }
+        ensures seen { (events : List Happening) → HasSeen self.old events →
+            HasSeen self.new (events ++ map character chars.now) }
     {
-        self.decoder.feed_run(chars)
+        let mut done = 0;
+        while done < chars.len() {
+            done += self.receive_some(rest_of(chars, done), tally);
+        }
     }
 
     /// How many packets wait.
@@ -116,6 +120,35 @@ impl NSlip {
         self.queue.clear();
     }
 
+    /// Takes a run at the front, or else the first character. Answers how many.
+    #[inline(always)]
+    fn receive_some(&mut self, chars: &[Flagged], tally: &mut Tally) -> usize
+        requires some { 0 < length chars.now }
+        ensures some { 0 < result }
+        ensures within { result ≤ length chars.now }
+        ensures after { self.new ≡ after_characters self.old (take result chars.now) }
+        ensures counts { tally.new
+            ≡ record tally.old { counts = counts_after_characters self.old (take result chars.now) tally.old.counts } }
+    {
+        let count = self.receive_run(chars);
+        if count > 0 {
+            return count;
+        }
+        self.step(chars[0], tally);
+        1
+    }
+
+    /// Takes the characters at the front that stand for themselves within a piece, all at once: none of them is counted.
+    /// Answers how many: none, where the first ends a piece, is flagged or an ESC or after one, or the piece is spoilt.
+    #[inline(always)]
+    fn receive_run(&mut self, chars: &[Flagged]) -> usize
+        ensures within { result ≤ length chars.now }
+        ensures after { self.new ≡ after_characters self.old (take result chars.now) }
+        ensures counts { (counts : Counts) → counts_after_characters self.old (take result chars.now) counts ≡ counts }
+    {
+        self.decoder.feed_run(chars)
+    }
+
     fn step(&mut self, c: Flagged, tally: &mut Tally)
         ensures after { self.new ≡ after_character self.old c }
         ensures counts { tally.new ≡ record tally.old { counts = counts_after_character self.old c tally.old.counts } }
@@ -143,4 +176,12 @@ fn count_flag(flag: Flag, tally: &mut Tally)
         Flag::Frame => tally.count(Counter::Frame, 1),
         Flag::Overrun => tally.count(Counter::Mark, 1),
     }
+}
+
+/// The characters after so many.
+fn rest_of(chars: &[Flagged], count: usize) -> &[Flagged]
+    requires { count ≤ length chars.now }
+    ensures { result.now ≡ drop count chars.now }
+{
+    &chars[count..]
 }

@@ -3,9 +3,8 @@
 
 mod discipline;
 mod kept;
+mod laws;
 mod queue;
 
 pub use discipline::NSlip;
-
-#[cfg(test)]
-mod tests;
+pub use laws::pieces_are_counted;

@@ -2,6 +2,7 @@ pub mod BoundLemmas
 pub mod EchoLemmas
 pub mod ErasedLemmas
 pub mod FitsLemmas
+pub mod FrontLemmas
 pub mod InRuns
 pub mod KillLemmas
 pub mod PlainLemmas

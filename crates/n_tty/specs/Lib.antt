@@ -10,4 +10,5 @@ pub mod Runs
 pub mod Spending
 pub mod States
 pub mod Storing
+pub mod Taking
 pub mod Writing

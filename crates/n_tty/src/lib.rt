@@ -14,6 +14,3 @@ mod storing;
 pub use discipline::{CHARACTER_ROOM, NTty};
 pub use flow::apply_ixoff_rule;
 pub use laws::room_makes_no_difference;
-
-#[cfg(test)]
-mod tests;

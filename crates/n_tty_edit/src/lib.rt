@@ -8,6 +8,3 @@ mod widths;
 
 pub use bytes::is_printed;
 pub use line::{Edit, Gone, edited_by_the_last};
-
-#[cfg(test)]
-mod tests;

@@ -18,7 +18,7 @@ ghost use Rattle.one_thread.specs.LineInside.{StandsBefore, PlaysSteps, StopsSte
 use flip_buffer::FlipIn;
 use line_steps::{LineSteps, Part};
 use port_core::{Flushed, Port};
-use tty_base::{Flag, Flagged, LineStep};
+use tty_base::{Flag, Flagged, LineStep, rest_of};
 use tty_calls::Denied;
 use uart_line::Line;
 use uart_regs::TIMEOUT;
@@ -117,7 +117,7 @@ fn play_run(
     let mut next = run;
     let mut at = 0;
     while at < bytes.len() {
-        let passed = play_window(port, putter, line, bytes_from(bytes, at), next)?;
+        let passed = play_window(port, putter, line, rest_of(bytes, at), next)?;
         at += passed.steps;
         next = passed.run;
     }
@@ -179,7 +179,7 @@ fn play_window(
 {
     match window_to_give(port, putter, line, bytes) {
         Some(window) => give_window(port, putter, line, window, run),
-        None => put_window(port, putter, line, bytes, run),
+        None => play_first(port, putter, line, bytes, run),
     }
 }
 
@@ -233,9 +233,9 @@ fn give_window(
     })
 }
 
-/// They are put one after the other, and flushed from there.
-#[inline(never)]
-fn put_window(
+/// The first of these good characters arrives in a step of its own.
+#[inline(always)]
+fn play_first(
     port: &mut Port,
     putter: &mut FlipIn,
     line: &mut Line,
@@ -252,10 +252,12 @@ fn put_window(
     ensures ok { IfOk result (λ passed. PlaysSteps (take passed.steps (good_steps bytes.now)) port.old port.new putter.old putter.new line.old line.new run passed.run) }
     ensures err { IfErr result (λ d. StopsSteps d (good_steps bytes.now) port.old port.new putter.old putter.new line.old line.new run) }
 {
-    let before = putter.sent();
-    let steps = line.step_good(bytes, putter);
-    let next = flush_since(port, putter, before, run)?;
-    Ok(Passed { steps, run: next })
+    let step = LineStep::Rx(Flagged::good(bytes[0]));
+    let next = play_step(port, putter, line, step, run)?;
+    Ok(Passed {
+        steps: 1,
+        run: next,
+    })
 }
 
 /// A step of the line, and a flush of what it has put.
@@ -278,15 +280,6 @@ fn play_step(
     let before = putter.sent();
     line.step(step, putter);
     flush_since(port, putter, before, run)
-}
-
-/// The bytes from the place `at` on.
-#[inline(always)]
-fn bytes_from(bytes: &[u8], at: usize) -> &[u8]
-    requires { at ≤ length bytes.now }
-    ensures { result.now ≡ drop at bytes.now }
-{
-    &bytes[at..]
 }
 
 /// Flushes as much as can be of what was put since so many were put. Answers the number of the next flush run.

@@ -6,6 +6,3 @@ mod pieces;
 
 pub use cursor::{Out, column_of_more};
 pub use pieces::Piece;
-
-#[cfg(test)]
-mod tests;

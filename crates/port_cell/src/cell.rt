@@ -11,8 +11,8 @@ use crate::plays::{Deal, TakeIn};
 use crate::rule::{CellRule, Opening};
 use crate::sleepers::Sleepers;
 use crate::view::View;
-use crate::waiters::Waiters;
 use atomic_table::{Refused, Table};
+use change_wait::Waiters;
 use std::alloc::Global;
 use std::snapshot::Snapshot;
 use tty_base::NoMemory;
@@ -42,6 +42,7 @@ pub struct Cell<V: Kept> {
     pub(crate) for_turn: Sleepers,
     pub(crate) for_change: Waiters,
     ghost counted: { (table.shared.table_id.words ≡ 3) × (table.shared.table_id.slots ≡ 1) },
+    ghost some: { 0 < table.shared.key.seats },
 }
 
 impl<V: Kept> Cell<V> {
@@ -95,7 +96,6 @@ impl<V: Kept> Cell<V> {
     /// saw, with the seat's own entries, and the generation that was installed last.
     pub fn close(self, seats: Vec<Seat<V>>) -> V
         requires free { EachSeat (IsFree (identity_of self)) seats.items }
-        requires some { 0 < seat_count self }
         requires all { HasAll (seat_count self) seats.items }
         ensures opening { V.name result ≡ V.name (opening_value self) }
         ensures name { EachSeat (IsNamedAs (V.name result)) seats.items }

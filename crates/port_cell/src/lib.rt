@@ -18,13 +18,13 @@ mod sleepers;
 mod tests;
 mod turns;
 mod view;
-mod waiters;
 
 pub use cell::{Cell, Seat};
 pub use kept::{Kept, Stamped};
-pub use laws::{generation_grows_by_installing, nobody_holds_beside_one_alone};
+pub use laws::{
+    generation_grows_by_installing, nobody_holds_beside_one_alone, the_word_stands_in_a_turn,
+};
 pub use references::{Changing, Users};
 pub use rule::{CellRule, Opening};
 pub use turns::Turn;
 pub use view::{Joined, User, View};
-pub use waiters::{ChangeCount, Waiters};

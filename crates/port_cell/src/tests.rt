@@ -136,15 +136,6 @@ fn three_seats(rt: HostRuntime) -> Result<(), Fail> {
     Ok(())
 }
 
-#[test]
-fn a_wake_counts_as_a_change(rt: HostRuntime) {
-    let waiters = Waiters::new();
-    let before = waiters.changes();
-    assert_eq!(rt; waiters.changes(), before);
-    waiters.wake();
-    assert_ne!(rt; waiters.changes(), before);
-}
-
 fn both<R: Threads + Wait + Abort + Sync>(
     rt: &R,
     cell: &Cell<Log>,

@@ -13,7 +13,7 @@ ghost use Rattle.port_cell.specs.Joining.{Becomes};
 use crate::cell::{COUNT, Cell, Seat, TURN};
 use crate::kept::Kept;
 use crate::plays::{Give, Note, Take, Told};
-use crate::waiters::ChangeCount;
+use change_wait::ChangeCount;
 use std::hint::spin_loop;
 use std::marker::Brand;
 use std::sync::Wait;
@@ -107,6 +107,7 @@ impl<V: Kept> Cell<V> {
         ensures seen { list_seen seat.new ≡ V.list (value_in turn.old) }
         ensures lowered { generation_of (V.list (value_in turn.old)) ≡ generation_installed seat.old → is_raised seat.new ≡ false }
         ensures raised { generation_of (V.list (value_in turn.old)) ≡ generation_installed seat.old + 1 → is_raised seat.new ≡ true }
+        ensures installed { generation_installed seat.new ≡ generation_installed seat.old }
         ensures value { turn.new ≡ turn.old }
     {
         self.tell::<Brand>(seat, &turn.value);

@@ -2,6 +2,7 @@
 use Rattle.std.proofs.Common.{◌≡◌, ℕ, List, Option, ◌++◌, true, false, ◌+◌, ◌<◌, ◌≤◌, length, max, refl, sym, ◌∙◌, ap, subst, arith, length-append}
 use Rattle.std.proofs.lemmas.Bool.{false≢true}
 use Rattle.tty_base.specs.declared.characters.Flagged.{Flagged}
+use Rattle.flip_buffer.specs.Drops.{Releases}
 use Rattle.word_ring.specs.Ends.{PutterState, TakerState, AreReleased, with_shown}
 use Rattle.word_ring.proofs.Beginnings.{begins_length}
 use Rattle.tty_calls.specs.declared.journals.Who.TheVariants.{Line, Session}
@@ -71,9 +72,9 @@ fresh_column = refl
 
 -- the session hangs the port up
 pub hangs_up : (v now : PortValue) (slots : List (Option WaitingCall)) (p : PutterState Flagged) (f : TakerState Flagged) (dropped : List Flagged) → KeepsCalls v slots → length v.journal < v.limit → v.terminal.phase ≡ length v.counts
-    → v.terminal.sent ≡ length p.sent → f.taken ≡ v.flip.taken ++ dropped → f.taken ≡ p.sent → AreReleased f.released p.heads → f.floor ≡ length p.sent → f.ring ≡ v.flip.ring → f.capacity ≡ v.flip.capacity → f.ended ≡ true
+    → v.terminal.sent ≡ length p.sent → f.taken ≡ v.flip.taken ++ dropped → f.taken ≡ p.sent → AreReleased v.flip.released p.heads → Releases v.flip f → f.floor ≡ length p.sent → f.ring ≡ v.flip.ring → f.capacity ≡ v.flip.capacity → f.ended ≡ true
     → now ≡ record (with_entry v (hangup_entry v dropped)) { flip = f } → KeepsCalls now slots × HangsUp v now p
-hangs_up v now slots p f dropped keeps few at_end sent taken all heads floor ring capacity ended now_is =
+hangs_up v now slots p f dropped keeps few at_end sent taken all heads released floor ring capacity ended now_is =
     let t = v.terminal in
     let e : PlainEntry = hangup_entry v dropped in
     let whole : length p.sent ≡ length v.flip.taken + length dropped = ap length (sym all ∙ taken) ∙ length-append v.flip.taken dropped in
@@ -89,6 +90,7 @@ hangs_up v now slots p f dropped keeps few at_end sent taken all heads floor rin
         taken = taken;
         all = all;
         heads = heads;
+        released = released;
         ring = ring;
         capacity = capacity;
         ended = ended;

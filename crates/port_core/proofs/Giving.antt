@@ -6,7 +6,7 @@ use Rattle.std.proofs.Math.Seq.{drop-append_seam, take-append_seam}
 use mathlib.Core.List.{IsPrefix}
 use Rattle.tty_base.specs.declared.characters.Flagged.{Flagged}
 use Rattle.word_ring.specs.Ends.{PutterState, TakerState, NothingWaits, Passes, with_shown, with_taken, with_all_taken}
-use Rattle.word_ring.proofs.Beginnings.{begins_itself, begins_more}
+use Rattle.word_ring.proofs.Beginnings.{begins_itself}
 use Rattle.flip_buffer.specs.Drops.{LooksAt}
 use Rattle.ldisc_switch.specs.Disciplines.{column_in}
 use Rattle.tty_terminal.specs.Terminals.{Terminal}
@@ -20,7 +20,7 @@ use Rattle.port_core.specs.Inside.{KeepsCalls}
 use Rattle.port_core.specs.Ports.{PortValue, is_stuck, flush_entry, with_entry}
 use Rattle.port_core.proofs.GoingOn.{port_taken}
 use Rattle.port_core.proofs.Handing.{takes_piece}
-use Rattle.port_core.proofs.Taking.{takes_peeked}
+use Rattle.port_core.proofs.Taking.{one_released, takes_peeked}
 
 -- one look after they were put
 look_after : (f : TakerState Flagged) (p : PutterState Flagged) (chars : List Flagged) (tail : ℕ) → NothingWaits p f → max f.floor (length (p.sent ++ chars)) ≤ tail → tail ≤ length f.taken + f.capacity
@@ -38,8 +38,8 @@ look_after f p chars tail clear rises most =
     }
 
 -- all of them pass
-pub passes_given : (f g : TakerState Flagged) (p q : PutterState Flagged) (chars : List Flagged) (n : ℕ) → NothingWaits p f → length chars ≤ f.capacity → n ≡ length chars → Passes p q f g chars → TakesGiven f g p q chars n
-passes_given f g p q chars n clear few all passes =
+pub passes_given : (f g : TakerState Flagged) (p q : PutterState Flagged) (chars : List Flagged) (n : ℕ) → NothingWaits p f → 0 < length chars → length chars ≤ f.capacity → n ≡ length chars → Passes p q f g chars → TakesGiven f g p q chars n
+passes_given f g p q chars n clear some few all passes =
     let more = length-append p.sent chars in
     let count = length (p.sent ++ chars) in
     let known = clear.known in
@@ -57,7 +57,7 @@ passes_given f g p q chars n clear few all passes =
         taken = (λ i. sym passes.met i ++ sym whole i);
         floor = omega arith;
         tails = begins_itself (f.tails ++ count ∷ []);
-        released = begins_more f.released (count ∷ []);
+        released = one_released (with_shown (after_meeting f (with_put p chars)) count) (with_all_taken f (p.sent ++ chars)) refl (omega arith);
         ended = refl;
         sent = refl;
       };
@@ -82,19 +82,18 @@ begins_given ts ss ys chars long begins =
 -- the first of them are taken
 pub front_given : (f h g : TakerState Flagged) (p q : PutterState Flagged) (chars xs : List Flagged) (n tail : ℕ) → NothingWaits p f → length xs ≡ n
     → max f.floor (length (p.sent ++ chars)) ≤ tail → tail ≤ length f.taken + f.capacity
-    → h ≡ with_taken (record (with_shown (after_meeting f (with_put p chars)) tail) { peeked = xs }) (take n xs) → g ≡ after_meeting h (with_pushed p chars) → MeetsTaker h (with_pushed p chars) q
+    → h ≡ with_taken (with_shown (after_meeting f (with_put p chars)) tail) xs → g ≡ after_meeting h (with_pushed p chars) → MeetsTaker h (with_pushed p chars) q
     → TakesGiven f g p q chars n
 front_given f h g p q chars xs n tail clear count rises most released met meets =
     let shown : TakerState Flagged = with_shown (after_meeting f (with_put p chars)) tail in
-    let peeked : TakesOut shown h (take n xs) = subst (λ (z : TakerState Flagged). TakesOut shown z (take n xs)) (sym released) (takes_peeked shown xs (take n xs)) in
-    let long : length (take n xs) ≡ n = length-take-le n xs (omega arith) in
-    let begins : IsPrefix (f.taken ++ take n xs) (p.sent ++ chars) = subst (λ (z : List Flagged). IsPrefix z (p.sent ++ chars)) peeked.taken meets.begins in
-    let given : take n xs ≡ take n chars = begins_given f.taken p.sent (take n xs) chars clear.taken begins ∙ ap (λ (k : ℕ). take k chars) long in
+    let taken : TakesOut shown h xs = subst (λ (z : TakerState Flagged). TakesOut shown z xs) (sym released) (takes_peeked shown [] xs) in
+    let begins : IsPrefix (f.taken ++ xs) (p.sent ++ chars) = subst (λ (z : List Flagged). IsPrefix z (p.sent ++ chars)) taken.taken meets.begins in
+    let given : xs ≡ take n chars = begins_given f.taken p.sent xs chars clear.taken begins ∙ ap (λ (k : ℕ). take k chars) count in
     record {
       tail = tail;
       left = h;
       looks = look_after f p chars tail clear rises most;
-      takes_out = subst (λ (z : List Flagged). TakesOut shown h z) given peeked;
+      takes_out = subst (λ (z : List Flagged). TakesOut shown h z) given taken;
       new_is = met;
       meets = meets;
     }

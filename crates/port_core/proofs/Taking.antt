@@ -1,5 +1,6 @@
 -- Characters that are taken out of the flip buffer.
-use Rattle.std.proofs.Common.{◌≡◌, ℕ, suc, ◌≤◌, List, [], ◌∷◌, ◌++◌, length, refl, sym, ◌∙◌, ap, subst, arith, append_assoc, append-nil, inl, inr}
+use Rattle.std.proofs.Common.{◌≡◌, ℕ, suc, ◌<◌, ◌≤◌, List, [], ◌∷◌, ◌++◌, length, refl, sym, ◌∙◌, ap, subst, arith, append_assoc, append-nil, length-append, inl, inr}
+use Rattle.std.proofs.lemmas.List.Elements.{All-nil, All-cons, All-append}
 use mathlib.Core.List.{IsPrefix}
 use Rattle.std.specs.List.{All}
 use Rattle.std.specs.List.Sorted.{IsNonDecreasing}
@@ -9,6 +10,33 @@ use Rattle.word_ring.proofs.Beginnings.{begins_itself, begins_more, begins_throu
 use Rattle.flip_buffer.specs.Drops.{LooksAt, Releases}
 use Rattle.port_core.specs.Flips.{TakesOut, MeetsTaker}
 
+-- no head was released
+none_released : (f g : TakerState Flagged) → g.released ≡ f.released → Releases f g
+none_released f g same = record { heads = []; adds = same ∙ sym (append-nil f.released); above = All-nil (λ (h : ℕ). length f.taken < h); below = All-nil (λ (h : ℕ). h ≤ length g.taken) }
+
+-- one head was released, which is what is taken now
+pub one_released : (f g : TakerState Flagged) → g.released ≡ f.released ++ length g.taken ∷ [] → length f.taken < length g.taken → Releases f g
+one_released f g adds more =
+    record {
+      heads = length g.taken ∷ [];
+      adds = adds;
+      above = All-cons (λ (h : ℕ). length f.taken < h) (length g.taken) [] more (All-nil (λ (h : ℕ). length f.taken < h));
+      below = All-cons (λ (h : ℕ). h ≤ length g.taken) (length g.taken) [] (omega arith) (All-nil (λ (h : ℕ). h ≤ length g.taken));
+    }
+
+taken_more : (f g : TakerState Flagged) (xs : List Flagged) → g.taken ≡ f.taken ++ xs → length f.taken ≤ length g.taken
+taken_more f g xs is = omega (arith, ap length is, length-append f.taken xs)
+
+-- by two steps
+released_through : (f g h : TakerState Flagged) → length f.taken ≤ length g.taken → length g.taken ≤ length h.taken → Releases f g → Releases g h → Releases f h
+released_through f g h first second a b =
+    record {
+      heads = a.heads ++ b.heads;
+      adds = b.adds ∙ ap (λ (rs : List ℕ). rs ++ b.heads) a.adds ∙ append_assoc f.released a.heads b.heads;
+      above = All-append (λ (n : ℕ). length f.taken < n) a.heads b.heads a.above (λ k d lt. let n = b.above k d lt in omega arith);
+      below = All-append (λ (n : ℕ). n ≤ length h.taken) a.heads b.heads (λ k d lt. let n = a.below k d lt in omega arith) b.below;
+    }
+
 pub nothing_out : (f : TakerState Flagged) → TakesOut f f []
 nothing_out f =
     record {
@@ -17,14 +45,14 @@ nothing_out f =
       taken = sym (append-nil f.taken);
       floor = omega arith;
       tails = begins_itself f.tails;
-      released = begins_itself f.released;
+      released = none_released f _ refl;
       ended = refl;
       sent = refl;
     }
 
 -- of what was peeked some are taken
 pub takes_peeked : (f : TakerState Flagged) (peeked xs : List Flagged) → TakesOut f (with_taken (record f { peeked = peeked }) xs) xs
-takes_peeked f peeked [] = record { ring = refl; capacity = refl; taken = sym (append-nil f.taken); floor = omega arith; tails = begins_itself f.tails; released = begins_itself f.released; ended = refl; sent = refl }
+takes_peeked f peeked [] = record { ring = refl; capacity = refl; taken = sym (append-nil f.taken); floor = omega arith; tails = begins_itself f.tails; released = none_released f _ refl; ended = refl; sent = refl }
 takes_peeked f peeked (x ∷ xs) =
     record {
       ring = refl;
@@ -32,7 +60,7 @@ takes_peeked f peeked (x ∷ xs) =
       taken = refl;
       floor = omega arith;
       tails = begins_itself f.tails;
-      released = begins_more f.released (length (f.taken ++ x ∷ xs) ∷ []);
+      released = one_released f _ refl (omega (arith, length-append f.taken (x ∷ xs)));
       ended = refl;
       sent = refl;
     }
@@ -46,7 +74,7 @@ takes_out_of f floor [] rises =
       taken = sym (append-nil f.taken);
       floor = rises;
       tails = begins_more f.tails (floor ∷ []);
-      released = begins_itself f.released;
+      released = none_released f _ refl;
       ended = refl;
       sent = refl;
     }
@@ -57,7 +85,7 @@ takes_out_of f floor (x ∷ xs) rises =
       taken = refl;
       floor = rises;
       tails = begins_more f.tails (floor ∷ []);
-      released = begins_more f.released (length (f.taken ++ x ∷ xs) ∷ []);
+      released = one_released f _ refl (omega (arith, length-append f.taken (x ∷ xs)));
       ended = refl;
       sent = refl;
     }
@@ -70,7 +98,7 @@ takes_out_more f g h xs ys a b =
       taken = b.taken ∙ ap (λ (z : List Flagged). z ++ ys) a.taken ∙ append_assoc f.taken xs ys;
       floor = omega (arith, a.floor, b.floor);
       tails = begins_through f.tails g.tails h.tails a.tails b.tails;
-      released = begins_through f.released g.released h.released a.released b.released;
+      released = released_through f g h (taken_more f g xs a.taken) (taken_more g h ys b.taken) a.released b.released;
       ended = b.ended ∙ a.ended;
       sent = b.sent ∙ a.sent;
     }
@@ -90,7 +118,7 @@ looks_and_takes f g tail xs looks releases ring capacity ended sent taken =
       taken = taken;
       floor = omega (arith, looks.rises, looks.floor);
       tails = begins_through f.tails (f.tails ++ tail ∷ []) g.tails (begins_more f.tails (tail ∷ [])) looks.looked;
-      released = (releases.heads, sym releases.adds);
+      released = releases;
       ended = ended;
       sent = sent;
     }

@@ -5,21 +5,21 @@ use Rattle.std.specs.List.Sorted.{IsNonDecreasing}
 use mathlib.Core.List.{IsPrefix}
 use Rattle.tty_base.specs.declared.characters.Flagged.{Flagged}
 use Rattle.word_ring.specs.Ends.{PutterState, TakerState, with_loaded}
-use Rattle.flip_buffer.specs.Drops.{LooksAt}
+use Rattle.flip_buffer.specs.Drops.{LooksAt, Releases}
 use Rattle.tty_terminal.specs.Terminals.{Terminal}
 
 -- how many characters a look that loads this tail shows: once the line is over, none past those that it sent
 abbrev pub shown_count : Terminal → (tail : ℕ) → ℕ
 shown_count t tail = if t.line_over then min (tail - t.taken) (t.sent - t.taken) else tail - t.taken
 
--- these characters were taken out, and else only what was loaded and released grew
+-- these characters were taken out, and the heads that were released for it count some of them; else only what was loaded grew
 pub record TakesOut (old new : TakerState Flagged) (chars : List Flagged) : Type 0 where
   pub ring : new.ring ≡ old.ring
   pub capacity : new.capacity ≡ old.capacity
   pub taken : new.taken ≡ old.taken ++ chars
   pub floor : old.floor ≤ new.floor
   pub tails : IsPrefix old.tails new.tails
-  pub released : IsPrefix old.released new.released
+  pub released : Releases old new
   pub ended : new.ended ≡ old.ended
   pub sent : new.sent ≡ old.sent
 

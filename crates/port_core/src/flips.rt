@@ -4,13 +4,14 @@ ghost use Rattle.std.specs.Prelude.{◌≡◌, ℕ, ◌+◌, ◌-◌, ◌*◌, �
 ghost use Rattle.tty_base.specs.Characters.{good_characters};
 ghost use Rattle.tty_base.specs.declared.characters.Flagged.{Flagged};
 ghost use Rattle.word_ring.specs.Ends.{AreReleased, NothingWaits, with_shown};
-ghost use Rattle.flip_buffer.specs.Drops.{LooksAt};
+ghost use Rattle.flip_buffer.specs.Drops.{LooksAt, Releases};
 ghost use Rattle.ldisc_switch.specs.Disciplines.{column_in};
 ghost use Rattle.tty_terminal.specs.Receiving.{accepts, after_characters, AcceptsAll};
 ghost use Rattle.tty_terminal.specs.Meeting.{room_for_characters};
 ghost use Rattle.port_core.specs.Flips.{shown_count, TakesOut, DropsShown, after_meeting, MeetsTaker};
 ghost use Rattle.port_core.specs.Given.{TakesGiven, with_put};
 
+use arrayvec::ArrayVec;
 use flip_buffer::{FlipIn, FlipOut};
 use tty_base::{Chars, Flagged, Put};
 use tty_terminal::Terminal;
@@ -131,7 +132,8 @@ pub(crate) fn drop_rest(flip: &mut FlipOut, putter: FlipIn, dropped: &mut Chars)
     requires spare { flip.old.capacity ≤ dropped.old.spare }
     ensures taken { flip.new.taken ≡ flip.old.taken ++ dropped.new.items }
     ensures all { flip.new.taken ≡ putter.sent }
-    ensures heads { AreReleased flip.new.released putter.heads }
+    ensures heads { AreReleased flip.old.released putter.heads }
+    ensures released { Releases flip.old flip.new }
     ensures floor { flip.new.floor ≡ length putter.sent }
     ensures same { (flip.new.ring ≡ flip.old.ring) × (flip.new.capacity ≡ flip.old.capacity) × (flip.new.ended ≡ true) }
 {
@@ -139,12 +141,14 @@ pub(crate) fn drop_rest(flip: &mut FlipOut, putter: FlipIn, dropped: &mut Chars)
     flip.drop_all(flip.capacity(), dropped);
 }
 
-/// Puts the good characters of these bytes, for which there is room.
+/// Puts the good characters of these bytes, where all that was put is known to be taken.
 pub(crate) fn put_good(putter: &mut FlipIn, bytes: &[u8])
-    requires room { length putter.old.sent + length bytes.now ≤ putter.old.floor + putter.old.capacity }
+    requires few { length bytes.now ≤ 64 }
+    requires known { putter.old.floor ≡ length putter.old.sent }
     requires small { length putter.old.sent + length bytes.now ≤ 2 ^ 63 }
     ensures { putter.new ≡ with_put putter.old (good_characters bytes.now) }
 {
+    let _room = putter.capacity();
     for byte in bytes {
         putter.put_known(Flagged::good(*byte));
     }
@@ -156,7 +160,6 @@ pub(crate) fn put_good(putter: &mut FlipIn, bytes: &[u8])
 pub(crate) fn take_given(flip: &mut FlipOut, putter: &mut FlipIn, bytes: &[u8; 8], received: usize)
     requires ring { putter.old.ring ≡ flip.old.ring }
     requires clear { NothingWaits putter.old flip.old }
-    requires few { 8 ≤ putter.old.capacity }
     requires small { length putter.old.sent + 8 ≤ 2 ^ 63 }
     requires within { received ≤ 8 }
     ensures { TakesGiven flip.old flip.new putter.old putter.new (good_characters bytes.now) received }
@@ -168,12 +171,11 @@ pub(crate) fn take_given(flip: &mut FlipOut, putter: &mut FlipIn, bytes: &[u8; 8
     }
 }
 
-/// The same where the discipline did not accept all.
+/// Does so where the discipline did not accept all.
 #[inline(never)]
 fn take_front(flip: &mut FlipOut, putter: &mut FlipIn, bytes: &[u8; 8], count: usize)
     requires ring { putter.old.ring ≡ flip.old.ring }
     requires clear { NothingWaits putter.old flip.old }
-    requires few { 8 ≤ putter.old.capacity }
     requires small { length putter.old.sent + 8 ≤ 2 ^ 63 }
     requires within { count ≤ 8 }
     ensures { TakesGiven flip.old flip.new putter.old putter.new (good_characters bytes.now) count }
@@ -181,18 +183,7 @@ fn take_front(flip: &mut FlipOut, putter: &mut FlipIn, bytes: &[u8; 8], count: u
     put_good(putter, bytes);
     let note = putter.note();
     flip.meet(note);
-    flip.look();
-    skip(flip, count);
-    flip.release(count);
+    let mut front = ArrayVec::new();
+    flip.take(count, &mut front);
     tell_each_other(flip, putter);
-}
-
-/// Peeks so many characters that a look has shown.
-fn skip(flip: &mut FlipOut, count: usize)
-    requires { length flip.old.taken + length flip.old.peeked + count ≤ flip.old.floor }
-    ensures { (xs : List Flagged) × (length xs ≡ count) × (flip.new ≡ record flip.old { peeked = flip.old.peeked ++ xs }) }
-{
-    for _ in 0..count {
-        flip.peek_next();
-    }
 }

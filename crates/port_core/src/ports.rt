@@ -161,7 +161,7 @@ impl Port {
         Ok(())
     }
 
-    /// The calls of a caller in the phase that runs are over. It is a caller of this phase.
+    /// The calls of a caller of the port are over in the phase that runs.
     pub fn caller_end(&mut self, caller: u16) -> Result<(), Denied>
         requires known { caller < sum self.old.counts }
         requires not_over { (caller_at self.old.terminal caller).over ≡ false }

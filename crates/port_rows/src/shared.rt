@@ -102,9 +102,8 @@ fn flush<R: Wait>(rt: &R, shared: &SharedPort, mut seat: Seat) -> Seat
     ensures { IsHere shared.now 2 result }
 {
     for _ in rt.forever() {
-        let since = shared.flusher_changes();
         match shared.flush_run(rt, &mut seat, 0) {
-            Ok(0) => shared.flusher_pause(rt, since),
+            Ok(0) => shared.flusher_pause(rt),
             _ => return seat,
         }
     }

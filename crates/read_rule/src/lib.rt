@@ -22,6 +22,3 @@ pub fn ready(n: u32, min: u8, time: u8, unread: u32, since: u64, last: u64, now:
         _ => enough || unread > 0 && now.saturating_sub(since.max(last)) >= ticks,
     }
 }
-
-#[cfg(test)]
-mod tests;

@@ -7,6 +7,3 @@ mod phases;
 
 pub use laws::each_number_keeps_the_limits;
 pub use phases::make;
-
-#[cfg(test)]
-mod tests;

@@ -1,10 +1,11 @@
 -- Each caller of a session has a number, and each of its calls a step.
-use Rattle.std.proofs.Common.{◌≡◌, ℕ, Bool, true, false, ◌||◌, List, [], ◌∷◌, ◌++◌, Some, ◌+◌, length, fold, flat_map, slice_get, refl, sym, ap, ◌∙◌, cond, append_assoc, length-append}
+use Rattle.std.proofs.Common.{◌≡◌, ℕ, Bool, true, false, ◌||◌, List, [], ◌∷◌, ◌++◌, Option, Some, ◌+◌, length, map, fold, flat_map, slice_get, refl, sym, ap, subst, ◌∙◌, cond, append_assoc, length-append}
 use Rattle.std.specs.Str.{bytes_eq}
 use Rattle.std.specs.List.{list_any, position_from, concat, AllZip}
 use Rattle.std.proofs.lemmas.Bool.{false≢true}
 use Rattle.std.proofs.lemmas.Option.{slice_get-get_or}
 use Rattle.std.proofs.lemmas.Grind.{flat_map-append}
+use Rattle.std.proofs.lemmas.List.{map-append}
 use Rattle.std.proofs.lemmas.List.Folds.{list_any-append, concat-append}
 use Rattle.std.proofs.lemmas.List.Sums.{fold-append}
 use Rattle.std.proofs.lemmas.Iterator.Adapters.{position_from-zero}
@@ -69,9 +70,9 @@ item_after : (done rest : List PlainCall) (call : PlainCall) → slice_get (done
 item_after [] rest call = refl
 item_after (x ∷ xs) rest call = item_after xs rest call
 
--- the lines of some calls
-abbrev Lines : ℕ → PlainSession → List PlainEntry → List PlainCall → List ℕ → Type 0
-Lines p session es calls text = (lines : List (List ℕ)) × (text ≡ concat lines) × AllZip (IsLineOf p session es) calls lines
+-- the lines of some calls that are told
+abbrev Lines : ℕ → PlainSession → List PlainEntry → List Told → List ℕ → Type 0
+Lines p session es told text = (lines : List (List ℕ)) × (text ≡ concat lines) × AllZip (IsLineOf p session es) told lines
 
 zip_append : {X Y : Type 0} (R : X → Y → Type 0) (xs more : List X) (ys rest : List Y) → AllZip R xs ys → AllZip R more rest → AllZip R (xs ++ more) (ys ++ rest)
 zip_append R [] more [] rest h k = k
@@ -82,7 +83,7 @@ zip_append R (x ∷ xs) more (y ∷ ys) rest h k = (h.0, zip_append R xs more ys
 -- the calls of a script, which come after those that its caller has done
 script_lines : (p : ℕ) (session : PlainSession) (es : List PlainEntry) → AnswersEvery p session es → (name : List ℕ) (c : ℕ) → slice_get (names_of (scripts_over p session.phases)) c ≡ Some name
     → (step : ℕ) (done calls rest : List PlainCall) → step ≡ length done → calls_under name (scripts_over p session.phases) ≡ done ++ (calls ++ rest)
-    → Lines p session es calls (flat_map (told_line p (answer_in es)) (told_from name (Some c) step calls))
+    → Lines p session es (told_from name (Some c) step calls) (flat_map (told_line p (answer_in es)) (told_from name (Some c) step calls))
 script_lines p session es all name c named step done [] rest at is = ([], refl, tt)
 script_lines p session es all name c named step done (call ∷ calls) rest at is =
     let called : call_at p session c step ≡ Some call =
@@ -97,7 +98,7 @@ script_lines p session es all name c named step done (call ∷ calls) rest at is
     let t : Told = record { name = name; caller = Some c; step = step; call = call } in (
       line ∷ more.0,
       ap (λ a. answered_line p t a ++ flat_map (told_line p (answer_in es)) (told_from name (Some c) (step + 1) calls)) answer.1 ∙ ap (λ xs. line ++ xs) more.1,
-      (record { caller = c; step = step; name = name; answer = answer.0; named = named; called = called; answered = answer.1; told = refl }, more.2),
+      (record { caller = c; answer = answer.0; numbered = refl; named = named; called = called; answered = answer.1; is_line = refl }, more.2),
     )
 
 own_calls : (s : PlainScript) → cond (bytes_eq s.name s.name) s.calls [] ≡ s.calls
@@ -105,7 +106,7 @@ own_calls s = ap (λ b. cond b s.calls []) ((bytes_eq-Decides s.name s.name).1 r
 
 -- the calls of scripts that come after others
 pub scripts_lines : (p : ℕ) (session : PlainSession) (es : List PlainEntry) → AnswersEvery p session es → (before ss : List PlainScript) → scripts_over p session.phases ≡ before ++ ss
-    → Lines p session es (flat_map (λ s. s.calls) ss) (flat_map (told_line p (answer_in es)) (told_in (names_of (scripts_over p session.phases)) before ss))
+    → Lines p session es (told_in (names_of (scripts_over p session.phases)) before ss) (flat_map (told_line p (answer_in es)) (told_in (names_of (scripts_over p session.phases)) before ss))
 scripts_lines p session es all before [] is = ([], refl, tt)
 scripts_lines p session es all before (s ∷ ss) is =
     let scripts : List PlainScript = scripts_over p session.phases in
@@ -127,5 +128,20 @@ scripts_lines p session es all before (s ∷ ss) is =
           ∙ ap (λ xs. xs ++ flat_map (told_line p (answer_in es)) rest) here.1
           ∙ ap (λ xs. concat here.0 ++ xs) more.1
           ∙ sym (concat-append here.0 more.0),
-      zip_append (IsLineOf p session es) s.calls (flat_map (λ x. x.calls) ss) here.0 more.0 here.2 more.2,
+      subst (λ o. AllZip (IsLineOf p session es) (told_from s.name o step s.calls ++ rest) (here.0 ++ more.0)) (sym number.1) (
+          zip_append (IsLineOf p session es) (told_from s.name (Some c) step s.calls) rest here.0 more.0 here.2 more.2
+          ),
     )
+
+-- the calls that are told are all that there are
+from_calls : (name : List ℕ) (c : Option ℕ) (step : ℕ) (calls : List PlainCall) → map (λ t. t.call) (told_from name c step calls) ≡ calls
+from_calls name c step [] = refl
+from_calls name c step (call ∷ calls) = ap (λ cs. call ∷ cs) (from_calls name c (step + 1) calls)
+
+pub told_calls : (names : List (List ℕ)) (before ss : List PlainScript) → map (λ t. t.call) (told_in names before ss) ≡ flat_map (λ s. s.calls) ss
+told_calls names before [] = refl
+told_calls names before (s ∷ ss) =
+    let here : List Told = told_from s.name (number_in names s.name) (length (calls_under s.name before)) s.calls in
+    map-append (λ (t : Told). t.call) here (told_in names (before ++ s ∷ []) ss)
+    ∙ ap (λ cs. cs ++ map (λ t. t.call) (told_in names (before ++ s ∷ []) ss)) (from_calls s.name (number_in names s.name) (length (calls_under s.name before)) s.calls)
+    ∙ ap (λ cs. s.calls ++ cs) (told_calls names (before ++ s ∷ []) ss)

@@ -19,6 +19,3 @@ pub const ESC_END: u8 = 0xdc;
 pub const ESC_ESC: u8 = 0xdd;
 /// The most bytes of a packet.
 pub const MAX_PACKET: usize = 1006;
-
-#[cfg(test)]
-mod tests;

@@ -8,7 +8,7 @@ use crate::{END, ESC, ESC_END, ESC_ESC, MAX_PACKET};
 use char_lanes::push_run;
 use std::alloc::Global;
 use std::marker::Model;
-use tty_base::{Flag, Flagged, NoMemory};
+use tty_base::{Flag, Flagged, NoMemory, front_of};
 
 /// What one more character of the line gave.
 #[derive(Clone, Copy, Debug, PartialEq, Eq)]
@@ -216,12 +216,4 @@ fn starts_with_text(chars: &[Flagged]) -> bool
         [first, ..] => is_text(*first),
         [] => false,
     }
-}
-
-/// The first characters, so many.
-fn front_of(chars: &[Flagged], count: usize) -> &[Flagged]
-    requires { count ≤ length chars.now }
-    ensures { result.now ≡ take count chars.now }
-{
-    &chars[..count]
 }

@@ -1,3 +1,4 @@
+-- A list with reserved room.
 use Rattle.std.specs.Prelude.{ℕ, List}
 
 -- a list, and how many items can be added to it without asking for memory

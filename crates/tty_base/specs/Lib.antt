@@ -4,3 +4,4 @@ pub mod Held
 pub mod Lines
 pub mod Memory
 pub mod Outside
+pub mod Sizes

@@ -1,3 +1,4 @@
+-- What a source and a sink in the world outside are known to have done.
 use Rattle.std.specs.Prelude.{◌≡◌, ◌⊎◌, ℕ, List, Option, Some, ◌++◌, ◌+◌, ◌≤◌, ◌<◌, take, drop, length, IfSome}
 
 -- A count of faults has risen, or stands at the last value that it can have.
@@ -19,3 +20,8 @@ TookCount k bytes left = IfSome left (λ rest. length bytes ≡ length rest + k)
 -- What was given before, and after it the first bytes of these.
 abbrev pub GivesFront : List ℕ → List ℕ → Option (List ℕ) → Type 0
 GivesFront before bytes given = (k : ℕ) × (k ≤ length bytes) × (given ≡ Some (before ++ take k bytes))
+
+-- a stream: the bytes that it has left, or that it was given, where it tells them; and its count of faults
+pub record Stream : Type 0 where
+  pub bytes : Option (List ℕ)
+  pub faults : ℕ

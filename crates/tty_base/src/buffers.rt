@@ -1,3 +1,4 @@
+//! Lists with reserved room.
 ghost use Rattle.std.specs.Prelude.{◌≡◌, ◌+◌, ◌-◌, ◌≤◌, ◌<◌, ◌^◌, [], ◌∷◌, ◌++◌, length, take, drop, IfOk, OnOk, OnErr, vec_len};
 ghost use Rattle.tty_base.specs.Contents.{Contents};
 

@@ -1,3 +1,4 @@
+//! Characters with their flags.
 ghost use Rattle.std.specs.Prelude.{◌≡◌, ◌<◌, ◌≤◌, ◌+◌, [], ◌∷◌, ◌++◌, length, take};
 ghost use Rattle.tty_base.specs.Characters.{good_character, good_characters};
 

@@ -1,3 +1,4 @@
+//! Signals, errors and counts, as a terminal tells them.
 /// A signal that the terminal raised for its foreground processes (termios(3), ISIG and BRKINT).
 #[derive(Clone, Copy, Debug, PartialEq, Eq)]
 pub enum Signal {

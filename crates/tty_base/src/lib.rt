@@ -10,6 +10,8 @@ mod lists;
 mod memory;
 mod moves;
 mod sinks;
+pub mod sizes;
+mod slices;
 mod sources;
 mod standard;
 
@@ -21,8 +23,6 @@ pub use lists::Chars;
 pub use memory::{MemSink, MemSource};
 pub use moves::Moves;
 pub use sinks::{PutFault, Sink, write_all};
+pub use slices::{front_of, rest_of};
 pub use sources::{Failed, Source, TakeFault, read_all};
 pub use standard::{StdSink, StdSource};
-
-#[cfg(test)]
-mod tests;

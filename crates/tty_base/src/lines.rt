@@ -1,4 +1,5 @@
-ghost use Rattle.std.specs.Prelude.{◌≡◌, ℕ, List, [], ◌∷◌, ◌++◌, ◌+◌, ◌-◌, ◌<◌, ◌≤◌, ◌↔◌, Ok, length, IsTrue, OnOk, IfErr};
+//! What happens on a serial line, what it reports, and where its characters are put.
+ghost use Rattle.std.specs.Prelude.{◌≡◌, ℕ, List, [], ◌∷◌, ◌++◌, ◌+◌, ◌-◌, ◌<◌, ◌≤◌, Ok, length, OnOk, IfErr};
 ghost use Rattle.std.specs.List.Sorted.{IsNonDecreasing};
 ghost use Rattle.tty_base.specs.declared.characters.Flagged.{Flagged};
 ghost use mathlib.Core.List.{IsPrefix};
@@ -60,31 +61,29 @@ pub struct LineReport {
 /// The end of a buffer of characters at which they are put in. The other end sees what was put once
 /// it is pushed.
 pub trait Put {
-    /// The characters accepted so far.
+    /// The characters accepted so far, in order.
     ghost sent: { Self → List Flagged };
 
-    /// The heads loaded so far: how many characters the other end had taken at each.
+    /// How many characters the other end had taken, at each load of that number so far.
     ghost heads: { Self → List ℕ };
 
-    /// How many characters can stand that were accepted and not taken.
+    /// How many accepted characters the buffer holds that the other end has not taken.
     ghost capacity: { Self → ℕ };
 
     /// That the other end can see all that was put.
     ghost visible: { Self → Type 0 } = { λ _. Unit {0} };
 
-    /// Which buffer it is the end of.
+    /// Which buffer it is the end of: two ends with one name are of one buffer.
     ghost name: { Self → List ℕ } = { λ _. [] };
 
-    /// How many more characters may be handed to it, whether it accepts them or not.
-    ghost room: { Self → ℕ };
+    /// How many more characters may be handed to it, whether it accepts them or not: its counts have
+    /// an end. It says nothing of free places.
+    ghost numbers_left: { Self → ℕ };
 
-    /// How many more characters it accepts for certain.
-    ghost free: { Self → ℕ };
-
-    /// Accepts a character, or answers `Full`, which says by its two numbers that no room was left
+    /// Accepts a character, or answers `Full`, which says by its two numbers that no place was free
     /// when this call looked.
     fn put(&mut self, c: Flagged) -> Result<(), Full>
-        requires { 0 < room self.old }
+        requires { 0 < numbers_left self.old }
         ensures ok { OnOk result (sent self.new ≡ sent self.old ++ c ∷ []) }
         ensures full { IfErr result (λ f. (sent self.new ≡ sent self.old)
             × (heads self.new ≡ heads self.old ++ f.seen ∷ [])
@@ -94,39 +93,7 @@ pub trait Put {
         ensures rise { IsNonDecreasing (heads self.new) }
         ensures same { capacity self.new ≡ capacity self.old }
         ensures name { name self.new ≡ name self.old }
-        ensures room { room self.old ≤ room self.new + 1 };
-
-    /// Looks once, and answers whether so many more characters are accepted for certain.
-    fn has_room(&mut self, count: usize) -> bool
-        ensures free { IsTrue result ↔ count ≤ free self.new }
-        ensures sent { sent self.new ≡ sent self.old }
-        ensures grows { IsPrefix (heads self.old) (heads self.new) }
-        ensures rise { IsNonDecreasing (heads self.new) }
-        ensures same { capacity self.new ≡ capacity self.old }
-        ensures name { name self.new ≡ name self.old }
-        ensures room { room self.new ≡ room self.old };
-
-    /// Accepts a character for which there is room for certain.
-    fn put_known(&mut self, c: Flagged)
-        requires room { 0 < room self.old }
-        requires free { 0 < free self.old }
-        ensures sent { sent self.new ≡ sent self.old ++ c ∷ [] }
-        ensures heads { heads self.new ≡ heads self.old }
-        ensures free { free self.old ≤ free self.new + 1 }
-        ensures same { capacity self.new ≡ capacity self.old }
-        ensures name { name self.new ≡ name self.old }
-        ensures room { room self.old ≤ room self.new + 1 };
-
-    /// Accepts four characters for which there is room for certain.
-    fn put_four(&mut self, chars: [Flagged; 4])
-        requires room { 4 ≤ room self.old }
-        requires free { 4 ≤ free self.old }
-        ensures sent { sent self.new ≡ sent self.old ++ chars }
-        ensures heads { heads self.new ≡ heads self.old }
-        ensures free { free self.old ≤ free self.new + 4 }
-        ensures same { capacity self.new ≡ capacity self.old }
-        ensures name { name self.new ≡ name self.old }
-        ensures room { room self.old ≤ room self.new + 4 };
+        ensures numbers { numbers_left self.old ≤ numbers_left self.new + 1 };
 
     /// Makes all that was put visible to the other end.
     fn push(&mut self)
@@ -136,7 +103,7 @@ pub trait Put {
         ensures rise { IsNonDecreasing (heads self.new) }
         ensures same { capacity self.new ≡ capacity self.old }
         ensures name { name self.new ≡ name self.old }
-        ensures room { room self.new ≡ room self.old };
+        ensures numbers { numbers_left self.new ≡ numbers_left self.old };
 }
 
 /// A list in reserved room accepts each character, and nobody takes from it.
@@ -147,39 +114,17 @@ impl Put for Chars {
 
     ghost heads = { λ _. [] };
 
-    ghost capacity = { λ list. length list.items + list.spare + 1 };
+    ghost capacity = { λ list. length list.items + list.spare };
 
-    ghost room = { λ list. list.spare };
-
-    ghost free = { λ list. list.spare };
+    ghost numbers_left = { λ list. list.spare };
 
     fn put(&mut self, c: Flagged) -> Result<(), Full>
         requires { 0 < self.old.spare }
-        ensures { (result ≡ Ok tt) × (self.new ≡ record { items = self.old.items ++ c ∷ []; spare = self.old.spare - 1 }) }
-    {
-        self.put_known(c);
-        Ok(())
-    }
-
-    fn has_room(&mut self, count: usize) -> bool
-        ensures { (IsTrue result ↔ count ≤ self.old.spare) × (self.new ≡ self.old) }
-    {
-        count <= self.spare()
-    }
-
-    fn put_known(&mut self, c: Flagged)
-        requires { 0 < self.old.spare }
-        ensures { self.new ≡ record { items = self.old.items ++ c ∷ []; spare = self.old.spare - 1 } }
+        ensures ok { result ≡ Ok tt }
+        ensures adds { self.new ≡ record { items = self.old.items ++ c ∷ []; spare = self.old.spare - 1 } }
     {
         self.add(c);
-    }
-
-    fn put_four(&mut self, chars: [Flagged; 4])
-        requires { 4 ≤ self.old.spare }
-        ensures adds { self.new ≡ record { items = self.old.items ++ chars; spare = self.old.spare - 4 } }
-        ensures room { length self.new.items + self.new.spare ≡ length self.old.items + self.old.spare }
-    {
-        self.add_four(chars);
+        Ok(())
     }
 
     fn push(&mut self)

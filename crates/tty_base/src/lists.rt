@@ -1,3 +1,4 @@
+//! Lists of characters, of which a short one takes no memory.
 ghost use Rattle.std.specs.Prelude.{◌≡◌, ◌+◌, ◌-◌, ◌≤◌, ◌<◌, [], ◌∷◌, ◌++◌, length, take, IfOk, OnOk, OnErr, vec_capacity};
 ghost use Rattle.arrayvec.specs.ArrayVec.{array_vec_len};
 ghost use Rattle.tty_base.specs.Characters.{good_characters};
@@ -36,7 +37,7 @@ impl Model for Chars {
     ghost view = { λ c. contents_of c.held };
 }
 
-/// The same characters in memory, with room for `more` further ones.
+/// These characters in memory, with room for `more` further ones.
 #[inline(never)]
 fn moved(near: &ArrayVec<Flagged, NEAR, Global>, more: usize) -> Result<Vec<Flagged>, NoMemory>
     ensures { IfOk result (λ far. (far.items ≡ near.now.items) × (length near.now.items + more ≤ vec_capacity far)) }
@@ -146,7 +147,10 @@ impl Chars {
     #[inline(always)]
     pub fn add_good(&mut self, bytes: &[u8])
         requires { length bytes.now ≤ self.old.spare }
-        ensures { self.new ≡ record { items = self.old.items ++ good_characters bytes.now; spare = self.old.spare - length bytes.now } }
+        ensures { self.new ≡ record {
+          items = self.old.items ++ good_characters bytes.now;
+          spare = self.old.spare - length bytes.now;
+        } }
     {
         if bytes.len() == 8 {
             self.add_two_fours(four_good(bytes, 0), four_good(bytes, 4));
@@ -155,11 +159,14 @@ impl Chars {
         }
     }
 
-    // The same for any number of bytes.
+    /// Adds the good characters of any number of bytes in room that was reserved.
     #[inline(never)]
     fn add_any_good(&mut self, bytes: &[u8])
         requires { length bytes.now ≤ self.old.spare }
-        ensures { self.new ≡ record { items = self.old.items ++ good_characters bytes.now; spare = self.old.spare - length bytes.now } }
+        ensures { self.new ≡ record {
+          items = self.old.items ++ good_characters bytes.now;
+          spare = self.old.spare - length bytes.now;
+        } }
     {
         let whole = bytes.len() / 4;
         for k in 0..whole {
@@ -170,7 +177,7 @@ impl Chars {
         }
     }
 
-    // Adds eight characters in room that was reserved.
+    /// Adds eight characters in room that was reserved.
     #[inline(always)]
     fn add_two_fours(&mut self, first: [Flagged; 4], second: [Flagged; 4])
         requires { 8 ≤ self.old.spare }

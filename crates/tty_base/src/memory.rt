@@ -1,3 +1,4 @@
+//! A source and a sink in memory, for tests.
 ghost use Rattle.std.specs.Prelude.{◌≡◌, ◌⊎◌, ℕ, List, [], Option, Some, Ok, Err, ◌+◌, ◌-◌, ◌++◌, ◌≤◌, ◌<◌, ◌↔◌, min, take, drop, length, IfOk, IfSome, OnOk, OnErr, IsErr, Contains};
 ghost use Rattle.tty_base.specs.Outside.{Rose, Gives};
 ghost use Rattle.tty_base.specs.Memory.{call_after, faults_after};
@@ -26,7 +27,13 @@ impl Model for MemSource {
 
     ghost Value = { MemoryIn };
 
-    ghost view = { λ s. record { left = drop s.at s.bytes.items; piece = s.piece; fails = s.fails.items; calls = s.calls; faults = s.faults } };
+    ghost view = { λ s. record {
+      left = drop s.at s.bytes.items;
+      piece = s.piece;
+      fails = s.fails.items;
+      calls = s.calls;
+      faults = s.faults;
+    } };
 
     ghost invariant = { λ s. (s.at ≤ length s.bytes.items) × (1 ≤ s.piece) };
 }
@@ -64,7 +71,10 @@ impl Source for MemSource {
         ensures fails { IsErr result ↔ Contains self.old.fails self.old.calls }
         ensures ok { IfOk result (λ k. (k ≡ min (min (length self.old.left) self.old.piece) (length buf.old))
             × (self.new ≡ record self.old { left = drop k self.old.left; calls = call_after self.old.calls })) }
-        ensures err { OnErr result (self.new ≡ record self.old { calls = call_after self.old.calls; faults = faults_after self.old.faults }) }
+        ensures err { OnErr result (self.new ≡ record self.old {
+          calls = call_after self.old.calls;
+          faults = faults_after self.old.faults;
+        }) }
     {
         let call = self.calls;
         self.calls = call.saturating_add(1);
@@ -98,7 +108,14 @@ impl Model for MemSink {
 
     ghost Value = { MemoryOut };
 
-    ghost view = { λ s. record { given = s.bytes.items; room = s.room; piece = s.piece; fails = s.fails.items; calls = s.calls; faults = s.faults } };
+    ghost view = { λ s. record {
+      given = s.bytes.items;
+      room = s.room;
+      piece = s.piece;
+      fails = s.fails.items;
+      calls = s.calls;
+      faults = s.faults;
+    } };
 
     ghost invariant = { λ s. (1 ≤ s.piece) × (s.room ≤ s.bytes.spare) };
 }
@@ -112,7 +129,14 @@ impl MemSink {
         fails: Vec<u32>,
     ) -> Result<MemSink, NoMemory>
         requires { 1 ≤ piece }
-        ensures { IfOk result (λ s. s ≡ record { given = []; room = room; piece = piece; fails = fails.items; calls = 0; faults = 0 }) }
+        ensures { IfOk result (λ s. s ≡ record {
+          given = [];
+          room = room;
+          piece = piece;
+          fails = fails.items;
+          calls = 0;
+          faults = 0;
+        }) }
     {
         let mut bytes = Bytes::new(alloc);
         bytes.reserve(room)?;
@@ -150,8 +174,15 @@ impl Sink for MemSink {
 
         ensures fails { IsErr result ↔ (self.old.room ≡ 0) ⊎ Contains self.old.fails self.old.calls }
         ensures ok { IfOk result (λ k. (k ≡ min (min (length bytes.now) self.old.piece) self.old.room)
-            × (self.new ≡ record self.old { given = self.old.given ++ take k bytes.now; room = self.old.room - k; calls = call_after self.old.calls })) }
-        ensures err { OnErr result (self.new ≡ record self.old { calls = call_after self.old.calls; faults = faults_after self.old.faults }) }
+            × (self.new ≡ record self.old {
+              given = self.old.given ++ take k bytes.now;
+              room = self.old.room - k;
+              calls = call_after self.old.calls;
+            })) }
+        ensures err { OnErr result (self.new ≡ record self.old {
+          calls = call_after self.old.calls;
+          faults = faults_after self.old.faults;
+        }) }
     {
         let call = self.calls;
         self.calls = call.saturating_add(1);

@@ -1,3 +1,4 @@
+//! Where bytes go.
 ghost use Rattle.std.specs.Prelude.{◌≡◌, ℕ, List, Option, Some, ◌++◌, ◌≤◌, ◌<◌, take, length, IfOk, IfSome, OnOk, OnErr};
 ghost use Rattle.tty_base.specs.Outside.{Rose, GivesFront};
 
@@ -18,9 +19,10 @@ pub trait Sink {
         ensures count { faults self.old ≤ faults self.new }
         ensures some { IfOk result (λ k. 0 < k) }
         ensures room { IfOk result (λ k. k ≤ length bytes.now) }
-        ensures takes { IfOk result (λ k. IfSome (given self.old) (λ before. given self.new ≡ Some (before ++ take k bytes.now))) }
+        ensures takes { IfOk result (λ k. IfSome (given self.old) (λ before.
+            given self.new ≡ Some (before ++ take k bytes.now))) }
         ensures failed { OnErr result (Rose (faults self.old) (faults self.new)) }
-        ensures same { OnErr result (given self.new ≡ given self.old) };
+        ensures same { OnErr result (IfSome (given self.old) (λ before. given self.new ≡ Some before)) };
 }
 
 /// Why a text was not written whole.

@@ -1,3 +1,4 @@
+//! Where bytes come from.
 ghost use Rattle.std.specs.Prelude.{◌≡◌, ℕ, List, [], Option, Some, ◌+◌, ◌≤◌, ◌<◌, take, drop, length, IfOk, IfSome, OnOk, OnErr, IsErrOf, ◌↔◌};
 ghost use Rattle.tty_base.specs.Outside.{Rose, Gives, LeavesRest, TookCount};
 
@@ -25,7 +26,7 @@ pub trait Source {
         ensures gives { IfOk result (λ k. IfSome (left self.old) (λ bytes. Gives k bytes buf.new (left self.new))) }
         ensures end { IfOk result (λ k. k ≡ 0 → 0 < length buf.old → IfSome (left self.old) (λ bytes. bytes ≡ [])) }
         ensures failed { OnErr result (Rose (faults self.old) (faults self.new)) }
-        ensures same { OnErr result (left self.new ≡ left self.old) };
+        ensures same { OnErr result (IfSome (left self.old) (λ bytes. left self.new ≡ Some bytes)) };
 }
 
 /// Why a text was not read whole.

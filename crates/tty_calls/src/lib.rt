@@ -18,6 +18,3 @@ pub use kept_calls::Calls;
 pub use kept_entries::Journal;
 pub use names::Names;
 pub use sessions::{Phase, Script, Session};
-
-#[cfg(test)]
-mod tests;

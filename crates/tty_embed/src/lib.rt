@@ -6,6 +6,3 @@ mod places;
 mod terminal;
 
 pub use terminal::Tty;
-
-#[cfg(test)]
-mod tests;

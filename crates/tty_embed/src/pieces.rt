@@ -1,7 +1,7 @@
 //! Receiving several characters in one call.
 
-ghost use Rattle.std.specs.Prelude.{◌≡◌, ◌+◌, ◌*◌, ◌<◌, ◌≤◌, ◌^◌, true, false, length, map, take, drop};
-ghost use Rattle.n_tty.specs.States.{on_port, is_accepting, FitsModes};
+ghost use Rattle.std.specs.Prelude.{◌≡◌, ◌+◌, ◌*◌, ◌<◌, ◌≤◌, ◌^◌, length, map, take};
+ghost use Rattle.n_tty.specs.States.{on_port, FitsModes};
 ghost use Rattle.n_tty.specs.Spending.{pending_count};
 ghost use Rattle.tty_embed.specs.Embedded.{good, after_accepted, accepted_count};
 
@@ -39,7 +39,7 @@ pub fn receive_bytes(
         flag: Flag::Normal,
     }; MOST_RECEIVED];
     put_good(&mut place, bytes);
-    receive_front(disc, front_of(&place, bytes.len()), now, modes, wire, tally)
+    disc.receive_all(front_of(&place, bytes.len()), now, modes, wire, tally)
 }
 
 /// Puts good characters of these bytes at the front of a place.
@@ -55,81 +55,4 @@ fn put_good(place: &mut [Flagged], bytes: &[u8])
             flag: Flag::Normal,
         };
     }
-}
-
-/// Receives characters, up to the first that is not accepted. Answers how many.
-fn receive_front(
-    disc: &mut NTty,
-    chars: &[Flagged],
-    now: u64,
-    modes: &Modes,
-    wire: &mut Wire,
-    tally: &mut Tally,
-) -> usize
-    requires few { length chars.now ≤ 64 }
-    requires fitting { FitsModes modes.now disc.old }
-    requires room { pending_count disc.old wire.old + CHARACTER_ROOM * length chars.now ≤ wire.old.spare }
-    requires signals { length chars.now ≤ tally.old.signals.spare }
-    requires column { disc.old.column < 2 ^ 32 }
-    ensures within { result ≤ length chars.now }
-    ensures after { on_port disc.new wire.new tally.new
-        ≡ after_accepted modes.now now chars.now (on_port disc.old wire.old tally.old) }
-    ensures count { result ≡ accepted_count modes.now now chars.now (on_port disc.old wire.old tally.old) }
-    ensures fits { FitsModes modes.now disc.new }
-{
-    let mut count = 0;
-    while count < chars.len() {
-        let more = receive_some(disc, rest_of(chars, count), now, modes, wire, tally);
-        if more == 0 {
-            return count;
-        }
-        count += more;
-    }
-    count
-}
-
-/// Receives a run of characters at the front at once, or else the first where it is accepted. Answers how many.
-#[inline(always)]
-fn receive_some(
-    disc: &mut NTty,
-    chars: &[Flagged],
-    now: u64,
-    modes: &Modes,
-    wire: &mut Wire,
-    tally: &mut Tally,
-) -> usize
-    requires some { 0 < length chars.now }
-    requires fitting { FitsModes modes.now disc.old }
-    requires room { pending_count disc.old wire.old + CHARACTER_ROOM * length chars.now ≤ wire.old.spare }
-    requires signals { length chars.now ≤ tally.old.signals.spare }
-    requires column { disc.old.column < 2 ^ 62 }
-    ensures within { result ≤ length chars.now }
-    ensures after { after_accepted modes.now now (drop result chars.now) (on_port disc.new wire.new tally.new)
-        ≡ after_accepted modes.now now chars.now (on_port disc.old wire.old tally.old) }
-    ensures count { result + accepted_count modes.now now (drop result chars.now) (on_port disc.new wire.new tally.new)
-        ≡ accepted_count modes.now now chars.now (on_port disc.old wire.old tally.old) }
-    ensures stops { result ≡ 0 → is_accepting modes.now disc.new ≡ false }
-    ensures fits { FitsModes modes.now disc.new }
-    ensures spent { wire.old.spare + pending_count disc.new wire.new
-        ≤ wire.new.spare + (pending_count disc.old wire.old + CHARACTER_ROOM * result) }
-    ensures signals { tally.old.signals.spare ≤ tally.new.signals.spare + result }
-    ensures column { disc.new.column ≤ disc.old.column + 2 ^ 22 * result }
-{
-    let count = disc.receive_run(chars, now, modes, wire);
-    if count > 0 {
-        return count;
-    }
-    if !disc.accepts(modes) {
-        return 0;
-    }
-    disc.receive(chars[0], now, modes, wire, tally);
-    1
-}
-
-/// The characters after so many.
-fn rest_of(chars: &[Flagged], count: usize) -> &[Flagged]
-    requires { count ≤ length chars.now }
-    ensures { result.now ≡ drop count chars.now }
-{
-    &chars[count..]
 }

@@ -1,6 +1,5 @@
-ghost use Rattle.std.specs.Prelude.{◌≡◌, ◌+◌, ◌≤◌, take, length, is_some, IfSome, IfOk, OnOk, OnErr, if◌then◌else◌};
+ghost use Rattle.std.specs.Prelude.{◌≡◌, ◌+◌, ◌≤◌, take, length, is_some, IfSome, IfOk, OnOk, OnErr};
 ghost use Rattle.tty_modes.specs.Reading.{word_of};
-ghost use Rattle.flow_control.specs.Output.{after_start};
 ghost use Rattle.n_tty.specs.States.{unread_count};
 ghost use Rattle.n_tty.specs.Writing.{piece_size};
 ghost use Rattle.tty_embed.specs.Embedded.{fresh, accepts, after_receipt, received_count, after_receiving, after_advance, is_ready_for, read_answer, place_after_read, after_reading, after_writing, after_setting, wire_of, taken_count, at_front, without_wire_front, first_signal, without_first_signal};
@@ -179,7 +178,8 @@ impl Tty {
         let mut new = self.modes;
         new.apply(word);
         self.disc.recast(&self.modes, &new);
-        start_where(self.modes.has(IXON) && !new.has(IXON), &mut self.wire);
+        self.wire
+            .start_where(self.modes.has(IXON) && !new.has(IXON));
         self.disc.ixoff(&new, &mut self.wire);
         self.modes = new;
         Ok(true)
@@ -219,16 +219,5 @@ impl Tty {
         ensures count { result ≡ unread_count self.now.port.tty }
     {
         self.disc.unread()
-    }
-}
-
-/// Lets output that STOP halted go on, where it applies.
-fn start_where(applies: bool, wire: &mut Wire)
-    requires { length wire.old.held ≤ wire.old.spare }
-    ensures after { wire.new ≡ (if applies then after_start wire.old else wire.old) }
-    ensures spent { wire.old.spare + length wire.new.held ≤ wire.new.spare + length wire.old.held }
-{
-    if applies {
-        wire.start();
     }
 }

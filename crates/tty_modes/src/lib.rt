@@ -17,6 +17,3 @@ pub use reading::{BadWord, set_word, set_word_bytes, words_are_their_texts};
 pub use settings::Modes;
 pub use texts::is_same;
 pub use words::Word;
-
-#[cfg(test)]
-mod tests;

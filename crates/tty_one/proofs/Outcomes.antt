@@ -15,8 +15,8 @@ use Rattle.tty_one.specs.declared.playing.Telling.{Telling}
 use Rattle.tty_one.specs.declared.playing.Telling.TheVariants.{Report}
 use Rattle.tty_one.specs.declared.works.Ending.{Ending}
 use Rattle.tty_one.specs.declared.works.Ending.TheVariants.{Done, BadSession, BadWords, ReadFault, TooLong, NotLegal, JournalFull}
-use Rattle.tty_one.specs.Endings.{Ask, AskRun, AskRunOne, AskCheck, AreKnown, AreOfOne, AreRun, AreRunOne, AreGen, line_of, status_of, text_of, bad_session_line, IsOfSource, IsTold}
-use Rattle.tty_one.specs.Outcome.{IsOrdered, IsInAnyOrder, IsPlayedText, IsRefused, IsReported, AreCutShort, Completes, CompletesGen, CompletesCheck, WasGiven, WasGivenFront, IsDone, IsFull, IsToldRefused, IsToldIllegal, IsBroken, breaks_line, breaks_refusal, breaks_text, breaks_verdict, breaks_full}
+use Rattle.tty_one.specs.Endings.{Ask, AskRun, AskRunOne, AskCheck, AskOneToRead, IsOfOne, AreKnown, AreOfOne, AreRun, AreRunOne, AreGen, line_of, status_of, text_of, bad_session_line, IsOfSource, IsTold}
+use Rattle.tty_one.specs.Outcome.{IsOrdered, IsInAnyOrder, IsPlayedText, IsRefused, IsReported, AreCutShort, IsStatusOr, Completes, CompletesCheck, WasGiven, WasGivenFront, IsDone, IsFull, IsToldRefused, IsToldIllegal, IsBroken, breaks_fault, breaks_long, breaks_refusal, breaks_text, breaks_verdict, breaks_full}
 use Rattle.tty_one.specs.Works.{IsWork, CanEnd, ReadsNothing}
 use Rattle.tty_one.proofs.Judged.{completes_check}
 
@@ -92,6 +92,26 @@ reads_nothing (RunOne journals) words asked gen = absurd (not_gen_and_one words 
 reads_nothing (Gen number) words asked gen = tt
 reads_nothing Check words asked gen = absurd (not_check_and_gen words gen asked)
 
+-- a command that ends for want of what it reads does read
+read_fault_reads : (command : Command) → CanEnd command ReadFault → ReadsNothing command → ⊥
+read_fault_reads (Run journals) can nothing = nothing
+read_fault_reads (RunOne journals) can nothing = nothing
+read_fault_reads (Gen number) can nothing = can
+read_fault_reads Check can nothing = nothing
+
+long_reads : (command : Command) → CanEnd command TooLong → ReadsNothing command → ⊥
+long_reads (Run journals) can nothing = nothing
+long_reads (RunOne journals) can nothing = nothing
+long_reads (Gen number) can nothing = can
+long_reads Check can nothing = nothing
+
+-- the words of a command that reads ask for a text to be read
+pub one_reads : (command : Command) (words : List (List ℕ)) → IsOfOne command → Ask command words → (ReadsNothing command → ⊥) → AskOneToRead words
+one_reads (Run journals) words of_one asked some = absurd of_one
+one_reads (RunOne journals) words of_one asked some = inl (journals, asked)
+one_reads (Gen number) words of_one asked some = absurd (some tt)
+one_reads Check words of_one asked some = inr asked
+
 -- ---- what was told
 
 -- what is given of a text is what is given of an equal one
@@ -99,24 +119,24 @@ given_as : (before now : Option (List ℕ)) (text other : List ℕ) → text ≡
 given_as before now text other same h = subst (λ (t : List ℕ). WasGivenFront before now t) same h
 
 -- a verdict that was not given whole
-broken_verdict : (Known : Type 0) (words : List (List ℕ)) (command : Command) (faults faults' : ℕ) (left rest before now : Option (List ℕ)) (runs : List PortRun) (line : Contents ℕ)
-    → Ask command words → IsWork command left (NotLegal line) runs → WasGivenFront before now line.items → IsBroken Known words faults faults' left rest before now runs
-broken_verdict Known words (Run journals) faults faults' left rest before now runs line asked work front = absurd work
-broken_verdict Known words (RunOne journals) faults faults' left rest before now runs line asked work front = absurd work
-broken_verdict Known words (Gen number) faults faults' left rest before now runs line asked work front = absurd work
-broken_verdict Known words Check faults faults' left rest before now runs line asked work front = breaks_verdict work.verdict line.items asked work.told work.illegal front
+broken_verdict : (Known Reading : Type 0) (words : List (List ℕ)) (command : Command) (faults faults' : ℕ) (left rest before now : Option (List ℕ)) (runs : List PortRun) (line : Contents ℕ)
+    → Ask command words → IsWork command left (NotLegal line) runs → WasGivenFront before now line.items → IsBroken Known Reading words faults faults' left rest before now runs
+broken_verdict Known Reading words (Run journals) faults faults' left rest before now runs line asked work front = absurd work
+broken_verdict Known Reading words (RunOne journals) faults faults' left rest before now runs line asked work front = absurd work
+broken_verdict Known Reading words (Gen number) faults faults' left rest before now runs line asked work front = absurd work
+broken_verdict Known Reading words Check faults faults' left rest before now runs line asked work front = breaks_verdict work.verdict line.items asked work.told work.illegal front
 
 -- a text that was not given whole
-pub broken : (Known : Type 0) (words : List (List ℕ)) (command : Command) (faults faults' : ℕ) (left rest before now : Option (List ℕ)) (runs : List PortRun) (e : Ending)
-    → Ask command words → IsOfSource e faults faults' left rest → IsWork command left e runs → WasGivenFront before now (text_of e) → IsBroken Known words faults faults' left rest before now runs
-broken Known words command faults faults' left rest before now runs (Done report) asked of work front = breaks_text command report.items asked work front
-broken Known words command faults faults' left rest before now runs (BadSession line) asked of work front =
+pub broken : (Known Reading : Type 0) (words : List (List ℕ)) (command : Command) (faults faults' : ℕ) (left rest before now : Option (List ℕ)) (runs : List PortRun) (e : Ending)
+    → Ask command words → CanEnd command e → ((ReadsNothing command → ⊥) → Reading) → IsOfSource e faults faults' left rest → IsWork command left e runs → WasGivenFront before now (text_of e) → IsBroken Known Reading words faults faults' left rest before now runs
+broken Known Reading words command faults faults' left rest before now runs (Done report) asked can reads of work front = breaks_text command report.items asked work front
+broken Known Reading words command faults faults' left rest before now runs (BadSession line) asked can reads of work front =
     breaks_refusal command work.1.bad asked work.1.refused work.0 (given_as before now line.items (bad_session_line work.1.bad) work.1.told front)
-broken Known words command faults faults' left rest before now runs BadWords asked of work front = absurd of
-broken Known words command faults faults' left rest before now runs ReadFault asked of work front = breaks_line 3 of.0 work front
-broken Known words command faults faults' left rest before now runs TooLong asked of work front = breaks_line 6 of work front
-broken Known words command faults faults' left rest before now runs (NotLegal line) asked of work front = broken_verdict Known words command faults faults' left rest before now runs line asked work front
-broken Known words command faults faults' left rest before now runs JournalFull asked of work front = breaks_full (record { command = command; asked = asked; played = work }) front
+broken Known Reading words command faults faults' left rest before now runs BadWords asked can reads of work front = absurd of
+broken Known Reading words command faults faults' left rest before now runs ReadFault asked can reads of work front = breaks_fault (reads (read_fault_reads command can)) of.0 work front
+broken Known Reading words command faults faults' left rest before now runs TooLong asked can reads of work front = breaks_long (reads (long_reads command can)) of work front
+broken Known Reading words command faults faults' left rest before now runs (NotLegal line) asked can reads of work front = broken_verdict Known Reading words command faults faults' left rest before now runs line asked work front
+broken Known Reading words command faults faults' left rest before now runs JournalFull asked can reads of work front = breaks_full (record { command = command; asked = asked; played = work }) front
 
 -- a status that is not that of a write fault is that of the ending
 status_is : (status n : ℕ) → (status ≡ n) ⊎ (status ≡ 4) → (status ≡ 4 → ⊥) → status ≡ n
@@ -347,22 +367,21 @@ judged words Check (Some bytes) rest faults faults' runs e status asked is of do
 
 -- ---- what the session of a number comes to
 
-made_so : (number : ℕ) (left : Option (List ℕ)) (runs : List PortRun) (e : Ending) (status : ℕ) → (status ≡ status_of e) ⊎ (status ≡ 4) → IsWork (Gen number) left e runs → CanEnd (Gen number) e → CompletesGen status runs
-made_so number left runs e status (inr four) work can = record { played = λ room. inr (inl four); full = λ full. inr (inl four) }
-made_so number left runs (Done report) status (inl is) work can = record { played = λ room. inl is; full = λ full. absurd (false≢true (sym work.room ∙ full)) }
-made_so number left runs (BadSession line) status (inl is) work can = absurd can
-made_so number left runs BadWords status (inl is) work can = absurd can
-made_so number left runs ReadFault status (inl is) work can = absurd can
-made_so number left runs TooLong status (inl is) work can = absurd can
-made_so number left runs (NotLegal line) status (inl is) work can = absurd can
-made_so number left runs JournalFull status (inl is) work can = record { played = λ room. absurd (false≢true (sym room ∙ work.full)); full = λ full. inl is }
+made_so : (number : ℕ) (e : Ending) (status : ℕ) → (status ≡ status_of e) ⊎ (status ≡ 4) → CanEnd (Gen number) e → IsStatusOr 0 status
+made_so number e status (inr four) can = inr (inl four)
+made_so number (Done report) status (inl is) can = inl is
+made_so number (BadSession line) status (inl is) can = absurd can
+made_so number BadWords status (inl is) can = absurd can
+made_so number ReadFault status (inl is) can = absurd can
+made_so number TooLong status (inl is) can = absurd can
+made_so number (NotLegal line) status (inl is) can = absurd can
+made_so number JournalFull status (inl is) can = absurd can
 
-pub made : (words : List (List ℕ)) (command : Command) (left : Option (List ℕ)) (runs : List PortRun) (e : Ending) (status : ℕ) → Ask command words → (status ≡ status_of e) ⊎ (status ≡ 4)
-    → IsWork command left e runs → CanEnd command e → AreGen words → CompletesGen status runs
-made words (Run journals) left runs e status asked is done can = λ gen. absurd (not_gen_and_run words journals gen asked)
-made words (RunOne journals) left runs e status asked is done can = λ gen. absurd (not_gen_and_one words journals gen asked)
-made words (Gen number) left runs e status asked is done can = λ gen. made_so number left runs e status is done can
-made words Check left runs e status asked is done can = λ gen. absurd (not_check_and_gen words gen asked)
+pub made : (words : List (List ℕ)) (command : Command) (e : Ending) (status : ℕ) → Ask command words → (status ≡ status_of e) ⊎ (status ≡ 4) → CanEnd command e → AreGen words → IsStatusOr 0 status
+made words (Run journals) e status asked is can = λ gen. absurd (not_gen_and_run words journals gen asked)
+made words (RunOne journals) e status asked is can = λ gen. absurd (not_gen_and_one words journals gen asked)
+made words (Gen number) e status asked is can = λ gen. made_so number e status is can
+made words Check e status asked is can = λ gen. absurd (not_check_and_gen words gen asked)
 
 -- journals that were judged are not returned
 none_at : (left : Option (List ℕ)) (runs : List PortRun) (e : Ending) → IsWork Check left e runs → runs ≡ []
@@ -385,8 +404,8 @@ pub unasked : (words : List (List ℕ)) (left : Option (List ℕ)) (status : ℕ
 unasked words None status runs faults faults' other = tt
 unasked words (Some bytes) status runs faults faults' other = λ run. absurd (other (RunOne run.0, tt, run.1))
 
-pub unmade : (words : List (List ℕ)) (status : ℕ) (runs : List PortRun) → (AreOfOne words → ⊥) → AreGen words → CompletesGen status runs
-unmade words status runs other gen = absurd (other (Gen gen.0, tt, gen.1))
+pub unmade : (words : List (List ℕ)) (status : ℕ) → (AreOfOne words → ⊥) → AreGen words → IsStatusOr 0 status
+unmade words status other gen = absurd (other (Gen gen.0, tt, gen.1))
 
 pub unjudged : (words : List (List ℕ)) (left : Option (List ℕ)) (status : ℕ) (faults faults' : ℕ) → (AreOfOne words → ⊥) → IfSome left (λ bytes. AskCheck words → length bytes ≤ 4194304 → (Rose faults faults' → ⊥) → CompletesCheck bytes status)
 unjudged words None status faults faults' other = tt

@@ -1,8 +1,8 @@
 -- What became of the ports of a session that was played, as it is reported.
-use Rattle.std.proofs.Common.{◌≡◌, ◌≢◌, ◌==◌, length, arith, zero, suc, ℕ, false, List, [], ◌∷◌, Some, refl, sym, ap, subst, ◌∙◌, map, eq-eqb}
+use Rattle.std.proofs.Common.{◌≡◌, ◌≢◌, ◌<◌, ◌==◌, length, arith, zero, suc, ℕ, false, List, [], ◌∷◌, Some, refl, sym, ap, subst, ◌∙◌, map, eq-eqb}
 use Rattle.std.specs.Prelude.{slice_get}
 use Rattle.std.specs.Prelude.{IfOk, Result, Ok, Err}
-use Rattle.std.proofs.lemmas.Bool.{false≢true, or_parts}
+use Rattle.std.proofs.lemmas.Bool.{false≢true, or_from, or_parts, ne_eqb}
 use Rattle.std.proofs.lemmas.List.{length-map}
 use Rattle.tty_base.specs.Contents.{Contents}
 use Rattle.tty_base.specs.declared.buffers.NoMemory.{NoMemory}
@@ -18,6 +18,14 @@ use Rattle.tty_one.specs.declared.works.Ending.{Ending}
 use Rattle.tty_one.specs.declared.works.Ending.TheVariants.{Done, BadSession, BadWords, ReadFault, TooLong, NotLegal, JournalFull}
 use Rattle.tty_one.specs.Outcome.{end_at, has_full_journal, IsWhole, IsPartly}
 use Rattle.tty_one.specs.Works.{IsEndingOf, IsSessionWork}
+
+-- where each journal has room, none is full
+pub none_full : (runs : List PortRun) → ((p : ℕ) (run : PortRun) → slice_get runs p ≡ Some run → length run.journal.items < 4194304) → has_full_journal runs ≡ false
+none_full [] room = refl
+none_full (run ∷ runs) room =
+    or_from (length run.journal.items == 4194304) (has_full_journal runs) (ne_eqb (length run.journal.items) 4194304 (λ full. omega (arith, full, room zero run refl))) (
+    none_full runs (λ p r is. room (suc p) r is)
+    )
 
 -- what is left of a terminal, as a report says it
 end_is : (p : ℕ) (s : PlainSession) (run : PortRun) (end : PortEnd) (h : IsPlayedOn p s run end) → end_of end ≡ end_at h.terminal
@@ -57,11 +65,12 @@ end_found (end ∷ ends) (suc p) plain h =
     let later = end_found ends p plain h in
     record { end = later.end; at = later.at; is = later.is }
 
-end_there : (runs : List PortRun) (ends : List PortEnd) (p : ℕ) (run : PortRun) → length runs ≡ length ends → slice_get runs p ≡ Some run → (end : PortEnd) × (slice_get ends p ≡ Some end)
-end_there [] ends p run same is = absurd (cc)
-end_there (r ∷ runs) [] p run same is = absurd (omega (arith, same))
-end_there (r ∷ runs) (e ∷ ends) zero run same is = (e, refl)
-end_there (r ∷ runs) (e ∷ ends) (suc p) run same is = end_there runs ends p run (omega (arith, same)) is
+-- of lists as long, the one has an item where the other has one
+pub there_too : {X Y : Type 0} (xs : List X) (ys : List Y) (p : ℕ) (x : X) → length xs ≡ length ys → slice_get xs p ≡ Some x → (y : Y) × (slice_get ys p ≡ Some y)
+there_too [] ys p x same is = absurd (cc)
+there_too (x ∷ xs) [] p item same is = absurd (omega (arith, same))
+there_too (x ∷ xs) (y ∷ ys) zero item same is = (y, refl)
+there_too (x ∷ xs) (y ∷ ys) (suc p) item same is = there_too xs ys p item (omega (arith, same)) is
 
 -- runs that are in this order where their journals are not full
 abbrev pub AreOrdered : (ℕ → PlainSession → PortRun → Type 0) → PlainSession → List PortRun → Type 0
@@ -88,7 +97,7 @@ module _ (InOrder : ℕ → PlainSession → PortRun → Type 0) where
 
   each_partly : (session : PlainSession) (runs : List PortRun) (ends : List PortEnd) → ArePlayed session runs ends → AreOrdered InOrder session runs → (p : ℕ) (run : PortRun) → slice_get runs p ≡ Some run → IsPartly InOrder p session run
   each_partly session runs ends played ordered p run is =
-      let found = end_there runs ends p run (played.runs_of_all ∙ sym played.ends_of_all) is in
+      let found = there_too runs ends p run (played.runs_of_all ∙ sym played.ends_of_all) is in
       partly_from p session run found.0 (played.each p run found.0 is found.1) (ordered p run is)
 
   ending_works : (telling : Telling) (session : PlainSession) (played : Played) (e : Ending) → ArePlayed session played.runs.items played.ends.items → AreOrdered InOrder session played.runs.items → IsEndingOf telling session played e

@@ -69,6 +69,13 @@ AreRunOne words = (journals : Bool) × AskRunOne journals words
 abbrev pub AreGen : List (List ℕ) → Type 0
 AreGen words = (number : ℕ) × AskGen number words
 
+-- words that ask for a text to be read: without threads, and with them
+abbrev pub AskOneToRead : List (List ℕ) → Type 0
+AskOneToRead words = AreRunOne words ⊎ AskCheck words
+
+abbrev pub AskToRead : List (List ℕ) → Type 0
+AskToRead words = AreRun words ⊎ AskOneToRead words
+
 abbrev pub reason_name : Reason → List ℕ
 reason_name Header = codes "header"
 reason_name Word = codes "word"

@@ -1,6 +1,6 @@
 -- What a call of the program came to: what was read, the runs, and the text that was given.
-use Rattle.std.specs.Prelude.{◌≡◌, ◌≢◌, ◌⊎◌, ◌≤◌, ℕ, List, [], ◌∷◌, ◌++◌, Bool, true, false, Option, None, Some, length, map, flat_map, option_to_list, slice_get, IfSome, MatchBool, ◌==◌}
-use Rattle.std.specs.List.{list_any}
+use Rattle.std.specs.Prelude.{◌≡◌, ◌≢◌, ◌⊎◌, ◌≤◌, ℕ, List, [], ◌∷◌, ◌++◌, Bool, true, false, if◌then◌else◌, codes, Option, None, Some, length, map, flat_map, option_to_list, slice_get, IfSome, ◌==◌}
+use Rattle.std.specs.List.{list_any, concat, AllZip}
 use Rattle.tty_base.specs.Outside.{Rose, TookCount, GivesFront}
 use Rattle.tty_calls.specs.declared.journals.PortRun.{PortRun}
 use Rattle.tty_calls.specs.Plain.{PlainAnswer, PlainEntry}
@@ -10,7 +10,10 @@ use Rattle.session_text.specs.declared.faults.BadLine.{BadLine}
 use Rattle.session_text.specs.Refusals.{refusal}
 use Rattle.session_text.specs.Grammar.{Spells}
 use Rattle.session_print.specs.Ends.{PlainEnd}
-use Rattle.session_print.specs.Report.{answer_by, answer_in, play_text}
+use Rattle.session_print.specs.Report.{Told, told_on, answer_by, answer_in, ports_from, play_text}
+use Rattle.session_print.specs.Lines.{newline}
+use Rattle.session_print.specs.Journals.{journals_text}
+use Rattle.session_print.specs.Laws.{IsLineOf}
 use Rattle.session_print.specs.Summary.{summary_text}
 use Rattle.session_gen.specs.Generated.{generated_session}
 use Rattle.check_text.specs.Grammar.{Spells as SpellsRuns}
@@ -114,11 +117,11 @@ IsToldBy (RunOne journals) left runs text = IsPlayedText left (λ session. IsRep
 IsToldBy (Gen number) left runs text = IsReported IsOrdered (Summary number) (generated_session number) runs text
 IsToldBy Check left runs text = IsToldVerdict left Legal runs text
 
--- The session of a command was played as far as it went, and some journal is full.
+-- The session of a command was played as far as it went, and some journal is full: never that of a number.
 abbrev pub IsFullBy : Command → Option (List ℕ) → List PortRun → Type 0
 IsFullBy (Run journals) left runs = IsPlayedText left (λ session. AreCutShort IsInAnyOrder session runs)
 IsFullBy (RunOne journals) left runs = IsPlayedText left (λ session. AreCutShort IsOrdered session runs)
-IsFullBy (Gen number) left runs = AreCutShort IsOrdered (generated_session number) runs
+IsFullBy (Gen number) left runs = ⊥
 IsFullBy Check left runs = ⊥
 
 -- the first wrong line of a text, by the grammar of what a command reads
@@ -171,22 +174,17 @@ pub record IsFull (words : List (List ℕ)) (left : Option (List ℕ)) (runs : L
   pub asked : Ask command words
   pub played : IsFullBy command left runs
 
--- the cause of a status that refuses before a text is read: that the words are known, the faults of the source, and what it has left,
--- before and now
-abbrev pub Cause : Type 0 → ℕ → ℕ → Option (List ℕ) → Option (List ℕ) → ℕ → Type 0
-Cause Known faults now left rest status =
-    MatchBool (status == 2) (Known → ⊥) (
-    MatchBool (status == 3) (Rose faults now) (MatchBool (status == 6) (IfSome left (λ bytes. TookCount 4194305 bytes rest)) ⊥)
-    )
-
--- A text could not be given whole: the line of a status that has its cause; the line of a text that was refused; what was to be told
--- of what was done; the line of runs that are not all legal; or the line of a full journal.
-pub data IsBroken (Known : Type 0) (words : List (List ℕ)) (faults faults' : ℕ) (left rest before now : Option (List ℕ)) (runs : List PortRun) : Type 0 where
-  breaks_line : (status : ℕ) → Cause Known faults faults' left rest status → runs ≡ [] → WasGivenFront before now (line_of status) → IsBroken Known words faults faults' left rest before now runs
-  breaks_refusal : (command : Command) (bad : BadLine) → Ask command words → IsRefused (refusal_by command) left bad → runs ≡ [] → WasGivenFront before now (bad_session_line bad) → IsBroken Known words faults faults' left rest before now runs
-  breaks_text : (command : Command) (text : List ℕ) → Ask command words → IsToldBy command left runs text → WasGivenFront before now text → IsBroken Known words faults faults' left rest before now runs
-  breaks_verdict : (verdict : Verdict) (text : List ℕ) → Ask Check words → IsToldVerdict left verdict runs text → verdict ≢ Legal → WasGivenFront before now text → IsBroken Known words faults faults' left rest before now runs
-  breaks_full : IsFull words left runs → WasGivenFront before now (line_of 8) → IsBroken Known words faults faults' left rest before now runs
+-- A text could not be given whole: the line for other words; the line of a fault of the source, or of a text that is too long, where the
+-- words ask for a text to be read; the line of a text that was refused; what was to be told of what was done; the line of runs that are
+-- not all legal; or the line of a full journal.
+pub data IsBroken (Known Reading : Type 0) (words : List (List ℕ)) (faults faults' : ℕ) (left rest before now : Option (List ℕ)) (runs : List PortRun) : Type 0 where
+  breaks_words : (Known → ⊥) → runs ≡ [] → WasGivenFront before now (line_of 2) → IsBroken Known Reading words faults faults' left rest before now runs
+  breaks_fault : Reading → Rose faults faults' → runs ≡ [] → WasGivenFront before now (line_of 3) → IsBroken Known Reading words faults faults' left rest before now runs
+  breaks_long : Reading → IfSome left (λ bytes. TookCount 4194305 bytes rest) → runs ≡ [] → WasGivenFront before now (line_of 6) → IsBroken Known Reading words faults faults' left rest before now runs
+  breaks_refusal : (command : Command) (bad : BadLine) → Ask command words → IsRefused (refusal_by command) left bad → runs ≡ [] → WasGivenFront before now (bad_session_line bad) → IsBroken Known Reading words faults faults' left rest before now runs
+  breaks_text : (command : Command) (text : List ℕ) → Ask command words → IsToldBy command left runs text → WasGivenFront before now text → IsBroken Known Reading words faults faults' left rest before now runs
+  breaks_verdict : (verdict : Verdict) (text : List ℕ) → Ask Check words → IsToldVerdict left verdict runs text → verdict ≢ Legal → WasGivenFront before now text → IsBroken Known Reading words faults faults' left rest before now runs
+  breaks_full : IsFull words left runs → WasGivenFront before now (line_of 8) → IsBroken Known Reading words faults faults' left rest before now runs
 
 -- the status, unless the text could not be given or memory was wanting
 abbrev pub IsStatusOr : ℕ → ℕ → Type 0
@@ -197,11 +195,6 @@ pub record Completes (bytes : List ℕ) (status : ℕ) (runs : List PortRun) : T
   pub played : (session : PlainSession) → Spells bytes session → has_full_journal runs ≡ false → IsStatusOr 0 status
   pub full : (session : PlainSession) → Spells bytes session → has_full_journal runs ≡ true → IsStatusOr 8 status
   pub refused : (bad : BadLine) → refusal bytes ≡ Some bad → IsStatusOr 1 status
-
--- The session of a number is played, and a full journal told.
-pub record CompletesGen (status : ℕ) (runs : List PortRun) : Type 0 where
-  pub played : has_full_journal runs ≡ false → IsStatusOr 0 status
-  pub full : has_full_journal runs ≡ true → IsStatusOr 8 status
 
 -- Runs that a text spells are told as legal exactly where all are, and a text that is refused is told as that.
 pub record CompletesCheck (bytes : List ℕ) (status : ℕ) : Type 0 where
@@ -218,3 +211,24 @@ pub record IsAnsweredOnce (es : List PlainEntry) (c step : ℕ) : Type 0 where
   pub answer : PlainAnswer
   pub once : answers_to es c step ≡ answer ∷ []
   pub printed : answer_in es c step ≡ Some answer
+
+-- The line of a call in a report: the answer that it has is that of the one Answer entry of this caller and step.
+pub record IsOnlyLineOf (p : ℕ) (session : PlainSession) (es : List PlainEntry) (told : Told) (line : List ℕ) : Type 0 where
+  pub tells : IsLineOf p session es told line
+  pub once : answers_to es tells.caller told.step ≡ tells.answer ∷ []
+
+-- the lines of a port's calls: one for each, in the text's order
+abbrev pub AreLinesOf : ℕ → PlainSession → PortRun → List (List ℕ) → Type 0
+AreLinesOf p session run lines = AllZip (IsOnlyLineOf p session run.journal.items) (told_on p session) lines
+
+-- what a report has behind the lines of the calls
+abbrev pub after_calls : Bool → PlainSession → List PortRun → List PlainEnd → List ℕ
+after_calls journals session runs ends = ports_from 0 session runs ends ++ ((if journals then journals_text session runs else []) ++ (codes "done" ++ newline))
+
+-- The text of a report is the lines of the calls, port by port, and what stands behind them.
+pub record TellsEachOnce (journals : Bool) (session : PlainSession) (runs : List PortRun) (text : List ℕ) : Type 0 where
+  pub ports : List (List (List ℕ))
+  pub ends : List PlainEnd
+  pub of_all : length ports ≡ length runs
+  pub each : (p : ℕ) (run : PortRun) (lines : List (List ℕ)) → slice_get runs p ≡ Some run → slice_get ports p ≡ Some lines → AreLinesOf p session run lines
+  pub told : text ≡ concat (map concat ports) ++ after_calls journals session runs ends

@@ -1,5 +1,5 @@
 -- What the work on a command came to, by its ending and its runs: for the functions below the top calls.
-use Rattle.std.specs.Prelude.{◌≡◌, ◌≢◌, ℕ, List, [], true, false, Option, Some, map}
+use Rattle.std.specs.Prelude.{◌≡◌, ◌≢◌, ◌≤◌, ℕ, List, [], true, false, Option, Some, length, map}
 use Rattle.tty_base.specs.Contents.{Contents}
 use Rattle.tty_calls.specs.declared.journals.PortRun.{PortRun}
 use Rattle.tty_calls.specs.declared.sessions.Session.{Session}
@@ -44,6 +44,11 @@ IsUnread first_wrong left JournalFull = ⊥
 abbrev pub IsTextRead : (List ℕ → Option BadLine) → Reading (Contents ℕ) → ℕ → ℕ → Option (List ℕ) → Option (List ℕ) → Type 0
 IsTextRead first_wrong (Of text) faults now left rest = IsAllOf left text.items × IsShort left rest
 IsTextRead first_wrong (Ended ending) faults now left rest = IsUnread first_wrong left ending × IsOfSource ending faults now left rest
+
+-- a text that was read is no longer than the longest
+abbrev pub IsShortText : Reading (Contents ℕ) → Type 0
+IsShortText (Of text) = length text.items ≤ 4194304
+IsShortText (Ended ending) = Unit {0}
 
 -- the text that was read spells the session
 pub record IsReadAs (left : Option (List ℕ)) (session : PlainSession) : Type 0 where
@@ -141,7 +146,7 @@ IsWork command left TooLong runs = runs ≡ []
 IsWork command left (NotLegal line) runs = IsIllegalBy command left runs line.items
 IsWork command left JournalFull runs = IsFullBy command left runs
 
--- only a command that reads can be refused what it reads
+-- only a command that reads can be refused what it reads, and the session of a number never fills a journal
 abbrev pub CanEnd : Command → Ending → Type 0
 CanEnd (Run journals) ending = Unit {0}
 CanEnd (RunOne journals) ending = Unit {0}
@@ -151,7 +156,7 @@ CanEnd (Gen number) BadWords = ⊥
 CanEnd (Gen number) ReadFault = ⊥
 CanEnd (Gen number) TooLong = ⊥
 CanEnd (Gen number) (NotLegal line) = ⊥
-CanEnd (Gen number) JournalFull = Unit {0}
+CanEnd (Gen number) JournalFull = ⊥
 CanEnd Check ending = Unit {0}
 
 -- a command that reads nothing

@@ -1,6 +1,6 @@
 //! Journals that are read and judged.
 
-ghost use Rattle.std.specs.Prelude.{◌≡◌, [], IfOk, IfSome, OnErr};
+ghost use Rattle.std.specs.Prelude.{◌≡◌, ◌≤◌, [], IfOk, IfSome, OnErr, length};
 ghost use Rattle.tty_base.specs.Outside.{LeavesRest};
 ghost use Rattle.tty_one.specs.Endings.{verdict_line, IsShort, IsOfSource};
 ghost use Rattle.tty_one.specs.declared.words.Command.TheVariants.{Check};
@@ -33,6 +33,7 @@ pub(crate) fn run_check<S: Source>(alloc: Global, source: &mut S) -> Result<Work
 
 /// What is told of the journals of a text.
 fn judged_text(alloc: Global, text: &[u8]) -> Result<Ending, NoMemory>
+    requires { length text.now ≤ 4194304 }
     ensures { IfOk result (λ ending. IsJudgedText text.now ending) }
 {
     match parse_check(alloc, text) {

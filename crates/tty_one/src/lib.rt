@@ -11,7 +11,7 @@ mod top;
 mod words;
 mod works;
 
-pub use laws::each_call_is_answered_once;
+pub use laws::each_call_has_one_line;
 pub use playing::{Telling, work_of};
 pub use reading::{Reading, read_session};
 pub use top::tty_one;

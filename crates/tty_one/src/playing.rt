@@ -9,8 +9,8 @@ ghost use Rattle.session_print.specs.Ends.{end_of};
 ghost use Rattle.tty_one.specs.Endings.{IsShort, IsOfSource};
 ghost use Rattle.tty_one.specs.Outcome.{IsOrdered, has_full_journal, text_by as text_of_telling};
 ghost use Rattle.tty_one.specs.declared.playing.Telling.TheVariants.{Summary};
-ghost use Rattle.tty_one.specs.declared.words.Command.TheVariants.{RunOne};
-ghost use Rattle.tty_one.specs.Works.{IsWork, IsSessionWork, IsEndingOf};
+ghost use Rattle.tty_one.specs.declared.words.Command.TheVariants.{RunOne, Gen};
+ghost use Rattle.tty_one.specs.Works.{IsWork, IsSessionWork, IsEndingOf, CanEnd};
 
 use crate::reading::{Reading, read_session};
 use crate::works::{Ending, Work};
@@ -48,9 +48,11 @@ pub(crate) fn run_one<S: Source>(
     }
 }
 
-/// Makes the session of a number, plays it on one thread and makes its summary.
+/// Makes the session of a number, plays it on one thread and makes its summary. Nothing is written in such
+/// a session, so none of its journals is ever full.
 pub(crate) fn run_number(alloc: Global, number: u32) -> Result<Work, NoMemory>
-    ensures { IfOk result (λ work. IsSessionWork IsOrdered (Summary number) (generated_session number) work.ending work.runs.items) }
+    ensures played { IfOk result (λ work. IsSessionWork IsOrdered (Summary number) (generated_session number) work.ending work.runs.items) }
+    ensures can { IfOk result (λ work. CanEnd (Gen number) work.ending) }
 {
     let session = make(alloc, number)?;
     run_session(alloc, Bytes::new(alloc), &session, Telling::Summary(number))

@@ -4,7 +4,7 @@ ghost use Rattle.std.specs.Prelude.{◌≡◌, ℕ, List, Option, IfOk, IfSome, 
 ghost use Rattle.tty_base.specs.Outside.{LeavesRest};
 ghost use Rattle.session_text.specs.declared.faults.BadLine.{BadLine as WrongLine};
 ghost use Rattle.tty_one.specs.Endings.{reason_name, bad_session_line, IsShort};
-ghost use Rattle.tty_one.specs.Works.{IsTextRead, IsSessionRead, IsSessionIn};
+ghost use Rattle.tty_one.specs.Works.{IsTextRead, IsShortText, IsSessionRead, IsSessionIn};
 
 use crate::works::Ending;
 use session_text::{BadLine, Reason, TextFault, parse};
@@ -28,6 +28,7 @@ pub(crate) fn read_text<S: Source>(
     source: &mut S,
 ) -> Result<Reading<Bytes>, NoMemory>
     ensures read { (first_wrong : List ℕ → Option WrongLine) → IfOk result (λ reading. IsTextRead first_wrong reading (S.faults source.old) (S.faults source.new) (S.left source.old) (S.left source.new)) }
+    ensures few { IfOk result IsShortText }
     ensures short { OnErr result (IsShort (S.left source.old) (S.left source.new)) }
     ensures rest { IfSome (S.left source.old) (λ bytes. LeavesRest bytes (S.left source.new)) }
 {

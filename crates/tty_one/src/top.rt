@@ -1,7 +1,7 @@
 ghost use Rattle.std.specs.Prelude.{◌≡◌, ◌⊎◌, ◌≢◌, ◌≤◌, [], IfSome, IfOk, OnErr, length};
 ghost use Rattle.tty_base.specs.Outside.{Rose, TookCount, LeavesRest};
-ghost use Rattle.tty_one.specs.Endings.{AreOfOne, IsOfOne, AreRunOne, AreGen, AskCheck, IsStatus, IsShort, IsOfSource, IsTold, texts_of};
-ghost use Rattle.tty_one.specs.Outcome.{IsDone, IsFull, IsToldRefused, IsToldIllegal, IsBroken, Completes, CompletesGen, CompletesCheck};
+ghost use Rattle.tty_one.specs.Endings.{AreOfOne, IsOfOne, AreRunOne, AreGen, AskCheck, AskOneToRead, IsStatus, IsShort, IsOfSource, IsTold, texts_of};
+ghost use Rattle.tty_one.specs.Outcome.{IsDone, IsFull, IsToldRefused, IsToldIllegal, IsBroken, IsStatusOr, Completes, CompletesCheck};
 ghost use Rattle.tty_one.specs.Works.{IsWork, CanEnd, ReadsNothing};
 
 use crate::judging::run_check;
@@ -47,7 +47,9 @@ pub fn tty_one<S: Source, K: Sink>(
     ensures not_legal { result.status ≡ 7 → IsToldIllegal (texts_of words.now) (S.left source.old) (K.given sink.old) (K.given sink.new) }
     // 8 comes exactly with a full journal, unless its line could not be given.
     ensures full { result.status ≡ 8 → IsFull (texts_of words.now) (S.left source.old) result.runs.items }
-    ensures broken { result.status ≡ 4 → IsBroken (AreOfOne (texts_of words.now)) (texts_of words.now) (S.faults source.old) (S.faults source.new) (S.left source.old) (S.left source.new) (K.given sink.old) (K.given sink.new) result.runs.items }
+    // 4: what was to be given is the text of the status that there would have been; that of 3 or of 6 stands
+    // only where the words ask for a text to be read.
+    ensures broken { result.status ≡ 4 → IsBroken (AreOfOne (texts_of words.now)) (AskOneToRead (texts_of words.now)) (texts_of words.now) (S.faults source.old) (S.faults source.new) (S.left source.old) (S.left source.new) (K.given sink.old) (K.given sink.new) result.runs.items }
     ensures no_runs { result.status ≢ 0 → result.status ≢ 4 → result.status ≢ 8 → result.runs.items ≡ [] }
     ensures none_judged { AskCheck (texts_of words.now) → result.runs.items ≡ [] }
     // The source has left an end of what it had left.
@@ -56,9 +58,9 @@ pub fn tty_one<S: Source, K: Sink>(
     // one that spells none is refused, unless the text could not be given or memory was wanting.
     ensures complete { IfSome (S.left source.old) (λ bytes. AreRunOne (texts_of words.now) → length bytes ≤ 4194304
         → (Rose (S.faults source.old) (S.faults source.new) → ⊥) → Completes bytes result.status result.runs.items) }
-    // The session of a number is played, unless its summary could not be given or memory was wanting, and
-    // nothing is read.
-    ensures made { AreGen (texts_of words.now) → CompletesGen result.status result.runs.items }
+    // The session of a number is played, unless its summary could not be given or memory was wanting: it
+    // fills no journal, and nothing is read.
+    ensures made { AreGen (texts_of words.now) → IsStatusOr 0 result.status }
     ensures unread { AreGen (texts_of words.now) → source.new ≡ source.old }
     // Likewise journals are judged: 0 exactly where every run is legal, else 7.
     ensures judged { IfSome (S.left source.old) (λ bytes. AskCheck (texts_of words.now) → length bytes ≤ 4194304

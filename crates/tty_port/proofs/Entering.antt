@@ -1,5 +1,5 @@
 -- What the turns of line, clock, callers and flusher add to a history.
-use Rattle.std.proofs.Common.{◌≡◌, ◌⊎◌, inl, inr, ℕ, ◌+◌, ◌<◌, ◌≤◌, zero, suc, List, [], ◌∷◌, ◌++◌, Bool, true, false, IsTrue, ◌&&◌, ◌||◌, ◌==◌, MatchBool, if◌then◌else◌, Option, None, Some, length, All, sum, refl, sym, ◌∙◌, ap, subst, arith, append-nil, length-append}
+use Rattle.std.proofs.Common.{◌≡◌, ◌⊎◌, inl, inr, ℕ, ◌+◌, ◌<◌, ◌≤◌, zero, suc, List, [], ◌∷◌, ◌++◌, Bool, true, false, IsTrue, not, ◌&&◌, ◌||◌, ◌==◌, ◌-◌, min, MatchBool, if◌then◌else◌, Option, None, Some, length, All, sum, refl, sym, ◌∙◌, ap, subst, arith, append-nil, length-append}
 use Rattle.std.proofs.lemmas.Bool.{and_parts, or_cases, eqb-true, eq-eqb, false≢true}
 use Rattle.tty_base.specs.declared.characters.Flagged.{Flagged}
 use Rattle.word_ring.specs.Ends.{TakerState, PutterState}
@@ -7,12 +7,13 @@ use Rattle.tty_calls.specs.declared.journals.Who.{Who}
 use Rattle.tty_calls.specs.declared.journals.Who.TheVariants.{Caller, Flusher, Line, Clock, Session}
 use Rattle.tty_calls.specs.Plain.{PlainCall, PlainEvent, flushed, ticked, line_ended, clock_ended, caller_ended, PlainEntry}
 use Rattle.tty_terminal.specs.declared.callers.Piece.{Piece}
-use Rattle.tty_terminal.specs.Terminals.{Terminal, opening, caller_at, has_begun}
+use Rattle.tty_terminal.specs.Terminals.{Terminal, opening, caller_at, has_begun, live_count}
+use Rattle.tty_terminal.specs.Receiving.{accepts}
 use Rattle.tty_terminal.specs.Steps.{follows, nothing_to_flush, Allowed, after}
 use Rattle.tty_terminal.specs.Runs.{RunHas, is_of_call, is_flush, chars_of}
 use Rattle.tty_terminal.specs.Standing.{Standing, standing_of}
 use Rattle.tty_terminal.specs.Marks.{Marks, marks_of}
-use Rattle.tty_terminal.proofs.StepLaws.{runs_of}
+use Rattle.tty_terminal.proofs.StepLaws.{runs_of, taken_after, sent_after}
 use Rattle.tty_terminal.proofs.BeginLaws.{step_generation}
 use Rattle.port_core.specs.Ports.{PortValue, IsPort, call_in, with_entry, Appends, IsOpen, is_stuck, phase_entry, end_entry, flush_entry}
 use Rattle.port_core.specs.Flips.{MeetsTaker}
@@ -26,7 +27,7 @@ use Rattle.tty_port.specs.Inside.{Name, EntryWithCall}
 use Rattle.tty_port.specs.Histories.{stamped_entry, history_in, name_in}
 use Rattle.tty_port.specs.Seen.{entries_in, standing_at, marks_at, chars_at, terminal_at, next_run, IsBetween}
 use Rattle.tty_port.specs.Adding.{Adds, IsEntry}
-use Rattle.tty_port.specs.Flushing.{IsPiece, GoesOnAt, HasNothingLeft, Hands}
+use Rattle.tty_port.specs.Flushing.{IsPiece, IsCaughtUp, IsWhole, GoesOnAt, HasNothingLeft, Hands}
 use Rattle.tty_port.specs.Lines.{Meets, EndsLine}
 use Rattle.tty_port.proofs.Histories.{history_entries, history_length, history_adds, port_generation, port_terminal, port_stands, port_marks, marks_append, entries_append, none_begun}
 use Rattle.tty_port.proofs.Keeping.{run_append}
@@ -123,11 +124,11 @@ line_ends_name m old new p q h =
 
 -- ---- a piece of a flush run
 
-pub is_piece_of : (m : ℕ) (v : PortValue) (run part : ℕ) → IsPort v → GoesOnAt run part (generation_of (history_in m v)) (history_in m v) → IsPieceOf v run part 64
-is_piece_of m v run part p g =
+pub is_piece_of : (m : ℕ) (v : PortValue) (run part most : ℕ) → 1 ≤ most → most ≤ 64 → IsPort v → GoesOnAt run part (generation_of (history_in m v)) (history_in m v) → IsPieceOf v run part most
+is_piece_of m v run part most some few p g =
     record {
-      some = omega arith;
-      few = omega arith;
+      some = some;
+      few = few;
       numbered = subst (λ (o : Option Piece). IsTrue (follows o run part)) (sym (ap (λ (k : Marks). k.latest) (port_marks m v p))) g.numbered;
       one = λ lt. subst (RunHas run v.terminal.generation) (history_entries m (call_in v.kept) v.journal v.terminal.generation) (subst (λ (k : ℕ). RunHas run k (entries_in (history_in m v))) (port_generation m v p) (g.one lt));
     }
@@ -140,7 +141,7 @@ first_follows (Some p) run h =
       | inr k ↦ let e : run ≡ p.run + 1 = eqb-true run (p.run + 1) (and_parts (run == p.run + 1) (0 == 0) k).0 in omega arith
     ]
 
-run_so_far : (v : PortValue) (run part : ℕ) → IsPort v → IsPieceOf v run part 64 → RunHas run v.terminal.generation v.journal
+run_so_far : (v : PortValue) (run part : ℕ) → IsPort v → IsPieceOf v run part 1 → RunHas run v.terminal.generation v.journal
 run_so_far v run zero p h =
     none_begun (call_in v.kept) v.counts (opening (sum v.counts) v.flip.capacity) v.journal v.terminal run v.terminal.generation p.run (first_follows v.terminal.flushed run h.numbered)
 run_so_far v run (suc part) p h = h.one (omega arith)
@@ -150,23 +151,61 @@ follows_next run part =
     ap (λ (b : Bool). (b && (part + 1 == part + 1)) || ((run == run + 1) && (part + 1 == 0))) (eq-eqb run run refl)
     ∙ ap (λ (b : Bool). b || ((run == run + 1) && (part + 1 == 0))) (eq-eqb (part + 1) (part + 1) refl)
 
-pub hands : (m : ℕ) (old new : PortValue) (run part n : ℕ) → IsPort old → length old.journal < old.limit → IsPieceOf old run part 64 → Takes old new run part 64 n → Hands (name_in m old) run part (history_in m old) (history_in m new) (outcome.Took n)
-hands m old new run part n p few piece h =
+pub hands_name : (m : ℕ) (old new : PortValue) (run part most n : ℕ) → Takes old new run part most n → name_in m new ≡ name_in m old
+hands_name m old new run part most n h = named_by m old new new.flip (flush_entry old run part h.chars) h.appends h.takes_out.ring h.takes_out.capacity
+
+-- a look that shows no more than n characters shows all that are known to be sent
+shows_all : (over : Bool) (tail taken sent n : ℕ) → n ≡ (if over then min (tail - taken) (sent - taken) else tail - taken) → sent ≤ tail → sent ≤ taken + n
+shows_all true tail taken sent n e le = omega arith
+shows_all false tail taken sent n e le = omega arith
+
+or_true : (b : Bool) → (b || true) ≡ true
+or_true true = refl
+or_true false = refl
+
+stuck_by : (t : Terminal) → accepts t ≡ false → is_stuck t ≡ true
+stuck_by t e = ap (λ (b : Bool). (live_count t == 0) || not b) e ∙ or_true (live_count t == 0)
+
+-- a piece of fewer characters than were asked for took all that is known to be sent, or the discipline does not accept
+stops : (old new : PortValue) (run part most n : ℕ) → IsPort old → Takes old new run part most n → n < most → IsCaughtUp new.terminal
+stops old new run part most n p h few free =
+    elim (h.stops few) [
+      | inl all ↦
+          let e = flush_entry old run part h.chars in
+          let now : new.terminal ≡ after (call_in old.kept) old.terminal e = ap (λ (v : PortValue). v.terminal) h.appends.appended in
+          let sent : new.terminal.sent ≡ old.terminal.sent = ap (λ (t : Terminal). t.sent) now ∙ sent_after (call_in old.kept) old.counts old.terminal e h.appends.allowed in
+          let taken : new.terminal.taken ≡ old.terminal.taken + length h.chars = ap (λ (t : Terminal). t.taken) now ∙ taken_after (call_in old.kept) old.counts old.terminal e h.appends.allowed in
+          let count = h.count in
+          let known = p.sent in
+          let looked = h.looks.rises in
+          let left = shows_all old.terminal.line_over h.tail old.terminal.taken old.terminal.sent n all (omega arith) in
+          omega arith
+      | inr closed ↦ absurd (false≢true (sym free ∙ stuck_by new.terminal closed))
+    ]
+
+pub hands : (m : ℕ) (old new : PortValue) (run part most n : ℕ) → IsPort old → IsPort new → length old.journal < old.limit → GoesOnAt run part (generation_of (history_in m old)) (history_in m old) → most ≤ 64 → 64 ≤ most → Takes old new run part most n → Hands (name_in m old) run part (history_in m old) (history_in m new) (outcome.Took n)
+hands m old new run part most n p q few goes small large h =
     let e = flush_entry old run part h.chars in
     let x = last_of m old e in
     let xs = history_in m old in
     let at : generation_of xs ≡ old.terminal.generation = port_generation m old p in
-    let P : Stamped EntryWithCall → Type 0 = λ y. IsPiece m run part (generation_of xs) y × (n ≡ length (chars_at (y ∷ []))) in
-    let is : P x = (
-      record { seat = refl; who = refl; at_step = refl; at_part = refl; at_generation = sym at; chars = h.chars; some = subst (λ (k : ℕ). 0 < k) (sym h.count) h.some; few = subst (λ (k : ℕ). k ≤ 64) (sym h.count) h.few; happened = refl; keeps = refl },
-      sym h.count ∙ sym (ap length (append-nil h.chars)),
-    ) in
+    let P : Stamped EntryWithCall → Type 0 = λ y. IsPiece m run part (generation_of xs) y × (n ≡ length (chars_at (y ∷ []))) × IsWhole (name_in m old) xs y in
     let added = appends m old new new.flip e p h.appends in
+    let size_is : n ≡ length (chars_at (x ∷ [])) = sym h.count ∙ sym (ap length (append-nil h.chars)) in
+    let led : terminal_at (name_in m old) (xs ++ x ∷ []) ≡ new.terminal =
+    ap (terminal_at (name_in m old)) (sym added) ∙ (ap (λ (name : Name). terminal_at name (history_in m new)) (sym (hands_name m old new run part most n h)) ∙ port_terminal m new q) in
+    let at_most = h.few in
+    let counted = h.count in
+    let is : P x = (
+      record { seat = refl; who = refl; at_step = refl; at_part = refl; at_generation = sym at; chars = h.chars; some = subst (λ (k : ℕ). 0 < k) (sym h.count) h.some; few = omega arith; happened = refl; keeps = refl },
+      size_is,
+      λ lt. subst IsCaughtUp (sym led) (stops old new run part most n p h (omega arith)),
+    ) in
     let latest : (marks_at (history_in m new)).latest ≡ Some (record { run = run; part = part }) = ap (λ (k : Marks). k.latest) (ap marks_at added ∙ marks_append xs (x ∷ [])) in
     let listed : entries_in (history_in m new) ≡ old.journal ++ e ∷ [] = ap entries_in added ∙ entries_append xs (x ∷ []) ∙ ap (λ (es : List PlainEntry). es ++ e ∷ []) (history_entries m (call_in old.kept) old.journal old.terminal.generation) in
     let has : RunHas run (generation_of xs) (old.journal ++ e ∷ []) =
     subst (λ (k : ℕ). RunHas run k (old.journal ++ e ∷ [])) (sym at)
-    (run_append run old.terminal.generation old.journal (e ∷ []) (run_so_far old run part p piece) ((λ is. refl), tt)) in
+    (run_append run old.terminal.generation old.journal (e ∷ []) (run_so_far old run part p (is_piece_of m old run part 1 (omega arith) (omega arith) p goes)) ((λ is. refl), tt)) in
     let size : length (history_in m new) ≡ length xs + 1 = ap length added ∙ length-append xs (x ∷ []) in
     let sized : length xs ≡ length old.journal = history_length m (call_in old.kept) old.journal old.terminal.generation in
     let most = p.limit in (
@@ -179,12 +218,9 @@ hands m old new run part n p few piece h =
       omega arith,
     )
 
-pub hands_same : (m : ℕ) (old new : PortValue) (run part n : ℕ) → IsPort old → Takes old new run part 64 n → generation_of (history_in m new) ≡ generation_of (history_in m old)
-hands_same m old new run part n p h =
+pub hands_same : (m : ℕ) (old new : PortValue) (run part most n : ℕ) → IsPort old → Takes old new run part most n → generation_of (history_in m new) ≡ generation_of (history_in m old)
+hands_same m old new run part most n p h =
     appends_same m old new new.flip (flush_entry old run part h.chars) p h.appends (step_generation (call_in old.kept) old.counts old.terminal (flush_entry old run part h.chars) h.appends.allowed)
-
-pub hands_name : (m : ℕ) (old new : PortValue) (run part n : ℕ) → Takes old new run part 64 n → name_in m new ≡ name_in m old
-hands_name m old new run part n h = named_by m old new new.flip (flush_entry old run part h.chars) h.appends h.takes_out.ring h.takes_out.capacity
 
 none_same : (m : ℕ) (old new : PortValue) (b : Bool) → MatchBool b (new ≡ old) (LooksAtNone old new) → (history_in m new ≡ history_in m old) × (name_in m new ≡ name_in m old)
 none_same m old new true h = (ap (history_in m) h, ap (name_in m) h)

@@ -17,14 +17,14 @@ use Rattle.tty_port.specs.Seen.{entries_in, marks_at, chars_at, next_run, run_af
 use Rattle.tty_port.specs.Placed.{ArePlaced}
 use Rattle.tty_port.specs.Adding.{Adds}
 use Rattle.tty_port.specs.Calls.{PortSeat}
-use Rattle.tty_port.specs.Flushing.{IsPiece, ArePieces, HasNothingLeft, run_past, FlushesRun, GoesOnAt, Hands}
+use Rattle.tty_port.specs.Flushing.{IsPiece, ArePieces, IsWhole, AreWhole, HasNothingLeft, run_past, FlushesRun, GoesOnAt, Hands}
 use Rattle.tty_port.specs.Lines.{MakesOne, MakesNone}
 use Rattle.tty_port.specs.Going.{IsFlushing, FlushTurns}
 use Rattle.tty_port.proofs.Histories.{entries_append}
 use Rattle.tty_port.proofs.Keeping.{latest_kept}
 use Rattle.tty_port.proofs.Turning.{makes_one, makes_none}
 use Rattle.tty_port.proofs.CallTurns.{IsTurn}
-use Rattle.tty_port.proofs.CallSteps.{begins_same, begins_one, begins_none, KnowsSame}
+use Rattle.tty_port.proofs.CallSteps.{begins_on, begins_same, begins_one, begins_none, KnowsSame}
 
 -- ---- one turn
 
@@ -33,8 +33,8 @@ run_kept m n xs ys placed h = ap run_after (latest_kept m n xs ys placed h)
 
 pub flush_turns : (name : Name) (n run part generation : ℕ) (old new : PortSeat) (before after : List (Stamped EntryWithCall)) → IsTurn name.callers n name.callers generation old new before after → (x : Flushed) → Hands name run part before after x → FlushTurns name run part generation old new x
 flush_turns name n run part generation old new before after t (outcome.Took k) h =
-    let P : List (Stamped EntryWithCall) → Stamped EntryWithCall → Type 0 = λ xs x. IsPiece name.callers run part generation x × (k ≡ length (chars_at (x ∷ []))) in
-    let added : Adds (P before) before after = subst (λ (g : ℕ). Adds (λ x. IsPiece name.callers run part g x × (k ≡ length (chars_at (x ∷ [])))) before after) t.at h.0 in (
+    let P : List (Stamped EntryWithCall) → Stamped EntryWithCall → Type 0 = λ xs x. IsPiece name.callers run part generation x × (k ≡ length (chars_at (x ∷ []))) × IsWhole name xs x in
+    let added : Adds (P before) before after = subst (λ (g : ℕ). Adds (λ x. IsPiece name.callers run part g x × (k ≡ length (chars_at (x ∷ []))) × IsWhole name before x) before after) t.at h.0 in (
       makes_one P name.callers old new before after (λ x is. is.0.seat) t.was t.now t.keeps added t.seen,
       subst (GoesOnAt run (part + 1) generation) (sym t.seen) (subst (λ (g : ℕ). GoesOnAt run (part + 1) g after) t.at h.1),
       ap next_run t.seen ∙ h.2,
@@ -75,13 +75,24 @@ piece_some m run part generation k x p e =
 past_some : (run n : ℕ) → 0 < n → run_past run n ≡ run + 1
 past_some run n lt = ap (λ (b : Bool). if b then run else run + 1) (ne_eqb n 0 (λ e. absurd (omega arith)))
 
-pub flush_begins : (m run : ℕ) (s : PortSeat) → run ≡ next_run (list_seen s) → IsFlushing m run 0 0 s s
-flush_begins m run s e =
+-- ---- pieces in histories that go on
+
+whole_later : (name : Name) (xs ys made : List (Stamped EntryWithCall)) → Begins xs ys → AreWhole name xs made → AreWhole name ys made
+whole_later name xs ys [] h w = tt
+whole_later name xs ys (x ∷ made) h w = ((w.0.0, begins_on (w.0.0 ++ x ∷ []) xs ys w.0.1 h, w.0.2), whole_later name xs ys made h w.1)
+
+whole_push : (name : Name) (all made : List (Stamped EntryWithCall)) (before : List (Stamped EntryWithCall)) (x : Stamped EntryWithCall) → AreWhole name all made → Begins (before ++ x ∷ []) all → IsWhole name before x → AreWhole name all (made ++ x ∷ [])
+whole_push name all [] before x w b h = ((before, b, h), tt)
+whole_push name all (y ∷ made) before x w b h = (w.0, whole_push name all made before x w.1 b h)
+
+pub flush_begins : (name : Name) (run : ℕ) (s : PortSeat) → run ≡ next_run (list_seen s) → IsFlushing name run 0 0 s s
+flush_begins name run s e =
     record {
       begins = begins_same (list_seen s);
       made = [];
       adds = sym (append-nil (own_entries s));
       pieces = tt;
+      whole = tt;
       parts = refl;
       count = refl;
       few = omega arith;
@@ -101,7 +112,7 @@ first_run (Some p) run e = last_or ((run == p.run) && (0 == p.part + 1)) (run ==
 pub run_begins : (run generation : ℕ) (xs : List (Stamped EntryWithCall)) → run ≡ next_run xs → GoesOnAt run 0 generation xs
 run_begins run generation xs e = record { numbered = first_run (marks_at xs).latest run e; one = λ lt. absurd (omega arith) }
 
-pub flush_more : (name : Name) (run part n k : ℕ) (old mid new : PortSeat) → IsFlushing name.callers run part n old mid → FlushTurns name run part (generation_in (last_word mid)) mid new (outcome.Took k) → last_word new ≡ last_word mid → install_count new ≡ install_count mid → IsFlushing name.callers run (part + 1) (n + k) old new
+pub flush_more : (name : Name) (run part n k : ℕ) (old mid new : PortSeat) → IsFlushing name run part n old mid → FlushTurns name run part (generation_in (last_word mid)) mid new (outcome.Took k) → last_word new ≡ last_word mid → install_count new ≡ install_count mid → IsFlushing name run (part + 1) (n + k) old new
 flush_more name run part n k old mid new h t word installs =
     let made = t.0 in
     let x = made.entry in
@@ -110,6 +121,7 @@ flush_more name run part n k old mid new h t word installs =
     let chars = chars_push h.made x in
     let count = h.count in
     let piece = made.is.1 in
+    let ends : Begins (made.before ++ x ∷ []) (list_seen new) = subst (Begins (made.before ++ x ∷ [])) (sym made.added) (begins_same (made.before ++ x ∷ [])) in
     let most = piece_chars name.callers run part (generation_in (last_word mid)) k x made.is.0 piece in
     let few = h.few in
     let some = piece_some name.callers run part (generation_in (last_word mid)) k x made.is.0 piece in
@@ -118,6 +130,7 @@ flush_more name run part n k old mid new h t word installs =
       made = h.made ++ x ∷ [];
       adds = made.own ∙ ap (λ (xs : List (Stamped EntryWithCall)). xs ++ x ∷ []) h.adds ∙ append_assoc (own_entries old) h.made (x ∷ []);
       pieces = subst (λ (w : ℕ). ArePieces name.callers run (generation_in w) 0 (h.made ++ x ∷ [])) (sym word) (pieces_push name.callers run (generation_in (last_word mid)) 0 h.made x part (omega arith) h.pieces made.is.0);
+      whole = whole_push name (list_seen new) h.made made.before x (whole_later name (list_seen mid) (list_seen new) h.made (begins_one (list_seen mid) _ mid new (begins_same (list_seen mid)) made) h.whole) ends made.is.2;
       parts = omega arith;
       count = omega arith;
       few = omega arith;
@@ -125,13 +138,14 @@ flush_more name run part n k old mid new h t word installs =
       installed = installs ∙ h.installed;
     }
 
-pub flush_none : (name : Name) (run part n : ℕ) (old mid new : PortSeat) → IsFlushing name.callers run part n old mid → MakesNone mid new → next_run (list_seen new) ≡ next_run (list_seen mid) → last_word new ≡ last_word mid → install_count new ≡ install_count mid → IsFlushing name.callers run part n old new
+pub flush_none : (name : Name) (run part n : ℕ) (old mid new : PortSeat) → IsFlushing name run part n old mid → MakesNone mid new → next_run (list_seen new) ≡ next_run (list_seen mid) → last_word new ≡ last_word mid → install_count new ≡ install_count mid → IsFlushing name run part n old new
 flush_none name run part n old mid new h none next word installs =
     record {
       begins = begins_none (list_seen old) mid new h.begins none;
       made = h.made;
       adds = none.own ∙ h.adds;
       pieces = subst (λ (w : ℕ). ArePieces name.callers run (generation_in w) 0 h.made) (sym word) h.pieces;
+      whole = whole_later name (list_seen mid) (list_seen new) h.made (begins_none (list_seen mid) mid new (begins_same (list_seen mid)) none) h.whole;
       parts = h.parts;
       count = h.count;
       few = h.few;
@@ -150,13 +164,14 @@ pub longer_none : (mid new : PortSeat) (part : ℕ) → MakesNone mid new → pa
 longer_none mid new part h le = let found = ap length h.found.1 ∙ length-append (list_seen mid) h.found.0 in omega arith
 
 -- a run under a reference that was taken before and is given back after it
-pub flushes_run : (m run part n : ℕ) (s old new t : PortSeat) → KnowsSame s old → KnowsSame new t → last_word t ≡ last_word new → step_count s < step_count t → changing_in (last_word t) ≡ 0 → IsFlushing m run part n old new → FlushesRun m run n s t
-flushes_run m run part n s old new t k l word steps found h =
+pub flushes_run : (name : Name) (run part n : ℕ) (s old new t : PortSeat) → KnowsSame s old → KnowsSame new t → last_word t ≡ last_word new → step_count s < step_count t → changing_in (last_word t) ≡ 0 → IsFlushing name run part n old new → FlushesRun name run n s t
+flushes_run name run part n s old new t k l word steps found h =
     record {
       begins = subst (λ (xs : List (Stamped EntryWithCall)). Begins xs (list_seen t)) k.list (subst (Begins (list_seen old)) (sym l.list) h.begins);
       made = h.made;
       adds = l.own ∙ h.adds ∙ ap (λ (xs : List (Stamped EntryWithCall)). xs ++ h.made) k.own;
-      pieces = subst (λ (w : ℕ). ArePieces m run (generation_in w) 0 h.made) (sym word) h.pieces;
+      pieces = subst (λ (w : ℕ). ArePieces name.callers run (generation_in w) 0 h.made) (sym word) h.pieces;
+      whole = subst (λ (xs : List (Stamped EntryWithCall)). AreWhole name xs h.made) (sym l.list) h.whole;
       count = h.count;
       next = ap next_run l.list ∙ h.next;
       stepped = steps;

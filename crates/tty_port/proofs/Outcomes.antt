@@ -1,6 +1,6 @@
 -- What a turn adds, whether or not it is denied.
 use Rattle.std.specs.Prelude.{IfOk, IfErr, OnOk, OnErr}
-use Rattle.std.proofs.Common.{◌≡◌, ◌⊎◌, inl, inr, ℕ, ◌+◌, ◌<◌, length, List, [], ◌∷◌, ◌++◌, Bool, true, false, Option, Some, None, Result, Ok, Err, refl, sym, ◌∙◌, ap, subst}
+use Rattle.std.proofs.Common.{◌≡◌, ◌⊎◌, inl, inr, ℕ, ◌+◌, ◌<◌, ◌≤◌, length, List, [], ◌∷◌, ◌++◌, Bool, true, false, Option, Some, None, Result, Ok, Err, refl, sym, ◌∙◌, ap, subst}
 use Rattle.tty_base.specs.declared.characters.Flagged.{Flagged}
 use Rattle.tty_calls.specs.declared.answers.Denied.{Denied}
 use Rattle.tty_calls.specs.Plain.{PlainCall}
@@ -8,14 +8,14 @@ use Rattle.port_core.specs.declared.ports.attempting.Tried.{Tried}
 use Rattle.port_core.specs.declared.ports.flushing.Flushed.{Flushed}
 use Rattle.port_core.specs.declared.ports.flushing.Flushed.TheVariants as outcome
 use Rattle.port_core.specs.Ports.{PortValue, IsPort}
-use Rattle.port_core.specs.Flushes.{IsPieceOf, Flushes}
+use Rattle.port_core.specs.Flushes.{Flushes}
 use Rattle.port_core.specs.Attempts.{PlainTried, done_by, took_part, must_wait, tried_of, Raises}
 use Rattle.port_cell.specs.declared.kept.Stamped.{Stamped}
 use Rattle.port_cell.specs.Entries.{generation_of, AddsBy}
 use Rattle.tty_port.specs.Inside.{Name, EntryWithCall}
 use Rattle.tty_port.specs.Histories.{history_in, name_in}
 use Rattle.tty_port.specs.Adding.{Adds, Tries}
-use Rattle.tty_port.specs.Flushing.{Hands}
+use Rattle.tty_port.specs.Flushing.{GoesOnAt, Hands}
 use Rattle.tty_port.proofs.Turning.{adds_by, adds_nothing}
 use Rattle.tty_port.proofs.Entering.{hands, hands_same, hands_none, none_history}
 
@@ -58,13 +58,13 @@ hands_by name run part old new (outcome.Took n) h = adds_by name.callers _ old n
 hands_by name run part old new outcome.Nothing h = adds_nothing name.callers old new h.0
 
 -- a piece, or none
-pub flushes : (m : ℕ) (old new : PortValue) (run part : ℕ) (x : Flushed) → IsPort old → length old.journal < old.limit → IsPieceOf old run part 64 → Flushes old new run part 64 x → Hands (name_in m old) run part (history_in m old) (history_in m new) x
-flushes m old new run part (outcome.Took n) p few piece h = hands m old new run part n p few piece h
-flushes m old new run part outcome.Nothing p few piece h = hands_none m old new run part p h
+pub flushes : (m : ℕ) (old new : PortValue) (run part most : ℕ) (x : Flushed) → IsPort old → IsPort new → length old.journal < old.limit → GoesOnAt run part (generation_of (history_in m old)) (history_in m old) → most ≤ 64 → 64 ≤ most → Flushes old new run part most x → Hands (name_in m old) run part (history_in m old) (history_in m new) x
+flushes m old new run part most (outcome.Took n) p q few goes small large h = hands m old new run part most n p q few goes small large h
+flushes m old new run part most outcome.Nothing p q few goes small large h = hands_none m old new run part p h
 
-pub flushes_same : (m : ℕ) (old new : PortValue) (run part : ℕ) (x : Flushed) → IsPort old → Flushes old new run part 64 x → generation_of (history_in m new) ≡ generation_of (history_in m old)
-flushes_same m old new run part (outcome.Took n) p h = hands_same m old new run part n p h
-flushes_same m old new run part outcome.Nothing p h = ap generation_of (none_history m old new h)
+pub flushes_same : (m : ℕ) (old new : PortValue) (run part most : ℕ) (x : Flushed) → IsPort old → Flushes old new run part most x → generation_of (history_in m new) ≡ generation_of (history_in m old)
+flushes_same m old new run part most (outcome.Took n) p h = hands_same m old new run part most n p h
+flushes_same m old new run part most outcome.Nothing p h = ap generation_of (none_history m old new h)
 
 pub both_ok : {A E : Type 0} (r : Result A E) (P : A → Type 0) (Q : Type 0) (Z : A → Type 0) → ((x : A) → P x → Q → Z x) → IfOk r P → OnOk r Q → IfOk r Z
 both_ok (Ok x) P Q Z f h k = f x h k

@@ -1,8 +1,9 @@
 -- What the calls of a caller come to, as its seat knows it.
-use Rattle.std.specs.Prelude.{◌≡◌, ◌⊎◌, ℕ, ◌+◌, ◌<◌, List, [], ◌∷◌, ◌++◌, Bool, true, false, MatchBool}
+use Rattle.std.specs.Prelude.{◌≡◌, ◌⊎◌, ℕ, ◌+◌, ◌<◌, ◌≤◌, List, [], ◌∷◌, ◌++◌, Bool, true, false, MatchBool}
 use Rattle.tty_calls.specs.Plain.{PlainCall, PlainAnswer, PlainEvent, answered, parted, waited, flushed, ticked, line_ended, clock_ended, caller_ended, phase_ended, hung_up, changes}
 use Rattle.port_cell.specs.declared.kept.Stamped.{Stamped}
 use Rattle.port_cell.specs.Entries.{Begins}
+use Rattle.port_cell.specs.Views.{bit_of}
 use Rattle.port_cell.specs.Word.{generation_in, changing_in, users_in}
 use Rattle.port_cell.specs.Knowledge.{CellSeat, list_seen, own_entries, last_word, step_count, install_count}
 use Rattle.tty_port.specs.Inside.{Name, EntryWithCall}
@@ -33,6 +34,11 @@ is_wait caller_ended = false
 is_wait phase_ended = false
 is_wait (hung_up dropped) = false
 
+-- how many of these entries are waits
+abbrev pub waits_in : List (Stamped EntryWithCall) → ℕ
+waits_in [] = 0
+waits_in (x ∷ xs) = bit_of (is_wait x.what.entry.event) + waits_in xs
+
 abbrev pub FirstHas : ℕ → List (Stamped EntryWithCall) → Type 0
 FirstHas generation [] = Unit {0}
 FirstHas generation (x ∷ xs) = x.what.entry.generation ≡ generation
@@ -54,14 +60,17 @@ pub record IsAnswered (c step : ℕ) (call : PlainCall) (a : PlainAnswer) (old n
   pub next : IsBetween c (step + 1) (list_seen new)
   -- the last entry, with those since the last wait, has the generation that the seat last found in the reference word
   pub held : last.what.entry.generation ≡ generation_in (last_word new)
+  -- each wait is followed by a new reference: the one before was given back
+  pub renewed : step_count old + waits_in pauses ≤ step_count new
   -- where the answer raised the generation, it was installed
   pub installed : install_count new + last.what.entry.generation ≡ install_count old + last.after
 
 -- The generation was found in this call: by taking the reference that the call held, when nobody changed the discipline; or,
 -- where the call may change it, after the mark was set, when nobody held a reference. Such a call has no parts and does not wait.
+-- Another took a first reference, and one more after each wait.
 pub record Answers (c step : ℕ) (call : PlainCall) (a : PlainAnswer) (old new : PortSeat) : Type 0 where
   pub answered : IsAnswered c step call a old new
-  pub stepped : step_count old < step_count new
+  pub stepped : step_count old + waits_in answered.pauses < step_count new
   pub found : MatchBool (changes call) (users_in (last_word new) ≡ 0) (changing_in (last_word new) ≡ 0)
   pub at_once : changes call ≡ true → answered.pauses ≡ []
 
@@ -72,4 +81,5 @@ pub record Pauses (c step : ℕ) (call : PlainCall) (old new : PortSeat) : Type 
   pub adds : own_entries new ≡ own_entries old ++ pauses
   pub are_pauses : ArePauses c step call pauses
   pub one : KeepGeneration pauses
+  pub renewed : step_count old + waits_in pauses ≤ step_count new
   pub installed : install_count new ≡ install_count old

@@ -36,22 +36,35 @@ abbrev pub ArePieces : (m run generation part : ℕ) → List (Stamped EntryWith
 ArePieces m run generation part [] = Unit {0}
 ArePieces m run generation part (x ∷ xs) = IsPiece m run part generation x × ArePieces m run generation (part + 1) xs
 
--- No handle is live, the discipline does not accept, or at least what is known to be sent is taken; once the line is over nothing
--- is left to flush.
+-- no handle is live, the discipline does not accept, or at least what is known to be sent is taken
+abbrev pub IsCaughtUp : Terminal → Type 0
+IsCaughtUp t = is_stuck t ≡ false → t.sent ≤ t.taken
+
+-- Made on this history, the piece has as many characters as a piece may have, or leaves a port that can be flushed no further.
+abbrev pub IsWhole : Name → List (Stamped EntryWithCall) → Stamped EntryWithCall → Type 0
+IsWhole name before x = length (chars_at (x ∷ [])) < 64 → IsCaughtUp (terminal_at name (before ++ x ∷ []))
+
+-- each of these pieces, on the front of the history before it
+abbrev pub AreWhole : Name → (all made : List (Stamped EntryWithCall)) → Type 0
+AreWhole name all [] = Unit {0}
+AreWhole name all (x ∷ xs) = ((before : List (Stamped EntryWithCall)) × Begins (before ++ x ∷ []) all × IsWhole name before x) × AreWhole name all xs
+
+-- No more can be flushed, and once the line is over nothing is left to flush.
 pub record HasNothingLeft (t : Terminal) : Type 0 where
-  pub caught_up : is_stuck t ≡ false → t.sent ≤ t.taken
+  pub caught_up : IsCaughtUp t
   pub idle : IsTrue t.line_over → nothing_to_flush t ≡ true
 
 -- the number of the next run, after one that handed over n characters: a run of none makes no entry
 abbrev pub run_past : (run n : ℕ) → ℕ
 run_past run n = if n == 0 then run else run + 1
 
--- a run of n characters, under one reference, whose generation is that of each piece
-pub record FlushesRun (m run n : ℕ) (old new : PortSeat) : Type 0 where
+-- a run of n characters by the flusher of the port with this name, under one reference, whose generation is that of each piece
+pub record FlushesRun (name : Name) (run n : ℕ) (old new : PortSeat) : Type 0 where
   pub begins : Begins (list_seen old) (list_seen new)
   pub made : List (Stamped EntryWithCall)
   pub adds : own_entries new ≡ own_entries old ++ made
-  pub pieces : ArePieces m run (generation_in (last_word new)) 0 made
+  pub pieces : ArePieces name.callers run (generation_in (last_word new)) 0 made
+  pub whole : AreWhole name (list_seen new) made
   pub count : n ≡ length (chars_at made)
   pub next : next_run (list_seen new) ≡ run_past run n
   pub stepped : step_count old < step_count new
@@ -66,6 +79,6 @@ pub record GoesOnAt (run part generation : ℕ) (xs : List (Stamped EntryWithCal
 -- what a piece came to
 abbrev pub Hands : (name : Name) (run part : ℕ) (old new : List (Stamped EntryWithCall)) → Flushed → Type 0
 Hands name run part old new (outcome.Took n) =
-    Adds (λ x. IsPiece name.callers run part (generation_of old) x × (n ≡ length (chars_at (x ∷ [])))) old new
+    Adds (λ x. IsPiece name.callers run part (generation_of old) x × (n ≡ length (chars_at (x ∷ []))) × IsWhole name old x) old new
     × GoesOnAt run (part + 1) (generation_of old) new × (next_run new ≡ run + 1) × (length new ≤ 4194304)
 Hands name run part old new outcome.Nothing = (new ≡ old) × HasNothingLeft (terminal_at name old)

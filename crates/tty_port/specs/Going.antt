@@ -7,13 +7,13 @@ use Rattle.port_core.specs.declared.ports.flushing.Flushed.TheVariants as outcom
 use Rattle.port_cell.specs.declared.kept.Stamped.{Stamped}
 use Rattle.port_cell.specs.Entries.{generation_of, Begins}
 use Rattle.port_cell.specs.Word.{generation_in}
-use Rattle.port_cell.specs.Knowledge.{list_seen, own_entries, last_word, install_count}
+use Rattle.port_cell.specs.Knowledge.{list_seen, own_entries, last_word, step_count, install_count}
 use Rattle.tty_port.specs.Inside.{Name, EntryWithCall}
 use Rattle.tty_port.specs.Seen.{standing_at, IsBetween, chars_at, next_run, terminal_at}
 use Rattle.tty_port.specs.Adding.{IsAnswerOf, IsPartOf, IsWaitOf, IsUnderWay, Rests}
 use Rattle.tty_port.specs.Calls.{PortSeat, Pauses, is_wait}
 use Rattle.tty_port.specs.Lines.{MakesOne, MakesNone}
-use Rattle.tty_port.specs.Flushing.{IsPiece, ArePieces, GoesOnAt, HasNothingLeft, run_past}
+use Rattle.tty_port.specs.Flushing.{IsPiece, ArePieces, IsWhole, AreWhole, GoesOnAt, HasNothingLeft, run_past}
 
 -- an entry of this kind, made in this generation
 pub record IsMadeIn (generation : ℕ) (P : Stamped EntryWithCall → Type 0) (before : List (Stamped EntryWithCall)) (x : Stamped EntryWithCall) : Type 0 where
@@ -37,11 +37,12 @@ pub record TakesPart (c step : ℕ) (call : PlainCall) (old new : PortSeat) : Ty
   pub same : generation_in (last_word new) ≡ generation_in (last_word old)
   pub goes_on : (standing_at c (list_seen new)).waits ≡ false
 
--- a turn in which the call began to wait, or waited already; after it the reference was given back for a while
+-- a turn in which the call began to wait, or waited already; after it the reference was given back, and a new one taken
 abbrev pub Waits : ℕ → ℕ → PlainCall → PortSeat → PortSeat → Type 0
 Waits c step call old new =
-    (MakesNone old new × ((standing_at c (list_seen old)).waits ≡ true))
-    ⊎ MakesOne (IsMadeIn (generation_in (last_word old)) (IsWaitOf c step call)) old new
+    ((MakesNone old new × ((standing_at c (list_seen old)).waits ≡ true))
+    ⊎ MakesOne (IsMadeIn (generation_in (last_word old)) (IsWaitOf c step call)) old new)
+    × (step_count old < step_count new)
 
 -- the call goes on after a turn
 abbrev pub StepsOn : ℕ → ℕ → PlainCall → PortSeat → PortSeat → Type 0
@@ -68,11 +69,12 @@ pub record Changes (c step : ℕ) (call : PlainCall) (a : PlainAnswer) (old new 
   pub installed : install_count new + generation_in (last_word new) ≡ install_count old + generation_of (list_seen new)
 
 -- the flush run so far: this number of pieces, with so many characters
-pub record IsFlushing (m run part n : ℕ) (old new : PortSeat) : Type 0 where
+pub record IsFlushing (name : Name) (run part n : ℕ) (old new : PortSeat) : Type 0 where
   pub begins : Begins (list_seen old) (list_seen new)
   pub made : List (Stamped EntryWithCall)
   pub adds : own_entries new ≡ own_entries old ++ made
-  pub pieces : ArePieces m run (generation_in (last_word new)) 0 made
+  pub pieces : ArePieces name.callers run (generation_in (last_word new)) 0 made
+  pub whole : AreWhole name (list_seen new) made
   pub parts : length made ≡ part
   pub count : n ≡ length (chars_at made)
   pub few : n ≤ 64 * part
@@ -82,7 +84,7 @@ pub record IsFlushing (m run part n : ℕ) (old new : PortSeat) : Type 0 where
 -- what a turn of a flush run came to
 abbrev pub FlushTurns : (name : Name) (run part generation : ℕ) → PortSeat → PortSeat → Flushed → Type 0
 FlushTurns name run part generation old new (outcome.Took n) =
-    MakesOne (λ before x. IsPiece name.callers run part generation x × (n ≡ length (chars_at (x ∷ [])))) old new
+    MakesOne (λ before x. IsPiece name.callers run part generation x × (n ≡ length (chars_at (x ∷ []))) × IsWhole name before x) old new
     × GoesOnAt run (part + 1) generation (list_seen new) × (next_run (list_seen new) ≡ run + 1) × (length (list_seen new) ≤ 4194304)
 FlushTurns name run part generation old new outcome.Nothing =
     MakesNone old new × (next_run (list_seen new) ≡ next_run (list_seen old)) × HasNothingLeft (terminal_at name (list_seen new))

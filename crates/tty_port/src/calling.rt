@@ -9,6 +9,7 @@ ghost use Rattle.port_cell.specs.Word.{generation_in, changing_in};
 ghost use Rattle.port_cell.specs.Knowledge.{list_seen, last_word, step_count, install_count};
 ghost use Rattle.port_cell.specs.Seats.{KeepsUse};
 ghost use Rattle.tty_port.specs.Seen.{IsBetween};
+ghost use Rattle.tty_port.specs.Placed.{ArePlaced};
 ghost use Rattle.tty_port.specs.Adding.{IsFull, IsUnderWay};
 ghost use Rattle.tty_port.specs.Calls.{Answers, IsAnswered, Pauses};
 ghost use Rattle.tty_port.specs.Lines.{MakesNone};
@@ -42,6 +43,7 @@ impl SharedPort {
         requires bytes { byte_count (call_of call.now) < 2 ^ 32 }
         requires ready { IsBetween caller step (list_seen seat.old) }
         ensures seat { IsHere self.now caller seat.new }
+        ensures placed { ArePlaced (name_of_port self.now).callers (sum (name_of_port self.now).counts) (list_seen seat.new) }
         ensures ok { IfOk result (λ a. Answers caller step (call_of call.now) (answer_of a) seat.old seat.new) }
         ensures err { OnErr result (Pauses caller step (call_of call.now) seat.old seat.new) }
         ensures full { IfErr result (λ d. IsFull (name_of_port self.now) d (list_seen seat.new)) }
@@ -75,6 +77,7 @@ impl SharedPort {
         requires keeps { changes (call_of call.now) ≡ false }
         requires ready { IsUnderWay caller step (call_of call.now) (generation_in (last_word seat.old)) (list_seen seat.old) }
         ensures seat { IsHolding self.now caller seat.new }
+        ensures placed { ArePlaced (name_of_port self.now).callers (sum (name_of_port self.now).counts) (list_seen seat.new) }
         ensures steps { step_count seat.old ≤ step_count seat.new }
         ensures found { changing_in (last_word seat.new) ≡ 0 }
         ensures ok { IfOk result (λ a. IsAnswered caller step (call_of call.now) (answer_of a) seat.old seat.new) }
@@ -113,6 +116,7 @@ impl SharedPort {
         requires keeps { changes (call_of call.now) ≡ false }
         requires ready { IsUnderWay caller step (call_of call.now) (generation_in (last_word seat.old)) (list_seen seat.old) }
         ensures seat { IsHolding self.now caller seat.new }
+        ensures placed { ArePlaced (name_of_port self.now).callers (sum (name_of_port self.now).counts) (list_seen seat.new) }
         ensures found { changing_in (last_word seat.new) ≡ 0 }
         ensures steps { step_count seat.old ≤ step_count seat.new }
         ensures installs { install_count seat.new ≡ install_count seat.old }
@@ -152,6 +156,7 @@ impl SharedPort {
         requires keeps { changes (call_of call.now) ≡ false }
         requires ready { IsUnderWay caller step (call_of call.now) (generation_in (last_word seat.old)) (list_seen seat.old) }
         ensures seat { IsHolding self.now caller seat.new }
+        ensures placed { ArePlaced (name_of_port self.now).callers (sum (name_of_port self.now).counts) (list_seen seat.new) }
         ensures references { KeepsUse seat.old seat.new }
         ensures tried { IfOk result (λ tried. Turns caller step (call_of call.now) (generation_in (last_word seat.old)) seat.old seat.new (tried_of tried)) }
         ensures generation { generation_of (list_seen seat.new) ≡ generation_in (last_word seat.old) }

@@ -10,6 +10,7 @@ ghost use Rattle.port_cell.specs.Seats.{IsSeat, IsSameSeat, KeepsWord};
 ghost use Rattle.port_cell.specs.Lent.{value_in};
 ghost use Rattle.tty_port.specs.Histories.{history_of, name_of as port_name};
 ghost use Rattle.tty_port.specs.Seen.{IsBetween};
+ghost use Rattle.tty_port.specs.Placed.{ArePlaced};
 ghost use Rattle.tty_port.specs.Adding.{IsFull, IsAnswerOf};
 ghost use Rattle.tty_port.specs.Lines.{MakesOne, MakesNone};
 ghost use Rattle.tty_port.specs.Going.{Changes};
@@ -40,6 +41,7 @@ impl SharedPort {
         requires may { changes (call_of call.now) ≡ true }
         requires ready { IsBetween caller step (list_seen seat.old) }
         ensures seat { IsHere self.now caller seat.new }
+        ensures placed { ArePlaced (name_of_port self.now).callers (sum (name_of_port self.now).counts) (list_seen seat.new) }
         ensures word { KeepsWord seat.old seat.new }
         ensures ok { IfOk result (λ a. Changes caller step (call_of call.now) (answer_of a) seat.old seat.new) }
         ensures err { OnErr result (MakesNone seat.old seat.new) }

@@ -1,10 +1,11 @@
 //! Flush runs.
 
-ghost use Rattle.std.specs.Prelude.{◌≡◌, ◌≤◌, ℕ, IfOk, IfErr, OnOk, OnErr};
+ghost use Rattle.std.specs.Prelude.{◌≡◌, ◌≤◌, ℕ, IfOk, IfErr, OnOk, OnErr, sum};
 ghost use Rattle.port_cell.specs.Word.{generation_in};
 ghost use Rattle.port_cell.specs.Knowledge.{list_seen, last_word};
 ghost use Rattle.port_cell.specs.Seats.{KeepsUse};
 ghost use Rattle.tty_port.specs.Seen.{next_run, terminal_at};
+ghost use Rattle.tty_port.specs.Placed.{ArePlaced};
 ghost use Rattle.tty_port.specs.Adding.{IsFull};
 ghost use Rattle.tty_port.specs.Flushing.{FlushesRun, HasNothingLeft, GoesOnAt};
 ghost use Rattle.tty_port.specs.Lines.{MakesNone};
@@ -25,12 +26,14 @@ impl SharedPort {
         requires seat { IsHere self.now (name_of_port self.now).callers seat.old }
         requires next { run ≡ next_run (list_seen seat.old) }
         ensures seat { IsHere self.now (name_of_port self.now).callers seat.new }
-        ensures ok { IfOk result (λ n. FlushesRun (name_of_port self.now).callers run n seat.old seat.new) }
+        ensures placed { ArePlaced (name_of_port self.now).callers (sum (name_of_port self.now).counts) (list_seen seat.new) }
+        ensures ok { IfOk result (λ n. FlushesRun (name_of_port self.now) run n seat.old seat.new) }
         ensures last { OnOk result (HasNothingLeft (terminal_at (name_of_port self.now) (list_seen seat.new))) }
-        ensures err { OnErr result ((n : ℕ) × FlushesRun (name_of_port self.now).callers run n seat.old seat.new) }
+        ensures err { OnErr result ((n : ℕ) × FlushesRun (name_of_port self.now) run n seat.old seat.new) }
         ensures full { IfErr result (λ d. IsFull (name_of_port self.now) d (list_seen seat.new)) }
         ensures few { next_run (list_seen seat.new) ≤ 4194304 }
     {
+        self.note_flusher_look();
         self.hold(rt, seat);
         let result = self.flush_held(rt, seat, run);
         self.release(seat);
@@ -43,10 +46,11 @@ impl SharedPort {
         requires seat { IsHolding self.now (name_of_port self.now).callers seat.old }
         requires next { run ≡ next_run (list_seen seat.old) }
         ensures seat { IsHolding self.now (name_of_port self.now).callers seat.new }
+        ensures placed { ArePlaced (name_of_port self.now).callers (sum (name_of_port self.now).counts) (list_seen seat.new) }
         ensures references { KeepsUse seat.old seat.new }
-        ensures ok { IfOk result (λ n. (part : ℕ) × IsFlushing (name_of_port self.now).callers run part n seat.old seat.new) }
+        ensures ok { IfOk result (λ n. (part : ℕ) × IsFlushing (name_of_port self.now) run part n seat.old seat.new) }
         ensures last { OnOk result (HasNothingLeft (terminal_at (name_of_port self.now) (list_seen seat.new))) }
-        ensures err { OnErr result ((part : ℕ) × (n : ℕ) × IsFlushing (name_of_port self.now).callers run part n seat.old seat.new) }
+        ensures err { OnErr result ((part : ℕ) × (n : ℕ) × IsFlushing (name_of_port self.now) run part n seat.old seat.new) }
         ensures full { IfErr result (λ d. IsFull (name_of_port self.now) d (list_seen seat.new)) }
         ensures few { next_run (list_seen seat.new) ≤ 4194304 }
     {
@@ -76,6 +80,7 @@ impl SharedPort {
         requires seat { IsHolding self.now (name_of_port self.now).callers seat.old }
         requires piece { GoesOnAt run part (generation_in (last_word seat.old)) (list_seen seat.old) }
         ensures seat { IsHolding self.now (name_of_port self.now).callers seat.new }
+        ensures placed { ArePlaced (name_of_port self.now).callers (sum (name_of_port self.now).counts) (list_seen seat.new) }
         ensures references { KeepsUse seat.old seat.new }
         ensures flushed { IfOk result (λ flushed. FlushTurns (name_of_port self.now) run part (generation_in (last_word seat.old)) seat.old seat.new flushed) }
         ensures err { OnErr result (MakesNone seat.old seat.new) }

@@ -8,7 +8,7 @@ ghost use Rattle.port_cell.specs.Seats.{KeepsTurn, KeepsWord};
 ghost use Rattle.tty_port.specs.Shared.{IsHere, IsHolding, IsMarking, IsByItself};
 
 use crate::shared::{Seat, SharedPort};
-use port_cell::ChangeCount;
+use change_wait::ChangeCount;
 use std::sync::Wait;
 
 impl SharedPort {

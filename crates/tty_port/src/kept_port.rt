@@ -75,6 +75,7 @@ impl KeptPort {
         ensures by { AddsBy caller (history_of self.old) (history_of self.new) }
         ensures generation { Raises (changes (call_of call.now)) (generation_of (history_of self.old)) (generation_of (history_of self.new)) }
         ensures few { generation_of (history_of self.new) ≤ 4194304 }
+        ensures history { IsHistoryOf self.new.callers self.new.port.value (history_of self.new) }
     {
         let port = &mut *self.port;
         let _journal = port.journal();

@@ -11,9 +11,11 @@ ghost use Rattle.tty_port.specs.Histories.{history_in, name_in};
 ghost use Rattle.tty_port.specs.Placed.{IsHistoryOf};
 
 use crate::kept_port::KeptPort;
-use port_cell::{Cell, Waiters};
+use change_wait::Waiters;
+use port_cell::Cell;
 use port_core::Port;
 use std::alloc::Global;
+use std::sync::atomic::AtomicU64;
 use tty_base::NoMemory;
 
 /// A thread's place at a shared port. It has no bytes.
@@ -24,6 +26,7 @@ pub type Seat = port_cell::Seat<KeptPort>;
 pub struct SharedPort {
     pub(crate) cell: Cell<KeptPort>,
     pub(crate) for_flusher: Waiters,
+    pub(crate) flusher_looked: AtomicU64,
     ghost counted: { seat_count cell ≡ (opening_value cell).callers + 4 },
 }
 
@@ -50,6 +53,7 @@ impl SharedPort {
         let shared = SharedPort {
             cell,
             for_flusher: Waiters::new(),
+            flusher_looked: AtomicU64::new(0),
         };
         Ok((shared, all))
     }
@@ -69,6 +73,7 @@ impl SharedPort {
         let SharedPort {
             cell,
             for_flusher: _,
+            flusher_looked: _,
         } = self;
         let kept = cell.close(seats);
         kept.entry_count();

@@ -80,6 +80,7 @@ impl SharedPort {
         ensures seat { IsHere self.now ((name_of_port self.now).callers + 2) seat.new }
         ensures references { KeepsUse seat.old seat.new }
         ensures ok { OnOk result (MakesOne (λ before. IsEntry ((name_of_port self.now).callers + 2) Clock (marks_at before).phase clock_ended) seat.old seat.new) }
+        ensures placed { ArePlaced (name_of_port self.now).callers (sum (name_of_port self.now).counts) (list_seen seat.new) }
         ensures err { OnErr result (MakesNone seat.old seat.new) }
         ensures full { IfErr result (λ d. IsFull (name_of_port self.now) d (list_seen seat.new)) }
     {
@@ -105,6 +106,7 @@ impl SharedPort {
         ensures seat { IsHere self.now ((name_of_port self.now).callers + 1) seat.new }
         ensures references { KeepsUse seat.old seat.new }
         ensures ok { OnOk result (MakesOne (EndsLine ((name_of_port self.now).callers + 1) putter.old putter.new) seat.old seat.new) }
+        ensures placed { ArePlaced (name_of_port self.now).callers (sum (name_of_port self.now).counts) (list_seen seat.new) }
         ensures putter { OnErr result (putter.new ≡ putter.old) }
         ensures err { OnErr result (MakesNone seat.old seat.new) }
         ensures full { IfErr result (λ d. IsFull (name_of_port self.now) d (list_seen seat.new)) }
@@ -124,6 +126,7 @@ impl SharedPort {
         ensures seat { IsHere self.now caller seat.new }
         ensures references { KeepsUse seat.old seat.new }
         ensures ok { OnOk result (MakesOne (λ before. IsEntry caller (Caller caller) (standing_at caller (list_seen seat.old)).next caller_ended) seat.old seat.new) }
+        ensures placed { ArePlaced (name_of_port self.now).callers (sum (name_of_port self.now).counts) (list_seen seat.new) }
         ensures err { OnErr result (MakesNone seat.old seat.new) }
         ensures full { IfErr result (λ d. IsFull (name_of_port self.now) d (list_seen seat.new)) }
     {

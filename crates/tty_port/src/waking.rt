@@ -1,12 +1,14 @@
-//! Who waits for what others do with the port, and who is woken.
+//! Who waits for what others do with the port, and who is woken. Time is in no clause: that somebody is woken,
+//! and how soon, is said in words alone.
 
 ghost use Rattle.std.specs.Prelude.{◌≡◌};
 ghost use Rattle.port_cell.specs.Knowledge.{number_of};
 ghost use Rattle.tty_port.specs.Shared.{IsHere};
 
 use crate::shared::{Seat, SharedPort};
-use port_cell::ChangeCount;
+use change_wait::ChangeCount;
 use std::sync::Wait;
+use std::sync::atomic::Ordering;
 
 /// Who may go on after a turn.
 pub(crate) enum Woken {
@@ -30,37 +32,34 @@ impl SharedPort {
     }
 
     /// Wakes the flusher, for which what a line pushes is something to do.
-    pub fn wake_flusher(&self) {
+    pub(crate) fn wake_flusher(&self) {
         self.for_flusher.wake();
     }
 
-    /// How often something happened that may let a caller or the line go on.
-    pub fn changes(&self) -> ChangeCount {
-        self.cell.changes()
-    }
-
-    /// Waits until something happens, after so much did, that may let a caller or the line go on. It
-    /// comes back without that too, after a millisecond at the latest.
-    pub fn pause<R: Wait>(&self, rt: &R, seat: &mut Seat, since: ChangeCount)
+    /// Waits for something, after so much that happened, that may let a caller or the line go on. It comes
+    /// back without that too, after a millisecond at the latest.
+    pub(crate) fn pause<R: Wait>(&self, rt: &R, seat: &mut Seat, since: ChangeCount)
         requires { IsHere self.now (number_of seat.old) seat.old }
         ensures { seat.new ≡ seat.old }
     {
         self.cell.park(rt, seat, since);
     }
 
-    /// How often something happened that may be work for the flusher.
-    pub fn flusher_changes(&self) -> ChangeCount {
-        self.for_flusher.changes()
+    /// Notes that the flusher looks now, so that its next wait misses nothing that happens from here on.
+    pub(crate) fn note_flusher_look(&self) {
+        let count = self.for_flusher.changes();
+        self.flusher_looked.store(count.word, Ordering::SeqCst);
     }
 
     /// Whether the flusher waits: it has looked since it was woken last, and found nothing that it can do.
-    pub fn flusher_waits(&self) -> bool {
+    pub(crate) fn flusher_waits(&self) -> bool {
         self.for_flusher.has_sleeper()
     }
 
-    /// Waits until something happens, after so much did, that may be work for the flusher. It comes back
-    /// without that too, after a millisecond at the latest.
-    pub fn flusher_pause<R: Wait>(&self, rt: &R, since: ChangeCount) {
-        self.for_flusher.wait(rt, since);
+    /// The flusher waits for something that may be work for it and that happened after its latest flush run
+    /// began. It comes back without that too, after a millisecond at the latest.
+    pub fn flusher_pause<R: Wait>(&self, rt: &R) {
+        let word = self.flusher_looked.load(Ordering::SeqCst);
+        self.for_flusher.wait(rt, ChangeCount { word });
     }
 }

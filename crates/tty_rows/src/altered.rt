@@ -1,7 +1,7 @@
 //! Journals that are legal, and what is told of them when they are altered.
 
-use super::rows::{Told, told_of};
 use super::texts::written_out;
+use super::told::{Told, told_of};
 use std::alloc::{AllocError, Global};
 use std::process::Abort;
 use std::test::Fail;

@@ -1,7 +1,7 @@
 //! The journal of three bytes with one field of an entry altered, and with two entries exchanged.
 
 use super::altered::THREE_BYTES;
-use super::rows::{Told, told_of};
+use super::told::{Told, told_of};
 use std::alloc::{AllocError, Global};
 use std::process::Abort;
 use std::test::Fail;

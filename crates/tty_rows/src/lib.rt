@@ -26,7 +26,9 @@ mod switching;
 mod texts;
 #[cfg(test)]
 mod threads;
+mod told;
 #[cfg(test)]
 mod waiting;
 
 pub use texts::{with_journals, written_out};
+pub use told::{PIECE, ROOM, Told, told_of};

@@ -1,6 +1,6 @@
 //! Words, texts, sources and sinks that end a call of the program early.
 
-use super::rows::Told;
+use super::told::Told;
 use std::alloc::{AllocError, Global};
 use std::process::Abort;
 use std::test::Fail;

@@ -1,41 +1,16 @@
 //! How a session with its report is tried.
 
 use super::texts::{with_journals, written_out};
+use super::told::{Told, told_of};
 use std::alloc::{AllocError, Global};
 use std::process::Abort;
 use std::test::Fail;
-use tty_base::{Bytes, MemSink, MemSource};
-use tty_one::{Ran, tty_one};
 
 /// A session and its report. In both `[61*4095]` stands for 4,095 times 61.
 #[derive(Clone, Copy)]
 pub(crate) struct Row {
     pub(crate) session: &'static str,
     pub(crate) report: &'static str,
-}
-
-/// How many bytes a source or a sink moves at most in one call.
-pub(crate) const PIECE: usize = 4_096;
-
-/// How many bytes a sink takes in all: more than any report has.
-pub(crate) const ROOM: usize = 65_536;
-
-/// What a call of the program came to: its status, and the text that it gave.
-#[derive(Drop)]
-pub(crate) struct Told {
-    pub(crate) status: u8,
-    pub(crate) text: Vec<u8>,
-}
-
-/// What is told of a text with these words.
-pub(crate) fn told_of(alloc: Global, words: &[&str], text: Vec<u8>) -> Result<Told, AllocError> {
-    let mut source = MemSource::new(Bytes::from_vec(text), PIECE, Vec::new(alloc));
-    let Ok(mut sink) = MemSink::new(alloc, PIECE, ROOM, Vec::new(alloc)) else {
-        return Err(AllocError);
-    };
-    let Ran { status, .. } = tty_one(alloc, words, &mut source, &mut sink);
-    let text = sink.given().to_vec(alloc)?;
-    Ok(Told { status, text })
 }
 
 /// Each session, played with these words, is told by its report, and its journals are legal.

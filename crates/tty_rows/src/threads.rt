@@ -1,7 +1,7 @@
 //! Sessions that are played on threads.
 
-use super::rows::{PIECE, ROOM, Told};
 use super::texts::written_out;
+use super::told::{PIECE, ROOM, Told};
 use super::{editing, output, overruns, receiving, switching, waiting};
 use std::alloc::{AllocError, Global};
 use std::sync::Wait;

@@ -1,12 +1,11 @@
 -- What tells the words of one thread from those of threads, and what each come to.
-use Rattle.std.proofs.Common.{◌≡◌, ◌⊎◌, ◌≤◌, ◌==◌, ℕ, length, List, [], Bool, true, false, Option, None, Some, IfSome, inl, inr}
-use Rattle.std.specs.Prelude.{MatchBool}
-use Rattle.tty_base.specs.Outside.{Rose, TookCount}
+use Rattle.std.proofs.Common.{◌≡◌, ◌⊎◌, ◌≤◌, ℕ, length, List, Option, None, Some, IfSome, inl, inr}
+use Rattle.tty_base.specs.Outside.{Rose}
 use Rattle.tty_calls.specs.declared.journals.PortRun.{PortRun}
 use Rattle.tty_one.specs.declared.words.Command.{Command}
 use Rattle.tty_one.specs.declared.words.Command.TheVariants.{Run, RunOne, Gen, Check}
-use Rattle.tty_one.specs.Endings.{Ask, AskRun, AreKnown, AreOfOne, AreRun, AreRunOne}
-use Rattle.tty_one.specs.Outcome.{Cause, Completes, IsBroken, breaks_line, breaks_refusal, breaks_text, breaks_verdict, breaks_full, IsDone, IsToldBy, WasGiven}
+use Rattle.tty_one.specs.Endings.{Ask, AskRun, AreKnown, AreOfOne, AreRun, AreRunOne, AskOneToRead, AskToRead}
+use Rattle.tty_one.specs.Outcome.{Completes, IsBroken, breaks_words, breaks_fault, breaks_long, breaks_refusal, breaks_text, breaks_verdict, breaks_full, IsDone, IsToldBy, WasGiven}
 use Rattle.tty_one.proofs.Outcomes.{one_if_not_run, run_is_not_one}
 use Rattle.tty_run.specs.Headline.{IsPlayedOnThreads}
 
@@ -15,19 +14,11 @@ use Rattle.tty_run.specs.Headline.{IsPlayedOnThreads}
 pub unknown_to_one : (words : List (List ℕ)) → (AreKnown words → ⊥) → AreOfOne words → ⊥
 unknown_to_one words unknown known = unknown (known.0, known.2)
 
--- what is refused for unknown words is refused for other ones
-match_first : (b : Bool) (P Q R : Type 0) → (P → Q) → MatchBool b P R → MatchBool b Q R
-match_first true P Q R f h = f h
-match_first false P Q R f h = h
-
 pub broken_one : (words : List (List ℕ)) (faults faults' : ℕ) (left rest before now : Option (List ℕ)) (runs : List PortRun) → (AreRun words → ⊥)
-    → IsBroken (AreOfOne words) words faults faults' left rest before now runs → IsBroken (AreKnown words) words faults faults' left rest before now runs
-broken_one words faults faults' left rest before now runs no_run (breaks_line status cause none front) =
-    breaks_line status (
-    match_first (status == 2) (AreOfOne words → ⊥) (AreKnown words → ⊥) (MatchBool (status == 3) (Rose faults faults') (MatchBool (status == 6) (IfSome left (λ bytes. TookCount 4194305 bytes rest)) ⊥)) (
-    λ unknown known. unknown (one_if_not_run words no_run known)
-    ) cause
-    ) none front
+    → IsBroken (AreOfOne words) (AskOneToRead words) words faults faults' left rest before now runs → IsBroken (AreKnown words) (AskToRead words) words faults faults' left rest before now runs
+broken_one words faults faults' left rest before now runs no_run (breaks_words other none front) = breaks_words (λ known. other (one_if_not_run words no_run known)) none front
+broken_one words faults faults' left rest before now runs no_run (breaks_fault reads rose none front) = breaks_fault (inr reads) rose none front
+broken_one words faults faults' left rest before now runs no_run (breaks_long reads took none front) = breaks_long (inr reads) took none front
 broken_one words faults faults' left rest before now runs no_run (breaks_refusal command bad asked refused none front) = breaks_refusal command bad asked refused none front
 broken_one words faults faults' left rest before now runs no_run (breaks_text command text asked told front) = breaks_text command text asked told front
 broken_one words faults faults' left rest before now runs no_run (breaks_verdict verdict text asked told illegal front) = breaks_verdict verdict text asked told illegal front

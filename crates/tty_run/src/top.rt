@@ -1,7 +1,7 @@
 ghost use Rattle.std.specs.Prelude.{◌≡◌, ◌⊎◌, ◌≢◌, ◌≤◌, [], IfSome, length};
 ghost use Rattle.tty_base.specs.Outside.{Rose, TookCount, LeavesRest};
-ghost use Rattle.tty_one.specs.Endings.{AreKnown, AreRun, AreRunOne, AreGen, AskCheck, IsStatus, IsTold, texts_of};
-ghost use Rattle.tty_one.specs.Outcome.{IsDone, IsFull, IsToldRefused, IsToldIllegal, IsBroken, Completes, CompletesGen, CompletesCheck};
+ghost use Rattle.tty_one.specs.Endings.{AreKnown, AreRun, AreRunOne, AreGen, AskCheck, AskToRead, IsStatus, IsTold, texts_of};
+ghost use Rattle.tty_one.specs.Outcome.{IsDone, IsFull, IsToldRefused, IsToldIllegal, IsBroken, IsStatusOr, Completes, CompletesCheck};
 ghost use Rattle.tty_run.specs.Headline.{IsPlayedOnThreads};
 
 use crate::playing::run;
@@ -18,8 +18,8 @@ use tty_port::Gate;
 /// told goes to the sink: at 0 the session's report, with its journals where the words ask for them, the
 /// summary of a number's session, or that the journals are legal; else the line of the status.
 ///
-/// By `run` the session is played on threads: in each phase each port has one for each caller, and one each
-/// for line, flusher and clock. The other words are those of `tty_one`, which needs no thread.
+/// By `run` the session is played on threads: in each phase each port has one for each caller, one each for
+/// line and flusher, and one for a clock that has ticks. The other words are those of `tty_one`, which needs no thread.
 pub fn tty_run<R: Threads + Wait + Sync, S: Source, K: Sink, G: Gate + Sync>(
     rt: &R,
     alloc: Global,
@@ -54,7 +54,9 @@ pub fn tty_run<R: Threads + Wait + Sync, S: Source, K: Sink, G: Gate + Sync>(
     // 8 comes exactly with a full journal, unless its line could not be given; each run is one of the session
     // as far as it went.
     ensures full { result.status ≡ 8 → IsFull (texts_of words.now) (S.left source.old) result.runs.items }
-    ensures broken { result.status ≡ 4 → IsBroken (AreKnown (texts_of words.now)) (texts_of words.now) (S.faults source.old) (S.faults source.new) (S.left source.old) (S.left source.new) (K.given sink.old) (K.given sink.new) result.runs.items }
+    // 4: what was to be given is the text of the status that there would have been; that of 3 or of 6 stands
+    // only where the words ask for a text to be read.
+    ensures broken { result.status ≡ 4 → IsBroken (AreKnown (texts_of words.now)) (AskToRead (texts_of words.now)) (texts_of words.now) (S.faults source.old) (S.faults source.new) (S.left source.old) (S.left source.new) (K.given sink.old) (K.given sink.new) result.runs.items }
     ensures no_runs { result.status ≢ 0 → result.status ≢ 4 → result.status ≢ 8 → result.runs.items ≡ [] }
     ensures none_judged { AskCheck (texts_of words.now) → result.runs.items ≡ [] }
     // The source has left an end of what it had left.
@@ -63,9 +65,9 @@ pub fn tty_run<R: Threads + Wait + Sync, S: Source, K: Sink, G: Gate + Sync>(
     // one that spells none is refused, unless the text could not be given or memory was wanting.
     ensures complete { IfSome (S.left source.old) (λ bytes. AreRun (texts_of words.now) ⊎ AreRunOne (texts_of words.now) → length bytes ≤ 4194304
         → (Rose (S.faults source.old) (S.faults source.new) → ⊥) → Completes bytes result.status result.runs.items) }
-    // The session of a number is played, unless its summary could not be given or memory was wanting, and
-    // nothing is read.
-    ensures made { AreGen (texts_of words.now) → CompletesGen result.status result.runs.items }
+    // The session of a number is played, unless its summary could not be given or memory was wanting: it
+    // fills no journal, and nothing is read.
+    ensures made { AreGen (texts_of words.now) → IsStatusOr 0 result.status }
     ensures unread { AreGen (texts_of words.now) → source.new ≡ source.old }
     // Likewise journals are judged: 0 exactly where every run is legal, else 7.
     ensures judged { IfSome (S.left source.old) (λ bytes. AskCheck (texts_of words.now) → length bytes ≤ 4194304

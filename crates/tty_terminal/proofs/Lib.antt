@@ -2,10 +2,11 @@ pub mod Agreeing
 pub mod BeginLaws
 pub mod CallerLists
 pub mod CountLemmas
+pub mod DropLaws
 pub mod Effects
 pub mod Grown
 pub mod HangupLaws
-pub mod HeardLaws
+pub mod HappenedLaws
 pub mod InPlace
 pub mod MarkLaws
 pub mod OneRun

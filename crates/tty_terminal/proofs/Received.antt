@@ -1,6 +1,5 @@
--- Characters that are received one after the other.
-use Rattle.std.proofs.Common.{◌≡◌, ◌∙◌, ℕ, ◌+◌, List, [], ◌∷◌, ◌++◌, IsTrue, length, take, drop, refl, sym, ap, subst, arith}
-use Rattle.std.proofs.Math.Seq.{take-add}
+-- Characters that are received one after the other, by the discipline alone.
+use Rattle.std.proofs.Common.{◌≡◌, ◌∙◌, ℕ, ◌+◌, List, [], ◌∷◌, length, sym, ap, subst, arith}
 use Rattle.tty_base.specs.declared.characters.Flagged.{Flagged}
 use Rattle.tty_modes.specs.Settings.{Settings}
 use Rattle.flow_control.specs.Output.{Output, without_room}
@@ -11,31 +10,7 @@ use Rattle.ldisc_switch.specs.Disciplines.{DiscOnPort, disc_on_port, disc_withou
 use Rattle.ldisc_switch.proofs.RunLemmas.{after_characters_of-room}
 use Rattle.ldisc_switch.proofs.WithoutRoom.{after_character_of-room}
 use Rattle.tty_terminal.specs.Terminals.{Terminal}
-use Rattle.tty_terminal.specs.Receiving.{accepts, with_port, after_character, after_characters, AcceptsAll}
-
--- ---- some and then more
-
-received_more : (t : Terminal) (xs ys : List Flagged) → after_characters t (xs ++ ys) ≡ after_characters (after_characters t xs) ys
-received_more t [] ys = refl
-received_more t (x ∷ xs) ys = received_more (after_character t x) xs ys
-
-accepts_more : (t : Terminal) (xs ys : List Flagged) → AcceptsAll t xs → AcceptsAll (after_characters t xs) ys → AcceptsAll t (xs ++ ys)
-accepts_more t [] ys all more = more
-accepts_more t (x ∷ xs) ys all more = (all.0, accepts_more (after_character t x) xs ys all.1 more)
-
-module _ (t u v : Terminal) (chars : List Flagged) (i n : ℕ) (before : u ≡ after_characters t (take i chars)) (now : v ≡ after_characters u (take n (drop i chars))) where
-  pub received_on : v ≡ after_characters t (take (i + n) chars)
-  received_on =
-      now
-      ∙ ap (λ (w : Terminal). after_characters w (take n (drop i chars))) before
-      ∙ sym (ap (after_characters t) (take-add i n chars) ∙ received_more t (take i chars) (take n (drop i chars)))
-
-  pub accepts_on : AcceptsAll t (take i chars) → AcceptsAll u (take n (drop i chars)) → AcceptsAll t (take (i + n) chars)
-  accepts_on all more =
-      subst (AcceptsAll t) (sym (take-add i n chars))
-      (accepts_more t (take i chars) (take n (drop i chars)) all (subst (λ (w : Terminal). AcceptsAll w (take n (drop i chars))) before more))
-
--- ---- by the discipline alone
+use Rattle.tty_terminal.specs.Receiving.{with_port, after_character, after_characters, AcceptsAll}
 
 abbrev pub port_of : Terminal → DiscOnPort
 port_of t = disc_on_port t.disc t.output t.tally
@@ -62,10 +37,10 @@ accepted_without_room modes now (c ∷ cs) port all =
     (all.0, subst (AcceptsAllOf modes now cs) (after_character_of-room modes now c port.disc port.output port.tally) (accepted_without_room modes now cs next all.1))
 
 -- what the fields hold after a run, without room
-pub run_made : (t : Terminal) (cs : List Flagged) (output : Output) (tally : Tally) (d : Disc) (output' : Output) → t.output ≡ without_room output → t.tally ≡ without_signal_room tally
-    → disc_on_port d output' tally ≡ after_characters_of t.modes t.tick cs (disc_on_port t.disc output tally)
-    → with_received t (disc_on_port d (without_room output') (without_signal_room tally)) (length cs) ≡ after_characters t cs
-run_made t cs output tally d output' wire counts is =
+pub run_made : (t : Terminal) (cs : List Flagged) (output : Output) (tally : Tally) (d : Disc) (output' : Output) (tally' : Tally) → t.output ≡ without_room output → t.tally ≡ without_signal_room tally
+    → disc_on_port d output' tally' ≡ after_characters_of t.modes t.tick cs (disc_on_port t.disc output tally)
+    → with_received t (disc_on_port d (without_room output') (without_signal_room tally')) (length cs) ≡ after_characters t cs
+run_made t cs output tally d output' tally' wire counts is =
     let same : disc_without_room (disc_on_port t.disc output tally) ≡ port_of t = λ i. disc_on_port t.disc (sym wire i) (sym counts i) in
     ap (λ (p : DiscOnPort). with_received t p (length cs))
     (ap disc_without_room is ∙ after_characters_of-room t.modes t.tick cs (disc_on_port t.disc output tally) ∙ ap (after_characters_of t.modes t.tick cs) same)

@@ -2,11 +2,8 @@
 use Rattle.std.proofs.Common.{◌≡◌, ℕ, List, [], Bool, true, false, not, ◌&&◌, ◌==◌, nat_lt, ◌∷◌, Some, if◌then◌else◌, length, drop, refl, sym, ◌∙◌, ap, arith}
 use Rattle.std.proofs.lemmas.Bool.{false≢true}
 use Rattle.std.proofs.lemmas.Bool.Decides.{nat_tests}
-use Rattle.tty_base.specs.declared.characters.Flagged.{Flagged}
 use Rattle.tty_modes.specs.Settings.{Settings}
 use Rattle.flow_control.specs.Output.{Output, without_room, after_send}
-use Rattle.flow_control.specs.Counting.{without_signal_room}
-use Rattle.flow_control.specs.declared.tally.Tally.{Tally}
 use Rattle.flow_control.proofs.RoomLemmas.{after_send-room}
 use Rattle.n_tty.specs.States.{NTtyState}
 use Rattle.n_tty.specs.Writing.{piece_size, piece_text}
@@ -14,18 +11,12 @@ use Rattle.n_tty.proofs.WithoutRoom.{piece_text-room}
 use Rattle.handle_table.specs.declared.HandleState.{HandleState}
 use Rattle.ldisc_switch.specs.declared.discipline.Disc.{Disc}
 use Rattle.ldisc_switch.specs.declared.discipline.Disc.TheVariants as disc
-use Rattle.ldisc_switch.specs.Disciplines.{disc_on_port, disc_without_room, after_character_of}
-use Rattle.ldisc_switch.proofs.WithoutRoom.{after_character_of-room}
 use Rattle.tty_terminal.specs.declared.callers.CallerState.{CallerState}
 use Rattle.tty_terminal.specs.Terminals.{Terminal}
 use Rattle.tty_terminal.specs.Outcomes.{Outcome, waits, may_write}
 use Rattle.tty_terminal.specs.Transfers.{has_parts, is_outlived, write_outcome, writing_outcome}
 use Rattle.tty_terminal.specs.Steps.{is_wait}
 use Rattle.tty_terminal.specs.Questions.{rest_waits}
-
--- a character, as the fields have it, is the same without room
-pub character_made : (modes : Settings) (now : ℕ) (c : Flagged) (d : Disc) (wire : Output) (tally : Tally) (e : Disc) (output : Output) (counts : Tally) → disc_on_port e output counts ≡ after_character_of modes now c d wire tally → disc_on_port e (without_room output) (without_signal_room counts) ≡ after_character_of modes now c d (without_room wire) (without_signal_room tally)
-character_made modes now c d wire tally e output counts is = ap disc_without_room is ∙ after_character_of-room modes now c d wire tally
 
 -- ---- a write
 

@@ -1,14 +1,14 @@
 -- What begins a new generation: a change of the discipline, the last close, and a hangup. Each names all that it touches.
-use Rattle.std.specs.Prelude.{ℕ, ◌+◌, ◌==◌, false, Option, None, Some, if◌then◌else◌, map}
-use Rattle.flow_control.specs.Output.{after_start, after_release, after_reset}
+use Rattle.std.specs.Prelude.{◌≡◌, ℕ, [], ◌+◌, ◌==◌, false, Option, None, Some, if◌then◌else◌, map}
+use Rattle.flow_control.specs.Output.{is_halted, after_start, after_release, after_reset}
 use Rattle.handle_table.specs.declared.HandleState.{HandleState}
 use Rattle.handle_table.specs.Handles as table
 use Rattle.ldisc_switch.specs.declared.kinds.Kind.{Kind}
 use Rattle.ldisc_switch.specs.declared.kinds.Kind.TheVariants as kind
-use Rattle.ldisc_switch.specs.Disciplines.{fresh_of}
+use Rattle.ldisc_switch.specs.Disciplines.{fresh_of, unread_of}
 use Rattle.tty_terminal.specs.declared.callers.Bound.{Bound}
 use Rattle.tty_terminal.specs.declared.callers.CallerState.{CallerState}
-use Rattle.tty_terminal.specs.Terminals.{Terminal}
+use Rattle.tty_terminal.specs.Terminals.{Terminal, live_count}
 
 -- A change to another discipline: the old one goes with all that it holds, and the halt by STOP with it. The modes and what
 -- TCOOFF holds stay.
@@ -56,3 +56,14 @@ caller_after_close h s = record s { bound = bound_after_close h s.bound }
 -- a close that need not be the last: the number is free again
 abbrev pub after_close : Terminal → ℕ → Terminal
 after_close t h = record t { handles = table.without_handle t.handles h; callers = map (caller_after_close h) t.callers }
+
+-- what a hangup leaves to whoever opens the port next: N_TTY anew, with nothing unread and nothing held, output that flows, no
+-- note for ixoff, no exclusive use, and no live handle
+pub record HasNothing (t : Terminal) : Type 0 where
+  pub fresh : t.disc ≡ fresh_of kind.Tty
+  pub unread : unread_of t.disc ≡ 0
+  pub held : t.output.held ≡ []
+  pub flows : is_halted t.output ≡ false
+  pub noted : t.output.noted ≡ false
+  pub exclusive : t.exclusive ≡ false
+  pub live : live_count t ≡ 0

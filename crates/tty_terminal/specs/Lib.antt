@@ -2,6 +2,7 @@ pub mod Begins
 pub mod Calls
 pub mod Flow
 pub mod Generations
+pub mod Happened
 pub mod Heard
 pub mod Inside
 pub mod Makers

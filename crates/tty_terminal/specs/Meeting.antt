@@ -1,8 +1,9 @@
 -- What the code answers of an outcome, and the room that it needs.
-use Rattle.std.specs.Prelude.{◌≡◌, ◌≤◌, ◌==◌, ◌+◌, ◌*◌, ℕ, List, [], Option, None, Some, Bool, true, false, nat_lt, if◌then◌else◌, length, option_map}
+use Rattle.std.specs.Prelude.{◌≡◌, ◌<◌, ◌≤◌, ◌==◌, ◌+◌, ◌*◌, ◌^◌, ℕ, List, [], Option, None, Some, Bool, true, false, nat_lt, if◌then◌else◌, length, option_map}
 use Rattle.tty_base.specs.Contents.{Contents}
 use Rattle.tty_base.specs.declared.counters.Counts.{Counts}
-use Rattle.tty_calls.specs.Plain.{PlainCall, opens, closes, reads, writes, gets_modes, sets_modes, gets_disc, sets_disc, flushes, steers, counts_input, counts_output, excludes, admits, drains, gets_counts, hangs_up, sends_packet, takes_packet, answer_of}
+use Rattle.tty_calls.specs.Plain.{PlainCall, opens, closes, reads, writes, gets_modes, sets_modes, gets_disc, sets_disc, flushes, steers, counts_input, counts_output, excludes, admits, drains, gets_counts, hangs_up, sends_packet, takes_packet, handle_of, answer_of}
+use Rattle.tty_calls.specs.Limits.{byte_count}
 use Rattle.n_tty.specs.Reading.{bytes_read}
 use Rattle.n_slip.specs.Discipline.{first_packet}
 use Rattle.slip_frames.specs.Slip.{max_packet, spelling_of}
@@ -11,16 +12,18 @@ use Rattle.ldisc_switch.specs.declared.kinds.Kind.{Kind}
 use Rattle.ldisc_switch.specs.declared.kinds.Kind.TheVariants as kind
 use Rattle.ldisc_switch.specs.declared.discipline.Disc.{Disc}
 use Rattle.ldisc_switch.specs.declared.discipline.Disc.TheVariants as disc
-use Rattle.ldisc_switch.specs.Disciplines.{kind_of_number, fresh_of, pending_count_of}
+use Rattle.ldisc_switch.specs.Disciplines.{kind_of_number, fresh_of, pending_count_of, column_in}
 use Rattle.n_tty.specs.declared.discipline.TheConstants.{CHARACTER_ROOM}
+use Rattle.tty_terminal.specs.declared.rooms.TheConstants.{ROOM_FOR_CALL}
 use Rattle.tty_terminal.specs.declared.rooms.Room.{Room}
 use Rattle.tty_terminal.specs.declared.rooms.Room.TheVariants as room
 use Rattle.tty_terminal.specs.declared.rooms.Met.{Met}
 use Rattle.tty_terminal.specs.declared.rooms.Met.TheVariants as met
-use Rattle.tty_terminal.specs.Terminals.{Terminal, handle_at}
+use Rattle.tty_terminal.specs.Terminals.{Terminal, handle_at, caller_at}
 use Rattle.tty_terminal.specs.Outcomes.{Outcome, unknown, waits, takes, gives}
 use Rattle.tty_terminal.specs.Opening.{is_last_live}
 use Rattle.tty_terminal.specs.Switching.{number_of}
+use Rattle.tty_terminal.specs.Calls.{outcome}
 
 -- a terminal, with the room that is reserved for bytes on the wire and for signals
 pub record InRoom : Type 0 where
@@ -254,6 +257,24 @@ pub record IsRoomFor (t : Terminal) (call : PlainCall) (made : Room) : Type 0 wh
   pub fresh : fresh_in made ≡ option_map fresh_of (fresh_kind t call)
   pub counts : counts_in made ≡ counts_for t call
   pub packet : packet_in made ≡ spelled_packet call
+
+-- what a call of a caller needs: a known caller, a handle's number in the table, a length of 32 bits, what was made for it, and
+-- room for whatever it may send
+pub record CanAct (v : InRoom) (c : ℕ) (call : PlainCall) (made : Room) : Type 0 where
+  pub known : c < length v.terminal.callers
+  pub number : handle_of call < 32
+  pub bytes : byte_count call < 2 ^ 32
+  pub few : v.terminal.generation < 2 ^ 31
+  pub room : IsRoomFor v.terminal call made
+  pub wire : ROOM_FOR_CALL ≤ v.wire_room
+  pub column : column_in v.terminal.disc < 2 ^ 62
+
+-- a call met its outcome, without the rule for ixoff after it; and how much room on the wire, and how many columns, it took
+pub record Acts (old new : InRoom) (c : ℕ) (call : PlainCall) (result : Met) : Type 0 where
+  pub met : Meets (outcome old.terminal (caller_at old.terminal c) call) result
+  pub left : new.terminal ≡ left_before_rule (outcome old.terminal (caller_at old.terminal c) call) old.terminal
+  pub wire : old.wire_room ≤ new.wire_room + 4096
+  pub column : column_in new.terminal.disc ≤ column_in old.terminal.disc + 4096
 
 -- whether a call needs anything beside the terminal
 abbrev pub needs_room : PlainCall → Bool

@@ -1,5 +1,5 @@
 -- Which calls can wait, and which drop what waits in the flip buffer, call by call.
-use Rattle.std.specs.Prelude.{ℕ, ◌==◌, nat_lt, Bool, true, false, not, ◌&&◌, List, length, Option}
+use Rattle.std.specs.Prelude.{◌≡◌, ℕ, ◌==◌, nat_lt, Bool, true, false, not, ◌&&◌, List, length, Option, Some}
 use Rattle.n_tty.specs.Writing.{piece_size}
 use Rattle.ldisc_switch.specs.declared.discipline.Disc.{Disc}
 use Rattle.ldisc_switch.specs.declared.discipline.Disc.TheVariants as disc
@@ -7,7 +7,9 @@ use Rattle.tty_calls.specs.declared.calls.When.{When}
 use Rattle.tty_calls.specs.declared.calls.When.TheVariants as when
 use Rattle.tty_calls.specs.declared.calls.Queue.{Queue}
 use Rattle.tty_calls.specs.declared.calls.Queue.TheVariants as queue
-use Rattle.tty_calls.specs.Plain.{PlainCall, opens, closes, reads, writes, gets_modes, sets_modes, gets_disc, sets_disc, flushes, steers, counts_input, counts_output, excludes, admits, drains, gets_counts, hangs_up, sends_packet, takes_packet}
+use Rattle.tty_calls.specs.declared.journals.Who.{Who}
+use Rattle.tty_calls.specs.declared.journals.Who.TheVariants.{Caller}
+use Rattle.tty_calls.specs.Plain.{PlainAnswer, done, PlainCall, opens, closes, reads, writes, gets_modes, sets_modes, gets_disc, sets_disc, flushes, steers, counts_input, counts_output, excludes, admits, drains, gets_counts, hangs_up, sends_packet, takes_packet}
 use Rattle.handle_table.specs.declared.HandleState.{HandleState}
 use Rattle.handle_table.specs.Handles.{is_live}
 use Rattle.tty_terminal.specs.declared.callers.CallerState.{CallerState}
@@ -81,3 +83,19 @@ call_drops t s (gets_counts h) = false
 call_drops t s (hangs_up h) = is_live (handle_for t s h)
 call_drops t s (sends_packet h bytes) = false
 call_drops t s (takes_packet h) = false
+
+-- the four calls that may drop: `flush in`, `flush both`, `modes flush` and `vhangup`
+abbrev pub is_purge : PlainCall → Bool
+is_purge (sets_modes h w words) = drops_input w
+is_purge (flushes h q) = is_of_input q
+is_purge (hangs_up h) = true
+is_purge call = false
+
+-- an answer that dropped characters is Done, and its call is one of these
+pub record IsPurged (calls : ℕ → ℕ → Option PlainCall) (who : Who) (step : ℕ) (a : PlainAnswer) : Type 0 where
+  pub caller : ℕ
+  pub call : PlainCall
+  pub by : who ≡ Caller caller
+  pub asked : calls caller step ≡ Some call
+  pub purge : is_purge call ≡ true
+  pub answer : a ≡ done

@@ -89,15 +89,7 @@ abbrev pub chars_of : List PlainEntry → List Flagged
 chars_of [] = []
 chars_of (e ∷ es) = chars_in e.event ++ chars_of es
 
--- In a run of a session each entry of a caller is by a caller of its phase, and each entry of a call
--- of a call of that phase.
-abbrev pub InPhase : (ℕ → ℕ → Type 0) → (ℕ → ℕ → ℕ → Type 0) → ℕ → Who → ℕ → Bool → Type 0
-InPhase IsCaller IsCall phase (Caller c) step call = IsCaller phase c × (IsTrue call → IsCall phase c step)
-InPhase IsCaller IsCall phase Flusher step call = Unit {0}
-InPhase IsCaller IsCall phase Line step call = Unit {0}
-InPhase IsCaller IsCall phase Clock step call = Unit {0}
-InPhase IsCaller IsCall phase Session step call = Unit {0}
-
+-- the phase after an event
 abbrev pub phase_after : PlainEvent → ℕ → ℕ
 phase_after (answered a dropped) phase = phase
 phase_after (parted taken) phase = phase
@@ -109,11 +101,6 @@ phase_after clock_ended phase = phase
 phase_after caller_ended phase = phase
 phase_after phase_ended phase = phase + 1
 phase_after (hung_up dropped) phase = phase
-
-abbrev pub InPhases : (ℕ → ℕ → Type 0) → (ℕ → ℕ → ℕ → Type 0) → ℕ → List PlainEntry → Type 0
-InPhases IsCaller IsCall phase [] = Unit {0}
-InPhases IsCaller IsCall phase (e ∷ es) =
-    InPhase IsCaller IsCall phase e.who e.step (is_of_call e.event) × InPhases IsCaller IsCall (phase_after e.event phase) es
 
 -- each call that the one knows the other knows too
 abbrev pub Grows : (ℕ → ℕ → Option PlainCall) → (ℕ → ℕ → Option PlainCall) → Type 0

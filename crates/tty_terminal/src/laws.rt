@@ -1,12 +1,25 @@
 //! What follows from the definitions alone.
 
-ghost use Rattle.std.specs.Prelude.{◌≡◌, ◌+◌, ◌<◌, ◌≤◌, ℕ, List, [], ◌∷◌, ◌++◌, true, Option, is_some, IsTrue, length, sum};
+ghost use Rattle.std.specs.Prelude.{◌≡◌, ◌+◌, ◌<◌, ◌≤◌, ℕ, List, [], ◌∷◌, ◌++◌, true, Option, Some, is_some, IsTrue, length, sum};
 ghost use Rattle.tty_base.specs.declared.characters.Flagged.{Flagged};
-ghost use Rattle.tty_calls.specs.Plain.{PlainCall, PlainEntry, hung_up};
+ghost use Rattle.tty_calls.specs.declared.journals.Who.{Who};
+ghost use Rattle.tty_calls.specs.Plain.{PlainCall, hangs_up, PlainAnswer, done, PlainEntry, answered, hung_up};
 ghost use Rattle.tty_calls.specs.Limits.{byte_count};
-ghost use Rattle.ldisc_switch.specs.Disciplines.{unread_of};
+ghost use Rattle.opost_out.specs.Column.{column_of};
+ghost use Rattle.n_tty.specs.States.{NTtyState};
+ghost use Rattle.n_slip.specs.Discipline.{Slip};
+ghost use Rattle.n_slip.specs.History.{HasSeen};
+ghost use Rattle.ldisc_switch.specs.declared.kinds.Kind.{Kind};
+ghost use Rattle.ldisc_switch.specs.declared.discipline.Disc.{Disc};
+ghost use Rattle.ldisc_switch.specs.Disciplines.{kind_of, fresh_of};
+ghost use Rattle.ldisc_switch.specs.Happenings.{HasHappened, slip_parts};
+ghost use Rattle.ldisc_switch.specs.Posted.{text_of_all};
 ghost use Rattle.tty_terminal.specs.declared.callers.CallerState.{CallerState};
-ghost use Rattle.tty_terminal.specs.Terminals.{Terminal, opening, caller_at, has_begun, live_count};
+ghost use Rattle.tty_terminal.specs.Terminals.{Terminal, opening, caller_at, has_begun};
+ghost use Rattle.tty_terminal.specs.Generations.{HasNothing};
+ghost use Rattle.tty_terminal.specs.Outcomes.{gives};
+ghost use Rattle.tty_terminal.specs.Meeting.{drops_of};
+ghost use Rattle.tty_terminal.specs.Questions.{call_drops, is_purge, IsPurged};
 ghost use Rattle.tty_terminal.specs.Calls.{outcome};
 ghost use Rattle.tty_terminal.specs.Steps.{Allowed, after, TakesPart};
 ghost use Rattle.tty_terminal.specs.Runs.{IsRun, Grows, AgreesOn, OneGeneration, GoesOnInGeneration, is_flush, RunHas, chars_of};
@@ -14,7 +27,8 @@ ghost use Rattle.tty_terminal.specs.Standing.{standing_of, standing_in, at_first
 ghost use Rattle.tty_terminal.specs.Marks.{marks_of, marks_after, marks_in, no_marks};
 ghost use Rattle.tty_terminal.specs.Makers.{IsByItsMaker};
 ghost use Rattle.tty_terminal.specs.Begins.{begins_generation, generation_after};
-ghost use Rattle.tty_terminal.specs.Heard.{HasHeard, heard_in};
+ghost use Rattle.tty_terminal.specs.Happened.{happened_in};
+ghost use Rattle.tty_terminal.specs.Heard.{characters_of, HasHeard, heard_in};
 
 /// What holds of the numbers of a terminal to which a run leads: as many characters were taken as the
 /// journal has, no more than was sent once the line is over; no more was sent than was taken and fits
@@ -104,18 +118,52 @@ pub fn generations_are_counted()
         Allowed f counts t e → (after f t e).generation ≡ generation_after (begins_generation f t e.who e.step e.event) t.generation }
 {}
 
-/// After the last hangup nothing is unread, held or live.
+/// A hangup leaves nothing: the session's after its last phase, and a `vhangup` that was answered Done.
 pub fn hangup_leaves_nothing()
-    ensures unread { (f : ℕ → ℕ → Option PlainCall) (t : Terminal) (e : PlainEntry) (dropped : List Flagged) →
-        e.event ≡ hung_up dropped → unread_of (after f t e).disc ≡ 0 }
-    ensures held { (f : ℕ → ℕ → Option PlainCall) (t : Terminal) (e : PlainEntry) (dropped : List Flagged) →
-        e.event ≡ hung_up dropped → (after f t e).output.held ≡ [] }
-    ensures live { (f : ℕ → ℕ → Option PlainCall) (t : Terminal) (e : PlainEntry) (dropped : List Flagged) →
-        e.event ≡ hung_up dropped → live_count (after f t e) ≡ 0 }
+    ensures session { (f : ℕ → ℕ → Option PlainCall) (t : Terminal) (e : PlainEntry) (dropped : List Flagged) →
+        e.event ≡ hung_up dropped → HasNothing (after f t e) }
+    ensures answered { (f : ℕ → ℕ → Option PlainCall) (counts : List ℕ) (t : Terminal) (e : PlainEntry) (c h : ℕ) (dropped : List Flagged) →
+        Allowed f counts t e → e.who ≡ Who.Caller c → f c e.step ≡ Some (hangs_up h) → e.event ≡ answered done dropped → HasNothing (after f t e) }
+{}
+
+/// An outcome that drops what waits in the flip buffer is answered Done, and is that of `flush in` or `flush both`,
+/// `modes flush`, or `vhangup`; and so each answer that drops characters is one of these.
+pub fn who_drops_is_answered_done()
+    ensures answer { (t : Terminal) (s : CallerState) (call : PlainCall) →
+        drops_of (outcome t s call) ≡ true → (left : Terminal) × (outcome t s call ≡ gives done true left) }
+    ensures calls { (t : Terminal) (s : CallerState) (call : PlainCall) → drops_of (outcome t s call) ≡ true → is_purge call ≡ true }
+    ensures exactly { (t : Terminal) (s : CallerState) (call : PlainCall) → drops_of (outcome t s call) ≡ call_drops t s call }
+    ensures entry { (f : ℕ → ℕ → Option PlainCall) (counts : List ℕ) (t : Terminal) (e : PlainEntry) (a : PlainAnswer) (dropped : List Flagged) →
+        Allowed f counts t e → e.event ≡ answered a dropped → 0 < length dropped → IsPurged f e.who e.step a }
+{}
+
+/// A discipline is the fold of what has happened to it in its run since it was installed: characters, each with the
+/// modes, the tick, the output and the counts that it found; reads, pieces of writes, flushes, other modes, and
+/// packets that were taken.
+pub fn disciplines_are_what_happened()
+    ensures { (f : ℕ → ℕ → Option PlainCall) (counts : List ℕ) (capacity : ℕ) (es : List PlainEntry) (u : Terminal) →
+        IsRun f counts capacity es u → HasHappened u.disc (kind_of u.disc) (happened_in f (opening (sum counts) capacity) es []) }
+{}
+
+/// The column of N_TTY is that of all text that its run has posted since it was installed.
+pub fn columns_are_of_what_was_posted()
+    ensures { (f : ℕ → ℕ → Option PlainCall) (counts : List ℕ) (capacity : ℕ) (es : List PlainEntry) (u : Terminal) (tty : NTtyState) →
+        IsRun f counts capacity es u → u.disc ≡ Disc.Tty tty
+        → tty.column ≡ column_of (text_of_all (fresh_of Kind.Tty) (happened_in f (opening (sum counts) capacity) es [])) }
+{}
+
+/// The packets of N_SLIP are those of all characters that its run has flushed to it since it was installed, less those
+/// that were taken and dropped.
+pub fn packets_are_of_what_was_flushed()
+    ensures { (f : ℕ → ℕ → Option PlainCall) (counts : List ℕ) (capacity : ℕ) (es : List PlainEntry) (u : Terminal) (slip : Slip) →
+        IsRun f counts capacity es u → u.disc ≡ Disc.Slip slip
+        → HasSeen slip (slip_parts (happened_in f (opening (sum counts) capacity) es [])) }
 {}
 
 /// A discipline has heard the characters of the flushes since it was installed, and no others.
 pub fn disciplines_hear_the_flushes()
-    ensures { (f : ℕ → ℕ → Option PlainCall) (counts : List ℕ) (capacity : ℕ) (es : List PlainEntry) (u : Terminal) →
+    ensures characters { (f : ℕ → ℕ → Option PlainCall) (t : Terminal) (es : List PlainEntry) →
+        characters_of (happened_in f t es []) ≡ heard_in f t es [] }
+    ensures heard { (f : ℕ → ℕ → Option PlainCall) (counts : List ℕ) (capacity : ℕ) (es : List PlainEntry) (u : Terminal) →
         IsRun f counts capacity es u → HasHeard u.disc (heard_in f (opening (sum counts) capacity) es []) }
 {}

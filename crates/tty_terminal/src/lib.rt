@@ -11,9 +11,11 @@ mod terminals;
 pub use callers::{Bound, CallerState, Piece};
 pub use laws::{
     a_part_takes_some_and_leaves_some, agreeing_calls_have_the_same_runs,
-    disciplines_hear_the_flushes, entries_are_by_their_makers, entries_tell_the_marks,
-    generations_are_counted, hangup_leaves_nothing, more_calls_keep_a_run, numbers_of_a_run,
-    one_generation_goes_on, own_entries_tell, who_waits_has_begun,
+    columns_are_of_what_was_posted, disciplines_are_what_happened, disciplines_hear_the_flushes,
+    entries_are_by_their_makers, entries_tell_the_marks, generations_are_counted,
+    hangup_leaves_nothing, more_calls_keep_a_run, numbers_of_a_run, one_generation_goes_on,
+    own_entries_tell, packets_are_of_what_was_flushed, who_drops_is_answered_done,
+    who_waits_has_begun,
 };
 pub use rooms::{Met, ROOM_FOR_CALL, Room};
 pub use rows::{

@@ -56,7 +56,7 @@ impl Model for Terminal {
 
 impl Terminal {
     ghost use Rattle.tty_terminal.specs.Terminals.{opening, handle_at, handle_for, caller_at, live_count as live};
-    ghost use Rattle.tty_terminal.specs.Receiving.{accepts, after_character, after_characters, AcceptsAll, after_ixoff};
+    ghost use Rattle.tty_terminal.specs.Receiving.{accepts, after_characters, AcceptsAll, after_ixoff};
     ghost use Rattle.tty_terminal.specs.Generations.{after_hangup};
     ghost use Rattle.tty_terminal.specs.Calls.{outcome};
     ghost use Rattle.tty_terminal.specs.Steps.{left_by, nothing_to_flush, quiet_with, may_end_with, after_answer, after_wait, after_part, after_caller_end, bound_at, next_phase, with_dropped};
@@ -111,25 +111,6 @@ impl Terminal {
         self.disc.accepts(&self.modes)
     }
 
-    /// The discipline receives a character that it accepts.
-    #[inline(always)]
-    pub fn receive(&mut self, c: Flagged)
-        requires accepted { IsTrue (accepts self.old.terminal) }
-        requires few { self.old.terminal.taken < 2 ^ 63 }
-        requires wire { room_for_characters self.old.terminal 1 ≤ self.old.wire_room }
-        requires signal { 0 < self.old.signal_room }
-        requires column { column_in self.old.terminal.disc < 2 ^ 62 }
-        ensures after { self.new.terminal ≡ after_character self.old.terminal c }
-        // Room that serves for this character and n more serves for these n.
-        ensures wire { (n : ℕ) → room_for_characters self.old.terminal (n + 1) ≤ self.old.wire_room → room_for_characters self.new.terminal n ≤ self.new.wire_room }
-        ensures signals { self.old.signal_room ≤ self.new.signal_room + 1 }
-        ensures column { column_in self.new.terminal.disc ≤ column_in self.old.terminal.disc + 2 ^ 22 }
-    {
-        self.taken += 1;
-        self.disc
-            .receive(c, self.tick, &self.modes, &mut self.wire, &mut self.tally);
-    }
-
     /// The discipline receives characters from the front, as long as it accepts. Answers how many.
     pub fn receive_all(&mut self, chars: &[Flagged]) -> usize
         requires taken { self.old.terminal.taken + length chars.now < 2 ^ 63 }
@@ -142,63 +123,13 @@ impl Terminal {
         ensures stops { result < length chars.now → accepts self.new.terminal ≡ false }
         ensures column { column_in self.new.terminal.disc ≤ column_in self.old.terminal.disc + 2 ^ 22 * length chars.now }
     {
-        let mut done = 0;
-        while done < chars.len() {
-            let count = self.receive_some(rest_of(chars, done));
-            if count == 0 {
-                return done;
-            }
-            done += count;
-        }
-        done
-    }
-
-    /// The discipline receives a run of characters from the front, or the first alone, or none that it does not accept.
-    /// Answers how many.
-    #[inline(always)]
-    fn receive_some(&mut self, chars: &[Flagged]) -> usize
-        requires some { 0 < length chars.now }
-        requires taken { self.old.terminal.taken + length chars.now < 2 ^ 63 }
-        requires wire { room_for_characters self.old.terminal (length chars.now) ≤ self.old.wire_room }
-        requires signals { length chars.now ≤ self.old.signal_room }
-        requires column { column_in self.old.terminal.disc < 2 ^ 62 }
-        ensures within { result ≤ length chars.now }
-        ensures received { self.new.terminal ≡ after_characters self.old.terminal (take result chars.now) }
-        ensures accepted { AcceptsAll self.old.terminal (take result chars.now) }
-        ensures stops { result ≡ 0 → accepts self.new.terminal ≡ false }
-        ensures taken { self.new.terminal.taken ≡ self.old.terminal.taken + result }
-        ensures wire { (n : ℕ) → room_for_characters self.old.terminal (n + result) ≤ self.old.wire_room → room_for_characters self.new.terminal n ≤ self.new.wire_room }
-        ensures signals { self.old.signal_room ≤ self.new.signal_room + result }
-        ensures column { column_in self.new.terminal.disc ≤ column_in self.old.terminal.disc + 2 ^ 22 * result }
-    {
-        let count = self.receive_run(chars);
-        if count > 0 {
-            return count;
-        }
-        if !self.accepts() {
-            return 0;
-        }
-        self.receive(chars[0]);
-        1
-    }
-
-    /// The discipline receives the characters at the front that it takes at once. Answers how many.
-    #[inline(always)]
-    fn receive_run(&mut self, chars: &[Flagged]) -> usize
-        requires taken { self.old.terminal.taken + length chars.now < 2 ^ 63 }
-        requires wire { room_for_characters self.old.terminal (length chars.now) ≤ self.old.wire_room }
-        requires column { column_in self.old.terminal.disc < 2 ^ 62 }
-        ensures within { result ≤ length chars.now }
-        ensures received { self.new.terminal ≡ after_characters self.old.terminal (take result chars.now) }
-        ensures accepted { AcceptsAll self.old.terminal (take result chars.now) }
-        ensures taken { self.new.terminal.taken ≡ self.old.terminal.taken + result }
-        ensures wire { (n : ℕ) → room_for_characters self.old.terminal (n + result) ≤ self.old.wire_room → room_for_characters self.new.terminal n ≤ self.new.wire_room }
-        ensures signals { self.new.signal_room ≡ self.old.signal_room }
-        ensures column { column_in self.new.terminal.disc ≤ column_in self.old.terminal.disc + result }
-    {
-        let count = self
-            .disc
-            .receive_run(chars, self.tick, &self.modes, &mut self.wire);
+        let count = self.disc.receive_all(
+            chars,
+            self.tick,
+            &self.modes,
+            &mut self.wire,
+            &mut self.tally,
+        );
         self.taken += count as u64;
         count
     }
@@ -549,12 +480,4 @@ impl Terminal {
             wire: wire.into_wire(),
         }
     }
-}
-
-/// The characters after so many.
-fn rest_of(chars: &[Flagged], count: usize) -> &[Flagged]
-    requires { count ≤ length chars.now }
-    ensures { result.now ≡ drop count chars.now }
-{
-    &chars[count..]
 }

@@ -19,7 +19,7 @@ use Rattle.uart_line.proofs.Serving.{Serves-all}
 use Rattle.uart_line.proofs.Steps.{cut_after, received_list-step, waiting_list-step, HasDone-uncut, HasDone-cut, HandsOver-cut}
 
 -- one more byte
-pub map-more : {A : Type 0} (f : ℕ → A) (bytes : List ℕ) (k d : ℕ) (x : A) → k < length bytes → x ≡ f (get_or bytes k d)
+map-more : {A : Type 0} (f : ℕ → A) (bytes : List ℕ) (k d : ℕ) (x : A) → k < length bytes → x ≡ f (get_or bytes k d)
     → map f (take (k + 1) bytes) ≡ map f (take k bytes) ++ x ∷ []
 map-more {A} f bytes k d x lt is =
     ap (map f) (take_more bytes k d lt)

@@ -143,20 +143,6 @@ HandsOver-trans capacity a0 a1 a2 s0 s1 s2 h0 h1 h2 o0 o1 o2 a b =
       offers = Offers-append capacity (length a0) (length a1) a.list b.list s0 s1 s2 h0 h1 h2 o0 o1 o2 e a.offers b.offers;
     }
 
--- heads that were loaded before
-pub Offers-later : (capacity place : ℕ) (list sent sent' : List Flagged) (heads heads' heads'' more : List ℕ) (overruns overruns' : List Overrun)
-    → heads ++ more ≡ heads' → Offers capacity place list sent sent' heads' heads'' overruns overruns' → Offers capacity place list sent sent' heads heads'' overruns overruns'
-Offers-later capacity place list sent sent' heads heads' heads'' more overruns overruns' h a = record {
-  answers = a.answers;
-  loaded = more ++ a.loaded;
-  one_each = a.one_each;
-  accepts_rest = a.accepts_rest;
-  adds_refused = a.adds_refused;
-  is_full = a.is_full;
-  loads = a.loads ∙ (ap (λ l. l ++ a.loaded) (sym h) ∙ append_assoc heads more a.loaded);
-  among_loaded = AreAmong-more a.answers more a.loaded a.among_loaded;
-}
-
 -- ---- all are accepted
 
 unfoldable all_accept : List Flagged → List PutAnswer
@@ -254,7 +240,7 @@ HandsOver-shown capacity all sent heads overruns a =
 -- ---- a buffer that is never full
 
 none_refused : (capacity place sent : ℕ) (cs : List Flagged) (ps : List PutAnswer) → length ps ≡ length cs
-    → IsFullAt capacity sent ps → sent + length (accepted_list cs ps) < capacity
+    → IsFullAt capacity sent ps → sent + length cs ≤ capacity
     → (accepted_list cs ps ≡ cs) × (overrun_list place sent ps ≡ [])
 unfolding accepted_list overrun_list IsFullAt
 none_refused capacity place sent [] [] e h room = (refl, refl)
@@ -266,15 +252,15 @@ none_refused capacity place sent (c ∷ cs) (accepts ∷ ps) e h room =
     (ap (λ r. c ∷ r) rest.0, rest.1)
 none_refused capacity place sent (c ∷ cs) (refuses seen ∷ ps) e h room = absurd (omega (arith, h.0))
 
--- all that is handed over to a list stands in it, and none is an overrun
+-- where there is room for all that is handed over, all of it stands there, and none is an overrun
 pub HandsOver-adds : (capacity : ℕ) (all all' items items' : List Flagged) (heads heads' : List ℕ) (overruns overruns' : List Overrun)
-    → HandsOver capacity all all' items items' heads heads' overruns overruns' → length items' < capacity
+    → HandsOver capacity all all' items items' heads heads' overruns overruns' → length items + length all' ≤ capacity + length all
     → Adds all all' items items' × (overruns' ≡ overruns)
 HandsOver-adds capacity all all' items items' heads heads' overruns overruns' a room =
     let o = a.offers in
     let none : (accepted_list a.list o.answers ≡ a.list) × (overrun_list (length all) (length items) o.answers ≡ []) =
     none_refused capacity (length all) (length items) a.list o.answers o.one_each o.is_full
-    (omega (arith, ap length o.accepts_rest, length-append items (accepted_list a.list o.answers))) in (
+    (omega (arith, room, ap length a.grows, length-append all a.list)) in (
       record { list = a.list; grows = a.grows; adds = o.accepts_rest ∙ ap (λ r. items ++ r) none.0 },
       o.adds_refused ∙ ap (λ r. overruns ++ r) none.1 ∙ append-nil overruns,
     )

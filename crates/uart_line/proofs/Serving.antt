@@ -7,7 +7,7 @@ use Rattle.uart_line.specs.LineState.{LineState}
 use Rattle.uart_line.specs.Offered.{Offers}
 use Rattle.uart_line.specs.Handler.{with_mark, reading_of, after_turn, IsReadOff, Serves}
 use Rattle.uart_regs.specs.declared.Reading.{Reading}
-use Rattle.uart_line.proofs.OfferedLemmas.{Offers-none, Offers-append, Offers-later, Offers-all}
+use Rattle.uart_line.proofs.OfferedLemmas.{Offers-none, Offers-append, Offers-all}
 
 with_mark-false : (cs : List Flagged) → with_mark false cs ≡ cs
 with_mark-false [] = refl
@@ -113,20 +113,6 @@ Serves-push capacity l0 l1 l2 list s0 s1 s2 h0 h1 h2 more a s h same =
       masked = ap (λ l. l.masked) same ∙ a.masked;
       most = ap (λ l. l.most) same ∙ a.most;
       arrived = ap (λ l. l.report.arrived) same ∙ a.arrived;
-    }
-
--- heads that were loaded before a run
-pub Serves-later : (capacity capacity' : ℕ) (l0 l1 : LineState) (list : List Flagged) (s s0 s1 : List Flagged) (h h0 h1 more : List ℕ)
-    → h ++ more ≡ h0 → s0 ≡ s → capacity' ≡ capacity → Serves capacity' l0 l1 list s0 s1 h0 h1 → Serves capacity l0 l1 list s s1 h h1
-Serves-later capacity capacity' l0 l1 list s s0 s1 h h0 h1 more e same_sent same a =
-    let offers : Offers capacity l0.handed list s s1 h0 h1 l0.report.overruns.items l1.report.overruns.items = rw (same, same_sent) at a.offers in
-    record {
-      offers = Offers-later capacity l0.handed list s s1 h h0 h1 more l0.report.overruns.items l1.report.overruns.items e offers;
-      handed = a.handed;
-      read_off = a.read_off;
-      masked = a.masked;
-      most = a.most;
-      arrived = a.arrived;
     }
 
 -- all of a list is accepted

@@ -9,11 +9,16 @@ ghost use Rattle.std.specs.List.Sorted.{IsNonDecreasing};
 ghost use Rattle.tty_base.specs.declared.characters.Flagged.{Flagged};
 ghost use Rattle.tty_base.specs.declared.lines.LineStep.{LineStep};
 ghost use Rattle.tty_base.specs.declared.lines.Overrun.{Overrun};
+ghost use Rattle.tty_base.specs.Lines.{is_step};
 ghost use mathlib.Core.List.{IsPrefix};
 ghost use Rattle.uart_regs.specs.Registers.{Registers, IsReceiver, after_fifo_control, bit};
 
+mod laws;
+mod rows;
 mod whole_windows;
 
+pub use laws::{overruns_are_shown, runs_follow_each_other};
+pub use rows::worked_scripts_are_received;
 use std::alloc::Global;
 use std::marker::Model;
 use tty_base::{
@@ -64,7 +69,6 @@ impl Line {
     ghost use Rattle.uart_line.specs.LineState.{HasDone};
     ghost use Rattle.uart_line.specs.Offered.{Offers, HandsOver, Adds};
     ghost use Rattle.uart_line.specs.Handler.{IsLine, after_line_step, runs_handler, reading_of, after_turn, with_mark, Serves};
-    ghost use Rattle.tty_base.specs.Lines.{is_step};
 
     /// A line on which nothing has happened, with room for `most` arrivals and so for `most` overruns.
     pub fn new(alloc: Global, most: u32) -> Result<Line, NoMemory>
@@ -95,7 +99,7 @@ impl Line {
     pub fn step<P: Put>(&mut self, step: LineStep, put: &mut P)
         requires good { IsTrue (is_step step) }
         requires room { self.old.report.arrived + length (arrival step) ≤ self.old.most }
-        requires put { self.old.most ≤ P.room put.old + self.old.handed }
+        requires put { self.old.most ≤ P.numbers_left put.old + self.old.handed }
 
         // The report has the numbers of the steps so far, and what waits is their uncut window.
         ensures done { (before : List LineStep) → HasDone self.old before → HasDone self.new (before ++ step ∷ []) }
@@ -111,7 +115,7 @@ impl Line {
         ensures shown { MatchBool (runs_handler (after_line_step self.old step)) (P.visible put.new) (put.new ≡ put.old) }
         ensures capacity { P.capacity put.new ≡ P.capacity put.old }
         ensures name { P.name put.new ≡ P.name put.old }
-        ensures put { self.new.most ≤ P.room put.new + self.new.handed }
+        ensures put { self.new.most ≤ P.numbers_left put.new + self.new.handed }
         ensures rise { IsNonDecreasing (P.heads put.old) → IsNonDecreasing (P.heads put.new) }
 
         // A run of the handler leaves no interrupt pending.
@@ -125,7 +129,7 @@ impl Line {
     pub fn run<P: Put>(&mut self, steps: &[LineStep], put: &mut P)
         requires good { All (λ step. IsTrue (is_step step)) steps.now }
         requires room { self.old.report.arrived + arrival_count steps.now ≤ self.old.most }
-        requires put { self.old.most ≤ P.room put.old + self.old.handed }
+        requires put { self.old.most ≤ P.numbers_left put.old + self.old.handed }
 
         ensures done { (before : List LineStep) → HasDone self.old before → HasDone self.new (before ++ closed_script steps.now) }
         ensures room { self.new.most ≡ self.old.most }
@@ -140,7 +144,7 @@ impl Line {
         ensures shown { (put.new ≡ put.old) ⊎ P.visible put.new }
         ensures capacity { P.capacity put.new ≡ P.capacity put.old }
         ensures name { P.name put.new ≡ P.name put.old }
-        ensures put { self.new.most ≤ P.room put.new + self.new.handed }
+        ensures put { self.new.most ≤ P.numbers_left put.new + self.new.handed }
         ensures rise { IsNonDecreasing (P.heads put.old) → IsNonDecreasing (P.heads put.new) }
     {
         let _ = &self.most;
@@ -194,11 +198,11 @@ impl Line {
         report
     }
 
-    // A step, where `put` has room in its numbers for all that can still be handed over.
+    /// A step, where `put` has room in its numbers for all that can still be handed over.
     fn advance<P: Put>(&mut self, step: LineStep, put: &mut P)
         requires good { IsTrue (is_step step) }
         requires room { self.old.report.arrived + length (arrival step) ≤ self.old.most }
-        requires put { self.old.most ≤ P.room put.old + self.old.handed }
+        requires put { self.old.most ≤ P.numbers_left put.old + self.old.handed }
         ensures done { (before : List LineStep) → HasDone self.old before → HasDone self.new (before ++ step ∷ []) }
         ensures hands_over { (before : List LineStep) → HasDone self.old before
             → HandsOver (P.capacity put.old) (received_list before) (received_list (before ++ step ∷ []))
@@ -207,7 +211,7 @@ impl Line {
         ensures shown { MatchBool (runs_handler (after_line_step self.old step)) (P.visible put.new) (put.new ≡ put.old) }
         ensures capacity { P.capacity put.new ≡ P.capacity put.old }
         ensures name { P.name put.new ≡ P.name put.old }
-        ensures put { self.new.most ≤ P.room put.new + self.new.handed }
+        ensures put { self.new.most ≤ P.numbers_left put.new + self.new.handed }
         ensures rise { IsNonDecreasing (P.heads put.old) → IsNonDecreasing (P.heads put.new) }
         ensures served { runs_handler self.new ≡ false }
         ensures room { self.new.most ≡ self.old.most }
@@ -219,7 +223,7 @@ impl Line {
         }
     }
 
-    // Whether an interrupt is pending and not held back.
+    /// Whether an interrupt is pending and not held back.
     fn runs_handler(&self) -> bool
         ensures runs { result ≡ runs_handler self.now }
         ensures receiver { IsReceiver self.now.registers }
@@ -227,10 +231,10 @@ impl Line {
         self.uart.pending() && !self.masked
     }
 
-    // The interrupt handler.
+    /// The interrupt handler.
     #[inline(never)]
     fn handle<P: Put>(&mut self, put: &mut P)
-        requires { self.old.most ≤ P.room put.old + self.old.handed }
+        requires { self.old.most ≤ P.numbers_left put.old + self.old.handed }
         ensures serves { Serves (P.capacity put.old) self.old self.new (with_mark self.old.registers.overrun self.old.registers.fifo)
             (P.sent put.old) (P.sent put.new) (P.heads put.old) (P.heads put.new) }
         ensures fifo { self.new.registers.fifo ≡ [] }
@@ -241,7 +245,7 @@ impl Line {
         ensures visible { P.visible put.new }
         ensures capacity { P.capacity put.new ≡ P.capacity put.old }
         ensures name { P.name put.new ≡ P.name put.old }
-        ensures put { self.new.most ≤ P.room put.new + self.new.handed }
+        ensures put { self.new.most ≤ P.numbers_left put.new + self.new.handed }
         ensures rise { IsNonDecreasing (P.heads put.old) → IsNonDecreasing (P.heads put.new) }
     {
         self.empty(put);
@@ -250,9 +254,9 @@ impl Line {
         show(put);
     }
 
-    // Takes all characters off the receiver and offers them.
+    /// Takes all characters off the receiver and offers them.
     fn empty<P: Put>(&mut self, put: &mut P)
-        requires { self.old.most ≤ P.room put.old + self.old.handed }
+        requires { self.old.most ≤ P.numbers_left put.old + self.old.handed }
         ensures serves { Serves (P.capacity put.old) self.old self.new (with_mark self.old.registers.overrun self.old.registers.fifo)
             (P.sent put.old) (P.sent put.new) (P.heads put.old) (P.heads put.new) }
         ensures fifo { self.new.registers.fifo ≡ [] }
@@ -261,7 +265,7 @@ impl Line {
         ensures lost { self.new.report.fifo_lost ≡ self.old.report.fifo_lost }
         ensures capacity { P.capacity put.new ≡ P.capacity put.old }
         ensures name { P.name put.new ≡ P.name put.old }
-        ensures put { self.new.most ≤ P.room put.new + self.new.handed }
+        ensures put { self.new.most ≤ P.numbers_left put.new + self.new.handed }
         ensures rise { IsNonDecreasing (P.heads put.old) → IsNonDecreasing (P.heads put.new) }
     {
         while let Some(reading) = self.next_reading() {
@@ -272,11 +276,11 @@ impl Line {
         }
     }
 
-    // Hands over one character.
+    /// Hands over one character.
     #[inline(always)]
     fn offer<P: Put>(&mut self, c: Flagged, put: &mut P)
         requires room { self.old.handed + length self.old.registers.fifo + bit self.old.registers.overrun < self.old.report.arrived }
-        requires put { 0 < P.room put.old }
+        requires put { 0 < P.numbers_left put.old }
         ensures same { self.new ≡ record self.old {
           handed = self.old.handed + 1;
           report = record self.old.report { sent = self.new.report.sent; overruns = self.new.report.overruns };
@@ -286,7 +290,7 @@ impl Line {
             self.old.report.overruns.items self.new.report.overruns.items }
         ensures capacity { P.capacity put.new ≡ P.capacity put.old }
         ensures name { P.name put.new ≡ P.name put.old }
-        ensures put { P.room put.old ≤ P.room put.new + 1 }
+        ensures put { P.numbers_left put.old ≤ P.numbers_left put.new + 1 }
         ensures rise { IsNonDecreasing (P.heads put.old) → IsNonDecreasing (P.heads put.new) }
     {
         match put.put(c) {
@@ -296,22 +300,8 @@ impl Line {
         self.handed += 1;
     }
 
-    // The step alone, before the handler. Mostly a character arrives.
+    /// The step alone, before the handler.
     fn receive(&mut self, step: LineStep)
-        requires good { IsTrue (is_step step) }
-        requires room { self.old.report.arrived + length (arrival step) ≤ self.old.most }
-        ensures { self.new ≡ after_line_step self.old step }
-    {
-        if let LineStep::Rx(c) = step {
-            self.arrive(c);
-        } else {
-            self.receive_any(step);
-        }
-    }
-
-    // The same for every step.
-    #[inline(never)]
-    fn receive_any(&mut self, step: LineStep)
         requires good { IsTrue (is_step step) }
         requires room { self.old.report.arrived + length (arrival step) ≤ self.old.most }
         ensures { self.new ≡ after_line_step self.old step }
@@ -336,7 +326,7 @@ impl Line {
         self.report.arrived += 1;
     }
 
-    // One turn of the handler: line status, and where it says so the receiver buffer.
+    /// One turn of the handler: line status, and where it says so the receiver buffer.
     fn next_reading(&mut self) -> Option<Reading>
         ensures reading { result ≡ reading_of self.old.registers.overrun self.old.registers.fifo }
         ensures after { self.new ≡ record self.old { registers = after_turn self.old.registers self.old.registers.fifo } }
@@ -371,41 +361,10 @@ fn show<P: Put>(put: &mut P)
     ensures rise { IsNonDecreasing (P.heads put.new) }
     ensures same { P.capacity put.new ≡ P.capacity put.old }
     ensures name { P.name put.new ≡ P.name put.old }
-    ensures room { P.room put.new ≡ P.room put.old }
+    ensures numbers { P.numbers_left put.new ≡ P.numbers_left put.old }
 {
     put.push();
 }
-
-ghost use Rattle.uart_line.specs.Offered.{HandsOver, kept_list, AreShown};
-
-/// What was accepted is what was handed over without the places of the overruns. These rise, and each
-/// tells how many were accepted before it and that the buffer was full.
-pub fn overruns_are_shown()
-    ensures kept { (capacity : ℕ) (all sent : List Flagged) (heads : List ℕ) (overruns : List Overrun)
-        → HandsOver capacity [] all [] sent [] heads [] overruns → sent ≡ kept_list all overruns }
-    ensures shown { (capacity : ℕ) (all sent : List Flagged) (heads : List ℕ) (overruns : List Overrun)
-        → HandsOver capacity [] all [] sent [] heads [] overruns → AreShown capacity 0 0 overruns }
-{}
-
-/// What is handed over by one run and then by the next is handed over by both.
-pub fn runs_follow_each_other()
-    ensures { (capacity : ℕ) (a0 a1 a2 s0 s1 s2 : List Flagged) (h0 h1 h2 : List ℕ) (o0 o1 o2 : List Overrun)
-        → HandsOver capacity a0 a1 s0 s1 h0 h1 o0 o1 → HandsOver capacity a1 a2 s1 s2 h1 h2 o1 o2
-        → HandsOver capacity a0 a2 s0 s2 h0 h2 o0 o2 }
-{}
-
-ghost use Rattle.uart_line.specs.Received.{received_list, lost_count};
-ghost use Rattle.uart_line.specs.Rows.{masked_burst, burst_output, burst_after_idle, two_windows_output, one_window_output};
-
-/// What is handed over of twenty characters that came while the handler was masked: sixteen, with a
-/// mark after the first. Four character times cut what waits, and three do not.
-pub fn worked_scripts_are_received()
-    ensures burst { (received_list masked_burst ≡ burst_output) × (lost_count masked_burst ≡ 4) }
-    ensures four_times { (received_list (burst_after_idle 4) ≡ two_windows_output) × (lost_count (burst_after_idle 4) ≡ 0) }
-    ensures three_times { (received_list (burst_after_idle 3) ≡ one_window_output) × (lost_count (burst_after_idle 3) ≡ 3) }
-{}
-
-ghost use Rattle.tty_base.specs.Lines.{is_step};
 
 /// The FIFO control that sets this trigger.
 fn trigger_control(level: u8) -> u8
@@ -419,6 +378,3 @@ fn trigger_control(level: u8) -> u8
         _ => 0xc1,
     }
 }
-
-#[cfg(test)]
-mod tests;

@@ -448,6 +448,3 @@ fn is_error(flag: Flag) -> bool
 {
     is_parity_error(flag) || is_framing_error(flag) || is_break(flag)
 }
-
-#[cfg(test)]
-mod tests;

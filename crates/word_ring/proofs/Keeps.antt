@@ -1,20 +1,18 @@
 -- Each step on a ring keeps its rule.
-use Rattle.std.proofs.Common.{◌≡◌, ◌≢◌, ℕ, ◌+◌, ◌-◌, ◌*◌, ◌/◌, ◌%◌, ◌<◌, ◌≤◌, true, false, List, [], ◌∷◌, ◌++◌, length, take, drop, max, get_or, set, replicate, All, Contains, ◌⊎◌, inl, inr, ⊎_elim, refl, sym, ap, ◌∙◌, subst, arith, length-append, length-take, length-set, get_or-set_same, get_or-set_other}
+use Rattle.std.proofs.Common.{◌≡◌, ◌≢◌, ℕ, ◌+◌, ◌/◌, ◌%◌, ◌<◌, ◌≤◌, true, false, List, [], ◌∷◌, ◌++◌, length, take, drop, get_or, set, replicate, All, Contains, inl, inr, ⊎_elim, refl, sym, ap, ◌∙◌, subst, arith, length-append, length-take, length-set, get_or-set_same, get_or-set_other}
 use mathlib.Core.List.{IsPrefix}
-use mathlib.Core.Option.{none, some, some-ne-none}
+use mathlib.Core.Option.{none, some-ne-none}
 use Rattle.std.proofs.lemmas.Bool.{cases_lt, false≢true}
 use Rattle.std.proofs.lemmas.List.{set-get_or, get_or-take, length-replicate, get_or-replicate}
-use Rattle.std.proofs.lemmas.List.Elements.{All-push, Contains-append_left, Contains-append_right}
+use Rattle.std.proofs.lemmas.List.Elements.{All-push, Contains-append_right}
 use Rattle.std.proofs.Math.ListN.{get_or-append}
-use Rattle.std.proofs.Math.Seq.{get_or-append_right}
 use Rattle.atomic_table.specs.Table.{State, Me, step, Act, keeps, opening, Allows, Splits, Joins}
 use Rattle.word_ring.specs.declared.table.View.{View}
 use Rattle.word_ring.specs.Ends.{IsOneWithin, AreReleased, IsReleased}
 use Rattle.word_ring.specs.Lanes.{lane, lanes, whole_words}
-use Rattle.word_ring.specs.Plays.{blank_view, both_ends, with_head, with_written, with_all_pushed, with_tail, with_read, with_taken_to, with_passed, held, TakesSlot, LoadsHead, StoresLanes, StoresTail, LoadsTail, LoadsLanes, StoresHead, Compares, PassesOn, putter_of, taker_of, note_of, head_note_of, with_note, with_head_note, with_putter}
+use Rattle.word_ring.specs.Plays.{blank_view, both_ends, with_head, with_written, with_all_pushed, with_tail, with_read, with_taken_to, with_put_past, with_taken_past, held, TakesSlot, LoadsHead, StoresLanes, StoresTail, LoadsTail, LoadsLanes, StoresHead, Compares, PutsPast, TakesPast, putter_of, taker_of, note_of, head_note_of, with_note, with_head_note, with_putter}
 use Rattle.word_ring.specs.Rule.{Story, KnowsPuts, KnowsTakes, Knows, Slot, Stands, Ring, place}
 use Rattle.word_ring.proofs.Beginnings.{begins_itself, begins_more, begins_through, begins_length, begins_longer, begins_take, begins_at, begins_from, begins_whole}
-use Rattle.word_ring.proofs.Packing.{lanes_length, whole_length}
 use Rattle.word_ring.proofs.Reading.{rest_long, rest_at}
 use Rattle.word_ring.proofs.Released.{released_more, released_push, below_more, released_below}
 use Rattle.word_ring.proofs.Seats.{GoesOn, knows_on, knows_nothing, Each, each_set, each_end, known_before, each_join}
@@ -40,59 +38,51 @@ loaded n s r i id w known = subst (λ (ws : List ℕ). Ring n record { words = w
   story = r.story;
   wide = r.wide;
   head = r.head;
-  told = r.told;
   tail = r.tail;
   taken = r.taken;
   pushed = r.pushed;
   fits = r.fits;
   stands = r.stands;
+  one = r.one;
   released = r.released;
   last = r.last;
   home = r.home;
   each = each_set n r.story r.story s.views id w r.each known (λ seat v apart k. k);
 }
 
--- the higher one of two heads, where both were released
-higher_released : (released : List ℕ) (a b : ℕ) → IsReleased released a → IsReleased released b → IsReleased released (max a b)
-higher_released released a b one other = ⊎_elim
-    (λ lt. let is : max a b ≡ b = omega arith in subst (λ (h : ℕ). IsReleased released h) (sym is) other)
-    (λ le. let is : max a b ≡ a = omega arith in subst (λ (h : ℕ). IsReleased released h) (sym is) one)
-    (cases_lt a b)
-
 pub loads_head : (n slots id : ℕ) (me : M) → me.0.puts ≡ true → Allows (Ring n) slots id me 0 (λ x. x) (LoadsHead (step slots 0 0 0 none) me)
 loads_head n slots id me puts s r _ here _ =
     let g : Story = r.story in
     let k : Knows n g id me.0 = r.each id me.0 here in
     let p : KnowsPuts n g id me.0 = k.puts puts in
-    let h : ℕ = max me.0.head (get_or s.words 0 0) in
+    let h : ℕ = get_or s.words 0 0 in
     let w : View = with_head me.0 h in
-    let among : IsReleased g.released h = higher_released g.released me.0.head (get_or s.words 0 0) k.told r.told in
+    let among : IsReleased g.released h = subst (λ (z : ℕ). IsReleased g.released z) (sym r.head) r.last in
     let stored = r.head in
     let least = k.head in
     let known : Knows n g id w = record {
       noted = k.noted;
       noted_heads = k.noted_heads;
       head = omega arith;
-      told = among;
       tail = k.tail;
-      puts = λ _. record { at = p.at; capacity = p.capacity; written = p.written; pushed = p.pushed; heads = released_push g.released me.0.heads h p.heads among };
-      takes = λ is. (let t = k.takes is in record { at = t.at; capacity = t.capacity; taken = t.taken; released = t.released; begins = t.begins; read = t.read; known = t.known; out = t.out });
+      puts = λ _. record { at = p.at; capacity = p.capacity; written = p.written; pushed = p.pushed; heads = released_push g.released me.0.heads h p.heads among; passing = p.passing };
+      takes = λ is. (let t = k.takes is in record { at = t.at; capacity = t.capacity; taken = t.taken; released = t.released; begins = t.begins; read = t.read; known = t.known; out = t.out; passing = t.passing });
     } in
     let pushed_is : length me.0.pushed ≡ length g.pushed = ap length p.pushed in
     let written_is : length me.0.written ≡ length g.written = ap length p.written in
     let most = begins_length g.taken g.pushed r.taken in
     let all = begins_length g.pushed g.written r.pushed in
-    (w, keeps, tt, loaded n s r 0 id w known, (refl, refl, omega arith, omega arith))
+    (w, keeps, tt, loaded n s r 0 id w known, (refl, refl, omega arith, omega arith, omega arith))
 
-pub stores_lanes : (n slots id : ℕ) (me : M) (at word k : ℕ) → me.0.puts ≡ true → at ≡ place me.0.capacity (length me.0.written / 4) → 1 < at → k ≤ 4
-    → IsPrefix me.0.written (whole_words me.0.written ++ lanes word k) → length (whole_words me.0.written ++ lanes word k) ≤ me.0.head + me.0.capacity
+pub stores_lanes : (n slots id : ℕ) (me : M) (at word k : ℕ) → me.0.puts ≡ true → at ≡ place me.0.puts_within (length me.0.written / 4) → 1 < at → k ≤ 4
+    → IsPrefix me.0.written (whole_words me.0.written ++ lanes word k) → length (whole_words me.0.written ++ lanes word k) ≤ me.0.head + me.0.puts_within
     → Allows (Ring n) slots id me at (λ _. word) (λ _. StoresLanes k (step slots at word 0 none) me word)
 stores_lanes n slots id me at word k puts at_is inner few goes_on fits s r _ here _ =
     let g : Story = r.story in
     let k' : Knows n g id me.0 = r.each id me.0 here in
     let p : KnowsPuts n g id me.0 = k'.puts puts in
     let same : me.0.written ≡ g.written = p.written in
-    let cap : me.0.capacity ≡ n = p.capacity in
+    let cap : me.0.puts_within ≡ n = p.capacity in
     let xs : List ℕ = whole_words me.0.written ++ lanes word k in
     let g' : Story = record g { written = xs } in
     let w : View = with_written me.0 xs in
@@ -102,24 +92,23 @@ stores_lanes n slots id me at word k puts at_is inner few goes_on fits s r _ her
     let low : at < n / 4 + 4 = subst (λ (z : ℕ). z < n / 4 + 4) (sym place_is) (place_below n (length g.written / 4)) in
     let head = k'.head in
     let room : length xs ≤ length g.taken + n = omega arith in
-    let stands : Stands n (set s.words at word) (length g.taken) xs =
+    let stands : g.passing ≡ false → Stands n (set s.words at word) (length g.taken) xs = λ still.
     subst (λ (z : List ℕ). Stands n (set s.words at word) (length g.taken) (whole_words z ++ lanes word k)) (sym same)
     (stands_lanes n s.words (length g.taken) g.written at word k place_is (omega arith) few
     (subst (λ (z : List ℕ). IsPrefix g.written (whole_words z ++ lanes word k)) same further)
-    (subst (λ (z : List ℕ). length (whole_words z ++ lanes word k) ≤ length g.taken + n) same room) r.stands) in
+    (subst (λ (z : List ℕ). length (whole_words z ++ lanes word k) ≤ length g.taken + n) same room) (r.stands still)) in
     let known : Knows n g' id w = record {
       noted = k'.noted;
       noted_heads = k'.noted_heads;
       head = k'.head;
-      told = k'.told;
       tail = k'.tail;
-      puts = λ _. record { at = p.at; capacity = p.capacity; written = refl; pushed = p.pushed; heads = p.heads };
-      takes = λ is. (let t = k'.takes is in record { at = t.at; capacity = t.capacity; taken = t.taken; released = t.released; begins = t.begins; read = t.read; known = t.known; out = t.out });
+      puts = λ _. record { at = p.at; capacity = p.capacity; written = refl; pushed = p.pushed; heads = p.heads; passing = p.passing };
+      takes = λ is. (let t = k'.takes is in record { at = t.at; capacity = t.capacity; taken = t.taken; released = t.released; begins = t.begins; read = t.read; known = t.known; out = t.out; passing = t.passing });
     } in
     let on : (seat : ℕ) (v : View) → seat ≢ id → Knows n g seat v → Knows n g' seat v = λ seat v apart old. knows_on n g g' seat v
     record { pushed = begins_itself g.pushed; released = λ hs a. a; taken = omega arith }
     (λ q. absurd (apart (q.at ∙ sym p.at)))
-    (λ t. record { at = t.at; capacity = t.capacity; taken = t.taken; released = t.released; begins = t.begins; read = t.read; known = t.known; out = t.out }) old in (
+    (λ t. record { at = t.at; capacity = t.capacity; taken = t.taken; released = t.released; begins = t.begins; read = t.read; known = t.known; out = t.out; passing = t.passing }) old in (
       w,
       keeps,
       tt,
@@ -127,12 +116,12 @@ stores_lanes n slots id me at word k puts at_is inner few goes_on fits s r _ her
         story = g';
         wide = length-set s.words at word ∙ r.wide;
         head = (let same = get_or-set_other s.words at 0 word 0 (λ e. omega arith) in let h = r.head in omega arith);
-        told = subst (IsReleased g.released) (sym (get_or-set_other s.words at 0 word 0 (λ e. omega arith))) r.told;
         tail = (let same = get_or-set_other s.words at 1 word 0 (λ e. omega arith) in let t = r.tail in omega arith);
         taken = r.taken;
         pushed = begins_through g.pushed g.written xs r.pushed further;
         fits = room;
         stands = stands;
+        one = r.one;
         released = r.released;
         last = r.last;
         home = r.home;
@@ -154,15 +143,14 @@ stores_tail n slots id me x puts x_is s r _ here _ =
       noted = begins_through me.0.noted g.pushed g.written k.noted r.pushed;
       noted_heads = k.noted_heads;
       head = k.head;
-      told = k.told;
       tail = (let t = k.tail in omega arith);
-      puts = λ _. record { at = p.at; capacity = p.capacity; written = p.written; pushed = p.written; heads = p.heads };
-      takes = λ is. (let t = k.takes is in record { at = t.at; capacity = t.capacity; taken = t.taken; released = t.released; begins = t.begins; read = begins_through me.0.read g.pushed g.written t.read r.pushed; known = t.known; out = t.out });
+      puts = λ _. record { at = p.at; capacity = p.capacity; written = p.written; pushed = p.written; heads = p.heads; passing = p.passing };
+      takes = λ is. (let t = k.takes is in record { at = t.at; capacity = t.capacity; taken = t.taken; released = t.released; begins = t.begins; read = begins_through me.0.read g.pushed g.written t.read r.pushed; known = t.known; out = t.out; passing = t.passing });
     } in
     let on : (seat : ℕ) (v : View) → seat ≢ id → Knows n g seat v → Knows n g' seat v = λ seat v apart old. knows_on n g g' seat v
     record { pushed = r.pushed; released = λ hs a. a; taken = omega arith }
     (λ q. absurd (apart (q.at ∙ sym p.at)))
-    (λ t. record { at = t.at; capacity = t.capacity; taken = t.taken; released = t.released; begins = t.begins; read = begins_through v.read g.pushed g.written t.read r.pushed; known = t.known; out = t.out }) old in (
+    (λ t. record { at = t.at; capacity = t.capacity; taken = t.taken; released = t.released; begins = t.begins; read = begins_through v.read g.pushed g.written t.read r.pushed; known = t.known; out = t.out; passing = t.passing }) old in (
       w,
       keeps,
       tt,
@@ -170,12 +158,12 @@ stores_tail n slots id me x puts x_is s r _ here _ =
         story = g';
         wide = length-set s.words 1 x ∙ r.wide;
         head = (let same = get_or-set_other s.words 1 0 x 0 (λ e. omega arith) in let h = r.head in omega arith);
-        told = subst (IsReleased g.released) (sym (get_or-set_other s.words 1 0 x 0 (λ e. omega arith))) r.told;
         tail = (let same = get_or-set_same s.words 1 x 0 (omega arith) ∙ (x_is ∙ ap length p.written) in omega arith);
         taken = begins_through g.taken g.pushed g.written r.taken r.pushed;
         pushed = begins_itself g.written;
         fits = r.fits;
-        stands = stands_index n s.words (length g.taken) g.written 1 x (omega arith) r.stands;
+        stands = λ still. stands_index n s.words (length g.taken) g.written 1 x (omega arith) (r.stands still);
+        one = r.one;
         released = r.released;
         last = r.last;
         home = r.home;
@@ -189,7 +177,7 @@ loads_tail n slots id me takes s r _ here _ =
     let g : Story = r.story in
     let k : Knows n g id me.0 = r.each id me.0 here in
     let t : KnowsTakes n g id me.0 = k.takes takes in
-    let h : ℕ = max me.0.tail (get_or s.words 1 0) in
+    let h : ℕ = get_or s.words 1 0 in
     let w : View = with_tail me.0 h in
     let stored = r.tail in
     let least = k.tail in
@@ -201,9 +189,8 @@ loads_tail n slots id me takes s r _ here _ =
       noted = k.noted;
       noted_heads = k.noted_heads;
       head = k.head;
-      told = k.told;
       tail = omega arith;
-      puts = λ is. (let p = k.puts is in record { at = p.at; capacity = p.capacity; written = p.written; pushed = p.pushed; heads = p.heads });
+      puts = λ is. (let p = k.puts is in record { at = p.at; capacity = p.capacity; written = p.written; pushed = p.pushed; heads = p.heads; passing = p.passing });
       takes = λ _. record {
         at = t.at;
         capacity = t.capacity;
@@ -213,12 +200,14 @@ loads_tail n slots id me takes s r _ here _ =
         read = subst (λ (z : List ℕ). IsPrefix z g.pushed) (sym t.taken) r.taken;
         known = omega arith;
         out = t.out;
+        passing = t.passing;
       };
     } in
     let all = begins_length g.pushed g.written r.pushed in
     let fits = r.fits in
-    let most : me.0.puts ≡ true → h ≤ length me.0.pushed = λ is. (let same : length me.0.pushed ≡ length g.pushed = ap length (k.puts is).pushed in omega arith) in
-    (w, keeps, tt, loaded n s r 1 id w known, (refl, refl, omega arith, omega arith, most))
+    let low = begins_length g.taken g.pushed r.taken in
+    let most : me.0.puts ≡ true → h ≡ length me.0.pushed = λ is. r.tail ∙ sym (ap length (k.puts is).pushed) in
+    (w, keeps, tt, loaded n s r 1 id w known, (refl, refl, omega arith, omega arith, omega arith, most))
 
 -- what is read of a word, as far as the tail is known
 read_on : (n : ℕ) (words : List ℕ) (head : ℕ) (read pushed written : List ℕ) (at tail : ℕ) → Stands n words head written → IsPrefix read pushed → IsPrefix pushed written
@@ -238,9 +227,9 @@ read_on n words head read pushed written at tail stands reads pushes at_is low m
     rest_at read word i above (omega arith) ∙ (ap (λ (z : ℕ). lane z (i % 4)) (sym here) ∙ (stands i (omega arith) (omega arith) ∙ sym (begins_at pushed written pushes i (omega arith)))))
     (cases_lt i (length read)))
 
-pub loads_lanes : (n slots id : ℕ) (me : M) (at : ℕ) → me.0.takes ≡ true → at ≡ place me.0.capacity (length me.0.read / 4) → length me.0.read < me.0.tail
+pub loads_lanes : (n slots id : ℕ) (me : M) (at : ℕ) → me.0.takes ≡ true → me.0.passing ≡ false → at ≡ place me.0.takes_within (length me.0.read / 4) → length me.0.read < me.0.tail
     → Allows (Ring n) slots id me at (λ x. x) (LoadsLanes (step slots at 0 0 none) me)
-loads_lanes n slots id me at takes at_is more s r _ here _ =
+loads_lanes n slots id me at takes still at_is more s r _ here _ =
     let g : Story = r.story in
     let k : Knows n g id me.0 = r.each id me.0 here in
     let t : KnowsTakes n g id me.0 = k.takes takes in
@@ -250,7 +239,7 @@ loads_lanes n slots id me at takes at_is more s r _ here _ =
     let start : length me.0.taken ≤ length me.0.read = begins_length me.0.taken me.0.read t.begins in
     let taken_is : length me.0.taken ≡ length g.taken = ap length t.taken in
     let place_is : at ≡ place n (length me.0.read / 4) = at_is ∙ ap (λ (z : ℕ). place z (length me.0.read / 4)) t.capacity in
-    let reads : IsPrefix xs g.pushed = read_on n s.words (length g.taken) me.0.read g.pushed g.written at me.0.tail r.stands t.read r.pushed place_is (omega arith) more k.tail in
+    let reads : IsPrefix xs g.pushed = read_on n s.words (length g.taken) me.0.read g.pushed g.written at me.0.tail (r.stands (sym t.passing ∙ still)) t.read r.pushed place_is (omega arith) more k.tail in
     let long = rest_long me.0.read word in
     let cut = length-take me.0.tail (me.0.read ++ drop (length me.0.read % 4) (lanes word 4)) in
     let longer : IsPrefix me.0.read xs = begins_longer me.0.read xs g.pushed t.read reads (omega arith) in
@@ -258,10 +247,9 @@ loads_lanes n slots id me at takes at_is more s r _ here _ =
       noted = k.noted;
       noted_heads = k.noted_heads;
       head = k.head;
-      told = k.told;
       tail = k.tail;
-      puts = λ is. (let p = k.puts is in record { at = p.at; capacity = p.capacity; written = p.written; pushed = p.pushed; heads = p.heads });
-      takes = λ _. record { at = t.at; capacity = t.capacity; taken = t.taken; released = t.released; begins = begins_through me.0.taken me.0.read xs t.begins longer; read = reads; known = omega arith; out = t.out };
+      puts = λ is. (let p = k.puts is in record { at = p.at; capacity = p.capacity; written = p.written; pushed = p.pushed; heads = p.heads; passing = p.passing });
+      takes = λ _. record { at = t.at; capacity = t.capacity; taken = t.taken; released = t.released; begins = begins_through me.0.taken me.0.read xs t.begins longer; read = reads; known = omega arith; out = t.out; passing = t.passing };
     } in
     let pushed : me.0.puts ≡ true → IsPrefix xs me.0.pushed = λ is. subst (λ (z : List ℕ). IsPrefix xs z) (sym (k.puts is).pushed) reads in
     (w, keeps, tt, loaded n s r at id w known, (refl, refl, longer, pushed))
@@ -285,13 +273,12 @@ stores_head n slots id me x takes low high s r _ here _ =
       noted = k.noted;
       noted_heads = released_more g.released (x ∷ []) me.0.noted_heads k.noted_heads;
       head = omega arith;
-      told = inr (Contains-append_right g.released (x ∷ []) x (0, omega arith, refl));
       tail = k.tail;
-      puts = λ is. (let p = k.puts is in record { at = p.at; capacity = p.capacity; written = p.written; pushed = p.pushed; heads = released_more g.released (x ∷ []) me.0.heads p.heads });
-      takes = λ _. record { at = t.at; capacity = t.capacity; taken = refl; released = ap (λ (z : List ℕ). z ++ x ∷ []) t.released; begins = begins_itself xs; read = reads; known = omega arith; out = t.out };
+      puts = λ is. (let p = k.puts is in record { at = p.at; capacity = p.capacity; written = p.written; pushed = p.pushed; heads = released_more g.released (x ∷ []) me.0.heads p.heads; passing = p.passing });
+      takes = λ _. record { at = t.at; capacity = t.capacity; taken = refl; released = ap (λ (z : List ℕ). z ++ x ∷ []) t.released; begins = begins_itself xs; read = reads; known = omega arith; out = t.out; passing = t.passing };
     } in
     let on : (seat : ℕ) (v : View) → seat ≢ id → Knows n g seat v → Knows n g' seat v = λ seat v apart old. knows_on n g g' seat v on_
-    (λ q. record { at = q.at; capacity = q.capacity; written = q.written; pushed = q.pushed; heads = released_more g.released (x ∷ []) v.heads q.heads })
+    (λ q. record { at = q.at; capacity = q.capacity; written = q.written; pushed = q.pushed; heads = released_more g.released (x ∷ []) v.heads q.heads; passing = q.passing })
     (λ u. absurd (apart (u.at ∙ sym t.at))) old in (
       w,
       keeps,
@@ -300,12 +287,12 @@ stores_head n slots id me x takes low high s r _ here _ =
         story = g';
         wide = length-set s.words 0 x ∙ r.wide;
         head = (let same = get_or-set_same s.words 0 x 0 (omega arith) in omega arith);
-        told = subst (IsReleased (g.released ++ x ∷ [])) (sym (get_or-set_same s.words 0 x 0 (omega arith))) (inr (Contains-append_right g.released (x ∷ []) x (0, omega arith, refl)));
         tail = (let same = get_or-set_other s.words 0 1 x 0 (λ e. omega arith) in let t = r.tail in omega arith);
         taken = reads;
         pushed = r.pushed;
         fits = omega arith;
-        stands = stands_above n (set s.words 0 x) (length g.taken) (length xs) g.written (omega arith) (stands_index n s.words (length g.taken) g.written 0 x (omega arith) r.stands);
+        stands = λ still. stands_above n (set s.words 0 x) (length g.taken) (length xs) g.written (omega arith) (stands_index n s.words (length g.taken) g.written 0 x (omega arith) (r.stands still));
+        one = r.one;
         released = All-push (λ (h : ℕ). h ≤ length xs) g.released x (below_more g.released (length g.taken) (length xs) (omega arith) r.released) (omega arith);
         last = inr (subst (λ (z : ℕ). Contains (g.released ++ x ∷ []) z) (sym cut) (Contains-append_right g.released (x ∷ []) x (0, omega arith, refl)));
         home = r.home;
@@ -343,17 +330,17 @@ compares n slots id me takes s r _ here _ =
 
 -- the views alone change
 viewed : (n : ℕ) (s : St) (r : Ring n s) (g' : Story) (views : List View) → g'.written ≡ r.story.written → g'.pushed ≡ r.story.pushed → g'.taken ≡ r.story.taken → g'.released ≡ r.story.released
-    → g'.out ≡ r.story.out → Each n g' views → Ring n record { words = s.words; homes = s.homes; views = views }
-viewed n s r g' views written pushed taken released out each = record {
+    → g'.out ≡ r.story.out → g'.passing ≡ r.story.passing → (g'.passing ≡ true → g'.putter ≡ g'.taker) → Each n g' views → Ring n record { words = s.words; homes = s.homes; views = views }
+viewed n s r g' views written pushed taken released out passing one each = record {
   story = g';
   wide = r.wide;
-  head = subst (λ (z : List ℕ). get_or s.words 0 0 ≤ length z) (sym taken) r.head;
-  told = subst (λ (z : List ℕ). IsReleased z (get_or s.words 0 0)) (sym released) r.told;
-  tail = subst (λ (z : List ℕ). get_or s.words 1 0 ≤ length z) (sym pushed) r.tail;
+  head = r.head ∙ ap length (sym taken);
+  tail = r.tail ∙ ap length (sym pushed);
   taken = subst (λ (z : List ℕ × List ℕ). IsPrefix z.0 z.1) (λ i. (sym taken i, sym pushed i)) r.taken;
   pushed = subst (λ (z : List ℕ × List ℕ). IsPrefix z.0 z.1) (λ i. (sym pushed i, sym written i)) r.pushed;
   fits = subst (λ (z : List ℕ × List ℕ). length z.0 ≤ length z.1 + n) (λ i. (sym written i, sym taken i)) r.fits;
-  stands = subst (λ (z : List ℕ × List ℕ). Stands n s.words (length z.0) z.1) (λ i. (sym taken i, sym written i)) r.stands;
+  stands = λ still. subst (λ (z : List ℕ × List ℕ). Stands n s.words (length z.0) z.1) (λ i. (sym taken i, sym written i)) (r.stands (sym passing ∙ still));
+  one = one;
   released = subst (λ (z : List ℕ × List ℕ). All (λ h. h ≤ length z.0) z.1) (λ i. (sym taken i, sym released i)) r.released;
   last = subst (λ (z : List ℕ × List ℕ). IsReleased z.1 (length z.0)) (λ i. (sym taken i, sym released i)) r.last;
   home = λ is. r.home (sym out ∙ is);
@@ -371,12 +358,11 @@ notes n id v puts s r here =
       noted = subst (λ (z : List ℕ). IsPrefix z g.pushed) (sym p.pushed) (begins_itself g.pushed);
       noted_heads = p.heads;
       head = omega arith;
-      told = inl refl;
       tail = omega arith;
       puts = λ is. absurd (false≢true is);
       takes = λ is. absurd (false≢true is);
     } in
-    viewed n s r g (views ++ note_of v ∷ []) refl refl refl refl refl (each_end n g views (note_of v) (each_set n g g s.views id v r.each k (λ seat u apart old. old)) known)
+    viewed n s r g (views ++ note_of v ∷ []) refl refl refl refl refl refl r.one (each_end n g views (note_of v) (each_set n g g s.views id v r.each k (λ seat u apart old. old)) known)
 
 pub notes_head : (n id : ℕ) (v : View) → v.takes ≡ true → Splits (Ring n) id v v (head_note_of v)
 notes_head n id v takes s r here =
@@ -389,15 +375,14 @@ notes_head n id v takes s r here =
       noted = (g.pushed, refl);
       noted_heads = λ i d lt. absurd (omega arith);
       head = omega arith;
-      told = subst (λ (z : List ℕ). IsReleased g.released (length z)) (sym t.taken) r.last;
       tail = omega arith;
       puts = λ is. absurd (false≢true is);
       takes = λ is. absurd (false≢true is);
     } in
-    viewed n s r g (views ++ head_note_of v ∷ []) refl refl refl refl refl (each_end n g views (head_note_of v) (each_set n g g s.views id v r.each k (λ seat u apart old. old)) known)
+    viewed n s r g (views ++ head_note_of v ∷ []) refl refl refl refl refl refl r.one (each_end n g views (head_note_of v) (each_set n g g s.views id v r.each k (λ seat u apart old. old)) known)
 
-pub parts : (n id : ℕ) (v : View) → v.puts ≡ true → v.takes ≡ true → Splits (Ring n) id v (taker_of v) (putter_of v)
-parts n id v puts takes s r here =
+pub parts : (n id : ℕ) (v : View) → v.puts ≡ true → v.takes ≡ true → v.passing ≡ false → Splits (Ring n) id v (taker_of v) (putter_of v)
+parts n id v puts takes still s r here =
     let g : Story = r.story in
     let k : Knows n g id v = r.each id v here in
     let p : KnowsPuts n g id v = k.puts puts in
@@ -409,24 +394,22 @@ parts n id v puts takes s r here =
       noted = k.noted;
       noted_heads = k.noted_heads;
       head = k.head;
-      told = k.told;
       tail = k.tail;
       puts = λ is. absurd (false≢true is);
-      takes = λ is. record { at = t.at; capacity = t.capacity; taken = t.taken; released = t.released; begins = t.begins; read = t.read; known = t.known; out = t.out };
+      takes = λ is. record { at = t.at; capacity = t.capacity; taken = t.taken; released = t.released; begins = t.begins; read = t.read; known = t.known; out = t.out; passing = t.passing };
     } in
     let right : Knows n g' (length views) (putter_of v) = record {
       noted = k.noted;
       noted_heads = k.noted_heads;
       head = k.head;
-      told = k.told;
       tail = k.tail;
-      puts = λ is. record { at = refl; capacity = p.capacity; written = p.written; pushed = p.pushed; heads = p.heads };
+      puts = λ is. record { at = refl; capacity = p.capacity; written = p.written; pushed = p.pushed; heads = p.heads; passing = p.passing };
       takes = λ is. absurd (false≢true is);
     } in
     let on : (seat : ℕ) (u : View) → seat ≢ id → Knows n g seat u → Knows n g' seat u = λ seat u apart old. knows_on n g g' seat u on_
     (λ q. absurd (apart (q.at ∙ sym p.at)))
-    (λ q. record { at = q.at; capacity = q.capacity; taken = q.taken; released = q.released; begins = q.begins; read = q.read; known = q.known; out = q.out }) old in
-    viewed n s r g' (views ++ putter_of v ∷ []) refl refl refl refl refl (each_end n g' views (putter_of v) (each_set n g g' s.views id (taker_of v) r.each left on) right)
+    (λ q. record { at = q.at; capacity = q.capacity; taken = q.taken; released = q.released; begins = q.begins; read = q.read; known = q.known; out = q.out; passing = q.passing }) old in
+    viewed n s r g' (views ++ putter_of v ∷ []) refl refl refl refl refl refl (λ is. absurd (false≢true (sym still ∙ (p.passing ∙ is)))) (each_end n g' views (putter_of v) (each_set n g g' s.views id (taker_of v) r.each left on) right)
 
 pub meets : (n id other : ℕ) (v w : View) → Joins (Ring n) id v other w (with_note v w) blank_view
 meets n id other v w s r here apart there =
@@ -439,17 +422,16 @@ meets n id other v w s r here apart there =
       noted = o.noted;
       noted_heads = o.noted_heads;
       head = k.head;
-      told = k.told;
       tail = omega arith;
-      puts = λ is. (let p = k.puts is in record { at = p.at; capacity = p.capacity; written = p.written; pushed = p.pushed; heads = p.heads });
+      puts = λ is. (let p = k.puts is in record { at = p.at; capacity = p.capacity; written = p.written; pushed = p.pushed; heads = p.heads; passing = p.passing });
       takes = λ is. (
           let t = k.takes is in
           let bound = t.known in
           let within = begins_length v.taken v.read t.begins in
-          record { at = t.at; capacity = t.capacity; taken = t.taken; released = t.released; begins = begins_itself v.taken; read = begins_through v.taken v.read g.pushed t.begins t.read; known = omega arith; out = t.out }
+          record { at = t.at; capacity = t.capacity; taken = t.taken; released = t.released; begins = begins_itself v.taken; read = begins_through v.taken v.read g.pushed t.begins t.read; known = omega arith; out = t.out; passing = t.passing }
           );
     } in
-    viewed n s r g (set (set s.views id (with_note v w)) other blank_view) refl refl refl refl refl (each_join n g g s.views id other (with_note v w) r.each known (λ seat u a b old. old))
+    viewed n s r g (set (set s.views id (with_note v w)) other blank_view) refl refl refl refl refl refl r.one (each_join n g g s.views id other (with_note v w) r.each known (λ seat u a b old. old))
 
 pub meets_head : (n id other : ℕ) (v w : View) → Joins (Ring n) id v other w (with_head_note v w) blank_view
 meets_head n id other v w s r here apart there =
@@ -462,12 +444,11 @@ meets_head n id other v w s r here apart there =
       noted = k.noted;
       noted_heads = k.noted_heads;
       head = omega arith;
-      told = higher_released g.released v.head w.head k.told o.told;
       tail = k.tail;
-      puts = λ is. (let p = k.puts is in record { at = p.at; capacity = p.capacity; written = p.written; pushed = p.pushed; heads = p.heads });
-      takes = λ is. (let t = k.takes is in record { at = t.at; capacity = t.capacity; taken = t.taken; released = t.released; begins = t.begins; read = t.read; known = t.known; out = t.out });
+      puts = λ is. (let p = k.puts is in record { at = p.at; capacity = p.capacity; written = p.written; pushed = p.pushed; heads = p.heads; passing = p.passing });
+      takes = λ is. (let t = k.takes is in record { at = t.at; capacity = t.capacity; taken = t.taken; released = t.released; begins = t.begins; read = t.read; known = t.known; out = t.out; passing = t.passing });
     } in
-    viewed n s r g (set (set s.views id (with_head_note v w)) other blank_view) refl refl refl refl refl (each_join n g g s.views id other (with_head_note v w) r.each known (λ seat u a b old. old))
+    viewed n s r g (set (set s.views id (with_head_note v w)) other blank_view) refl refl refl refl refl refl r.one (each_join n g g s.views id other (with_head_note v w) r.each known (λ seat u a b old. old))
 
 pub ends : (n id other : ℕ) (v w : View) → v.takes ≡ true → w.puts ≡ true → Joins (Ring n) id v other w (with_putter v w) blank_view
 ends n id other v w takes puts s r here apart there =
@@ -486,39 +467,37 @@ ends n id other v w takes puts s r here apart there =
       noted = k.noted;
       noted_heads = k.noted_heads;
       head = k.head;
-      told = k.told;
       tail = omega arith;
-      puts = λ is. record { at = refl; capacity = t.capacity; written = p.written; pushed = p.pushed; heads = p.heads };
-      takes = λ is. record { at = t.at; capacity = t.capacity; taken = t.taken; released = t.released; begins = begins_itself v.taken; read = begins_through v.taken v.read g.pushed t.begins t.read; known = omega arith; out = t.out };
+      puts = λ is. record { at = refl; capacity = p.capacity; written = p.written; pushed = p.pushed; heads = p.heads; passing = t.passing };
+      takes = λ is. record { at = t.at; capacity = t.capacity; taken = t.taken; released = t.released; begins = begins_itself v.taken; read = begins_through v.taken v.read g.pushed t.begins t.read; known = omega arith; out = t.out; passing = t.passing };
     } in
     let on : (seat : ℕ) (u : View) → seat ≢ id → seat ≢ other → Knows n g seat u → Knows n g' seat u = λ seat u a b old. knows_on n g g' seat u on_
     (λ q. absurd (b (q.at ∙ sym p.at)))
-    (λ q. record { at = q.at; capacity = q.capacity; taken = q.taken; released = q.released; begins = q.begins; read = q.read; known = q.known; out = q.out }) old in
-    viewed n s r g' (set (set s.views id (with_putter v w)) other blank_view) refl refl refl refl refl (each_join n g g' s.views id other (with_putter v w) r.each known on)
+    (λ q. record { at = q.at; capacity = q.capacity; taken = q.taken; released = q.released; begins = q.begins; read = q.read; known = q.known; out = q.out; passing = q.passing }) old in
+    viewed n s r g' (set (set s.views id (with_putter v w)) other blank_view) refl refl refl refl refl refl (λ _. t.at) (each_join n g g' s.views id other (with_putter v w) r.each known on)
 
 -- a new ring
 pub begins : (n : ℕ) (xs : Slot) → Ring n (opening (replicate (n / 4 + 4) 0) (xs ∷ []) (both_ends n))
 begins n xs =
-    let g : Story = record { written = []; pushed = []; taken = []; released = []; putter = 0; taker = 0; out = false } in
+    let g : Story = record { written = []; pushed = []; taken = []; released = []; putter = 0; taker = 0; out = false; passing = false } in
     let known : Knows n g 0 (both_ends n) = record {
       noted = ([], refl);
       noted_heads = λ i d lt. absurd (omega arith);
       head = omega arith;
-      told = inl refl;
       tail = omega arith;
-      puts = λ is. record { at = refl; capacity = refl; written = refl; pushed = refl; heads = λ i d lt. absurd (omega arith) };
-      takes = λ is. record { at = refl; capacity = refl; taken = refl; released = refl; begins = ([], refl); read = ([], refl); known = omega arith; out = refl };
+      puts = λ is. record { at = refl; capacity = refl; written = refl; pushed = refl; heads = λ i d lt. absurd (omega arith); passing = refl };
+      takes = λ is. record { at = refl; capacity = refl; taken = refl; released = refl; begins = ([], refl); read = ([], refl); known = omega arith; out = refl; passing = refl };
     } in
     record {
       story = g;
       wide = length-replicate (n / 4 + 4) 0;
-      head = subst (λ (z : ℕ). z ≤ 0) (sym (get_or-replicate (n / 4 + 4) 0 0 0 (omega arith))) (omega arith);
-      told = inl (get_or-replicate (n / 4 + 4) 0 0 0 (omega arith));
-      tail = subst (λ (z : ℕ). z ≤ 0) (sym (get_or-replicate (n / 4 + 4) 1 0 0 (omega arith))) (omega arith);
+      head = get_or-replicate (n / 4 + 4) 0 0 0 (omega arith);
+      tail = get_or-replicate (n / 4 + 4) 1 0 0 (omega arith);
       taken = ([], refl);
       pushed = ([], refl);
       fits = omega arith;
-      stands = λ i low high. absurd (omega arith);
+      stands = λ _ i low high. absurd (omega arith);
+      one = λ _. refl;
       released = λ i d lt. absurd (omega arith);
       last = inl refl;
       home = λ _. (xs, refl);
@@ -538,24 +517,23 @@ takes_slot n slots id me takes holds s r _ here _ =
       noted = k.noted;
       noted_heads = k.noted_heads;
       head = k.head;
-      told = k.told;
       tail = k.tail;
-      puts = λ is. (let p = k.puts is in record { at = p.at; capacity = p.capacity; written = p.written; pushed = p.pushed; heads = p.heads });
-      takes = λ _. record { at = t.at; capacity = t.capacity; taken = t.taken; released = t.released; begins = t.begins; read = t.read; known = t.known; out = refl };
+      puts = λ is. (let p = k.puts is in record { at = p.at; capacity = p.capacity; written = p.written; pushed = p.pushed; heads = p.heads; passing = p.passing });
+      takes = λ _. record { at = t.at; capacity = t.capacity; taken = t.taken; released = t.released; begins = t.begins; read = t.read; known = t.known; out = refl; passing = t.passing };
     } in
     let on : (seat : ℕ) (v : View) → seat ≢ id → Knows n g seat v → Knows n g' seat v = λ seat v apart old. knows_on n g g' seat v (stays_on g g' refl refl refl)
-    (λ q. record { at = q.at; capacity = q.capacity; written = q.written; pushed = q.pushed; heads = q.heads })
+    (λ q. record { at = q.at; capacity = q.capacity; written = q.written; pushed = q.pushed; heads = q.heads; passing = q.passing })
     (λ u. absurd (apart (u.at ∙ sym t.at))) old in
     let ring : Ring n record { words = s.words; homes = set s.homes 0 none; views = set s.views id w } = record {
       story = g';
       wide = r.wide;
       head = r.head;
-      told = r.told;
       tail = r.tail;
       taken = r.taken;
       pushed = r.pushed;
       fits = r.fits;
       stands = r.stands;
+      one = r.one;
       released = r.released;
       last = r.last;
       home = λ is. absurd (false≢true (sym is));
@@ -569,8 +547,8 @@ takes_slot n slots id me takes holds s r _ here _ =
     )
 
 -- all that the putter's seat knew knows the new one
-pub leaves : (n id : ℕ) (v : View) → v.puts ≡ true → v.takes ≡ false → Splits (Ring n) id v blank_view v
-leaves n id v puts alone s r here =
+pub leaves : (n id : ℕ) (v : View) → v.puts ≡ true → v.takes ≡ false → v.passing ≡ false → Splits (Ring n) id v blank_view v
+leaves n id v puts alone still s r here =
     let g : Story = r.story in
     let k : Knows n g id v = r.each id v here in
     let p : KnowsPuts n g id v = k.puts puts in
@@ -580,48 +558,97 @@ leaves n id v puts alone s r here =
       noted = k.noted;
       noted_heads = k.noted_heads;
       head = k.head;
-      told = k.told;
       tail = k.tail;
-      puts = λ is. record { at = refl; capacity = p.capacity; written = p.written; pushed = p.pushed; heads = p.heads };
+      puts = λ is. record { at = refl; capacity = p.capacity; written = p.written; pushed = p.pushed; heads = p.heads; passing = p.passing };
       takes = λ is. absurd (false≢true (sym alone ∙ is));
     } in
     let on : (seat : ℕ) (u : View) → seat ≢ id → Knows n g seat u → Knows n g' seat u = λ seat u apart old. knows_on n g g' seat u (stays_on g g' refl refl refl)
     (λ q. absurd (apart (q.at ∙ sym p.at)))
-    (λ q. record { at = q.at; capacity = q.capacity; taken = q.taken; released = q.released; begins = q.begins; read = q.read; known = q.known; out = q.out }) old in
-    viewed n s r g' (views ++ v ∷ []) refl refl refl refl refl (each_end n g' views v (each_set n g g' s.views id blank_view r.each (knows_nothing n g' id) on) right)
+    (λ q. record { at = q.at; capacity = q.capacity; taken = q.taken; released = q.released; begins = q.begins; read = q.read; known = q.known; out = q.out; passing = q.passing }) old in
+    viewed n s r g' (views ++ v ∷ []) refl refl refl refl refl refl (λ is. absurd (false≢true (sym still ∙ (p.passing ∙ is)))) (each_end n g' views v (each_set n g g' s.views id blank_view r.each (knows_nothing n g' id) on) right)
 
--- the numbers in the slot are passed
-pub passes : (n slots id : ℕ) (me : M) → me.0.puts ≡ true → me.0.takes ≡ true → length me.0.taken ≡ length me.0.pushed → length me.0.written ≤ length me.0.pushed
-    → Allows (Ring n) slots id me 0 (λ x. x) (PassesOn (step slots 0 0 0 none) me)
-passes n slots id me puts takes level whole s r _ here _ =
+-- the numbers in the slot are put and pushed past the words
+pub puts_past : (n slots id : ℕ) (me : M) (x : ℕ) → me.0.puts ≡ true → me.0.takes ≡ true → length me.0.taken ≡ length me.0.pushed → length (held me.1) ≤ me.0.takes_within
+    → length me.0.written ≤ length me.0.pushed → x ≡ length (me.0.pushed ++ held me.1) → Allows (Ring n) slots id me 1 (λ _. x) (λ _. PutsPast (step slots 1 x 0 none) me x)
+puts_past n slots id me x puts takes level room whole x_is s r _ here _ =
     let g : Story = r.story in
     let k : Knows n g id me.0 = r.each id me.0 here in
     let p : KnowsPuts n g id me.0 = k.puts puts in
     let t : KnowsTakes n g id me.0 = k.takes takes in
     let xs : List ℕ = held me.1 in
     let ys : List ℕ = me.0.pushed ++ xs in
-    let size : ℕ = length ys in
-    let g' : Story = record g { written = ys; pushed = ys; taken = ys; released = g.released ++ size ∷ [] } in
-    let w : View = with_passed me.0 xs in
+    let g' : Story = record g { written = ys; pushed = ys; passing = true } in
+    let w : View = with_put_past me.0 xs in
     let pushed_is : length me.0.pushed ≡ length g.pushed = ap length p.pushed in
     let taken_is : length me.0.taken ≡ length g.taken = ap length t.taken in
-    let long : size ≡ length me.0.pushed + length xs = length-append me.0.pushed xs in
+    let long : length ys ≡ length me.0.pushed + length xs = length-append me.0.pushed xs in
     let met : me.0.taken ≡ me.0.pushed = t.taken ∙ (begins_whole g.taken g.pushed r.taken (omega arith) ∙ sym p.pushed) in
     let more : IsPrefix g.pushed ys = subst (λ (z : List ℕ). IsPrefix z ys) p.pushed (begins_more me.0.pushed xs) in
-    let there : Contains (g.released ++ size ∷ []) size = Contains-append_right g.released (size ∷ []) size (0, omega arith, refl) in
-    let known_tail = k.tail in
+    let cap = t.capacity in
+    let wide = r.wide in
     let known : Knows n g' id w = record {
       noted = begins_through me.0.noted g.pushed ys k.noted more;
+      noted_heads = k.noted_heads;
+      head = k.head;
+      tail = (let tail = k.tail in omega arith);
+      puts = λ _. record { at = p.at; capacity = p.capacity; written = refl; pushed = refl; heads = p.heads; passing = refl };
+      takes = λ _. record { at = t.at; capacity = t.capacity; taken = t.taken; released = t.released; begins = t.begins; read = begins_through me.0.read g.pushed ys t.read more; known = t.known; out = t.out; passing = refl };
+    } in
+    let on : (seat : ℕ) (v : View) → seat ≢ id → Knows n g seat v → Knows n g' seat v = λ seat v apart old. knows_on n g g' seat v
+    record { pushed = more; released = λ hs a. a; taken = omega arith }
+    (λ q. absurd (apart (q.at ∙ sym p.at)))
+    (λ u. absurd (apart (u.at ∙ sym t.at))) old in (
+      w,
+      keeps,
+      tt,
+      record {
+        story = g';
+        wide = length-set s.words 1 x ∙ r.wide;
+        head = get_or-set_other s.words 1 0 x 0 (λ e. omega arith) ∙ r.head;
+        tail = get_or-set_same s.words 1 x 0 (omega arith) ∙ x_is;
+        taken = begins_through g.taken g.pushed ys r.taken more;
+        pushed = begins_itself ys;
+        fits = omega arith;
+        stands = λ is. absurd (false≢true (sym is));
+        one = λ _. sym p.at ∙ t.at;
+        released = r.released;
+        last = r.last;
+        home = r.home;
+        each = each_set n g g' s.views id w r.each known on;
+      },
+      (refl, refl, met, (let tail = k.tail in omega arith), p.capacity ∙ sym t.capacity),
+    )
+
+-- all that was pushed is taken past the words
+pub takes_past : (n slots id : ℕ) (me : M) (x : ℕ) → me.0.puts ≡ true → me.0.takes ≡ true → length me.0.written ≤ length me.0.pushed → x ≡ length me.0.pushed
+    → Allows (Ring n) slots id me 0 (λ _. x) (λ _. TakesPast (step slots 0 x 0 none) me x)
+takes_past n slots id me x puts takes whole x_is s r _ here _ =
+    let g : Story = r.story in
+    let k : Knows n g id me.0 = r.each id me.0 here in
+    let p : KnowsPuts n g id me.0 = k.puts puts in
+    let t : KnowsTakes n g id me.0 = k.takes takes in
+    let ys : List ℕ = me.0.pushed in
+    let size : ℕ = length ys in
+    let g' : Story = record g { taken = ys; released = g.released ++ size ∷ []; passing = false } in
+    let w : View = with_taken_past me.0 in
+    let pushed_is : length ys ≡ length g.pushed = ap length p.pushed in
+    let written_is : length me.0.written ≡ length g.written = ap length p.written in
+    let low = begins_length g.taken g.pushed r.taken in
+    let wide = r.wide in
+    let all : IsPrefix ys g.pushed = subst (λ (z : List ℕ). IsPrefix z g.pushed) (sym p.pushed) (begins_itself g.pushed) in
+    let there : Contains (g.released ++ size ∷ []) size = Contains-append_right g.released (size ∷ []) size (0, omega arith, refl) in
+    let known : Knows n g' id w = record {
+      noted = k.noted;
       noted_heads = released_more g.released (size ∷ []) me.0.noted_heads k.noted_heads;
       head = omega arith;
-      told = inr there;
       tail = omega arith;
       puts = λ _. record {
         at = p.at;
         capacity = p.capacity;
-        written = refl;
-        pushed = refl;
+        written = p.written;
+        pushed = p.pushed;
         heads = released_push (g.released ++ size ∷ []) me.0.heads size (released_more g.released (size ∷ []) me.0.heads p.heads) (inr there);
+        passing = refl;
       };
       takes = λ _. record {
         at = t.at;
@@ -629,35 +656,33 @@ passes n slots id me puts takes level whole s r _ here _ =
         taken = refl;
         released = ap (λ (z : List ℕ). z ++ size ∷ []) t.released;
         begins = begins_itself ys;
-        read = begins_itself ys;
+        read = all;
         known = omega arith;
         out = t.out;
+        passing = refl;
       };
     } in
-    let on_ : GoesOn g g' = record { pushed = more; released = λ hs a. released_more g.released (size ∷ []) hs a; taken = omega arith } in
+    let on_ : GoesOn g g' = record { pushed = begins_itself g.pushed; released = λ hs a. released_more g.released (size ∷ []) hs a; taken = omega arith } in
     let on : (seat : ℕ) (v : View) → seat ≢ id → Knows n g seat v → Knows n g' seat v = λ seat v apart old. knows_on n g g' seat v on_
     (λ q. absurd (apart (q.at ∙ sym p.at)))
-    (λ u. absurd (apart (u.at ∙ sym t.at))) old in
-    let stored = r.head in
-    let shown = r.tail in
-    let ring : Ring n record { words = s.words; homes = s.homes; views = set s.views id w } = record {
-      story = g';
-      wide = r.wide;
-      head = omega arith;
-      told = ⊎_elim (λ z. inl z) (λ c. inr (Contains-append_left g.released (size ∷ []) (get_or s.words 0 0) c)) r.told;
-      tail = omega arith;
-      taken = begins_itself ys;
-      pushed = begins_itself ys;
-      fits = omega arith;
-      stands = λ i low high. absurd (omega arith);
-      released = All-push (λ (h : ℕ). h ≤ size) g.released size (below_more g.released (length g.taken) size (omega arith) r.released) (omega arith);
-      last = inr there;
-      home = r.home;
-      each = each_set n g g' s.views id w r.each known on;
-    } in (
+    (λ u. absurd (apart (u.at ∙ sym t.at))) old in (
       w,
       keeps,
       tt,
-      subst (λ (ws : List ℕ). Ring n record { words = ws; homes = s.homes; views = set s.views id w }) (sym (set-get_or s.words 0 0)) ring,
-      (refl, refl, met, omega arith),
+      record {
+        story = g';
+        wide = length-set s.words 0 x ∙ r.wide;
+        head = get_or-set_same s.words 0 x 0 (omega arith) ∙ x_is;
+        tail = get_or-set_other s.words 0 1 x 0 (λ e. omega arith) ∙ r.tail;
+        taken = all;
+        pushed = r.pushed;
+        fits = omega arith;
+        stands = λ _ i low high. absurd (omega arith);
+        one = λ is. absurd (false≢true is);
+        released = All-push (λ (h : ℕ). h ≤ size) g.released size (below_more g.released (length g.taken) size (omega arith) r.released) (omega arith);
+        last = inr there;
+        home = r.home;
+        each = each_set n g g' s.views id w r.each known on;
+      },
+      (refl, refl),
     )

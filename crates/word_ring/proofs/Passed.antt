@@ -1,5 +1,5 @@
 -- What the two ends are after some numbers were passed, with all that was put taken before.
-use Rattle.std.proofs.Common.{◌≡◌, ℕ, ◌+◌, ◌-◌, ◌*◌, ◌/◌, ◌%◌, ◌^◌, ◌<◌, ◌≤◌, true, false, List, [], ◌∷◌, ◌++◌, length, drop, max, refl, sym, ap, ◌∙◌, subst, arith, append_assoc, length-append, take-append-drop, take}
+use Rattle.std.proofs.Common.{◌≡◌, ℕ, ◌+◌, ◌-◌, ◌/◌, ◌%◌, ◌^◌, ◌<◌, ◌≤◌, List, [], ◌∷◌, ◌++◌, length, drop, refl, sym, ap, ◌∙◌, subst, arith, append_assoc, length-append, take-append-drop, take}
 use mathlib.Core.List.{IsPrefix}
 use Rattle.std.specs.List.{All}
 use Rattle.std.specs.List.Sorted.{IsNonDecreasing}
@@ -7,10 +7,10 @@ use Rattle.std.proofs.lemmas.Bool.{false≢true}
 use Rattle.word_ring.specs.declared.putter.Putter.TheInside.{Inside as PutterInside}
 use Rattle.word_ring.specs.declared.taker.Taker.TheInside.{Inside as TakerInside}
 use Rattle.word_ring.specs.declared.table.View.{View}
-use Rattle.word_ring.specs.Ends.{PutterState, TakerState, NothingWaits, Passes, with_loaded, with_all_taken}
+use Rattle.word_ring.specs.Ends.{PutterState, NothingWaits, Passes, with_loaded, with_all_taken}
 use Rattle.word_ring.specs.Lanes.{lanes, top_lanes, whole_words}
 use Rattle.atomic_table.specs.Table.{Me, rest}
-use Rattle.word_ring.specs.Plays.{with_putter, with_passed, held, putter_of, taker_of}
+use Rattle.word_ring.specs.Plays.{with_putter, with_put_past, with_taken_past, with_passed, held, putter_of, taker_of}
 use Rattle.word_ring.specs.PutterParts.{putter_state, sent_of, IsPutter, IsPutting}
 use Rattle.word_ring.specs.TakerParts.{taker_state, IsTaker, IsTaking, peeked_of}
 use Rattle.word_ring.specs.Rule.{Slot, place}
@@ -53,6 +53,15 @@ module _ (p : PutterInside) (t : TakerInside) (ip : IsPutter p) (it : IsTaker t)
   pub whole : length both.written ≤ length both.pushed
   whole = omega (arith, begins_length w.written (sent_of p.sent p.word w) ip.putting.begins, clear.pushed)
 
+  -- the seat of both ends was made, given the numbers, and put them
+  pub put_by : (bytes : List ℕ) (left : View) (joined exchanged put : Me Slot View) → left ≡ w → joined.0 ≡ with_putter v left → exchanged ≡ (joined.0, (0, bytes) ∷ rest joined.1)
+      → put.0 ≡ with_put_past exchanged.0 (held exchanged.1) → put.0 ≡ with_put_past both bytes
+  put_by bytes left joined exchanged put leaves joins gets puts =
+      puts ∙ ((λ i. with_put_past (gets i).0 (held (gets i).1)) ∙ (λ i. with_put_past ((joins ∙ ap (with_putter v) leaves) i) bytes))
+
+  pub joined_length : (bytes : List ℕ) → length bytes ≡ 8 → length (w.pushed ++ bytes) ≡ p.sent + 8
+  joined_length bytes eight = omega (arith, length-append w.pushed bytes, eight, clear.pushed, ip.putting.count)
+
   module _ (bytes : List ℕ) (eight : length bytes ≡ 8) (four : ℕ) (last : lanes four 4 ≡ drop 4 bytes) where
     abbrev pub passed : View
     passed = with_passed both bytes
@@ -61,7 +70,7 @@ module _ (p : PutterInside) (t : TakerInside) (ip : IsPutter p) (it : IsTaker t)
     all = w.pushed ++ bytes
 
     pub size : length all ≡ p.sent + 8
-    size = omega (arith, length-append w.pushed bytes, eight, clear.pushed, ip.putting.count)
+    size = joined_length bytes eight
 
     sent_now : sent_of (p.sent + 8) four (putter_of passed) ≡ all
     sent_now =
@@ -72,11 +81,11 @@ module _ (p : PutterInside) (t : TakerInside) (ip : IsPutter p) (it : IsTaker t)
         let is : whole_words all ++ top_lanes four (length all % 4) ≡ all = subst (λ (xs : List ℕ). whole_words xs ++ top_lanes four (length xs % 4) ≡ xs) parts (ends_in front four) in
         ap (λ (k : ℕ). whole_words all ++ top_lanes four (k % 4)) (sym size) ∙ is
 
-    -- the seat of both ends was made, given the numbers, and passed them
-    pub passed_by : (left : View) (joined exchanged loaded : Me Slot View) → left ≡ w → joined.0 ≡ with_putter v left → exchanged ≡ (joined.0, (0, bytes) ∷ rest joined.1)
-        → loaded.0 ≡ with_passed exchanged.0 (held exchanged.1) → loaded.0 ≡ passed
-    passed_by left joined exchanged loaded leaves joins gets passes =
-        passes ∙ ((λ i. with_passed (gets i).0 (held (gets i).1)) ∙ (λ i. with_passed ((joins ∙ ap (with_putter v) leaves) i) bytes))
+    -- and took them
+    pub passed_by : (left : View) (joined exchanged put taken : Me Slot View) → left ≡ w → joined.0 ≡ with_putter v left → exchanged ≡ (joined.0, (0, bytes) ∷ rest joined.1)
+        → put.0 ≡ with_put_past exchanged.0 (held exchanged.1) → taken.0 ≡ with_taken_past put.0 → taken.0 ≡ passed
+    passed_by left joined exchanged put taken leaves joins gets puts takes =
+        takes ∙ ap with_taken_past (put_by bytes left joined exchanged put leaves joins gets puts)
 
     low : w.head ≤ length all
     low = omega (arith, clear.known, ip.putting.count, size)
@@ -85,7 +94,8 @@ module _ (p : PutterInside) (t : TakerInside) (ip : IsPutter p) (it : IsTaker t)
     putting = record {
       puts = refl;
       alone = refl;
-      room = it.taking.room ∙ sym clear.capacity;
+      still = refl;
+      room = ip.putting.room;
       begins = subst (λ (xs : List ℕ). IsPrefix all xs) (sym sent_now) (begins_itself all);
       pushed = subst (λ (xs : List ℕ). IsPrefix all xs) (sym sent_now) (begins_itself all);
       count = sym (ap length sent_now ∙ size);
@@ -95,7 +105,7 @@ module _ (p : PutterInside) (t : TakerInside) (ip : IsPutter p) (it : IsTaker t)
     }
 
     pub taking : (word start at : ℕ) → start ≡ place t.capacity ((p.sent + 8) / 4) → p.sent + 8 < 2 ^ 64 → IsTaking t.capacity (p.sent + 8) (p.sent + 8) word start at (taker_of passed)
-    taking word start at start_is fits = clean t.capacity (p.sent + 8) word start at (taker_of passed) it.taking.takes it.taking.room (sym size) refl start_is (omega (arith, size, fits))
+    taking word start at start_is fits = clean t.capacity (p.sent + 8) word start at (taker_of passed) it.taking.takes refl it.taking.room (sym size) refl start_is (omega (arith, size, fits))
         (λ is. absurd (false≢true is)) (λ is. absurd (false≢true is)) (λ _. refl)
 
     module _ (p' : PutterInside) (t' : TakerInside)

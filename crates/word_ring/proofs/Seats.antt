@@ -1,13 +1,12 @@
 -- What each seat of a ring knows, over a change of one or two.
 use Rattle.std.proofs.Common.{◌≡◌, ◌≢◌, ℕ, zero, suc, ◌≤◌, List, [], ◌∷◌, ◌++◌, length, set, refl, sym, ap, subst, ⊎_elim, inl, inr, ◌⊎◌, arith}
 use Rattle.std.proofs.lemmas.Bool.{false≢true}
-use Rattle.std.proofs.lemmas.List.Elements.{All-push}
 use mathlib.Core.List.{IsPrefix}
 use mathlib.Core.Option.{some, some-injective, some-ne-none}
 use lib.ListN.{get_elem?}
 use Rattle.atomic_table.proofs.Lists.{at_set}
 use Rattle.word_ring.specs.declared.table.View.{View}
-use Rattle.word_ring.specs.Ends.{AreReleased, IsReleased}
+use Rattle.word_ring.specs.Ends.{AreReleased}
 use Rattle.word_ring.specs.Plays.{blank_view}
 use Rattle.word_ring.specs.Rule.{Story, KnowsPuts, KnowsTakes, Knows}
 use Rattle.word_ring.proofs.Beginnings.{begins_through, begins_length}
@@ -25,17 +24,12 @@ pub record GoesOn (g g' : Story) : Type 0 where
   pub released : (hs : List ℕ) → AreReleased g.released hs → AreReleased g'.released hs
   pub taken : length g.taken ≤ length g'.taken
 
--- one head as a list of one
-released_on : (rs rs' : List ℕ) (h : ℕ) → ((hs : List ℕ) → AreReleased rs hs → AreReleased rs' hs) → IsReleased rs h → IsReleased rs' h
-released_on rs rs' h on is = on (h ∷ []) (All-push (IsReleased rs) [] h (λ k d lt. absurd (omega arith)) is) 0 h (omega arith)
-
 pub knows_on : (n : ℕ) (g g' : Story) (seat : ℕ) (v : View) → GoesOn g g' → (KnowsPuts n g seat v → KnowsPuts n g' seat v) → (KnowsTakes n g seat v → KnowsTakes n g' seat v)
     → Knows n g seat v → Knows n g' seat v
 knows_on n g g' seat v on puts takes k = record {
   noted = begins_through v.noted g.pushed g'.pushed k.noted on.pushed;
   noted_heads = on.released v.noted_heads k.noted_heads;
   head = (let a = k.head in let b = on.taken in omega arith);
-  told = released_on g.released g'.released v.head on.released k.told;
   tail = (let a = k.tail in let b = begins_length g.pushed g'.pushed on.pushed in omega arith);
   puts = λ is. puts (k.puts is);
   takes = λ is. takes (k.takes is);
@@ -46,7 +40,6 @@ knows_nothing n g seat = record {
   noted = (g.pushed, refl);
   noted_heads = λ k d lt. absurd (omega arith);
   head = omega arith;
-  told = inl refl;
   tail = omega arith;
   puts = λ is. absurd (false≢true is);
   takes = λ is. absurd (false≢true is);

@@ -24,12 +24,13 @@ pub none_peeked : (taken : ℕ) (v : View) → length v.taken ≡ taken → v.re
 none_peeked taken v count is = drop_all taken (take taken v.read) (omega (arith, length-take taken v.read))
 
 -- a seat that has forgotten what it read fits
-pub clean : (capacity taken word start at : ℕ) (v : View) → v.takes ≡ true → v.capacity ≡ capacity → taken ≡ length v.taken → v.read ≡ v.taken → start ≡ place capacity (taken / 4) → v.tail < 2 ^ 64
+pub clean : (capacity taken word start at : ℕ) (v : View) → v.takes ≡ true → v.passing ≡ false → v.takes_within ≡ capacity → taken ≡ length v.taken → v.read ≡ v.taken → start ≡ place capacity (taken / 4) → v.tail < 2 ^ 64
     → (v.puts ≡ true → v.tail ≡ length v.pushed) → (v.puts ≡ true → IsPrefix v.taken v.pushed) → (v.puts ≡ false → v.pushed ≡ []) → IsTaking capacity taken taken word start at v
-clean capacity taken word start at v takes room count read start_is fits ended begins alone =
+clean capacity taken word start at v takes still room count read start_is fits ended begins alone =
     let long = ap length read in
     record {
       takes = takes;
+      still = still;
       room = room;
       count = count;
       goes_on = subst (λ (z : List ℕ). IsPrefix v.taken z) (sym read) (begins_itself v.taken);
@@ -52,19 +53,18 @@ module _ (capacity taken next word start at : ℕ) (v : View) (t : IsTaking capa
   taken_begins is = begins_through v.taken v.read v.pushed t.goes_on (t.begins is)
 
   -- a look tells no more than all that was put, where that is known
-  pub after_look : (n : ℕ) → n < 2 ^ 64 → (v.puts ≡ true → max v.tail n ≤ length v.pushed) → IsTaking capacity taken taken word start at (with_tail v (max v.tail n))
+  pub after_look : (n : ℕ) → n < 2 ^ 64 → (v.puts ≡ true → n ≡ length v.pushed) → IsTaking capacity taken taken word start at (with_tail v n)
   after_look n fits most =
-      let mine = t.fits in
-      clean capacity taken word start at (with_tail v (max v.tail n)) t.takes t.room t.count refl t.start_is (omega arith) (λ is. (let e = t.ended is in let m = most is in omega arith)) taken_begins t.alone
+      clean capacity taken word start at (with_tail v n) t.takes t.still t.room t.count refl t.start_is fits most taken_begins t.alone
 
   -- it is told what was pushed, which it knew where the putter was taken over
   pub after_told : (w : View) → w.tail < 2 ^ 64 → (v.puts ≡ true → max v.tail w.tail ≤ length v.pushed) → IsTaking capacity taken taken word start at (with_note v w)
   after_told w fits most =
       let mine = t.fits in
-      clean capacity taken word start at (with_note v w) t.takes t.room t.count refl t.start_is (omega arith) (λ is. (let e = t.ended is in let m = most is in omega arith)) taken_begins t.alone
+      clean capacity taken word start at (with_note v w) t.takes t.still t.room t.count refl t.start_is (omega arith) (λ is. (let e = t.ended is in let m = most is in omega arith)) taken_begins t.alone
 
   pub after_end : (w : View) → length w.pushed < 2 ^ 64 → max v.tail (length w.pushed) ≤ length w.pushed → IsPrefix v.taken w.pushed → IsTaking capacity taken taken word start at (with_putter v w)
-  after_end w fits most begins = clean capacity taken word start at (with_putter v w) t.takes t.room t.count refl t.start_is (omega arith) (λ is. omega arith) (λ _. begins) (λ is. absurd (false≢true (sym is)))
+  after_end w fits most begins = clean capacity taken word start at (with_putter v w) t.takes t.still t.room t.count refl t.start_is (omega arith) (λ is. omega arith) (λ _. begins) (λ is. absurd (false≢true (sym is)))
 
   -- ---- the next number
 
@@ -100,7 +100,8 @@ module _ (capacity taken next word start at : ℕ) (v : View) (t : IsTaking capa
         let tail : w.tail ≡ v.tail = ap (λ z. z.tail) loaded in
         record {
           takes = ap (λ z. z.takes) loaded ∙ t.takes;
-          room = ap (λ z. z.capacity) loaded ∙ t.room;
+          still = ap (λ z. z.passing) loaded ∙ t.still;
+          room = ap (λ z. z.takes_within) loaded ∙ t.room;
           count = t.count ∙ ap (λ z. length z.taken) (sym loaded);
           goes_on = subst (λ (z : List ℕ). IsPrefix z w.read) (ap (λ z. z.taken) (sym loaded)) (begins_through v.taken v.read w.read t.goes_on longer);
           order = omega arith;
@@ -135,6 +136,7 @@ module _ (capacity taken next word start at : ℕ) (v : View) (t : IsTaking capa
         let s = t.some some in
         record {
           takes = t.takes;
+          still = t.still;
           room = t.room;
           count = t.count;
           goes_on = t.goes_on;
@@ -172,7 +174,7 @@ module _ (capacity taken next word start at : ℕ) (v : View) (t : IsTaking capa
     pub after_release : (start' : ℕ) → start' ≡ place capacity (head / 4) → IsTaking capacity head head word start' at (with_taken_to v head)
     after_release start' start_is =
         let enough = t.peeked in
-        clean capacity head word start' at (with_taken_to v head) t.takes t.room (sym (length-take head v.read ∙ omega arith)) refl start_is t.fits t.ended
+        clean capacity head word start' at (with_taken_to v head) t.takes t.still t.room (sym (length-take head v.read ∙ omega arith)) refl start_is t.fits t.ended
         (λ is. begins_through (take head v.read) v.read v.pushed (begins_take head v.read) (t.begins is)) t.alone
 
 pub begins_seen : (t : Inside) (u : TakerState ℕ) → IsTaker t → taker_state t ≡ u → u.ended ≡ true → IsPrefix u.taken u.sent
@@ -266,7 +268,7 @@ module _ (t : Inside) (inner : IsTaker t) (why : (t.next ≡ t.taken) ⊎ (t.nex
       let v = t.seat.me.0 in
       let k = inner.taking in
       let long : length v.read ≡ t.next = used_up _ _ _ _ _ _ _ k why in
-      loads_lanes n slots id t.seat.me at k.takes (at_is ∙ (ap (λ (z : ℕ). place z (t.next / 4)) (sym k.room) ∙ ap (λ (z : ℕ). place v.capacity (z / 4)) (sym long))) (omega arith)
+      loads_lanes n slots id t.seat.me at k.takes k.still (at_is ∙ (ap (λ (z : ℕ). place z (t.next / 4)) (sym k.room) ∙ ap (λ (z : ℕ). place v.takes_within (z / 4)) (sym long))) (omega arith)
 
 module _ (old new : Inside) (inner : IsTaker old) where
   -- with it some more of its word

@@ -13,7 +13,7 @@ pub record PutterState (A : Type 0) : Type 0 where
   -- all that was put, the oldest first, and the beginning of them that the other end may find
   pub sent : List A
   pub pushed : List A
-  -- the heads that were loaded or told: how many the other end had taken at each
+  -- the heads that were loaded: how many the other end had taken at each
   pub heads : List ℕ
   -- no later head is lower
   pub floor : ℕ
@@ -25,9 +25,9 @@ pub record TakerState (A : Type 0) : Type 0 where
   -- all that was taken, the oldest first, and what was peeked after it and is not yet released
   pub taken : List A
   pub peeked : List A
-  -- the heads that were stored or told
+  -- the heads that were stored
   pub released : List ℕ
-  -- the tails that were loaded or told: how many were pushed at each
+  -- the tails that were loaded: how many were pushed at each
   pub tails : List ℕ
   -- no later tail is lower
   pub floor : ℕ
@@ -74,7 +74,6 @@ with_taken t (x ∷ xs) = record t { taken = t.taken ++ x ∷ xs; peeked = []; r
 
 -- Nothing that was put waits to be taken, and both ends know it; neither has taken over the other.
 pub record NothingWaits {A : Type 0} (p : PutterState A) (t : TakerState A) : Type 0 where
-  pub capacity : p.capacity ≡ t.capacity
   pub pushed : length p.pushed ≡ length p.sent
   pub known : p.floor ≡ length p.sent
   pub taken : length t.taken ≡ length p.sent

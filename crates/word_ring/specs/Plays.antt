@@ -12,11 +12,11 @@ Mine = Me Slot View
 
 -- a seat that knows nothing
 abbrev pub blank_view : View
-blank_view = record { puts = false; takes = false; capacity = 0; written = []; pushed = []; heads = []; taken = []; read = []; released = []; tails = []; noted = []; noted_heads = []; head = 0; tail = 0; holds = false }
+blank_view = record { puts = false; takes = false; puts_within = 0; takes_within = 0; written = []; pushed = []; heads = []; taken = []; read = []; released = []; tails = []; noted = []; noted_heads = []; head = 0; tail = 0; holds = false; passing = false }
 
 -- the seat of both ends of a new ring
 abbrev pub both_ends : ℕ → View
-both_ends n = record blank_view { puts = true; takes = true; capacity = n }
+both_ends n = record blank_view { puts = true; takes = true; puts_within = n; takes_within = n }
 
 abbrev pub with_head : View → ℕ → View
 with_head v n = record v { heads = v.heads ++ n ∷ []; head = n }
@@ -38,19 +38,26 @@ with_read v xs = record v { read = xs }
 abbrev pub with_taken_to : View → ℕ → View
 with_taken_to v n = record v { taken = take n v.read; read = take n v.read; released = v.released ++ n ∷ []; head = n }
 
--- some more are put, pushed, looked at and taken, where none was left
-abbrev pub with_passed : View → List ℕ → View
-with_passed v xs = record v {
-  written = v.pushed ++ xs;
-  pushed = v.pushed ++ xs;
-  heads = v.heads ++ length (v.pushed ++ xs) ∷ [];
-  taken = v.pushed ++ xs;
-  read = v.pushed ++ xs;
-  released = v.released ++ length (v.pushed ++ xs) ∷ [];
-  tails = v.tails ++ length (v.pushed ++ xs) ∷ [];
-  head = length (v.pushed ++ xs);
-  tail = length (v.pushed ++ xs);
+-- some more are put and pushed past the words, where none was left
+abbrev pub with_put_past : View → List ℕ → View
+with_put_past v xs = record v { written = v.pushed ++ xs; pushed = v.pushed ++ xs; passing = true }
+
+-- all that was pushed is taken, and what was stored counts as loaded
+abbrev pub with_taken_past : View → View
+with_taken_past v = record v {
+  heads = v.heads ++ length v.pushed ∷ [];
+  taken = v.pushed;
+  read = v.pushed;
+  released = v.released ++ length v.pushed ∷ [];
+  tails = v.tails ++ length v.pushed ∷ [];
+  head = length v.pushed;
+  tail = length v.pushed;
+  passing = false;
 }
+
+-- both, one after the other
+abbrev pub with_passed : View → List ℕ → View
+with_passed v xs = with_taken_past (with_put_past v xs)
 
 -- what the slot that was taken last has
 abbrev pub held : List (ℕ × Slot) → Slot
@@ -60,9 +67,8 @@ held (x ∷ xs) = x.1
 abbrev pub TakesSlot : Step Slot → Mine → ℕ → Mine → Type 0
 TakesSlot s m n m' = (m'.0 ≡ record m.0 { holds = true }) × ((xs : Slot) × (m'.1 ≡ (0, xs) ∷ m.1))
 
--- what the seat knows of the head may be more than what was stored
 abbrev pub LoadsHead : Step Slot → Mine → ℕ → Mine → Type 0
-LoadsHead s m n m' = (m'.0 ≡ with_head m.0 (max m.0.head n)) × (m'.1 ≡ m.1) × (max m.0.head n ≤ length m.0.pushed) × (length m.0.pushed ≤ length m.0.written)
+LoadsHead s m n m' = (m'.0 ≡ with_head m.0 n) × (m'.1 ≡ m.1) × (m.0.head ≤ n) × (n ≤ length m.0.pushed) × (length m.0.pushed ≤ length m.0.written)
 
 -- the word is stored with so many lanes
 abbrev pub StoresLanes : ℕ → Step Slot → Mine → ℕ → Mine → Type 0
@@ -72,7 +78,7 @@ abbrev pub StoresTail : Step Slot → Mine → ℕ → Mine → Type 0
 StoresTail s m n m' = (m'.0 ≡ with_all_pushed m.0) × (m'.1 ≡ m.1)
 
 abbrev pub LoadsTail : Step Slot → Mine → ℕ → Mine → Type 0
-LoadsTail s m n m' = (m'.0 ≡ with_tail m.0 (max m.0.tail n)) × (m'.1 ≡ m.1) × (length m.0.taken ≤ m.0.tail) × (max m.0.tail n ≤ length m.0.taken + m.0.capacity) × (m.0.puts ≡ true → max m.0.tail n ≤ length m.0.pushed)
+LoadsTail s m n m' = (m'.0 ≡ with_tail m.0 n) × (m'.1 ≡ m.1) × (m.0.tail ≤ n) × (length m.0.taken ≤ n) × (n ≤ length m.0.taken + m.0.takes_within) × (m.0.puts ≡ true → n ≡ length m.0.pushed)
 
 -- of the word the next lanes below the known tail are read, and these were pushed
 abbrev pub LoadsLanes : Step Slot → Mine → ℕ → Mine → Type 0
@@ -89,9 +95,13 @@ Compares s m n m' = (m' ≡ m)
     × All (λ h. h ≤ length m.0.taken) m.0.noted_heads
     × (m.0.puts ≡ true → IsPrefix m.0.taken m.0.pushed × AreReleased m.0.released m.0.heads × (m.0.tail ≤ length m.0.pushed))
 
--- the numbers in the slot are passed, where both ends are at hand and nothing waited
-abbrev pub PassesOn : Step Slot → Mine → ℕ → Mine → Type 0
-PassesOn s m n m' = (m'.0 ≡ with_passed m.0 (held m.1)) × (m'.1 ≡ m.1) × (m.0.taken ≡ m.0.pushed) × (m.0.tail ≤ length m.0.pushed)
+-- the numbers in the slot are put and pushed past the words, where both ends are at hand and nothing waited
+abbrev pub PutsPast : Step Slot → Mine → ℕ → Mine → Type 0
+PutsPast s m n m' = (m'.0 ≡ with_put_past m.0 (held m.1)) × (m'.1 ≡ m.1) × (m.0.taken ≡ m.0.pushed) × (m.0.tail ≤ length m.0.pushed) × (m.0.puts_within ≡ m.0.takes_within)
+
+-- they are taken
+abbrev pub TakesPast : Step Slot → Mine → ℕ → Mine → Type 0
+TakesPast s m n m' = (m'.0 ≡ with_taken_past m.0) × (m'.1 ≡ m.1)
 
 -- the two ends of a ring
 abbrev pub putter_of : View → View
@@ -117,4 +127,4 @@ with_head_note v w = record v { head = max v.head w.head }
 
 -- the taker takes over the putter's seat, and what was read beyond what was taken is forgotten
 abbrev pub with_putter : View → View → View
-with_putter v w = record v { puts = true; written = w.written; pushed = w.pushed; heads = w.heads; read = v.taken; tail = max v.tail (length w.pushed) }
+with_putter v w = record v { puts = true; puts_within = w.puts_within; written = w.written; pushed = w.pushed; heads = w.heads; read = v.taken; tail = max v.tail (length w.pushed) }

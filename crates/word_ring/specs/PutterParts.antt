@@ -28,7 +28,8 @@ putter_state p = record {
 pub record IsPutting (capacity sent word : ℕ) (v : View) : Type 0 where
   pub puts : v.puts ≡ true
   pub alone : v.takes ≡ false
-  pub room : v.capacity ≡ capacity
+  pub still : v.passing ≡ false
+  pub room : v.puts_within ≡ capacity
   -- the last word has the numbers that are stored of it
   pub begins : IsPrefix v.written (sent_of sent word v)
   -- what was pushed begins them

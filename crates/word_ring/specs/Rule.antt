@@ -8,7 +8,9 @@ use Rattle.word_ring.specs.declared.table.View.{View}
 use Rattle.word_ring.specs.Ends.{AreReleased, IsReleased}
 use Rattle.word_ring.specs.Lanes.{lane}
 
--- What was done so far: the numbers whose word was stored or that were passed, those of them that were pushed, those of them that were taken, the heads that were stored or told, the seats of the two ends, and whether the slot was taken.
+-- What was done so far: the numbers whose word was stored or that went past the words, those of them that were pushed, those of
+-- them that were taken, the heads that were stored, the seats of the two ends, whether the slot was taken, and whether what was
+-- pushed last goes past the words and is not yet taken.
 pub record Story : Type 0 where
   pub written : List ℕ
   pub pushed : List ℕ
@@ -17,32 +19,34 @@ pub record Story : Type 0 where
   pub putter : ℕ
   pub taker : ℕ
   pub out : Bool
+  pub passing : Bool
 
 -- what the seat of the putter knows
 pub record KnowsPuts (n : ℕ) (g : Story) (seat : ℕ) (v : View) : Type 0 where
   pub at : seat ≡ g.putter
-  pub capacity : v.capacity ≡ n
+  pub capacity : v.puts_within ≡ n
   pub written : v.written ≡ g.written
   pub pushed : v.pushed ≡ g.pushed
   pub heads : AreReleased g.released v.heads
+  pub passing : v.passing ≡ g.passing
 
 -- what the seat of the taker knows
 pub record KnowsTakes (n : ℕ) (g : Story) (seat : ℕ) (v : View) : Type 0 where
   pub at : seat ≡ g.taker
-  pub capacity : v.capacity ≡ n
+  pub capacity : v.takes_within ≡ n
   pub taken : v.taken ≡ g.taken
   pub released : v.released ≡ g.released
   pub begins : IsPrefix v.taken v.read
   pub read : IsPrefix v.read g.pushed
   pub known : length v.read ≤ v.tail
   pub out : v.holds ≡ g.out
+  pub passing : v.passing ≡ g.passing
 
 -- what each seat knows
 pub record Knows (n : ℕ) (g : Story) (seat : ℕ) (v : View) : Type 0 where
   pub noted : IsPrefix v.noted g.pushed
   pub noted_heads : AreReleased g.released v.noted_heads
   pub head : v.head ≤ length g.taken
-  pub told : IsReleased g.released v.head
   pub tail : v.tail ≤ length g.pushed
   pub puts : v.puts ≡ true → KnowsPuts n g seat v
   pub takes : v.takes ≡ true → KnowsTakes n g seat v
@@ -62,13 +66,14 @@ Slot = List ℕ
 pub record Ring (n : ℕ) (s : State Slot View) : Type 0 where
   pub story : Story
   pub wide : length s.words ≡ n / 4 + 4
-  pub head : slice_index s.words 0 ≤ length story.taken
-  pub told : IsReleased story.released (slice_index s.words 0)
-  pub tail : slice_index s.words 1 ≤ length story.pushed
+  pub head : slice_index s.words 0 ≡ length story.taken
+  pub tail : slice_index s.words 1 ≡ length story.pushed
   pub taken : IsPrefix story.taken story.pushed
   pub pushed : IsPrefix story.pushed story.written
   pub fits : length story.written ≤ length story.taken + n
-  pub stands : Stands n s.words (length story.taken) story.written
+  pub stands : story.passing ≡ false → Stands n s.words (length story.taken) story.written
+  -- what goes past the words no other seat can look for, since one seat has both ends
+  pub one : story.passing ≡ true → story.putter ≡ story.taker
   pub released : All (λ h. h ≤ length story.taken) story.released
   pub last : IsReleased story.released (length story.taken)
   pub home : story.out ≡ false → (xs : Slot) × (get_elem? s.homes 0 ≡ some (some xs))

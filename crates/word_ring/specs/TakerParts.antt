@@ -33,7 +33,8 @@ HasLanes word next read = (i : ℕ) → next ≤ i → i < length read → slice
 -- what a taker's seat knows fits its numbers
 pub record IsTaking (capacity taken next word start at : ℕ) (v : View) : Type 0 where
   pub takes : v.takes ≡ true
-  pub room : v.capacity ≡ capacity
+  pub still : v.passing ≡ false
+  pub room : v.takes_within ≡ capacity
   pub count : taken ≡ length v.taken
   pub goes_on : IsPrefix v.taken v.read
   pub order : taken ≤ next

@@ -4,10 +4,10 @@
 //! Four numbers share a word of 64 bits. The putter stores a word once for each four numbers and
 //! at a push, and the tail at a push; the taker loads a word once for each four numbers that it
 //! peeks, and stores the head once for all of them. Where both ends are at hand and nothing waits, eight
-//! numbers are passed from the one to the other with no store at all. So a head that the putter was told
-//! may be higher than the one that it loads, and then counts as loaded; and so for the taker with tails.
+//! numbers are passed from the one to the other, and the tail and the head are stored once for them.
 #![tactic(auto)]
 
+mod fours;
 mod lanes;
 mod new;
 mod passing;
@@ -19,6 +19,3 @@ mod taker;
 pub use new::{names_tell_rings, ring};
 pub use putter::{Note, Putter};
 pub use taker::{HeadNote, Taker};
-
-#[cfg(test)]
-mod tests;

@@ -1,5 +1,5 @@
-//! What goes from the one end straight to the other, where both are at hand and nothing waits: no number
-//! is stored in a word, nor the head and the tail.
+//! What goes from the one end straight to the other, where both are at hand and nothing waits: the head
+//! and the tail are stored, and no number is stored in a word.
 ghost use Rattle.std.specs.Prelude.{◌≡◌, ◌+◌, ◌≤◌, ◌<◌, ◌/◌, ◌^◌, ◌↔◌, length, drop, IsTrue};
 ghost use Rattle.word_ring.specs.Ends.{NothingWaits, Passes};
 ghost use Rattle.word_ring.specs.Lanes.{lanes};
@@ -8,7 +8,7 @@ ghost use Rattle.word_ring.specs.Rule.{place};
 use crate::lanes::word_of;
 use crate::putter::Putter;
 use crate::steps::place_of_next;
-use crate::table::{Apart, Ended, HEAD, Left, Pass};
+use crate::table::{Apart, Ended, HEAD, Left, PutPast, TAIL, TakePast};
 use crate::taker::Taker;
 
 impl Taker {
@@ -17,29 +17,30 @@ impl Taker {
     pub fn nothing_waits(&self, putter: &Putter) -> bool
         ensures { IsTrue result ↔ NothingWaits putter.now self.now }
     {
-        putter.capacity == self.capacity
-            && putter.shown == putter.sent
+        putter.shown == putter.sent
             && putter.head == putter.sent
             && self.taken == putter.sent
             && !self.ended
     }
 
     /// Takes these bytes as numbers from the putter, where nothing waits: as if each was put, all of them
-    /// pushed and taken, and the head loaded.
+    /// pushed and taken, and the head loaded. The tail and the head are stored once.
     #[inline(always)]
     pub fn pass(&mut self, putter: &mut Putter, bytes: [u8; 8])
         requires ring { putter.old.ring ≡ self.old.ring }
         requires clear { NothingWaits putter.old self.old }
+        requires room { 8 ≤ self.old.capacity }
         requires small { length putter.old.sent + 8 ≤ 2 ^ 63 }
         ensures { Passes putter.old putter.new self.old self.new bytes }
     {
+        let sent = putter.sent + 8;
         let shared = &self.board.shared;
         let seat = shared.split_seat::<Left>(&mut putter.seat);
         shared.join_seat::<Ended>(&mut self.seat, seat);
         shared.exchange(&mut self.seat, 0, bytes);
-        shared.load::<Pass>(&mut self.seat, HEAD);
+        shared.store::<PutPast>(&mut self.seat, TAIL, sent);
+        shared.store::<TakePast>(&mut self.seat, HEAD, sent);
         putter.seat = shared.split_seat::<Apart>(&mut self.seat);
-        let sent = putter.sent + 8;
         putter.word = last_four(bytes);
         putter.at = two_words_on(putter.capacity, putter.sent, putter.at);
         putter.sent = sent;

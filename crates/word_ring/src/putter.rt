@@ -2,10 +2,9 @@
 ghost use Rattle.std.specs.Prelude.{◌≡◌, ◌+◌, ◌%◌, ◌<◌, ◌≤◌, ◌^◌, [], ◌∷◌, ◌++◌, length, OnOk, OnErr, MatchResult};
 ghost use Rattle.std.specs.List.Sorted.{IsNonDecreasing};
 ghost use Rattle.word_ring.specs.Ends.{with_loaded};
-ghost use Rattle.word_ring.specs.Lanes.{lanes};
 
-use crate::lanes::{joined, with_next, word_of};
-use crate::steps::{place_after, place_of_next, store_lanes};
+use crate::lanes::with_next;
+use crate::steps::{place_after, store_lanes};
 use crate::table::{Board, HEAD, HeadNoted, LoadHead, Noted, Place, StoreTail, TAIL};
 use crate::taker::HeadNote;
 use std::alloc::Global;
@@ -70,10 +69,11 @@ impl Moves for Note {}
 
 impl Putter {
     /// How many numbers the ring has room for.
-    pub fn capacity(&self) -> u64
+    #[inline(always)]
+    pub fn capacity(&self) -> usize
         ensures { result ≡ self.now.capacity }
     {
-        self.capacity
+        self.capacity as usize
     }
 
     /// How many numbers were put.
@@ -89,7 +89,7 @@ impl Putter {
         ensures count { result + self.new.floor ≡ length self.old.sent }
         ensures most { result ≤ self.old.capacity }
         ensures rises { (self.old.floor ≤ self.new.floor) × (self.new.floor ≤ length self.old.pushed) }
-        ensures rise { IsNonDecreasing self.new.heads }
+        ensures ordered { IsNonDecreasing self.new.heads }
     {
         self.sent - self.load_head()
     }
@@ -105,7 +105,7 @@ impl Putter {
             (λ _. length self.old.sent < self.new.floor + self.old.capacity)
             (λ f. (f ≡ record { sent = length self.old.sent; seen = self.new.floor }) × (length self.old.sent ≡ self.new.floor + self.old.capacity)) }
         ensures rises { (self.old.floor ≤ self.new.floor) × (self.new.floor ≤ length self.old.pushed) }
-        ensures rise { IsNonDecreasing self.new.heads }
+        ensures ordered { IsNonDecreasing self.new.heads }
     {
         let seen = self.load_head();
         let sent = self.sent;
@@ -134,57 +134,11 @@ impl Putter {
         self.at = place_after(self.capacity, sent + 1, self.at);
     }
 
-    /// Puts four numbers for which there is room by the latest head that was loaded. One word is filled
-    /// by them, and stored at once.
-    #[inline(always)]
-    pub fn put_four(&mut self, xs: [u16; 4])
-        requires small { length self.old.sent + 4 ≤ 2 ^ 63 }
-        requires room { length self.old.sent + 4 ≤ self.old.floor + self.old.capacity }
-        ensures { self.new ≡ record self.old { sent = self.old.sent ++ xs } }
-    {
-        let four = word_of(xs);
-        if self.sent % 4 == 0 {
-            self.put_word(four);
-        } else {
-            self.put_across(four);
-        }
-    }
-
-    // Puts the four numbers of a word, where all words so far are full.
-    fn put_word(&mut self, word: u64)
-        requires full { length self.old.sent % 4 ≡ 0 }
-        requires small { length self.old.sent + 4 ≤ 2 ^ 63 }
-        requires room { length self.old.sent + 4 ≤ self.old.floor + self.old.capacity }
-        ensures { self.new ≡ record self.old { sent = self.old.sent ++ lanes word 4 } }
-    {
-        let at = self.at;
-        store_lanes(&self.board.shared, &mut self.seat, at, word, 4);
-        self.sent += 4;
-        self.at = place_of_next(self.capacity, self.sent, at);
-    }
-
-    // Puts four numbers of which the first fill the last word, and the others begin the next one.
-    #[inline(never)]
-    fn put_across(&mut self, four: u64)
-        requires inside { 0 < length self.old.sent % 4 }
-        requires small { length self.old.sent + 4 ≤ 2 ^ 63 }
-        requires room { length self.old.sent + 4 ≤ self.old.floor + self.old.capacity }
-        ensures { self.new ≡ record self.old { sent = self.old.sent ++ lanes four 4 } }
-    {
-        let at = self.at;
-        let end = self.sent + 4;
-        let full = joined(self.word, four, self.sent % 4);
-        store_lanes(&self.board.shared, &mut self.seat, at, full, 4);
-        self.word = four;
-        self.sent = end;
-        self.at = place_of_next(self.capacity, end / 4 * 4, at);
-    }
-
     /// Makes all that was put visible to the taker, by one store of the tail. Where all of it is, there
     /// is nothing to store.
     pub fn push(&mut self)
         ensures same { self.new ≡ record self.old { pushed = self.old.sent } }
-        ensures rise { IsNonDecreasing self.new.heads }
+        ensures ordered { IsNonDecreasing self.new.heads }
     {
         let sent = self.sent;
         if self.shown == sent {
@@ -207,7 +161,7 @@ impl Putter {
     pub fn note(&mut self) -> Note
         ensures same { self.new ≡ record self.old { pushed = self.old.sent } }
         ensures note { result ≡ record { ring = self.old.ring; pushed = self.old.sent; heads = self.old.heads } }
-        ensures rise { IsNonDecreasing self.new.heads }
+        ensures ordered { IsNonDecreasing self.new.heads }
     {
         self.push();
         Note {
@@ -223,7 +177,7 @@ impl Putter {
         ensures same { self.new ≡ with_loaded self.old self.new.floor }
         ensures rises { (self.old.floor ≤ self.new.floor) × (note.taken ≤ self.new.floor) × (self.new.floor ≤ length self.old.pushed) }
         ensures within { length self.old.pushed ≤ length self.old.sent }
-        ensures rise { IsNonDecreasing self.new.heads }
+        ensures ordered { IsNonDecreasing self.new.heads }
     {
         let HeadNote { seat, taken } = note;
         let shared = &self.board.shared;
@@ -232,17 +186,17 @@ impl Putter {
         self.load_head();
     }
 
-    // Loads the head, which may have been told to be higher.
+    // Loads the head.
     #[inline(always)]
     fn load_head(&mut self) -> u64
         ensures same { self.new ≡ with_loaded self.old result }
         ensures rises { (self.old.floor ≤ result) × (result ≤ length self.old.pushed) }
         ensures within { length self.old.pushed ≤ length self.old.sent }
-        ensures rise { IsNonDecreasing self.new.heads }
+        ensures ordered { IsNonDecreasing self.new.heads }
         ensures most { length self.old.sent ≤ result + self.old.capacity }
     {
         let head = self.board.shared.load::<LoadHead>(&mut self.seat, HEAD);
-        self.head = self.head.max(head);
-        self.head
+        self.head = head;
+        head
     }
 }

@@ -1,9 +1,8 @@
 //! The table that both ends of a ring share: its words, what each seat knows, and what a step tells.
 //! Word 0 is the head, how many numbers were taken; word 1 the tail, how many were pushed; the
 //! words from 2 on have the numbers, four to a word, each at its count. What is passed with both ends
-//! at hand stands in no word, and no head or tail is stored for it: these are then lower than the
-//! counts. Its numbers go through the one slot, which the taker holds.
-ghost use Rattle.word_ring.specs.Plays.{TakesSlot, LoadsHead, StoresLanes, StoresTail, LoadsTail, LoadsLanes, StoresHead, Compares, PassesOn, blank_view, putter_of, taker_of, note_of, head_note_of, with_note, with_head_note, with_putter};
+//! at hand stands in no word: its numbers go through the one slot, which the taker holds.
+ghost use Rattle.word_ring.specs.Plays.{TakesSlot, LoadsHead, StoresLanes, StoresTail, LoadsTail, LoadsLanes, StoresHead, Compares, PutsPast, TakesPast, blank_view, putter_of, taker_of, note_of, head_note_of, with_note, with_head_note, with_putter};
 
 use atomic_table::{Join, Play, Seat, Shared, Split, Table, TableRule};
 use std::alloc::Global;
@@ -21,7 +20,10 @@ pub struct View {
     pub puts: bool,
     /// This is the taker's seat.
     pub takes: bool,
-    pub capacity: u64,
+    /// The capacity, as the putter knows it.
+    pub puts_within: u64,
+    /// The capacity, as the taker knows it.
+    pub takes_within: u64,
     /// The numbers whose word was stored.
     pub written: [u16; 0],
     pub pushed: [u16; 0],
@@ -44,6 +46,8 @@ pub struct View {
     pub tail: u64,
     /// The slot was taken.
     pub holds: bool,
+    /// What was pushed last goes past the words, and is not yet taken.
+    pub passing: bool,
 }
 
 /// The rule of a ring. Its key is the capacity.
@@ -109,11 +113,18 @@ impl Play<Slot, View> for Compare {
     ghost then = { Compares };
 }
 
-/// The numbers in the slot are passed.
-pub(crate) struct Pass;
+/// The numbers in the slot are put and pushed past the words.
+pub(crate) struct PutPast;
 
-impl Play<Slot, View> for Pass {
-    ghost then = { PassesOn };
+impl Play<Slot, View> for PutPast {
+    ghost then = { PutsPast };
+}
+
+/// They are taken.
+pub(crate) struct TakePast;
+
+impl Play<Slot, View> for TakePast {
+    ghost then = { TakesPast };
 }
 
 /// The slot is taken.

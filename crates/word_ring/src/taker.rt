@@ -3,11 +3,10 @@ ghost use Rattle.std.specs.Prelude.{◌≡◌, ℕ, ◌+◌, ◌-◌, ◌%◌, �
 ghost use mathlib.Core.List.{IsPrefix};
 ghost use Rattle.arrayvec.specs.ArrayVec.{array_vec_len};
 ghost use Rattle.word_ring.specs.Ends.{IsOneWithin, AreReleased, with_shown, with_taken};
-ghost use Rattle.word_ring.specs.Lanes.{lanes};
 
-use crate::lanes::{joined, lane_of};
+use crate::lanes::lane_of;
 use crate::putter::{Note, Putter};
-use crate::steps::{place_of_head, place_of_next, place_of_word, place_to_load};
+use crate::steps::{place_of_head, place_to_load};
 use crate::table::{
     Board, Compare, Ended, HEAD, HeadNoted, LoadLanes, LoadTail, Noted, Place, StoreHead, TAIL,
 };
@@ -75,6 +74,14 @@ impl Moves for Taker {}
 impl Moves for HeadNote {}
 
 impl Taker {
+    /// How many numbers the ring has room for.
+    #[inline(always)]
+    pub fn capacity(&self) -> usize
+        ensures { result ≡ self.now.capacity }
+    {
+        self.capacity as usize
+    }
+
     /// How many numbers were taken.
     pub fn taken(&self) -> u64
         ensures count { result ≡ length self.now.taken }
@@ -120,7 +127,7 @@ impl Taker {
         ensures begins { self.old.ended ≡ true → IsPrefix self.old.taken self.old.sent }
     {
         let tail = self.board.shared.load::<LoadTail>(&mut self.seat, TAIL);
-        self.tail = self.tail.max(tail);
+        self.tail = tail;
         self.next = self.taken;
         (self.tail - self.taken) as usize
     }
@@ -138,103 +145,6 @@ impl Taker {
         }
         self.next = next + 1;
         lane_of(self.word, next % 4)
-    }
-
-    /// The next four numbers, which a look or a note has shown, as the lanes of a word. They stay in the
-    /// ring until they are released.
-    pub fn peek_four(&mut self) -> u64
-        requires shown { length self.old.taken + length self.old.peeked + 4 ≤ self.old.floor }
-        ensures { self.new ≡ record self.old { peeked = self.old.peeked ++ lanes result 4 } }
-    {
-        if self.next % 4 == 0 {
-            self.peek_word()
-        } else {
-            self.peek_across()
-        }
-    }
-
-    /// The next eight numbers, which a look or a note has shown, as the lanes of two words. They stay in
-    /// the ring until they are released.
-    #[inline(always)]
-    pub fn peek_eight(&mut self) -> (u64, u64)
-        requires shown { length self.old.taken + length self.old.peeked + 8 ≤ self.old.floor }
-        ensures { self.new ≡ record self.old { peeked = (self.old.peeked ++ lanes result.0 4) ++ lanes result.1 4 } }
-    {
-        if self.next % 4 == 0 {
-            self.peek_two_words()
-        } else {
-            self.peek_twice_across()
-        }
-    }
-
-    // The next four numbers, where the first of them begins a word.
-    fn peek_word(&mut self) -> u64
-        requires begins { (length self.old.taken + length self.old.peeked) % 4 ≡ 0 }
-        requires shown { length self.old.taken + length self.old.peeked + 4 ≤ self.old.floor }
-        ensures { self.new ≡ record self.old { peeked = self.old.peeked ++ lanes result 4 } }
-    {
-        let next = self.next;
-        let at = place_of_word(self.capacity, self.taken, next, self.start, self.at);
-        let word = self.board.shared.load::<LoadLanes>(&mut self.seat, at);
-        self.word = word;
-        self.at = at;
-        self.next = next + 4;
-        word
-    }
-
-    // The next eight numbers, where the first of them begins a word.
-    #[inline(always)]
-    fn peek_two_words(&mut self) -> (u64, u64)
-        requires begins { (length self.old.taken + length self.old.peeked) % 4 ≡ 0 }
-        requires shown { length self.old.taken + length self.old.peeked + 8 ≤ self.old.floor }
-        ensures { self.new ≡ record self.old { peeked = (self.old.peeked ++ lanes result.0 4) ++ lanes result.1 4 } }
-    {
-        let next = self.next;
-        let first_at = place_of_word(self.capacity, self.taken, next, self.start, self.at);
-        let shared = &self.board.shared;
-        let first = shared.load::<LoadLanes>(&mut self.seat, first_at);
-        let at = place_of_next(self.capacity, next + 4, first_at);
-        let second = shared.load::<LoadLanes>(&mut self.seat, at);
-        self.word = second;
-        self.at = at;
-        self.next = next + 4 + 4;
-        (first, second)
-    }
-
-    // The next four numbers, where the first of them does not begin a word: the last ones of a word,
-    // which may have been loaded, and the first ones of the next.
-    fn peek_across(&mut self) -> u64
-        requires inside { 0 < (length self.old.taken + length self.old.peeked) % 4 }
-        requires shown { length self.old.taken + length self.old.peeked + 4 ≤ self.old.floor }
-        ensures { self.new ≡ record self.old { peeked = self.old.peeked ++ lanes result 4 } }
-    {
-        let lane = self.next % 4;
-        let end = self.next + 4;
-        if self.next == self.taken {
-            self.word = self
-                .board
-                .shared
-                .load::<LoadLanes>(&mut self.seat, self.start);
-            self.at = self.start;
-        }
-        let first = self.word;
-        let at = place_of_next(self.capacity, end / 4 * 4, self.at);
-        let second = self.board.shared.load::<LoadLanes>(&mut self.seat, at);
-        self.word = second;
-        self.at = at;
-        self.next = end;
-        joined(first, second, 4 - lane)
-    }
-
-    // The next eight numbers, where the first of them does not begin a word.
-    #[inline(never)]
-    fn peek_twice_across(&mut self) -> (u64, u64)
-        requires inside { 0 < (length self.old.taken + length self.old.peeked) % 4 }
-        requires shown { length self.old.taken + length self.old.peeked + 8 ≤ self.old.floor }
-        ensures { self.new ≡ record self.old { peeked = (self.old.peeked ++ lanes result.0 4) ++ lanes result.1 4 } }
-    {
-        let first = self.peek_across();
-        (first, self.peek_across())
     }
 
     /// Takes the first `n` numbers that were peeked, by one store of the head, and the others are

@@ -1,7 +1,7 @@
 //! Giving: good characters of the line go past the flip buffer to the line discipline, where nothing waits
 //! in it and both of its ends are at hand.
 
-ghost use Rattle.std.specs.Prelude.{◌≡◌, ◌↔◌, ◌+◌, ◌≤◌, ◌^◌, false, length, IsTrue, IfOk, IfErr};
+ghost use Rattle.std.specs.Prelude.{◌≡◌, ◌↔◌, ◌+◌, ◌≤◌, ◌^◌, false, length, IsTrue, IfOk, IfErr, OnOk};
 ghost use Rattle.tty_base.specs.Characters.{good_characters};
 ghost use Rattle.word_ring.specs.Ends.{NothingWaits};
 
@@ -39,8 +39,8 @@ impl Port {
         requires ring { putter.old.ring ≡ self.old.flip.ring }
         requires clear { NothingWaits putter.old self.old.flip }
         requires piece { IsPieceOf self.old run 0 8 }
-        requires few { 8 ≤ putter.old.capacity }
         requires small { length putter.old.sent + 8 ≤ 2 ^ 63 }
+        ensures open { OnOk result (IsOpen self.old) }
         ensures ok { IfOk result (λ flushed. FlushesGiven self.old self.new putter.old putter.new run (good_characters bytes.now) flushed) }
         ensures err { IfErr result (λ d. DeniesGiven d self.old self.new putter.old putter.new (good_characters bytes.now)) }
     {
@@ -61,7 +61,8 @@ impl Port {
         self.gate().is_ok() && !self.is_stuck() && !self.terminal.line_is_over()
     }
 
-    /// The same where all of that holds: what the discipline accepts never waits in the flip buffer.
+    /// Gives the characters where all of that holds: what the discipline accepts never waits in the flip
+    /// buffer.
     #[inline(always)]
     fn give_piece(
         &mut self,
@@ -72,11 +73,11 @@ impl Port {
         requires ring { putter.old.ring ≡ self.old.flip.ring }
         requires clear { NothingWaits putter.old self.old.flip }
         requires piece { IsPieceOf self.old run 0 8 }
-        requires few { 8 ≤ putter.old.capacity }
         requires small { length putter.old.sent + 8 ≤ 2 ^ 63 }
         requires entry { IsOpen self.old }
         requires free { is_stuck self.old.terminal ≡ false }
         requires line { self.old.terminal.line_over ≡ false }
+        ensures open { OnOk result (IsOpen self.old) }
         ensures ok { IfOk result (λ flushed. FlushesGiven self.old self.new putter.old putter.new run (good_characters bytes.now) flushed) }
         ensures err { IfErr result (λ d. DeniesGiven d self.old self.new putter.old putter.new (good_characters bytes.now)) }
     {
@@ -86,6 +87,7 @@ impl Port {
         }
         chars.add_good(bytes);
         let generation = self.terminal.generation();
+        // The discipline is first: how many it accepts tells how many pass the flip buffer.
         let received = receive_front(&mut self.terminal, &mut chars, 8);
         take_given(&mut self.flip, putter, bytes, received);
         self.terminal.note_piece(run, 0);
@@ -94,7 +96,7 @@ impl Port {
         Ok(Flushed::Took(received as u32))
     }
 
-    /// The same for every port: first all are put, then the piece is flushed.
+    /// Gives them to any port: first all are put, then the piece is flushed.
     #[inline(never)]
     fn flush_put(
         &mut self,
@@ -105,8 +107,8 @@ impl Port {
         requires ring { putter.old.ring ≡ self.old.flip.ring }
         requires clear { NothingWaits putter.old self.old.flip }
         requires piece { IsPieceOf self.old run 0 8 }
-        requires few { 8 ≤ putter.old.capacity }
         requires small { length putter.old.sent + 8 ≤ 2 ^ 63 }
+        ensures open { OnOk result (IsOpen self.old) }
         ensures ok { IfOk result (λ flushed. FlushesGiven self.old self.new putter.old putter.new run (good_characters bytes.now) flushed) }
         ensures err { IfErr result (λ d. DeniesGiven d self.old self.new putter.old putter.new (good_characters bytes.now)) }
     {

@@ -1,9 +1,9 @@
 //! What each call does.
 
 ghost use Rattle.std.specs.Prelude.{◌≡◌, ℕ, List, [], ◌∷◌, Option, Some, None, Bool, true, false, ◌==◌, ◌+◌, ◌-◌, ◌≤◌, ◌<◌, ◌^◌, length, drop, option_map, box_value, if◌then◌else◌};
-ghost use Rattle.tty_calls.specs.Plain.{handle_of, call_of, answer_of, counts_are};
+ghost use Rattle.tty_calls.specs.Plain.{call_of, answer_of, counts_are};
 ghost use Rattle.tty_modes.specs.Word.{after_words};
-ghost use Rattle.flow_control.specs.Output.{on_wire, after_start};
+ghost use Rattle.flow_control.specs.Output.{on_wire};
 ghost use Rattle.ldisc_switch.specs.Disciplines.{fresh_of, kind_of_number, column_in, Fits};
 ghost use Rattle.ldisc_switch.specs.Happenings.{mode_change, after_one};
 ghost use Rattle.tty_terminal.specs.Meeting.{fresh_in, spelled_unless_long};
@@ -12,7 +12,7 @@ ghost use Rattle.tty_terminal.specs.Outcomes.{may_read as reads_by, may_write as
 
 use super::Terminal;
 use crate::callers::CallerState;
-use crate::rooms::{Met, ROOM_FOR_CALL, Room};
+use crate::rooms::{Met, Room};
 use flow_control::Wire;
 use handle_table::HandleState;
 use ldisc_switch::{Disc, Kind};
@@ -65,9 +65,7 @@ impl Terminal {
     ghost use Rattle.tty_terminal.specs.Switching.{number_of, change_outcome, hangup_outcome};
     ghost use Rattle.tty_terminal.specs.Flow.{flush_outcome, after_act, without_held, with_character_sent};
     ghost use Rattle.tty_terminal.specs.Packets.{sending_outcome, taking_outcome};
-    ghost use Rattle.tty_terminal.specs.Calls.{outcome};
-    ghost use Rattle.tty_calls.specs.Limits.{byte_count};
-    ghost use Rattle.tty_terminal.specs.Meeting.{Meets, left_before_rule, read_room, packet_room, close_kind, spelled_packet, IsRoomFor, group_of};
+    ghost use Rattle.tty_terminal.specs.Meeting.{Meets, left_before_rule, read_room, packet_room, close_kind, CanAct, Acts, group_of};
 
     /// The handle that a call of the caller goes by.
     pub(super) fn handle_for(&self, caller: u16, h: u8) -> Option<HandleState>
@@ -279,7 +277,9 @@ impl Terminal {
     {
         let new = modes_after(&self.modes, words);
         recast(&mut self.disc, &self.modes, &new);
-        start_where(self.modes.has(IXON) && !new.has(IXON), &mut self.wire);
+        let _held = self.wire.held();
+        self.wire
+            .start_where(self.modes.has(IXON) && !new.has(IXON));
         self.modes = new;
     }
 
@@ -482,20 +482,13 @@ impl Terminal {
         }
     }
 
-    /// Makes a call of a caller, without the rule for ixoff after it.
+    /// Makes a call of a caller, without the rule for ixoff after it. The nineteen calls are four groups, each
+    /// in a function of its own that hands the others on: a proof of one function with all of them is too
+    /// long, and a read or a write need not make room for what the rare calls keep.
     #[inline(always)]
     pub(super) fn act(&mut self, caller: u16, call: &Call, room: &mut Room) -> Met
-        requires known { caller < length self.old.terminal.callers }
-        requires number { handle_of (call_of call.now) < 32 }
-        requires bytes { byte_count (call_of call.now) < 2 ^ 32 }
-        requires few { self.old.terminal.generation < 2 ^ 31 }
-        requires room { IsRoomFor self.old.terminal (call_of call.now) room.old }
-        requires wire { ROOM_FOR_CALL ≤ self.old.wire_room }
-        requires column { column_in self.old.terminal.disc < 2 ^ 62 }
-        ensures met { Meets (outcome self.old.terminal (caller_at self.old.terminal caller) (call_of call.now)) result }
-        ensures left { self.new.terminal ≡ left_before_rule (outcome self.old.terminal (caller_at self.old.terminal caller) (call_of call.now)) self.old.terminal }
-        ensures wire { self.old.wire_room ≤ self.new.wire_room + 4096 }
-        ensures column { column_in self.new.terminal.disc ≤ column_in self.old.terminal.disc + 4096 }
+        requires { CanAct self.old caller (call_of call.now) room.old }
+        ensures { Acts self.old self.new caller (call_of call.now) result }
     {
         match call {
             Call::Open {
@@ -519,18 +512,9 @@ impl Terminal {
     /// The calls on modes and disciplines.
     #[inline(never)]
     fn act_on_modes(&mut self, caller: u16, call: &Call, room: &mut Room) -> Met
-        requires known { caller < length self.old.terminal.callers }
-        requires number { handle_of (call_of call.now) < 32 }
-        requires bytes { byte_count (call_of call.now) < 2 ^ 32 }
-        requires few { self.old.terminal.generation < 2 ^ 31 }
-        requires room { IsRoomFor self.old.terminal (call_of call.now) room.old }
-        requires wire { ROOM_FOR_CALL ≤ self.old.wire_room }
-        requires column { column_in self.old.terminal.disc < 2 ^ 62 }
+        requires can { CanAct self.old caller (call_of call.now) room.old }
         requires group { 1 ≤ group_of (call_of call.now) }
-        ensures met { Meets (outcome self.old.terminal (caller_at self.old.terminal caller) (call_of call.now)) result }
-        ensures left { self.new.terminal ≡ left_before_rule (outcome self.old.terminal (caller_at self.old.terminal caller) (call_of call.now)) self.old.terminal }
-        ensures wire { self.old.wire_room ≤ self.new.wire_room + 4096 }
-        ensures column { column_in self.new.terminal.disc ≤ column_in self.old.terminal.disc + 4096 }
+        ensures { Acts self.old self.new caller (call_of call.now) result }
     {
         match call {
             Call::GetModes { h } => {
@@ -555,18 +539,9 @@ impl Terminal {
 
     /// The calls on held output, and on who may open.
     fn act_on_output(&mut self, caller: u16, call: &Call, room: &mut Room) -> Met
-        requires known { caller < length self.old.terminal.callers }
-        requires number { handle_of (call_of call.now) < 32 }
-        requires bytes { byte_count (call_of call.now) < 2 ^ 32 }
-        requires few { self.old.terminal.generation < 2 ^ 31 }
-        requires room { IsRoomFor self.old.terminal (call_of call.now) room.old }
-        requires wire { ROOM_FOR_CALL ≤ self.old.wire_room }
-        requires column { column_in self.old.terminal.disc < 2 ^ 62 }
+        requires can { CanAct self.old caller (call_of call.now) room.old }
         requires group { 2 ≤ group_of (call_of call.now) }
-        ensures met { Meets (outcome self.old.terminal (caller_at self.old.terminal caller) (call_of call.now)) result }
-        ensures left { self.new.terminal ≡ left_before_rule (outcome self.old.terminal (caller_at self.old.terminal caller) (call_of call.now)) self.old.terminal }
-        ensures wire { self.old.wire_room ≤ self.new.wire_room + 4096 }
-        ensures column { column_in self.new.terminal.disc ≤ column_in self.old.terminal.disc + 4096 }
+        ensures { Acts self.old self.new caller (call_of call.now) result }
     {
         match call {
             Call::Flush { h, queue } => {
@@ -595,18 +570,9 @@ impl Terminal {
 
     /// The other calls.
     fn act_on_rest(&mut self, caller: u16, call: &Call, room: &mut Room) -> Met
-        requires known { caller < length self.old.terminal.callers }
-        requires number { handle_of (call_of call.now) < 32 }
-        requires bytes { byte_count (call_of call.now) < 2 ^ 32 }
-        requires few { self.old.terminal.generation < 2 ^ 31 }
-        requires room { IsRoomFor self.old.terminal (call_of call.now) room.old }
-        requires wire { ROOM_FOR_CALL ≤ self.old.wire_room }
-        requires column { column_in self.old.terminal.disc < 2 ^ 62 }
+        requires can { CanAct self.old caller (call_of call.now) room.old }
         requires group { 3 ≤ group_of (call_of call.now) }
-        ensures met { Meets (outcome self.old.terminal (caller_at self.old.terminal caller) (call_of call.now)) result }
-        ensures left { self.new.terminal ≡ left_before_rule (outcome self.old.terminal (caller_at self.old.terminal caller) (call_of call.now)) self.old.terminal }
-        ensures wire { self.old.wire_room ≤ self.new.wire_room + 4096 }
-        ensures column { column_in self.new.terminal.disc ≤ column_in self.old.terminal.disc + 4096 }
+        ensures { Acts self.old self.new caller (call_of call.now) result }
     {
         match call {
             Call::Drain { h } => {
@@ -656,18 +622,6 @@ fn send_character(wire: &mut Wire, character: u8)
 {
     if character != 0 {
         wire.urgent(character);
-    }
-}
-
-/// Output that STOP halted goes on, where it may.
-fn start_where(may: bool, wire: &mut Wire)
-    requires { 4096 ≤ wire.old.spare }
-    ensures wire { wire.new ≡ (if may then after_start wire.old else wire.old) }
-    ensures spent { wire.old.spare ≤ wire.new.spare + 4096 }
-{
-    if may {
-        let _held = wire.held();
-        wire.start();
     }
 }
 

@@ -1,4 +1,6 @@
-//! What a call would meet, and the room that it needs.
+//! What a call would meet, and the room that it needs. What it meets is coded in `acting.rt`; here
+//! stands what must be known beforehand, call by call: whether it must wait, whether it drops what
+//! waits in the flip buffer, and what it needs.
 
 ghost use Rattle.std.specs.Prelude.{◌≡◌, ◌↔◌, ℕ, [], true, ◌≤◌, ◌<◌, ◌^◌, IsTrue, IfOk, length};
 ghost use Rattle.tty_calls.specs.Plain.{handle_of, call_of};

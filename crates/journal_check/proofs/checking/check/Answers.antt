@@ -1,10 +1,16 @@
-use Rattle.std.proofs.Common.{◌∙◌, subst}
+use Rattle.std.proofs.Common.{◌∙◌, sym, subst}
+use Rattle.std.proofs.lemmas.List.Elements.{All-get_or}
 use Rattle.tty_calls.specs.Sessions.{session_of}
 use Rattle.journal_check.specs.declared.checking.Finding.{Finding}
 use Rattle.journal_check.specs.Findings.{Finds}
+use Rattle.journal_check.specs.Verdicts.{IsCountable}
 use Rattle.journal_check.proofs.CheckLemmas.{so_far_legal, so_far_account, all_legal, not_all_legal}
 use Rattle.journal_check.proofs.checking.check.Goals as goal
 use Rattle.journal_check.proofs.checking.check.Goals.{in-Legal, in-Account}
+
+pub judge_run-requires-clause-few : goal.judge_run-requires-clause-few
+judge_run-requires-clause-few c =
+    subst IsCountable (sym c.index-runs-port.is) (All-get_or IsCountable c.args.runs.now c.loop-port.port c.index-runs-port.result c.loop-port-test.true c.requires.few)
 
 pub loop-port-preserved : goal.loop-port-preserved
 loop-port-preserved c =

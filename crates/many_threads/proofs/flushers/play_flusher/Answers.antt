@@ -7,21 +7,21 @@ use Rattle.many_threads.proofs.flushers.play_flusher.Goals as goal
 
 pub returns-in_err-count-clause-err : goal.returns-in_err-count-clause-err
 returns-in_err-count-clause-err g c =
-    let m = (name_of_port c.args.shared.now).callers in
+    let name = name_of_port c.args.shared.now in
     let runs = c.loop.invariant.so_far in
     let one = c.in_err-count.ensures.err in
-    let stops : StopsFlusher m c.args.run c.args.seat.now c.flush_run.new.seat =
+    let stops : StopsFlusher name c.args.run c.args.seat.now c.flush_run.new.seat =
     record {
       runs = runs.0;
       last = run_made c.loop.next one.0 c.loop.seat c.flush_run.new.seat;
       next = run_past c.loop.next one.0;
-      flushes = runs_more m c.args.run c.args.seat.now runs.0 c.loop.next one.0 (run_past c.loop.next one.0) c.loop.seat c.flush_run.new.seat c.flush_run.new.seat runs.1 one.1 refl (makes_same c.flush_run.new.seat);
+      flushes = runs_more name c.args.run c.args.seat.now runs.0 c.loop.next one.0 (run_past c.loop.next one.0) c.loop.seat c.flush_run.new.seat c.flush_run.new.seat runs.1 one.1 refl (makes_same c.flush_run.new.seat);
     } in
     where_any_err c.from_residual.result _ stops
 
 pub loop-preserved-then-count-gt0 : goal.loop-preserved-then-count-gt0
 loop-preserved-then-count-gt0 g c =
-    let m = (name_of_port c.args.shared.now).callers in
+    let name = name_of_port c.args.shared.now in
     let runs = c.loop.invariant.so_far in
     let count = c.in_ok-count.count in
     let one = c.in_ok-count.ensures.ok in
@@ -34,7 +34,7 @@ loop-preserved-then-count-gt0 g c =
       numbered = next ∙ sym one.next;
       so_far = (
         run_made c.loop.next count c.loop.seat c.flush_run.new.seat ∷ runs.0,
-        runs_more m c.args.run c.args.seat.now runs.0 c.loop.next count (c.loop.next + 1) c.loop.seat c.flush_run.new.seat c.flush_run.new.seat runs.1 one next (makes_same c.flush_run.new.seat),
+        runs_more name c.args.run c.args.seat.now runs.0 c.loop.next count (c.loop.next + 1) c.loop.seat c.flush_run.new.seat c.flush_run.new.seat runs.1 one next (makes_same c.flush_run.new.seat),
       );
     }
 
@@ -49,7 +49,7 @@ returns-then-ended-clause-ok g c =
     record {
       runs = runs.0;
       last = run_made c.loop.next count c.loop.seat c.flush_run.new.seat;
-      flushes = runs_more name.callers c.args.run c.args.seat.now runs.0 c.loop.next count c.loop.next c.loop.seat c.flush_run.new.seat c.ended.new.seat runs.1 one (same_number c.loop.next count none) c.ended.ensures.kept;
+      flushes = runs_more name c.args.run c.args.seat.now runs.0 c.loop.next count c.loop.next c.loop.seat c.flush_run.new.seat c.ended.new.seat runs.1 one (same_number c.loop.next count none) c.ended.ensures.kept;
       none = none;
       left = c.in_ok-count.ensures.last;
       numbered = run_goes_on name.callers (sum name.counts) c.loop.next count c.flush_run.new.seat c.ended.new.seat c.flush_run.ensures.seat.number one.next none c.ended.ensures.kept c.ended.ensures.placed;
@@ -67,7 +67,7 @@ loop-preserved g c =
     let here = subst (λ k. IsHere p k c.ended.new.seat) c.flush_run.ensures.seat.number c.ended.ensures.seat in
     let next = run_goes_on name.callers (sum name.counts) c.loop.next count c.flush_run.new.seat c.ended.new.seat c.flush_run.ensures.seat.number one.next none c.ended.ensures.kept c.ended.ensures.placed in
     let more = run_made c.loop.next count c.loop.seat c.flush_run.new.seat ∷ runs.0 in
-    let made = runs_more name.callers c.args.run c.args.seat.now runs.0 c.loop.next count c.loop.next c.loop.seat c.flush_run.new.seat c.ended.new.seat runs.1 one (same_number c.loop.next count none) c.ended.ensures.kept in
+    let made = runs_more name c.args.run c.args.seat.now runs.0 c.loop.next count c.loop.next c.loop.seat c.flush_run.new.seat c.ended.new.seat runs.1 one (same_number c.loop.next count none) c.ended.ensures.kept in
     record {
       can_next = tt;
       finite = tt;

@@ -12,5 +12,5 @@ invariant-loop g l =
       finite : (goal.iterator-loop g).is_finite l.iterator';
       seat : IsHere l.shared (name_of_port l.shared).callers l.seat;
       numbered : l.next ≡ next_run (list_seen l.seat);
-      so_far : (runs : List RunMade) × FlushesRuns (name_of_port l.shared).callers l.run l.initial.seat runs l.next l.seat;
+      so_far : (runs : List RunMade) × FlushesRuns (name_of_port l.shared) l.run l.initial.seat runs l.next l.seat;
     }

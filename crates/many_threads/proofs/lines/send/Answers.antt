@@ -41,12 +41,12 @@ step-requires-clause-room g c =
 
 pub step-requires-clause-put : goal.step-requires-clause-put
 step-requires-clause-put g c =
-    subst (λ (sent : List Flagged). c.loop-step.line.most ≤ (2 ^ 63 - length sent) + c.loop-step.line.handed) (sym c.give_way-pace.ensures.sent) c.loop-step.invariant.put
+    subst (λ (sent : List Flagged). c.loop-step.line.most ≤ (2 ^ 63 - length sent) + c.loop-step.line.handed) (sym c.give_way.ensures.sent) c.loop-step.invariant.put
 
 pub loop-step-preserved : goal.loop-step-preserved
 loop-step-preserved g c =
     let i = c.loop-step.invariant in
-    let w = c.give_way-pace.ensures in
+    let w = c.give_way.ensures in
     let more = arrival_count-take c.args.steps.now c.loop-step.step-index nothing c.loop-step-test.true in
     let capacity = w.same.1 ∙ i.capacity in
     record {

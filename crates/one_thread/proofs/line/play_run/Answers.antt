@@ -14,7 +14,7 @@ pub play_window-requires-clause-room : goal.play_window-requires-clause-room
 play_window-requires-clause-room c =
     let bytes = c.args.bytes.now in
     let s = stands_from (good_steps bytes) c.loop-at.at c.args.port.now c.loop-at.port c.args.putter.now c.loop-at.putter c.args.line.now c.loop-at.line c.args.run c.loop-at.next c.loop-at.invariant.plays c.requires.stands in
-    omega (arith, s.room, ap length c.bytes_from.ensures, ap arrival_count (drop-map (rx_step Normal) c.loop-at.at bytes), arrival_count-run Normal (drop c.loop-at.at bytes))
+    omega (arith, s.room, ap length c.rest_of.ensures, ap arrival_count (drop-map (rx_step Normal) c.loop-at.at bytes), arrival_count-run Normal (drop c.loop-at.at bytes))
 
 pub play_window-requires-clause-put : goal.play_window-requires-clause-put
 play_window-requires-clause-put c =
@@ -40,7 +40,7 @@ pub returns-in_err-passed-clause-err : goal.returns-in_err-passed-clause-err
 returns-in_err-passed-clause-err c =
     let p = err_from_is_err_and c.from_residual.result c.from_residual.ensures.1 in
     let bytes = c.args.bytes.now in
-    let left = ap good_steps c.bytes_from.ensures ∙ sym (drop-map (rx_step Normal) c.loop-at.at bytes) in
+    let left = ap good_steps c.rest_of.ensures ∙ sym (drop-map (rx_step Normal) c.loop-at.at bytes) in
     let d = c.in_err-passed.field-0.0 in
     let w = c.play_window.new in
     rw (p.1, p.2) (stops_from (good_steps bytes) c.loop-at.at c.args.port.now c.loop-at.port c.args.putter.now c.loop-at.putter c.args.line.now c.loop-at.line c.args.run c.loop-at.next c.loop-at.invariant.plays
@@ -49,11 +49,11 @@ returns-in_err-passed-clause-err c =
 pub loop-at-preserved : goal.loop-at-preserved
 loop-at-preserved c =
     let bytes = c.args.bytes.now in
-    let left = ap good_steps c.bytes_from.ensures ∙ sym (drop-map (rx_step Normal) c.loop-at.at bytes) in
+    let left = ap good_steps c.rest_of.ensures ∙ sym (drop-map (rx_step Normal) c.loop-at.at bytes) in
     let passed = c.in_ok-passed.passed in
     let w = c.play_window.new in
     record {
       plays = plays_from (good_steps bytes) c.loop-at.at c.args.port.now c.loop-at.port c.args.putter.now c.loop-at.putter c.args.line.now c.loop-at.line c.args.run c.loop-at.next c.loop-at.invariant.plays
           passed.steps w.port w.putter w.line passed.run (subst (λ (l : List LineStep). PlaysSteps (take passed.steps l) c.loop-at.port w.port c.loop-at.putter w.putter c.loop-at.line w.line c.loop-at.next passed.run) left c.in_ok-passed.ensures.ok);
-      within = omega (arith, c.loop-at.invariant.within, c.in_ok-passed.ensures.within, ap length c.bytes_from.ensures, length-drop c.loop-at.at bytes);
+      within = omega (arith, c.loop-at.invariant.within, c.in_ok-passed.ensures.within, ap length c.rest_of.ensures, length-drop c.loop-at.at bytes);
     }

@@ -1,10 +1,16 @@
-use Rattle.std.proofs.Common.{refl, []}
+use Rattle.std.proofs.Common.{◌≤◌, refl, [], length, ap, subst, arith}
 use Rattle.check_text.specs.Reading.{refusal}
 use Rattle.tty_one.specs.declared.words.Command.TheVariants.{Check}
 use Rattle.tty_one.specs.Endings.{IsShort}
+use Rattle.tty_one.specs.Works.{IsShortText}
 use Rattle.tty_one.proofs.Judged.{judged_works}
 use Rattle.tty_one.proofs.Refused.{text_read, none_read, unread_works, ended_works, at_err}
 use Rattle.tty_one.proofs.judging.run_check.Goals as goal
+
+pub judged_text-requires : goal.judged_text-requires
+judged_text-requires g c =
+    let few : length c.in-Of.text.items ≤ 4194304 = subst IsShortText c.in-Of.is c.in_ok-text.ensures.few in
+    omega (arith, few, ap length c.as_slice.ensures)
 
 pub returns-in_err-ending-in-Of-clause-short : goal.returns-in_err-ending-in-Of-clause-short
 returns-in_err-ending-in-Of-clause-short g c =

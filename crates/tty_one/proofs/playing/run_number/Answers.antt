@@ -6,6 +6,7 @@ use Rattle.session_gen.proofs.Within.{generated_within}
 use Rattle.tty_one.specs.declared.playing.Telling.TheVariants.{Summary}
 use Rattle.tty_one.specs.Outcome.{IsOrdered}
 use Rattle.tty_one.specs.Works.{IsSessionWork}
+use Rattle.tty_one.proofs.Numbered.{number_ends}
 use Rattle.tty_one.proofs.playing.run_number.Goals as goal
 
 pub run_session-requires : goal.run_session-requires
@@ -13,4 +14,5 @@ run_session-requires c = subst IsWithinLimits (sym c.in_ok-session.ensures.sessi
 
 pub returns : goal.returns
 returns c =
-    subst (λ (session : PlainSession). IfOk c.run_session.result (λ work. IsSessionWork IsOrdered (Summary c.args.number) session work.ending work.runs.items)) c.in_ok-session.ensures.session c.run_session.ensures
+    let played = subst (λ (session : PlainSession). IfOk c.run_session.result (λ work. IsSessionWork IsOrdered (Summary c.args.number) session work.ending work.runs.items)) c.in_ok-session.ensures.session c.run_session.ensures in
+    record { played = played; can = number_ends c.args.number c.run_session.result played }

@@ -1,13 +1,13 @@
 use Rattle.std.proofs.Common.{ap, subst, ◌∙◌}
 use Rattle.tty_one.specs.declared.works.Ending.{Ending}
-use Rattle.tty_one.specs.Endings.{AreOfOne, texts_of, text_of}
-use Rattle.tty_one.specs.Outcome.{breaks_line, WasGivenFront}
-use Rattle.tty_one.proofs.Outcomes.{broken, done_by, refused_by, illegal_by, told_by, took_by, long_by, full_by, completes, judged, made, none_judged, unasked, unjudged, unmade, reads_nothing, work_with}
+use Rattle.tty_one.specs.Endings.{AreOfOne, AskOneToRead, texts_of, text_of}
+use Rattle.tty_one.specs.Outcome.{breaks_words, WasGivenFront}
+use Rattle.tty_one.proofs.Outcomes.{broken, done_by, refused_by, illegal_by, told_by, took_by, long_by, full_by, completes, judged, made, none_judged, unasked, unjudged, unmade, one_reads, reads_nothing, work_with}
 use Rattle.tty_one.proofs.top.tty_one.Goals as goal
 
 pub returns-in_default-clause-broken : goal.returns-in_default-clause-broken
 returns-in_default-clause-broken g c = λ _.
-    breaks_line 2 c.in_default.ensures.other (ap (λ runs. runs.items) (c.tell.ensures.runs ∙ ap (λ work. work.runs) c.ended.ensures)) (
+    breaks_words c.in_default.ensures.other (ap (λ runs. runs.items) (c.tell.ensures.runs ∙ ap (λ work. work.runs) c.ended.ensures)) (
     subst (λ (e : Ending). WasGivenFront (g.K.Sink.given c.args.sink.now) (g.K.Sink.given c.tell.new.sink) (text_of e)) (ap (λ work. work.ending) c.ended.ensures) c.tell.ensures.front
     )
 
@@ -15,7 +15,7 @@ pub returns-in_default-clause-complete : goal.returns-in_default-clause-complete
 returns-in_default-clause-complete g c = unasked (texts_of c.args.words.now) (g.S.Source.left c.args.source.now) _ _ _ _ c.in_default.ensures.other
 
 pub returns-in_default-clause-made : goal.returns-in_default-clause-made
-returns-in_default-clause-made g c = unmade (texts_of c.args.words.now) _ _ c.in_default.ensures.other
+returns-in_default-clause-made g c = unmade (texts_of c.args.words.now) _ c.in_default.ensures.other
 
 pub returns-in_default-clause-judged : goal.returns-in_default-clause-judged
 returns-in_default-clause-judged g c = unjudged (texts_of c.args.words.now) (g.S.Source.left c.args.source.now) _ _ _ c.in_default.ensures.other
@@ -45,7 +45,9 @@ returns-in-Ok-clause-not_legal g c =
 pub returns-in-Ok-clause-broken : goal.returns-in-Ok-clause-broken
 returns-in-Ok-clause-broken g c = λ _.
     let done = work_with c.in-Some.command (g.S.Source.left c.args.source.now) c.in-Ok.work.ending c.tell-in-Ok.result.runs c.in-Ok.work.runs c.tell-in-Ok.ensures.runs c.in-Ok.ensures.work in
-    broken (AreOfOne (texts_of c.args.words.now)) (texts_of c.args.words.now) c.in-Some.command _ _ _ _ _ _ c.tell-in-Ok.result.runs.items c.in-Ok.work.ending c.in-Some.ensures.known.1 c.in-Ok.ensures.from done c.tell-in-Ok.ensures.front
+    broken (AreOfOne (texts_of c.args.words.now)) (AskOneToRead (texts_of c.args.words.now)) (texts_of c.args.words.now) c.in-Some.command _ _ _ _ _ _ c.tell-in-Ok.result.runs.items c.in-Ok.work.ending c.in-Some.ensures.known.1 c.in-Ok.ensures.can (
+    one_reads c.in-Some.command (texts_of c.args.words.now) c.in-Some.ensures.known.0 c.in-Some.ensures.known.1
+    ) c.in-Ok.ensures.from done c.tell-in-Ok.ensures.front
 
 pub returns-in-Ok-clause-full : goal.returns-in-Ok-clause-full
 returns-in-Ok-clause-full g c =
@@ -62,9 +64,7 @@ returns-in-Ok-clause-judged g c =
     judged (texts_of c.args.words.now) c.in-Some.command (g.S.Source.left c.args.source.now) (g.S.Source.left c.work_on.new.source) (g.S.Source.faults c.args.source.now) (g.S.Source.faults c.work_on.new.source) c.in-Ok.work.runs.items c.in-Ok.work.ending c.tell-in-Ok.result.status c.in-Some.ensures.known.1 c.tell-in-Ok.ensures.status c.in-Ok.ensures.from c.in-Ok.ensures.work c.in-Ok.ensures.rest
 
 pub returns-in-Ok-clause-made : goal.returns-in-Ok-clause-made
-returns-in-Ok-clause-made g c =
-    let done = work_with c.in-Some.command (g.S.Source.left c.args.source.now) c.in-Ok.work.ending c.tell-in-Ok.result.runs c.in-Ok.work.runs c.tell-in-Ok.ensures.runs c.in-Ok.ensures.work in
-    made (texts_of c.args.words.now) c.in-Some.command (g.S.Source.left c.args.source.now) c.tell-in-Ok.result.runs.items c.in-Ok.work.ending c.tell-in-Ok.result.status c.in-Some.ensures.known.1 c.tell-in-Ok.ensures.status done c.in-Ok.ensures.can
+returns-in-Ok-clause-made g c = made (texts_of c.args.words.now) c.in-Some.command c.in-Ok.work.ending c.tell-in-Ok.result.status c.in-Some.ensures.known.1 c.tell-in-Ok.ensures.status c.in-Ok.ensures.can
 
 pub returns-in-Ok-clause-none_judged : goal.returns-in-Ok-clause-none_judged
 returns-in-Ok-clause-none_judged g c =

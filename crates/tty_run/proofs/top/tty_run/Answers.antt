@@ -1,6 +1,6 @@
-use Rattle.std.proofs.Common.{ap}
+use Rattle.std.proofs.Common.{ap, inl}
 use Rattle.tty_one.specs.declared.words.Command.TheVariants.{Run}
-use Rattle.tty_one.specs.Endings.{AreKnown, texts_of}
+use Rattle.tty_one.specs.Endings.{AreKnown, AskToRead, texts_of}
 use Rattle.tty_one.proofs.Outcomes.{broken, done_by, refused_by, illegal_by, told_by, took_by, long_by, full_by, completes_on_threads, judged, made, none_judged, one_if_not_run, reads_nothing, work_with}
 use Rattle.tty_run.proofs.WordLemmas.{unknown_to_one, broken_one, complete_one, complete_on_threads, headline}
 use Rattle.tty_run.proofs.top.tty_run.Goals as goal
@@ -56,7 +56,7 @@ returns-in-Ok-clause-not_legal g c =
 pub returns-in-Ok-clause-broken : goal.returns-in-Ok-clause-broken
 returns-in-Ok-clause-broken g c = λ _.
     let done = work_with (Run c.in-Some.journals) (g.S.Source.left c.args.source.now) c.in-Ok.work.ending c.tell.result.runs c.in-Ok.work.runs c.tell.ensures.runs c.in-Ok.ensures.work in
-    broken (AreKnown (texts_of c.args.words.now)) (texts_of c.args.words.now) (Run c.in-Some.journals) _ _ _ _ _ _ c.tell.result.runs.items c.in-Ok.work.ending c.in-Some.ensures.known c.in-Ok.ensures.from done c.tell.ensures.front
+    broken (AreKnown (texts_of c.args.words.now)) (AskToRead (texts_of c.args.words.now)) (texts_of c.args.words.now) (Run c.in-Some.journals) _ _ _ _ _ _ c.tell.result.runs.items c.in-Ok.work.ending c.in-Some.ensures.known tt (λ _. inl (c.in-Some.journals, c.in-Some.ensures.known)) c.in-Ok.ensures.from done c.tell.ensures.front
 
 pub returns-in-Ok-clause-full : goal.returns-in-Ok-clause-full
 returns-in-Ok-clause-full g c =
@@ -75,9 +75,7 @@ returns-in-Ok-clause-judged g c =
     judged (texts_of c.args.words.now) (Run c.in-Some.journals) (g.S.Source.left c.args.source.now) (g.S.Source.left c.run.new.source) (g.S.Source.faults c.args.source.now) (g.S.Source.faults c.run.new.source) c.in-Ok.work.runs.items c.in-Ok.work.ending c.tell.result.status c.in-Some.ensures.known c.tell.ensures.status c.in-Ok.ensures.from c.in-Ok.ensures.work c.in-Ok.ensures.rest
 
 pub returns-in-Ok-clause-made : goal.returns-in-Ok-clause-made
-returns-in-Ok-clause-made g c =
-    let done = work_with (Run c.in-Some.journals) (g.S.Source.left c.args.source.now) c.in-Ok.work.ending c.tell.result.runs c.in-Ok.work.runs c.tell.ensures.runs c.in-Ok.ensures.work in
-    made (texts_of c.args.words.now) (Run c.in-Some.journals) (g.S.Source.left c.args.source.now) c.tell.result.runs.items c.in-Ok.work.ending c.tell.result.status c.in-Some.ensures.known c.tell.ensures.status done tt
+returns-in-Ok-clause-made g c = made (texts_of c.args.words.now) (Run c.in-Some.journals) c.in-Ok.work.ending c.tell.result.status c.in-Some.ensures.known c.tell.ensures.status tt
 
 pub returns-in-Ok-clause-none_judged : goal.returns-in-Ok-clause-none_judged
 returns-in-Ok-clause-none_judged g c =

@@ -1,5 +1,5 @@
-use Rattle.tty_terminal.proofs.HangupLaws.{nothing_unread, nothing_held, nothing_live}
+use Rattle.tty_terminal.proofs.HangupLaws.{session_leaves_nothing, answer_leaves_nothing}
 use Rattle.tty_terminal.proofs.laws.hangup_leaves_nothing.Goals as goal
 
 pub returns : goal.returns
-returns c = record { unread = nothing_unread; held = nothing_held; live = nothing_live }
+returns c = record { session = session_leaves_nothing; answered = answer_leaves_nothing }

@@ -15,7 +15,7 @@ invariant-loop-reading g l = record {
   lost : l.self.report.fifo_lost ≡ l.initial.self.report.fifo_lost;
   capacity : g.P.Put.capacity l.put ≡ g.P.Put.capacity l.initial.put;
   name : g.P.Put.name l.put ≡ g.P.Put.name l.initial.put;
-  room : l.self.most ≤ g.P.Put.room l.put + l.self.handed;
+  room : l.self.most ≤ g.P.Put.numbers_left l.put + l.self.handed;
   rise : IsNonDecreasing (g.P.Put.heads l.initial.put) → IsNonDecreasing (g.P.Put.heads l.put);
 }
 

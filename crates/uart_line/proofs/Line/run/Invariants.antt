@@ -20,5 +20,5 @@ invariant-loop-step g l = record {
   room : l.self.most ≡ l.initial.self.most;
   arrived : l.self.report.arrived ≡ l.initial.self.report.arrived + arrival_count (take l.step-index l.steps);
   name : g.P.Put.name l.put ≡ g.P.Put.name l.initial.put;
-  put : l.self.most ≤ g.P.Put.room l.put + l.self.handed;
+  put : l.self.most ≤ g.P.Put.numbers_left l.put + l.self.handed;
 }

@@ -13,4 +13,4 @@ pub load-requires : goal.load-requires
 load-requires c = (search rules, search rules, takes_slot _ _ _ _ (search rules) (search rules))
 
 pub split_seat-other-requires : goal.split_seat-other-requires
-split_seat-other-requires c = (search rules, search rules, parts _ _ _ (search rules) (search rules))
+split_seat-other-requires c = (search rules, search rules, parts _ _ _ (search rules) (search rules) (search rules))

@@ -13,5 +13,5 @@ store-requires c =
       search rules,
       stores_lanes _ _ _ _ _ c.args.word 4 c.requires.seat.1 c.requires.at c.requires.words.0 (omega arith)
           (subst (λ (z : List ℕ). IsPrefix v.written (whole_words v.written ++ z)) all c.requires.begins)
-          (subst (λ (z : List ℕ). length (whole_words v.written ++ z) ≤ v.head + v.capacity) all c.requires.fits),
+          (subst (λ (z : List ℕ). length (whole_words v.written ++ z) ≤ v.head + v.puts_within) all c.requires.fits),
     )

@@ -1,7 +1,8 @@
 use Rattle.std.proofs.Common.{◌≡◌, ◌∙◌, ◌++◌, ◌∷◌, [], ℕ, List, take, ap, sym, subst, arith}
+use Rattle.std.proofs.lemmas.List.{take_all}
 use mathlib.Core.List.{IsPrefix}
 use Rattle.word_ring.proofs.Beginnings.{begins_itself}
-use Rattle.flip_buffer.proofs.Characters.{took}
+use Rattle.flip_buffer.proofs.Characters.{took, none_left}
 use Rattle.flip_buffer.proofs.output.FlipOut.drop_all.Goals as goal
 
 pub returns-clause-shown : goal.returns-clause-shown
@@ -27,3 +28,9 @@ returns-clause-shown c =
       },
       omega (arith, c.min-shown.ensures),
     )
+
+pub returns-clause-peeked : goal.returns-clause-peeked
+returns-clause-peeked c =
+    let peeked = c.loop.self.peeked in
+    let n = c.min-shown.result in
+    ap (λ s. s.peeked) c.release.ensures.same ∙ none_left c.loop.self (take n peeked) (take_all n peeked (omega (arith, c.loop.invariant.count)))

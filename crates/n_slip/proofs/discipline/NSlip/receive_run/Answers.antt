@@ -1,5 +1,5 @@
 use Rattle.std.proofs.Common.{◌∙◌, take, ap, refl}
-use Rattle.slip_frames.specs.Decoding.{Decoding, BegunPiece}
+use Rattle.slip_frames.specs.Decoding.{Decoding}
 use Rattle.n_slip.specs.Discipline.{Slip, after_characters}
 use Rattle.n_slip.proofs.TextRuns.{received_run, uncounted_run}
 use Rattle.n_slip.proofs.discipline.NSlip.receive_run.Goals as goal

@@ -1,4 +1,4 @@
-use Rattle.std.proofs.Common.{◌≡◌, ◌≤◌, ◌<◌, ◌+◌, ℕ, List, [], false, true, length, take, ap, sym, subst, ◌∙◌, arith, length-take}
+use Rattle.std.proofs.Common.{◌≡◌, ◌≤◌, ◌<◌, ◌+◌, ℕ, List, [], false, true, length, take, rules, ap, sym, subst, ◌∙◌, arith, length-take}
 use Rattle.std.proofs.lemmas.List.{take-take}
 use Rattle.tty_base.specs.declared.characters.Flagged.{Flagged}
 use Rattle.flow_control.specs.declared.tally.Tally.{Tally}
@@ -42,8 +42,8 @@ store_run-requires-clause-room c = omega (arith, c.unread-unread.ensures.count, 
 pub type_run-requires-clause-room : goal.type_run-requires-clause-room
 type_run-requires-clause-room c = omega (arith, c.unread-unread.ensures.count, ap length c.front_of-chars.ensures, length-take c.min-2.result c.args.chars.now)
 
-pub returns-then-is_raw-clause-after : goal.returns-then-is_raw-clause-after
-returns-then-is_raw-clause-after c =
+pub returns-then-is_raw : goal.returns-then-is_raw
+returns-then-is_raw c =
     let modes = c.args.modes.now in
     let now = c.args.now in
     let tty : NTtyState = c.args.self.now in
@@ -60,50 +60,18 @@ returns-then-is_raw-clause-after c =
     let runs = λ (tally : Tally). may modes tty output tally (length (take n chars)) unquoted quiet few room in
     let after = λ (tally : Tally). c.store_run.ensures.after output tally ∙ stored_run modes now raw free (take n chars) (on_port tty output tally) c.store_run.ensures.good (runs tally) in
     let accepted = λ (tally : Tally). accepts_stored modes now raw free (take n chars) (on_port tty output tally) c.store_run.ensures.good (runs tally) in
-    left modes now tty c.store_run.new.self output c.args.wire.now (take n chars) (take n c.args.chars.now) same after accepted
+    record {
+      within = search rules;
+      after = left modes now tty c.store_run.new.self output c.args.wire.now (take n chars) (take n c.args.chars.now) same after accepted;
+      accepted = all_accepted modes now tty c.store_run.new.self output c.args.wire.now (take n chars) (take n c.args.chars.now) same after accepted;
+      fits = fit modes now tty c.store_run.new.self output c.args.wire.now (take n chars) (take n c.args.chars.now) same after accepted c.requires.fitting;
+      spent = search rules;
+      moved = search rules;
+      past = search rules;
+    }
 
-pub returns-then-is_raw-clause-accepted : goal.returns-then-is_raw-clause-accepted
-returns-then-is_raw-clause-accepted c =
-    let modes = c.args.modes.now in
-    let now = c.args.now in
-    let tty : NTtyState = c.args.self.now in
-    let output : Output = c.args.wire.now in
-    let chars = c.front_of-chars.result.now in
-    let n = c.store_run.result in
-    let unquoted : tty.quoted ≡ false = sym (ap (λ (t : NTtyState). t.quoted) c.self.view_is) ∙ c.if-self.false in
-    let quiet : output.noted ≡ false = sym c.noted.ensures ∙ c.if-noted.false in
-    let free : has_flag modes IXOFF ≡ false = sym c.has.ensures ∙ c.if-has.false in
-    let few : end_count tty.items < 4096 = omega (arith, c.lines.ensures.lines, ap (λ (t : NTtyState). end_count t.items) c.self.view_is, c.if-lines-ge-MOST_ENDS.false) in
-    let room : unread_count tty + length (take n chars) ≤ 4093 = omega (arith, length-take n chars, c.unread-unread.ensures.count, ap length c.front_of-chars.ensures, length-take c.min-2.result c.args.chars.now) in
-    let same = front c.args.chars.now chars c.min-2.result n c.front_of-chars.ensures c.store_run.ensures.within in
-    let raw : is_raw modes ≡ true = sym c.is_raw.ensures ∙ c.if-is_raw.true in
-    let runs = λ (tally : Tally). may modes tty output tally (length (take n chars)) unquoted quiet few room in
-    let after = λ (tally : Tally). c.store_run.ensures.after output tally ∙ stored_run modes now raw free (take n chars) (on_port tty output tally) c.store_run.ensures.good (runs tally) in
-    let accepted = λ (tally : Tally). accepts_stored modes now raw free (take n chars) (on_port tty output tally) c.store_run.ensures.good (runs tally) in
-    all_accepted modes now tty c.store_run.new.self output c.args.wire.now (take n chars) (take n c.args.chars.now) same after accepted
-
-pub returns-then-is_raw-clause-fits : goal.returns-then-is_raw-clause-fits
-returns-then-is_raw-clause-fits c =
-    let modes = c.args.modes.now in
-    let now = c.args.now in
-    let tty : NTtyState = c.args.self.now in
-    let output : Output = c.args.wire.now in
-    let chars = c.front_of-chars.result.now in
-    let n = c.store_run.result in
-    let unquoted : tty.quoted ≡ false = sym (ap (λ (t : NTtyState). t.quoted) c.self.view_is) ∙ c.if-self.false in
-    let quiet : output.noted ≡ false = sym c.noted.ensures ∙ c.if-noted.false in
-    let free : has_flag modes IXOFF ≡ false = sym c.has.ensures ∙ c.if-has.false in
-    let few : end_count tty.items < 4096 = omega (arith, c.lines.ensures.lines, ap (λ (t : NTtyState). end_count t.items) c.self.view_is, c.if-lines-ge-MOST_ENDS.false) in
-    let room : unread_count tty + length (take n chars) ≤ 4093 = omega (arith, length-take n chars, c.unread-unread.ensures.count, ap length c.front_of-chars.ensures, length-take c.min-2.result c.args.chars.now) in
-    let same = front c.args.chars.now chars c.min-2.result n c.front_of-chars.ensures c.store_run.ensures.within in
-    let raw : is_raw modes ≡ true = sym c.is_raw.ensures ∙ c.if-is_raw.true in
-    let runs = λ (tally : Tally). may modes tty output tally (length (take n chars)) unquoted quiet few room in
-    let after = λ (tally : Tally). c.store_run.ensures.after output tally ∙ stored_run modes now raw free (take n chars) (on_port tty output tally) c.store_run.ensures.good (runs tally) in
-    let accepted = λ (tally : Tally). accepts_stored modes now raw free (take n chars) (on_port tty output tally) c.store_run.ensures.good (runs tally) in
-    fit modes now tty c.store_run.new.self output c.args.wire.now (take n chars) (take n c.args.chars.now) same after accepted c.requires.fitting
-
-pub returns-then-not-halted-clause-after : goal.returns-then-not-halted-clause-after
-returns-then-not-halted-clause-after c =
+pub returns-then-not-halted : goal.returns-then-not-halted
+returns-then-not-halted c =
     let modes = c.args.modes.now in
     let now = c.args.now in
     let tty : NTtyState = c.args.self.now in
@@ -122,57 +90,21 @@ returns-then-not-halted-clause-after c =
     let runs : (tally : Tally) → MayType modes (length (take n chars)) (on_port tty output tally) = λ tally. record { may = may modes tty output tally (length (take n chars)) unquoted quiet few room; flows = flows } in
     let after = λ (tally : Tally). c.type_run.ensures.after tally ∙ typed_run modes now (are.canonical typed) (are.echoes typed) (are.plain typed) free (take n chars) (on_port tty output tally) c.type_run.ensures.typed (runs tally) in
     let accepted = λ (tally : Tally). accepts_typed modes now (are.canonical typed) (are.echoes typed) (are.plain typed) free (take n chars) (on_port tty output tally) c.type_run.ensures.typed (runs tally) in
-    left modes now tty c.type_run.new.self output c.type_run.new.wire (take n chars) (take n c.args.chars.now) same after accepted
-
-pub returns-then-not-halted-clause-accepted : goal.returns-then-not-halted-clause-accepted
-returns-then-not-halted-clause-accepted c =
-    let modes = c.args.modes.now in
-    let now = c.args.now in
-    let tty : NTtyState = c.args.self.now in
-    let output : Output = c.args.wire.now in
-    let chars = c.front_of-chars.result.now in
-    let n = c.type_run.result in
-    let unquoted : tty.quoted ≡ false = sym (ap (λ (t : NTtyState). t.quoted) c.self.view_is) ∙ c.if-self.false in
-    let quiet : output.noted ≡ false = sym c.noted.ensures ∙ c.if-noted.false in
-    let free : has_flag modes IXOFF ≡ false = sym c.has.ensures ∙ c.if-has.false in
-    let few : end_count tty.items < 4096 = omega (arith, c.lines.ensures.lines, ap (λ (t : NTtyState). end_count t.items) c.self.view_is, c.if-lines-ge-MOST_ENDS.false) in
-    let room : unread_count tty + length (take n chars) ≤ 4093 = omega (arith, length-take n chars, c.unread-unread.ensures.count, ap length c.front_of-chars.ensures, length-take c.min-2.result c.args.chars.now) in
-    let same = front c.args.chars.now chars c.min-2.result n c.front_of-chars.ensures c.type_run.ensures.within in
-    let are = c.are_typed.ensures in
-    let typed = c.if-are_typed.true in
-    let flows : is_halted output ≡ false = sym c.halted.ensures.value ∙ c.if-not-halted.true in
-    let runs : (tally : Tally) → MayType modes (length (take n chars)) (on_port tty output tally) = λ tally. record { may = may modes tty output tally (length (take n chars)) unquoted quiet few room; flows = flows } in
-    let after = λ (tally : Tally). c.type_run.ensures.after tally ∙ typed_run modes now (are.canonical typed) (are.echoes typed) (are.plain typed) free (take n chars) (on_port tty output tally) c.type_run.ensures.typed (runs tally) in
-    let accepted = λ (tally : Tally). accepts_typed modes now (are.canonical typed) (are.echoes typed) (are.plain typed) free (take n chars) (on_port tty output tally) c.type_run.ensures.typed (runs tally) in
-    all_accepted modes now tty c.type_run.new.self output c.type_run.new.wire (take n chars) (take n c.args.chars.now) same after accepted
-
-pub returns-then-not-halted-clause-fits : goal.returns-then-not-halted-clause-fits
-returns-then-not-halted-clause-fits c =
-    let modes = c.args.modes.now in
-    let now = c.args.now in
-    let tty : NTtyState = c.args.self.now in
-    let output : Output = c.args.wire.now in
-    let chars = c.front_of-chars.result.now in
-    let n = c.type_run.result in
-    let unquoted : tty.quoted ≡ false = sym (ap (λ (t : NTtyState). t.quoted) c.self.view_is) ∙ c.if-self.false in
-    let quiet : output.noted ≡ false = sym c.noted.ensures ∙ c.if-noted.false in
-    let free : has_flag modes IXOFF ≡ false = sym c.has.ensures ∙ c.if-has.false in
-    let few : end_count tty.items < 4096 = omega (arith, c.lines.ensures.lines, ap (λ (t : NTtyState). end_count t.items) c.self.view_is, c.if-lines-ge-MOST_ENDS.false) in
-    let room : unread_count tty + length (take n chars) ≤ 4093 = omega (arith, length-take n chars, c.unread-unread.ensures.count, ap length c.front_of-chars.ensures, length-take c.min-2.result c.args.chars.now) in
-    let same = front c.args.chars.now chars c.min-2.result n c.front_of-chars.ensures c.type_run.ensures.within in
-    let are = c.are_typed.ensures in
-    let typed = c.if-are_typed.true in
-    let flows : is_halted output ≡ false = sym c.halted.ensures.value ∙ c.if-not-halted.true in
-    let runs : (tally : Tally) → MayType modes (length (take n chars)) (on_port tty output tally) = λ tally. record { may = may modes tty output tally (length (take n chars)) unquoted quiet few room; flows = flows } in
-    let after = λ (tally : Tally). c.type_run.ensures.after tally ∙ typed_run modes now (are.canonical typed) (are.echoes typed) (are.plain typed) free (take n chars) (on_port tty output tally) c.type_run.ensures.typed (runs tally) in
-    let accepted = λ (tally : Tally). accepts_typed modes now (are.canonical typed) (are.echoes typed) (are.plain typed) free (take n chars) (on_port tty output tally) c.type_run.ensures.typed (runs tally) in
-    fit modes now tty c.type_run.new.self output c.type_run.new.wire (take n chars) (take n c.args.chars.now) same after accepted c.requires.fitting
+    record {
+      within = search rules;
+      after = left modes now tty c.type_run.new.self output c.type_run.new.wire (take n chars) (take n c.args.chars.now) same after accepted;
+      accepted = all_accepted modes now tty c.type_run.new.self output c.type_run.new.wire (take n chars) (take n c.args.chars.now) same after accepted;
+      fits = fit modes now tty c.type_run.new.self output c.type_run.new.wire (take n chars) (take n c.args.chars.now) same after accepted c.requires.fitting;
+      spent = search rules;
+      moved = search rules;
+      past = search rules;
+    }
 
 pub join_run-requires-clause-room : goal.join_run-requires-clause-room
 join_run-requires-clause-room c = omega (arith, c.unread-unread.ensures.count, ap length c.front_of-chars.ensures, length-take c.min-2.result c.args.chars.now)
 
-pub returns-then-are_joined-clause-after : goal.returns-then-are_joined-clause-after
-returns-then-are_joined-clause-after c =
+pub returns-then-are_joined : goal.returns-then-are_joined
+returns-then-are_joined c =
     let modes = c.args.modes.now in
     let now = c.args.now in
     let tty : NTtyState = c.args.self.now in
@@ -190,46 +122,12 @@ returns-then-are_joined-clause-after c =
     let runs = λ (tally : Tally). may modes tty output tally (length (take n chars)) unquoted quiet few room in
     let after = λ (tally : Tally). c.join_run.ensures.after output tally ∙ joined_run modes now (are.canonical join) (are.silent join) (are.plain join) free (take n chars) (on_port tty output tally) c.join_run.ensures.typed (runs tally) in
     let accepted = λ (tally : Tally). accepts_joined modes now (are.canonical join) (are.silent join) (are.plain join) free (take n chars) (on_port tty output tally) c.join_run.ensures.typed (runs tally) in
-    left modes now tty c.join_run.new.self output c.args.wire.now (take n chars) (take n c.args.chars.now) same after accepted
-
-pub returns-then-are_joined-clause-accepted : goal.returns-then-are_joined-clause-accepted
-returns-then-are_joined-clause-accepted c =
-    let modes = c.args.modes.now in
-    let now = c.args.now in
-    let tty : NTtyState = c.args.self.now in
-    let output : Output = c.args.wire.now in
-    let chars = c.front_of-chars.result.now in
-    let n = c.join_run.result in
-    let unquoted : tty.quoted ≡ false = sym (ap (λ (t : NTtyState). t.quoted) c.self.view_is) ∙ c.if-self.false in
-    let quiet : output.noted ≡ false = sym c.noted.ensures ∙ c.if-noted.false in
-    let free : has_flag modes IXOFF ≡ false = sym c.has.ensures ∙ c.if-has.false in
-    let few : end_count tty.items < 4096 = omega (arith, c.lines.ensures.lines, ap (λ (t : NTtyState). end_count t.items) c.self.view_is, c.if-lines-ge-MOST_ENDS.false) in
-    let room : unread_count tty + length (take n chars) ≤ 4093 = omega (arith, length-take n chars, c.unread-unread.ensures.count, ap length c.front_of-chars.ensures, length-take c.min-2.result c.args.chars.now) in
-    let same = front c.args.chars.now chars c.min-2.result n c.front_of-chars.ensures c.join_run.ensures.within in
-    let are = c.are_joined.ensures in
-    let join = c.if-are_joined.true in
-    let runs = λ (tally : Tally). may modes tty output tally (length (take n chars)) unquoted quiet few room in
-    let after = λ (tally : Tally). c.join_run.ensures.after output tally ∙ joined_run modes now (are.canonical join) (are.silent join) (are.plain join) free (take n chars) (on_port tty output tally) c.join_run.ensures.typed (runs tally) in
-    let accepted = λ (tally : Tally). accepts_joined modes now (are.canonical join) (are.silent join) (are.plain join) free (take n chars) (on_port tty output tally) c.join_run.ensures.typed (runs tally) in
-    all_accepted modes now tty c.join_run.new.self output c.args.wire.now (take n chars) (take n c.args.chars.now) same after accepted
-
-pub returns-then-are_joined-clause-fits : goal.returns-then-are_joined-clause-fits
-returns-then-are_joined-clause-fits c =
-    let modes = c.args.modes.now in
-    let now = c.args.now in
-    let tty : NTtyState = c.args.self.now in
-    let output : Output = c.args.wire.now in
-    let chars = c.front_of-chars.result.now in
-    let n = c.join_run.result in
-    let unquoted : tty.quoted ≡ false = sym (ap (λ (t : NTtyState). t.quoted) c.self.view_is) ∙ c.if-self.false in
-    let quiet : output.noted ≡ false = sym c.noted.ensures ∙ c.if-noted.false in
-    let free : has_flag modes IXOFF ≡ false = sym c.has.ensures ∙ c.if-has.false in
-    let few : end_count tty.items < 4096 = omega (arith, c.lines.ensures.lines, ap (λ (t : NTtyState). end_count t.items) c.self.view_is, c.if-lines-ge-MOST_ENDS.false) in
-    let room : unread_count tty + length (take n chars) ≤ 4093 = omega (arith, length-take n chars, c.unread-unread.ensures.count, ap length c.front_of-chars.ensures, length-take c.min-2.result c.args.chars.now) in
-    let same = front c.args.chars.now chars c.min-2.result n c.front_of-chars.ensures c.join_run.ensures.within in
-    let are = c.are_joined.ensures in
-    let join = c.if-are_joined.true in
-    let runs = λ (tally : Tally). may modes tty output tally (length (take n chars)) unquoted quiet few room in
-    let after = λ (tally : Tally). c.join_run.ensures.after output tally ∙ joined_run modes now (are.canonical join) (are.silent join) (are.plain join) free (take n chars) (on_port tty output tally) c.join_run.ensures.typed (runs tally) in
-    let accepted = λ (tally : Tally). accepts_joined modes now (are.canonical join) (are.silent join) (are.plain join) free (take n chars) (on_port tty output tally) c.join_run.ensures.typed (runs tally) in
-    fit modes now tty c.join_run.new.self output c.args.wire.now (take n chars) (take n c.args.chars.now) same after accepted c.requires.fitting
+    record {
+      within = search rules;
+      after = left modes now tty c.join_run.new.self output c.args.wire.now (take n chars) (take n c.args.chars.now) same after accepted;
+      accepted = all_accepted modes now tty c.join_run.new.self output c.args.wire.now (take n chars) (take n c.args.chars.now) same after accepted;
+      fits = fit modes now tty c.join_run.new.self output c.args.wire.now (take n chars) (take n c.args.chars.now) same after accepted c.requires.fitting;
+      spent = search rules;
+      moved = search rules;
+      past = search rules;
+    }

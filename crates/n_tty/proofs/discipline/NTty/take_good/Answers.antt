@@ -1,22 +1,12 @@
 use Rattle.std.proofs.Common.{◌≡◌, ◌∙◌, false, sym, ap}
 use Rattle.n_tty.specs.States.{NTtyState, OnPort, on_port}
-use Rattle.n_tty.proofs.PlainLemmas.{good_raw, good_plain}
+use Rattle.n_tty.proofs.PlainLemmas.{good_plain}
 use Rattle.n_tty.proofs.discipline.NTty.take_good.Goals as goal
-
-pub returns-then-is_raw : goal.returns-then-is_raw
-returns-then-is_raw c =
-    let port : OnPort = on_port c.args.self.now c.args.wire.now c.args.tally.now in
-    let unquoted : c.args.self.now.quoted ≡ false = sym (ap (λ (tty : NTtyState). tty.quoted) c.self.view_is) ∙ c.if-self.false in
-    record {
-      after =
-          ap (λ tty. on_port tty c.args.wire.now c.args.tally.now) c.store_raw.ensures.after
-          ∙ good_raw c.args.modes.now (sym c.is_raw.ensures ∙ c.if-is_raw.true) c.args.now c.args.b port unquoted;
-    }
 
 pub returns-then-is_plain : goal.returns-then-is_plain
 returns-then-is_plain c =
     let port : OnPort = on_port c.args.self.now c.args.wire.now c.args.tally.now in
-    let unquoted : c.args.self.now.quoted ≡ false = sym (ap (λ (tty : NTtyState). tty.quoted) c.self.view_is) ∙ c.if-self.false in
+    let unquoted : c.args.self.now.quoted ≡ false = sym (ap (λ (tty : NTtyState). tty.quoted) c.self.view_is) ∙ c.if-not-self.true in
     record {
       after =
           c.take_ordinary.ensures.after

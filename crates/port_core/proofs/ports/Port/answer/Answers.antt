@@ -9,7 +9,7 @@ use Rattle.tty_terminal.specs.Steps.{after_answer, after_part, with_dropped, lef
 use Rattle.port_core.specs.declared.waiting.WaitingCall.{WaitingCall}
 use Rattle.port_core.specs.Ports.{PortValue, kept_with, caller_entry}
 use Rattle.port_core.specs.Attempts.{IsReady, AnswersCall, TakesPartOf}
-use Rattle.port_core.specs.Inside.{value_of}
+use Rattle.port_core.specs.Inside.{KeepsCalls, value_of}
 use Rattle.port_core.proofs.GoingOn.{made, entry_added, known_caller, port_bounded}
 use Rattle.port_core.proofs.Calls.{begun_is, answers_met, parts_met, none_dropped, with_none_dropped}
 use Rattle.port_core.proofs.Answering.{IsTried, after_call, answers_call, takes_part_of}
@@ -24,6 +24,7 @@ use Rattle.port_core.specs.Ports.{call_in}
 use Rattle.port_core.proofs.Fitting.{answer_fits}
 use Rattle.port_core.proofs.Handing.{when_false}
 use Rattle.port_core.proofs.ports.Port.answer.Goals as goal
+use Rattle.port_core.proofs.ports.Port.answer.Goals.{After-note, After-note-in-Takes}
 
 -- what a call leaves of the terminal
 leaves_of : (t u w : Terminal) (d : ℕ) (call : PlainCall) → u ≡ t → w ≡ left_by (outcome u (caller_at u d) call) u → Leaves t w
@@ -76,8 +77,12 @@ note_part-requires-clause-bytes c =
     let more : (caller_at u c.args.caller).taken + c.in-Takes.count < byte_count (call_of c.args.call.now) = part_more u (caller_at u c.args.caller) (call_of c.args.call.now) c.in-Takes.count (parts_met _ _ c.in-Takes.ensures.met) in
     omega (arith, (w.caller c.args.caller).taken, more, ap (λ (t : Terminal). (caller_at t c.args.caller).taken) c.prepare.ensures.terminal, c.requires.ready.bytes)
 
-pub invariant_of-self-in-Gives : goal.invariant_of-self-in-Gives
-invariant_of-self-in-Gives c =
+abbrev answered_now : After-note → PortValue
+answered_now c = record (value_of c.self.inside) { terminal = c.advance.new.self.terminal; journal = c.add.new.self.items; kept = c.note.new.self.items; starved = c.prepare.new.starved; flip = (value_of c.self.inside).flip }
+
+-- the invariant, and what the attempt came to
+answers : (c : After-note) → KeepsCalls (answered_now c) c.self.inside.waiting.items × AnswersCall (value_of c.self.inside) (answered_now c) c.args.caller c.args.step (call_of c.args.call.now) (answer_of c.in-Gives.answer)
+answers c =
     let v : PortValue = value_of c.self.inside in
     let d = c.args.caller in
     let step = c.args.step in
@@ -96,44 +101,26 @@ invariant_of-self-in-Gives c =
     let entry : entry_of c.entry_of_call-entry.result ≡ e = c.entry_of_call-entry.ensures ∙ (λ i. record { who = Caller d; step = ready.next i; part = (c.caller-state.ensures i).parts; generation = c.generation-generation.ensures i; event = answered (c.lent.ensures i) [] }) in
     let js : c.add.new.self.items ≡ v.journal ++ e ∷ [] = entry_added v.journal _ _ _ e c.in_ok-reserve_entry.ensures.items c.add.ensures entry in
     let kept_plain : c.note.new.self.items ≡ kept_with (has_begun (caller_at v.terminal d)) v.kept d step call = c.note.ensures ∙ ap (λ (b : Bool). kept_with b v.kept d step call) begun in
-    let now : PortValue = record v { terminal = c.advance.new.self.terminal; journal = c.add.new.self.items; kept = c.note.new.self.items; starved = c.prepare.new.starved; flip = v.flip } in
     let goes : c.advance.new.self.terminal ≡ after_answer (with_dropped c.meet.new.self.terminal 0) d = ap (λ r. r.terminal) c.advance.ensures ∙ ap (λ (w : Terminal). after_answer w d) (sym (with_none_dropped c.meet.new.self.terminal)) in
-    let same : now ≡ after_call v d step call (after_answer (with_dropped c.meet.new.self.terminal 0) d) v.flip e = made v _ (after_answer (with_dropped c.meet.new.self.terminal 0) d) _ (v.journal ++ e ∷ []) _ (kept_with (has_begun (caller_at v.terminal d)) v.kept d step call) _ v.flip v.flip goes js kept_plain (c.in_ok-room.ensures.ok ∙ c.in_ok-reserve_entry.ensures.ok) refl in
-    let both = answers_call v now slots d step call (answer_of c.in-Gives.answer) [] c.meet.new.self.terminal v.flip tried
+    let same : answered_now c ≡ after_call v d step call (after_answer (with_dropped c.meet.new.self.terminal 0) d) v.flip e = made v _ (after_answer (with_dropped c.meet.new.self.terminal 0) d) _ (v.journal ++ e ∷ []) _ (kept_with (has_begun (caller_at v.terminal d)) v.kept d step call) _ v.flip v.flip goes js kept_plain (c.in_ok-room.ensures.ok ∙ c.in_ok-reserve_entry.ensures.ok) refl in
+    answers_call v (answered_now c) slots d step call (answer_of c.in-Gives.answer) [] c.meet.new.self.terminal v.flip tried
     (answers_met _ o c.in-Gives.answer (subst (λ (x : Outcome). Meets x (met.Gives c.in-Gives.answer)) same_o c.in-Gives.ensures.met)) (none_dropped v.terminal o keeps)
-    (when_false (drops_of o) _ _ keeps (refl, refl)) (sym (append-nil v.flip.taken)) (omega arith) refl c.self.invariant.port.sent left column same in
-    both.0
+    (when_false (drops_of o) _ _ keeps (refl, refl)) (sym (append-nil v.flip.taken)) (omega arith) refl c.self.invariant.port.sent left column same
+
+pub invariant_of-self-in-Gives : goal.invariant_of-self-in-Gives
+invariant_of-self-in-Gives c = (answers (goal.at.invariant_of-self-in-Gives c).After-note).0
 
 pub returns-in-Gives-clause-tried : goal.returns-in-Gives-clause-tried
 returns-in-Gives-clause-tried c =
-    let v : PortValue = value_of c.self.inside in
-    let d = c.args.caller in
-    let step = c.args.step in
-    let call = call_of c.args.call.now in
-    let slots : List (Option WaitingCall) = c.self.inside.waiting.items in
-    let ready : IsReady v d step call = subst (λ (w : PortValue). IsReady w d step call) (sym c.self.view_is) c.requires.ready in
-    let few : length v.journal < v.limit = subst (λ (w : PortValue). length w.journal < w.limit) (sym c.self.view_is) c.requires.open.0 in
-    let begun : c.is_some-begun.result ≡ has_begun (caller_at v.terminal d) = begun_is v.terminal d c.caller-state.result c.is_some-begun.result c.caller-state.ensures c.is_some-begun.ensures in
-    let tried : IsTried v slots d step call = record { keeps = c.self.invariant; few = few; ready = ready } in
-    let o = outcome v.terminal (caller_at v.terminal d) call in
-    let same_o : outcome c.prepare.new.terminal.terminal (caller_at c.prepare.new.terminal.terminal d) call ≡ o = ap (λ (t : Terminal). outcome t (caller_at t d) call) c.prepare.ensures.terminal in
-    let left : c.meet.new.self.terminal ≡ left_by o v.terminal = c.meet.ensures.left ∙ ap (λ (t : Terminal). left_by (outcome t (caller_at t d) call) t) c.prepare.ensures.terminal in
-    let column : column_in c.meet.new.self.terminal.disc ≤ column_in v.terminal.disc + 4096 = subst (λ (t : Terminal). column_in c.meet.new.self.terminal.disc ≤ column_in t.disc + 4096) c.prepare.ensures.terminal c.meet.ensures.column in
-    let keeps : drops_of o ≡ false = subst (λ (w : PortValue). drops_of (outcome w.terminal (caller_at w.terminal d) call) ≡ false) (sym c.self.view_is) c.requires.keeps in
-    let e : PlainEntry = caller_entry v d (answered (answer_of c.in-Gives.answer) []) in
-    let entry : entry_of c.entry_of_call-entry.result ≡ e = c.entry_of_call-entry.ensures ∙ (λ i. record { who = Caller d; step = ready.next i; part = (c.caller-state.ensures i).parts; generation = c.generation-generation.ensures i; event = answered (c.lent.ensures i) [] }) in
-    let js : c.add.new.self.items ≡ v.journal ++ e ∷ [] = entry_added v.journal _ _ _ e c.in_ok-reserve_entry.ensures.items c.add.ensures entry in
-    let kept_plain : c.note.new.self.items ≡ kept_with (has_begun (caller_at v.terminal d)) v.kept d step call = c.note.ensures ∙ ap (λ (b : Bool). kept_with b v.kept d step call) begun in
-    let now : PortValue = record v { terminal = c.advance.new.self.terminal; journal = c.add.new.self.items; kept = c.note.new.self.items; starved = c.prepare.new.starved; flip = v.flip } in
-    let goes : c.advance.new.self.terminal ≡ after_answer (with_dropped c.meet.new.self.terminal 0) d = ap (λ r. r.terminal) c.advance.ensures ∙ ap (λ (w : Terminal). after_answer w d) (sym (with_none_dropped c.meet.new.self.terminal)) in
-    let same : now ≡ after_call v d step call (after_answer (with_dropped c.meet.new.self.terminal 0) d) v.flip e = made v _ (after_answer (with_dropped c.meet.new.self.terminal 0) d) _ (v.journal ++ e ∷ []) _ (kept_with (has_begun (caller_at v.terminal d)) v.kept d step call) _ v.flip v.flip goes js kept_plain (c.in_ok-room.ensures.ok ∙ c.in_ok-reserve_entry.ensures.ok) refl in
-    let both = answers_call v now slots d step call (answer_of c.in-Gives.answer) [] c.meet.new.self.terminal v.flip tried
-    (answers_met _ o c.in-Gives.answer (subst (λ (x : Outcome). Meets x (met.Gives c.in-Gives.answer)) same_o c.in-Gives.ensures.met)) (none_dropped v.terminal o keeps)
-    (when_false (drops_of o) _ _ keeps (refl, refl)) (sym (append-nil v.flip.taken)) (omega arith) refl c.self.invariant.port.sent left column same in
-    subst (λ (w : PortValue). AnswersCall w now d step call (answer_of c.in-Gives.answer)) c.self.view_is both.1
+    let d = (goal.at.returns-in-Gives-clause-tried c).After-note in
+    subst (λ (w : PortValue). AnswersCall w (answered_now d) c.args.caller c.args.step (call_of c.args.call.now) (answer_of c.in-Gives.answer)) c.self.view_is (answers d).1
 
-pub invariant_of-self-in-Takes : goal.invariant_of-self-in-Takes
-invariant_of-self-in-Takes c =
+abbrev taken_now : After-note-in-Takes → PortValue
+taken_now c = record (value_of c.self.inside) { terminal = c.note_part.new.self.terminal; journal = c.add-in-Takes.new.self.items; kept = c.note-in-Takes.new.self.items; starved = c.prepare.new.starved; flip = (value_of c.self.inside).flip }
+
+-- of a part
+takes : (c : After-note-in-Takes) → KeepsCalls (taken_now c) c.self.inside.waiting.items × TakesPartOf (value_of c.self.inside) (taken_now c) c.args.caller c.args.step (call_of c.args.call.now)
+takes c =
     let v : PortValue = value_of c.self.inside in
     let d = c.args.caller in
     let step = c.args.step in
@@ -152,36 +139,15 @@ invariant_of-self-in-Takes c =
     let entry : entry_of c.entry_of_call-entry-in-Takes.result ≡ e = c.entry_of_call-entry-in-Takes.ensures ∙ (λ i. record { who = Caller d; step = ready.next i; part = (c.caller-state.ensures i).parts; generation = c.generation-generation.ensures i; event = parted c.in-Takes.count }) in
     let js : c.add-in-Takes.new.self.items ≡ v.journal ++ e ∷ [] = entry_added v.journal _ _ _ e c.in_ok-reserve_entry.ensures.items c.add-in-Takes.ensures entry in
     let kept_plain : c.note-in-Takes.new.self.items ≡ kept_with (has_begun (caller_at v.terminal d)) v.kept d step call = c.note-in-Takes.ensures ∙ ap (λ (b : Bool). kept_with b v.kept d step call) begun in
-    let now : PortValue = record v { terminal = c.note_part.new.self.terminal; journal = c.add-in-Takes.new.self.items; kept = c.note-in-Takes.new.self.items; starved = c.prepare.new.starved; flip = v.flip } in
     let goes : c.note_part.new.self.terminal ≡ after_part c.meet.new.self.terminal d (handle_of call) c.in-Takes.count = ap (λ r. r.terminal) c.note_part.ensures ∙ ap (λ (h : ℕ). after_part c.meet.new.self.terminal d h c.in-Takes.count) c.handle.ensures in
-    let same : now ≡ after_call v d step call (after_part c.meet.new.self.terminal d (handle_of call) c.in-Takes.count) v.flip e = made v _ (after_part c.meet.new.self.terminal d (handle_of call) c.in-Takes.count) _ (v.journal ++ e ∷ []) _ (kept_with (has_begun (caller_at v.terminal d)) v.kept d step call) _ v.flip v.flip goes js kept_plain (c.in_ok-room.ensures.ok ∙ c.in_ok-reserve_entry.ensures.ok) refl in
-    let both = takes_part_of v now slots d step call c.in-Takes.count c.meet.new.self.terminal tried
-    (parts_met o c.in-Takes.count (subst (λ (x : Outcome). Meets x (met.Takes c.in-Takes.count)) same_o c.in-Takes.ensures.met)) left column same in
-    both.0
+    let same : taken_now c ≡ after_call v d step call (after_part c.meet.new.self.terminal d (handle_of call) c.in-Takes.count) v.flip e = made v _ (after_part c.meet.new.self.terminal d (handle_of call) c.in-Takes.count) _ (v.journal ++ e ∷ []) _ (kept_with (has_begun (caller_at v.terminal d)) v.kept d step call) _ v.flip v.flip goes js kept_plain (c.in_ok-room.ensures.ok ∙ c.in_ok-reserve_entry.ensures.ok) refl in
+    takes_part_of v (taken_now c) slots d step call c.in-Takes.count c.meet.new.self.terminal tried
+    (parts_met o c.in-Takes.count (subst (λ (x : Outcome). Meets x (met.Takes c.in-Takes.count)) same_o c.in-Takes.ensures.met)) left column same
+
+pub invariant_of-self-in-Takes : goal.invariant_of-self-in-Takes
+invariant_of-self-in-Takes c = (takes (goal.at.invariant_of-self-in-Takes c).After-note-in-Takes).0
 
 pub returns-in-Takes-clause-tried : goal.returns-in-Takes-clause-tried
 returns-in-Takes-clause-tried c =
-    let v : PortValue = value_of c.self.inside in
-    let d = c.args.caller in
-    let step = c.args.step in
-    let call = call_of c.args.call.now in
-    let slots : List (Option WaitingCall) = c.self.inside.waiting.items in
-    let ready : IsReady v d step call = subst (λ (w : PortValue). IsReady w d step call) (sym c.self.view_is) c.requires.ready in
-    let few : length v.journal < v.limit = subst (λ (w : PortValue). length w.journal < w.limit) (sym c.self.view_is) c.requires.open.0 in
-    let begun : c.is_some-begun.result ≡ has_begun (caller_at v.terminal d) = begun_is v.terminal d c.caller-state.result c.is_some-begun.result c.caller-state.ensures c.is_some-begun.ensures in
-    let tried : IsTried v slots d step call = record { keeps = c.self.invariant; few = few; ready = ready } in
-    let o = outcome v.terminal (caller_at v.terminal d) call in
-    let same_o : outcome c.prepare.new.terminal.terminal (caller_at c.prepare.new.terminal.terminal d) call ≡ o = ap (λ (t : Terminal). outcome t (caller_at t d) call) c.prepare.ensures.terminal in
-    let left : c.meet.new.self.terminal ≡ left_by o v.terminal = c.meet.ensures.left ∙ ap (λ (t : Terminal). left_by (outcome t (caller_at t d) call) t) c.prepare.ensures.terminal in
-    let column : column_in c.meet.new.self.terminal.disc ≤ column_in v.terminal.disc + 4096 = subst (λ (t : Terminal). column_in c.meet.new.self.terminal.disc ≤ column_in t.disc + 4096) c.prepare.ensures.terminal c.meet.ensures.column in
-    let keeps : drops_of o ≡ false = subst (λ (w : PortValue). drops_of (outcome w.terminal (caller_at w.terminal d) call) ≡ false) (sym c.self.view_is) c.requires.keeps in
-    let e : PlainEntry = caller_entry v d (parted c.in-Takes.count) in
-    let entry : entry_of c.entry_of_call-entry-in-Takes.result ≡ e = c.entry_of_call-entry-in-Takes.ensures ∙ (λ i. record { who = Caller d; step = ready.next i; part = (c.caller-state.ensures i).parts; generation = c.generation-generation.ensures i; event = parted c.in-Takes.count }) in
-    let js : c.add-in-Takes.new.self.items ≡ v.journal ++ e ∷ [] = entry_added v.journal _ _ _ e c.in_ok-reserve_entry.ensures.items c.add-in-Takes.ensures entry in
-    let kept_plain : c.note-in-Takes.new.self.items ≡ kept_with (has_begun (caller_at v.terminal d)) v.kept d step call = c.note-in-Takes.ensures ∙ ap (λ (b : Bool). kept_with b v.kept d step call) begun in
-    let now : PortValue = record v { terminal = c.note_part.new.self.terminal; journal = c.add-in-Takes.new.self.items; kept = c.note-in-Takes.new.self.items; starved = c.prepare.new.starved; flip = v.flip } in
-    let goes : c.note_part.new.self.terminal ≡ after_part c.meet.new.self.terminal d (handle_of call) c.in-Takes.count = ap (λ r. r.terminal) c.note_part.ensures ∙ ap (λ (h : ℕ). after_part c.meet.new.self.terminal d h c.in-Takes.count) c.handle.ensures in
-    let same : now ≡ after_call v d step call (after_part c.meet.new.self.terminal d (handle_of call) c.in-Takes.count) v.flip e = made v _ (after_part c.meet.new.self.terminal d (handle_of call) c.in-Takes.count) _ (v.journal ++ e ∷ []) _ (kept_with (has_begun (caller_at v.terminal d)) v.kept d step call) _ v.flip v.flip goes js kept_plain (c.in_ok-room.ensures.ok ∙ c.in_ok-reserve_entry.ensures.ok) refl in
-    let both = takes_part_of v now slots d step call c.in-Takes.count c.meet.new.self.terminal tried
-    (parts_met o c.in-Takes.count (subst (λ (x : Outcome). Meets x (met.Takes c.in-Takes.count)) same_o c.in-Takes.ensures.met)) left column same in
-    subst (λ (w : PortValue). TakesPartOf w now d step call) c.self.view_is both.1
+    let d = (goal.at.returns-in-Takes-clause-tried c).After-note-in-Takes in
+    subst (λ (w : PortValue). TakesPartOf w (taken_now d) c.args.caller c.args.step (call_of c.args.call.now)) c.self.view_is (takes d).1

@@ -12,7 +12,7 @@ use Rattle.port_core.specs.declared.waiting.WaitingCall.{WaitingCall}
 use Rattle.port_core.specs.Flips.{DropsShown}
 use Rattle.port_core.specs.Ports.{PortValue, kept_with, caller_entry}
 use Rattle.port_core.specs.Attempts.{IsReady, AnswersCall}
-use Rattle.port_core.specs.Inside.{value_of}
+use Rattle.port_core.specs.Inside.{KeepsCalls, value_of}
 use Rattle.port_core.proofs.GoingOn.{made, entry_added, known_caller, port_bounded, port_taken, port_capacity, port_within, port_few}
 use Rattle.port_core.proofs.Calls.{begun_is, answers_met, some_dropped}
 use Rattle.port_core.proofs.Answering.{IsTried, after_call, answers_call}
@@ -26,6 +26,7 @@ use Rattle.std.proofs.lemmas.Bool.{false≢true}
 use Rattle.word_ring.specs.Ends.{TakerState}
 use Rattle.port_core.specs.Ports.{IsPort}
 use Rattle.port_core.proofs.ports.Port.answer_dropping.Goals as goal
+use Rattle.port_core.proofs.ports.Port.answer_dropping.Goals.{After-note}
 
 -- what a call leaves of the terminal
 leaves_of : (t u w : Terminal) (d : ℕ) (call : PlainCall) → u ≡ t → w ≡ left_by (outcome u (caller_at u d) call) u → Leaves t w
@@ -94,8 +95,12 @@ add-requires-clause-characters c =
     let characters = ap (λ (e : PlainEntry). chars_in e.event) c.entry_of_call-entry.ensures ∙ c.as_slice.ensures in
     rw characters (omega (arith, drops_within v c.drop_shown.new.flip c.drop_shown.new.dropped.items c.self.invariant.port shown, c.capacity-capacity.ensures, c.in_ok-reserve_entry.ensures.characters))
 
-pub invariant_of-self-2 : goal.invariant_of-self-2
-invariant_of-self-2 c =
+abbrev now_of : After-note → PortValue
+now_of c = record (value_of c.self.inside) { terminal = c.advance.new.self.terminal; journal = c.add.new.self.items; kept = c.note.new.self.items; starved = c.prepare.new.starved; flip = c.drop_shown.new.flip }
+
+-- the invariant, and what the attempt came to
+answers : (c : After-note) → KeepsCalls (now_of c) c.self.inside.waiting.items × AnswersCall (value_of c.self.inside) (now_of c) c.args.caller c.args.step (call_of c.args.call.now) (answer_of c.in-Gives.answer)
+answers c =
     let v : PortValue = value_of c.self.inside in
     let shown : DropsShown v.terminal v.flip c.drop_shown.new.flip c.drop_shown.new.dropped.items = subst (λ (t : Terminal). DropsShown t v.flip c.drop_shown.new.flip c.drop_shown.new.dropped.items) c.prepare.ensures.terminal c.drop_shown.ensures in
     let d = c.args.caller in
@@ -115,43 +120,18 @@ invariant_of-self-2 c =
     let entry : entry_of c.entry_of_call-entry.result ≡ e = c.entry_of_call-entry.ensures ∙ (λ i. record { who = Caller d; step = ready.next i; part = (c.caller-state.ensures i).parts; generation = c.generation-generation.ensures i; event = answered (c.lent.ensures i) (c.as_slice.ensures i) }) in
     let js : c.add.new.self.items ≡ v.journal ++ e ∷ [] = entry_added v.journal _ _ _ e c.in_ok-reserve_entry.ensures.items c.add.ensures entry in
     let kept_plain : c.note.new.self.items ≡ kept_with (has_begun (caller_at v.terminal d)) v.kept d step call = c.note.ensures ∙ ap (λ (b : Bool). kept_with b v.kept d step call) begun in
-    let now : PortValue = record v { terminal = c.advance.new.self.terminal; journal = c.add.new.self.items; kept = c.note.new.self.items; starved = c.prepare.new.starved; flip = c.drop_shown.new.flip } in
     let goes : c.advance.new.self.terminal ≡ after_answer (with_dropped c.meet.new.self.terminal (length c.drop_shown.new.dropped.items)) d = ap (λ r. r.terminal) c.advance.ensures ∙ ap (λ (w : Terminal). after_answer w d) (ap (λ r. r.terminal) c.drop_characters.ensures ∙ ap (λ n. with_dropped c.meet.new.self.terminal n) c.len-count.ensures) in
-    let same : now ≡ after_call v d step call (after_answer (with_dropped c.meet.new.self.terminal (length c.drop_shown.new.dropped.items)) d) c.drop_shown.new.flip e = made v _ (after_answer (with_dropped c.meet.new.self.terminal (length c.drop_shown.new.dropped.items)) d) _ (v.journal ++ e ∷ []) _ (kept_with (has_begun (caller_at v.terminal d)) v.kept d step call) _ c.drop_shown.new.flip c.drop_shown.new.flip goes js kept_plain (c.in_ok-room.ensures.ok ∙ c.in_ok-dropped.ensures.ok ∙ c.in_ok-reserve_entry.ensures.ok) refl in
+    let same : now_of c ≡ after_call v d step call (after_answer (with_dropped c.meet.new.self.terminal (length c.drop_shown.new.dropped.items)) d) c.drop_shown.new.flip e = made v _ (after_answer (with_dropped c.meet.new.self.terminal (length c.drop_shown.new.dropped.items)) d) _ (v.journal ++ e ∷ []) _ (kept_with (has_begun (caller_at v.terminal d)) v.kept d step call) _ c.drop_shown.new.flip c.drop_shown.new.flip goes js kept_plain (c.in_ok-room.ensures.ok ∙ c.in_ok-dropped.ensures.ok ∙ c.in_ok-reserve_entry.ensures.ok) refl in
     let least : v.terminal.sent ≤ shown.tail = omega (arith, c.self.invariant.port.sent, shown.looks.rises) in
     let most : shown.tail ≤ v.terminal.taken + v.terminal.capacity = omega (arith, shown.looks.most, port_taken v c.self.invariant.port, port_capacity v c.self.invariant.port) in
-    let both = answers_call v now slots d step call (answer_of c.in-Gives.answer) c.drop_shown.new.dropped.items c.meet.new.self.terminal c.drop_shown.new.flip tried
+    answers_call v (now_of c) slots d step call (answer_of c.in-Gives.answer) c.drop_shown.new.dropped.items c.meet.new.self.terminal c.drop_shown.new.flip tried
     (answers_met _ o c.in-Gives.answer (subst (λ (x : Outcome). Meets x (met.Gives c.in-Gives.answer)) same_o c.in-Gives.ensures.met)) (some_dropped v.terminal o shown.tail (length c.drop_shown.new.dropped.items) drops least most shown.all)
-    (when_true (drops_of o) _ _ drops shown) shown.takes_out.taken (drops_few v c.drop_shown.new.flip c.drop_shown.new.dropped.items c.self.invariant.port shown) shown.takes_out.capacity (omega (arith, least, shown.looks.floor)) left column same in
-    both.0
+    (when_true (drops_of o) _ _ drops shown) shown.takes_out.taken (drops_few v c.drop_shown.new.flip c.drop_shown.new.dropped.items c.self.invariant.port shown) shown.takes_out.capacity (omega (arith, least, shown.looks.floor)) left column same
+
+pub invariant_of-self-2 : goal.invariant_of-self-2
+invariant_of-self-2 c = (answers (goal.at.invariant_of-self-2 c).After-note).0
 
 pub returns-clause-tried : goal.returns-clause-tried
 returns-clause-tried c =
-    let v : PortValue = value_of c.self.inside in
-    let shown : DropsShown v.terminal v.flip c.drop_shown.new.flip c.drop_shown.new.dropped.items = subst (λ (t : Terminal). DropsShown t v.flip c.drop_shown.new.flip c.drop_shown.new.dropped.items) c.prepare.ensures.terminal c.drop_shown.ensures in
-    let d = c.args.caller in
-    let step = c.args.step in
-    let call = call_of c.args.call.now in
-    let slots : List (Option WaitingCall) = c.self.inside.waiting.items in
-    let ready : IsReady v d step call = subst (λ (w : PortValue). IsReady w d step call) (sym c.self.view_is) c.requires.ready in
-    let few : length v.journal < v.limit = subst (λ (w : PortValue). length w.journal < w.limit) (sym c.self.view_is) c.requires.open.0 in
-    let begun : c.is_some-begun.result ≡ has_begun (caller_at v.terminal d) = begun_is v.terminal d c.caller-state.result c.is_some-begun.result c.caller-state.ensures c.is_some-begun.ensures in
-    let tried : IsTried v slots d step call = record { keeps = c.self.invariant; few = few; ready = ready } in
-    let o = outcome v.terminal (caller_at v.terminal d) call in
-    let same_o : outcome c.prepare.new.terminal.terminal (caller_at c.prepare.new.terminal.terminal d) call ≡ o = ap (λ (t : Terminal). outcome t (caller_at t d) call) c.prepare.ensures.terminal in
-    let left : c.meet.new.self.terminal ≡ left_by o v.terminal = c.meet.ensures.left ∙ ap (λ (t : Terminal). left_by (outcome t (caller_at t d) call) t) c.prepare.ensures.terminal in
-    let column : column_in c.meet.new.self.terminal.disc ≤ column_in v.terminal.disc + 4096 = subst (λ (t : Terminal). column_in c.meet.new.self.terminal.disc ≤ column_in t.disc + 4096) c.prepare.ensures.terminal c.meet.ensures.column in
-    let drops : drops_of o ≡ true = subst (λ (w : PortValue). drops_of (outcome w.terminal (caller_at w.terminal d) call) ≡ true) (sym c.self.view_is) c.requires.drops in
-    let e : PlainEntry = caller_entry v d (answered (answer_of c.in-Gives.answer) c.drop_shown.new.dropped.items) in
-    let entry : entry_of c.entry_of_call-entry.result ≡ e = c.entry_of_call-entry.ensures ∙ (λ i. record { who = Caller d; step = ready.next i; part = (c.caller-state.ensures i).parts; generation = c.generation-generation.ensures i; event = answered (c.lent.ensures i) (c.as_slice.ensures i) }) in
-    let js : c.add.new.self.items ≡ v.journal ++ e ∷ [] = entry_added v.journal _ _ _ e c.in_ok-reserve_entry.ensures.items c.add.ensures entry in
-    let kept_plain : c.note.new.self.items ≡ kept_with (has_begun (caller_at v.terminal d)) v.kept d step call = c.note.ensures ∙ ap (λ (b : Bool). kept_with b v.kept d step call) begun in
-    let now : PortValue = record v { terminal = c.advance.new.self.terminal; journal = c.add.new.self.items; kept = c.note.new.self.items; starved = c.prepare.new.starved; flip = c.drop_shown.new.flip } in
-    let goes : c.advance.new.self.terminal ≡ after_answer (with_dropped c.meet.new.self.terminal (length c.drop_shown.new.dropped.items)) d = ap (λ r. r.terminal) c.advance.ensures ∙ ap (λ (w : Terminal). after_answer w d) (ap (λ r. r.terminal) c.drop_characters.ensures ∙ ap (λ n. with_dropped c.meet.new.self.terminal n) c.len-count.ensures) in
-    let same : now ≡ after_call v d step call (after_answer (with_dropped c.meet.new.self.terminal (length c.drop_shown.new.dropped.items)) d) c.drop_shown.new.flip e = made v _ (after_answer (with_dropped c.meet.new.self.terminal (length c.drop_shown.new.dropped.items)) d) _ (v.journal ++ e ∷ []) _ (kept_with (has_begun (caller_at v.terminal d)) v.kept d step call) _ c.drop_shown.new.flip c.drop_shown.new.flip goes js kept_plain (c.in_ok-room.ensures.ok ∙ c.in_ok-dropped.ensures.ok ∙ c.in_ok-reserve_entry.ensures.ok) refl in
-    let least : v.terminal.sent ≤ shown.tail = omega (arith, c.self.invariant.port.sent, shown.looks.rises) in
-    let most : shown.tail ≤ v.terminal.taken + v.terminal.capacity = omega (arith, shown.looks.most, port_taken v c.self.invariant.port, port_capacity v c.self.invariant.port) in
-    let both = answers_call v now slots d step call (answer_of c.in-Gives.answer) c.drop_shown.new.dropped.items c.meet.new.self.terminal c.drop_shown.new.flip tried
-    (answers_met _ o c.in-Gives.answer (subst (λ (x : Outcome). Meets x (met.Gives c.in-Gives.answer)) same_o c.in-Gives.ensures.met)) (some_dropped v.terminal o shown.tail (length c.drop_shown.new.dropped.items) drops least most shown.all)
-    (when_true (drops_of o) _ _ drops shown) shown.takes_out.taken (drops_few v c.drop_shown.new.flip c.drop_shown.new.dropped.items c.self.invariant.port shown) shown.takes_out.capacity (omega (arith, least, shown.looks.floor)) left column same in
-    subst (λ (w : PortValue). AnswersCall w now d step call (answer_of c.in-Gives.answer)) c.self.view_is both.1
+    let d = (goal.at.returns-clause-tried c).After-note in
+    subst (λ (w : PortValue). AnswersCall w (now_of d) c.args.caller c.args.step (call_of c.args.call.now) (answer_of c.in-Gives.answer)) c.self.view_is (answers d).1

@@ -5,7 +5,7 @@ use Rattle.port_core.specs.Ports.{IsPort}
 use Rattle.port_core.specs.Attempts.{tried_of, Raises}
 use Rattle.port_cell.specs.Entries.{generation_of, AddsBy}
 use Rattle.tty_port.specs.Histories.{history_in}
-use Rattle.tty_port.proofs.Histories.{port_generation}
+use Rattle.tty_port.proofs.Histories.{port_generation, is_history}
 use Rattle.tty_port.proofs.Attempting.{is_ready, tries, raises_of, denied_same, denied_full}
 use Rattle.tty_port.proofs.Turning.{adds_nothing}
 use Rattle.tty_port.proofs.Outcomes.{each_ok, each_err, either_way, either_on, tries_by, raises_none}
@@ -56,3 +56,6 @@ pub returns-clause-few : goal.returns-clause-few
 returns-clause-few c =
     let same = port_generation c.args.self.now.callers c.attempt-tried.new.self c.journal-journal-2.ensures.port in
     omega (arith, c.generation.ensures.value, c.generation.ensures.few)
+
+pub returns-clause-history : goal.returns-clause-history
+returns-clause-history c = is_history c.args.self.now.callers c.attempt-tried.new.self c.journal-journal-2.ensures.port

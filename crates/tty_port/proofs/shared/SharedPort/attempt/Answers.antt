@@ -9,7 +9,7 @@ use Rattle.tty_port.specs.Adding.{IsUnderWay}
 use Rattle.tty_port.specs.Shared.{name_of_port}
 use Rattle.tty_port.specs.declared.kept_port.KeptPort.{KeptPort}
 use Rattle.tty_port.proofs.Keeping.{under_way_kept}
-use Rattle.tty_port.proofs.Turning.{found}
+use Rattle.tty_port.proofs.Turning.{found, placed_now}
 use Rattle.tty_port.proofs.CallTurns.{held, turns}
 use Rattle.tty_port.proofs.Outcomes.{each_ok}
 use Rattle.tty_port.proofs.shared.SharedPort.attempt.Goals as goal
@@ -47,3 +47,16 @@ returns-clause-tried g c =
     (record { was = c.requires.seat.number; now = now; keeps = at.keeps; placed = at.history.placed; at = sym generation; seen = seen })
     c.requires.ready (tried_of x) h)
     c.attempt-tried.ensures.tried
+
+pub returns-clause-placed : goal.returns-clause-placed
+returns-clause-placed g c =
+    let name = name_of_port c.args.self.now in
+    let n = c.args.caller in
+    let old = c.args.seat.now in
+    let v : KeptPort = c.value-2.result.now in
+    let first : c.value.result.now ≡ c.turn-turn.result.value = first_of (cc, search rules) in
+    let second : v ≡ c.turn-turn.result.value = first_of (cc, search rules) in
+    let at = found name n old c.turn-turn.result.value c.value.result.now v c.requires.seat.number c.requires.seat.named c.turn-turn.ensures.name c.turn-turn.ensures.list first second c.entry_count-found.ensures.history in
+    let w : KeptPort = c.attempt-tried.new.self in
+    let seen : list_seen c.end_turn.new.seat ≡ history_of w = first_of (cc, search rules) in
+    placed_now name w c.end_turn.new.seat (c.attempt-tried.ensures.name ∙ at.named) c.end_turn.ensures.history seen

@@ -10,7 +10,7 @@ use Rattle.tty_port.specs.Adding.{IsAnswerOf, Tries}
 use Rattle.tty_port.specs.Shared.{name_of_port}
 use Rattle.tty_port.specs.declared.kept_port.KeptPort.{KeptPort}
 use Rattle.tty_port.proofs.Keeping.{between_kept}
-use Rattle.tty_port.proofs.Turning.{found}
+use Rattle.tty_port.proofs.Turning.{found, placed_now}
 use Rattle.tty_port.proofs.CallTurns.{alone, not_begun, makes, raised_by}
 use Rattle.tty_port.proofs.Outcomes.{at_ok}
 use Rattle.tty_port.proofs.shared.SharedPort.change.Goals as goal
@@ -58,3 +58,29 @@ returns-in-Ok-Done-clause-ok g c =
       next = subst (IsBetween n (c.args.step + 1)) (sym seen) h.1;
       installed = raised_by (c.generation.result) (c.generation-before.result) (install_count old) (install_count new) (generation_in (last_word new)) (generation_of (list_seen new)) (before ∙ generation) (after ∙ sym (ap generation_of seen)) raised counted;
     }
+
+pub returns-in-Ok-Done-clause-placed : goal.returns-in-Ok-Done-clause-placed
+returns-in-Ok-Done-clause-placed g c =
+    let name = name_of_port c.args.self.now in
+    let n = c.args.caller in
+    let old = c.args.seat.now in
+    let v : KeptPort = c.value-3.result.now in
+    let first : c.value.result.now ≡ c.turn-turn.result.value = first_of (cc, search rules) in
+    let third : v ≡ c.turn-turn.result.value = first_of (cc, search rules) in
+    let at = found name n old c.turn-turn.result.value c.value.result.now v c.requires.seat.number c.requires.seat.named c.turn-turn.ensures.name c.turn-turn.ensures.list first third c.entry_count-found.ensures.history in
+    let w : KeptPort = c.attempt-tried.new.self in
+    let seen : list_seen c.settle.new.seat ≡ history_of w = first_of (cc, search rules) in
+    placed_now name w c.settle.new.seat (c.attempt-tried.ensures.name ∙ at.named) c.attempt-tried.ensures.history seen
+
+pub returns-in-Err-clause-placed : goal.returns-in-Err-clause-placed
+returns-in-Err-clause-placed g c =
+    let name = name_of_port c.args.self.now in
+    let n = c.args.caller in
+    let old = c.args.seat.now in
+    let v : KeptPort = c.value-3.result.now in
+    let first : c.value.result.now ≡ c.turn-turn.result.value = first_of (cc, search rules) in
+    let third : v ≡ c.turn-turn.result.value = first_of (cc, search rules) in
+    let at = found name n old c.turn-turn.result.value c.value.result.now v c.requires.seat.number c.requires.seat.named c.turn-turn.ensures.name c.turn-turn.ensures.list first third c.entry_count-found.ensures.history in
+    let w : KeptPort = c.attempt-tried.new.self in
+    let seen : list_seen c.settle.new.seat ≡ history_of w = first_of (cc, search rules) in
+    placed_now name w c.settle.new.seat (c.attempt-tried.ensures.name ∙ at.named) c.attempt-tried.ensures.history seen

@@ -14,7 +14,7 @@ invariant-loop g l =
       finite : (goal.iterator-loop g).is_finite l.iterator';
       seat : IsHolding l.self (name_of_port l.self).callers l.seat;
       references : KeepsUse l.initial.seat l.seat;
-      so_far : IsFlushing (name_of_port l.self).callers l.run l.part l.count l.initial.seat l.seat;
+      so_far : IsFlushing (name_of_port l.self) l.run l.part l.count l.initial.seat l.seat;
       piece : GoesOnAt l.run l.part (generation_in (last_word l.seat)) (list_seen l.seat);
       bounded : l.part ≤ 4194304;
       within : l.part ≤ length (list_seen l.seat);

@@ -9,7 +9,7 @@ use Rattle.tty_port.specs.Flushing.{GoesOnAt, Hands}
 use Rattle.tty_port.specs.Shared.{name_of_port}
 use Rattle.tty_port.specs.declared.kept_port.KeptPort.{KeptPort}
 use Rattle.tty_port.proofs.Keeping.{goes_on_kept}
-use Rattle.tty_port.proofs.Turning.{found}
+use Rattle.tty_port.proofs.Turning.{found, placed_now}
 use Rattle.tty_port.proofs.CallTurns.{held}
 use Rattle.tty_port.proofs.FlushSteps.{flush_turns, run_kept}
 use Rattle.tty_port.proofs.Outcomes.{each_ok, on_err_only}
@@ -56,3 +56,15 @@ returns-clause-next g c =
     let w : KeptPort = c.flush_piece-flushed.new.self in
     let seen : list_seen c.end_turn.new.seat ≡ history_of w = first_of (cc, search rules) in
     on_err_only c.flush_piece-flushed.result _ _ (λ same. ap next_run (seen ∙ same) ∙ run_kept name.callers _ (list_seen old) (history_of v) at.history.placed at.keeps) c.flush_piece-flushed.ensures.same
+
+pub returns-clause-placed : goal.returns-clause-placed
+returns-clause-placed g c =
+    let name = name_of_port c.args.self.now in
+    let old = c.args.seat.now in
+    let v : KeptPort = c.value-2.result.now in
+    let first : c.value.result.now ≡ c.turn-turn.result.value = first_of (cc, search rules) in
+    let second : v ≡ c.turn-turn.result.value = first_of (cc, search rules) in
+    let at = found name name.callers old c.turn-turn.result.value c.value.result.now v c.requires.seat.number c.requires.seat.named c.turn-turn.ensures.name c.turn-turn.ensures.list first second c.entry_count-found.ensures.history in
+    let w : KeptPort = c.flush_piece-flushed.new.self in
+    let seen : list_seen c.end_turn.new.seat ≡ history_of w = first_of (cc, search rules) in
+    placed_now name w c.end_turn.new.seat (c.flush_piece-flushed.ensures.name ∙ at.named) c.end_turn.ensures.history seen

@@ -2,9 +2,9 @@ use Rattle.std.proofs.Common.{rules}
 use Rattle.tty_calls.specs.Plain.{call_of}
 use Rattle.port_core.specs.Attempts.{must_wait}
 use Rattle.port_cell.specs.Word.{generation_in}
-use Rattle.port_cell.specs.Knowledge.{last_word}
+use Rattle.port_cell.specs.Knowledge.{last_word, step_count}
 use Rattle.tty_port.specs.Going.{Turns}
-use Rattle.tty_port.proofs.CallSteps.{knows_same, rests}
+use Rattle.tty_port.proofs.CallSteps.{knows_same, stepped_on, rests}
 use Rattle.tty_port.proofs.Outcomes.{at_ok}
 use Rattle.tty_port.proofs.shared.SharedPort.step_on.Goals as goal
 
@@ -12,7 +12,7 @@ pub returns-in-Ok-MustWait-clause-none : goal.returns-in-Ok-MustWait-clause-none
 returns-in-Ok-MustWait-clause-none g c =
     let old = c.args.seat.now in
     let mid = c.attempt.new.seat in
-    let new = c.rest.new.seat in
     let call = call_of c.args.call.now in
+    let steps = c.attempt.ensures.references.steps in
     let t : Turns c.args.caller c.args.step call (generation_in (last_word old)) old mid must_wait = at_ok c.attempt.result c.in-Ok-MustWait.field-0 _ _ c.in-Ok-MustWait.is c.in-Ok-MustWait.field-0-is c.attempt.ensures.tried in
-    rests c.args.caller c.args.step call old mid new (knows_same mid new c.rest.ensures.turn c.rest.ensures.seat.number) t
+    rests c.args.caller c.args.step call old mid _ (knows_same mid _ (search rules) (search rules)) (stepped_on (step_count old) (step_count mid) _ steps (search rules)) t

@@ -1,4 +1,4 @@
-use Rattle.std.proofs.Common.{rules, arith, sym, ap, subst, ◌∙◌, length, max}
+use Rattle.std.proofs.Common.{rules, sym, ap, subst, ◌∙◌, length}
 use Rattle.std.specs.List.Sorted.{IsNonDecreasing}
 use Rattle.word_ring.specs.declared.table.View.{View}
 use Rattle.word_ring.specs.PutterParts.{IsPutting}
@@ -20,10 +20,10 @@ invariant_of-self c = record {
   shown = c.self.invariant.shown ∙ sym (ap (λ (v : View). length v.pushed) c.load-head.ensures.2.0);
   head = search rules;
   putting = subst (IsPutting c.self.inside.capacity c.self.inside.sent c.self.inside.word) (sym c.load-head.ensures.2.0)
-      (after_load _ _ _ _ c.self.invariant.putting (max c.self.inside.seat.me.0.head c.load-head.result) (omega arith));
+      (after_load _ _ _ _ c.self.invariant.putting c.load-head.result c.load-head.ensures.2.2);
 }
 
-pub returns-clause-rise : goal.returns-clause-rise
-returns-clause-rise c =
-    let p = after_load _ _ _ _ c.self.invariant.putting (max c.self.inside.seat.me.0.head c.load-head.result) (omega arith) in
+pub returns-clause-ordered : goal.returns-clause-ordered
+returns-clause-ordered c =
+    let p = after_load _ _ _ _ c.self.invariant.putting c.load-head.result c.load-head.ensures.2.2 in
     subst (λ (v : View). IsNonDecreasing v.heads) (sym c.load-head.ensures.2.0) p.rise

@@ -12,7 +12,7 @@ use Rattle.word_ring.proofs.putter.Putter.push.Goals as goal
 pub store_lanes-requires-clause-at : goal.store_lanes-requires-clause-at
 store_lanes-requires-clause-at c =
     let p = c.self.invariant.putting in
-    c.self.invariant.at ∙ (ap (λ (z : ℕ). place z (c.self.inside.sent / 4)) (sym p.room) ∙ ap (place c.self.inside.seat.me.0.capacity) (group _ _ _ _ p))
+    c.self.invariant.at ∙ (ap (λ (z : ℕ). place z (c.self.inside.sent / 4)) (sym p.room) ∙ ap (place c.self.inside.seat.me.0.puts_within) (group _ _ _ _ p))
 
 pub store-requires : goal.store-requires
 store-requires c =
@@ -48,8 +48,8 @@ returns-clause-same c =
     (λ i. record { ring = ring i; capacity = c.self.inside.capacity; sent = same i; pushed = ap (λ v. v.pushed) now i; heads = ap (λ v. v.heads) now i; floor = ap (λ v. v.head) now i })
     ∙ ap (λ (s : PutterState ℕ). record s { pushed = s.sent }) c.self.view_is
 
-pub returns-clause-rise : goal.returns-clause-rise
-returns-clause-rise c =
+pub returns-clause-ordered : goal.returns-clause-ordered
+returns-clause-ordered c =
     let p = c.self.invariant.putting in
     let now = c.store.ensures.2.0 ∙ ap with_all_pushed c.store_lanes.ensures.stored in
     subst (λ (v : View). IsNonDecreasing v.heads) (sym now) p.rise

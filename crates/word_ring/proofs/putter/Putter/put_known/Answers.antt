@@ -23,7 +23,7 @@ invariant_of-self c = record {
 pub store_lanes-requires-clause-at : goal.store_lanes-requires-clause-at
 store_lanes-requires-clause-at c =
     let p = c.self.invariant.putting in
-    c.self.invariant.at ∙ (ap (λ z. place z (c.self.inside.sent / 4)) (sym p.room) ∙ ap (place c.self.inside.seat.me.0.capacity) (group _ _ _ _ p))
+    c.self.invariant.at ∙ (ap (λ z. place z (c.self.inside.sent / 4)) (sym p.room) ∙ ap (place c.self.inside.seat.me.0.puts_within) (group _ _ _ _ p))
 
 pub store_lanes-requires-clause-begins : goal.store_lanes-requires-clause-begins
 store_lanes-requires-clause-begins c =

@@ -20,7 +20,7 @@ invariant_of-self c =
       tail = search rules;
       ended = search rules;
       taking = subst (IsTaking in_self.capacity in_self.taken in_self.taken in_self.word in_self.start in_self.at) (sym c.load-tail.ensures.2.0)
-          (after_look _ _ _ _ _ _ _ c.self.invariant.taking c.load-tail.result (search rules) c.load-tail.ensures.2.4);
+          (after_look _ _ _ _ _ _ _ c.self.invariant.taking c.load-tail.result (search rules) c.load-tail.ensures.2.5);
     }
 
 pub returns-clause-begins : goal.returns-clause-begins

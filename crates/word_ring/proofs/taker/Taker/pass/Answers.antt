@@ -1,44 +1,66 @@
-use Rattle.std.proofs.Common.{rules, arith, refl, sym, ap, subst, ◌∙◌, ◌≡◌, ◌+◌, ◌/◌, ◌≤◌, ◌++◌, ◌∷◌, ℕ, length}
+use Rattle.std.proofs.Common.{rules, arith, refl, sym, ap, subst, ◌∙◌, ◌≡◌, ◌+◌, ◌/◌, ◌≤◌, ◌++◌, ◌∷◌, ℕ, List, length}
 use Rattle.atomic_table.specs.Table.{rest}
 use Rattle.word_ring.specs.declared.putter.Putter.TheInside.{Inside as PutterInside}
 use Rattle.word_ring.specs.declared.table.View.{View}
 use Rattle.word_ring.specs.declared.taker.Taker.TheInside.{Inside as TakerInside}
 use Rattle.word_ring.specs.Ends.{PutterState, TakerState, NothingWaits, Passes}
-use Rattle.word_ring.specs.Plays.{with_putter, putter_of, taker_of}
+use Rattle.word_ring.specs.Plays.{with_putter, with_put_past, held, putter_of, taker_of}
 use Rattle.word_ring.specs.PutterParts.{putter_state, IsPutting}
 use Rattle.word_ring.specs.Rule.{place}
 use Rattle.word_ring.specs.TakerParts.{taker_state, IsTaking}
-use Rattle.word_ring.proofs.Keeps.{leaves, ends, parts, passes as keeps_passes}
-use Rattle.word_ring.proofs.Passed.{both, level, whole, passed, size, passed_by, putting, taking, passes}
+use Rattle.word_ring.proofs.Keeps.{leaves, ends, parts, puts_past, takes_past}
+use Rattle.word_ring.proofs.Passed.{both, level, whole, joined_length, put_by, passed, size, passed_by, putting, taking, passes}
 use Rattle.word_ring.proofs.taker.Taker.pass.Goals as goal
 use Rattle.word_ring.proofs.taker.Taker.pass.Goals.{After-two_words_on-putter-inside}
 
 pub split_seat-seat-requires : goal.split_seat-seat-requires
-split_seat-seat-requires c = (search rules, search rules, leaves _ _ _ c.putter.invariant.putting.puts c.putter.invariant.putting.alone)
+split_seat-seat-requires c = (search rules, search rules, leaves _ _ _ c.putter.invariant.putting.puts c.putter.invariant.putting.alone c.putter.invariant.putting.still)
 
 pub join_seat-requires : goal.join_seat-requires
 join_seat-requires c = (search rules, search rules, search rules, search rules, ends _ _ _ _ _ c.self.invariant.taking.takes (ap (λ m. m.0.puts) c.split_seat-seat.ensures.4 ∙ c.putter.invariant.putting.puts))
 
-pub load-sent-requires : goal.load-sent-requires
-load-sent-requires c =
-    let clear : NothingWaits (putter_state c.putter.inside) (taker_state c.self.inside) =
-    subst (λ (z : PutterState ℕ × TakerState ℕ). NothingWaits z.0 z.1) (λ i. (sym c.putter.view_is i, sym c.self.view_is i)) c.requires.clear in
-    let here : c.exchange.new.seat.me.0 ≡ both c.putter.inside c.self.inside c.putter.invariant c.self.invariant clear =
-    ap (λ m. m.0) c.exchange.ensures.3 ∙ (ap (λ m. m.0) c.join_seat.ensures.2 ∙ (λ i. with_putter c.self.inside.seat.me.0 (c.split_seat-seat.ensures.4 i).0)) in
-    let even = level c.putter.inside c.self.inside c.putter.invariant c.self.invariant clear in
-    let stored = whole c.putter.inside c.self.inside c.putter.invariant c.self.invariant clear in (
+pub store-requires : goal.store-requires
+store-requires c =
+    let p = c.putter.inside in
+    let t = c.self.inside in
+    let clear : NothingWaits (putter_state p) (taker_state t) = subst (λ (z : PutterState ℕ × TakerState ℕ). NothingWaits z.0 z.1) (λ i. (sym c.putter.view_is i, sym c.self.view_is i)) c.requires.clear in
+    let all : View = both p t c.putter.invariant c.self.invariant clear in
+    let here : c.exchange.new.seat.me.0 ≡ all = ap (λ m. m.0) c.exchange.ensures.3 ∙ (ap (λ m. m.0) c.join_seat.ensures.2 ∙ (λ i. with_putter t.seat.me.0 (c.split_seat-seat.ensures.4 i).0)) in
+    let bytes : held c.exchange.new.seat.me.1 ≡ c.args.bytes = ap (λ m. held m.1) c.exchange.ensures.3 in
+    let count : length c.args.bytes ≡ 8 = search rules in
+    let room : 8 ≤ t.capacity = subst (λ (z : TakerState ℕ). 8 ≤ z.capacity) (sym c.self.view_is) c.requires.room in
+    let long : length (all.pushed ++ c.args.bytes) ≡ p.sent + 8 = joined_length p t c.putter.invariant c.self.invariant clear c.args.bytes count in (
       search rules,
       search rules,
-      keeps_passes _ _ _ _ (ap (λ (u : View). u.puts) here) (ap (λ (u : View). u.takes) here ∙ c.self.invariant.taking.takes)
-          (subst (λ (u : View). length u.taken ≡ length u.pushed) (sym here) even)
-          (subst (λ (u : View). length u.written ≤ length u.pushed) (sym here) stored),
+      puts_past _ _ _ _ _ (ap (λ (u : View). u.puts) here) (ap (λ (u : View). u.takes) here ∙ c.self.invariant.taking.takes)
+          (subst (λ (u : View). length u.taken ≡ length u.pushed) (sym here) (level p t c.putter.invariant c.self.invariant clear))
+          (subst (λ (z : List ℕ × ℕ). length z.0 ≤ z.1) (λ i. (sym bytes i, ap (λ (u : View). u.takes_within) (sym here) i)) (omega (arith, count, room, c.self.invariant.taking.room)))
+          (subst (λ (u : View). length u.written ≤ length u.pushed) (sym here) (whole p t c.putter.invariant c.self.invariant clear))
+          (sym long ∙ (λ i. length (ap (λ (u : View). u.pushed) (sym here) i ++ sym bytes i))),
+    )
+
+pub store-requires-2 : goal.store-requires-2
+store-requires-2 c =
+    let p = c.putter.inside in
+    let t = c.self.inside in
+    let clear : NothingWaits (putter_state p) (taker_state t) = subst (λ (z : PutterState ℕ × TakerState ℕ). NothingWaits z.0 z.1) (λ i. (sym c.putter.view_is i, sym c.self.view_is i)) c.requires.clear in
+    let all : View = both p t c.putter.invariant c.self.invariant clear in
+    let count : length c.args.bytes ≡ 8 = search rules in
+    let now : c.store.new.seat.me.0 ≡ with_put_past all c.args.bytes =
+    put_by p t c.putter.invariant c.self.invariant clear c.args.bytes c.split_seat-seat.result.me.0 c.join_seat.new.seat.me c.exchange.new.seat.me c.store.new.seat.me
+    (ap (λ m. m.0) c.split_seat-seat.ensures.4) (ap (λ m. m.0) c.join_seat.ensures.2) c.exchange.ensures.3 c.store.ensures.2.0 in (
+      search rules,
+      search rules,
+      takes_past _ _ _ _ _ (ap (λ (u : View). u.puts) now) (ap (λ (u : View). u.takes) now ∙ c.self.invariant.taking.takes)
+          (subst (λ (u : View). length u.written ≤ length u.pushed) (sym now) (omega arith))
+          (sym (joined_length p t c.putter.invariant c.self.invariant clear c.args.bytes count) ∙ ap (λ (u : View). length u.pushed) (sym now)),
     )
 
 pub split_seat-requires : goal.split_seat-requires
 split_seat-requires c =
-    let puts = ap (λ (u : View). u.puts) c.load-sent.ensures.2.0 ∙ (ap (λ m. m.0.puts) c.exchange.ensures.3 ∙ ap (λ m. m.0.puts) c.join_seat.ensures.2) in
-    let takes = ap (λ (u : View). u.takes) c.load-sent.ensures.2.0 ∙ (ap (λ m. m.0.takes) c.exchange.ensures.3 ∙ ap (λ m. m.0.takes) c.join_seat.ensures.2) in
-    (search rules, search rules, parts _ _ _ puts (takes ∙ c.self.invariant.taking.takes))
+    let puts = ap (λ (u : View). u.puts) c.store-2.ensures.2.0 ∙ (ap (λ (u : View). u.puts) c.store.ensures.2.0 ∙ (ap (λ m. m.0.puts) c.exchange.ensures.3 ∙ ap (λ m. m.0.puts) c.join_seat.ensures.2)) in
+    let takes = ap (λ (u : View). u.takes) c.store-2.ensures.2.0 ∙ (ap (λ (u : View). u.takes) c.store.ensures.2.0 ∙ (ap (λ m. m.0.takes) c.exchange.ensures.3 ∙ ap (λ m. m.0.takes) c.join_seat.ensures.2)) in
+    (search rules, search rules, parts _ _ _ puts (takes ∙ c.self.invariant.taking.takes) (ap (λ (u : View). u.passing) c.store-2.ensures.2.0))
 
 module _ (c : After-two_words_on-putter-inside) where
   abbrev p : PutterInside
@@ -53,16 +75,16 @@ module _ (c : After-two_words_on-putter-inside) where
   eight : length c.args.bytes ≡ 8
   eight = search rules
 
-  now : c.load-sent.new.seat.me.0 ≡ passed p t c.putter.invariant c.self.invariant clear c.args.bytes eight c.last_four-putter-inside.result c.last_four-putter-inside.ensures
+  now : c.store-2.new.seat.me.0 ≡ passed p t c.putter.invariant c.self.invariant clear c.args.bytes eight c.last_four-putter-inside.result c.last_four-putter-inside.ensures
   now = passed_by p t c.putter.invariant c.self.invariant clear c.args.bytes eight c.last_four-putter-inside.result c.last_four-putter-inside.ensures
-      c.split_seat-seat.result.me.0 c.join_seat.new.seat.me c.exchange.new.seat.me c.load-sent.new.seat.me
-      (ap (λ m. m.0) c.split_seat-seat.ensures.4) (ap (λ m. m.0) c.join_seat.ensures.2) c.exchange.ensures.3 c.load-sent.ensures.2.0
+      c.split_seat-seat.result.me.0 c.join_seat.new.seat.me c.exchange.new.seat.me c.store.new.seat.me c.store-2.new.seat.me
+      (ap (λ m. m.0) c.split_seat-seat.ensures.4) (ap (λ m. m.0) c.join_seat.ensures.2) c.exchange.ensures.3 c.store.ensures.2.0 c.store-2.ensures.2.0
 
   long : length (c.putter.inside.seat.me.0.pushed ++ c.args.bytes) ≡ p.sent + 8
   long = size p t c.putter.invariant c.self.invariant clear c.args.bytes eight c.last_four-putter-inside.result c.last_four-putter-inside.ensures
 
-  table : c.load-sent.new.seat.table_id ≡ t.seat.table_id
-  table = c.load-sent.ensures.0 ∙ (c.exchange.ensures.0 ∙ c.join_seat.ensures.0)
+  table : c.store-2.new.seat.table_id ≡ t.seat.table_id
+  table = c.store-2.ensures.0 ∙ (c.store.ensures.0 ∙ (c.exchange.ensures.0 ∙ c.join_seat.ensures.0))
 
   one_ring : t.seat.table_id ≡ p.seat.table_id
   one_ring = ap (λ s. s.ring) c.self.view_is ∙ (sym c.requires.ring ∙ sym (ap (λ s. s.ring) c.putter.view_is))
@@ -72,6 +94,12 @@ module _ (c : After-two_words_on-putter-inside) where
 
   taker_view : c.split_seat.new.seat.me.0 ≡ taker_of (passed p t c.putter.invariant c.self.invariant clear c.args.bytes eight c.last_four-putter-inside.result c.last_four-putter-inside.ensures)
   taker_view = ap (λ m. m.0) c.split_seat.ensures.2 ∙ ap taker_of now
+
+  one_capacity : p.capacity ≡ t.capacity
+  one_capacity =
+      sym c.putter.invariant.putting.room
+      ∙ (subst (λ (u : View). u.puts_within ≡ u.takes_within) (ap (λ m. m.0) c.exchange.ensures.3 ∙ (ap (λ m. m.0) c.join_seat.ensures.2 ∙ (λ i. with_putter t.seat.me.0 (c.split_seat-seat.ensures.4 i).0))) c.store.ensures.2.4
+      ∙ c.self.invariant.taking.room)
 
   putter_ring : c.split_seat.result.table_id ≡ p.seat.table_id
   putter_ring = c.split_seat.ensures.3 ∙ (table ∙ one_ring)
@@ -91,13 +119,13 @@ invariant_of-self c =
       small = it.small;
       slot = c.args.bytes;
       holds = ap (λ m. m.1) c.split_seat.ensures.2
-          ∙ (c.load-sent.ensures.2.1 ∙ (ap (λ m. m.1) c.exchange.ensures.3 ∙ ap (λ l. (0, c.args.bytes) ∷ rest l) (ap (λ m. m.1) c.join_seat.ensures.2 ∙ it.holds)));
+          ∙ (c.store-2.ensures.2.1 ∙ (c.store.ensures.2.1 ∙ (ap (λ m. m.1) c.exchange.ensures.3 ∙ ap (λ l. (0, c.args.bytes) ∷ rest l) (ap (λ m. m.1) c.join_seat.ensures.2 ∙ it.holds))));
       tail = sym (ap (λ (u : View). u.tail) view ∙ long d);
       ended = it.ended ∙ ((clear d).apart ∙ sym (ap (λ (u : View). u.puts) view));
       taking = subst (IsTaking c.self.inside.capacity (c.putter.inside.sent + 8) (c.putter.inside.sent + 8) c.self.inside.word c.two_words_on-putter-inside.result c.self.inside.at) (sym view)
           (taking (p d) (t d) c.putter.invariant it (clear d) c.args.bytes (eight d) c.last_four-putter-inside.result c.last_four-putter-inside.ensures
           c.self.inside.word c.two_words_on-putter-inside.result c.self.inside.at
-          (c.two_words_on-putter-inside.ensures ∙ ap (λ (n : ℕ). place n ((c.putter.inside.sent + 8) / 4)) (clear d).capacity)
+          (c.two_words_on-putter-inside.ensures ∙ ap (λ (n : ℕ). place n ((c.putter.inside.sent + 8) / 4)) (one_capacity d))
           (omega (arith, c.requires.small, ap (λ s. length s.sent) c.putter.view_is, c.putter.invariant.putting.count)));
     }
 
@@ -131,5 +159,5 @@ returns c =
     subst (λ (z : PutterState ℕ × TakerState ℕ). Passes z.0 (putter_state p') z.1 (taker_state t') c.args.bytes) (λ i. (c.putter.view_is i, c.self.view_is i))
     (passes (p d) (t d) c.putter.invariant c.self.invariant (clear d) c.args.bytes (eight d) c.last_four-putter-inside.result c.last_four-putter-inside.ensures
     p' t' (putter_ring d) (putter_view d) refl (taker_ring d) (taker_view d) refl
-    (subst (λ (u : View). u.taken ≡ u.pushed) here c.load-sent.ensures.2.2)
-    (subst (λ (u : View). u.tail ≤ length u.pushed) here c.load-sent.ensures.2.3))
+    (subst (λ (u : View). u.taken ≡ u.pushed) here c.store.ensures.2.2)
+    (subst (λ (u : View). u.tail ≤ length u.pushed) here c.store.ensures.2.3))

@@ -1,0 +1,74 @@
+ghost use Rattle.std.specs.Prelude.{◌<◌};
+
+use char_lanes::{bytes_between, push_run};
+use std::alloc::{AllocError, Global};
+use std::test::Fail;
+use tty_base::{Flag, Flagged};
+
+const LETTER: Flagged = Flagged {
+    byte: b'a',
+    flag: Flag::Normal,
+};
+
+/// The run from blank to tilde without `b`, of so many letters `a` of which one is another character.
+fn run_with(alloc: Global, len: usize, place: usize, other: Flagged) -> Result<Vec<u8>, AllocError>
+    requires { place < len }
+{
+    let mut chars = vec![in alloc; LETTER; len]?;
+    chars[place] = other;
+    let mut bytes = Vec::with_capacity(alloc, len)?;
+    let _count = push_run(&mut bytes, &chars, b' ', b'~', [b'b'].as_slice());
+    Ok(bytes)
+}
+
+/// How many bytes from blank to tilde stand at the front of as many letters, of which one is another byte.
+fn between_with(alloc: Global, len: usize, place: usize, other: u8) -> Result<usize, AllocError>
+    requires { place < len }
+{
+    let mut bytes = vec![in alloc; b'a'; len]?;
+    bytes[place] = other;
+    Ok(bytes_between(&bytes, b' ', b'~'))
+}
+
+#[test]
+fn a_run_ends_at_the_first_other(rt: HostRuntime) -> Result<(), Fail> {
+    for len in 1..40 {
+        for place in 0..len {
+            for byte in [0x1f, 0x7f, b'b'] {
+                let other = Flagged {
+                    byte,
+                    flag: Flag::Normal,
+                };
+                assert_eq!(rt; run_with(rt.alloc(), len, place, other)?.len(), place);
+            }
+            for flag in [Flag::Break, Flag::Parity, Flag::Frame, Flag::Overrun] {
+                let other = Flagged { byte: b'a', flag };
+                assert_eq!(rt; run_with(rt.alloc(), len, place, other)?.len(), place);
+            }
+        }
+    }
+    Ok(())
+}
+
+#[test]
+fn a_whole_run_is_taken(rt: HostRuntime) -> Result<(), Fail> {
+    for len in 1..40 {
+        let bytes = run_with(rt.alloc(), len, 0, LETTER)?;
+        assert_eq!(rt; bytes.len(), len);
+        assert!(rt; bytes.iter().all(|byte| *byte == b'a'));
+    }
+    Ok(())
+}
+
+#[test]
+fn bytes_end_at_the_first_other(rt: HostRuntime) -> Result<(), Fail> {
+    for len in 1..70 {
+        assert_eq!(rt; between_with(rt.alloc(), len, 0, b'~')?, len);
+        for place in 0..len {
+            for other in [0x1f, 0x7f, 0xff] {
+                assert_eq!(rt; between_with(rt.alloc(), len, place, other)?, place);
+            }
+        }
+    }
+    Ok(())
+}

@@ -1,0 +1,142 @@
+use flow_control::{Tally, Wire};
+use n_slip::{NSlip, pieces_are_counted};
+use slip_frames::encode;
+use std::alloc::Global;
+use std::test::Fail;
+use tty_base::{Bytes, Flag, Flagged};
+
+fn moves<T: Send + Drop>(_value: T) {}
+
+fn receive_all(slip: &mut NSlip, tally: &mut Tally, bytes: &[u8]) {
+    for b in bytes {
+        slip.receive(
+            Flagged {
+                byte: *b,
+                flag: Flag::Normal,
+            },
+            tally,
+        );
+    }
+}
+
+fn good(byte: u8) -> Flagged {
+    Flagged {
+        byte,
+        flag: Flag::Normal,
+    }
+}
+
+#[test]
+fn characters_come_all_at_once(rt: HostRuntime) -> Result<(), Fail> {
+    let mut slip = NSlip::new(rt.alloc())?;
+    let mut tally = Tally::new(rt.alloc());
+    let line = [
+        good(0x41),
+        good(0xdb),
+        good(0xdc),
+        good(0xc0),
+        good(0xc0),
+        good(0x42),
+        good(0x43),
+        good(0xc0),
+    ];
+    slip.receive_all(line.as_slice(), &mut tally);
+    assert!(rt; slip.waiting() == 2 && slip.first_len() == 2);
+    assert!(rt; tally.counts.pin == 2 && tally.counts.pbad == 0);
+    pieces_are_counted();
+    Ok(())
+}
+
+/// The first packet that waits, or nothing where none does.
+fn take_first(alloc: Global, slip: &mut NSlip) -> Result<Bytes, Fail> {
+    let mut out = Bytes::new(alloc);
+    if slip.waiting() > 0 {
+        out.reserve(slip.first_len())?;
+        slip.take_packet(&mut out);
+    }
+    Ok(out)
+}
+
+#[test]
+fn sixty_five_packets(rt: HostRuntime) -> Result<(), Fail> {
+    let mut slip = NSlip::new(rt.alloc())?;
+    let mut tally = Tally::new(rt.alloc());
+    for n in 0..65u8 {
+        receive_all(&mut slip, &mut tally, &[n, 0xc0]);
+    }
+    assert_eq!(rt; slip.waiting(), 64);
+    assert!(rt; tally.counts.pin == 64 && tally.counts.pfull == 1);
+    for n in 0..64u8 {
+        assert_eq!(rt;
+            take_first(rt.alloc(), &mut slip)?.as_slice(),
+            [n].as_slice()
+        );
+    }
+    assert_eq!(rt; slip.waiting(), 0);
+    moves(slip);
+    Ok(())
+}
+
+#[test]
+fn pieces_of_a_line(rt: HostRuntime) -> Result<(), Fail> {
+    let mut slip = NSlip::new(rt.alloc())?;
+    let mut tally = Tally::new(rt.alloc());
+    receive_all(
+        &mut slip,
+        &mut tally,
+        &[0xc0, 0x41, 0xdb, 0xdc, 0xc0, 0xc0, 0x41],
+    );
+    slip.receive(
+        Flagged {
+            byte: 0x42,
+            flag: Flag::Parity,
+        },
+        &mut tally,
+    );
+    receive_all(&mut slip, &mut tally, &[0x43, 0xc0, 0x44]);
+    assert_eq!(rt; slip.first_len(), 2);
+    assert_eq!(rt;
+        take_first(rt.alloc(), &mut slip)?.as_slice(),
+        [0x41, 0xc0].as_slice()
+    );
+    assert!(rt; slip.waiting() == 0 && slip.first_len() == 0);
+    slip.flush_in();
+    receive_all(&mut slip, &mut tally, &[0x45, 0xc0]);
+    assert_eq!(rt;
+        take_first(rt.alloc(), &mut slip)?.as_slice(),
+        [0x44, 0x45].as_slice()
+    );
+    assert!(rt; tally.counts.pin == 2 && tally.counts.pbad == 1 && tally.counts.parity == 1);
+    Ok(())
+}
+
+#[test]
+fn the_longest_packet_and_a_longer_one(rt: HostRuntime) -> Result<(), Fail> {
+    let mut slip = NSlip::new(rt.alloc())?;
+    let mut tally = Tally::new(rt.alloc());
+    let long = vec![in rt.alloc(); 0x61; 1007]?;
+    for packet in [&long.as_slice()[..1006], long.as_slice()] {
+        receive_all(&mut slip, &mut tally, packet);
+        receive_all(&mut slip, &mut tally, &[0xc0]);
+    }
+    assert!(rt; slip.waiting() == 1 && slip.first_len() == 1006);
+    assert!(rt; tally.counts.pin == 1 && tally.counts.pbad == 1);
+    Ok(())
+}
+
+#[test]
+fn a_packet_is_sent_where_there_is_room(rt: HostRuntime) -> Result<(), Fail> {
+    let mut slip = NSlip::new(rt.alloc())?;
+    let mut tally = Tally::new(rt.alloc());
+    let mut wire = Wire::new(rt.alloc())?;
+    let packet = vec![in rt.alloc(); 0xc0; 1006]?;
+    let encoded = encode(rt.alloc(), packet.as_slice())?;
+    let encoded = encoded.as_slice();
+    wire.stop();
+    for sent in [true, true, false] {
+        wire.reserve(encoded.len())?;
+        assert_eq!(rt; slip.send_packet(encoded, &mut wire, &mut tally), sent);
+    }
+    assert!(rt; wire.held() == 4028 && tally.counts.pout == 2);
+    Ok(())
+}

@@ -1,0 +1,150 @@
+ghost use Rattle.std.specs.Prelude.{◌+◌, ◌<◌, ◌≤◌, ◌^◌, IfOk, length};
+ghost use Rattle.n_tty.specs.States.{FitsModes};
+
+use flow_control::{Tally, Wire};
+use n_tty::{CHARACTER_ROOM, NTty, room_makes_no_difference};
+use std::alloc::Global;
+use std::test::Fail;
+use tty_base::{Bytes, Flag, Flagged, NoMemory};
+use tty_modes::places::{IXANY, IXOFF};
+use tty_modes::{Modes, Word};
+
+/// N_TTY on a port, and what was read of it.
+#[derive(Drop)]
+struct Line {
+    tty: NTty,
+    modes: Modes,
+    wire: Wire,
+    tally: Tally,
+    out: Bytes,
+}
+
+impl Line {
+    /// An idle port with the defaults, changed by words.
+    fn new(alloc: Global, words: &[Word]) -> Result<Line, NoMemory>
+        ensures fits { IfOk result (λ line. FitsModes line.modes line.tty) }
+        ensures column { IfOk result (λ line. line.tty.column ≤ 0) }
+    {
+        let mut modes = Modes::sane();
+        for word in words {
+            modes.apply(*word);
+        }
+        Ok(Line {
+            tty: NTty::new(alloc)?,
+            modes,
+            wire: Wire::new(alloc)?,
+            tally: Tally::new(alloc),
+            out: Bytes::new(alloc),
+        })
+    }
+
+    /// Good characters come, all at tick 0. Answers whether each was accepted.
+    fn type_in(&mut self, bytes: &[u8]) -> Result<bool, NoMemory>
+        requires fitting { FitsModes self.old.modes self.old.tty }
+        requires column { self.old.tty.column < 2 ^ 60 }
+        requires short { length bytes.now ≤ 8192 }
+        ensures fits { FitsModes self.new.modes self.new.tty }
+        ensures column { self.new.tty.column ≤ self.old.tty.column + 2 ^ 35 }
+    {
+        for byte in bytes {
+            if !self.tty.accepts(&self.modes) {
+                return Ok(false);
+            }
+            let room = self.tty.pending(&self.wire) + CHARACTER_ROOM;
+            self.wire.reserve(room)?;
+            self.tally.reserve(1)?;
+            let character = Flagged {
+                byte: *byte,
+                flag: Flag::Normal,
+            };
+            self.tty
+                .receive(character, 0, &self.modes, &mut self.wire, &mut self.tally);
+        }
+        Ok(true)
+    }
+
+    /// Reads at tick 0 where a read is ready, and then applies the rule for ixoff. Answers how many bytes it read.
+    fn read(&mut self, most: u32) -> Result<Option<u32>, NoMemory>
+        requires fitting { FitsModes self.old.modes self.old.tty }
+        ensures fits { FitsModes self.new.modes self.new.tty }
+        ensures column { self.new.tty.column ≤ self.old.tty.column }
+    {
+        let count = self.tty.read_len(most, &self.modes);
+        self.out.reserve(count as usize)?;
+        self.wire.reserve(1)?;
+        if !self.tty.ready(most, &self.modes, false, 0, 0) {
+            return Ok(None);
+        }
+        let count = self.tty.read(most, &self.modes, &mut self.out);
+        self.tty.ixoff(&self.modes, &mut self.wire);
+        Ok(Some(count))
+    }
+
+    /// Writes a piece. Answers how many bytes it took.
+    fn write(&mut self, bytes: &[u8]) -> Result<usize, NoMemory>
+        requires fitting { FitsModes self.old.modes self.old.tty }
+        requires column { self.old.tty.column < 2 ^ 60 }
+        ensures fits { FitsModes self.new.modes self.new.tty }
+        ensures column { self.new.tty.column ≤ self.old.tty.column + 4096 }
+    {
+        self.wire.reserve(512)?;
+        Ok(self.tty.write_piece(bytes, &self.modes, &mut self.wire))
+    }
+}
+
+#[test]
+fn a_line_is_edited_and_read(rt: HostRuntime) -> Result<(), Fail> {
+    let mut line = Line::new(rt.alloc(), &[])?;
+    assert!(rt; line.type_in(b"ab\x7fc")? && line.read(64)? == None);
+    assert!(rt; line.type_in(b"\r")? && line.tty.inq(&line.modes) == 3);
+    assert!(rt; line.read(64)? == Some(3) && line.tty.unread() == 0);
+    assert_eq!(rt; line.out.as_slice(), b"ac\n".as_slice());
+    assert_eq!(rt; line.wire.wire(), b"ab\x08 \x08c\r\n".as_slice());
+    Ok(())
+}
+
+#[test]
+fn a_long_line_is_cut(rt: HostRuntime) -> Result<(), Fail> {
+    let mut line = Line::new(rt.alloc(), &[])?;
+    assert!(rt; line.type_in(&[0x61; 5000])? && line.type_in(b"\n")?);
+    assert_eq!(rt; line.read(65536)?, Some(4096));
+    assert!(rt; line.out.as_slice().ends_with(b"aa\n"));
+    assert!(rt; line.tally.counts.cut == 905 && line.wire.wire().len() == 5002);
+    Ok(())
+}
+
+#[test]
+fn input_that_fills_is_stopped(rt: HostRuntime) -> Result<(), Fail> {
+    let mut line = Line::new(rt.alloc(), &[Word::Raw, Word::On(IXOFF)])?;
+    assert!(rt; line.type_in(&[0x61; 4000])?);
+    assert_eq!(rt; line.read(3871)?, Some(3871));
+    assert_eq!(rt; line.wire.wire(), b"\x13".as_slice());
+    assert_eq!(rt; line.read(1)?, Some(1));
+    assert_eq!(rt; line.wire.wire(), b"\x13\x11".as_slice());
+    line.tty.flush_in();
+    assert_eq!(rt; line.tty.unread(), 0);
+    Ok(())
+}
+
+#[test]
+fn the_edited_line_becomes_plain(rt: HostRuntime) -> Result<(), Fail> {
+    let mut line = Line::new(rt.alloc(), &[])?;
+    let mut raw = Modes::sane();
+    raw.apply(Word::Raw);
+    assert!(rt; line.type_in(b"ab")?);
+    line.tty.recast(&line.modes, &raw);
+    assert_eq!(rt; line.tty.inq(&raw), 2);
+    room_makes_no_difference();
+    Ok(())
+}
+
+#[test]
+fn a_halted_piece_is_held(rt: HostRuntime) -> Result<(), Fail> {
+    let mut line = Line::new(rt.alloc(), &[Word::On(IXANY)])?;
+    assert!(rt; line.type_in(b"\x13")?);
+    assert_eq!(rt; line.write(&[0x62; 100])?, 64);
+    assert_eq!(rt; line.wire.held(), 64);
+    assert!(rt; line.type_in(b"x")? && line.tty.unread() == 1);
+    assert!(rt; line.wire.held() == 0 && line.wire.wire().ends_with(b"bbx"));
+    Ok(())
+}

@@ -1,0 +1,8 @@
+//! Numbers that go through a ring, and characters through a flip buffer, with both ends on one thread and on two, as
+//! tests of what no clause says. Nothing stands on this crate.
+#![tactic(auto)]
+
+#[cfg(test)]
+mod characters;
+#[cfg(test)]
+mod numbers;

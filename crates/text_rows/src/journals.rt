@@ -1,0 +1,101 @@
+use check_text::parse_check;
+use session_text::{BadLine, Reason, TextFault};
+use std::test::Fail;
+use tty_base::{Errno, Flag, Flagged, Overrun};
+use tty_calls::{AnswerRef, Event, Who};
+use tty_modes::Modes;
+
+#[test]
+fn each_kind_of_line_is_read(rt: HostRuntime) -> Result<(), Fail> {
+    let text =
+        b"tty-session 1\nports 1\nphase\ncaller a 0\nopen 0 rw\nread 0 5\nwrite 0 6162\ngetm 0\ngetd 0\ncounts 0\nclose 0\nend\n# what happened\njournals\njournal 0 17\n*line 0 0 0 line_end 0\na 0 0 0 answer ok\na 1 0 0 wait\n*clock 0 0 0 tick\n*flush 0 0 0 flush n68p0Ab00f41o00\na 1 0 0 answer 2 6869\na 2 0 0 part 1\na 2 1 0 answer 2 drop -\n\na 3 0 0 answer icrnl ixon opost onlcr isig icanon echo echoe echok echoke echoctl iexten intr=3 quit=28 erase=127 kill=21 eof=4 time=0 min=1 start=17 stop=19 susp=26 eol=0 reprint=18 werase=23 lnext=22 eol2=0\na 4 0 0 answer 0 drop n41\na 5 0 0 answer mark=0 parity=1 frame=2 break=3 cut=4 echo=5 pin=6 pout=7 pbad=8 pfull=18446744073709551615\na 6 0 0 answer EBADF\na 7 0 1 caller_end\n*clock 0 0 1 clock_end\n*session 0 0 1 phase_end\n*session 1 0 1 hangup -\na 9 9 9 caller_end\noverruns 0 1\n5 4 3\n\tline 0 6 1 4\ndone".as_slice();
+    let (session, runs) = parse_check(rt.alloc(), text)
+        .ok()
+        .ok_or("the text spells a session and a run")?;
+    assert_eq!(rt; (session.ports, runs.len()), (1, 1));
+    for run in runs.as_slice() {
+        assert_eq!(rt;
+            (run.line.arrived, run.line.fifo_lost, run.line.sent),
+            (6, 1, 4)
+        );
+        let overrun = Overrun {
+            at: 5,
+            sent: 4,
+            seen: 3,
+        };
+        assert_eq!(rt; run.line.overruns.as_slice(), [overrun].as_slice());
+        assert_eq!(rt; run.journal.len(), 17);
+        for place in 0..run.journal.len() {
+            let entry = run.journal.at(place);
+            let is_there = match (place, entry.event) {
+                (0, Event::LineEnd(0)) => entry.who == Who::Line,
+                (2, Event::Wait) => entry.step == 1,
+                (3, Event::Tick) => entry.who == Who::Clock,
+                (4, Event::Flush(characters)) => {
+                    characters.len() == 5
+                        && characters.get(1)
+                            == Some(&Flagged {
+                                byte: 10,
+                                flag: Flag::Parity,
+                            })
+                }
+                (6, Event::Part(1)) => entry.part == 0,
+                (12, Event::CallerEnd) => entry.generation == 1,
+                (13, Event::ClockEnd) | (14, Event::PhaseEnd) => true,
+                (15, Event::Hangup(dropped)) => dropped.is_empty(),
+                (16, Event::CallerEnd) => entry.step == 9,
+                (_, Event::Answer { answer, dropped }) => {
+                    entry.who == Who::Caller(0)
+                        && entry.part == u32::from(place == 7)
+                        && is_answer(place, &answer)
+                        && dropped.len() == usize::from(place == 9)
+                }
+                _ => false,
+            };
+            assert!(rt; is_there, "at {place}");
+        }
+    }
+    Ok(())
+}
+
+/// Whether this is the answer that the text writes at a place.
+fn is_answer(place: usize, answer: &AnswerRef) -> bool {
+    match (place, *answer) {
+        (1, AnswerRef::Done) | (7, AnswerRef::Count(2)) | (9, AnswerRef::Number(0)) => true,
+        (5, AnswerRef::Got(bytes)) => bytes == b"hi".as_slice(),
+        (8, AnswerRef::ModesAre(modes)) => *modes == Modes::sane(),
+        (10, AnswerRef::CountsAre(counts)) => counts.breaks == 3 && counts.pfull == u64::MAX,
+        (11, AnswerRef::Refused(errno)) => errno == Errno::EBADF,
+        _ => false,
+    }
+}
+
+#[test]
+fn an_answer_that_is_not_printed_so_is_a_wrong_word(rt: HostRuntime) -> Result<(), Fail> {
+    let session =
+        b"tty-session 1\nports 1\nphase\ncaller a 0\nread 0 5\nwrite 0 6162\ngetm 0\ncounts 0\nend\njournals\njournal 0 1\n".as_slice();
+    for answer in [
+        b"a 0 0 0 answer 1 4A\n".as_slice(),
+        b"a 0 0 0 answer 2 4a\n".as_slice(),
+        b"a 0 0 0 answer 0 4a\n".as_slice(),
+        b"a 0 0 0 answer ok\n".as_slice(),
+        b"a 1 0 0 answer 02\n".as_slice(),
+        b"a 1 0 0 answer 4294967296\n".as_slice(),
+        b"a 2 0 0 answer ixon icrnl intr=3 quit=28 erase=127 kill=21 eof=4 time=0 min=1 start=17 stop=19 susp=26 eol=0 reprint=18 werase=23 lnext=22 eol2=0\n".as_slice(),
+        b"a 2 0 0 answer intr=3 quit=28 erase=127 kill=21 eof=4 time=0 min=1 start=17 stop=19 susp=26 eol=0 reprint=18 werase=23 lnext=22\n".as_slice(),
+        b"a 3 0 0 answer mark=0 parity=0 frame=0 break=0 cut=0 echo=0 pin=0 pout=0 pbad=0 pfull=18446744073709551616\n".as_slice(),
+        b"a 3 0 0 answer parity=0 mark=0 frame=0 break=0 cut=0 echo=0 pin=0 pout=0 pbad=0 pfull=0\n".as_slice(),
+    ] {
+        let mut text = session.to_vec(rt.alloc())?;
+        text.extend_from_slice(answer)?;
+        assert_eq!(rt;
+            parse_check(rt.alloc(), text.as_slice()).err(),
+            Some(TextFault::Bad(BadLine {
+                line: 12,
+                reason: Reason::Word
+            })),
+            "at {answer:?}"
+        );
+    }
+    Ok(())
+}
