@@ -12,7 +12,7 @@ HERE = os.path.dirname(os.path.abspath(__file__))
 PROGRAM = os.environ.get("PROGRAM", os.path.join(HERE, "..", "..", "crates", "tty_prog", "out", "tty_prog"))
 
 # How long Linux is waited for until nothing moves, in seconds.
-PAUSE = float(os.environ.get("PAUSE", "0.004"))
+PAUSE = float(os.environ.get("PAUSE", "0.02"))
 
 # A difference is believed where it stands also with these longer pauses.
 PATIENCE = (1, 5, 20)
