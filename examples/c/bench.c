@@ -1,13 +1,18 @@
-/* bench: how many bytes a second the library and a pseudoterminal receive and hand to a reader, in one run.
+/* bench: how many bytes a second N_TTY by itself, a port and a pseudoterminal receive and hand to a reader, in one run.
 
-   Each row is for one set of modes. Lines of 64 bytes come in pieces of 2,048, and what was echoed is taken away after each
-   piece. `write` is output of a program, with output processing. Both are played in turns, and each number is the best of
-   all turns, which other programs disturb least. Beside the time that passed stands the processor time of this program; of a
-   pseudoterminal, a worker of the kernel does a part that it lacks. */
+   Each row is for one set of modes. Lines of 64 bytes come in pieces of 2,048, and what was echoed is taken away after
+   each piece. `write` is output of a program, with output processing. Of `raw, two threads` one thread is the line, and
+   the other reads. A round trip is a line of 64 bytes that one thread sends and another reads and writes back; the two
+   wake each other by semaphores, and those at the pseudoterminal by what the kernel does. All are played in turns, and
+   each number is the best of all turns, which other programs disturb least. Beside the time that passed stands the
+   processor time of this program; of a pseudoterminal, a worker of the kernel does a part that it lacks. */
 #define _GNU_SOURCE
 #include "jinthwyr.h"
 
+#include <errno.h>
 #include <fcntl.h>
+#include <pthread.h>
+#include <semaphore.h>
 #include <stdio.h>
 #include <stdlib.h>
 #include <string.h>
@@ -15,7 +20,7 @@
 #include <time.h>
 #include <unistd.h>
 
-enum { PIECE = 2048, TOTAL = 256 * 1024, TURNS = 60 };
+enum { PIECE = 2048, TOTAL = 256 * 1024, TURNS = 60, ROUNDS = 1000, MESSAGE = 64 };
 
 static uint8_t text[PIECE], place[2 * PIECE];
 
@@ -33,10 +38,14 @@ static struct rate now(void) {
     return (struct rate){seconds(CLOCK_MONOTONIC), seconds(CLOCK_PROCESS_CPUTIME_ID)};
 }
 
+static struct rate times_since(struct rate start, double count) {
+    struct rate end = now();
+    return (struct rate){count / (end.passed - start.passed), count / (end.used - start.used)};
+}
+
 /* Million bytes a second since then. */
 static struct rate rate_since(struct rate start) {
-    struct rate end = now();
-    return (struct rate){TOTAL / (end.passed - start.passed) / 1e6, TOTAL / (end.used - start.used) / 1e6};
+    return times_since(start, TOTAL / 1e6);
 }
 
 static void check(bool holds, const char *what) {
@@ -85,6 +94,144 @@ static struct rate library_output(void) {
     check(jw_free(&tty) == 0, "jw_free");
     return rate;
 }
+
+/* ---- a port ---- */
+
+static void open_port(jw_port *port, jw_line *line, const char *const *words) {
+    check(jw_port_new(port, line, 1, 4096) == 0, "jw_port_new");
+    check(jw_port_open(port, 0, 0, O_RDWR, true) == 0, "jw_port_open");
+    for (; *words != NULL; words++)
+        check(jw_port_set(port, 0, 0, TCSANOW, (const uint8_t *)*words, strlen(*words)) == 0, *words);
+}
+
+static void free_port(jw_port *port, jw_line *line) {
+    check(jw_port_free(port) == 0 && jw_line_free(line) == 0, "jw_port_free");
+}
+
+/* Hands over what was pushed, and reads what is there. */
+static size_t read_port(jw_port *port) {
+    while (jw_port_receive(port, 64) == 64)
+        continue;
+    int64_t got = jw_port_read(port, 0, 0, place, sizeof place);
+    check(got > 0 || got == -EAGAIN, "jw_port_read");
+    return got > 0 ? (size_t)got : 0;
+}
+
+static struct rate port_input(const char *const *words) {
+    jw_port port = {0};
+    jw_line line = {0};
+    open_port(&port, &line, words);
+    struct rate start = now();
+    for (size_t total = 0; total < TOTAL; total += PIECE) {
+        check(jw_line_put(&line, text, PIECE, JW_NORMAL) == PIECE && jw_line_push(&line) == 0, "jw_line_put");
+        for (size_t got = 0; got < PIECE;)
+            got += read_port(&port);
+        while (jw_port_take_wire(&port, place, sizeof place) > 0)
+            continue;
+    }
+    struct rate rate = rate_since(start);
+    free_port(&port, &line);
+    return rate;
+}
+
+static struct rate port_output(void) {
+    static const char *const none[] = {NULL};
+    jw_port port = {0};
+    jw_line line = {0};
+    open_port(&port, &line, none);
+    struct rate start = now();
+    for (size_t total = 0; total < TOTAL; total += PIECE) {
+        for (size_t done = 0; done < PIECE;)
+            done += (size_t)jw_port_write(&port, 0, 0, text + done, PIECE - done);
+        while (jw_port_take_wire(&port, place, sizeof place) > 0)
+            continue;
+    }
+    struct rate rate = rate_since(start);
+    free_port(&port, &line);
+    return rate;
+}
+
+/* ---- two threads: one is the line, and this one reads ---- */
+
+static void *feed_line(void *line) {
+    for (size_t total = 0; total < TOTAL;) {
+        size_t room = 4096 - (size_t)jw_line_waiting(line);
+        size_t count = room < PIECE ? room : PIECE;
+        total += (size_t)jw_line_put(line, text, count < TOTAL - total ? count : TOTAL - total, JW_NORMAL);
+        jw_line_push(line);
+    }
+    return NULL;
+}
+
+static struct rate port_threads(const char *const *words) {
+    jw_port port = {0};
+    jw_line line = {0};
+    pthread_t thread;
+    open_port(&port, &line, words);
+    struct rate start = now();
+    check(pthread_create(&thread, NULL, feed_line, &line) == 0, "pthread_create");
+    for (size_t got = 0; got < TOTAL;)
+        got += read_port(&port);
+    check(pthread_join(thread, NULL) == 0, "pthread_join");
+    struct rate rate = rate_since(start);
+    free_port(&port, &line);
+    return rate;
+}
+
+static void *feed_master(void *master) {
+    for (size_t total = 0; total < TOTAL; total += PIECE)
+        check(write(*(int *)master, text, PIECE) == PIECE, "write");
+    return NULL;
+}
+
+/* ---- a round trip: one thread is the line, and another has the port ---- */
+
+struct trip {
+    jw_port port;
+    jw_line line;
+    sem_t came, went;
+    uint8_t back[MESSAGE];
+};
+
+static void *answer_port(void *of) {
+    struct trip *trip = of;
+    uint8_t bytes[MESSAGE];
+    for (int k = 0; k < ROUNDS; k++) {
+        while (sem_wait(&trip->came) != 0)
+            continue;
+        check(jw_port_receive(&trip->port, MESSAGE) == MESSAGE, "jw_port_receive");
+        check(jw_port_read(&trip->port, 0, 0, bytes, MESSAGE) == MESSAGE, "jw_port_read");
+        check(jw_port_write(&trip->port, 0, 0, bytes, MESSAGE) == MESSAGE, "jw_port_write");
+        check(jw_port_take_wire(&trip->port, trip->back, MESSAGE) == MESSAGE, "jw_port_take_wire");
+        sem_post(&trip->went);
+    }
+    return NULL;
+}
+
+static struct rate port_trips(const char *const *words) {
+    struct trip trip = {0};
+    pthread_t thread;
+    open_port(&trip.port, &trip.line, words);
+    check(sem_init(&trip.came, 0, 0) == 0 && sem_init(&trip.went, 0, 0) == 0, "sem_init");
+    check(pthread_create(&thread, NULL, answer_port, &trip) == 0, "pthread_create");
+    struct rate start = now();
+    for (int k = 0; k < ROUNDS; k++) {
+        check(jw_line_put(&trip.line, text, MESSAGE, JW_NORMAL) == MESSAGE, "jw_line_put");
+        jw_line_push(&trip.line);
+        sem_post(&trip.came);
+        while (sem_wait(&trip.went) != 0)
+            continue;
+        check(memcmp(trip.back, text, MESSAGE) == 0, "what came back");
+    }
+    struct rate rate = times_since(start, ROUNDS / 1e3);
+    check(pthread_join(thread, NULL) == 0, "pthread_join");
+    sem_destroy(&trip.came);
+    sem_destroy(&trip.went);
+    free_port(&trip.port, &trip.line);
+    return rate;
+}
+
+/* ---- a pseudoterminal ---- */
 
 static void open_pair(int *master, int *slave, bool is_canonical, bool echoes) {
     struct termios modes;
@@ -136,42 +283,121 @@ static struct rate kernel_output(void) {
     return rate;
 }
 
+static struct rate kernel_threads(void) {
+    int master, slave;
+    pthread_t thread;
+    open_pair(&master, &slave, false, false);
+    struct rate start = now();
+    check(pthread_create(&thread, NULL, feed_master, &master) == 0, "pthread_create");
+    take(slave, TOTAL);
+    check(pthread_join(thread, NULL) == 0, "pthread_join");
+    struct rate rate = rate_since(start);
+    close(master);
+    close(slave);
+    return rate;
+}
+
+static void *answer_slave(void *slave) {
+    uint8_t bytes[MESSAGE];
+    for (int k = 0; k < ROUNDS; k++) {
+        for (size_t got = 0; got < MESSAGE;) {
+            ssize_t count = read(*(int *)slave, bytes + got, MESSAGE - got);
+            check(count > 0, "read");
+            got += (size_t)count;
+        }
+        check(write(*(int *)slave, bytes, MESSAGE) == MESSAGE, "write");
+    }
+    return NULL;
+}
+
+static struct rate kernel_trips(void) {
+    int master, slave;
+    pthread_t thread;
+    open_pair(&master, &slave, false, false);
+    check(pthread_create(&thread, NULL, answer_slave, &slave) == 0, "pthread_create");
+    struct rate start = now();
+    for (int k = 0; k < ROUNDS; k++) {
+        check(write(master, text, MESSAGE) == MESSAGE, "write");
+        take(master, MESSAGE);
+    }
+    struct rate rate = times_since(start, ROUNDS / 1e3);
+    check(pthread_join(thread, NULL) == 0, "pthread_join");
+    close(master);
+    close(slave);
+    return rate;
+}
+
 static void keep_best(struct rate *best, struct rate rate) {
     best->passed = rate.passed > best->passed ? rate.passed : best->passed;
     best->used = rate.used > best->used ? rate.used : best->used;
 }
 
-static void print(const char *name, struct rate library, struct rate kernel) {
-    printf("%-22s%9.1f%16.1f%14.1f%16.1f\n", name, library.passed, kernel.passed, library.used, kernel.used);
+static void print_rate(double rate) {
+    if (rate > 0)
+        printf("%10.1f", rate);
+    else
+        printf("%10s", "");
+}
+
+static void print(const char *name, struct rate tty, struct rate port, struct rate kernel) {
+    const double rates[] = {tty.passed, port.passed, kernel.passed, tty.used, port.used, kernel.used};
+    printf("%-22s", name);
+    for (size_t k = 0; k < sizeof rates / sizeof *rates; k++)
+        print_rate(rates[k]);
+    printf("\n");
 }
 
 static void print_input(const char *name, const char *const *words, bool is_canonical, bool echoes) {
-    struct rate library = {0}, kernel = {0};
+    struct rate tty = {0}, port = {0}, kernel = {0};
     for (int turn = 0; turn < TURNS; turn++) {
-        keep_best(&library, library_input(words));
+        keep_best(&tty, library_input(words));
+        keep_best(&port, port_input(words));
         keep_best(&kernel, kernel_input(is_canonical, echoes));
     }
-    print(name, library, kernel);
+    print(name, tty, port, kernel);
 }
 
 static void print_output(const char *name) {
-    struct rate library = {0}, kernel = {0};
+    struct rate tty = {0}, port = {0}, kernel = {0};
     for (int turn = 0; turn < TURNS; turn++) {
-        keep_best(&library, library_output());
+        keep_best(&tty, library_output());
+        keep_best(&port, port_output());
         keep_best(&kernel, kernel_output());
     }
-    print(name, library, kernel);
+    print(name, tty, port, kernel);
+}
+
+static void print_threads(const char *name, const char *const *words) {
+    struct rate port = {0}, kernel = {0};
+    for (int turn = 0; turn < TURNS; turn++) {
+        keep_best(&port, port_threads(words));
+        keep_best(&kernel, kernel_threads());
+    }
+    print(name, (struct rate){0}, port, kernel);
+}
+
+static void print_trips(const char *name, const char *const *words) {
+    struct rate port = {0}, kernel = {0};
+    for (int turn = 0; turn < TURNS; turn++) {
+        keep_best(&port, port_trips(words));
+        keep_best(&kernel, kernel_trips());
+    }
+    print(name, (struct rate){0}, port, kernel);
 }
 
 int main(void) {
     static const char *const raw[] = {"raw", NULL}, *const quiet[] = {"-echo", NULL}, *const sane[] = {NULL};
+    static const char columns[] = "     N_TTY      port    kernel     N_TTY      port    kernel";
     for (size_t i = 0; i < PIECE; i++)
         text[i] = i % 64 == 63 ? '\n' : (uint8_t)('a' + i % 26);
-    printf("million bytes a second, of the time that passed   of this program's processor time\n");
-    printf("                        library  pseudoterminal       library  pseudoterminal\n");
+    printf("million bytes a second, of the time that passed, and of this program's processor time\n");
+    printf("%22s%s\n", "", columns);
     print_input("raw", raw, false, false);
     print_input("canonical", quiet, true, false);
     print_input("canonical, with echo", sane, true, true);
     print_output("write");
+    print_threads("raw, two threads", raw);
+    printf("thousand round trips a second\n");
+    print_trips("raw, two threads", raw);
     return 0;
 }

@@ -1,7 +1,8 @@
 /* jwtty [-w WORD].. COMMAND [ARGUMENT]..: runs a command under a terminal in user space.
 
-   The user's terminal goes raw. The command reads records of a socket and has no terminal of its own; between them stands
-   N_TTY, which edits lines, echoes, stops and starts output, and raises signals. -w makes a change of its modes. */
+   The user's terminal goes raw. The command reads records of a socket and has no terminal of its own; between them
+   stands N_TTY, which edits lines, echoes, stops and starts output, and raises signals. -w makes a change of its
+   modes. */
 #define _GNU_SOURCE
 #include "jinthwyr.h"
 
@@ -62,7 +63,10 @@ static uint64_t tick_of_now(void) {
 static pid_t run(char **command, int *input, int *output) {
     int records[2], pipes[2];
     pid_t child;
-    if (socketpair(AF_UNIX, SOCK_SEQPACKET | SOCK_CLOEXEC, 0, records) != 0 || pipe2(pipes, O_CLOEXEC) != 0 || (child = fork()) < 0)
+    if (socketpair(AF_UNIX, SOCK_SEQPACKET | SOCK_CLOEXEC, 0, records) != 0 || pipe2(pipes, O_CLOEXEC) != 0)
+        fail("jwtty");
+    child = fork();
+    if (child < 0)
         fail("jwtty");
     if (child == 0) {
         setsid();
@@ -86,7 +90,8 @@ static bool fill(struct buffer *buffer, int fd) {
     return count > 0 || (count < 0 && errno == EINTR);
 }
 
-/* Whether a record may be sent: an empty one only where the command has read all, or it would be sent for ever by MIN 0. */
+/* Whether a record may be sent: an empty one only where the command has read all, or it would be sent for ever by
+   MIN 0. */
 static bool has_room(jw_tty *tty, int input) {
     int left = 1;
     struct pollfd room = {input, POLLOUT, 0};
@@ -108,7 +113,8 @@ int main(int argc, char **argv) {
     jw_tty tty = {0};
     int at = 1, input, output, status;
     sure(jw_new(&tty));
-    while (at + 1 < argc && strcmp(argv[at], "-w") == 0 && sure(jw_set(&tty, (uint8_t *)argv[at + 1], strlen(argv[at + 1]))) == 1)
+    while (at + 1 < argc && strcmp(argv[at], "-w") == 0 &&
+           sure(jw_set(&tty, (uint8_t *)argv[at + 1], strlen(argv[at + 1]))) == 1)
         at += 2;
     if (at >= argc || strcmp(argv[at], "-w") == 0) {
         fputs("usage: jwtty [-w WORD].. COMMAND [ARGUMENT]..\n", stderr);
@@ -127,7 +133,7 @@ int main(int argc, char **argv) {
         for (int64_t n = 1; n > 0 && written.at < written.len; written.at += (size_t)n)
             n = sure(jw_write(&tty, written.bytes + written.at, written.len - written.at));
         pass_on(&tty, child);
-        /* The command reads all the time: each record is what one read of 4,096 bytes is given, and an empty one is ^D. */
+        /* The command reads all the time: each record is what one read of 4,096 bytes is given, an empty one is ^D. */
         for (; jw_ready(&tty, false, since, PIECE) == 1 && has_room(&tty, input); since = tick_of_now())
             send(input, record, (size_t)sure(jw_read(&tty, false, since, record, PIECE)), MSG_NOSIGNAL);
         pass_on(&tty, child);

@@ -1,7 +1,8 @@
 /* loop: a serial line on standard input and output, and behind it a program that says each line again.
 
-   The loop that every program around a jw_tty has: what went out is taken and written, a line that is complete is read,
-   what the program says is written in pieces, and only where nothing else is to be done more of the line is received. */
+   The loop that every program around a jw_tty has: what went out is taken and written, a line that is complete is
+   read, what the program says is written in pieces, and only where nothing else is to be done more of the line is
+   received. */
 #define _GNU_SOURCE
 #include "jinthwyr.h"
 

@@ -1,26 +1,29 @@
-// Those who wait for a change.
+//! Those who wait for a change.
+
+ghost use Rattle.std.specs.Prelude.{◌≡◌, ◌%◌};
 
 use std::hint::spin_loop;
 use std::sync::Wait;
 use std::sync::atomic::{AtomicU64, Ordering};
 use std::time::Duration;
 
-// The longest that somebody waits without a look, in milliseconds.
+/// The longest that somebody waits without a look, in milliseconds.
 const PATIENCE: u64 = 1;
 
-// How often somebody looks for a change before it sleeps: for about as long as a wake takes.
+/// How often somebody looks for a change before it sleeps: for about as long as a wake takes.
 const LOOKS: u32 = 400;
 
-// The lowest bit of the word tells that somebody sleeps, or is about to, whom no change has woken. The
-// rest counts the changes.
+/// The lowest bit of the word tells that somebody sleeps, or is about to, whom no change has woken. The
+/// rest counts the changes.
 const ASLEEP: u64 = 1;
 
 const CHANGE: u64 = 2;
 
-// What the system compares, before it lets somebody sleep, is the word modulo this.
+/// What the system compares, before it lets somebody sleep, is the word modulo this.
 const COMPARED: u64 = 1 << 32;
 
-/// How many changes there were. It may be kept as its word, which nobody else makes.
+/// How many changes there were, as a word to which each of them adds two. It may be kept as that word,
+/// which nobody else makes.
 #[derive(Clone, Copy, Debug, PartialEq, Eq)]
 pub struct ChangeCount {
     pub word: u64,
@@ -42,8 +45,11 @@ impl Waiters {
         }
     }
 
-    /// How many changes there were.
-    pub fn changes(&self) -> ChangeCount {
+    /// How many changes there were. Who sleeps is not in it, so that it differs from an earlier count only
+    /// where there was a change.
+    pub fn changes(&self) -> ChangeCount
+        ensures even { result.word % 2 ≡ 0 }
+    {
         let word = self.word.load(Ordering::SeqCst);
         ChangeCount {
             word: word - word % CHANGE,
@@ -71,8 +77,8 @@ impl Waiters {
         }
     }
 
-    // Announces somebody who is about to sleep, where there was no change since that count, and gives the
-    // word as it is then.
+    /// Announces somebody who is about to sleep, where there was no change since that count, and gives the
+    /// word as it is then.
     fn announce(&self, since: ChangeCount) -> Option<u64> {
         let quiet = since.word;
         let announced = quiet | ASLEEP;

@@ -1,4 +1,5 @@
--- From the mask of a comparison with one number to each number; numbers and bytes of characters; facts of all in a list.
+-- From the mask of a comparison with one number to each number; numbers and bytes of characters; facts of all in a
+-- list.
 use Rattle.std.proofs.Common.{◌≡◌, ◌≢◌, ℕ, ◌+◌, ◌-◌, ◌*◌, ◌%◌, ◌^◌, ◌≤◌, Bool, true, false, cond, eqb, w16, List, [], ◌∷◌, ◌++◌, map, length, get_or, take, drop, replicate, refl, sym, ap, subst, ◌∙◌, arith}
 use Rattle.std.proofs.lemmas.Bool.{eqb-true}
 use Rattle.std.proofs.lemmas.List.{length-map, append_assoc}

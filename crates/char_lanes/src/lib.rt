@@ -16,8 +16,8 @@ const EIGHT: usize = 8;
 /// How many bytes stand in one.
 const SIXTEEN: usize = 16;
 
-/// Adds the bytes of the good characters at the front that are from `first` to `last`, and none of `without`, in room that
-/// is there. Answers how many.
+/// Adds the bytes of the good characters at the front that are from `first` to `last`, and none of `without`, in room
+/// that is there. Answers how many.
 #[inline(always)]
 pub fn push_run(
     bytes: &mut Vec<u8>,
@@ -38,7 +38,7 @@ pub fn push_run(
     eights + push_each(bytes, rest_of(chars, eights), first, last, without)
 }
 
-/// The same, as far as all of eight characters are of the run.
+/// Adds the bytes of a run as far as all of eight characters are of it.
 #[inline(always)]
 fn push_eights(bytes: &mut Vec<u8>, chars: &[Flagged], first: u8, last: u8, without: &[u8]) -> usize
     requires { vec_len bytes.old + length chars.now ≤ vec_capacity bytes.old }
@@ -251,7 +251,7 @@ pub fn bytes_between(bytes: &[u8], first: u8, last: u8) -> usize
     end + sixteen_between(bytes, end, first, last)
 }
 
-/// The same for few bytes.
+/// How many of few bytes lie between two, up to the first that does not.
 #[inline(always)]
 fn short_between(bytes: &[u8], first: u8, last: u8) -> usize
     ensures within { result ≤ length bytes.now }

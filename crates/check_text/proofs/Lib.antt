@@ -10,7 +10,7 @@ mod Splitting
 mod Answering
 mod AnsweringModes
 mod PrintedEntries
-mod PrintedTexts
-mod EntryLines
+pub mod PrintedTexts
+pub mod EntryLines
 mod Short
 pub mod Within

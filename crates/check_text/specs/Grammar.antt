@@ -67,8 +67,8 @@ pub record IsRunWithin (run : PlainRun) : Type 0 where
   pub lost : run.lost ≤ most
   pub sent : run.sent ≤ most
 
--- The text spells the session and the runs: the lines that say something are the items of a good written session that means it,
--- and then the lines of the journals, which mean the runs.
+-- The text spells the session and the runs: the lines that say something are the items of a good written session that
+-- means it, and then the lines of the journals, which mean the runs.
 pub record Spells (text : List ℕ) (session : PlainSession) (runs : List PlainRun) : Type 0 where
   pub written : Written
   pub entries : List (List (List (List ℕ)))

@@ -1,3 +1,5 @@
+//! The answer that words mean, by the kind of its call. It is read only where the words are what is printed of it.
+
 ghost use Rattle.std.specs.Prelude.{◌≡◌, ◌+◌, ◌*◌, ◌<◌, ◌==◌, IfOk, option_map, position};
 ghost use Rattle.std.specs.List.{after_first};
 ghost use Rattle.tty_calls.specs.Plain.{answer_of};

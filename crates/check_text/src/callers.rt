@@ -1,3 +1,5 @@
+//! The callers of a port: the number that each name has, and the kind of each caller's call at a step.
+
 ghost use Rattle.std.specs.Prelude.{◌≡◌, ◌≤◌, [], ◌++◌, IfOk, OnOk, length, map, replicate};
 ghost use Rattle.tty_calls.specs.Sessions.{session_of, script_of, scripts_over};
 ghost use Rattle.check_text.specs.Callers.{answer_kind as kind_of_call, callers_on, caller_named, kind_at};

@@ -1,3 +1,5 @@
+//! Reads CHARS: `-`, or characters, each as the letter of its flag and two hexadecimal digits.
+
 ghost use Rattle.std.specs.Prelude.{◌≡◌, ◌<◌, [], IfSome};
 ghost use Rattle.hex.specs.Hex.{hex_digit_value};
 ghost use Rattle.session_text.specs.declared.faults.Reason.TheVariants.{Hex};

@@ -1,3 +1,6 @@
+//! What each line after a session writes: an entry, a heading, an overrun, the numbers of a port's line, or one
+//! fixed word.
+
 ghost use Rattle.std.specs.Prelude.{◌≡◌, Ok, Err, MatchResult};
 ghost use Rattle.tty_calls.specs.Plain.{answer_of, flushed, hung_up, parted, waited, line_ended, PlainEvent};
 ghost use Rattle.text_lines.specs.Lines.{words_of};

@@ -1,3 +1,5 @@
+//! Why a line was not read: it is wrong, or no memory was left.
+
 use session_text::Reason;
 use tty_base::NoMemory as Memory;
 

@@ -1,3 +1,5 @@
+//! Takes the word or the number that is due off the front of a line, or says why the line is wrong.
+
 ghost use Rattle.std.specs.Prelude.{◌≡◌, Ok, Err, MatchResult};
 ghost use Rattle.text_lines.specs.Lines.{words_of};
 ghost use Rattle.check_text.specs.Fields.{number_of_word, word_in as first_word, number_in as first_number, port_in as words_after_port, after_first as words_after_first, no_more as nothing_more, in_front};

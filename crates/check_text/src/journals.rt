@@ -1,3 +1,5 @@
+//! The reader of journals: which line is due, and the runs of the ports as far as they were read.
+
 ghost use Rattle.std.specs.Prelude.{◌≡◌, [], ◌∷◌, ◌++◌, IfOk, OnOk, map, slice_get};
 ghost use Rattle.std.specs.List.{range_with_len};
 ghost use Rattle.tty_calls.specs.Sessions.{session_of};

@@ -1,3 +1,5 @@
+//! The kinds of answers, each by the call that is answered, and the kinds of entries, each by the word that names it.
+
 ghost use Rattle.std.specs.Prelude.{◌≡◌};
 ghost use Rattle.tty_calls.specs.Plain.{call_of};
 ghost use Rattle.check_text.specs.Callers.{answer_kind as kind_of_call};

@@ -1,3 +1,6 @@
+//! The laws of the texts that are checked: which are refused, that a text spells one session and its runs, and that
+//! what is printed of runs is read back.
+
 ghost use Rattle.std.specs.Prelude.{◌≡◌, ℕ, List, None, Some, Ok, ◌++◌, map, option_map};
 ghost use Rattle.tty_calls.specs.Plain.{PlainEntry};
 ghost use Rattle.tty_calls.specs.Sessions.{PlainSession, call_at};

@@ -1,3 +1,5 @@
+//! An entry as its line says it, with its characters apart, and how it is added to a journal.
+
 ghost use Rattle.std.specs.Prelude.{◌≡◌, [], ◌∷◌, ◌++◌, OnOk, length};
 ghost use Rattle.tty_calls.specs.Plain.{bytes_by, chars_in, entry_of, event_of};
 ghost use Rattle.check_text.specs.Views.{entry_with, event_with};

@@ -1,3 +1,5 @@
+//! Reads a text that is checked: its session, and then the run of each port, or its first wrong line.
+
 ghost use Rattle.std.specs.Prelude.{◌≡◌, ◌≤◌, ◌⊎◌, All, Some, IfOk, length, map};
 ghost use Rattle.tty_calls.specs.Sessions.{session_of};
 ghost use Rattle.session_text.specs.Reading.{Gives};

@@ -17,7 +17,7 @@ flag_of_number (suc (suc (suc (suc n)))) = Overrun
 abbrev pub char_of : ℕ → Flagged
 char_of n = record { byte = n % 256; flag = flag_of_number (n / 256) }
 
--- the same end, its numbers seen as characters
+-- an end of the ring, its numbers seen as characters
 abbrev pub in_state : PutterState ℕ → PutterState Flagged
 in_state p = record { ring = p.ring; capacity = p.capacity; sent = map char_of p.sent; pushed = map char_of p.pushed; heads = p.heads; floor = p.floor }
 

@@ -1,8 +1,8 @@
 -- The output side of a port: the wire, held output, and what halts it.
 use Rattle.std.specs.Prelude.{◌≡◌, ℕ, ◌+◌, ◌-◌, Bool, false, ◌||◌, not, nat_le, List, [], ◌++◌, length, drop, if◌then◌else◌}
 
--- the bytes on the wire, and the room that is reserved for more; the bytes that are held, in order; whether output is halted by STOP
--- and by TCOOFF; and whether it is noted that STOP was sent for ixoff
+-- the bytes on the wire, and the room that is reserved for more; the bytes that are held, in order; whether output is
+-- halted by STOP and by TCOOFF; and whether it is noted that STOP was sent for ixoff
 pub record Output : Type 0 where
   pub wire : List ℕ
   pub spare : ℕ

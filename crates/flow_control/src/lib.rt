@@ -1,4 +1,5 @@
-//! The output side of a port, with software flow control (termios(3), IXON and IXOFF; tcflow(3)), and what a port counts.
+//! The output side of a port, with software flow control (termios(3), IXON and IXOFF; tcflow(3)), and what a port
+//! counts.
 #![tactic(auto)]
 
 mod laws;

@@ -10,12 +10,12 @@ use tty_base::{Bytes, Moves, NoMemory};
 /// How many bytes can be held while output is halted.
 const HELD_BYTES: usize = 4096;
 
-/// What a port sends: the wire, which is all that went out and was not taken, and behind it up to 4,096 bytes that wait
-/// while output is halted. Two halts can stand, that of STOP and that of TCOOFF (tcflow(3)); the one that goes last lets out what waits,
-/// in the order in which it was sent.
+/// What a port sends: the wire, which is all that went out and was not taken, and behind it up to 4,096 bytes that
+/// wait while output is halted. Two halts can stand, that of STOP and that of TCOOFF (tcflow(3)); the one that goes
+/// last lets out what waits, in the order in which it was sent.
 ///
-/// Room on the wire is reserved before bytes are sent, so that only `new` and `reserve` take memory. Contracts see it as
-/// `spare`; what each call takes of it at most is its clause `spent`.
+/// Room on the wire is reserved before bytes are sent, so that only `new` and `reserve` take memory. Contracts see it
+/// as `spare`; what each call takes of it at most is its clause `spent`.
 #[derive(Debug, Drop)]
 pub struct Wire {
     wire: Bytes,
@@ -67,8 +67,8 @@ impl Wire {
         self.wire.reserve(more)
     }
 
-    /// Sends bytes: to the wire, or, while output is halted, to what is held. False comes exactly where output is halted and
-    /// the bytes exceed the room; nothing changes then.
+    /// Sends bytes: to the wire, or, while output is halted, to what is held. False comes exactly where output is
+    /// halted and the bytes exceed the room; nothing changes then.
     pub fn send(&mut self, bytes: &[u8]) -> bool
         requires { length bytes.now ≤ self.old.spare }
         ensures room { result ≡ has_room self.old bytes.now }
@@ -225,7 +225,8 @@ impl Wire {
         self.wire.as_slice()
     }
 
-    /// Moves the first `n` bytes of the wire to the end of `out`, for a user who runs for ever. Their room is free again.
+    /// Moves the first `n` bytes of the wire to the end of `out`, for a user who runs for ever. Their room is free
+    /// again.
     pub fn take_front(&mut self, n: usize, out: &mut Bytes)
         requires within { n ≤ length self.old.wire }
         requires room { n ≤ out.old.spare }

@@ -1,3 +1,6 @@
+//! Scripts of a line that are received: a burst while the interrupt is masked, and a whole window that is
+//! accepted, as tests of worked values.
+
 ghost use Rattle.std.specs.Prelude.{◌≡◌};
 ghost use Rattle.tty_base.specs.Lines.{is_step as can_take};
 

@@ -1,3 +1,5 @@
+//! The default modes, the words that set modes and the texts that are none, as tests of worked values.
+
 use std::test::Fail;
 use tty_modes::places::{CHARACTER_COUNT, FLAG_COUNT, ICANON, IUTF8, OPOST, TOSTOP, VEOL2, VMIN};
 use tty_modes::{

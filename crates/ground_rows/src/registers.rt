@@ -1,3 +1,5 @@
+//! The registers of the 16550 receiver as they are read and written, as tests of worked values.
+
 use std::test::Fail;
 use tty_base::{Flag, Flagged};
 use uart_regs::{Reg, Uart};

@@ -1,3 +1,5 @@
+//! Where a run of good characters, or of bytes between two bounds, ends at each place of many lengths, as tests.
+
 ghost use Rattle.std.specs.Prelude.{◌<◌};
 
 use char_lanes::{bytes_between, push_run};

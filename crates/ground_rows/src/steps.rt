@@ -1,9 +1,26 @@
+//! Lists of a line's steps, with the runs in them written out step by step, as tests.
+
 use line_steps::LineSteps;
+use std::alloc::Global;
 use std::test::Fail;
-use tty_base::{Flag, Flagged, LineStep};
+use tty_base::{Flag, Flagged, LineStep, NoMemory};
 
 fn rx(flag: Flag, byte: u8) -> LineStep {
     LineStep::Rx(Flagged { byte, flag })
+}
+
+fn add_run(steps: &mut LineSteps, alloc: Global, flag: Flag, bytes: &[u8]) -> Result<(), NoMemory> {
+    steps.add_run(flag, bytes.to_vec(alloc)?)
+}
+
+/// Adds steps of which some are joined to runs.
+fn add_seven(steps: &mut LineSteps, alloc: Global) -> Result<(), NoMemory> {
+    steps.add(LineStep::Trigger(4))?;
+    add_run(steps, alloc, Flag::Normal, b"ab")?;
+    add_run(steps, alloc, Flag::Normal, b"c")?;
+    add_run(steps, alloc, Flag::Parity, b"d")?;
+    steps.add(LineStep::Break)?;
+    add_run(steps, alloc, Flag::Parity, b"e")
 }
 
 #[test]
@@ -11,12 +28,7 @@ fn steps_are_written_out_in_their_order(rt: HostRuntime) -> Result<(), Fail> {
     let alloc = rt.alloc();
     let mut steps = LineSteps::new(alloc);
     assert_eq!(rt; steps.len(), 0);
-    steps.add(LineStep::Trigger(4))?;
-    steps.add_run(Flag::Normal, b"ab".to_vec(alloc)?)?;
-    steps.add_run(Flag::Normal, b"c".to_vec(alloc)?)?;
-    steps.add_run(Flag::Parity, b"d".to_vec(alloc)?)?;
-    steps.add(LineStep::Break)?;
-    steps.add_run(Flag::Parity, b"e".to_vec(alloc)?)?;
+    add_seven(&mut steps, alloc)?;
     assert_eq!(rt; steps.len(), 7);
     let wanted = [
         LineStep::Trigger(4),

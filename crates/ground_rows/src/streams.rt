@@ -1,3 +1,6 @@
+//! Lists of bytes and of characters, and streams that are read and written, also where a device fails, as
+//! tests.
+
 use std::alloc::Global;
 use std::io;
 use std::io::{ErrorKind, Read, Write};

@@ -22,7 +22,7 @@ use Rattle.uart_line.specs.Offered.{kept_list}
 use Rattle.journal_check.specs.Legal.{phase_at, name_at, flip_on, script_on}
 use Rattle.journal_check.specs.Short.{tick_count_in, IsCutShort}
 use Rattle.journal_bound.specs.Counts.{written_count, byte_count_on, call_count_on}
-use Rattle.journal_bound.proofs.Totals.{total, total_least, total_plus, total_listed, total_found}
+use Rattle.journal_bound.proofs.Totals.{total, total_least, total_plus, total_sixteen, total_listed, total_found}
 use Rattle.journal_bound.proofs.Names.{names_own, worth_of, worth_once, worth_over, calls_worth, one_each}
 use Rattle.journal_bound.proofs.Spent.{cost, spent, IsSound}
 use Rattle.journal_bound.proofs.Steps.{own, mark_count, spent_in, extras, leads_uses}
@@ -40,7 +40,7 @@ script_cost script = sum_by call_cost script.calls
 
 -- what a caller can spend: its calls, and an end in each phase in which it is
 abbrev most_of : ℕ → PlainSession → ℕ → ℕ
-most_of p session c = worth_of script_cost (scripts_over p session.phases) (name_at p session c) + worth_of one_each (scripts_over p session.phases) (name_at p session c)
+most_of p session c = worth_of script_cost (scripts_over p session.phases) (name_at p session c) + 16 * worth_of one_each (scripts_over p session.phases) (name_at p session c)
 
 caller_spent : (p : ℕ) (session : PlainSession) (c k : ℕ) (s : Standing) → IsSound (call_at p session c) (own p session c) k s → spent (call_at p session c) (own p session c) k s ≤ most_of p session c
 caller_spent p session c k s h =
@@ -50,26 +50,27 @@ caller_spent p session c k s h =
     let ends : total (own p session c) (suc k) ≤ sum_by (λ phase. worth_of one_each (scripts_on p phase) (name_at p session c)) session.phases =
     total_listed (λ phase. worth_of one_each (scripts_on p phase) (name_at p session c)) (record { lines = []; ticks = []; callers = [] }) session.phases (suc k) refl in
     let over = worth_over one_each p session.phases (name_at p session c) in
-    omega (arith, h.taken, h.waits, h.over, paid, worth, ends, over)
+    omega (arith, h.paid, h.waits, h.over, paid, worth, ends, over)
 
 -- ---- all callers
 
 all_spent : (p : ℕ) (session : PlainSession) (n k : ℕ) (stands : ℕ → Standing) → ((c : ℕ) → IsSound (call_at p session c) (own p session c) k (stands c))
-    → spent_in p session n k stands ≤ sum_by script_cost (scripts_over p session.phases) + sum_by one_each (scripts_over p session.phases)
+    → spent_in p session n k stands ≤ sum_by script_cost (scripts_over p session.phases) + 16 * sum_by one_each (scripts_over p session.phases)
 all_spent p session n k stands sound =
     let scripts : List PlainScript = scripts_over p session.phases in
     let least : spent_in p session n k stands ≤ total (λ c. most_of p session c) n = total_least (λ c. spent (call_at p session c) (own p session c) k (stands c)) (λ c. most_of p session c) n (λ c. caller_spent p session c k (stands c) (sound c)) in
-    let parts : total (λ c. most_of p session c) n ≡ total (λ c. worth_of script_cost scripts (name_at p session c)) n + total (λ c. worth_of one_each scripts (name_at p session c)) n =
-    total_plus (λ c. worth_of script_cost scripts (name_at p session c)) (λ c. worth_of one_each scripts (name_at p session c)) n in
+    let parts : total (λ c. most_of p session c) n ≡ total (λ c. worth_of script_cost scripts (name_at p session c)) n + total (λ c. 16 * worth_of one_each scripts (name_at p session c)) n =
+    total_plus (λ c. worth_of script_cost scripts (name_at p session c)) (λ c. 16 * worth_of one_each scripts (name_at p session c)) n in
+    let sixteen = total_sixteen (λ c. worth_of one_each scripts (name_at p session c)) n in
     let costs : total (λ c. worth_of script_cost scripts (name_at p session c)) n ≤ sum_by script_cost scripts = worth_once (names_of scripts) script_cost scripts n (names_own scripts) in
     let ends : total (λ c. worth_of one_each scripts (name_at p session c)) n ≤ sum_by one_each scripts = worth_once (names_of scripts) one_each scripts n (names_own scripts) in
-    omega (arith, least, parts, costs, ends)
+    omega (arith, least, parts, sixteen, costs, ends)
 
-calls_cost : (calls : List PlainCall) → sum_by call_cost calls ≡ 2 * sum_by written_count calls + 2 * length calls
+calls_cost : (calls : List PlainCall) → sum_by call_cost calls ≡ 31 * sum_by written_count calls + 48 * length calls
 calls_cost [] = refl
 calls_cost (x ∷ xs) = omega (arith, sum_by-cons call_cost x xs, sum_by-cons written_count x xs, calls_cost xs)
 
-scripts_cost : (scripts : List PlainScript) → sum_by script_cost scripts ≡ 2 * sum_by (λ script. sum_by written_count script.calls) scripts + 2 * sum_by (λ script. length script.calls) scripts
+scripts_cost : (scripts : List PlainScript) → sum_by script_cost scripts ≡ 31 * sum_by (λ script. sum_by written_count script.calls) scripts + 48 * sum_by (λ script. length script.calls) scripts
 scripts_cost [] = refl
 scripts_cost (x ∷ xs) =
     omega (arith, sum_by-cons script_cost x xs, sum_by-cons (λ (script : PlainScript). sum_by written_count script.calls) x xs, sum_by-cons (λ (script : PlainScript). length script.calls) x xs, calls_cost x.calls, scripts_cost xs)
@@ -86,7 +87,7 @@ few_scripts p ports (x ∷ xs) h =
 
 -- ---- what counts by itself
 
-extras_parts : (es : List PlainEntry) → extras es ≡ ticks_in es + length (chars_of es) + hangup_count es
+extras_parts : (es : List PlainEntry) → extras es ≡ 16 * ticks_in es + 32 * length (chars_of es) + 32 * hangup_count es
 extras_parts [] = refl
 extras_parts (e ∷ es) = omega (arith, extras_parts es, length-append (chars_in e.event) (chars_of es))
 
@@ -108,14 +109,14 @@ few_characters p session run chars h =
 -- ---- a journal
 
 first_sound : (calls : ℕ → Option PlainCall) (owned : ℕ → ℕ) → IsSound calls owned 0 at_first
-first_sound calls owned = record { taken = omega arith; waits = omega arith; over = omega arith }
+first_sound calls owned = record { paid = omega arith; waits = omega arith; over = omega arith }
 
 opening_sound : (p : ℕ) (session : PlainSession) (n capacity c : ℕ) → IsSound (call_at p session c) (own p session c) 0 (standing_of (caller_at (opening n capacity) c))
 opening_sound p session n capacity c =
     subst (λ (s : CallerState). IsSound (call_at p session c) (own p session c) 0 (standing_of s)) (sym (all_idle n c)) (first_sound (call_at p session c) (own p session c))
 
 pub bounded : (p : ℕ) (session : PlainSession) (run : PortRun) (t : Terminal) → IsWithinLimits session → IsCutShort p session run t
-    → length run.journal.items ≤ 2 * byte_count_on p session.phases + 2 * call_count_on p session.phases + character_count p session.phases + tick_count p session.phases + 1217
+    → 16 * length run.journal.items ≤ 31 * byte_count_on p session.phases + 48 * call_count_on p session.phases + 32 * character_count p session.phases + 16 * tick_count p session.phases + 19504
 bounded p session run t limits h =
     let es : List PlainEntry = run.journal.items in
     let callers : ℕ = sum (counts_on p session) in
@@ -144,12 +145,12 @@ port_calls : (p : ℕ) (scripts : List PlainScript) → sum_by (λ script. lengt
 port_calls p [] = omega arith
 port_calls p (x ∷ xs) = omega (arith, filtered_calls (x.port == p) x (filter (λ s. s.port == p) xs), port_calls p xs, sum_by-cons (λ (script : PlainScript). length script.calls) x xs)
 
-few_calls : (p : ℕ) (phases : List PlainPhase) → call_count_on p phases ≤ call_count phases
+pub few_calls : (p : ℕ) (phases : List PlainPhase) → call_count_on p phases ≤ call_count phases
 few_calls p [] = omega arith
 few_calls p (x ∷ xs) =
     omega (arith, sum_by-append (λ (script : PlainScript). length script.calls) (scripts_on p x) (scripts_over p xs), port_calls p x.callers, few_calls p xs, sum_by-cons (λ (phase : PlainPhase). sum_by (λ script. length script.calls) phase.callers) x xs)
 
-pub never_full : (p : ℕ) (session : PlainSession) (run : PortRun) (t : Terminal) → IsWithinLimits session → IsCutShort p session run t → byte_count_on p session.phases ≤ 1800000 → length run.journal.items < 4194304
+pub never_full : (p : ℕ) (session : PlainSession) (run : PortRun) (t : Terminal) → IsWithinLimits session → IsCutShort p session run t → 2 * byte_count_on p session.phases + 3 * call_count_on p session.phases + 2 * character_count p session.phases ≤ 4194304 → length run.journal.items < 4194304
 never_full p session run t limits h few =
     let most = bounded p session run t limits h in
     let calls = few_calls p session.phases in

@@ -1,3 +1,4 @@
+pub mod Crowded
 pub mod Totals
 pub mod Names
 pub mod Spent

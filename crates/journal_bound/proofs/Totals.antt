@@ -1,5 +1,5 @@
 -- Sums over the first numbers.
-use Rattle.std.proofs.Common.{◌≡◌, inl, inr, ℕ, zero, suc, ◌+◌, ◌<◌, ◌≤◌, List, [], ◌∷◌, Option, None, Some, refl, ap, subst, arith}
+use Rattle.std.proofs.Common.{◌≡◌, inl, inr, ℕ, zero, suc, ◌+◌, ◌*◌, ◌<◌, ◌≤◌, List, [], ◌∷◌, Option, None, Some, refl, ap, subst, arith}
 use Rattle.std.specs.Prelude.{slice_get, slice_index_or, sum_by}
 use Rattle.std.proofs.lemmas.Bool.{cases_lt}
 use Rattle.std.proofs.lemmas.List.Sums.{sum_by-cons}
@@ -15,17 +15,21 @@ pub total_least : (f g : ℕ → ℕ) (n : ℕ) → ((c : ℕ) → f c ≤ g c) 
 total_least f g zero h = omega arith
 total_least f g (suc n) h = omega (arith, total_least f g n h, h n)
 
--- where one of the numbers is larger by one
-pub total_more : (f g : ℕ → ℕ) (n c : ℕ) → c < n → ((i : ℕ) → f i ≤ g i) → f c + 1 ≤ g c → total f n + 1 ≤ total g n
-total_more f g zero c below h more = absurd (omega (arith, below))
-total_more f g (suc n) c below h more =
+-- where one of the numbers pays for what is added to both sums
+pub total_paid : (f g : ℕ → ℕ) (n c a b : ℕ) → c < n → ((i : ℕ) → f i ≤ g i) → f c + a ≤ g c + b → total f n + a ≤ total g n + b
+total_paid f g zero c a b below h more = absurd (omega (arith, below))
+total_paid f g (suc n) c a b below h more =
     elim (cases_lt c n) [
-      | inl lt ↦ omega (arith, total_more f g n c lt h more, h n)
+      | inl lt ↦ omega (arith, total_paid f g n c a b lt h more, h n)
       | inr ge ↦
           let last : c ≡ n = omega (arith, ge, below) in
-          let at_last : f n + 1 ≤ g n = subst (λ (i : ℕ). f i + 1 ≤ g i) last more in
+          let at_last : f n + a ≤ g n + b = subst (λ (i : ℕ). f i + a ≤ g i + b) last more in
           omega (arith, total_least f g n h, at_last)
     ]
+
+-- where one of the numbers is larger by one
+pub total_more : (f g : ℕ → ℕ) (n c : ℕ) → c < n → ((i : ℕ) → f i ≤ g i) → f c + 1 ≤ g c → total f n + 1 ≤ total g n
+total_more f g n c below h more = omega (arith, total_paid f g n c 1 0 below h (omega (arith, more)))
 
 pub total_shift : (f : ℕ → ℕ) (n : ℕ) → total f (suc n) ≡ f 0 + total (λ i. f (suc i)) n
 total_shift f zero = omega arith
@@ -36,6 +40,10 @@ total_shift f (suc n) =
 pub total_plus : (f g : ℕ → ℕ) (n : ℕ) → total (λ c. f c + g c) n ≡ total f n + total g n
 total_plus f g zero = refl
 total_plus f g (suc n) = omega (arith, total_plus f g n)
+
+pub total_sixteen : (f : ℕ → ℕ) (n : ℕ) → total (λ c. 16 * f c) n ≡ 16 * total f n
+total_sixteen f zero = refl
+total_sixteen f (suc n) = omega (arith, total_sixteen f n)
 
 pub total_none : (f : ℕ → ℕ) (n : ℕ) → ((c : ℕ) → f c ≡ 0) → total f n ≡ 0
 total_none f zero h = refl

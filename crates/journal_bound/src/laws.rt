@@ -10,15 +10,17 @@ ghost use Rattle.journal_check.specs.Short.{IsCutShort};
 ghost use Rattle.journal_bound.specs.Counts.{byte_count_on, call_count_on};
 ghost use Rattle.journal_bound.specs.Rows.{worked_phases};
 
-/// A run of a session as far as it went has no longer a journal than the session allows: at most two
-/// entries for each byte written and each call on the port, one for each character that arrives and
-/// each tick, and 1,217 more. So no port on which at most 1,800,000 bytes are written has a journal of
-/// 4,194,304 entries.
+/// A run of a session as far as it went has no longer a journal than the session allows: less than two
+/// entries for each byte written, by a sixteenth of one; three for each call on the port, two for each
+/// character that arrives, one for each tick, and 1,219 more. For a part of a write that has fewer than
+/// 64 bytes takes one of the last eight places for held output, or a CR that posts nothing, and only a
+/// call or a character makes room there. So no port has a journal of 4,194,304 entries whose bytes
+/// written and characters, twice each, and calls, three times each, are at most so many.
 pub fn a_journal_is_bounded()
     ensures by_its_session { (p : ℕ) (session : PlainSession) (run : PortRun) (t : Terminal) → IsWithinLimits session → IsCutShort p session run t
-        → length run.journal.items ≤ 2 * byte_count_on p session.phases + 2 * call_count_on p session.phases + character_count p session.phases + tick_count p session.phases + 1217 }
+        → 16 * length run.journal.items ≤ 31 * byte_count_on p session.phases + 48 * call_count_on p session.phases + 32 * character_count p session.phases + 16 * tick_count p session.phases + 19504 }
     ensures never_full { (p : ℕ) (session : PlainSession) (run : PortRun) (t : Terminal) → IsWithinLimits session → IsCutShort p session run t
-        → byte_count_on p session.phases ≤ 1800000 → length run.journal.items < 4194304 }
+        → 2 * byte_count_on p session.phases + 3 * call_count_on p session.phases + 2 * character_count p session.phases ≤ 4194304 → length run.journal.items < 4194304 }
 {}
 
 /// A legal run is one of its session as far as it went, so that its journal is bounded too.

@@ -3,8 +3,8 @@ use Rattle.std.specs.Prelude.{ℕ, ◌+◌, ◌==◌, ◌&&◌, nat_lt, Bool, tr
 use Rattle.tty_calls.specs.Plain.{PlainEvent, answered, parted, waited, flushed, ticked, line_ended, clock_ended, caller_ended, phase_ended, hung_up, PlainEntry}
 use Rattle.tty_terminal.specs.Runs.{phase_after}
 
--- whether an event may stand in a phase whose line sends so many characters by its end, and whose clock has so many ticks, of
--- which so many have passed
+-- whether an event may stand in a phase whose line sends so many characters by its end, and whose clock has so many
+-- ticks, of which so many have passed
 abbrev pub may_go : PlainEvent → (sent ticks passed : ℕ) → Bool
 may_go (answered a dropped) sent ticks passed = true
 may_go (parted taken) sent ticks passed = true

@@ -57,7 +57,8 @@ is_caller_end caller_ended = true
 is_caller_end phase_ended = false
 is_caller_end (hung_up dropped) = false
 
--- an entry of a caller in phase k is of a caller of that phase: of one of its calls of the phase, or its end after all of them
+-- an entry of a caller in phase k is of a caller of that phase: of one of its calls of the phase, or its end after
+-- all of them
 abbrev pub IsInPhase : ℕ → PlainSession → ℕ → Who → ℕ → PlainEvent → Type 0
 IsInPhase p session k (Caller c) step event =
     IsCallerOf p session k c × (IsTrue (is_of_call event) → IsCallOf p session k c step)
@@ -242,8 +243,8 @@ received_before p session k = length (received_list (script_of_first p session k
 abbrev pub IsOfPhase : ℕ → PlainSession → ℕ → Overrun → Type 0
 IsOfPhase p session k o = (received_before p session k ≤ o.at) × (o.at < received_before p session (k + 1))
 
--- An overrun stands at a character that was received, and has seen taken all that was taken before the phase of that character,
--- and nothing that was taken after the end of its line.
+-- An overrun stands at a character that was received, and has seen taken all that was taken before the phase of that
+-- character, and nothing that was taken after the end of its line.
 pub record IsSeen (p : ℕ) (session : PlainSession) (journal : List PlainEntry) (o : Overrun) : Type 0 where
   pub at_character : o.at < length (received_list (script_on p session))
   pub from_before : (k : ℕ) → IsOfPhase p session k o → length (chars_of (before_phase k journal)) ≤ o.seen
@@ -265,8 +266,8 @@ pub record IsOnTheWay (p : ℕ) (session : PlainSession) (journal : List PlainEn
   pub in_phases : AreInPhases p session 0 journal
   pub one : OneGeneration journal
 
--- The account of a port: the journal is finished, its characters are those that the line received without the overruns, each
--- overrun is shown at a full buffer, and the line's report has the numbers of the line's steps.
+-- The account of a port: the journal is finished, its characters are those that the line received without the
+-- overruns, each overrun is shown at a full buffer, and the line's report has the numbers of the line's steps.
 pub record IsAccounted (p : ℕ) (session : PlainSession) (run : PortRun) : Type 0 where
   pub finished : IsFinished p session run.line.overruns.items run.journal.items
   pub chars : chars_of run.journal.items ≡ kept_list (received_list (script_on p session)) run.line.overruns.items

@@ -11,8 +11,8 @@ pub record BeginsPhase (t : Terminal) : Type 0 where
   pub clock : t.clock_over ≡ false
   pub callers : (c : ℕ) → (caller_at t c).over ≡ false
 
--- A caller between the beginning and the end of phase k: one of the phase has made its calls of the phase, and is over; another
--- has made none.
+-- A caller between the beginning and the end of phase k: one of the phase has made its calls of the phase, and is
+-- over; another has made none.
 abbrev pub HasPlayed : (is_of_phase : Bool) → (first count next : ℕ) → (over : Bool) → Type 0
 HasPlayed true first count next over = (next ≡ first + count) × (over ≡ true)
 HasPlayed false first count next over = (next ≡ first) × (over ≡ false)

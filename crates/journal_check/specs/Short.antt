@@ -33,8 +33,8 @@ after_phases k [] = []
 after_phases zero (e ∷ es) = e ∷ es
 after_phases (suc k) (e ∷ es) = if is_phase_end e.event then after_phases k es else after_phases (suc k) es
 
--- A run of the session as far as it went, up to this terminal: in one generation, with at most the session's ticks in each phase,
--- nothing but one hangup after the last, and characters that begin those that the line kept.
+-- A run of the session as far as it went, up to this terminal: in one generation, with at most the session's ticks in
+-- each phase, nothing but one hangup after the last, and characters that begin those that the line kept.
 pub record IsCutShort (p : ℕ) (session : PlainSession) (run : PortRun) (t : Terminal) : Type 0 where
   pub on_the_way : IsOnTheWay p session run.journal.items t
   pub ticks : (k : ℕ) → tick_count_in k 0 run.journal.items ≤ ticks_on p (phase_at session k)

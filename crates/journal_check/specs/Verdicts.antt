@@ -1,5 +1,5 @@
--- What can be said of the runs of a session: that all are legal, which port has the first wrong entry, or which is the first that
--- is not legal although no entry is wrong.
+-- What can be said of the runs of a session: that all are legal, which port has the first wrong entry, or which is
+-- the first that is not legal although no entry is wrong.
 use Rattle.std.specs.Prelude.{◌≡◌, ℕ, ◌<◌, ◌^◌, List, [], ◌∷◌, ◌++◌, Some, length, slice_get, sum}
 use Rattle.tty_calls.specs.declared.journals.PortRun.{PortRun}
 use Rattle.tty_calls.specs.Plain.{PlainEntry}
@@ -15,8 +15,9 @@ use Rattle.journal_check.specs.declared.verdicts.Verdict.TheVariants.{Legal, Wro
 abbrev pub IsCountable : PortRun → Type 0
 IsCountable run = length run.journal.items < 2 ^ 31
 
--- An entry is fine after these entries, which lead to this terminal: it is a step of the terminal, it leaves each flush run and
--- each call between its waits in one generation, and it is of its phase. It is wrong where one of these fails.
+-- An entry is fine after these entries, which lead to this terminal: it is a step of the terminal, it leaves each
+-- flush run and each call between its waits in one generation, and it is of its phase. It is wrong where one of these
+-- fails.
 pub record IsFine (p : ℕ) (session : PlainSession) (before : List PlainEntry) (t : Terminal) (e : PlainEntry) : Type 0 where
   pub step : Allowed (call_at p session) (counts_on p session) t e
   pub one : OneGeneration (before ++ e ∷ [])

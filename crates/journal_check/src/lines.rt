@@ -39,7 +39,7 @@ fn steps_of(session: &Session, port: usize, phase: usize) -> &LineSteps
     &session.phases.as_slice()[phase].lines.as_slice()[port]
 }
 
-/// The same steps one by one.
+/// The steps of a port's line in a phase, written out one by one.
 fn steps_out(
     alloc: Global,
     session: &Session,

@@ -1,3 +1,5 @@
+//! What is echoed of each event, under the flags that decide it.
+
 ghost use Rattle.std.specs.Prelude.{◌≡◌, true};
 ghost use Rattle.echo_out.specs.Echo.{FitsEcho};
 

@@ -1,3 +1,6 @@
+//! A terminal that a program embeds: editing and echo, MIN and TIME, signals, and output that is held and taken in
+//! pieces.
+
 use std::alloc::Global;
 use std::test::Fail;
 use tty_base::{Flag, NoMemory, Signal};
@@ -95,8 +98,8 @@ fn edits_a_line(line: &mut Line) -> Result<bool, NoMemory> {
     Ok(begins && ends && line.sends(b"ab\x08 \x08c\r\n")? && line.sends(b"")?)
 }
 
-/// Whether a line that comes in one call is edited, with its echo, as one that comes by single characters, and whether raw
-/// bytes are kept as they are.
+/// Whether a line that comes in one call is edited, with its echo, as one that comes by single characters, and
+/// whether raw bytes are kept as they are.
 fn receives_in_one_call(line: &mut Line) -> Result<bool, NoMemory> {
     let edits = line.receive_bytes(b"ab\x7fc\r")? == 5 && line.reads(b"ac\n")?;
     let echoes = line.sends(b"ab\x08 \x08c\r\n")? && line.sends(b"")?;

@@ -1,3 +1,6 @@
+//! What ERASE, WERASE and KILL take from a line that is edited, the columns of what ERASE takes, and the line's
+//! bound.
+
 use n_tty_edit::{Edit, Gone};
 use std::alloc::Global;
 use std::test::Fail;

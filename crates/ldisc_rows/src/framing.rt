@@ -1,3 +1,5 @@
+//! SLIP framing: END and ESC in packets, the longest packet, and characters that come with a flag.
+
 use slip_frames::{Decoder, Fed, MAX_PACKET, SlipFault, encode};
 use std::test::Fail;
 use tty_base::{Flag, Flagged};

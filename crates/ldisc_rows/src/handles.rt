@@ -1,3 +1,5 @@
+//! Handles of a port: each keeps its number until it is removed, even where a hangup killed it.
+
 use handle_table::{HandleState, Handles};
 use tty_calls::Access;
 

@@ -1,9 +1,12 @@
+//! Packets under N_SLIP: which of the line's are kept, which are spoiled, too long or too many, and when
+//! one is sent.
+
 use flow_control::{Tally, Wire};
 use n_slip::{NSlip, pieces_are_counted};
 use slip_frames::encode;
 use std::alloc::Global;
 use std::test::Fail;
-use tty_base::{Bytes, Flag, Flagged};
+use tty_base::{Bytes, Flag, Flagged, NoMemory};
 
 fn moves<T: Send + Drop>(_value: T) {}
 
@@ -19,7 +22,7 @@ fn receive_all(slip: &mut NSlip, tally: &mut Tally, bytes: &[u8]) {
     }
 }
 
-fn good(byte: u8) -> Flagged {
+pub fn good(byte: u8) -> Flagged {
     Flagged {
         byte,
         flag: Flag::Normal,
@@ -48,13 +51,28 @@ fn characters_come_all_at_once(rt: HostRuntime) -> Result<(), Fail> {
 }
 
 /// The first packet that waits, or nothing where none does.
-fn take_first(alloc: Global, slip: &mut NSlip) -> Result<Bytes, Fail> {
+pub fn take_first(alloc: Global, slip: &mut NSlip) -> Result<Bytes, NoMemory> {
     let mut out = Bytes::new(alloc);
     if slip.waiting() > 0 {
         out.reserve(slip.first_len())?;
         slip.take_packet(&mut out);
     }
     Ok(out)
+}
+
+/// Whether the first packet that waits has these bytes.
+fn gives(alloc: Global, slip: &mut NSlip, bytes: &[u8]) -> Result<bool, NoMemory> {
+    Ok(take_first(alloc, slip)?.as_slice() == bytes)
+}
+
+/// Whether the first packets that wait are of one byte each: 0, 1, 2 and so on.
+fn gives_so_many(alloc: Global, slip: &mut NSlip, count: u8) -> Result<bool, NoMemory> {
+    for n in 0..count {
+        if !gives(alloc, slip, &[n])? {
+            return Ok(false);
+        }
+    }
+    Ok(true)
 }
 
 #[test]
@@ -66,46 +84,35 @@ fn sixty_five_packets(rt: HostRuntime) -> Result<(), Fail> {
     }
     assert_eq!(rt; slip.waiting(), 64);
     assert!(rt; tally.counts.pin == 64 && tally.counts.pfull == 1);
-    for n in 0..64u8 {
-        assert_eq!(rt;
-            take_first(rt.alloc(), &mut slip)?.as_slice(),
-            [n].as_slice()
-        );
-    }
-    assert_eq!(rt; slip.waiting(), 0);
+    assert!(rt; gives_so_many(rt.alloc(), &mut slip, 64)? && slip.waiting() == 0);
     moves(slip);
     Ok(())
+}
+
+/// Hears a packet with an escape, a piece that a parity error spoils, and the front of another. Answers whether the
+/// packet is kept.
+fn keeps_the_good_one(slip: &mut NSlip, tally: &mut Tally) -> bool {
+    let line = [0xc0, 0x41, 0xdb, 0xdc, 0xc0, 0xc0, 0x41];
+    receive_all(slip, tally, &line);
+    let flagged = Flagged {
+        byte: 0x42,
+        flag: Flag::Parity,
+    };
+    slip.receive(flagged, tally);
+    receive_all(slip, tally, &[0x43, 0xc0, 0x44]);
+    slip.first_len() == 2
 }
 
 #[test]
 fn pieces_of_a_line(rt: HostRuntime) -> Result<(), Fail> {
     let mut slip = NSlip::new(rt.alloc())?;
     let mut tally = Tally::new(rt.alloc());
-    receive_all(
-        &mut slip,
-        &mut tally,
-        &[0xc0, 0x41, 0xdb, 0xdc, 0xc0, 0xc0, 0x41],
-    );
-    slip.receive(
-        Flagged {
-            byte: 0x42,
-            flag: Flag::Parity,
-        },
-        &mut tally,
-    );
-    receive_all(&mut slip, &mut tally, &[0x43, 0xc0, 0x44]);
-    assert_eq!(rt; slip.first_len(), 2);
-    assert_eq!(rt;
-        take_first(rt.alloc(), &mut slip)?.as_slice(),
-        [0x41, 0xc0].as_slice()
-    );
+    assert!(rt; keeps_the_good_one(&mut slip, &mut tally));
+    assert!(rt; gives(rt.alloc(), &mut slip, &[0x41, 0xc0])?);
     assert!(rt; slip.waiting() == 0 && slip.first_len() == 0);
     slip.flush_in();
     receive_all(&mut slip, &mut tally, &[0x45, 0xc0]);
-    assert_eq!(rt;
-        take_first(rt.alloc(), &mut slip)?.as_slice(),
-        [0x44, 0x45].as_slice()
-    );
+    assert!(rt; gives(rt.alloc(), &mut slip, &[0x44, 0x45])?);
     assert!(rt; tally.counts.pin == 2 && tally.counts.pbad == 1 && tally.counts.parity == 1);
     Ok(())
 }
@@ -124,6 +131,23 @@ fn the_longest_packet_and_a_longer_one(rt: HostRuntime) -> Result<(), Fail> {
     Ok(())
 }
 
+/// Whether a packet is sent twice under a halt, and not a third time.
+fn sends_twice(
+    slip: &mut NSlip,
+    encoded: &[u8],
+    wire: &mut Wire,
+    tally: &mut Tally,
+) -> Result<bool, NoMemory> {
+    wire.stop();
+    for is_sent in [true, true, false] {
+        wire.reserve(encoded.len())?;
+        if slip.send_packet(encoded, wire, tally) != is_sent {
+            return Ok(false);
+        }
+    }
+    Ok(wire.held() == 4028 && tally.counts.pout == 2)
+}
+
 #[test]
 fn a_packet_is_sent_where_there_is_room(rt: HostRuntime) -> Result<(), Fail> {
     let mut slip = NSlip::new(rt.alloc())?;
@@ -131,12 +155,6 @@ fn a_packet_is_sent_where_there_is_room(rt: HostRuntime) -> Result<(), Fail> {
     let mut wire = Wire::new(rt.alloc())?;
     let packet = vec![in rt.alloc(); 0xc0; 1006]?;
     let encoded = encode(rt.alloc(), packet.as_slice())?;
-    let encoded = encoded.as_slice();
-    wire.stop();
-    for sent in [true, true, false] {
-        wire.reserve(encoded.len())?;
-        assert_eq!(rt; slip.send_packet(encoded, &mut wire, &mut tally), sent);
-    }
-    assert!(rt; wire.held() == 4028 && tally.counts.pout == 2);
+    assert!(rt; sends_twice(&mut slip, encoded.as_slice(), &mut wire, &mut tally)?);
     Ok(())
 }

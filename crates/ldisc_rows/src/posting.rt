@@ -1,3 +1,5 @@
+//! What output processing posts: TABs as blanks, CR and NL under their flags, and the column of what was posted.
+
 use opost_out::{Out, column_of_more};
 use std::process::Abort;
 use tty_modes::places::{IUTF8, TAB3};

@@ -1,3 +1,5 @@
+//! When a read out of canonical mode is ready, in each case of MIN and TIME.
+
 use read_rule::ready;
 
 // A read of at most 4 bytes, which waits since tick 10; the last byte was stored at tick 12.

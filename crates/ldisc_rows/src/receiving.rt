@@ -1,3 +1,6 @@
+//! N_TTY on a port: lines that are edited and read, a line that is too long, input that fills, and output that is
+//! held at a halt.
+
 ghost use Rattle.std.specs.Prelude.{◌+◌, ◌<◌, ◌≤◌, ◌^◌, IfOk, length};
 ghost use Rattle.n_tty.specs.States.{FitsModes};
 
@@ -92,37 +95,66 @@ impl Line {
     }
 }
 
+/// Whether a line is edited, with its echo, and read once it is complete.
+fn edits_a_line(line: &mut Line) -> Result<bool, NoMemory>
+    requires fits { FitsModes line.old.modes line.old.tty }
+    requires column { line.old.tty.column ≤ 0 }
+{
+    if !line.type_in(b"ab\x7fc")? || line.read(64)? != None {
+        return Ok(false);
+    }
+    if !line.type_in(b"\r")? || line.tty.inq(&line.modes) != 3 {
+        return Ok(false);
+    }
+    let is_read = line.read(64)? == Some(3) && line.out.as_slice() == b"ac\n".as_slice();
+    let echo = b"ab\x08 \x08c\r\n".as_slice();
+    Ok(is_read && line.tty.unread() == 0 && line.wire.wire() == echo)
+}
+
 #[test]
 fn a_line_is_edited_and_read(rt: HostRuntime) -> Result<(), Fail> {
     let mut line = Line::new(rt.alloc(), &[])?;
-    assert!(rt; line.type_in(b"ab\x7fc")? && line.read(64)? == None);
-    assert!(rt; line.type_in(b"\r")? && line.tty.inq(&line.modes) == 3);
-    assert!(rt; line.read(64)? == Some(3) && line.tty.unread() == 0);
-    assert_eq!(rt; line.out.as_slice(), b"ac\n".as_slice());
-    assert_eq!(rt; line.wire.wire(), b"ab\x08 \x08c\r\n".as_slice());
+    assert!(rt; edits_a_line(&mut line)?);
     Ok(())
+}
+
+/// Whether 5,000 characters are cut to a line of 4,096 bytes, and each is counted and echoed.
+fn cuts_a_long_line(line: &mut Line) -> Result<bool, NoMemory>
+    requires fits { FitsModes line.old.modes line.old.tty }
+    requires column { line.old.tty.column ≤ 0 }
+{
+    if !line.type_in(&[0x61; 5000])? || !line.type_in(b"\n")? {
+        return Ok(false);
+    }
+    let is_read = line.read(65536)? == Some(4096) && line.out.as_slice().ends_with(b"aa\n");
+    Ok(is_read && line.tally.counts.cut == 905 && line.wire.wire().len() == 5002)
 }
 
 #[test]
 fn a_long_line_is_cut(rt: HostRuntime) -> Result<(), Fail> {
     let mut line = Line::new(rt.alloc(), &[])?;
-    assert!(rt; line.type_in(&[0x61; 5000])? && line.type_in(b"\n")?);
-    assert_eq!(rt; line.read(65536)?, Some(4096));
-    assert!(rt; line.out.as_slice().ends_with(b"aa\n"));
-    assert!(rt; line.tally.counts.cut == 905 && line.wire.wire().len() == 5002);
+    assert!(rt; cuts_a_long_line(&mut line)?);
     Ok(())
+}
+
+/// Whether 4,000 unread bytes stop the sender, 129 do not start it again, and 128 do.
+fn stops_and_starts(line: &mut Line) -> Result<bool, NoMemory>
+    requires fits { FitsModes line.old.modes line.old.tty }
+    requires column { line.old.tty.column ≤ 0 }
+{
+    if !line.type_in(&[0x61; 4000])? || line.read(3871)? != Some(3871) {
+        return Ok(false);
+    }
+    let stops = line.wire.wire() == b"\x13".as_slice();
+    let starts = line.read(1)? == Some(1) && line.wire.wire() == b"\x13\x11".as_slice();
+    line.tty.flush_in();
+    Ok(stops && starts && line.tty.unread() == 0)
 }
 
 #[test]
 fn input_that_fills_is_stopped(rt: HostRuntime) -> Result<(), Fail> {
     let mut line = Line::new(rt.alloc(), &[Word::Raw, Word::On(IXOFF)])?;
-    assert!(rt; line.type_in(&[0x61; 4000])?);
-    assert_eq!(rt; line.read(3871)?, Some(3871));
-    assert_eq!(rt; line.wire.wire(), b"\x13".as_slice());
-    assert_eq!(rt; line.read(1)?, Some(1));
-    assert_eq!(rt; line.wire.wire(), b"\x13\x11".as_slice());
-    line.tty.flush_in();
-    assert_eq!(rt; line.tty.unread(), 0);
+    assert!(rt; stops_and_starts(&mut line)?);
     Ok(())
 }
 
@@ -138,13 +170,22 @@ fn the_edited_line_becomes_plain(rt: HostRuntime) -> Result<(), Fail> {
     Ok(())
 }
 
+/// Whether the first 64 bytes of a piece are held at a halt, until a character comes.
+fn holds_a_piece(line: &mut Line) -> Result<bool, NoMemory>
+    requires fits { FitsModes line.old.modes line.old.tty }
+    requires column { line.old.tty.column ≤ 0 }
+{
+    if !line.type_in(b"\x13")? || line.write(&[0x62; 100])? != 64 {
+        return Ok(false);
+    }
+    let holds = line.wire.held() == 64;
+    let comes = line.type_in(b"x")? && line.tty.unread() == 1;
+    Ok(holds && comes && line.wire.held() == 0 && line.wire.wire().ends_with(b"bbx"))
+}
+
 #[test]
 fn a_halted_piece_is_held(rt: HostRuntime) -> Result<(), Fail> {
     let mut line = Line::new(rt.alloc(), &[Word::On(IXANY)])?;
-    assert!(rt; line.type_in(b"\x13")?);
-    assert_eq!(rt; line.write(&[0x62; 100])?, 64);
-    assert_eq!(rt; line.wire.held(), 64);
-    assert!(rt; line.type_in(b"x")? && line.tty.unread() == 1);
-    assert!(rt; line.wire.held() == 0 && line.wire.wire().ends_with(b"bbx"));
+    assert!(rt; holds_a_piece(&mut line)?);
     Ok(())
 }

@@ -1,6 +1,10 @@
+//! Disciplines by their numbers, what comes of a character under N_TTY and of a packet under N_SLIP, and START that
+//! goes out where little is unread.
+
 ghost use Rattle.std.specs.Prelude.{◌≡◌};
 ghost use Rattle.ldisc_switch.specs.Disciplines.{fresh_of};
 
+use crate::packets::{good, take_first};
 use flow_control::{Tally, Wire};
 use ldisc_switch::{
     Disc, Kind, calls_of_n_slip, calls_of_n_tty, column_of_all_posted, fresh, kind_stays, one_more,
@@ -9,15 +13,8 @@ use ldisc_switch::{
 use n_tty::CHARACTER_ROOM;
 use std::alloc::Global;
 use std::test::Fail;
-use tty_base::{Bytes, Flag, Flagged};
+use tty_base::{Bytes, NoMemory};
 use tty_modes::Modes;
-
-fn good(byte: u8) -> Flagged {
-    Flagged {
-        byte,
-        flag: Flag::Normal,
-    }
-}
 
 #[test]
 fn kinds_by_number(rt: HostRuntime) {
@@ -40,7 +37,7 @@ fn hear_first(
     modes: &Modes,
     wire: &mut Wire,
     tally: &mut Tally,
-) -> Result<(), Fail>
+) -> Result<(), NoMemory>
     requires { disc.old ≡ fresh_of Kind.Tty }
 {
     let room = disc.pending(wire) + CHARACTER_ROOM;
@@ -52,19 +49,25 @@ fn hear_first(
     Ok(())
 }
 
+/// Whether START goes out where little is unread, and a character is kept and echoed.
+fn hears_a_character(disc: &mut Disc, wire: &mut Wire, tally: &mut Tally) -> Result<bool, NoMemory>
+    requires { disc.old ≡ fresh_of Kind.Tty }
+{
+    let modes = Modes::sane();
+    let is_empty = disc.kind() == Kind::Tty && disc.unread() == 0;
+    wire.set_noted(true);
+    wire.reserve(1)?;
+    disc.ixoff(&modes, wire);
+    hear_first(disc, b'a', &modes, wire, tally)?;
+    Ok(is_empty && disc.unread() == 1 && wire.wire() == b"\x11a".as_slice())
+}
+
 #[test]
 fn a_character_under_n_tty(rt: HostRuntime) -> Result<(), Fail> {
     let mut disc = fresh(rt.alloc(), Kind::Tty)?;
-    let modes = Modes::sane();
     let mut wire = Wire::new(rt.alloc())?;
     let mut tally = Tally::new(rt.alloc());
-    assert!(rt; disc.kind() == Kind::Tty && disc.unread() == 0);
-    wire.set_noted(true);
-    wire.reserve(1)?;
-    disc.ixoff(&modes, &mut wire);
-    hear_first(&mut disc, b'a', &modes, &mut wire, &mut tally)?;
-    assert_eq!(rt; disc.unread(), 1);
-    assert_eq!(rt; wire.wire(), b"\x11a".as_slice());
+    assert!(rt; hears_a_character(&mut disc, &mut wire, &mut tally)?);
     Ok(())
 }
 
@@ -74,7 +77,7 @@ fn hear(
     modes: &Modes,
     wire: &mut Wire,
     tally: &mut Tally,
-) -> Result<(), Fail> {
+) -> Result<(), NoMemory> {
     let room = disc.pending(wire) + CHARACTER_ROOM;
     wire.reserve(room)?;
     tally.reserve(1)?;
@@ -84,26 +87,23 @@ fn hear(
     Ok(())
 }
 
-fn take_first(alloc: Global, disc: &mut Disc) -> Result<Bytes, Fail> {
-    let mut out = Bytes::new(alloc);
-    if let Disc::Slip(slip) = disc {
-        if slip.waiting() > 0 {
-            out.reserve(slip.first_len())?;
-            slip.take_packet(&mut out);
-        }
+/// The first packet that waits, or nothing where none does.
+fn take_packet(alloc: Global, disc: &mut Disc) -> Result<Bytes, NoMemory> {
+    match disc {
+        Disc::Slip(slip) => take_first(alloc, slip),
+        _ => Ok(Bytes::new(alloc)),
     }
-    Ok(out)
 }
 
 fn hear_all(
     disc: &mut Disc,
     bytes: &[u8],
-    modes: &Modes,
     wire: &mut Wire,
     tally: &mut Tally,
-) -> Result<(), Fail> {
+) -> Result<(), NoMemory> {
+    let modes = Modes::sane();
     for byte in bytes {
-        hear(disc, *byte, modes, wire, tally)?;
+        hear(disc, *byte, &modes, wire, tally)?;
     }
     Ok(())
 }
@@ -113,31 +113,30 @@ fn packets_under_n_slip(rt: HostRuntime) -> Result<(), Fail> {
     let mut disc = fresh(rt.alloc(), Kind::Slip)?;
     let mut wire = Wire::new(rt.alloc())?;
     let mut tally = Tally::new(rt.alloc());
+    wire.set_noted(true);
+    hear_all(&mut disc, b"\xc0A\xdb\xdc\xc0", &mut wire, &mut tally)?;
+    assert!(rt; wire.wire() == b"\x11".as_slice() && tally.counts.pin == 1);
+    let packet = take_packet(rt.alloc(), &mut disc)?;
+    assert!(rt; packet.as_slice() == [0x41, 0xc0].as_slice());
+    Ok(())
+}
+
+/// Whether START goes out, and nothing is unread.
+fn is_empty(disc: &Disc, wire: &mut Wire) -> Result<bool, NoMemory>
+    requires { disc.now ≡ fresh_of Kind.Slip }
+{
     let modes = Modes::sane();
     wire.set_noted(true);
-    hear_all(
-        &mut disc,
-        b"\xc0A\xdb\xdc\xc0",
-        &modes,
-        &mut wire,
-        &mut tally,
-    )?;
-    assert_eq!(rt; wire.wire(), b"\x11".as_slice());
-    let packet = take_first(rt.alloc(), &mut disc)?;
-    assert_eq!(rt; packet.as_slice(), [0x41, 0xc0].as_slice());
-    assert_eq!(rt; tally.counts.pin, 1);
-    Ok(())
+    wire.reserve(1)?;
+    disc.ixoff(&modes, wire);
+    let is_slip = disc.kind() == Kind::Slip && disc.accepts(&modes);
+    Ok(is_slip && disc.unread() == 0 && wire.wire() == b"\x11".as_slice())
 }
 
 #[test]
 fn nothing_is_unread_under_n_slip(rt: HostRuntime) -> Result<(), Fail> {
     let disc = fresh(rt.alloc(), Kind::Slip)?;
-    let modes = Modes::sane();
     let mut wire = Wire::new(rt.alloc())?;
-    wire.set_noted(true);
-    wire.reserve(1)?;
-    disc.ixoff(&modes, &mut wire);
-    assert_eq!(rt; wire.wire(), b"\x11".as_slice());
-    assert!(rt; disc.kind() == Kind::Slip && disc.unread() == 0 && disc.accepts(&modes));
+    assert!(rt; is_empty(&disc, &mut wire)?);
     Ok(())
 }

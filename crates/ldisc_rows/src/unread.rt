@@ -1,10 +1,12 @@
+//! The store of unread bytes beside two plain lists, and ends of lines that have no bytes between them.
+
 use line_store::Store;
 use std::alloc::{AllocError, Global};
 use std::process::Abort;
 use std::test::Fail;
 use tty_base::Bytes;
 
-/// The same store over two lists: its bytes, and for each end how many bytes stand before it.
+/// A store in two lists: its bytes, and for each end how many bytes stand before it.
 #[derive(Drop)]
 struct Plain {
     bytes: Vec<u8>,

@@ -61,8 +61,8 @@ last_in (disc.Slip slip) = 0
 abbrev pub after_ixoff_rule_of : Settings → Disc → Output → Output
 after_ixoff_rule_of modes state output = after_ixoff_rule modes (unread_of state) (has_piece_of state) output
 
--- how many bytes can still go to the wire for what is there, beside what the next character adds; a character under N_SLIP
--- lets nothing go that is held
+-- how many bytes can still go to the wire for what is there, beside what the next character adds; a character under
+-- N_SLIP lets nothing go that is held
 abbrev pub pending_count_of : Disc → Output → ℕ
 pending_count_of (disc.Tty tty) output = pending_count tty output
 pending_count_of (disc.Slip slip) output = 0

@@ -1,3 +1,5 @@
+//! A line discipline of either kind, with what both can do.
+
 ghost use Rattle.std.specs.Prelude.{◌≡◌, ◌+◌, ◌*◌, ◌^◌, ◌<◌, ◌≤◌, List, length, take, [], ◌∷◌, ◌++◌, IfOk, ℕ, true, false};
 ghost use Rattle.tty_modes.specs.Settings.{Settings};
 ghost use Rattle.flow_control.specs.declared.tally.Tally.{Tally};
@@ -118,8 +120,8 @@ impl Disc {
         }
     }
 
-    /// Receives characters from the front, each at this tick and with the rule for ixoff after it, up to the first that is
-    /// not accepted. Answers how many; under N_SLIP these are all.
+    /// Receives characters from the front, each at this tick and with the rule for ixoff after it, up to the first
+    /// that is not accepted. Answers how many; under N_SLIP these are all.
     pub fn receive_all(
         &mut self,
         chars: &[Flagged],

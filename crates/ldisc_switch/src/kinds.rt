@@ -1,3 +1,5 @@
+//! The kinds of line discipline and their numbers.
+
 ghost use Rattle.std.specs.Prelude.{◌≡◌};
 ghost use Rattle.ldisc_switch.specs.Disciplines.{kind_of_number};
 

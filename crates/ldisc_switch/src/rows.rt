@@ -1,3 +1,5 @@
+//! Worked rows, as laws: packets, echo, and what a signal drops.
+
 ghost use Rattle.std.specs.Prelude.{◌≡◌, true, false, [], ◌∷◌, ◌++◌};
 ghost use Rattle.tty_modes.specs.Settings.{sane_modes};
 ghost use Rattle.tty_modes.specs.Word.{after_word};

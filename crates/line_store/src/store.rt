@@ -1,3 +1,5 @@
+//! Unread input: bytes, and the ends of pieces among them.
+
 ghost use Rattle.std.specs.Prelude.{◌≡◌, ◌+◌, ◌-◌, ◌<◌, ◌≤◌, ◌↔◌, IfOk, [], ◌∷◌, ◌++◌, length, map, take, drop, slice_index};
 ghost use Rattle.std.specs.List.{AllByRecursion};
 ghost use Rattle.line_store.specs.Good.{IsGood, bytes_in};

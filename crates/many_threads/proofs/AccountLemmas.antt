@@ -27,8 +27,8 @@ use Rattle.tty_port.specs.declared.shared.SharedPort.{SharedPort}
 use Rattle.tty_port.proofs.Keeping.{by_another}
 use Rattle.many_threads.specs.Parts as parts
 use Rattle.many_threads.specs.Parts.{IsOfCalls, IsOfRole, MakesInRole}
-use Rattle.many_threads.specs.Crews.{MadeAs}
-use Rattle.many_threads.specs.Stations.{IsCast}
+use Rattle.many_threads.specs.Callers.{MadeAs}
+use Rattle.many_threads.specs.PhaseStarts.{IsCast}
 
 -- ---- what a seat made
 

@@ -15,12 +15,13 @@ use Rattle.tty_port.specs.Calls.{PortSeat}
 use Rattle.tty_port.specs.Shared.{IsHere, AreHere, name_of_port, opening_history}
 use Rattle.tty_port.specs.declared.shared.SharedPort.{SharedPort}
 use Rattle.tty_port.proofs.Seating.{here_front}
+use Rattle.many_threads.specs.Needs.{CanPlayCaller}
 use Rattle.many_threads.specs.Parts.{MakesInRole, PlaysCaller}
 use Rattle.many_threads.specs.Comings.{CallerComes}
-use Rattle.many_threads.specs.Crews.{plain_role, plain_cast, CanPlay, CanPlayAll, IsPlayable, IsBack, PlayedAs, EachCaller, SomeSawFull, CallersCome, IsTold}
-use Rattle.many_threads.specs.declared.threads.SeatBack.{SeatBack}
+use Rattle.many_threads.specs.Callers.{plain_role, plain_cast, CanPlay, CanPlayAll, IsPlayable, IsBack, PlayedAs, EachCaller, SomeSawFull, CallersCome, IsTold}
+use Rattle.many_threads.specs.declared.thread_bodies.SeatBack.{SeatBack}
 use Rattle.one_thread.specs.declared.roles.Role.{Role}
-use Rattle.many_threads.specs.declared.crews.CallersBack.{CallersBack}
+use Rattle.many_threads.specs.declared.caller_threads.CallersBack.{CallersBack}
 
 -- ---- lists
 
@@ -147,14 +148,7 @@ pub crew_can : (p : SharedPort) (scripts : List Script) (cast before : List (Opt
 crew_can p scripts cast before last role ss seat h is = subst (λ (o : Option Role). CanPlay p (length (plain_cast scripts before)) (plain_role scripts o)) is h.can
 
 -- what the last caller's thread needs
-pub record Needs (p : SharedPort) (role : Role) (calls : List PlainCall) (seat : PortSeat) : Type 0 where
-  pub here : IsHere p role.number seat
-  pub known : role.number < sum (name_of_port p).counts
-  pub within : All IsCallWithin calls
-  pub few : role.first + length calls < 2 ^ 32
-  pub between : IsBetween role.number role.first (list_seen seat)
-
-pub crew_needs : (p : SharedPort) (scripts : List Script) (cast before : List (Option Role)) (last : Option Role) (role : Role) (ss : List PortSeat) (seat : PortSeat) (calls : List PlainCall) → Splits p scripts cast before last ss seat → last ≡ Some role → calls ≡ calls_in (slice_get scripts role.place) → Needs p role calls seat
+pub crew_needs : (p : SharedPort) (scripts : List Script) (cast before : List (Option Role)) (last : Option Role) (role : Role) (ss : List PortSeat) (seat : PortSeat) (calls : List PlainCall) → Splits p scripts cast before last ss seat → last ≡ Some role → calls ≡ calls_in (slice_get scripts role.place) → CanPlayCaller p role.number role.first calls seat
 crew_needs p scripts cast before last role ss seat calls h is same =
     let n = length (plain_cast scripts before) in
     let can = crew_can p scripts cast before last role ss seat h is in

@@ -17,21 +17,19 @@ use Rattle.tty_port.specs.Calls.{PortSeat}
 use Rattle.tty_port.specs.Shared.{IsHere, name_of_port, opening_history}
 use Rattle.tty_port.specs.declared.shared.SharedPort.{SharedPort}
 use Rattle.tty_port.proofs.Seating.{AreNumbered, has_numbered}
-use Rattle.many_threads.specs.declared.crews.CallersBack.{CallersBack}
-use Rattle.many_threads.specs.declared.threads.SeatBack.{SeatBack}
-use Rattle.many_threads.specs.declared.threads.FlusherBack.{FlusherBack}
-use Rattle.many_threads.specs.declared.threads.LineBack.{LineBack}
-use Rattle.many_threads.specs.declared.threads.Receiver.{Receiver}
-use Rattle.many_threads.specs.declared.stations.Seats.{Seats}
-use Rattle.many_threads.specs.declared.phases.PhaseBack.{PhaseBack}
-use Rattle.many_threads.specs.declared.phases.PhaseEnd.{PhaseEnd}
-use Rattle.many_threads.specs.declared.phases.PhaseEnd.TheVariants.{Over, Full}
+use Rattle.many_threads.specs.declared.crew.Crew.{Crew}
+use Rattle.many_threads.specs.declared.crew.CrewBack.{CrewBack}
+use Rattle.many_threads.specs.declared.line_part.Receiver.{Receiver}
+use Rattle.many_threads.specs.declared.seats.Seats.{Seats}
+use Rattle.many_threads.specs.declared.shared_phase.PhaseBack.{PhaseBack}
+use Rattle.many_threads.specs.declared.shared_phase.PhaseEnd.{PhaseEnd}
+use Rattle.many_threads.specs.declared.shared_phase.PhaseEnd.TheVariants.{Over, Full}
 use Rattle.many_threads.specs.Parts.{StopsClock, PlaysClock, RunsLine, PlaysLine, PlaysFlusher}
-use Rattle.many_threads.specs.Comings.{ClockComes, FlusherComes, LineComes}
-use Rattle.many_threads.specs.Crews.{EachCaller, IsBack, PlayedAs, SomeSawFull, CallersCome}
-use Rattle.many_threads.specs.Dealing.{AreDealt}
-use Rattle.many_threads.specs.Ends.{AreSeats, AreBack, all_seats, end_of, IsNextTold, AreTaken, ArePlayed, AreStopped, Tells, ThreadsCome}
-use Rattle.many_threads.proofs.CrewLemmas.{either_told}
+use Rattle.many_threads.specs.Callers.{EachCaller, IsBack, PlayedAs, SomeSawFull}
+use Rattle.many_threads.specs.Crew.{cast_of, CanRun, CrewComes, seats_of}
+use Rattle.many_threads.specs.Seats.{AreDealt}
+use Rattle.many_threads.specs.PhaseEnds.{AreSeats, AreBack, all_seats, end_of, IsNextTold, AreTaken, ArePlayed, AreStopped, Tells, ThreadsCome}
+use Rattle.many_threads.proofs.CrewLemmas.{cast_length, either_told}
 
 -- ---- seats in their places
 
@@ -117,39 +115,56 @@ ends_told (Some k) false true c A B C D P Q R X S Y f g h i all p q r n = g q
 ends_told (Some k) false false true A B C D P Q R X S Y f g h i all p q r n = h r
 ends_told (Some k) false false false A B C D P Q R X S Y f g h i all p q r n = all k p q r n
 
-from_told : (p : SharedPort) (roles : List (Option PlainRole)) (steps : List LineStep) (ticks run : ℕ) (line : LineState) (putter : PutterState Flagged) (dealt : Seats) (back : PhaseBack) (end : PhaseEnd)
-    → OverOr end (AreStopped p steps ticks line putter back) (ArePlayed p roles steps ticks run line putter dealt back) → Tells p roles steps ticks run line putter dealt back end
-from_told p roles steps ticks run line putter dealt back (Over n) h = h
-from_told p roles steps ticks run line putter dealt back Full h = h
+from_told : (p : SharedPort) (crew : Crew) (back : PhaseBack) (end : PhaseEnd) → OverOr end (AreStopped p crew back) (ArePlayed p crew back) → Tells p crew back end
+from_told p crew back (Over n) h = h
+from_told p crew back Full h = h
 
-module _ (p : SharedPort) (roles : List (Option PlainRole)) (steps : List LineStep) (ticks run : ℕ) (receiver : Receiver) (dealt : Seats) (line : LineBack) (clock : SeatBack) (flusher : FlusherBack) (callers : CallersBack) (back : PhaseBack)
-    (fresh : AreDealt p dealt) (count : length roles ≡ (name_of_port p).callers)
-    (line_comes : LineComes p steps receiver.line receiver.putter (list_seen dealt.line) line) (clock_comes : ClockComes p ticks (list_seen dealt.clock) clock) (flusher_comes : FlusherComes p run dealt.flusher flusher) (callers_come : CallersCome p roles callers)
-    (taken : AreTaken line clock flusher callers dealt.session back) where
+module _ (p : SharedPort) (crew : Crew) (rest : PortSeat) (come : CrewBack) (back : PhaseBack) (can : CanRun p crew) (fresh : AreDealt p (seats_of crew rest)) (comes : CrewComes p crew come) (taken : AreTaken come rest back) where
   abbrev m : ℕ
   m = (name_of_port p).callers
 
   abbrev start : List (Stamped EntryWithCall)
   start = opening_history p
 
+  abbrev roles : List (Option PlainRole)
+  roles = cast_of crew.callers
+
+  abbrev steps : List LineStep
+  steps = crew.line.steps.now.items
+
+  abbrev ticks : ℕ
+  ticks = crew.clock.ticks
+
+  abbrev line : LineState
+  line = crew.line.receiver.line
+
+  abbrev putter : PutterState Flagged
+  putter = crew.line.receiver.putter
+
+  abbrev seen : List (Stamped EntryWithCall)
+  seen = list_seen crew.line.receiver.seat
+
+  abbrev played : Receiver
+  played = come.line.receiver
+
   callers_back : EachCaller (IsBack p) 0 roles back.seats.callers.items
-  callers_back = subst (EachCaller (IsBack p) 0 roles) (sym taken.callers_are) callers_come.back_all
+  callers_back = subst (EachCaller (IsBack p) 0 roles) (sym taken.callers_are) comes.callers.back_all
 
   are_back : AreBack p back.seats
   are_back = record {
     callers = seats_of_callers p 0 roles back.seats.callers.items callers_back;
-    count = each_length (IsBack p) 0 roles back.seats.callers.items callers_back ∙ count;
-    flusher = subst (IsHere p m) (sym taken.flusher_is) flusher_comes.here;
-    line = subst (IsHere p (m + 1)) (sym taken.line_is) line_comes.here;
-    clock = subst (IsHere p (m + 2)) (sym taken.clock_is) clock_comes.here;
+    count = each_length (IsBack p) 0 roles back.seats.callers.items callers_back ∙ (cast_length crew.callers.scripts.now crew.callers.cast.now ∙ (sym can.callers.count ∙ fresh.count));
+    flusher = subst (IsHere p m) (sym taken.flusher_is) comes.flusher.here;
+    line = subst (IsHere p (m + 1)) (sym taken.line_is) comes.line.here;
+    clock = subst (IsHere p (m + 2)) (sym taken.clock_is) comes.clock.here;
     session = subst (IsHere p (m + 3)) (sym taken.session_is) fresh.session.here;
   }
 
   abbrev LinePlays : Type 0
-  LinePlays = PlaysLine (m + 1) steps receiver.line back.receiver.line receiver.putter back.receiver.putter start back.seats.line
+  LinePlays = PlaysLine (m + 1) steps line back.line putter back.putter start back.seats.line
 
   abbrev LineRuns : Type 0
-  LineRuns = RunsLine steps receiver.line back.receiver.line receiver.putter back.receiver.putter
+  LineRuns = RunsLine steps line back.line putter back.putter
 
   abbrev ClockPlays : Type 0
   ClockPlays = PlaysClock (m + 2) ticks start back.seats.clock
@@ -157,37 +172,40 @@ module _ (p : SharedPort) (roles : List (Option PlainRole)) (steps : List LineSt
   abbrev ClockStops : Type 0
   ClockStops = StopsClock (m + 2) ticks start back.seats.clock
 
-  line_plays : PlaysLine (m + 1) steps receiver.line line.receiver.line receiver.putter line.receiver.putter (list_seen dealt.line) line.seat → LinePlays
+  line_plays : PlaysLine (m + 1) steps line played.line putter played.putter seen played.seat → LinePlays
   line_plays h =
-      subst (λ (xs : List (Stamped EntryWithCall)). PlaysLine (m + 1) steps receiver.line back.receiver.line receiver.putter back.receiver.putter xs back.seats.line) fresh.line.seen
-      (subst (λ (r : Receiver). PlaysLine (m + 1) steps receiver.line r.line receiver.putter r.putter (list_seen dealt.line) back.seats.line) (sym taken.receiver_is)
-      (subst (λ (s : PortSeat). PlaysLine (m + 1) steps receiver.line line.receiver.line receiver.putter line.receiver.putter (list_seen dealt.line) s) (sym taken.line_is) h))
+      subst (λ (xs : List (Stamped EntryWithCall)). PlaysLine (m + 1) steps line back.line putter back.putter xs back.seats.line) fresh.line.seen
+      (subst (λ (q : PutterState Flagged). PlaysLine (m + 1) steps line back.line putter q seen back.seats.line) (sym taken.putter_is)
+      (subst (λ (l : LineState). PlaysLine (m + 1) steps line l putter played.putter seen back.seats.line) (sym taken.played_is)
+      (subst (λ (s : PortSeat). PlaysLine (m + 1) steps line played.line putter played.putter seen s) (sym taken.line_is) h)))
 
-  line_runs : RunsLine steps receiver.line line.receiver.line receiver.putter line.receiver.putter → LineRuns
-  line_runs h = subst (λ (r : Receiver). RunsLine steps receiver.line r.line receiver.putter r.putter) (sym taken.receiver_is) h
+  line_runs : RunsLine steps line played.line putter played.putter → LineRuns
+  line_runs h =
+      subst (λ (q : PutterState Flagged). RunsLine steps line back.line putter q) (sym taken.putter_is)
+      (subst (λ (l : LineState). RunsLine steps line l putter played.putter) (sym taken.played_is) h)
 
-  clock_plays : PlaysClock (m + 2) ticks (list_seen dealt.clock) clock.seat → ClockPlays
+  clock_plays : PlaysClock (m + 2) ticks (list_seen crew.clock.seat) come.clock.seat → ClockPlays
   clock_plays h =
       subst (λ (xs : List (Stamped EntryWithCall)). PlaysClock (m + 2) ticks xs back.seats.clock) fresh.clock.seen
-      (subst (PlaysClock (m + 2) ticks (list_seen dealt.clock)) (sym taken.clock_is) h)
+      (subst (PlaysClock (m + 2) ticks (list_seen crew.clock.seat)) (sym taken.clock_is) h)
 
-  clock_stops : StopsClock (m + 2) ticks (list_seen dealt.clock) clock.seat → ClockStops
+  clock_stops : StopsClock (m + 2) ticks (list_seen crew.clock.seat) come.clock.seat → ClockStops
   clock_stops h =
       subst (λ (xs : List (Stamped EntryWithCall)). StopsClock (m + 2) ticks xs back.seats.clock) fresh.clock.seen
-      (subst (StopsClock (m + 2) ticks (list_seen dealt.clock)) (sym taken.clock_is) h)
+      (subst (StopsClock (m + 2) ticks (list_seen crew.clock.seat)) (sym taken.clock_is) h)
 
   map_either : {A B P Q : Type 0} → (A → P) → (B → Q) → A ⊎ B → P ⊎ Q
   map_either f g (inl a) = inl (f a)
   map_either f g (inr b) = inr (g b)
 
   line_either : LinePlays ⊎ LineRuns
-  line_either = map_either line_plays line_runs (either_on line.result _ _ line_comes.ok line_comes.err)
+  line_either = map_either line_plays line_runs (either_on come.line.result _ _ comes.line.ok comes.line.err)
 
   clock_either : ClockPlays ⊎ ClockStops
-  clock_either = map_either clock_plays clock_stops (either_on clock.result _ _ clock_comes.ok clock_comes.err)
+  clock_either = map_either clock_plays clock_stops (either_on come.clock.result _ _ comes.clock.ok comes.clock.err)
 
   abbrev Stopped : Type 0
-  Stopped = AreStopped p steps ticks receiver.line receiver.putter back
+  Stopped = AreStopped p crew back
 
   stopped : SomeSawFull (name_of_port p) (all_seats back.seats) → Stopped
   stopped h = record { full = h; line_runs = line_either; clock = clock_either }
@@ -195,40 +213,39 @@ module _ (p : SharedPort) (roles : List (Option PlainRole)) (steps : List LineSt
   abbrev limit : ℕ
   limit = (name_of_port p).limit
 
-  by_callers : SomeSawFull (name_of_port p) callers.seats.items → Stopped
+  by_callers : SomeSawFull (name_of_port p) come.callers.seats.items → Stopped
   by_callers h = stopped (saw_left (name_of_port p) back.seats.callers.items (back.seats.flusher ∷ back.seats.line ∷ back.seats.clock ∷ back.seats.session ∷ []) (subst (SomeSawFull (name_of_port p)) (sym taken.callers_are) h))
 
-  by_flusher : length (list_seen flusher.seat) ≡ limit → Stopped
+  by_flusher : length (list_seen come.flusher.seat) ≡ limit → Stopped
   by_flusher h = stopped (saw_right (name_of_port p) back.seats.callers.items (back.seats.flusher ∷ back.seats.line ∷ back.seats.clock ∷ back.seats.session ∷ []) (inl (ap (λ (s : PortSeat). length (list_seen s)) taken.flusher_is ∙ h)))
 
-  by_line : (length (list_seen line.seat) ≡ limit) × RunsLine steps receiver.line line.receiver.line receiver.putter line.receiver.putter → Stopped
+  by_line : (length (list_seen played.seat) ≡ limit) × RunsLine steps line played.line putter played.putter → Stopped
   by_line h = stopped (saw_right (name_of_port p) back.seats.callers.items (back.seats.flusher ∷ back.seats.line ∷ back.seats.clock ∷ back.seats.session ∷ []) (inr (inl (ap (λ (s : PortSeat). length (list_seen s)) taken.line_is ∙ h.0))))
 
-  by_clock : (length (list_seen clock.seat) ≡ limit) × StopsClock (m + 2) ticks (list_seen dealt.clock) clock.seat → Stopped
+  by_clock : (length (list_seen come.clock.seat) ≡ limit) × StopsClock (m + 2) ticks (list_seen crew.clock.seat) come.clock.seat → Stopped
   by_clock h = stopped (saw_right (name_of_port p) back.seats.callers.items (back.seats.flusher ∷ back.seats.line ∷ back.seats.clock ∷ back.seats.session ∷ []) (inr (inr (inl (ap (λ (s : PortSeat). length (list_seen s)) taken.clock_is ∙ h.0)))))
 
-  all_played : (n : ℕ) → EachCaller (PlayedAs p) 0 roles callers.seats.items → PlaysLine (m + 1) steps receiver.line line.receiver.line receiver.putter line.receiver.putter (list_seen dealt.line) line.seat → PlaysClock (m + 2) ticks (list_seen dealt.clock) clock.seat
-      → PlaysFlusher (name_of_port p) run dealt.flusher n flusher.seat → ArePlayed p roles steps ticks run receiver.line receiver.putter dealt back n
+  all_played : (n : ℕ) → EachCaller (PlayedAs p) 0 roles come.callers.seats.items → PlaysLine (m + 1) steps line played.line putter played.putter seen played.seat → PlaysClock (m + 2) ticks (list_seen crew.clock.seat) come.clock.seat
+      → PlaysFlusher (name_of_port p) crew.flusher.run crew.flusher.seat n come.flusher.seat → ArePlayed p crew back n
   all_played n all l c f = record {
     callers = subst (EachCaller (PlayedAs p) 0 roles) (sym taken.callers_are) all;
-    flusher = subst (PlaysFlusher (name_of_port p) run dealt.flusher n) (sym taken.flusher_is) f;
+    flusher = subst (PlaysFlusher (name_of_port p) crew.flusher.run crew.flusher.seat n) (sym taken.flusher_is) f;
     line_plays = line_plays l;
     clock = clock_plays c;
   }
 
-  told : OverOr (end_of taken.next (callers.full || (taken.line_full || taken.clock_full))) Stopped (ArePlayed p roles steps ticks run receiver.line receiver.putter dealt back)
+  told : OverOr (end_of taken.next (come.callers.full || (taken.line_full || taken.clock_full))) Stopped (ArePlayed p crew back)
   told =
-      ends_told taken.next callers.full taken.line_full taken.clock_full _ _ _ _ _ _ _ Stopped _ (ArePlayed p roles steps ticks run receiver.line receiver.putter dealt back)
-      by_callers by_line by_clock by_flusher all_played callers_come.told
-      (either_told line.result taken.line_full _ _ (λ d. IsFull (name_of_port p) d (list_seen line.seat)) taken.line_told line_comes.ok line_comes.err line_comes.full)
-      (either_told clock.result taken.clock_full _ _ (λ d. IsFull (name_of_port p) d (list_seen clock.seat)) taken.clock_told clock_comes.ok clock_comes.err clock_comes.full)
-      (next_or flusher.result taken.next _ (λ d. IsFull (name_of_port p) d (list_seen flusher.seat)) taken.next_told flusher_comes.ok flusher_comes.full)
+      ends_told taken.next come.callers.full taken.line_full taken.clock_full _ _ _ _ _ _ _ Stopped _ (ArePlayed p crew back)
+      by_callers by_line by_clock by_flusher all_played comes.callers.told
+      (either_told come.line.result taken.line_full _ _ (λ d. IsFull (name_of_port p) d (list_seen played.seat)) taken.line_told comes.line.ok comes.line.err comes.line.full)
+      (either_told come.clock.result taken.clock_full _ _ (λ d. IsFull (name_of_port p) d (list_seen come.clock.seat)) taken.clock_told comes.clock.ok comes.clock.err comes.clock.full)
+      (next_or come.flusher.result taken.next _ (λ d. IsFull (name_of_port p) d (list_seen come.flusher.seat)) taken.next_told comes.flusher.ok comes.flusher.full)
 
-  pub threads_come : ThreadsCome p roles steps ticks run receiver.line receiver.putter dealt back
+  pub threads_come : ThreadsCome p crew back
   threads_come = record {
     seats = are_back;
     callers = callers_back;
     session = ap list_seen taken.session_is ∙ fresh.session.seen;
-    told = from_told p roles steps ticks run receiver.line receiver.putter dealt back back.end
-        (subst (λ (end : PhaseEnd). OverOr end Stopped (ArePlayed p roles steps ticks run receiver.line receiver.putter dealt back)) (sym taken.end_is) told);
+    told = from_told p crew back back.end (subst (λ (end : PhaseEnd). OverOr end Stopped (ArePlayed p crew back)) (sym taken.end_is) told);
   }

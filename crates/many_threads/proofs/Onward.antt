@@ -1,15 +1,17 @@
 -- A port on threads from its opening over its phases to its end.
 use Rattle.std.proofs.Common.{◌≡◌, ◌⊎◌, inl, inr, ℕ, ◌+◌, ◌<◌, ◌≤◌, List, [], ◌∷◌, ◌++◌, Option, None, Some, length, refl, sym, ◌∙◌, ap, subst, arith}
-use Rattle.std.specs.Prelude.{IsTrue, Result, Ok, IfOk, slice_get, sum}
+use Rattle.std.specs.Prelude.{IsTrue, Result, Ok, IfOk, All, slice_get, sum}
 use Rattle.std.proofs.lemmas.Bool.Decides.{nat_tests}
 use Rattle.std.proofs.lemmas.List.{length-map}
 use Rattle.std.proofs.lemmas.List.Elements.{All-nil}
 use Rattle.tty_base.specs.declared.characters.Flagged.{Flagged}
 use Rattle.tty_base.specs.declared.lines.Overrun.{Overrun}
+use Rattle.tty_base.specs.Lines.{is_step}
 use Rattle.word_ring.specs.Ends.{PutterState}
 use Rattle.uart_line.specs.LineState.{LineState}
 use Rattle.tty_calls.specs.Plain.{PlainEntry}
-use Rattle.tty_calls.specs.Sessions.{call_at, scripts_on}
+use Rattle.tty_calls.specs.Limits.{IsWithinLimits}
+use Rattle.tty_calls.specs.Sessions.{call_at, scripts_on, counts_on, line_on, ticks_on}
 use Rattle.tty_terminal.specs.declared.callers.CallerState.{CallerState}
 use Rattle.tty_terminal.specs.declared.callers.Piece.{Piece}
 use Rattle.tty_terminal.specs.Terminals.{opening}
@@ -17,7 +19,7 @@ use Rattle.tty_terminal.specs.Standing.{standing_of}
 use Rattle.tty_terminal.specs.Steps.{follows}
 use Rattle.tty_terminal.specs.Runs.{AgreesOn}
 use Rattle.tty_terminal.proofs.Agreeing.{leads_agrees}
-use Rattle.journal_check.specs.Legal.{received_before}
+use Rattle.journal_check.specs.Legal.{phase_at, received_before}
 use Rattle.journal_check.specs.Phases.{CompletesPhase}
 use Rattle.port_core.specs.Ports.{PortValue, call_in}
 use Rattle.tty_port.specs.Seen.{run_after}
@@ -29,12 +31,13 @@ use Rattle.one_thread.specs.declared.phases.Station.{Station}
 use Rattle.one_thread.proofs.PhaseLemmas.{PlaysPart, played_more}
 use Rattle.one_thread.proofs.StationLemmas.{full_in_phase}
 use Rattle.one_thread.proofs.PortLemmas.{last_or, some_is}
-use Rattle.many_threads.specs.Stations.{IsOfSession, IsAtPhase, PlaysPhase, StopsPhase}
-use Rattle.many_threads.specs.Ends.{PhaseComes}
-use Rattle.many_threads.specs.Phases.{IsBeforePhase, StandsBefore, CanEnd}
-use Rattle.many_threads.specs.declared.phases.Ends.{Ends}
-use Rattle.many_threads.specs.declared.phases.PhaseEnd.{PhaseEnd}
-use Rattle.many_threads.specs.declared.phases.PhaseEnd.TheVariants.{Over, Full}
+use Rattle.many_threads.specs.Callers.{plain_cast}
+use Rattle.many_threads.specs.PhaseStarts.{IsOfSession, IsAtPhase, IsCast, CanPlayPhase, PlaysPhase, StopsPhase}
+use Rattle.many_threads.specs.PhaseEnds.{PhaseComes}
+use Rattle.many_threads.specs.InPlay.{IsBeforePhase, StandsBefore, CanEnd}
+use Rattle.many_threads.specs.declared.shared_phase.PhaseWork.{PhaseWork}
+use Rattle.many_threads.specs.declared.shared_phase.PhaseEnd.{PhaseEnd}
+use Rattle.many_threads.specs.declared.shared_phase.PhaseEnd.TheVariants.{Over, Full}
 use Rattle.journal_check.proofs.NameLemmas.{get_append, get_past}
 
 -- ---- at the beginning
@@ -139,21 +142,31 @@ full_stands s k old new now played station run port putter line within before st
           (subst (λ (p : PutterState Flagged). IsFullRun s new p station.line) (sym putter) (subst (λ (l : LineState). IsFullRun s new now l) (sym line) full)),
     )
 
+-- ---- the work of a phase
+
+pub can_play_on : (s : Scene) (k callers : ℕ) (station : Station) (work : PhaseWork) → work.phase ≡ station.port.terminal.phase → IsWithinLimits s.session → k < length s.session.phases → IsBeforePhase s k station work.run
+    → work.steps.now.items ≡ line_on s.port (phase_at s.session k) → All (λ step. IsTrue (is_step step)) work.steps.now.items → work.ticks ≡ ticks_on s.port (phase_at s.session k)
+    → callers ≡ sum (counts_on s.port s.session) → IsCast s k callers (plain_cast work.scripts.now work.cast.now) → CanPlayPhase s station work
+can_play_on s k callers station work phase limits within before steps good ticks all cast =
+    let is : k ≡ work.phase = sym before.at_phase.phase ∙ sym phase in
+    record {
+      limits = limits;
+      within = subst (λ (n : ℕ). n < length s.session.phases) is within;
+      at_phase = subst (λ (n : ℕ). IsAtPhase s n station.port station.putter station.line work.run) is before.at_phase;
+      steps = subst (λ (n : ℕ). work.steps.now.items ≡ line_on s.port (phase_at s.session n)) is steps;
+      good = good;
+      ticks = subst (λ (n : ℕ). work.ticks ≡ ticks_on s.port (phase_at s.session n)) is ticks;
+      roles = subst (λ (n : ℕ). IsCast s n (sum station.port.counts) (plain_cast work.scripts.now work.cast.now)) is
+          (subst (λ (n : ℕ). IsCast s k n (plain_cast work.scripts.now work.cast.now)) (all ∙ sym (ap sum before.at_phase.of_session.counts)) cast);
+    }
+
 -- ---- what a phase comes to
 
--- a port as it is given to the threads of its phase
-abbrev pub ends_of : Station → Ends
-ends_of station = record { port = station.port; receiver = record { line = station.line; putter = station.putter } }
-
-pub stands_next : (s : Scene) (k : ℕ) (old : Station) (run : ℕ) (new : Ends) (end : PhaseEnd) (station : Station) → station.port ≡ new.port → station.putter ≡ new.receiver.putter → station.line ≡ new.receiver.line
-    → k < length s.session.phases → IsBeforePhase s k old run → PhaseComes s (ends_of old) new end → AreFirstSteps s (k + 1) station.steps.items → StandsBefore s (k + 1) station end
-stands_next s k old run new (Over next) station port putter line within before comes steps =
-    let at : IsAtPhase s (k + 1) new.port new.receiver.putter new.receiver.line next = subst (λ (n : ℕ). IsAtPhase s (n + 1) new.port new.receiver.putter new.receiver.line next) before.at_phase.phase comes.0 in
-    let plays : PlaysPhase s k old.port new.port new.receiver.putter old.line new.receiver.line = subst (λ (n : ℕ). PlaysPhase s n old.port new.port new.receiver.putter old.line new.receiver.line) before.at_phase.phase comes.1 in
-    before_next s k old new.port new.receiver.putter new.receiver.line station run next port putter line within before at plays steps
-stands_next s k old run new Full station port putter line within before comes steps =
-    let stops : StopsPhase s k old.port new.port new.receiver.putter old.line new.receiver.line = subst (λ (n : ℕ). StopsPhase s n old.port new.port new.receiver.putter old.line new.receiver.line) before.at_phase.phase comes in
-    full_stands s k old new.port new.receiver.putter new.receiver.line station run port putter line within before stops
+pub stands_next : (s : Scene) (k : ℕ) (old new station : Station) (run : ℕ) (end : PhaseEnd) → station.port ≡ new.port → station.putter ≡ new.putter → station.line ≡ new.line
+    → k < length s.session.phases → IsBeforePhase s k old run → PhaseComes s k old new end → AreFirstSteps s (k + 1) station.steps.items → StandsBefore s (k + 1) station end
+stands_next s k old new station run (Over next) port putter line within before comes steps =
+    before_next s k old new.port new.putter new.line station run next port putter line within before comes.0 comes.1 steps
+stands_next s k old new station run Full port putter line within before comes steps = full_stands s k old new.port new.putter new.line station run port putter line within before comes
 
 -- ---- at the end
 

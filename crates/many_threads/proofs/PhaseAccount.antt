@@ -30,6 +30,7 @@ use Rattle.port_core.specs.Ports.{PortValue}
 use Rattle.one_thread.specs.Roles.{Scene, PlainRole}
 use Rattle.one_thread.specs.Lines.{HasPut}
 use Rattle.one_thread.specs.LineInside.{KnowsTaken}
+use Rattle.one_thread.specs.declared.phases.Station.{Station}
 use Rattle.one_thread.proofs.JournalLemmas.{leads_both, none_ends}
 use Rattle.one_thread.proofs.LineLists.{All_front}
 use Rattle.one_thread.proofs.LineSteps.{has_put_met, has_put_at}
@@ -51,16 +52,20 @@ use Rattle.tty_port.specs.Shared.{IsHere, HasAllOf, name_of_port, opening_histor
 use Rattle.tty_port.specs.declared.shared.SharedPort.{SharedPort}
 use Rattle.tty_port.proofs.Histories.{entries_append, is_history, port_marks}
 use Rattle.tty_port.proofs.Keeping.{placed_right}
-use Rattle.many_threads.specs.declared.stations.Seats.{Seats}
-use Rattle.many_threads.specs.declared.phases.Ends.{Ends}
-use Rattle.many_threads.specs.declared.phases.PhaseBack.{PhaseBack}
-use Rattle.many_threads.specs.declared.phases.PhaseEnd.{PhaseEnd}
-use Rattle.many_threads.specs.declared.phases.PhaseEnd.TheVariants.{Over, Full}
+use Rattle.many_threads.specs.declared.crew.Crew.{Crew}
+use Rattle.many_threads.specs.declared.seats.Seats.{Seats}
+use Rattle.many_threads.specs.declared.shared_phase.PhaseWork.{PhaseWork}
+use Rattle.many_threads.specs.declared.shared_phase.PhaseBack.{PhaseBack}
+use Rattle.many_threads.specs.declared.shared_phase.PhaseEnd.{PhaseEnd}
+use Rattle.many_threads.specs.declared.shared_phase.PhaseEnd.TheVariants.{Over, Full}
 use Rattle.many_threads.specs.Parts as parts
 use Rattle.many_threads.specs.Parts.{StopsClock, PlaysClock, RunsLine, PlaysLine, PlaysFlusher}
-use Rattle.many_threads.specs.Crews.{EachCaller, IsBack, SomeSawFull}
-use Rattle.many_threads.specs.Stations.{IsAtPhase, IsCast, StopsPhase}
-use Rattle.many_threads.specs.Ends.{all_seats, IsShared, IsClosed, ArePlayed, AreStopped, Tells, ThreadsCome, PlaysThreads, ThreadsLeave}
+use Rattle.many_threads.specs.Callers.{EachCaller, IsBack, SomeSawFull}
+use Rattle.many_threads.specs.Crew.{cast_of, crew_in, seats_of}
+use Rattle.many_threads.specs.Seats.{AreDealt}
+use Rattle.many_threads.specs.PhaseStarts.{IsAtPhase, IsCast, CanPlayPhase, StopsPhase}
+use Rattle.many_threads.specs.PhaseEnds.{all_seats, IsShared, IsClosed, ArePlayed, AreStopped, Tells, ThreadsCome, PlaysThreads, ThreadsLeave}
+use Rattle.many_threads.proofs.CrewLemmas.{cast_length}
 use Rattle.many_threads.proofs.PartLemmas.{placed_left, flusher_begins}
 use Rattle.many_threads.proofs.ClosingLemmas.{line_is_over, clock_is_over, clock_stops}
 use Rattle.many_threads.proofs.AccountLemmas.{IsIn, AllInRoles, made_of_role}
@@ -137,11 +142,26 @@ sent_meets met now taken meets = ap (λ (p : PutterState Flagged). p.sent) meets
 
 -- ---- a phase
 
-module _ (s : Scene) (p : SharedPort) (rs : List (Option PlainRole)) (v w : PortValue) (dealt : Seats) (back : PhaseBack) (steps : List LineStep) (ticks run : ℕ) (line : LineState) (putter : PutterState Flagged)
-    (within : v.terminal.phase < length s.session.phases) (start : IsAtPhase s v.terminal.phase v putter line run) (knows : KnowsTaken (length v.flip.taken) putter.heads)
-    (script : steps ≡ line_on s.port (phase_at s.session v.terminal.phase)) (asked : ticks ≡ ticks_on s.port (phase_at s.session v.terminal.phase))
-    (shared : IsShared (name_of_port p).callers v p dealt) (all : (name_of_port p).callers ≡ sum v.counts) (are : IsCast s v.terminal.phase (name_of_port p).callers rs)
-    (come : ThreadsCome p rs steps ticks run line putter dealt back) (closed : IsClosed p back.seats w) where
+module _ (s : Scene) (p : SharedPort) (crew : Crew) (rest : PortSeat) (v w : PortValue) (back : PhaseBack)
+    (within : v.terminal.phase < length s.session.phases) (start : IsAtPhase s v.terminal.phase v crew.line.receiver.putter crew.line.receiver.line crew.flusher.run) (knows : KnowsTaken (length v.flip.taken) crew.line.receiver.putter.heads)
+    (script : crew.line.steps.now.items ≡ line_on s.port (phase_at s.session v.terminal.phase)) (asked : crew.clock.ticks ≡ ticks_on s.port (phase_at s.session v.terminal.phase))
+    (shared : IsShared (name_of_port p).callers v p (seats_of crew rest)) (all : (name_of_port p).callers ≡ sum v.counts) (are : IsCast s v.terminal.phase (name_of_port p).callers (cast_of crew.callers))
+    (come : ThreadsCome p crew back) (closed : IsClosed p back.seats w) where
+  abbrev rs : List (Option PlainRole)
+  rs = cast_of crew.callers
+
+  abbrev steps : List LineStep
+  steps = crew.line.steps.now.items
+
+  abbrev ticks : ℕ
+  ticks = crew.clock.ticks
+
+  abbrev line : LineState
+  line = crew.line.receiver.line
+
+  abbrev putter : PutterState Flagged
+  putter = crew.line.receiver.putter
+
   abbrev m : ℕ
   m = (name_of_port p).callers
 
@@ -249,12 +269,12 @@ module _ (s : Scene) (p : SharedPort) (rs : List (Option PlainRole)) (v w : Port
       let few = clock_stops m (sum w.counts) ticks xs ys back.seats.clock placed clock_keeps (from_start (λ zs. StopsClock (m + 2) ticks zs back.seats.clock) h) in
       omega (arith, few, ap (λ (n : Marks). n.tick) marks_w, ap (λ (n : Marks). n.tick) marks_v, asked)
 
-  stops_put : PlaysLine (m + 1) steps line back.receiver.line putter back.receiver.putter (opening_history p) back.seats.line ⊎ RunsLine steps line back.receiver.line putter back.receiver.putter
-      → HasPut v back.receiver.putter back.receiver.line (before ++ closed_script steps) × (back.receiver.line.most ≡ line.most)
-  stops_put (inl h) = (put_plays back.receiver.putter back.receiver.line (opening_history p) h, h.runs.most)
-  stops_put (inr h) = (put_runs back.receiver.putter back.receiver.line h, h.most)
+  stops_put : PlaysLine (m + 1) steps line back.line putter back.putter (opening_history p) back.seats.line ⊎ RunsLine steps line back.line putter back.putter
+      → HasPut v back.putter back.line (before ++ closed_script steps) × (back.line.most ≡ line.most)
+  stops_put (inl h) = (put_plays back.putter back.line (opening_history p) h, h.runs.most)
+  stops_put (inr h) = (put_runs back.putter back.line h, h.most)
 
-  pub phase_stops : AreStopped p steps ticks line putter back → StopsPhase s k v w back.receiver.putter line back.receiver.line
+  pub phase_stops : AreStopped p crew back → StopsPhase s k v w back.putter line back.line
   phase_stops h =
       let put = stops_put h.line_runs in
       let least = saw_full (name_of_port p) (all_seats back.seats) ys h.full closed.all in
@@ -269,23 +289,23 @@ module _ (s : Scene) (p : SharedPort) (rs : List (Option PlainRole)) (v w : Port
         full = omega (arith, least, limit, part.of_session.limit, closed.port.few, journal_length);
         ring = ring;
         capacity = capacity;
-        has_put = put_at back.receiver.putter back.receiver.line put.0;
+        has_put = put_at back.putter back.line put.0;
         most = put.1;
       }
 
   -- ---- the phase may end
 
-  module _ (next : ℕ) (played : ArePlayed p rs steps ticks run line putter dealt back next) where
+  module _ (next : ℕ) (played : ArePlayed p crew back next) where
     abbrev zs : List (Stamped EntryWithCall)
     zs = list_seen back.seats.flusher
 
-    flusher : PlaysFlusher (name_of_port p) run dealt.flusher next back.seats.flusher
+    flusher : PlaysFlusher (name_of_port p) crew.flusher.run crew.flusher.seat next back.seats.flusher
     flusher = played.flusher
 
     flusher_from : Begins xs zs
     flusher_from =
         subst (λ (l : List (Stamped EntryWithCall)). Begins l zs) (shared.dealt.flusher.seen ∙ shared.opening)
-        (flusher_begins (name_of_port p) run dealt.flusher (flusher.last ∷ flusher.runs) next back.seats.flusher flusher.flushes)
+        (flusher_begins (name_of_port p) crew.flusher.run crew.flusher.seat (flusher.last ∷ flusher.runs) next back.seats.flusher flusher.flushes)
 
     -- what was made before the flusher's last look, and after it
     abbrev seen : List (Stamped EntryWithCall)
@@ -390,8 +410,8 @@ module _ (s : Scene) (p : SharedPort) (rs : List (Option PlainRole)) (v w : Port
 
     -- ---- the line
 
-    h : PlaysLine (m + 1) steps line back.receiver.line putter back.receiver.putter xs back.seats.line
-    h = from_start (λ l. PlaysLine (m + 1) steps line back.receiver.line putter back.receiver.putter l back.seats.line) played.line_plays
+    h : PlaysLine (m + 1) steps line back.line putter back.putter xs back.seats.line
+    h = from_start (λ l. PlaysLine (m + 1) steps line back.line putter back.putter l back.seats.line) played.line_plays
 
     abbrev front : List PlainEntry
     front = entries_in h.found.0
@@ -400,37 +420,37 @@ module _ (s : Scene) (p : SharedPort) (rs : List (Option PlainRole)) (v w : Port
     rear = entries_in line_keeps.0
 
     three_parts : session.0 ≡ h.found.0 ++ h.last ∷ line_keeps.0
-    three_parts = line_parts m (m + 3) steps line back.receiver.line putter back.receiver.putter xs ys back.seats.line session h line_keeps
+    three_parts = line_parts m (m + 3) steps line back.line putter back.putter xs ys back.seats.line session h line_keeps
 
     entries_parts : entries_in session.0 ≡ front ++ h.last.what.entry ∷ rear
     entries_parts = ap entries_in three_parts ∙ entries_append h.found.0 (h.last ∷ line_keeps.0)
 
-    sent_now : back.receiver.putter.sent ≡ h.met.sent
-    sent_now = sent_meets h.met back.receiver.putter (chars_at h.before) h.ends.meets
+    sent_now : back.putter.sent ≡ h.met.sent
+    sent_now = sent_meets h.met back.putter (chars_at h.before) h.ends.meets
 
     line_over : ((marks_at ys).line_over ≡ true) × ((marks_at ys).sent ≡ length h.met.sent)
-    line_over = line_is_over m (sum w.counts) steps line back.receiver.line putter back.receiver.putter xs ys back.seats.line placed session line_keeps h
+    line_over = line_is_over m (sum w.counts) steps line back.line putter back.putter xs ys back.seats.line placed session line_keeps h
 
     clock_over : ((marks_at ys).clock_over ≡ true) × ((marks_at ys).tick ≡ (marks_at xs).tick + ticks)
     clock_over = clock_is_over m (sum w.counts) ticks xs ys back.seats.clock placed session clock_keeps (from_start (λ l. PlaysClock (m + 2) ticks l back.seats.clock) played.clock)
 
-    sent_w : w.terminal.sent ≡ length back.receiver.putter.sent
+    sent_w : w.terminal.sent ≡ length back.putter.sent
     sent_w = ap (λ (n : Marks). n.sent) marks_w ∙ (line_over.1 ∙ ap length (sym sent_now))
 
-    put_w : HasPut w back.receiver.putter back.receiver.line (script_of_first s.port s.session (k + 1))
-    put_w = put_at back.receiver.putter back.receiver.line (put_plays back.receiver.putter back.receiver.line xs h)
+    put_w : HasPut w back.putter back.line (script_of_first s.port s.session (k + 1))
+    put_w = put_at back.putter back.line (put_plays back.putter back.line xs h)
 
     placed_front : ArePlaced m (sum w.counts) h.found.0
     placed_front =
         placed_left m (sum w.counts) h.found.0 (h.last ∷ line_keeps.0)
         (subst (ArePlaced m (sum w.counts)) three_parts (placed_right m (sum w.counts) xs session.0 (subst (ArePlaced m (sum w.counts)) session.1 placed)))
 
-    completes : (more : List Overrun) → All (λ o. received_before s.port s.session (k + 1) ≤ o.at) more → CompletesPhase s.port s.session (back.receiver.line.report.overruns.items ++ more) k v.terminal w.terminal
+    completes : (more : List Overrun) → All (λ o. received_before s.port s.session (k + 1) ≤ o.at) more → CompletesPhase s.port s.session (back.line.report.overruns.items ++ more) k v.terminal w.terminal
     completes more past =
         let list : List Flagged = received_list (script_of_first s.port s.session (k + 1)) in
-        let kept : back.receiver.putter.sent ≡ kept_list list back.receiver.line.report.overruns.items =
-        HandsOver-kept w.flip.capacity list back.receiver.putter.sent back.receiver.putter.heads back.receiver.line.report.overruns.items put_w.hands_over in
-        let also : kept_list list (back.receiver.line.report.overruns.items ++ more) ≡ kept_list list back.receiver.line.report.overruns.items = kept_later list back.receiver.line.report.overruns.items more past in
+        let kept : back.putter.sent ≡ kept_list list back.line.report.overruns.items =
+        HandsOver-kept w.flip.capacity list back.putter.sent back.putter.heads back.line.report.overruns.items put_w.hands_over in
+        let also : kept_list list (back.line.report.overruns.items ++ more) ≡ kept_list list back.line.report.overruns.items = kept_later list back.line.report.overruns.items more past in
         record {
           line = ap (λ (n : Marks). n.line_over) marks_w ∙ line_over.0;
           sent = sent_w ∙ ap (λ (cs : List Flagged). length cs) (kept ∙ sym also);
@@ -443,14 +463,14 @@ module _ (s : Scene) (p : SharedPort) (rs : List (Option PlainRole)) (v w : Port
     most_seen : chars_at h.before ≡ chars_of (v.journal ++ front)
     most_seen = chars_before (m + 1) xs h.before v.journal h.found was.entries
 
-    saw : HasSeen s k (length (chars_of v.journal)) (length (chars_of (v.journal ++ front))) line back.receiver.line
+    saw : HasSeen s k (length (chars_of v.journal)) (length (chars_of (v.journal ++ front))) line back.line
     saw =
-        overruns_seen s k (length (chars_of v.journal)) (length (chars_of (v.journal ++ front))) v putter h.met line back.receiver.line before steps refl
+        overruns_seen s k (length (chars_of v.journal)) (length (chars_of (v.journal ++ front))) v putter h.met line back.line before steps refl
         (ap (λ (l : List LineStep). length (received_list l)) (sym next_script)) start.has_put h.runs
         (subst (λ (n : ℕ). KnowsTaken n putter.heads) (ap length (sym shared.port.chars)) knows) knows.rise
-        (subst (λ (cs : List Flagged). All (λ n. n ≤ length cs) h.met.heads) most_seen (heads_meet h.met back.receiver.putter (chars_at h.before) h.ends.meets))
+        (subst (λ (cs : List Flagged). All (λ n. n ≤ length cs) h.met.heads) most_seen (heads_meet h.met back.putter (chars_at h.before) h.ends.meets))
 
-    pub phase_plays : PlaysThreads s k v w back.receiver.putter line back.receiver.line next
+    pub phase_plays : PlaysThreads s k v w back.putter line back.line next
     phase_plays = record {
       of_session = part.of_session;
       front = front;
@@ -476,13 +496,54 @@ module _ (s : Scene) (p : SharedPort) (rs : List (Option PlainRole)) (v w : Port
       most = h.runs.most;
     }
 
-pub threads_leave : (s : Scene) (p : SharedPort) (rs : List (Option PlainRole)) (old : Ends) (w : PortValue) (dealt : Seats) (back : PhaseBack) (steps : List LineStep) (ticks run : ℕ)
-    → old.port.terminal.phase < length s.session.phases → IsAtPhase s old.port.terminal.phase old.port old.receiver.putter old.receiver.line run → KnowsTaken (length old.port.flip.taken) old.receiver.putter.heads
-    → steps ≡ line_on s.port (phase_at s.session old.port.terminal.phase) → ticks ≡ ticks_on s.port (phase_at s.session old.port.terminal.phase)
-    → IsShared (name_of_port p).callers old.port p dealt → (name_of_port p).callers ≡ sum old.port.counts → IsCast s old.port.terminal.phase (name_of_port p).callers rs
-    → ThreadsCome p rs steps ticks run old.receiver.line old.receiver.putter dealt back → IsClosed p back.seats w
-    → (end : PhaseEnd) → Tells p rs steps ticks run old.receiver.line old.receiver.putter dealt back end → ThreadsLeave s old (record { port = w; receiver = back.receiver }) end
-threads_leave s p rs old w dealt back steps ticks run within start knows script asked shared all are come closed (Over next) h =
-    phase_plays s p rs old.port w dealt back steps ticks run old.receiver.line old.receiver.putter within start knows script asked shared all are come closed next h
-threads_leave s p rs old w dealt back steps ticks run within start knows script asked shared all are come closed Full h =
-    phase_stops s p rs old.port w dealt back steps ticks run old.receiver.line old.receiver.putter within start knows script asked shared all are come closed h
+-- the seats that were dealt out are those of the crew
+pub dealt_to : (p : SharedPort) (dealt : Seats) (given : LineState) (met : PutterState Flagged) (work : PhaseWork) → AreDealt p dealt → AreDealt p (seats_of (crew_in dealt given met work) dealt.session)
+dealt_to p dealt given met work h = record { callers = h.callers; count = h.count; flusher = h.flusher; line = h.line; clock = h.clock; session = h.session }
+
+module _ (s : Scene) (p : SharedPort) (old : Station) (work : PhaseWork) (dealt : Seats) (w : PortValue) (back : PhaseBack)
+    (can : CanPlayPhase s old work) (knows : KnowsTaken (length old.port.flip.taken) old.putter.heads) (shared : IsShared (length work.cast.now) old.port p dealt)
+    (come : ThreadsCome p (crew_in dealt old.line old.putter work) back) (closed : IsClosed p back.seats w) where
+  abbrev left : Station
+  left = record { port = w; putter = back.putter; line = back.line; steps = old.steps }
+
+  abbrev crew : Crew
+  crew = crew_in dealt old.line old.putter work
+
+  abbrev n : ℕ
+  n = old.port.terminal.phase
+
+  phase : work.phase ≡ n
+  phase = sym can.at_phase.phase
+
+  number : length work.cast.now ≡ (name_of_port p).callers
+  number = sym (ap (λ (x : Name). x.callers) shared.name)
+
+  all : (name_of_port p).callers ≡ sum old.port.counts
+  all = sym number ∙ (sym (cast_length work.scripts.now work.cast.now) ∙ can.roles.count)
+
+  is_shared : IsShared (name_of_port p).callers old.port p (seats_of crew dealt.session)
+  is_shared =
+      let h = subst (λ (i : ℕ). IsShared i old.port p dealt) number shared in
+      record { name = h.name; opening = h.opening; port = h.port; dealt = dealt_to p dealt old.line old.putter work h.dealt }
+
+  are : IsCast s n (name_of_port p).callers (cast_of crew.callers)
+  are = subst (λ (i : ℕ). IsCast s i (name_of_port p).callers (cast_of crew.callers)) phase (subst (λ (i : ℕ). IsCast s work.phase i (cast_of crew.callers)) (sym all) can.roles)
+
+  within : n < length s.session.phases
+  within = subst (λ (i : ℕ). i < length s.session.phases) phase can.within
+
+  at_phase : IsAtPhase s n old.port old.putter old.line work.run
+  at_phase = subst (λ (i : ℕ). IsAtPhase s i old.port old.putter old.line work.run) phase can.at_phase
+
+  script : work.steps.now.items ≡ line_on s.port (phase_at s.session n)
+  script = subst (λ (i : ℕ). work.steps.now.items ≡ line_on s.port (phase_at s.session i)) phase can.steps
+
+  asked : work.ticks ≡ ticks_on s.port (phase_at s.session n)
+  asked = subst (λ (i : ℕ). work.ticks ≡ ticks_on s.port (phase_at s.session i)) phase can.ticks
+
+  leave_here : (end : PhaseEnd) → Tells p crew back end → ThreadsLeave s n old left end
+  leave_here (Over next) h = phase_plays s p crew dealt.session old.port w back within at_phase knows script asked is_shared all are come closed next h
+  leave_here Full h = phase_stops s p crew dealt.session old.port w back within at_phase knows script asked is_shared all are come closed h
+
+  pub threads_leave : ThreadsLeave s work.phase old left back.end
+  threads_leave = subst (λ (i : ℕ). ThreadsLeave s i old left back.end) (sym phase) (leave_here back.end come.told)

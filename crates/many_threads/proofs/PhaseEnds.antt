@@ -24,11 +24,12 @@ use Rattle.one_thread.specs.Roles.{Scene}
 use Rattle.one_thread.proofs.LineSteps.{has_put_met, has_put_at, sent_met}
 use Rattle.one_thread.proofs.Places.{in_phases_more}
 use Rattle.tty_port.specs.Seen.{run_after}
-use Rattle.many_threads.specs.declared.phases.Ends.{Ends}
-use Rattle.many_threads.specs.declared.phases.PhaseEnd.{PhaseEnd}
-use Rattle.many_threads.specs.declared.phases.PhaseEnd.TheVariants.{Over, Full}
-use Rattle.many_threads.specs.Stations.{IsOfSession, IsAtPhase, PlaysPhase, StopsPhase}
-use Rattle.many_threads.specs.Ends.{PlaysThreads, ThreadsLeave, EndsOrStops, PhaseComes}
+use Rattle.one_thread.specs.declared.phases.Station.{Station}
+use Rattle.many_threads.specs.declared.shared_phase.PhaseWork.{PhaseWork}
+use Rattle.many_threads.specs.declared.shared_phase.PhaseEnd.{PhaseEnd}
+use Rattle.many_threads.specs.declared.shared_phase.PhaseEnd.TheVariants.{Over, Full}
+use Rattle.many_threads.specs.PhaseStarts.{IsOfSession, IsAtPhase, CanPlayPhase, PlaysPhase, StopsPhase}
+use Rattle.many_threads.specs.PhaseEnds.{PlaysThreads, ThreadsLeave, EndsOrStops, PhaseComes}
 
 agrees_push : (f g : ℕ → ℕ → Option PlainCall) (es : List PlainEntry) (e : PlainEntry) → AgreesOn f g es → AgreesAt f g e.who e.step e.event → AgreesOn f g (es ++ e ∷ [])
 agrees_push f g [] e h last = (last, tt)
@@ -172,24 +173,20 @@ stops_from s k v w putter now line played h = record {
   most = h.most;
 }
 
-pub leaves_from : (s : Scene) (old left : Ends) (met : PortValue) (now : PutterState Flagged) (end : PhaseEnd) → met ≡ record old.port { flip = after_meeting old.port.flip old.receiver.putter }
-    → ThreadsLeave s (record { port = met; receiver = record { line = old.receiver.line; putter = now } }) left end → ThreadsLeave s old left end
-leaves_from s old left met now (Over next) is h =
-    plays_from s old.port.terminal.phase old.port left.port old.receiver.putter left.receiver.putter old.receiver.line left.receiver.line next
-    (subst (λ (x : PortValue). PlaysThreads s x.terminal.phase x left.port left.receiver.putter old.receiver.line left.receiver.line next) is h)
-leaves_from s old left met now Full is h =
-    stops_from s old.port.terminal.phase old.port left.port old.receiver.putter left.receiver.putter old.receiver.line left.receiver.line
-    (subst (λ (x : PortValue). StopsPhase s x.terminal.phase x left.port left.receiver.putter old.receiver.line left.receiver.line) is h)
+pub leaves_from : (s : Scene) (k : ℕ) (old left : Station) (met : PortValue) (now : PutterState Flagged) (end : PhaseEnd) → met ≡ record old.port { flip = after_meeting old.port.flip old.putter }
+    → ThreadsLeave s k (record { port = met; putter = now; line = old.line; steps = old.steps }) left end → ThreadsLeave s k old left end
+leaves_from s k old left met now (Over next) is h =
+    plays_from s k old.port left.port old.putter left.putter old.line left.line next (subst (λ (x : PortValue). PlaysThreads s k x left.port left.putter old.line left.line next) is h)
+leaves_from s k old left met now Full is h =
+    stops_from s k old.port left.port old.putter left.putter old.line left.line (subst (λ (x : PortValue). StopsPhase s k x left.port left.putter old.line left.line) is h)
 
-pub phase_comes : (s : Scene) (old left : Ends) (u : PortValue) (last : PutterState Flagged) (run next : ℕ) (end : PhaseEnd) → old.port.terminal.phase < length s.session.phases
-    → IsAtPhase s old.port.terminal.phase old.port old.receiver.putter old.receiver.line run → ThreadsLeave s old left (Over next) → EndsOrStops left.port u left.receiver.putter last next end
-    → PhaseComes s old (record { port = u; receiver = record { line = left.receiver.line; putter = last } }) end
-phase_comes s old left u last run next (Over after) within start h ends = (
-  subst (IsAtPhase s (old.port.terminal.phase + 1) u last left.receiver.line) (sym ends.0)
-      (next_begins s old.port.terminal.phase old.port left.port u old.receiver.putter left.receiver.putter last old.receiver.line left.receiver.line run next within start h ends.1),
-  phase_is_played s old.port.terminal.phase old.port left.port u old.receiver.putter left.receiver.putter last old.receiver.line left.receiver.line run next within start h ends.1,
+pub phase_comes : (s : Scene) (old left : Station) (u : PortValue) (last : PutterState Flagged) (work : PhaseWork) (next : ℕ) (end : PhaseEnd) → CanPlayPhase s old work
+    → ThreadsLeave s work.phase old left (Over next) → EndsOrStops left.port u left.putter last next end → PhaseComes s work.phase old (record { port = u; putter = last; line = left.line; steps = left.steps }) end
+phase_comes s old left u last work next (Over after) can h ends = (
+  subst (IsAtPhase s (work.phase + 1) u last left.line) (sym ends.0) (next_begins s work.phase old.port left.port u old.putter left.putter last old.line left.line work.run next can.within can.at_phase h ends.1),
+  phase_is_played s work.phase old.port left.port u old.putter left.putter last old.line left.line work.run next can.within can.at_phase h ends.1,
 )
-phase_comes s old left u last run next Full within start h ends =
-    let stops = threads_stop s old.port.terminal.phase old.port left.port left.receiver.putter old.receiver.line left.receiver.line next h ends.0 in
-    subst (λ (x : PortValue). StopsPhase s old.port.terminal.phase old.port x last old.receiver.line left.receiver.line) (sym ends.1)
-    (subst (λ (q : PutterState Flagged). StopsPhase s old.port.terminal.phase old.port left.port q old.receiver.line left.receiver.line) (sym ends.2) stops)
+phase_comes s old left u last work next Full can h ends =
+    let stops = threads_stop s work.phase old.port left.port left.putter old.line left.line next h ends.0 in
+    subst (λ (x : PortValue). StopsPhase s work.phase old.port x last old.line left.line) (sym ends.1)
+    (subst (λ (q : PutterState Flagged). StopsPhase s work.phase old.port left.port q old.line left.line) (sym ends.2) stops)

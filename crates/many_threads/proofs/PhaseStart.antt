@@ -11,22 +11,27 @@ use Rattle.tty_calls.specs.Limits.{IsWithinLimits}
 use Rattle.tty_terminal.specs.Terminals.{caller_at}
 use Rattle.tty_terminal.specs.Standing.{Standing, standing_of}
 use Rattle.tty_terminal.specs.Marks.{Marks, marks_of}
-use Rattle.journal_check.specs.Legal.{phase_at, first_step}
+use Rattle.journal_check.specs.Legal.{phase_at, first_step, script_of_first}
 use Rattle.port_core.specs.Flips.{MeetsTaker, after_meeting}
 use Rattle.port_core.specs.Ports.{PortValue}
 use Rattle.one_thread.specs.Roles.{Scene, PlainRole, IsRoleOf}
 use Rattle.one_thread.proofs.LineSteps.{has_put_met, has_put_at, sent_met}
 use Rattle.one_thread.proofs.ReceivedLemmas.{arrivals_fit}
 use Rattle.one_thread.proofs.RoleLemmas.{few_scripts, sum_counts}
-use Rattle.tty_port.specs.Inside.{Name}
+use Rattle.one_thread.specs.declared.phases.Station.{Station}
+use Rattle.port_cell.specs.declared.kept.Stamped.{Stamped}
+use Rattle.tty_port.specs.Inside.{Name, EntryWithCall}
 use Rattle.tty_port.specs.Seen.{standing_at, marks_at, next_run, run_after, IsBetween}
 use Rattle.tty_port.specs.Shared.{name_of_port, opening_history}
 use Rattle.tty_port.specs.declared.shared.SharedPort.{SharedPort}
 use Rattle.tty_port.proofs.Histories.{port_stands, port_marks}
-use Rattle.many_threads.specs.declared.stations.Seats.{Seats}
-use Rattle.many_threads.specs.Crews.{CanPlay, CanPlayAll, IsPlayable}
-use Rattle.many_threads.specs.Stations.{IsOfSession, IsAtPhase, IsCast}
-use Rattle.many_threads.specs.Ends.{IsShared}
+use Rattle.many_threads.specs.declared.seats.Seats.{Seats}
+use Rattle.many_threads.specs.declared.shared_phase.PhaseWork.{PhaseWork}
+use Rattle.many_threads.specs.Callers.{plain_cast, CanPlay, CanPlayAll, IsPlayable}
+use Rattle.many_threads.specs.Crew.{CanRun, crew_in}
+use Rattle.many_threads.specs.PhaseStarts.{IsOfSession, IsAtPhase, IsCast, CanPlayPhase}
+use Rattle.many_threads.specs.PhaseEnds.{IsShared}
+use Rattle.many_threads.proofs.CrewLemmas.{cast_length}
 use Rattle.journal_check.proofs.NameLemmas.{first_next}
 use Rattle.journal_check.proofs.TurnLemmas.{first_few}
 
@@ -45,14 +50,30 @@ phase_met s k v putter now line run h meets = record {
   most = h.most;
 }
 
+-- the work is still that of the phase
+pub can_play_met : (s : Scene) (old : Station) (met : PortValue) (now : PutterState Flagged) (work : PhaseWork) → met ≡ record old.port { flip = after_meeting old.port.flip old.putter } → MeetsTaker old.port.flip old.putter now → CanPlayPhase s old work
+    → CanPlayPhase s (record { port = met; putter = now; line = old.line; steps = old.steps }) work
+can_play_met s old met now work is meets can = record {
+  limits = can.limits;
+  within = can.within;
+  at_phase = subst (λ (x : PortValue). IsAtPhase s work.phase x now old.line work.run) (sym is) (phase_met s work.phase old.port old.putter now old.line work.run can.at_phase meets);
+  steps = can.steps;
+  good = can.good;
+  ticks = can.ticks;
+  roles = subst (λ (x : PortValue). IsCast s work.phase (sum x.counts) (plain_cast work.scripts.now work.cast.now)) (sym is) can.roles;
+}
+
 -- ---- seats
 
 pub few_callers : (s : Scene) (v : PortValue) → IsWithinLimits s.session → IsOfSession s v → sum v.counts ≤ 4092
 few_callers s v limits of_session = omega (arith, few_scripts s.port s.session limits, sum_counts s.port s.session, ap sum of_session.counts)
 
--- by the number that the port has of its callers
-pub shared_as : (m : ℕ) (v : PortValue) (p : SharedPort) (seats : Seats) → IsShared m v p seats → IsShared (name_of_port p).callers v p seats
-shared_as m v p seats h = subst (λ (n : ℕ). IsShared n v p seats) (sym (ap (λ (n : Name). n.callers) h.name)) h
+pub few_in_cast : (s : Scene) (old : Station) (work : PhaseWork) → CanPlayPhase s old work → length work.cast.now ≤ 4092
+few_in_cast s old work can =
+    let few = few_callers s old.port can.limits can.at_phase.of_session in
+    let size = cast_length work.scripts.now work.cast.now in
+    let count = can.roles.count in
+    omega (arith, few, size, count)
 
 -- ---- what was known when the port was shared
 
@@ -121,3 +142,39 @@ module _ (s : Scene) (k m : ℕ) (v : PortValue) (p : SharedPort) (seats : Seats
 
   pub can_play : (callers : ℕ) (rs : List (Option PlainRole)) → IsWithinLimits s.session → k < length s.session.phases → IsCast s k callers rs → CanPlayAll p 0 rs
   can_play callers rs limits within are = can_play_from 0 rs limits within (λ i r at. let role = are.roles i r at in (role.0, role.1 ∙ sym (zero-add i)))
+
+-- ---- all of a crew
+
+pub can_run : (s : Scene) (p : SharedPort) (old : Station) (work : PhaseWork) (dealt : Seats) → CanPlayPhase s old work → IsShared (length work.cast.now) old.port p dealt → CanRun p (crew_in dealt old.line old.putter work)
+can_run s p old work dealt can shared =
+    let k = work.phase in
+    let m = length work.cast.now in
+    let v : PortValue = old.port in
+    let at = can.at_phase in
+    let fresh = shared.dealt in
+    let number : (name_of_port p).callers ≡ m = ap (λ (n : Name). n.callers) shared.name in
+    record {
+      line = record {
+        here = fresh.line.here;
+        not_over = ap (λ (l : List (Stamped EntryWithCall)). (marks_at l).line_over) fresh.line.seen ∙ line_opens s k m v p dealt old.putter old.line work.run at shared;
+        ring = ring_opens s k m v p dealt old.putter old.line work.run at shared;
+        sent = subst (λ (l : List (Stamped EntryWithCall)). (marks_at l).sent ≤ length old.putter.sent) (sym fresh.line.seen) (sent_opens s k m v p dealt old.putter old.line work.run at shared);
+        done = (script_of_first s.port s.session k, at.has_put.done);
+        good = can.good;
+        room = room_opens s k m v p dealt old.putter old.line work.run at shared work.steps.now.items can.within can.steps;
+        put = at.has_put.room;
+      };
+      clock = record {
+        here = fresh.clock.here;
+        not_over = ap (λ (l : List (Stamped EntryWithCall)). (marks_at l).clock_over) fresh.clock.seen ∙ clock_opens s k m v p dealt old.putter old.line work.run at shared;
+      };
+      flusher = record {
+        here = fresh.flusher.here;
+        next = run_opens s k m v p dealt old.putter old.line work.run at shared ∙ ap next_run (sym fresh.flusher.seen);
+      };
+      callers = record {
+        seats = fresh.callers;
+        count = fresh.count ∙ number;
+        cast = can_play s k m v p dealt old.putter old.line work.run at shared (sum v.counts) (plain_cast work.scripts.now work.cast.now) can.limits can.within can.roles;
+      };
+    }

@@ -1,6 +1,6 @@
 -- A port before it was shared, and after its sharing ended: the part of the journal between them.
 use Rattle.std.specs.Prelude.{sum}
-use Rattle.std.proofs.Common.{◌≡◌, ℕ, ◌+◌, List, [], ◌∷◌, ◌++◌, Bool, true, false, if◌then◌else◌, Option, None, refl, sym, ◌∙◌, ap, subst, eq-eqb}
+use Rattle.std.proofs.Common.{◌≡◌, ℕ, ◌+◌, List, [], ◌∷◌, ◌++◌, true, Option, None, refl, sym, ◌∙◌, ap, subst, eq-eqb}
 use Rattle.tty_calls.specs.declared.journals.Who.{Who}
 use Rattle.tty_calls.specs.declared.journals.Who.TheVariants.{Caller, Flusher, Line, Clock, Session}
 use Rattle.tty_calls.specs.Plain.{PlainCall, PlainEvent, PlainEntry}
@@ -22,7 +22,7 @@ use Rattle.tty_port.specs.Placed.{ArePlaced, HaveCalls, IsHistoryOf}
 use Rattle.tty_port.proofs.Histories.{entries_append}
 use Rattle.tty_port.proofs.Keeping.{placed_right}
 use Rattle.many_threads.specs.Parts as parts
-use Rattle.many_threads.specs.Stations.{IsOfSession, IsCast}
+use Rattle.many_threads.specs.PhaseStarts.{IsOfSession, IsCast}
 use Rattle.many_threads.proofs.AccountLemmas.{IsOfPhase, AllInRoles, all_of_phase, calls_of_phase, none_of_session, phases_of_phase}
 use Rattle.journal_check.proofs.Truths.{if_true}
 

@@ -1,5 +1,5 @@
 -- Each role of a phase stands at the number of its caller.
-use Rattle.std.proofs.Common.{◌≡◌, ◌⊎◌, inl, inr, ℕ, zero, suc, ◌<◌, List, [], ◌∷◌, Option, None, Some, length, map, replicate, refl, sym, ◌∙◌, ap, subst, arith}
+use Rattle.std.proofs.Common.{◌≡◌, inl, inr, ℕ, zero, suc, ◌<◌, List, [], ◌∷◌, Option, None, Some, length, map, replicate, refl, sym, ◌∙◌, ap, subst, arith}
 use Rattle.std.specs.Prelude.{slice_get, slice_index_or, slice_set, All, Contains, sum}
 use Rattle.std.proofs.lemmas.List.{length-set, length-replicate, get_or-set_same, get_or-set_other}
 use Rattle.std.proofs.lemmas.List.Elements.{All-head, All-tail, All-nil, All-cons}
@@ -8,9 +8,9 @@ use Rattle.tty_calls.specs.Sessions.{counts_on}
 use Rattle.one_thread.specs.Roles.{Scene, PlainRole, IsRoleOf, AreRolesOf, numbers_in, role_in}
 use Rattle.one_thread.specs.declared.roles.Role.{Role}
 use Rattle.one_thread.proofs.PortLemmas.{some_is}
-use Rattle.many_threads.specs.Crews.{plain_role, plain_cast}
-use Rattle.many_threads.specs.Stations.{IsCast}
-use Rattle.many_threads.specs.Seating.{seated}
+use Rattle.many_threads.specs.Callers.{plain_role, plain_cast}
+use Rattle.many_threads.specs.PhaseStarts.{IsCast}
+use Rattle.many_threads.specs.Cast.{seated}
 use Rattle.many_threads.proofs.CrewLemmas.{cast_length}
 use Rattle.std.proofs.lemmas.Bool.{cases_eq}
 

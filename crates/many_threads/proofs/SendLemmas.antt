@@ -1,5 +1,5 @@
 -- What a line hands over while heads are loaded beside it.
-use Rattle.std.proofs.Common.{◌≡◌, ℕ, ◌+◌, List, [], ◌∷◌, ◌++◌, length, sym, ap, subst, append-nil, append_assoc, refl}
+use Rattle.std.proofs.Common.{◌≡◌, ℕ, List, [], ◌++◌, length, sym, subst, append-nil, append_assoc, refl}
 use Rattle.tty_base.specs.declared.lines.LineStep.{LineStep}
 use Rattle.uart_line.specs.Received.{closed_script}
 use Rattle.tty_base.specs.declared.characters.Flagged.{Flagged}

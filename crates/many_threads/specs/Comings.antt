@@ -1,9 +1,6 @@
 -- What comes of each thread of a phase, whether or not it was denied an entry.
 use Rattle.std.specs.Prelude.{ℕ, ◌+◌, List, IfOk, IfErr, OnOk, OnErr}
-use Rattle.tty_base.specs.declared.characters.Flagged.{Flagged}
 use Rattle.tty_base.specs.declared.lines.LineStep.{LineStep}
-use Rattle.word_ring.specs.Ends.{PutterState}
-use Rattle.uart_line.specs.LineState.{LineState}
 use Rattle.tty_calls.specs.Plain.{PlainCall}
 use Rattle.port_cell.specs.declared.kept.Stamped.{Stamped}
 use Rattle.port_cell.specs.Knowledge.{list_seen}
@@ -13,9 +10,10 @@ use Rattle.tty_port.specs.Calls.{PortSeat}
 use Rattle.tty_port.specs.Shared.{IsHere, name_of_port}
 use Rattle.tty_port.specs.declared.shared.SharedPort.{SharedPort}
 use Rattle.many_threads.specs.Parts.{MakesInRole, PlaysCaller, StopsClock, PlaysClock, RunsLine, PlaysLine, PlaysFlusher, StopsFlusher}
-use Rattle.many_threads.specs.declared.threads.SeatBack.{SeatBack}
-use Rattle.many_threads.specs.declared.threads.FlusherBack.{FlusherBack}
-use Rattle.many_threads.specs.declared.threads.LineBack.{LineBack}
+use Rattle.many_threads.specs.declared.line_part.Receiver.{Receiver}
+use Rattle.many_threads.specs.declared.thread_bodies.SeatBack.{SeatBack}
+use Rattle.many_threads.specs.declared.thread_bodies.FlusherBack.{FlusherBack}
+use Rattle.many_threads.specs.declared.thread_bodies.LineBack.{LineBack}
 
 pub record CallerComes (p : SharedPort) (c first : ℕ) (calls : List PlainCall) (start : List (Stamped EntryWithCall)) (back : SeatBack) : Type 0 where
   pub here : IsHere p c back.seat
@@ -35,8 +33,8 @@ pub record FlusherComes (p : SharedPort) (run : ℕ) (start : PortSeat) (back : 
   pub err : OnErr back.result (StopsFlusher (name_of_port p) run start back.seat)
   pub full : IfErr back.result (λ d. IsFull (name_of_port p) d (list_seen back.seat))
 
-pub record LineComes (p : SharedPort) (steps : List LineStep) (line : LineState) (putter : PutterState Flagged) (start : List (Stamped EntryWithCall)) (back : LineBack) : Type 0 where
-  pub here : IsHere p ((name_of_port p).callers + 1) back.seat
-  pub ok : OnOk back.result (PlaysLine ((name_of_port p).callers + 1) steps line back.receiver.line putter back.receiver.putter start back.seat)
-  pub err : OnErr back.result (RunsLine steps line back.receiver.line putter back.receiver.putter)
-  pub full : IfErr back.result (λ d. IsFull (name_of_port p) d (list_seen back.seat))
+pub record LineComes (p : SharedPort) (steps : List LineStep) (receiver : Receiver) (back : LineBack) : Type 0 where
+  pub here : IsHere p ((name_of_port p).callers + 1) back.receiver.seat
+  pub ok : OnOk back.result (PlaysLine ((name_of_port p).callers + 1) steps receiver.line back.receiver.line receiver.putter back.receiver.putter (list_seen receiver.seat) back.receiver.seat)
+  pub err : OnErr back.result (RunsLine steps receiver.line back.receiver.line receiver.putter back.receiver.putter)
+  pub full : IfErr back.result (λ d. IsFull (name_of_port p) d (list_seen back.receiver.seat))

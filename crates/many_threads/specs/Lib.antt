@@ -1,8 +1,10 @@
+pub mod Needs
 pub mod Parts
 pub mod Comings
-pub mod Crews
-pub mod Dealing
-pub mod Stations
-pub mod Ends
-pub mod Seating
-pub mod Phases
+pub mod Callers
+pub mod Crew
+pub mod Seats
+pub mod PhaseStarts
+pub mod PhaseEnds
+pub mod Cast
+pub mod InPlay

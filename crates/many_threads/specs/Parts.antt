@@ -99,7 +99,8 @@ pub record RunsLine (steps : List LineStep) (old new : LineState) (putter now : 
   pub room : new.most ≤ (2 ^ 63 - length now.sent) + new.handed
   pub rise : IsNonDecreasing putter.heads → IsNonDecreasing now.heads
 
--- the same, and then the line, whose seat has this number, is over with the number of all that was put
+-- the line did these steps, was closed, and then, by the seat with this number, is over with the number of all that was
+-- put
 pub record PlaysLine (seat : ℕ) (steps : List LineStep) (line played : LineState) (putter now : PutterState Flagged) (start : List (Stamped EntryWithCall)) (new : PortSeat) : Type 0 where
   pub met : PutterState Flagged
   pub runs : RunsLine steps line played putter met
@@ -118,8 +119,8 @@ pub record RunMade : Type 0 where
   pub before : PortSeat
   pub after : PortSeat
 
--- The flusher of the port with this name made these flush runs, the latest first, and nothing else. The first has the number
--- `run`, and each other one the number after the run before it, which `next` is after the latest.
+-- The flusher of the port with this name made these flush runs, the latest first, and nothing else. The first has the
+-- number `run`, and each other one the number after the run before it, which `next` is after the latest.
 abbrev pub FlushesRuns : Name → (run : ℕ) → PortSeat → List RunMade → ℕ → PortSeat → Type 0
 FlushesRuns name run start [] next new = (next ≡ run) × MakesNone start new
 FlushesRuns name run start (r ∷ runs) next new =

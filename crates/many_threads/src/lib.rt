@@ -3,19 +3,19 @@
 //! the phase ends.
 #![tactic(auto)]
 
-mod callers;
-mod clocks;
-mod crews;
-mod flushers;
-mod lines;
-mod phases;
-mod playing;
+mod caller_part;
+mod caller_threads;
+mod cast;
+mod clock_part;
+mod crew;
+mod flusher_part;
+mod line_part;
 mod ports;
-mod running;
-mod seating;
-mod starting;
-mod starts;
-mod stations;
-mod threads;
+mod seats;
+mod session;
+mod shared_phase;
+mod start_signal;
+mod thread_bodies;
+mod thread_making;
 
-pub use playing::play;
+pub use session::play;

@@ -6,11 +6,12 @@ ghost use Rattle.tty_calls.specs.Limits.{IsWithinLimits};
 ghost use Rattle.tty_calls.specs.Sessions.{session_of, counts_on};
 ghost use Rattle.one_thread.specs.Played.{IsPlayedOn};
 ghost use Rattle.one_thread.specs.Roles.{Scene, scene_of, names_in};
-ghost use Rattle.many_threads.specs.Phases.{IsBeforePhase, IsInPlay, AreInPlay, CanEnd};
+ghost use Rattle.many_threads.specs.PhaseStarts.{CanPlayPhase};
+ghost use Rattle.many_threads.specs.PhaseEnds.{PhaseComes};
+ghost use Rattle.many_threads.specs.InPlay.{IsBeforePhase, IsInPlay, AreInPlay, CanEnd};
 
-use crate::phases::{Ends, PhaseEnd, play_shared};
-use crate::seating::{caller_count, seat};
-use crate::threads::Receiver;
+use crate::cast::{caller_count, seat_roles};
+use crate::shared_phase::{PhaseEnd, PhaseWork, play_shared};
 use one_thread::{
     Station, counts_of, hang_up, move_on, open_port, roles_of, scripts_of, steps_of, stop, ticks_of,
 };
@@ -21,10 +22,11 @@ use tty_base::NoMemory;
 use tty_calls::{Names, PortEnd, PortRun, Session};
 use tty_port::Gate;
 
-/// A port that is played: the names of its callers, and how many callers its phases have; the port with
-/// its line and their next steps; and what its latest phase came to.
+/// A port that is played: its number, the names of its callers, and how many callers its phases have; the
+/// port with its line and their next steps; and what its latest phase came to.
 #[derive(Drop)]
 pub(crate) struct PortInPlay {
+    number: usize,
     names: Names,
     callers: usize,
     station: Station,
@@ -37,12 +39,14 @@ fn open(alloc: Global, session: &Session, number: usize) -> Result<PortInPlay, N
     requires port { number < (session_of session.now).ports }
     ensures { IfOk result (IsInPlay (scene_of number session.now) 0) }
 {
+    let counts = counts_of(alloc, session, number)?;
+    let callers = caller_count(counts.as_slice());
     let names = Names::on_port(alloc, session, number)?;
     let station = open_port(alloc, session, number, &names)?;
-    let counts = counts_of(alloc, session, number)?;
     Ok(PortInPlay {
+        number,
         names,
-        callers: caller_count(counts.as_slice()),
+        callers,
         station,
         end: PhaseEnd::Over(0),
     })
@@ -51,7 +55,8 @@ fn open(alloc: Global, session: &Session, number: usize) -> Result<PortInPlay, N
 /// All ports at the beginning of a session.
 pub(crate) fn open_all(alloc: Global, session: &Session) -> Result<Vec<PortInPlay>, NoMemory>
     requires { IsWithinLimits (session_of session.now) }
-    ensures { IfOk result (λ all. AreInPlay (session_of session.now) 0 all.items × (length all.items ≡ (session_of session.now).ports)) }
+    ensures { IfOk result (λ all. AreInPlay (session_of session.now) 0 all.items
+        × (length all.items ≡ (session_of session.now).ports)) }
 {
     let mut all = Vec::new(alloc);
     for number in 0..usize::from(session.ports) {
@@ -60,71 +65,75 @@ pub(crate) fn open_all(alloc: Global, session: &Session) -> Result<Vec<PortInPla
     Ok(all)
 }
 
+/// Plays a phase of a port by its work. The callers' next steps are left as they are.
+fn play_work<R: Threads + Wait + Sync, G: Gate + Sync>(
+    rt: &R,
+    alloc: Global,
+    gate: &G,
+    port: PortInPlay,
+    work: PhaseWork<'_>,
+) -> Result<PortInPlay, NoMemory>
+    ghost scene: { Scene }
+    requires { CanPlayPhase scene port.station work }
+    ensures comes { IfOk result (λ r. PhaseComes scene work.entry.phase port.station r.station r.end) }
+    ensures steps { IfOk result (λ r. r.station.steps ≡ port.station.steps) }
+    ensures number { IfOk result (λ r. r.number ≡ port.number) }
+    ensures names { IfOk result (λ r. r.names ≡ port.names) }
+    ensures callers { IfOk result (λ r. r.callers ≡ port.callers) }
+{
+    let PortInPlay {
+        number,
+        names,
+        callers,
+        station,
+        end: _,
+    } = port;
+    let (station, end) = play_shared(rt, alloc, gate, station, work)?;
+    Ok(PortInPlay {
+        number,
+        names,
+        callers,
+        station,
+        end,
+    })
+}
+
 /// Plays a phase of a port whose journal is not full, and whose next flush run has this number.
 fn play_on<R: Threads + Wait + Sync, G: Gate + Sync>(
     rt: &R,
     alloc: Global,
     session: &Session,
-    number: usize,
     gate: &G,
     k: usize,
     port: PortInPlay,
     run: u32,
 ) -> Result<PortInPlay, NoMemory>
     ghost scene: { Scene }
-    requires scene { scene ≡ scene_of number session.now }
+    requires scene { scene ≡ scene_of port.number session.now }
     requires within { IsWithinLimits (session_of session.now) }
     requires phase { k < length (session_of session.now).phases }
-    requires known { number < (session_of session.now).ports }
-    requires names { port.names ≡ names_in (scene_of number session.now) }
-    requires callers { port.callers ≡ sum (counts_on number (session_of session.now)) }
+    requires known { port.number < (session_of session.now).ports }
+    requires names { port.names ≡ names_in (scene_of port.number session.now) }
+    requires callers { port.callers ≡ sum (counts_on port.number (session_of session.now)) }
     requires before { IsBeforePhase scene k port.station run }
     ensures { IfOk result (IsInPlay scene (k + 1)) }
 {
-    let PortInPlay {
-        names,
-        callers,
-        station,
-        end: _,
-    } = port;
-    let Station {
-        port,
-        putter,
-        line,
-        mut steps,
-    } = station;
+    let number = port.number;
     let scripts = scripts_of(session, k);
-    let roles = roles_of(alloc, session, number, k, &names, steps.as_slice())?;
-    let cast = seat(alloc, roles.as_slice(), callers)?;
-    let ends = Ends {
-        port,
-        receiver: Receiver { line, putter },
-    };
-    let (ends, end) = play_shared(
-        rt,
-        alloc,
-        gate,
-        ends,
+    let steps = port.station.steps.as_slice();
+    let roles = roles_of(alloc, session, number, k, &port.names, steps)?;
+    let cast = seat_roles(alloc, roles.as_slice(), port.callers)?;
+    let work = PhaseWork {
+        phase: port.station.port.phase(),
         run,
-        cast.as_slice(),
+        steps: steps_of(session, number, k),
+        ticks: ticks_of(session, number, k),
+        cast: cast.as_slice(),
         scripts,
-        steps_of(session, number, k),
-        ticks_of(session, number, k),
-    )?;
-    move_on(roles.as_slice(), scripts, steps.as_mut_slice());
-    let Ends { port, receiver } = ends;
-    let Receiver { line, putter } = receiver;
-    Ok(PortInPlay {
-        names,
-        callers,
-        station: Station {
-            port,
-            putter,
-            line,
-            steps,
-        },
-        end,
-    })
+    };
+    let mut left = play_work(rt, alloc, gate, port, work)?;
+    move_on(roles.as_slice(), scripts, left.station.steps.as_mut_slice());
+    Ok(left)
 }
 
 /// Plays a phase of a port. One whose journal is full plays no further phase.
@@ -132,19 +141,18 @@ fn play_phase<R: Threads + Wait + Sync, G: Gate + Sync>(
     rt: &R,
     alloc: Global,
     session: &Session,
-    number: usize,
     gate: &G,
     k: usize,
     port: PortInPlay,
 ) -> Result<PortInPlay, NoMemory>
     requires within { IsWithinLimits (session_of session.now) }
     requires phase { k < length (session_of session.now).phases }
-    requires known { number < (session_of session.now).ports }
-    requires in_play { IsInPlay (scene_of number session.now) k port }
-    ensures { IfOk result (IsInPlay (scene_of number session.now) (k + 1)) }
+    requires known { port.number < (session_of session.now).ports }
+    requires in_play { IsInPlay (scene_of port.number session.now) k port }
+    ensures { IfOk result (IsInPlay (scene_of port.number session.now) (k + 1)) }
 {
     match port.end {
-        PhaseEnd::Over(run) => play_on(rt, alloc, session, number, gate, k, port, run),
+        PhaseEnd::Over(run) => play_on(rt, alloc, session, gate, k, port, run),
         PhaseEnd::Full => Ok(port),
     }
 }
@@ -162,22 +170,27 @@ pub(crate) fn play_side_by_side<R: Threads + Wait + Sync, G: Gate + Sync>(
     requires phase { k < length (session_of session.now).phases }
     requires known { length ports.items ≤ (session_of session.now).ports }
     requires in_play { AreInPlay (session_of session.now) k ports.items }
-    ensures { IfOk result (λ all. AreInPlay (session_of session.now) (k + 1) all.items × (length all.items ≡ length ports.items)) }
+    ensures { IfOk result (λ all. AreInPlay (session_of session.now) (k + 1) all.items
+        × (length all.items ≡ length ports.items)) }
 {
     let Some(port) = ports.pop() else {
         return Ok(ports);
     };
-    let number = ports.len();
     let (others, one) = join(
         rt,
         move || -> Result<Vec<PortInPlay>, NoMemory>
-            requires { IsSync R.row × IsSync G.row × IsWithinLimits (session_of session.now) × (k < length (session_of session.now).phases) × (length ports.items ≤ (session_of session.now).ports) × AreInPlay (session_of session.now) k ports.items }
-            ensures { IfOk result (λ all. AreInPlay (session_of session.entry.now) (k + 1) all.items × (length all.items ≡ length ports.items)) }
+            requires { IsSync R.row × IsSync G.row × IsWithinLimits (session_of session.now)
+                × (k < length (session_of session.now).phases) × (length ports.items ≤ (session_of session.now).ports)
+                × AreInPlay (session_of session.now) k ports.items }
+            ensures { IfOk result (λ all. AreInPlay (session_of session.entry.now) (k + 1) all.items
+                × (length all.items ≡ length ports.items)) }
         { play_side_by_side(rt, alloc, session, gate, k, ports) },
         move || -> Result<PortInPlay, NoMemory>
-            requires { IsSync R.row × IsSync G.row × IsWithinLimits (session_of session.now) × (k < length (session_of session.now).phases) × (number < (session_of session.now).ports) × IsInPlay (scene_of number session.now) k port }
-            ensures { IfOk result (IsInPlay (scene_of number session.entry.now) (k + 1)) }
-        { play_phase(rt, alloc, session, number, gate, k, port) },
+            requires { IsSync R.row × IsSync G.row × IsWithinLimits (session_of session.now)
+                × (k < length (session_of session.now).phases) × (port.number < (session_of session.now).ports)
+                × IsInPlay (scene_of port.number session.now) k port }
+            ensures { IfOk result (IsInPlay (scene_of port.number session.entry.now) (k + 1)) }
+        { play_phase(rt, alloc, session, gate, k, port) },
     );
     let mut all = others?;
     all.push(one?)?;
@@ -190,6 +203,7 @@ pub(crate) fn end(port: PortInPlay) -> Result<(PortRun, PortEnd), NoMemory>
     ensures { (s : Scene) → IsInPlay s (length s.session.phases) port → IfOk result (λ played. IsPlayedOn s.port s.session played.0 played.1) }
 {
     let PortInPlay {
+        number: _,
         names: _,
         callers: _,
         station,

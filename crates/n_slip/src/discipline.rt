@@ -1,3 +1,5 @@
+//! N_SLIP: characters of the line become packets that wait, and packets are sent.
+
 ghost use Rattle.std.specs.Prelude.{◌≡◌, ◌+◌, ◌-◌, ◌<◌, ◌≤◌, [], ◌∷◌, ◌++◌, List, length, map, take, drop, nat_le, IfOk, if◌then◌else◌};
 ghost use Rattle.flow_control.specs.Output.{room_of, after_send};
 ghost use Rattle.tty_base.specs.declared.counters.Counts.{Counts};
@@ -13,8 +15,8 @@ use std::alloc::Global;
 use std::marker::Model;
 use tty_base::{Bytes, Flag, Flagged, NoMemory};
 
-/// N_SLIP on a port: it receives packets, of which at most 64 wait to be taken, and sends packets. It takes all its memory
-/// in `new`.
+/// N_SLIP on a port: it receives packets, of which at most 64 wait to be taken, and sends packets. It takes all its
+/// memory in `new`.
 #[derive(Drop)]
 pub struct NSlip {
     decoder: Decoder,
@@ -41,8 +43,8 @@ impl NSlip {
         })
     }
 
-    /// Takes a character of the line. Where it ends a packet, the packet waits, or is dropped where 64 wait already. It counts
-    /// the character's flag, and what the piece was that it ended.
+    /// Takes a character of the line. Where it ends a packet, the packet waits, or is dropped where 64 wait already.
+    /// It counts the character's flag, and what the piece was that it ended.
     pub fn receive(&mut self, c: Flagged, tally: &mut Tally)
         ensures after { self.new ≡ after_character self.old c }
         ensures counts { tally.new ≡ record tally.old { counts = counts_after_character self.old c tally.old.counts } }
@@ -81,8 +83,8 @@ impl NSlip {
         self.queue.first_len()
     }
 
-    /// Takes the oldest packet that waits: its bytes go to the end of `out`, in room for [`NSlip::first_len`] of them. The
-    /// answer is its length.
+    /// Takes the oldest packet that waits: its bytes go to the end of `out`, in room for [`NSlip::first_len`] of
+    /// them. The answer is its length.
     pub fn take_packet(&mut self, out: &mut Bytes) -> u32
         requires some { 0 < length self.old.packets }
         requires room { length (first_packet self.old) ≤ out.old.spare }
@@ -94,8 +96,8 @@ impl NSlip {
         self.queue.take(out)
     }
 
-    /// Sends a packet that was encoded, whole and counted, or else answers false and changes nothing: exactly where its bytes
-    /// exceed the room for held output.
+    /// Sends a packet that was encoded, whole and counted, or else answers false and changes nothing: exactly where
+    /// its bytes exceed the room for held output.
     pub fn send_packet(&mut self, encoded: &[u8], wire: &mut Wire, tally: &mut Tally) -> bool
         requires { length encoded.now ≤ wire.old.spare }
         ensures room { result ≡ nat_le (length encoded.now) (room_of wire.old) }
@@ -138,8 +140,9 @@ impl NSlip {
         1
     }
 
-    /// Takes the characters at the front that stand for themselves within a piece, all at once: none of them is counted.
-    /// Answers how many: none, where the first ends a piece, is flagged or an ESC or after one, or the piece is spoilt.
+    /// Takes the characters at the front that stand for themselves within a piece, all at once: none of them is
+    /// counted. Answers how many: none, where the first ends a piece, is flagged or an ESC or after one, or the piece
+    /// is spoilt.
     #[inline(always)]
     fn receive_run(&mut self, chars: &[Flagged]) -> usize
         ensures within { result ≤ length chars.now }

@@ -1,3 +1,5 @@
+//! The bytes of the packets that wait.
+
 ghost use Rattle.std.specs.Prelude.{◌≡◌, ◌+◌, ◌-◌, ◌≤◌, [], ◌++◌, length, take, drop, IfOk, vec_len, vec_capacity};
 
 use super::queue::MOST;

@@ -8,8 +8,9 @@ ghost use Rattle.n_slip.specs.Discipline.{Slip, fresh_slip, counts_after_charact
 ghost use Rattle.n_slip.specs.History.{Happening, HasSeen, characters_of, outcomes_at};
 ghost use Rattle.n_slip.specs.Counted.{bad_count, packet_count, counts_of_all};
 
-/// A law: of all the pieces that N_SLIP heard, whatever was taken or flushed between them, the bad ones are counted in `pbad`,
-/// and the packets in `pin` and `pfull` together, each of which stands still at 2^64 - 1. A silent piece counts nothing.
+/// A law: of all the pieces that N_SLIP heard, whatever was taken or flushed between them, the bad ones are counted
+/// in `pbad`, and the packets in `pin` and `pfull` together, each of which stands still at 2^64 - 1. A silent piece
+/// counts nothing.
 pub fn pieces_are_counted()
     ensures bad { (events : List Happening) (counts : Counts) → counts.pbad ≤ 18446744073709551615 →
         (counts_of_all fresh_slip events counts).pbad

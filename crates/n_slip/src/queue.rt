@@ -1,3 +1,5 @@
+//! The packets that wait: their bytes and their lengths.
+
 ghost use Rattle.std.specs.Prelude.{◌≡◌, ◌+◌, ◌-◌, ◌*◌, ◌<◌, ◌≤◌, [], ◌∷◌, ◌++◌, length, take, drop, IfOk, slice_index_or};
 
 use crate::kept::Kept;

@@ -1,5 +1,5 @@
--- How far a call moves the column at most, how much room it spends, and that it sets no tick but now: what a caller of many
--- needs.
+-- How far a call moves the column at most, how much room it spends, and that it sets no tick but now: what a caller
+-- of many needs.
 use Rattle.std.proofs.Common.{◌≡◌, ap, ℕ, ◌+◌, ◌*◌, ◌-◌, ◌%◌, ◌^◌, ◌≤◌, Bool, true, false, if◌then◌else◌, not, ◌&&◌, ◌||◌, ◌==◌, nat_le, nat_lt, bit_xor, Option, None, Some, List, [], ◌∷◌, ◌++◌, length, replicate, take, drop, sym, subst, refl, inl, inr, arith, length-append, length-drop}
 use Rattle.std.proofs.lemmas.Bool.{cond_both}
 use Rattle.std.proofs.lemmas.List.{length-replicate, length-take, take-append-drop}
@@ -232,8 +232,8 @@ tally_after_try-signals : (output : Output) (text : List ℕ) (tally : Tally) �
 tally_after_try-signals output text tally =
     cond_both (has_room output text) _ _ (λ (t : Tally). t.signals.spare ≡ tally.signals.spare) (λ _. refl) (λ _. refl)
 
--- A character leaves the column near, since an echo moves it by at most 64 for each of its bytes; the tick of the last byte
--- is now or stays; and it spends at most so much of the room, beyond what was pending.
+-- A character leaves the column near, since an echo moves it by at most 64 for each of its bytes; the tick of the
+-- last byte is now or stays; and it spends at most so much of the room, beyond what was pending.
 pub record Near (now : ℕ) (port port' : OnPort) : Type 0 where
   pub moved : port'.tty.column ≤ port.tty.column + 2 ^ 22
   pub past : port.tty.last ≤ now → port'.tty.last ≤ now

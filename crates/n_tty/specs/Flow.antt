@@ -35,8 +35,8 @@ with_start_sent modes output =
     then record output { noted = false }
     else record (on_wire output (character modes VSTART ∷ [])) { noted = false }
 
--- Input fills, and the sender was not yet told to stop. In canonical mode it is told only where a piece is complete, since
--- otherwise nobody could make room.
+-- Input fills, and the sender was not yet told to stop. In canonical mode it is told only where a piece is complete,
+-- since otherwise nobody could make room.
 abbrev pub must_stop : Settings → (unread : ℕ) → (complete : Bool) → Output → Bool
 must_stop modes unread complete output =
     has_flag modes IXOFF && not output.noted && nat_lt 3968 unread && (not (has_flag modes ICANON) || complete)

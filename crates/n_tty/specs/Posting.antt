@@ -32,8 +32,8 @@ abbrev pub tally_after_try : Output → (text : List ℕ) → Tally → Tally
 tally_after_try output text tally =
     if has_room output text then tally else record tally { counts = with_count tally.counts Echo (length text) }
 
--- The echo of one character is posted whole. Where its text does not fit in what can be held under a halt, it is dropped
--- whole, the column stays, and its bytes are counted.
+-- The echo of one character is posted whole. Where its text does not fit in what can be held under a halt, it is
+-- dropped whole, the column stays, and its bytes are counted.
 abbrev pub after_echo : Settings → (echo : List ℕ) → OnPort → OnPort
 after_echo modes echo port =
     let text = posted_echo modes port echo in

@@ -6,7 +6,8 @@ use Rattle.line_store.specs.Unread.{bytes_of, read_size, line_of, after_line}
 use Rattle.read_rule.specs.Ready.{is_ready}
 use Rattle.n_tty.specs.States.{NTtyState, unread_count, has_piece}
 
--- The bytes that a read asking for n takes. No read in canonical mode goes past a piece; another takes what came, whatever it is.
+-- The bytes that a read asking for n takes. No read in canonical mode goes past a piece; another takes what came,
+-- whatever it is.
 abbrev pub bytes_read : Settings → (n : ℕ) → NTtyState → List ℕ
 bytes_read modes n tty =
     if has_flag modes ICANON then line_of (read_size n) tty.items else take (read_size n) (bytes_of tty.items)
@@ -20,8 +21,8 @@ after_read modes n tty =
 abbrev pub is_ready_now : Settings → NTtyState → Bool
 is_ready_now modes tty = nat_lt 0 (unread_count tty) || (character modes VMIN == 0 && character modes VTIME == 0)
 
--- Whether a read asking for n, which began to wait at some tick, can be answered. In canonical mode it takes a whole piece to
--- end the wait.
+-- Whether a read asking for n, which began to wait at some tick, can be answered. In canonical mode it takes a whole
+-- piece to end the wait.
 abbrev pub is_readable : Settings → (nonblock : Bool) → (n since now : ℕ) → NTtyState → Bool
 is_readable modes nonblock n since now tty =
     if has_flag modes ICANON then has_piece tty

@@ -11,7 +11,7 @@ use Rattle.n_tty.specs.declared.roles.Role.TheVariants.{Erase, Kill, WordErase, 
 abbrev pub is_character : Settings → (place byte : ℕ) → Bool
 is_character modes place byte = not (byte == 0) && byte == character modes place
 
--- the same, for a character that works with iexten alone
+-- whether a byte is the control character at a place, and iexten is set
 abbrev pub is_extended : Settings → (place byte : ℕ) → Bool
 is_extended modes place byte = has_flag modes IEXTEN && is_character modes place byte
 
@@ -44,7 +44,8 @@ role_of modes byte =
     else if is_extended modes VEOL2 byte then Delimiter
     else Ordinary
 
--- whether no rule concerns a good byte: none is stripped, steers output, raises a signal, is mapped, edits, is doubled or echoed
+-- whether no rule concerns a good byte: none is stripped, steers output, raises a signal, is mapped, edits, is
+-- doubled or echoed
 abbrev pub is_raw : Settings → Bool
 is_raw modes =
     not (has_flag modes ISTRIP) && not (has_flag modes IXON) && not (has_flag modes ISIG) && not (has_flag modes INLCR)

@@ -45,8 +45,8 @@ has_piece tty = nat_lt 0 (end_count tty.items)
 abbrev pub most_unread : Settings → ℕ
 most_unread modes = if has_flag modes PARMRK then 4092 else 4094
 
--- A character is accepted while there is room. In canonical mode it is also accepted where no piece is complete, so that
--- the line can be ended.
+-- A character is accepted while there is room. In canonical mode it is also accepted where no piece is complete, so
+-- that the line can be ended.
 abbrev pub is_accepting : Settings → NTtyState → Bool
 is_accepting modes tty =
     nat_lt (end_count tty.items) 4096

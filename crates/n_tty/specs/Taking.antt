@@ -11,7 +11,8 @@ pub record MayStore (modes : Settings) (tty : NTtyState) : Type 0 where
   pub accepted : is_accepting modes tty ≡ true
   pub fits : FitsModes modes tty
 
--- it is accepted, there is room on the wire for all that it can post and for a signal, and the column is far from its end
+-- it is accepted, there is room on the wire for all that it can post and for a signal, and the column is far from its
+-- end
 pub record MayTake (modes : Settings) (tty : NTtyState) (output : Output) (tally : Tally) : Type 0 where
   pub accepted : is_accepting modes tty ≡ true
   pub fits : FitsModes modes tty

@@ -1,3 +1,5 @@
+//! N_TTY as a value: what it receives, what a read takes and a write posts, and what new modes and a flush do to it.
+
 ghost use Rattle.std.specs.Prelude.{◌≡◌, ◌+◌, ◌-◌, ◌*◌, ◌%◌, ◌<◌, ◌≤◌, ◌^◌, IfOk, true, not, ◌&&◌, ◌||◌, ◌++◌, length, take, nat_le, nat_lt, if◌then◌else◌};
 ghost use Rattle.tty_modes.specs.Settings.{has_flag};
 ghost use Rattle.tty_modes.specs.declared.places.TheConstants.{ICANON};
@@ -34,8 +36,8 @@ const MOST_ENDS: usize = 4096;
 /// How many bytes one piece of a write takes at most.
 const MOST_WRITTEN: usize = 64;
 
-/// How much room on the wire one character takes at most, beyond what is pending: its echo as it is posted, what taking it
-/// off the screen again can post, and STOP or START.
+/// How much room on the wire one character takes at most, beyond what is pending: its echo as it is posted, what
+/// taking it off the screen again can post, and STOP or START.
 pub const CHARACTER_ROOM: usize = 41;
 
 /// N_TTY: unread input in pieces, the line that is being edited, and the column of what was posted. Only

@@ -28,7 +28,7 @@ pub fn apply_ixoff_rule(unread: usize, complete: bool, modes: &Modes, wire: &mut
     }
 }
 
-/// The same where ixoff is set, or STOP was sent.
+/// Applies the rule for ixoff where ixoff is set, or STOP was sent.
 #[inline(never)]
 fn steer_sender(unread: usize, complete: bool, modes: &Modes, wire: &mut Wire)
     requires { 0 < wire.old.spare }

@@ -10,7 +10,8 @@ ghost use Rattle.n_tty.specs.Receiving.{after_character};
 ghost use Rattle.n_tty.specs.Room.{PortIgnoresRoom};
 ghost use Rattle.n_tty.specs.Writing.{piece_size, piece_text, after_write};
 
-/// A law: how much room is reserved makes no difference to what a character, a piece of a write or the rule for ixoff does.
+/// A law: how much room is reserved makes no difference to what a character, a piece of a write or the rule for ixoff
+/// does.
 pub fn room_makes_no_difference()
     ensures character { (modes : Settings) (now : ℕ) (c : Flagged) → PortIgnoresRoom (after_character modes now c) }
     ensures rule { (modes : Settings) (unread : ℕ) (complete : Bool) → IgnoresRoom (after_ixoff_rule modes unread complete) }

@@ -53,7 +53,8 @@ pub fn is_raw(modes: &Modes) -> bool
         && !modes.has(ECHO)
 }
 
-/// Whether a byte is from blank to tilde, and no rule but those of storing and echo concerns it, where it is not quoted.
+/// Whether a byte is from blank to tilde, and no rule but those of storing and echo concerns it, where it is not
+/// quoted.
 pub fn is_plain(b: u8, modes: &Modes) -> bool
     ensures { IsTrue result → IsPlain modes.now b }
 {
@@ -92,7 +93,7 @@ pub fn is_character(place: u8, b: u8, modes: &Modes) -> bool
     b != 0 && b == modes.cc(place)
 }
 
-/// The same, for a character that works with iexten alone.
+/// Whether a byte is the control character at a place, and iexten is set.
 fn is_extended(place: u8, b: u8, modes: &Modes) -> bool
     ensures { result ≡ is_extended modes.now place b }
 {

@@ -1,3 +1,5 @@
+//! Worked rows, as laws: editing with its echo, parity errors and breaks, long lines, and flow control.
+
 ghost use Rattle.std.specs.Prelude.{◌≡◌, false, true, [], ◌∷◌, ◌++◌, length, replicate};
 ghost use Rattle.tty_base.specs.declared.characters.Flag.TheVariants.{Normal, Break, Parity};
 ghost use Rattle.tty_base.specs.declared.counters.Signal.TheVariants.{Int};

@@ -1,3 +1,5 @@
+//! The classes of bytes by which words and characters are erased.
+
 ghost use Rattle.std.specs.Prelude.{◌≡◌, ◌-◌, ◌≤◌, ◌↔◌, IsTrue, length};
 ghost use Rattle.std.specs.List.{suffix_len};
 ghost use Rattle.n_tty_edit.specs.Bytes.{is_of};

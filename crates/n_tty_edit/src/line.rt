@@ -1,3 +1,5 @@
+//! The line that is being edited, and what erasing takes from it.
+
 ghost use Rattle.std.specs.Prelude.{◌≡◌, ◌+◌, ◌-◌, ◌<◌, ◌≤◌, ◌↔◌, IsTrue, IfOk, List, [], ◌∷◌, ◌++◌, length, take, slice_index, vec_len, vec_capacity};
 ghost use Rattle.std.specs.List.{AllByRecursion};
 ghost use Rattle.n_tty_edit.specs.Typed.{IsTyped, bytes_in};

@@ -1,3 +1,5 @@
+//! How many columns a byte takes on the screen, a TAB by what stands before it.
+
 ghost use Rattle.std.specs.Prelude.{◌≡◌, ◌<◌, ◌≤◌, ◌-◌, ◌%◌, length, take, slice_index};
 ghost use Rattle.n_tty_edit.specs.Width.{plain_width, width_since_tab, width_of};
 

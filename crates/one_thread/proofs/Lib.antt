@@ -17,8 +17,6 @@ pub mod LineCuts
 pub mod LineEnds
 pub mod LineLoop
 pub mod LineWindows
-pub mod TheEntry
-pub mod OneJournal
 pub mod NameLemmas
 pub mod RoleLemmas
 pub mod CastLemmas

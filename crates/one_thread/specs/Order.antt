@@ -1,5 +1,5 @@
--- The order of one thread: whose turn it is after the entries so far, and how much a flush takes. It is read off the session, the
--- terminal, the entry before, and the steps that the line has done.
+-- The order of one thread: whose turn it is after the entries so far, and how much a flush takes. It is read off the
+-- session, the terminal, the entry before, and the steps that the line has done.
 use Rattle.std.specs.Prelude.{◌≡◌, ◌≤◌, ◌<◌, ◌+◌, ◌==◌, ℕ, List, [], ◌∷◌, ◌++◌, Bool, false, not, ◌&&◌, ◌||◌, nat_le, IsTrue, MatchBool, Option, None, Some, is_some, if◌then◌else◌, length, flat_map, reverse, sum, option_to_list, slice_index_or}
 use Rattle.tty_base.specs.declared.characters.Flagged.{Flagged}
 use Rattle.tty_base.specs.declared.lines.LineStep.{LineStep}
@@ -71,8 +71,8 @@ pub record Place : Type 0 where
 abbrev pub due : ℕ → PlainSession → Place → List Flagged
 due p session s = front_to_flush s.terminal (slice_index_or (cuts_in p session s.terminal.phase) s.cuts [])
 
--- After the line's end: a flush, else the first caller that can go on, else the clock, else the first caller that waits, which is
--- told that it waits in vain, else the end of the phase.
+-- After the line's end: a flush, else the first caller that can go on, else the clock, else the first caller that
+-- waits, which is told that it waits in vain, else the end of the phase.
 abbrev pub turn_by_rank : (ℕ → ℕ → Option PlainCall) → List ℕ → Terminal → Who
 turn_by_rank calls callers t =
     if not (nothing_to_flush t) then Flusher
@@ -112,8 +112,8 @@ abbrev pub is_after_flush : Option PlainEntry → Bool
 is_after_flush None = false
 is_after_flush (Some e) = is_flush e.event
 
--- Before the line's end each flush is a run of its own, of what is due; after it each takes as much as it can, and flushes that
--- follow each other are one run.
+-- Before the line's end each flush is a run of its own, of what is due; after it each takes as much as it can, and
+-- flushes that follow each other are one run.
 abbrev pub IsPiece : ℕ → PlainSession → Place → ℕ → List Flagged → Type 0
 IsPiece p session s part chars =
     MatchBool s.terminal.line_over

@@ -47,8 +47,8 @@ pub record SeesWithin (s : Scene) (k least most : ℕ) (o : Overrun) : Type 0 wh
   pub sees_least : least ≤ o.seen
   pub sees_most : o.seen ≤ most
 
--- The phases before phase k were played: whatever follows of journal and overruns, their entries are finished parts, and their
--- overruns are seen.
+-- The phases before phase k were played: whatever follows of journal and overruns, their entries are finished parts,
+-- and their overruns are seen.
 pub record HavePlayed (s : Scene) (k : ℕ) (journal : List PlainEntry) (overruns : List Overrun) : Type 0 where
   pub up_to : IsUpTo k journal
   pub ticks : HasFewTicks s journal

@@ -15,8 +15,8 @@ pub record IsEndOf (t : Terminal) (end : PortEnd) : Type 0 where
   pub generation : end.generation ≡ t.generation
   pub wire : end.wire.items ≡ t.output.wire
 
--- A port was played: its run is one of the session as far as it went, and leads to the terminal of its end. Unless its journal is
--- full it is legal.
+-- A port was played: its run is one of the session as far as it went, and leads to the terminal of its end. Unless
+-- its journal is full it is legal.
 pub record IsPlayedOn (p : ℕ) (session : PlainSession) (run : PortRun) (end : PortEnd) : Type 0 where
   pub terminal : Terminal
   pub at_end : IsEndOf terminal end

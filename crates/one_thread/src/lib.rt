@@ -2,7 +2,6 @@
 #![tactic(auto)]
 
 mod after_line;
-mod laws;
 mod line;
 mod phases;
 mod playing;
@@ -10,7 +9,6 @@ mod ports;
 mod roles;
 mod rows;
 
-pub use laws::a_session_has_one_journal;
 pub use phases::{Station, scripts_of, steps_of, ticks_of};
 pub use playing::{Played, play};
 pub use ports::{JOURNAL_LIMIT, hang_up, open_port, stop};

@@ -1,3 +1,5 @@
+//! A session played on one thread, and what became of its ports.
+
 ghost use Rattle.std.specs.Prelude.{IfOk};
 ghost use Rattle.tty_calls.specs.Limits.{IsWithinLimits};
 ghost use Rattle.tty_calls.specs.Sessions.{session_of};

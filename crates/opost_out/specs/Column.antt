@@ -17,8 +17,8 @@ posted_text utf8 bytes = map (λ byte. record { byte = byte; utf8 = utf8 }) byte
 abbrev pub posted_text_under : Settings → List ℕ → List PostedByte
 posted_text_under modes bytes = posted_text (has_flag modes IUTF8) bytes
 
--- where the cursor stands after one more byte: CR goes to the line's start, TAB to the next multiple of 8, BS one to the left,
--- and another control character stays, as do NL and a continuation byte of UTF-8
+-- where the cursor stands after one more byte: CR goes to the line's start, TAB to the next multiple of 8, BS one to
+-- the left, and another control character stays, as do NL and a continuation byte of UTF-8
 abbrev pub column_after_byte : ℕ → PostedByte → ℕ
 column_after_byte column sent =
     if sent.utf8 && is_continuation sent.byte then column

@@ -24,8 +24,9 @@ module _ {V N E : Type 0} where
       (first : V) (seats : ℕ) (s : State (Option V) (View N E)) → Rule name list first seats s
       → generation_in (slice_index s.words 0) ≡ generation_of (list first) + total installs_of s.views
 
-  -- While a seat has the turn, the list that it saw last has the generation in the reference word; or the next, where it has
-  -- noted a list of the next and not installed it. A turn begins with nothing noted, so its value has the word's generation.
+  -- While a seat has the turn, the list that it saw last has the generation in the reference word; or the next, where
+  -- it has noted a list of the next and not installed it. A turn begins with nothing noted, so its value has the word's
+  -- generation.
   abbrev pub StandsInTurn : (V → N) → (V → List (Stamped E)) → Type 0
   StandsInTurn name list =
       (first : V) (seats : ℕ) (s : State (Option V) (View N E)) → Rule name list first seats s

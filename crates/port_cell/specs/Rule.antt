@@ -45,11 +45,13 @@ pub record Rule {V N E : Type 0} (name : V → N) (list : V → List (Stamped E)
   pub one_turn : total turns_of s.views ≤ 1
   pub home : total turns_of s.views ≡ 0 → (v : V) × (s.homes ≡ some (Some v) ∷ []) × (name v ≡ name first) × (list v ≡ latest)
   pub out : total turns_of s.views ≡ 1 → s.homes ≡ none ∷ []
-  -- the history: numbers that were not made yet have entries in the opening list alone, and a number is joined once at most
+  -- the history: numbers that were not made yet have entries in the opening list alone, and a number is joined once at
+  -- most
   pub grown : GoesOn (λ k. k < length s.views) (list first) latest
   pub room : (length s.views ≤ seats) × (seats ≤ 4096)
   pub apart : (n : ℕ) → total (joins_of n) s.views ≤ 1
-  -- the references: one seat at most has set the changing bit, and where it has found itself alone nobody holds a reference
+  -- the references: one seat at most has set the changing bit, and where it has found itself alone nobody holds a
+  -- reference
   pub one_mark : total marks_of s.views ≤ 1
   pub lone : 0 < total lone_marks_of s.views → total references_of s.views ≡ 0
   -- the tie: the list has the installed generation, or the next where a raised list was noted and not installed

@@ -19,7 +19,7 @@ module _ {V N E : Type 0} where
     pub named : IsSome (name_of s)
     pub hand : s.me.1 ≡ in_hand (has_turn s)
 
-  -- the same place at the same cell, whose value has a name that never changes
+  -- a seat keeps its place and its cell, whose value has a name that never changes
   pub record IsSameSeat (old new : CellSeat V N E) : Type 0 where
     pub table : new.table_id ≡ old.table_id
     pub id : new.id ≡ old.id

@@ -1,4 +1,5 @@
-// The cell, from its first seat to its last.
+//! The cell itself: how it is made with its seats, and how it ends with all of them.
+
 ghost use Rattle.std.specs.Prelude.{◌≡◌, ℕ, ◌+◌, ◌<◌, ◌≤◌, [], IfOk, length};
 ghost use Rattle.port_cell.specs.Entries.{generation_of, entries_by, GoesOn};
 ghost use Rattle.port_cell.specs.Views.{total, installs_of, first_view};
@@ -40,7 +41,9 @@ pub(crate) const COUNT: usize = 2;
 pub struct Cell<V: Kept> {
     pub(crate) table: Board<V>,
     pub(crate) for_turn: Sleepers,
-    pub(crate) for_change: Waiters,
+    /// Those who wait for a change: of references and generations, after which the cell wakes them, or of
+    /// entries, after which who noted them does.
+    pub for_change: Waiters,
     ghost counted: { (table.shared.table_id.words ≡ 3) × (table.shared.table_id.slots ≡ 1) },
     ghost some: { 0 < table.shared.key.seats },
 }

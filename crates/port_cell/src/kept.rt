@@ -1,4 +1,5 @@
-// Values with a history.
+//! What a value in a cell has to be: one with a name and a history of stamped entries.
+
 ghost use Rattle.std.specs.Prelude.{◌≡◌, List, length};
 ghost use Rattle.port_cell.specs.Entries.{generation_of};
 

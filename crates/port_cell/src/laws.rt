@@ -1,4 +1,5 @@
-// What holds of a cell between any two steps.
+//! Laws of every state that the rule of a cell allows.
+
 ghost use Rattle.port_cell.specs.Laws.{NobodyHoldsBesideOneAlone, GrowsByInstalling, StandsInTurn};
 
 use crate::kept::Kept;

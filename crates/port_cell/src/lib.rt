@@ -14,8 +14,6 @@ mod plays;
 mod references;
 mod rule;
 mod sleepers;
-#[cfg(test)]
-mod tests;
 mod turns;
 mod view;
 

@@ -1,4 +1,5 @@
-// What each step tells. These types are for the proofs alone.
+//! The steps of a seat as the table under a cell takes them, for proofs alone.
+
 ghost use Rattle.std.specs.Prelude.{List, []};
 ghost use Rattle.port_cell.specs.declared.kept.Stamped.{Stamped};
 ghost use Rattle.port_cell.specs.Plays.{Enters, Leaves, Marks, Looks, Installs, Takes, Notes, Gives};

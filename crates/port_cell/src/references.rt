@@ -1,4 +1,6 @@
-// The reference word: who uses the generation, and who changes it.
+//! References to the generation: taking one and giving it back, and marking the cell to install the next
+//! generation.
+
 ghost use Rattle.std.specs.Prelude.{◌≡◌, ◌↔◌, ◌+◌, ◌<◌, ◌/◌, ◌%◌, true, false, IsTrue, IfOk, IfErr, OnOk, OnErr};
 ghost use Rattle.port_cell.specs.declared.view.User.TheVariants.{Free, Held, Marked, Alone};
 ghost use Rattle.port_cell.specs.Entries.{generation_of};
@@ -100,7 +102,7 @@ impl<V: Kept> Cell<V> {
     {
         let word = self.table.shared.fetch_sub::<Leave>(seat, REFERENCES, USER);
         if is_changing(word) {
-            self.wake();
+            self.for_change.wake();
         }
     }
 
@@ -173,7 +175,7 @@ impl<V: Kept> Cell<V> {
         self.table
             .shared
             .fetch_and::<Leave>(seat, REFERENCES, !CHANGING);
-        self.wake();
+        self.for_change.wake();
     }
 
     /// Installs the generation of the noted value, and takes the changing bit back, in one step.
@@ -197,11 +199,6 @@ impl<V: Kept> Cell<V> {
         self.table
             .shared
             .fetch_add::<Install>(seat, REFERENCES, GENERATION - CHANGING);
-        self.wake();
-    }
-
-    /// Wakes those who wait for a change.
-    pub fn wake(&self) {
         self.for_change.wake();
     }
 }

@@ -1,4 +1,5 @@
-// The rule of the table under a cell.
+//! What the table under a cell is told once, and the rule that it keeps.
+
 use crate::kept::Kept;
 use crate::view::View;
 use atomic_table::TableRule;

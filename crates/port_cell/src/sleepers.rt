@@ -1,4 +1,5 @@
-// Who sleeps until the turn is given back, so that a call where nobody does is no call of the system.
+//! Who sleeps until the turn is given back: announcing it, sleeping, and waking one, so that a call for which nobody
+//! sleeps is no call of the system.
 
 use std::sync::Wait;
 use std::sync::atomic::{AtomicU64, Ordering};

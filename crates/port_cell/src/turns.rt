@@ -1,4 +1,5 @@
-// The turn: the value in one seat's hand.
+//! Turns at the value: waiting for one, noting what was changed, giving it back, and waiting for a change.
+
 ghost use Rattle.std.specs.Prelude.{◌≡◌, ◌<◌, ◌+◌, true, false, Some, IsSome, IfSome, IfNone};
 ghost use Rattle.std.specs.Borrow.{Lends, sem};
 ghost use Rattle.port_cell.specs.contracts.turns.Turn.{the_row};
@@ -93,7 +94,7 @@ impl<V: Kept> Cell<V> {
 
     /// Stores the count of entries, after the value was changed. The list begins with the one that this
     /// turn found or last noted, and the rest is this seat's. Its generation is the installed one, or, by
-    /// a seat that is alone, the next. Those who wait for a change are not woken: `wake` does that.
+    /// a seat that is alone, the next. Those who wait for a change are not woken: who notes wakes them.
     pub fn note(&self, seat: &mut Seat<V>, turn: &mut Turn<V>)
         requires seat { IsSeat (identity_of self.now) seat.old }
         requires turn { has_turn seat.old ≡ true }
@@ -147,13 +148,8 @@ impl<V: Kept> Cell<V> {
         self.for_turn.call_one();
     }
 
-    /// How many changes there were: entries, references, or generations, after which `wake` was called.
-    pub fn changes(&self) -> ChangeCount {
-        self.for_change.changes()
-    }
-
-    /// Waits for a change since that count, which was asked for before a look that found nothing to do. It
-    /// comes back without a change too, after a millisecond at the latest.
+    /// Waits for a change since that count of `for_change`, which was asked for before a look that found
+    /// nothing to do. It comes back without a change too, after a millisecond at the latest.
     pub fn park<R: Wait>(&self, rt: &R, seat: &mut Seat<V>, since: ChangeCount)
         requires seat { IsSeat (identity_of self.now) seat.old }
         requires none { has_turn seat.old ≡ false }

@@ -1,4 +1,5 @@
-// What a seat knows. No value of these types is made but in proofs.
+//! What a seat knows of its cell, and what it does with the reference word, for proofs alone.
+
 use crate::kept::Stamped;
 use std::collections::LinkedList;
 

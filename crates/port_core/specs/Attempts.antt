@@ -12,8 +12,9 @@ use Rattle.port_core.specs.declared.ports.attempting.Tried.TheVariants as tried
 use Rattle.port_core.specs.Flips.{DropsShown}
 use Rattle.port_core.specs.Ports.{PortValue, call_in, Appends, with_call, caller_entry}
 
--- What the caller of `attempt` knows: its next step, in a phase in which its calls are not over; the same call at each attempt
--- of it; and for a write of which parts were taken, and which does not wait, that their generation has not ended.
+-- What the caller of `attempt` knows: its next step, in a phase in which its calls are not over; the same call at each
+-- attempt of it; and for a write of which parts were taken, and which does not wait, that their generation has not
+-- ended.
 pub record IsReady (v : PortValue) (c step : ℕ) (call : PlainCall) : Type 0 where
   pub known : c < sum v.counts
   pub next : step ≡ (caller_at v.terminal c).next
@@ -34,8 +35,8 @@ tried_of (tried.Done answer) = done_by (answer_of answer)
 tried_of tried.Part = took_part
 tried_of tried.MustWait = must_wait
 
--- The call is answered by one entry. Where it drops what waits in the flip buffer, that is all that one look shows; else
--- nothing is dropped and the flip buffer is as before.
+-- The call is answered by one entry. Where it drops what waits in the flip buffer, that is all that one look shows;
+-- else nothing is dropped and the flip buffer is as before.
 pub record AnswersCall (old new : PortValue) (c step : ℕ) (call : PlainCall) (answer : PlainAnswer) : Type 0 where
   pub dropped : List Flagged
   pub appends : Appends (with_call old c step call) new new.flip (caller_entry old c (answered answer dropped))
@@ -48,7 +49,8 @@ pub record TakesPartOf (old new : PortValue) (c step : ℕ) (call : PlainCall) :
   pub count : ℕ
   pub appends : Appends (with_call old c step call) new old.flip (caller_entry old c (parted count))
 
--- The call must wait. The first time that is one entry; where it waits already, and the port is not quiet, there is none.
+-- The call must wait. The first time that is one entry; where it waits already, and the port is not quiet, there is
+-- none.
 pub record MustGoOnWaiting (old new : PortValue) (c step : ℕ) (call : PlainCall) : Type 0 where
   pub must : MustWait (outcome old.terminal (caller_at old.terminal c) call)
   pub waits : MatchBool (is_some (caller_at old.terminal c).waits)

@@ -12,7 +12,8 @@ use Rattle.tty_terminal.specs.Terminals.{Terminal}
 abbrev pub shown_count : Terminal → (tail : ℕ) → ℕ
 shown_count t tail = if t.line_over then min (tail - t.taken) (t.sent - t.taken) else tail - t.taken
 
--- these characters were taken out, and the heads that were released for it count some of them; else only what was loaded grew
+-- these characters were taken out, and the heads that were released for it count some of them; else only what was
+-- loaded grew
 pub record TakesOut (old new : TakerState Flagged) (chars : List Flagged) : Type 0 where
   pub ring : new.ring ≡ old.ring
   pub capacity : new.capacity ≡ old.capacity
@@ -30,13 +31,13 @@ pub record DropsShown (t : Terminal) (old new : TakerState Flagged) (dropped : L
   pub looks : LooksAt old new tail
   pub all : length dropped ≡ shown_count t tail
 
--- the end that takes out, once it was told of all that this putter has put: a later look counts at least that, and what was
--- peeked is forgotten
+-- the end that takes out, once it was told of all that this putter has put: a later look counts at least that, and what
+-- was peeked is forgotten
 abbrev pub after_meeting : TakerState Flagged → PutterState Flagged → TakerState Flagged
 after_meeting flip putter = record flip { peeked = []; floor = max flip.floor (length putter.sent) }
 
--- The putter, before and after it met the end that takes out: all that it put is pushed, and it loaded one head, which is
--- the number taken. What was taken begins what it put, and each head that it loaded is at most the number taken.
+-- The putter, before and after it met the end that takes out: all that it put is pushed, and it loaded one head, which
+-- is the number taken. What was taken begins what it put, and each head that it loaded is at most the number taken.
 pub record MeetsTaker (flip : TakerState Flagged) (old new : PutterState Flagged) : Type 0 where
   pub putter : new ≡ with_loaded (record old { pushed = old.sent }) (length flip.taken)
   pub begins : IsPrefix flip.taken old.sent

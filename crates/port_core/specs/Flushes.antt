@@ -18,8 +18,8 @@ pub record IsPieceOf (v : PortValue) (run part most : ℕ) : Type 0 where
   pub numbered : IsTrue (follows v.terminal.flushed run part)
   pub one : 0 < part → RunHas run v.terminal.generation v.journal
 
--- A piece took the first characters of those that one look shows, and stopped early only where the look shows no more or the
--- discipline does not accept.
+-- A piece took the first characters of those that one look shows, and stopped early only where the look shows no more
+-- or the discipline does not accept.
 pub record Takes (old new : PortValue) (run part most n : ℕ) : Type 0 where
   pub chars : List Flagged
   pub count : length chars ≡ n
@@ -38,8 +38,8 @@ pub record LooksAtNone (old new : PortValue) : Type 0 where
   pub looks : LooksAt old.flip new.flip new.flip.floor
   pub none : shown_count old.terminal new.flip.floor ≡ 0
 
--- No handle is live, the discipline does not accept, or one look shows nothing. So all that is known to be sent is taken, or
--- the port is stuck; once the line is over nothing is left to flush.
+-- No handle is live, the discipline does not accept, or one look shows nothing. So all that is known to be sent is
+-- taken, or the port is stuck; once the line is over nothing is left to flush.
 pub record TakesNone (old new : PortValue) : Type 0 where
   pub cause : MatchBool (is_stuck old.terminal) (new ≡ old) (LooksAtNone old new)
   pub caught_up : is_stuck old.terminal ≡ false → old.terminal.sent ≤ old.terminal.taken

@@ -17,7 +17,8 @@ with_put putter chars = record putter { sent = putter.sent ++ chars }
 abbrev pub with_pushed : PutterState Flagged → List Flagged → PutterState Flagged
 with_pushed putter chars = record putter { sent = putter.sent ++ chars; pushed = putter.sent ++ chars }
 
--- These were put and pushed, the end that takes out was told of it and looked, the first of them were taken, and both ends met.
+-- These were put and pushed, the end that takes out was told of it and looked, the first of them were taken, and both
+-- ends met.
 pub record TakesGiven (old new : TakerState Flagged) (putter now : PutterState Flagged) (chars : List Flagged) (n : ℕ) : Type 0 where
   pub tail : ℕ
   pub left : TakerState Flagged

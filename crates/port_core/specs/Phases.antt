@@ -21,8 +21,8 @@ pub record EndsPhase (old new : PortValue) (putter now : PutterState Flagged) : 
   pub appends : Appends old new (after_meeting old.flip putter) (phase_entry old Session phase_ended)
   pub meets : MeetsTaker old.flip putter now
 
--- The session hangs the port up: all that was put and not taken is dropped, so that all that was put is taken. Each head that
--- the putter loaded is one that was released before, or 0.
+-- The session hangs the port up: all that was put and not taken is dropped, so that all that was put is taken. Each
+-- head that the putter loaded is one that was released before, or 0.
 pub record HangsUp (old new : PortValue) (putter : PutterState Flagged) : Type 0 where
   pub dropped : List Flagged
   pub appends : Appends old new new.flip (hangup_entry old dropped)

@@ -1,5 +1,5 @@
--- A port as a value: the terminal, the journal that leads to it, the calls that are kept, and the end of the flip buffer at
--- which characters are taken out.
+-- A port as a value: the terminal, the journal that leads to it, the calls that are kept, and the end of the flip
+-- buffer at which characters are taken out.
 use Rattle.std.specs.Prelude.{◌≡◌, ℕ, List, [], ◌∷◌, ◌++◌, Bool, true, false, ◌&&◌, ◌||◌, not, Option, None, Some, ◌==◌, ◌*◌, ◌^◌, ◌<◌, ◌≤◌, if◌then◌else◌, length}
 use Rattle.tty_base.specs.declared.characters.Flagged.{Flagged}
 use Rattle.word_ring.specs.Ends.{TakerState}

@@ -1,3 +1,5 @@
+//! A port: the entries that its clock and the ends of its callers make, what can be asked of it, and its laws.
+
 ghost use Rattle.std.specs.Prelude.{◌≡◌, ◌↔◌, ℕ, List, Option, [], ◌∷◌, ◌++◌, Bool, true, false, ◌+◌, ◌≤◌, ◌<◌, IsTrue, IfOk, IfErr, OnOk, OnErr, length, sum};
 ghost use Rattle.tty_calls.specs.Plain.{PlainCall, ticked, clock_ended};
 ghost use Rattle.tty_calls.specs.declared.journals.Who.TheVariants.{Clock};

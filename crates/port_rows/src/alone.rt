@@ -1,3 +1,6 @@
+//! A port with one caller on one thread: what each call is answered, a journal that is full, and calls that are
+//! refused memory.
+
 ghost use Rattle.std.specs.Prelude.{◌≡◌, ◌≤◌, ◌<◌, ◌^◌, IsTrue};
 ghost use Rattle.tty_calls.specs.Plain.{call_of, handle_of};
 ghost use Rattle.tty_calls.specs.Limits.{byte_count};

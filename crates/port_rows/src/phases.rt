@@ -1,3 +1,5 @@
+//! A session of one port that is played in phases: characters that come in one are read in the next.
+
 ghost use Rattle.std.specs.Prelude.{◌≡◌, ◌∷◌, [], IfOk, map};
 ghost use Rattle.tty_calls.specs.Plain.{call_of};
 ghost use Rattle.tty_calls.specs.Limits.{IsWithinLimits};

@@ -1,3 +1,6 @@
+//! A port that threads share: callers beside one another and beside a flusher, the entries that each seat makes, and
+//! a read that is answered within a write.
+
 ghost use Rattle.std.specs.Prelude.{◌≡◌, ◌+◌, ◌<◌, ◌^◌, [], IfOk, IfSome, length, sum};
 ghost use Rattle.std.specs.Thread.{IsSync};
 ghost use Rattle.tty_calls.specs.Plain.{call_of, handle_of};
@@ -103,7 +106,7 @@ fn flush<R: Wait>(rt: &R, shared: &SharedPort, mut seat: Seat) -> Seat
 {
     for _ in rt.forever() {
         match shared.flush_run(rt, &mut seat, 0) {
-            Ok(0) => shared.flusher_pause(rt),
+            Ok(0) => yield_now(),
             _ => return seat,
         }
     }

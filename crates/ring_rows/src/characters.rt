@@ -1,3 +1,5 @@
+//! Characters that go through a flip buffer, singly and in pieces from each alignment, as tests.
+
 ghost use Rattle.std.specs.Prelude.{◌≡◌, ◌<◌, ◌≤◌};
 
 use arrayvec::ArrayVec;
@@ -132,30 +134,55 @@ fn takes_sixteen(output: &mut FlipOut, out: &mut Chars) -> bool
     true
 }
 
+// Puts sixteen characters and takes them.
+fn passes_sixteen(
+    alloc: Global,
+    input: &mut FlipIn,
+    output: &mut FlipOut,
+    first: usize,
+) -> Result<bool, NoMemory>
+    requires { first < 80 }
+{
+    let mut out = Chars::new(alloc);
+    out.reserve(16)?;
+    if !puts_sixteen(input, first) || !takes_sixteen(output, &mut out) {
+        return Ok(false);
+    }
+    for i in 0..16 {
+        if out.as_slice().get(i).copied() != Some(character(first + i)) {
+            return Ok(false);
+        }
+    }
+    Ok(true)
+}
+
 // Passes characters after so many single ones, more than once round the buffer.
-fn pass_by_sixteens(alloc: Global, lead: usize) -> Result<bool, NoMemory>
+fn passes_round(
+    alloc: Global,
+    input: &mut FlipIn,
+    output: &mut FlipOut,
+    lead: usize,
+) -> Result<bool, NoMemory>
     requires { lead < 4 }
 {
-    let (mut input, mut output) = flip(alloc, 64)?;
     for i in 0..lead {
-        if !passes_one(&mut input, &mut output, character(i)) {
+        if !passes_one(input, output, character(i)) {
             return Ok(false);
         }
     }
     for round in 0..5 {
-        let first = lead + 16 * round;
-        let mut out = Chars::new(alloc);
-        out.reserve(16)?;
-        if !puts_sixteen(&mut input, first) || !takes_sixteen(&mut output, &mut out) {
+        if !passes_sixteen(alloc, input, output, lead + 16 * round)? {
             return Ok(false);
-        }
-        for i in 0..16 {
-            if out.as_slice().get(i).copied() != Some(character(first + i)) {
-                return Ok(false);
-            }
         }
     }
     Ok(true)
+}
+
+fn pass_by_sixteens(alloc: Global, lead: usize) -> Result<bool, NoMemory>
+    requires { lead < 4 }
+{
+    let (mut input, mut output) = flip(alloc, 64)?;
+    passes_round(alloc, &mut input, &mut output, lead)
 }
 
 #[test]

@@ -1,3 +1,5 @@
+//! Numbers that go through a ring, between two threads and on one, singly and several at once, as tests.
+
 ghost use Rattle.std.specs.Prelude.{◌≡◌, ◌<◌, ◌≤◌, ◌^◌, [], length, IfOk, vec_len};
 
 use arrayvec::ArrayVec;
@@ -210,28 +212,44 @@ fn passes_eight(putter: &mut Putter, taker: &mut Taker, first: u8) -> bool
     true
 }
 
-// Passes eights between sixteens that go through the ring's words, after so many single ones.
+// Passes single numbers.
+fn passes_ones(putter: &mut Putter, taker: &mut Taker, count: u16) -> bool
+    ensures { (putter.new.ring ≡ putter.old.ring) × (taker.new.ring ≡ taker.old.ring) × (taker.new.capacity ≡ taker.old.capacity) }
+{
+    for x in 0..count {
+        if !passes_one(putter, taker, x) {
+            return false;
+        }
+    }
+    true
+}
+
+// Passes eights between sixteens that go through the ring's words.
+fn passes_rounds(putter: &mut Putter, taker: &mut Taker) -> bool
+    requires ring { putter.old.ring ≡ taker.old.ring }
+    requires room { 8 ≤ taker.old.capacity }
+{
+    for round in 0..5u16 {
+        if !passes_eight(putter, taker, round as u8) || !puts_sixteen(putter, round) {
+            return false;
+        }
+        match take_sixteen(taker) {
+            Some(words) if are_in_order(words, u64::from(round)) => {}
+            _ => return false,
+        }
+    }
+    true
+}
+
+// Passes numbers past the words of the ring and through them, after so many single ones.
 fn pass_past_the_words(alloc: Global, lead: u16) -> Result<bool, NoMemory>
     requires { lead < 4 }
 {
     let (mut putter, mut taker) = ring(alloc, 24)?;
-    for x in 0..lead {
-        if !passes_one(&mut putter, &mut taker, x) {
-            return Ok(false);
-        }
-    }
-    for round in 0..5u16 {
-        if !passes_eight(&mut putter, &mut taker, round as u8)
-            || !puts_sixteen(&mut putter, round)
-        {
-            return Ok(false);
-        }
-        match take_sixteen(&mut taker) {
-            Some(words) if are_in_order(words, u64::from(round)) => {}
-            _ => return Ok(false),
-        }
-    }
-    Ok(taker.taken() == u64::from(lead) + 120 && putter.sent() == taker.taken())
+    let passes = passes_ones(&mut putter, &mut taker, lead)
+        && passes_rounds(&mut putter, &mut taker);
+    let all = u64::from(lead) + 120;
+    Ok(passes && taker.taken() == all && putter.sent() == all)
 }
 
 #[test]

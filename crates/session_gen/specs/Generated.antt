@@ -1,5 +1,5 @@
--- The session that a number gives: four ports with a caller each, which open in the first phase and then read what their line
--- brings, sometimes going over to SLIP and back.
+-- The session that a number gives: four ports with a caller each, which open in the first phase and then read what
+-- their line brings, sometimes going over to SLIP and back.
 use Rattle.std.specs.Prelude.{ℕ, ◌+◌, ◌-◌, ◌*◌, ◌%◌, ◌==◌, Bool, true, if◌then◌else◌, List, [], ◌∷◌, map, replicate, codes}
 use Rattle.std.specs.List.{range_with_len}
 use Rattle.tty_modes.specs.declared.words.Word.TheVariants.{Raw}
@@ -32,7 +32,8 @@ abbrev pub reading_calls : (number phase port : ℕ) → List PlainCall
 reading_calls number phase port =
     reads 0 4000 ∷ (if changes_twice number phase port then sets_disc 0 1 ∷ sets_disc 0 0 ∷ [] else [])
 
--- The phases after the first, from 1 on. Each port's line brings 4,000 bytes; they are drawn phase by phase, and port by port.
+-- The phases after the first, from 1 on. Each port's line brings 4,000 bytes; they are drawn phase by phase, and port
+-- by port.
 unfoldable pub reading_phase : (number phase : ℕ) → PlainPhase
 reading_phase number phase = record {
   lines = map (λ port. drawn_line number (16000 * (phase - 1) + 4000 * port) 4000) (range_with_len 0 4);

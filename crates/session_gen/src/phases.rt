@@ -24,9 +24,9 @@ const FLIP: u32 = 4096;
 /// How many bytes a read asks for.
 const READ: u32 = 4000;
 
-/// The session of a number: four ports, each with a caller, and sixteen phases. In the first each caller opens its port without
-/// ever waiting and makes it raw. In each later phase each port's line brings 4,000 bytes drawn from the number, and its caller
-/// reads as many; some callers then go over to SLIP and back.
+/// The session of a number: four ports, each with a caller, and sixteen phases. In the first each caller opens its
+/// port without ever waiting and makes it raw. In each later phase each port's line brings 4,000 bytes drawn from the
+/// number, and its caller reads as many; some callers then go over to SLIP and back.
 pub fn make(alloc: Global, number: u32) -> Result<Session, NoMemory>
     ensures session { IfOk result (λ session. session_of session ≡ generated_session number) }
 {

@@ -11,8 +11,8 @@ use Rattle.session_print.specs.Report.{Told, told_on, answer_in, calls_text}
 abbrev pub AnswersEvery : ℕ → PlainSession → List PlainEntry → Type 0
 AnswersEvery p session es = (c step : ℕ) (call : PlainCall) → call_at p session c step ≡ Some call → (answer : PlainAnswer) × (answer_in es c step ≡ Some answer)
 
--- The line of a call that is told: it is the session's call of this caller and step, and the line has the name of the caller, the step,
--- and the answer that these entries have for them.
+-- The line of a call that is told: it is the session's call of this caller and step, and the line has the name of the
+-- caller, the step, and the answer that these entries have for them.
 pub record IsLineOf (p : ℕ) (session : PlainSession) (es : List PlainEntry) (told : Told) (line : List ℕ) : Type 0 where
   pub caller : ℕ
   pub answer : PlainAnswer

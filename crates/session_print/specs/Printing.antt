@@ -25,7 +25,8 @@ use Rattle.session_print.specs.declared.sums.Sums.{Sums}
 abbrev pub same_turn : Turn → Turn → Bool
 same_turn a b = (a.caller == b.caller) && (a.step == b.step)
 
--- 64 steps of a caller: the places of the first `count` stand one behind the other, from `first` on, and a place in the list stands over these
+-- 64 steps of a caller: the places of the first `count` stand one behind the other, from `first` on, and a place in
+-- the list stands over these
 pub record PlainStretch : Type 0 where
   pub first : ℕ
   pub count : ℕ
@@ -116,7 +117,7 @@ abbrev pub steps_then : List ℕ → PlainScript → Option ℕ → List ℕ
 steps_then steps s None = steps
 steps_then steps s (Some c) = slice_set steps c (slice_index steps c + length s.calls)
 
--- the same of scripts one after the other
+-- the calls of scripts one after the other, by each caller's next step; and the next steps after them
 abbrev pub told_scripts : List (List ℕ) → List ℕ → List PlainScript → List Told
 told_scripts names steps [] = []
 told_scripts names steps (s ∷ ss) =

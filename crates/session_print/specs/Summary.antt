@@ -34,7 +34,8 @@ got_in (hung_up dropped) = 0
 abbrev pub got_count : List PlainEntry → ℕ
 got_count es = sum_by (λ e. got_in e.event) es
 
--- over all ports: the characters that arrived, those that were flushed, the bytes that answers hand over, and the generations
+-- over all ports: the characters that arrived, those that were flushed, the bytes that answers hand over, and the
+-- generations
 abbrev pub all_arrived : List PortRun → ℕ
 all_arrived runs = sum_by (λ run. run.line.arrived) runs
 

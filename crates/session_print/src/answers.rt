@@ -1,3 +1,5 @@
+//! The answers of a journal by caller and step, and its sums, from one walk over it.
+
 ghost use Rattle.std.specs.Prelude.{◌≡◌, ℕ, IfOk, IfSome, IsSome};
 ghost use Rattle.std.specs.Option.{option_map};
 ghost use Rattle.tty_calls.specs.Plain.{answer_lent, entry_of, event_of};

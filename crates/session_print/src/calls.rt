@@ -1,3 +1,5 @@
+//! The lines of a report that tell the calls of a port, each with its answer.
+
 ghost use Rattle.std.specs.Prelude.{◌≡◌, ◌++◌, ◌+◌, ◌<◌, ◌^◌, Some, IfOk, OnOk, flat_map, length, string_bytes};
 ghost use Rattle.tty_calls.specs.Plain.{call_of, answer_lent};
 ghost use Rattle.tty_calls.specs.Sessions.{script_of, number_in, session_of};
@@ -123,7 +125,7 @@ impl Teller<'_> {
 struct Head {
     /// The part that all lines have.
     front: String,
-    /// The same and what ten steps share of their number: its digits before the last.
+    /// The part that all lines have, and what ten steps share of their number: its digits before the last.
     shared: String,
 }
 

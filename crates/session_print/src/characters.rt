@@ -1,3 +1,5 @@
+//! The text of characters: for each the letter of its flag, and its byte in hexadecimal.
+
 ghost use Rattle.std.specs.Prelude.{◌≡◌, ◌++◌, ◌∷◌, ◌<◌, ◌≤◌, [], OnOk, flat_map, length, slice_index, string_bytes};
 ghost use Rattle.hex.specs.Hex.{lower_digits};
 ghost use Rattle.tty_base.specs.declared.characters.Flagged.{Flagged};
@@ -29,7 +31,8 @@ pub(crate) fn put_each_character(
     Ok(())
 }
 
-/// The same of at most eight. That they are eight is told where it is, so that this is no loop then.
+/// Adds the letter and the byte of each of at most eight characters. That they are eight is told where it is, so
+/// that this is no loop then.
 #[inline(always)]
 fn put_some(text: &mut String, characters: &[Flagged]) -> Result<(), AllocError>
     requires { length characters.now ≤ 8 }

@@ -1,3 +1,5 @@
+//! Numbers in decimal digits, and bytes in hexadecimal.
+
 ghost use Rattle.std.specs.Prelude.{◌≡◌, ◌++◌, ◌+◌, ◌∷◌, [], ◌<◌, ◌≤◌, ◌*◌, OnOk, decimal, length, slice_index, string_bytes, take};
 ghost use Rattle.hex.specs.Hex.{encode_lower, lower_digits};
 ghost use Rattle.session_print.specs.Printing.{tens};
@@ -26,7 +28,7 @@ pub(crate) fn put_number(text: &mut String, number: u64) -> Result<(), AllocErro
     }
 }
 
-/// The same of a number of more digits. It stands apart, so that what adds a digit stays small.
+/// Adds a number of three or more digits in decimal digits. It stands apart, so that what adds a digit stays small.
 #[inline(never)]
 fn put_long_number(text: &mut String, number: u64) -> Result<(), AllocError>
     ensures { OnOk result (string_bytes text.new ≡ string_bytes text.old ++ decimal number) }

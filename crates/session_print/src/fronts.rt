@@ -1,3 +1,5 @@
+//! What the line of an entry begins with: who made it, and its step but for the last digit.
+
 ghost use Rattle.std.specs.Prelude.{◌≡◌, IfOk, OnOk, string_bytes};
 ghost use Rattle.session_print.specs.Journals.{who_text};
 ghost use Rattle.session_print.specs.Printing.{Fronts, entry_front};

@@ -1,3 +1,5 @@
+//! The text of the journals: for each port its entries, its overruns, and the numbers of its line.
+
 ghost use Rattle.std.specs.Prelude.{◌≡◌, ◌++◌, IfOk, OnOk, decimal, flat_map, string_bytes};
 ghost use Rattle.tty_base.specs.declared.characters.Flagged.{Flagged};
 ghost use Rattle.tty_calls.specs.Plain.{answer_lent, answered, entry_of, event_of};

@@ -1,3 +1,5 @@
+//! The text of modes: the names of the flags that are set, and each control character.
+
 ghost use Rattle.std.specs.Prelude.{◌≡◌, ◌++◌, ◌<◌, [], OnOk, codes, slice_index_or, string_bytes};
 ghost use Rattle.tty_modes.specs.Names.{flag_names};
 ghost use Rattle.tty_modes.specs.Settings.{character};

@@ -1,3 +1,5 @@
+//! The numbers in the line of an entry: the last digit of its step, its part and its generation.
+
 ghost use Rattle.std.specs.Prelude.{◌≡◌, ◌++◌, ◌+◌, ◌∷◌, ◌<◌, OnOk, codes, decimal, string_bytes};
 ghost use Rattle.session_print.specs.Printing.{places_text};
 
@@ -42,7 +44,8 @@ fn put_digits(text: &mut String, digit: u8, part: u8, generation: u8) -> Result<
     text.push_str(written)
 }
 
-/// The same of longer numbers. It stands apart, so that what adds digits stays small.
+/// Adds the last digit of a step, and a part and a generation of any length, with a blank after each. It stands
+/// apart, so that what adds digits stays small.
 #[inline(never)]
 fn put_numbers(text: &mut String, digit: u64, part: u32, generation: u32) -> Result<(), AllocError>
     requires { digit < 10 }

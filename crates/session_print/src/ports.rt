@@ -1,3 +1,6 @@
+//! The lines of a report that tell what became of a port: its line, its input, its counts, its signals, its
+//! generation and its wire.
+
 ghost use Rattle.std.specs.Prelude.{◌≡◌, ◌++◌, OnOk, string_bytes};
 ghost use Rattle.tty_calls.specs.Sessions.{session_of};
 ghost use Rattle.session_print.specs.Ends.{end_of};

@@ -1,3 +1,6 @@
+//! The summary of a session: how many calls, characters, bytes that were read, and generations there are over all
+//! ports.
+
 ghost use Rattle.std.specs.Prelude.{◌≡◌, IfOk, map, sum_by, length};
 ghost use Rattle.tty_calls.specs.Limits.{call_count};
 ghost use Rattle.tty_calls.specs.Plain.{answer_lent, event_of};

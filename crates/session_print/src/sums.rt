@@ -1,3 +1,5 @@
+//! How many characters a journal flushes, and how many were dropped.
+
 ghost use Rattle.std.specs.Prelude.{◌≡◌, ◌+◌, IfOk, OnOk, length};
 ghost use Rattle.tty_calls.specs.Plain.{event_of};
 ghost use Rattle.session_print.specs.Lines.{flushed_in as flushed_by, dropped_in as dropped_by};

@@ -1,3 +1,5 @@
+//! The report of a session, with the journals of its ports where they are asked for, and the text of an answer.
+
 ghost use Rattle.std.specs.Prelude.{◌≡◌, [], ◌++◌, IfOk, OnOk, map, string_bytes};
 ghost use Rattle.tty_calls.specs.Plain.{answer_of};
 ghost use Rattle.tty_calls.specs.Sessions.{session_of};

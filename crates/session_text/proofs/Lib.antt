@@ -10,5 +10,8 @@ mod ModeWords
 mod Rests
 mod Runs
 pub mod Spelled
+pub mod TextAsks
+mod TextSizes
 mod VerbWords
 pub mod Within
+pub mod Writings

@@ -1,10 +1,10 @@
 -- Lists of what the reader keeps, seen as plain data.
-use Rattle.std.proofs.Common.{◌≡◌, ℕ, ◌+◌, ◌-◌, ◌<◌, Bool, List, [], ◌∷◌, ◌++◌, ◌||◌, length, map, refl, ap, sym, ◌∙◌, arith, get_or, set, zero, suc}
+use Rattle.std.proofs.Common.{◌≡◌, ℕ, ◌+◌, ◌-◌, ◌<◌, Bool, List, [], ◌∷◌, ◌++◌, ◌||◌, length, map, take, drop, replicate, Result, Ok, Err, OnOk, refl, ap, sym, ◌∙◌, arith, get_or, set, zero, suc}
 use Rattle.std.specs.List.{list_any}
 use Rattle.tty_calls.specs.Plain.{PlainCall}
 use Rattle.tty_calls.specs.Sessions.{PlainScript, script_of}
 use Rattle.tty_calls.specs.declared.sessions.Script.{Script}
-use Rattle.std.proofs.lemmas.List.{map-set, get_or-map}
+use Rattle.std.proofs.lemmas.List.{map-set, get_or-map, take-append-le, take_all, map-append, replicate_more}
 use Rattle.tty_calls.specs.declared.kept_calls.Calls.{Calls}
 use Rattle.session_text.specs.declared.stands.Key.{Key}
 use Rattle.session_text.specs.Drafts.{with_call}
@@ -32,6 +32,19 @@ call_pushed call scripts d calls some more =
     let last = get_or scripts (length scripts - 1) d in
     call_added call scripts d (record last { calls = calls }) (length scripts - 1) (omega (arith, some))
     (ap (λ (cs : List PlainCall). record (script_of last) { calls = cs }) more)
+
+-- .. as a list shows it whose elements the slice is
+pub call_written : {T E : Type 0} (r : Result T E) (n : ℕ) (old slice new : List Script) (told call : PlainCall) → n ≡ length new → slice ≡ old → told ≡ call → OnOk r (map script_of new ≡ with_call told (map script_of slice))
+    → OnOk r (map script_of (take n (new ++ drop (length new) old)) ≡ with_call call (map script_of old))
+call_written (Err e) n old slice new told call all whole is h = tt
+call_written (Ok t) n old slice new told call all whole is h =
+    ap (map script_of) (take-append-le n new (drop (length new) old) (omega (arith, all)) ∙ take_all n new (omega (arith, all)))
+    ∙ (h ∙ (ap (λ (c : PlainCall). with_call c (map script_of slice)) is ∙ ap (λ (ss : List Script). with_call call (map script_of ss)) whole))
+
+-- one more, of which nothing is kept yet
+pub one_more_empty : {X Y : Type 0} (f : X → List Y) (n : ℕ) (xs new : List X) (x : X) → new ≡ xs ++ x ∷ [] → f x ≡ [] → map f xs ≡ replicate n [] → map f new ≡ replicate (n + 1) []
+one_more_empty {X} {Y} f n xs new x added none h =
+    ap (map f) added ∙ (map-append f xs (x ∷ []) ∙ (ap (λ (l : List Y). map f xs ++ l ∷ []) none ∙ (ap (λ (ls : List (List Y)). ls ++ [] ∷ []) h ∙ replicate_more n [])))
 
 -- a port's line goes on
 pub line_added : {X Y : Type 0} (f : X → List Y) (lines : List X) (port : ℕ) (d line : X) (steps : List Y) → port < length lines → f line ≡ f (get_or lines port d) ++ steps

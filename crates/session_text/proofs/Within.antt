@@ -57,7 +57,7 @@ bytes_by digits (Ok bytes) h = let parts = decode_of-ok digits bytes h in let tw
 bytes_by digits (Err e) h = omega arith
 
 -- two digits write a byte
-length-bytes_of : (digits : List ℕ) → length (bytes_of digits) ≤ length digits / 2
+pub length-bytes_of : (digits : List ℕ) → length (bytes_of digits) ≤ length digits / 2
 length-bytes_of digits = bytes_by digits (decode_of digits) refl
 
 hex_by : (hex : Bool) (n most : ℕ) → cond hex (limit_fault (nat_le n most)) (Some reason.Hex) ≡ None → n ≤ most
@@ -103,7 +103,7 @@ verb_steps ports Unmask words good = one_step _ refl
 verb_steps ports Idle words good = one_step _ refl
 verb_steps ports Trigger words good = one_step _ (trigger_good ports words good)
 
-count_rx : (f : Flag) (bytes : List ℕ) → arrival_count (map (rx_step f) bytes) ≡ length bytes
+pub count_rx : (f : Flag) (bytes : List ℕ) → arrival_count (map (rx_step f) bytes) ≡ length bytes
 count_rx f [] = refl
 count_rx f (byte ∷ bytes) = let rest = count_rx f bytes in omega (arith, rest)
 
@@ -117,7 +117,7 @@ verb_arrivals Unmask words = omega arith
 verb_arrivals Idle words = omega arith
 verb_arrivals Trigger words = omega arith
 
-count-append : (xs ys : List LineStep) → arrival_count (xs ++ ys) ≡ arrival_count xs + arrival_count ys
+pub count-append : (xs ys : List LineStep) → arrival_count (xs ++ ys) ≡ arrival_count xs + arrival_count ys
 count-append [] ys = omega arith
 count-append (x ∷ xs) ys = let rest = count-append xs ys in omega (arith, rest)
 

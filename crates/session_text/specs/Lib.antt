@@ -1,3 +1,4 @@
+pub mod Asked
 pub mod Drafts
 pub mod Fronts
 pub mod Grammar
@@ -10,3 +11,4 @@ pub mod Stands
 pub mod VerbSlots
 pub mod Verbs
 pub mod Views
+pub mod Writable

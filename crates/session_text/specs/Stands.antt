@@ -57,6 +57,10 @@ first_stand = record {
 
 -- ---- the place
 
+abbrev pub is_start : Place → Bool
+is_start place.Start = true
+is_start other = false
+
 abbrev pub is_head : Place → Bool
 is_head place.Head = true
 is_head other = false

@@ -1,5 +1,5 @@
 -- The first words of lines.
-use Rattle.std.specs.Prelude.{ℕ, ◌==◌, List, [], ◌∷◌, Option, None, Some, option_map, codes, if◌then◌else◌}
+use Rattle.std.specs.Prelude.{ℕ, ◌==◌, Bool, true, false, List, [], ◌∷◌, Option, None, Some, option_map, codes, if◌then◌else◌}
 use Rattle.std.specs.Str.{bytes_eq}
 use Rattle.std.specs.Option.{option_or}
 use Rattle.text_lines.specs.Values.{choice_of}
@@ -87,3 +87,8 @@ abbrev pub verb_of : ℕ → List ℕ → Option Verb
 verb_of version word =
     if bytes_eq word (codes "flip") then (if version == 2 then Some Flip else None)
     else option_or (block_verb_of word) (option_or (option_map Step (line_verb_of word)) (option_map Call (call_verb_of word)))
+
+-- whether it is one of a call
+abbrev pub is_call : Option Verb → Bool
+is_call (Some (Call verb)) = true
+is_call other = false

@@ -1,3 +1,5 @@
+//! What a line's items and calls mean: the steps of an item, and the call that a verb and its arguments are.
+
 ghost use Rattle.std.specs.Prelude.{◌≡◌, [], ◌∷◌, ◌++◌, ◌+◌, ◌≤◌, ◌<◌, IfOk, OnOk, IsTrue, length, map, take, drop};
 ghost use Rattle.std.specs.List.{filter_map};
 ghost use Rattle.tty_modes.specs.Reading.{word_of as mode_in};

@@ -1,3 +1,5 @@
+//! Why a line is wrong, which line of a text is the first wrong one, and why a text gave no session.
+
 use tty_base::NoMemory;
 
 /// Why a line is wrong.

@@ -1,3 +1,5 @@
+//! How many arguments an item may have, of which kind each is, and what is wrong with the first that is wrong.
+
 ghost use Rattle.std.specs.Prelude.{◌≡◌, ◌/◌, nat_le, is_some, drop, length};
 ghost use Rattle.text_lines.specs.Lines.{words_of};
 ghost use Rattle.text_lines.specs.Values.{word_at};
@@ -153,7 +155,8 @@ pub(crate) fn fault_in(ports: u8, verb: Verb, arguments: &Arguments, modes: usiz
     fault_past_two(ports, verb, arguments, modes)
 }
 
-/// The same of the arguments behind the second.
+/// What is wrong with the first wrong argument behind the second, if one is. So many of those behind the
+/// second are mode words.
 #[inline(always)]
 fn fault_past_two(ports: u8, verb: Verb, arguments: &Arguments, modes: usize) -> Option<Reason>
     requires { modes ≡ length (modes_in arguments.now) }
@@ -168,7 +171,8 @@ fn fault_past_two(ports: u8, verb: Verb, arguments: &Arguments, modes: usize) ->
     }
 }
 
-/// The same of a call. Those of `modes` are good where all are mode words.
+/// What is wrong with a call's first wrong argument behind the second, if one is. Those of a `modes` call
+/// are good where all are mode words.
 #[inline(always)]
 fn call_fault_past_two(
     ports: u8,
@@ -201,7 +205,7 @@ fn fault_behind(ports: u8, verb: Verb, line: &[u8]) -> Option<Reason>
     None
 }
 
-/// The same of the first argument, whose number was read before.
+/// What is wrong with the first argument, if something is. Its number was read before.
 #[inline(always)]
 fn first_fault(ports: u8, kind: Kind, arguments: &Arguments) -> Option<Reason>
     ensures { result ≡ fault_of ports kind (word_at arguments.now 0) }

@@ -1,8 +1,14 @@
-ghost use Rattle.std.specs.Prelude.{◌≡◌, ℕ, List, None, Some, map};
+//! The laws of the texts of sessions: which are refused, that a text spells one session within the limits, and how
+//! long it is.
+
+ghost use Rattle.std.specs.Prelude.{◌≡◌, ◌≤◌, ℕ, List, None, Some, length, map};
+ghost use Rattle.std.specs.List.{AllByRecursion};
 ghost use Rattle.tty_calls.specs.Limits.{IsWithinLimits};
 ghost use Rattle.tty_calls.specs.Sessions.{PlainSession};
+ghost use Rattle.session_text.specs.Asked.{asked_of};
 ghost use Rattle.session_text.specs.Refusals.{refusal};
 ghost use Rattle.session_text.specs.Grammar.{Spells};
+ghost use Rattle.session_text.specs.Writable.{IsWrittenPhase};
 ghost use Rattle.session_text.specs.Rows.{refused_rows, three_bytes_text, three_bytes_session, empty_text, empty_session, items_text, items_session, calls_text, calls_session};
 
 /// A law: a text has no refusal exactly where it spells a session.
@@ -19,6 +25,18 @@ pub fn spells_one_session()
 /// A law: a session that a text spells keeps the limits of every session.
 pub fn spelled_sessions_are_within_limits()
     ensures { (text : List ℕ) (session : PlainSession) → Spells text session → IsWithinLimits session }
+{}
+
+/// A law: a session that a text spells has what words write: a name for each caller, bytes that arrive, and mode
+/// words.
+pub fn spelled_sessions_are_written_in_words()
+    ensures { (text : List ℕ) (session : PlainSession) → Spells text session → AllByRecursion IsWrittenPhase session.phases }
+{}
+
+/// A law: a text is as long as what its session asks of a port: two digits for each byte that a call hands
+/// over and each character that arrives, and three letters for each call.
+pub fn a_text_is_as_long_as_what_it_asks()
+    ensures { (text : List ℕ) (session : PlainSession) (p : ℕ) → Spells text session → asked_of p session.phases ≤ length text }
 {}
 
 /// A law: the first wrong line of worked texts, and why it is wrong.

@@ -18,7 +18,9 @@ mod words;
 
 pub use faults::{BadLine, Reason, TextFault};
 pub use laws::{
-    a_text_is_refused_exactly_where_it_spells_no_session, spelled_sessions_are_within_limits,
-    spells_one_session, worked_texts_are_refused_at_their_lines, worked_texts_spell_their_sessions,
+    a_text_is_as_long_as_what_it_asks, a_text_is_refused_exactly_where_it_spells_no_session,
+    spelled_sessions_are_within_limits, spelled_sessions_are_written_in_words, spells_one_session,
+    worked_texts_are_refused_at_their_lines, worked_texts_spell_their_sessions,
 };
 pub use reader::{Reader, parse, parse_front};
+pub use verbs::is_call;

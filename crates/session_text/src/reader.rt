@@ -1,3 +1,5 @@
+//! Reads a text line by line, each item judged where the reader stands, into its session or its first wrong line.
+
 ghost use Rattle.std.specs.Prelude.{◌≡◌, ◌<◌, ◌⊎◌, Some, IfOk, OnOk, IsTrue, length};
 ghost use Rattle.session_text.specs.Fronts.{front_in};
 ghost use Rattle.session_text.specs.Kinds.{modes_in};
@@ -6,13 +8,13 @@ ghost use Rattle.session_text.specs.Grammar.{Spells};
 ghost use Rattle.tty_calls.specs.Sessions.{session_of as session_view};
 ghost use Rattle.text_lines.specs.Lines.{words_of};
 ghost use Rattle.session_text.specs.Reading.{Gives, first_reading, reading_with, reading_after_line, reading_after_item, session_at_end, session_in};
-ghost use Rattle.session_text.specs.Stands.{verdict_on, is_ended, is_good};
+ghost use Rattle.session_text.specs.Stands.{verdict_on, is_start, in_phase, is_ended, is_good};
 ghost use Rattle.session_text.specs.Views.{stand_of, reading_of, reading_at};
 
 use super::calls::{modes_into, no_modes};
 use super::drafts::Draft;
 use super::faults::{BadLine, Reason, TextFault};
-use super::stands::{Place, Stand};
+use super::stands::{Place, Stand, in_phase};
 use super::verbs::Verb;
 use std::alloc::Global;
 use text_lines::{Arguments, FirstTwo, is_comment, split_line, split_word};
@@ -56,8 +58,9 @@ impl Reader {
         }
     }
 
+    /// Reads an item of the line with this number: its first word, and what follows it.
     #[inline(always)]
-    fn read_item(
+    pub fn read_item(
         &mut self,
         alloc: Global,
         number: u32,
@@ -92,6 +95,20 @@ impl Reader {
         let modes = self.modes.as_slice();
         let (stand, draft) = (&mut self.stand, &mut self.draft);
         read_by(alloc, stand, draft, number, word, &arguments, modes)
+    }
+
+    /// Whether no item was read yet.
+    pub fn is_at_start(&self) -> bool
+        ensures { result ≡ is_start self.now.stand.place }
+    {
+        matches!(self.stand.place(), Place::Start)
+    }
+
+    /// Whether a phase is open.
+    pub fn is_in_phase(&self) -> bool
+        ensures { result ≡ in_phase self.now.stand.place }
+    {
+        in_phase(self.stand.place())
     }
 
     /// Whether the session is over.

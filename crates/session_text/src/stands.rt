@@ -1,3 +1,5 @@
+//! Where the reader of a text stands, how the next item is judged there, and where the reader stands after it.
+
 ghost use Rattle.std.specs.Prelude.{◌≡◌, ◌-◌, ◌∷◌, ◌++◌, [], Some, OnOk, IsTrue, map, slice_set, slice_index, length};
 ghost use Rattle.std.specs.List.{list_any};
 ghost use Rattle.session_text.specs.Kinds.{modes_in};
@@ -370,7 +372,7 @@ fn may_stand(verb: Verb, place: Place) -> bool
     }
 }
 
-fn in_phase(place: Place) -> bool
+pub(crate) fn in_phase(place: Place) -> bool
     ensures { result ≡ in_phase place }
 {
     matches!(

@@ -1,5 +1,7 @@
+//! The verbs of lines, of line blocks and of calls, and which verb a word is in a text of a version.
+
 ghost use Rattle.std.specs.Prelude.{◌≡◌, ◌<◌, slice_index, slice_index_or, bytes_eq};
-ghost use Rattle.session_text.specs.Verbs.{line_text, call_text, verb_text, verb_of};
+ghost use Rattle.session_text.specs.Verbs.{line_text, call_text, verb_text, verb_of, is_call};
 ghost use Rattle.session_text.specs.VerbSlots.{slot_of};
 
 use tty_modes::is_same;
@@ -116,6 +118,13 @@ pub(crate) fn verb_of(version: u8, word: &[u8]) -> Option<Verb>
     } else {
         None
     }
+}
+
+/// Whether a word is the verb of a call.
+pub fn is_call(word: &[u8]) -> bool
+    ensures { result ≡ is_call (verb_of 1 word.now) }
+{
+    matches!(verb_of(1, word), Some(Verb::Call(_)))
 }
 
 /// A number below 128 that three bytes of a word give: another one for each verb.

@@ -1,3 +1,5 @@
+//! Packets from the characters of a line.
+
 ghost use Rattle.std.specs.Prelude.{◌≡◌, ◌≤◌, ◌<◌, ◌+◌, ℕ, slice_index_or, false, IsTrue, ◌∷◌, ◌++◌, ◌≢◌, [], List, length, take, IfOk, vec_len, vec_capacity};
 ghost use Rattle.std.specs.List.{AllByRecursion};
 ghost use Rattle.char_lanes.specs.Runs.{IsIn};
@@ -27,7 +29,7 @@ pub enum Fed {
 enum Piece {
     /// A piece whose bytes are kept.
     Plain,
-    /// The same, and its last character is an ESC.
+    /// A piece whose bytes are kept, and whose last character is an ESC.
     Escaped,
     /// A piece that is bad already.
     Spoilt,
@@ -76,15 +78,15 @@ impl Decoder {
         ensures outcomes { (list : List Flagged) → WasFed self.old list →
             outcomes (list ++ c ∷ []) ≡ outcomes list ++ outcomes_by_answer result self.new.packet }
 
-        // The same step by step, for what keeps a decoder.
+        // What one more character makes of it, for what keeps a decoder.
         ensures result { result ≡ answer_to self.old.piece c }
         ensures after { self.new ≡ decoding_after_character self.old c }
     {
         self.step(c)
     }
 
-    /// Takes the characters at the front that stand for themselves within a piece, as far as a packet has room. Answers how
-    /// many; each gave [`Fed::Going`].
+    /// Takes the characters at the front that stand for themselves within a piece, as far as a packet has room.
+    /// Answers how many; each gave [`Fed::Going`].
     #[inline(always)]
     pub fn feed_run(&mut self, chars: &[Flagged]) -> usize
         ensures within { result ≤ length chars.now }

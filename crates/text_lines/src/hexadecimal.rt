@@ -1,3 +1,5 @@
+//! Words that write bytes, each as two hexadecimal digits.
+
 ghost use Rattle.std.specs.Prelude.{◌≡◌, ◌==◌, ◌%◌, ◌*◌, ◌+◌, ◌++◌, ℕ, IsTrue, Some, length, IfOk, OnOk, OnErr};
 ghost use Rattle.std.specs.List.{list_all};
 ghost use Rattle.hex.specs.Hex.{hex_digit_value, is_hex_digit};
@@ -119,7 +121,7 @@ fn short_bytes_in(alloc: Global, word: &[u8]) -> Result<Vec<u8>, NoMemory>
     Ok(bytes)
 }
 
-/// The same of a long word: row by row, so that no room is filled before its bytes are written.
+/// The bytes of a long word, row by row, so that no room is filled before its bytes are written.
 #[inline(never)]
 fn bytes_by_rows(alloc: Global, word: &[u8]) -> Result<Vec<u8>, NoMemory>
     requires { IsTrue (is_hex word.now) }

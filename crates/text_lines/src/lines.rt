@@ -1,3 +1,5 @@
+//! The lines of a text, and the blanks in a line.
+
 ghost use Rattle.std.specs.Prelude.{◌≡◌, ◌<◌, [], ◌∷◌, nat_lt, position, not, length, slice_index_or, MatchOption};
 ghost use Rattle.std.specs.List.{list_any};
 ghost use Rattle.text_lines.specs.Lines.{is_newline, is_blank, is_low, first_is, lines_of, words_of};
@@ -47,8 +49,8 @@ fn blank_in(line: &[u8]) -> Option<usize>
     }
 }
 
-/// The same of a long line. It stands apart, so that what splits short lines stays small. Pieces
-/// without a blank are passed over whole.
+/// The first blank of a long line. Apart from that of a short one, so that what splits short lines
+/// stays small. Pieces without a blank are passed over whole.
 #[inline(never)]
 fn blank_far(line: &[u8]) -> Option<usize>
     ensures { result ≡ position is_blank line.now }
@@ -88,7 +90,7 @@ fn first_blank(line: &[u8]) -> Option<usize>
     memchr::memchr3(b' ', b'\t', b'\r', line)
 }
 
-/// The same of a short line, byte by byte.
+/// The first blank of a short line, byte by byte.
 #[inline(always)]
 fn blank_near(line: &[u8]) -> Option<usize>
     ensures { result ≡ position is_blank line.now }

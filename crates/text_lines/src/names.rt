@@ -1,3 +1,5 @@
+//! Words that are names.
+
 ghost use Rattle.std.specs.Prelude.{◌≡◌, ◌≤◌, IsTrue};
 ghost use Rattle.std.specs.List.{list_all};
 ghost use Rattle.text_lines.specs.Values.{begins_name, is_name, is_name_byte};

@@ -1,8 +1,10 @@
+//! Journals that are read, as tests: each kind of line, and answers that are refused, as none is printed so.
+
 use check_text::parse_check;
 use session_text::{BadLine, Reason, TextFault};
 use std::test::Fail;
-use tty_base::{Errno, Flag, Flagged, Overrun};
-use tty_calls::{AnswerRef, Event, Who};
+use tty_base::{Errno, Flag, Flagged, LineReport, Overrun};
+use tty_calls::{AnswerRef, Entry, Event, Who};
 use tty_modes::Modes;
 
 #[test]
@@ -14,58 +16,73 @@ fn each_kind_of_line_is_read(rt: HostRuntime) -> Result<(), Fail> {
         .ok_or("the text spells a session and a run")?;
     assert_eq!(rt; (session.ports, runs.len()), (1, 1));
     for run in runs.as_slice() {
-        assert_eq!(rt;
-            (run.line.arrived, run.line.fifo_lost, run.line.sent),
-            (6, 1, 4)
-        );
-        let overrun = Overrun {
-            at: 5,
-            sent: 4,
-            seen: 3,
-        };
-        assert_eq!(rt; run.line.overruns.as_slice(), [overrun].as_slice());
+        assert!(rt; is_the_line(&run.line));
         assert_eq!(rt; run.journal.len(), 17);
         for place in 0..run.journal.len() {
-            let entry = run.journal.at(place);
-            let is_there = match (place, entry.event) {
-                (0, Event::LineEnd(0)) => entry.who == Who::Line,
-                (2, Event::Wait) => entry.step == 1,
-                (3, Event::Tick) => entry.who == Who::Clock,
-                (4, Event::Flush(characters)) => {
-                    characters.len() == 5
-                        && characters.get(1)
-                            == Some(&Flagged {
-                                byte: 10,
-                                flag: Flag::Parity,
-                            })
-                }
-                (6, Event::Part(1)) => entry.part == 0,
-                (12, Event::CallerEnd) => entry.generation == 1,
-                (13, Event::ClockEnd) | (14, Event::PhaseEnd) => true,
-                (15, Event::Hangup(dropped)) => dropped.is_empty(),
-                (16, Event::CallerEnd) => entry.step == 9,
-                (_, Event::Answer { answer, dropped }) => {
-                    entry.who == Who::Caller(0)
-                        && entry.part == u32::from(place == 7)
-                        && is_answer(place, &answer)
-                        && dropped.len() == usize::from(place == 9)
-                }
-                _ => false,
-            };
-            assert!(rt; is_there, "at {place}");
+            assert!(rt; is_there(place, &run.journal.at(place)), "at {place}");
         }
     }
     Ok(())
 }
 
+/// Whether this is what the text tells of the line.
+fn is_the_line(line: &LineReport) -> bool {
+    let overrun = Overrun {
+        at: 5,
+        sent: 4,
+        seen: 3,
+    };
+    line.arrived == 6
+        && line.fifo_lost == 1
+        && line.sent == 4
+        && line.overruns.as_slice() == [overrun].as_slice()
+}
+
+/// Whether this is the entry that the text has at a place.
+fn is_there(place: usize, entry: &Entry) -> bool {
+    match &entry.event {
+        Event::Answer { answer, dropped } => {
+            entry.who == Who::Caller(0)
+                && entry.part == u32::from(place == 7)
+                && is_answer(place, answer)
+                && dropped.len() == usize::from(place == 9)
+        }
+        Event::Part(count) => place == 6 && *count == 1 && entry.part == 0,
+        Event::Wait => place == 2 && entry.step == 1,
+        Event::Flush(characters) => place == 4 && are_flushed(characters),
+        Event::Tick => place == 3 && entry.who == Who::Clock,
+        Event::LineEnd(sent) => place == 0 && *sent == 0 && entry.who == Who::Line,
+        Event::ClockEnd => place == 13,
+        Event::CallerEnd => ends_a_caller(place, entry),
+        Event::PhaseEnd => place == 14,
+        Event::Hangup(dropped) => place == 15 && dropped.is_empty(),
+    }
+}
+
+fn are_flushed(characters: &[Flagged]) -> bool {
+    let second = Flagged {
+        byte: 10,
+        flag: Flag::Parity,
+    };
+    characters.len() == 5 && characters.get(1) == Some(&second)
+}
+
+fn ends_a_caller(place: usize, entry: &Entry) -> bool {
+    place == 12 && entry.generation == 1 || place == 16 && entry.step == 9
+}
+
 /// Whether this is the answer that the text writes at a place.
 fn is_answer(place: usize, answer: &AnswerRef) -> bool {
-    match (place, *answer) {
-        (1, AnswerRef::Done) | (7, AnswerRef::Count(2)) | (9, AnswerRef::Number(0)) => true,
-        (5, AnswerRef::Got(bytes)) => bytes == b"hi".as_slice(),
-        (8, AnswerRef::ModesAre(modes)) => *modes == Modes::sane(),
-        (10, AnswerRef::CountsAre(counts)) => counts.breaks == 3 && counts.pfull == u64::MAX,
-        (11, AnswerRef::Refused(errno)) => errno == Errno::EBADF,
+    match answer {
+        AnswerRef::Done => place == 1,
+        AnswerRef::Got(bytes) => place == 5 && *bytes == b"hi".as_slice(),
+        AnswerRef::Count(count) => place == 7 && *count == 2,
+        AnswerRef::ModesAre(modes) => place == 8 && **modes == Modes::sane(),
+        AnswerRef::Number(number) => place == 9 && *number == 0,
+        AnswerRef::CountsAre(counts) => {
+            place == 10 && counts.breaks == 3 && counts.pfull == u64::MAX
+        }
+        AnswerRef::Refused(errno) => place == 11 && *errno == Errno::EBADF,
         _ => false,
     }
 }

@@ -1,3 +1,5 @@
+//! Sessions that are made from a number, as tests: the first bytes of some, and how much one of them holds.
+
 use session_gen::make;
 use std::alloc::Global;
 use std::test::Fail;

@@ -1,9 +1,12 @@
+//! The texts of plays, as tests: reports that tell every answer and every port, and journals with each kind of
+//! entry and with overruns.
+
 ghost use Rattle.std.specs.Prelude.{◌≡◌, length};
 ghost use Rattle.tty_calls.specs.Plain.{answer_lent, bytes_by, bytes_in, chars_in, event_of};
 
 use arrayvec::ArrayString;
 use session_print::{each_call_has_its_line, journal_text, play_text, report};
-use std::alloc::{AllocError, Global};
+use std::alloc::Global;
 use std::test::Fail;
 use tty_base::{
     Buffer, Bytes, Counts, Errno, Flag, Flagged, LineReport, NoMemory, Overrun, Signal,
@@ -14,16 +17,27 @@ use tty_calls::{
 };
 use tty_modes::Modes;
 
-fn script_of(alloc: Global, port: u8, name: &str, calls: &[Call]) -> Result<Script, AllocError> {
+/// A name, where it fits.
+fn name_of(text: &str) -> ArrayString<16> {
+    let mut name = ArrayString::new();
+    if text.len() <= 16 {
+        name.push_str(text);
+    }
+    name
+}
+
+fn calls_of(alloc: Global, calls: &[Call]) -> Result<Calls, NoMemory> {
     let mut list = Calls::new(alloc);
     for call in calls {
-        list.add(call).map_err(|_| AllocError)?;
+        list.add(call)?;
     }
-    Ok(Script {
-        port,
-        name: ArrayString::from(name).unwrap_or(ArrayString::new()),
-        calls: list,
-    })
+    Ok(list)
+}
+
+fn script_of(alloc: Global, port: u8, name: &str, calls: &[Call]) -> Result<Script, NoMemory> {
+    let calls = calls_of(alloc, calls)?;
+    let name = name_of(name);
+    Ok(Script { port, name, calls })
 }
 
 fn phase_of(alloc: Global, callers: Vec<Script>) -> Phase {
@@ -122,7 +136,7 @@ fn open<'a>() -> Call<'a> {
 }
 
 /// Two callers, whose answers do not stand in the order of the text.
-fn two_callers(alloc: Global) -> Result<Session, AllocError> {
+fn two_callers(alloc: Global) -> Result<Session, NoMemory> {
     let read = Call::Read { h: 0, n: 8 };
     let first = script_of(alloc, 0, "a", &[open(), read])?;
     let second = script_of(alloc, 0, "b", &[Call::Read { h: 1, n: 8 }])?;
@@ -171,7 +185,7 @@ fn each_call_is_told_with_the_answer_of_its_caller_and_step(rt: HostRuntime) -> 
 }
 
 /// One caller on the second of two ports, whose calls are answered in every way.
-fn every_answer(alloc: Global) -> Result<Session, AllocError> {
+fn every_answer(alloc: Global) -> Result<Session, NoMemory> {
     let calls = [
         Call::GetModes { h: 0 },
         Call::Counts { h: 0 },
@@ -273,7 +287,7 @@ done
 }
 
 /// One caller, who opens a port, makes it raw, reads three bytes and closes it.
-fn three_bytes(alloc: Global) -> Result<Session, AllocError> {
+fn three_bytes(alloc: Global) -> Result<Session, NoMemory> {
     let modes = Call::SetModes {
         h: 0,
         when: When::Now,
@@ -383,14 +397,28 @@ fn flagged(flag: Flag) -> Flagged {
     Flagged { byte: 0x0f, flag }
 }
 
-#[test]
-fn further_entries_and_overruns_are_told(rt: HostRuntime) -> Result<(), Fail> {
-    let alloc = rt.alloc();
-    let dropped = [good(b'x')];
+/// Entries of further kinds: a purge that dropped characters, and a hangup that dropped others.
+fn further_entries<'a>(
+    alloc: Global,
+    purged: &'a [Flagged],
+    hung_up: &'a [Flagged],
+) -> Result<Journal, NoMemory> {
     let purge = Event::Answer {
         answer: AnswerRef::Done,
-        dropped: &dropped,
+        dropped: purged,
     };
+    let caller = Who::Caller(0);
+    let entries = [
+        entry_of(caller, 0, 0, Event::Wait),
+        entry_of(caller, 0, 0, Event::Part(64)),
+        entry_of(Who::Clock, 0, 0, Event::Tick),
+        entry_of(caller, 0, 0, purge),
+        entry_of(Who::Session, 1, 0, Event::Hangup(hung_up)),
+    ];
+    journal_of(alloc, &entries)
+}
+
+fn run_with_an_overrun(alloc: Global) -> Result<PortRun, NoMemory> {
     let kinds = [
         flagged(Flag::Normal),
         flagged(Flag::Break),
@@ -398,28 +426,26 @@ fn further_entries_and_overruns_are_told(rt: HostRuntime) -> Result<(), Fail> {
         flagged(Flag::Frame),
         flagged(Flag::Overrun),
     ];
-    let caller = Who::Caller(0);
-    let entries = [
-        entry_of(caller, 0, 0, Event::Wait),
-        entry_of(caller, 0, 0, Event::Part(64)),
-        entry_of(Who::Clock, 0, 0, Event::Tick),
-        entry_of(caller, 0, 0, purge),
-        entry_of(Who::Session, 1, 0, Event::Hangup(&kinds)),
-    ];
     let overrun = Overrun {
         at: 64,
         sent: 64,
         seen: 0,
     };
-    let run = PortRun {
-        journal: journal_of(alloc, &entries)?,
+    Ok(PortRun {
+        journal: further_entries(alloc, &[good(b'x')], &kinds)?,
         line: LineReport {
             arrived: 70,
             fifo_lost: 5,
             sent: 64,
             overruns: Buffer::from_vec(vec![in alloc; overrun]?),
         },
-    };
+    })
+}
+
+#[test]
+fn further_entries_and_overruns_are_told(rt: HostRuntime) -> Result<(), Fail> {
+    let alloc = rt.alloc();
+    let run = run_with_an_overrun(alloc)?;
     let text = journal_text(alloc, &three_bytes(alloc)?, &[run])?;
     assert_eq!(rt;
         text.as_slice(),

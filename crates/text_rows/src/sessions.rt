@@ -1,8 +1,10 @@
+//! Sessions that are read, as tests: what a text spells, which limits hold, and why texts are refused.
+
 use session_text::{BadLine, Reason, TextFault, parse};
 use std::alloc::{AllocError, Global};
 use std::test::Fail;
-use tty_base::{Flag, Flagged, LineStep};
-use tty_calls::{Access, Call, When};
+use tty_base::{Flag, Flagged, LineStep, NoMemory};
+use tty_calls::{Access, Call, Phase, When};
 use tty_modes::Word;
 
 #[test]
@@ -14,47 +16,93 @@ fn three_bytes_are_two_phases(rt: HostRuntime) -> Result<(), Fail> {
         .ok_or("the text spells a session")?;
     assert_eq!(rt; (session.version, session.ports), (1, 1));
     assert_eq!(rt; session.flips.as_slice(), [4_096].as_slice());
-    let phases = session.phases.as_slice();
-    assert_eq!(rt; phases.len(), 2);
-    let first = phases.first().ok_or("a first phase")?;
-    assert_eq!(rt; first.lines.len(), 1);
-    assert_eq!(rt; first.ticks.as_slice(), [0].as_slice());
-    for script in first.callers.as_slice() {
-        assert_eq!(rt; (script.port, script.name.as_str()), (0, "a"));
-        assert_eq!(rt; script.calls.len(), 2);
-        assert!(rt;
-            matches!(
-                script.calls.get(0),
-                Some(Call::Open {
-                    h: 0,
-                    access: Access::Rw,
-                    nonblock: true
-                })
-            )
-        );
-        assert!(rt;
-            matches!(
-                script.calls.get(1),
-                Some(Call::SetModes { h: 0, when: When::Now, words })
-                    if words == [Word::Raw].as_slice()
-            )
-        );
-    }
-    let second = phases.last().ok_or("a last phase")?;
-    assert_eq!(rt; second.ticks.as_slice(), [5].as_slice());
-    for steps in second.lines.as_slice() {
-        let rows = [0x68, 0x69, 0x0a].map(|byte| LineStep::Rx(Flagged {
-            byte,
-            flag: Flag::Normal,
-        }));
-        assert_eq!(rt; steps.written_out(rt.alloc())?.as_slice(), rows.as_slice());
-    }
-    for script in second.callers.as_slice() {
-        assert_eq!(rt; script.calls.len(), 2);
-        assert!(rt; matches!(script.calls.get(0), Some(Call::Read { h: 0, n: 64 })));
-        assert!(rt; matches!(script.calls.get(1), Some(Call::Close { h: 0 })));
+    match session.phases.as_slice() {
+        [first, second] => {
+            assert!(rt; opens_and_is_raw(first));
+            assert!(rt; types_three(rt.alloc(), second)? && reads_and_closes(second));
+        }
+        _ => assert!(rt; false),
     }
     Ok(())
+}
+
+fn is_open(call: &Call) -> bool {
+    match call {
+        Call::Open {
+            h,
+            access,
+            nonblock,
+        } => *h == 0 && *access == Access::Rw && *nonblock,
+        _ => false,
+    }
+}
+
+fn sets_raw(call: &Call) -> bool {
+    match call {
+        Call::SetModes { h, when, words } => {
+            *h == 0 && *when == When::Now && *words == [Word::Raw].as_slice()
+        }
+        _ => false,
+    }
+}
+
+fn is_read(call: &Call) -> bool {
+    match call {
+        Call::Read { h, n } => *h == 0 && *n == 64,
+        _ => false,
+    }
+}
+
+fn is_close(call: &Call) -> bool {
+    match call {
+        Call::Close { h } => *h == 0,
+        _ => false,
+    }
+}
+
+/// Whether this is the phase in which the caller opens the port and sets it to raw.
+fn opens_and_is_raw(phase: &Phase) -> bool {
+    let [script] = phase.callers.as_slice() else {
+        return false;
+    };
+    let calls = &script.calls;
+    let (Some(first), Some(second)) = (calls.get(0), calls.get(1)) else {
+        return false;
+    };
+    let is_there = is_open(&first) && sets_raw(&second) && calls.len() == 2;
+    let is_named = script.port == 0 && script.name.as_str() == "a";
+    is_there && is_named && phase.lines.len() == 1 && phase.ticks.as_slice() == [0].as_slice()
+}
+
+fn rx(byte: u8) -> LineStep {
+    LineStep::Rx(Flagged {
+        byte,
+        flag: Flag::Normal,
+    })
+}
+
+/// Whether three good characters arrive in this phase.
+fn types_three(alloc: Global, phase: &Phase) -> Result<bool, NoMemory> {
+    let rows = [rx(0x68), rx(0x69), rx(0x0a)];
+    for steps in phase.lines.as_slice() {
+        if steps.written_out(alloc)?.as_slice() != rows.as_slice() {
+            return Ok(false);
+        }
+    }
+    Ok(phase.lines.len() == 1)
+}
+
+/// Whether this is the phase in which the caller reads and closes the port.
+fn reads_and_closes(phase: &Phase) -> bool {
+    let [script] = phase.callers.as_slice() else {
+        return false;
+    };
+    let calls = &script.calls;
+    let (Some(first), Some(second)) = (calls.get(0), calls.get(1)) else {
+        return false;
+    };
+    let is_there = is_read(&first) && is_close(&second) && calls.len() == 2;
+    is_there && phase.ticks.as_slice() == [5].as_slice()
 }
 
 /// A text: a beginning, a piece so many times, and an end.

@@ -1,1 +1,7 @@
+pub mod Handling
+pub mod LineMachine
 pub mod Machine
+pub mod Making
+pub mod PortMachine
+pub mod ReceiverMachine
+pub mod Telling

@@ -1,4 +1,5 @@
--- What owns a terminal through a pointer, as the machine has it: a `Loose` is a pointer and an allocator, a `Slot` a pointer.
+-- What owns a terminal through a pointer, as the machine has it: a `Loose` is a pointer and an allocator, a `Slot` a
+-- pointer.
 --     loose_out, loose_in      a `Loose` is [the value in memory, with the right to free it; the allocator]
 --     slot_out, slot_in        a `Slot` is [what it owns beside its pointer]
 use Rattle.std.proofs.Common.{◌≡◌, ℕ, List, [], ◌∷◌, ◌++◌, refl, ap, ◌∙◌, lit<, Option}

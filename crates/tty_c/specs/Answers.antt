@@ -7,27 +7,27 @@ use Rattle.tty_base.specs.declared.counters.Signal.TheVariants as signal
 use Rattle.tty_embed.specs.Embedded.{Embedded, accepts, after_receipt}
 use Rattle.tty_c.specs.declared.handle.Handle.{Handle}
 
--- What a call answers that has no number to answer. A program in C reads these numbers.
+-- What a call answers that has no number to answer: the negated numbers of errno.h. A program in C reads these.
 
--- no memory was left: -1
+-- no memory was left: ENOMEM
 abbrev pub no_memory : ℤ
-no_memory = negsuc 0
+no_memory = negsuc 11
 
--- the handle has no terminal: -2
+-- the handle has no terminal: ENODEV
 abbrev pub no_terminal : ℤ
-no_terminal = negsuc 1
+no_terminal = negsuc 18
 
--- a read has to wait: -3
+-- a call has to wait: EINPROGRESS
 abbrev pub waits : ℤ
-waits = negsuc 2
+waits = negsuc 114
 
--- a number is none of a flag: -4
+-- a number is none of a flag, and in general an argument none that the call knows: EINVAL
 abbrev pub no_flag : ℤ
-no_flag = negsuc 3
+no_flag = negsuc 21
 
--- the handle has a terminal already: -5
+-- the handle has a terminal already: EALREADY
 abbrev pub already_made : ℤ
-already_made = negsuc 4
+already_made = negsuc 113
 
 -- the terminal that a handle owns
 abbrev pub terminal_of : Handle → Option Embedded
@@ -38,8 +38,8 @@ abbrev pub answer_on : Option Embedded → (Embedded → ℤ) → ℤ
 answer_on None answer = no_terminal
 answer_on (Some t) answer = answer t
 
--- A call on the terminal of a handle answers and leaves what it answers and leaves of that terminal. Without a terminal it
--- answers so, and does nothing; with one, but without memory, it does nothing either.
+-- A call on the terminal of a handle answers and leaves what it answers and leaves of that terminal. Without a
+-- terminal it answers so, and does nothing; with one, but without memory, it does nothing either.
 pub record Calls (answer : Embedded → ℤ) (after : Embedded → Embedded) (old new : Option Embedded) (result : ℤ) : Type 0 where
   pub unmade : old ≡ None → result ≡ no_terminal
   pub answered : result ≢ no_memory → result ≡ answer_on old answer

@@ -10,8 +10,8 @@ use std::mem::replace;
 use std::ptr::null_mut;
 use tty_embed::Tty;
 
-/// A terminal that a program in C owns, or none. C sees the pointer and whether the handle is live, and sets both to zero
-/// before the first call.
+/// A terminal that a program in C owns, or none. C sees the pointer and whether the handle is live, and sets both to
+/// zero before the first call.
 #[repr(C)]
 pub struct Handle {
     pub slot: Slot,
@@ -19,7 +19,7 @@ pub struct Handle {
     pub ghost agrees: { live ≡ is_some slot.tty },
 }
 
-fn null() -> *mut u8 {
+pub(crate) fn null() -> *mut u8 {
     null_mut()
 }
 

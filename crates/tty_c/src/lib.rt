@@ -1,13 +1,25 @@
-//! The terminal of `tty_embed` for programs in C, which see a handle of two plain fields.
+//! The terminal of `tty_embed` and the port of `tty_device` for programs in C, which see handles of two plain fields.
 #![tactic(auto)]
 
 mod answers;
+mod calls;
+mod device_exports;
 mod exports;
 mod handle;
+mod lines;
 mod loose;
+mod port_exports;
+mod ports;
 mod slot;
+mod told;
+mod uart_exports;
+mod uarts;
 mod values;
 
 pub use answers::{MADE, NO_FLAG, NO_MEMORY, NO_TERMINAL, WAITS};
 pub use handle::Handle;
+pub use lines::{Line, LineSlot};
+pub use ports::{Port, PortSlot};
 pub use slot::Slot;
+pub use told::Told;
+pub use uarts::{Receiver, UartSlot};

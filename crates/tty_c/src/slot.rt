@@ -8,8 +8,8 @@ use std::alloc::Global;
 use std::marker::Model;
 use tty_embed::Tty;
 
-/// A pointer that owns a terminal, or nothing. It may not be dropped: a slot with a terminal is freed, or its terminal is
-/// taken out, and a body that lets it go is refused.
+/// A pointer that owns a terminal, or nothing. It may not be dropped: a slot with a terminal is freed, or its
+/// terminal is taken out, and a body that lets it go is refused.
 #[repr(C)]
 pub struct Slot {
     at: *mut u8,

@@ -18,7 +18,7 @@ pub fn of_truth(holds: bool) -> i64
 }
 
 /// The flag of a number.
-fn flag_of(number: u8) -> Option<Flag>
+pub fn flag_of(number: u8) -> Option<Flag>
     ensures { result ≡ flag_of number }
 {
     match number {
@@ -32,7 +32,7 @@ fn flag_of(number: u8) -> Option<Flag>
 }
 
 /// The number of a signal, and 0 for none.
-fn number_of(signal: Option<Signal>) -> i64
+pub fn number_of(signal: Option<Signal>) -> i64
     ensures { result ≡ signal_number signal }
 {
     match signal {

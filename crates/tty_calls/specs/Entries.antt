@@ -10,7 +10,8 @@ use Rattle.tty_calls.specs.declared.kept_entries.Lists.{Lists}
 use Rattle.tty_calls.specs.Parts.{Extends, IsPartOf, part_of}
 use Rattle.tty_calls.specs.Plain.{PlainAnswer, done, count_is, got, number_is, modes_are, counts_are, refused, idle, PlainEvent, answered, parted, waited, flushed, ticked, line_ended, clock_ended, caller_ended, phase_ended, hung_up, PlainEntry}
 
--- the entries, in order; how many more can be added without asking for memory, and how many bytes and characters they may give
+-- the entries, in order; how many more can be added without asking for memory, and how many bytes and characters they
+-- may give
 pub record JournalValue : Type 0 where
   pub items : List PlainEntry
   pub spare : ℕ

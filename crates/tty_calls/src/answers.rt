@@ -1,3 +1,5 @@
+//! What a call is answered, why a port made no entry, and what is left of a port at its end.
+
 ghost use Rattle.std.specs.Prelude.{◌≡◌};
 ghost use Rattle.tty_calls.specs.Plain.{answer_of, answer_lent};
 

@@ -1,3 +1,5 @@
+//! The calls of a terminal, and what they are made with.
+
 ghost use Rattle.std.specs.Prelude.{◌≡◌};
 ghost use Rattle.tty_calls.specs.Plain.{call_of, handle_of, changes};
 

@@ -1,3 +1,5 @@
+//! The entries of a journal, who made them and what they say, and the run of a port.
+
 ghost use Rattle.std.specs.Prelude.{◌≡◌};
 ghost use Rattle.tty_calls.specs.Plain.{is_caller};
 

@@ -1,3 +1,5 @@
+//! The names of a port's callers, each with its number.
+
 ghost use Rattle.std.specs.Prelude.{◌≡◌, [], Some, length, map, slice_get, option_map, IfOk, OnOk, OnErr};
 ghost use Rattle.tty_calls.specs.Sessions.{session_of, scripts_over, with_name, names_of, number_in};
 ghost use Rattle.tty_calls.specs.Naming.{names_after};

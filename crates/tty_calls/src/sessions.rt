@@ -1,3 +1,5 @@
+//! Sessions, with their phases and the scripts of their callers.
+
 use super::kept_calls::Calls;
 use arrayvec::ArrayString;
 use line_steps::LineSteps;

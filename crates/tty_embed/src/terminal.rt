@@ -1,3 +1,5 @@
+//! N_TTY for a program that runs it for ever: the calls.
+
 ghost use Rattle.std.specs.Prelude.{◌≡◌, ◌+◌, ◌≤◌, take, length, is_some, IfSome, IfOk, OnOk, OnErr};
 ghost use Rattle.tty_modes.specs.Reading.{word_of};
 ghost use Rattle.n_tty.specs.States.{unread_count};
@@ -22,8 +24,8 @@ const WRITE_ROOM: usize = 512;
 
 /// N_TTY with its modes, its output, what it counts, and its clock.
 ///
-/// It runs for ever: what goes to the wire and the signals are taken out at the front, and no count of calls ends it. No
-/// call has a condition; a call that finds no memory leaves the terminal as it was.
+/// It runs for ever: what goes to the wire and the signals are taken out at the front, and no count of calls ends it.
+/// No call has a condition; a call that finds no memory leaves the terminal as it was.
 #[derive(Drop)]
 pub struct Tty {
     disc: NTty,
@@ -65,8 +67,8 @@ impl Tty {
         })
     }
 
-    /// Receives a character from the line, where it is accepted: it is stored, edits, is echoed, steers output or raises a
-    /// signal. Answers whether it was accepted.
+    /// Receives a character from the line, where it is accepted: it is stored, edits, is echoed, steers output or
+    /// raises a signal. Answers whether it was accepted.
     pub fn receive(&mut self, byte: u8, flag: Flag) -> Result<bool, NoMemory>
         ensures accepted { IfOk result (λ accepted. accepted ≡ accepts self.old) }
         ensures after { OnOk result (self.new ≡ after_receipt self.old (record { byte = byte; flag = flag })) }
@@ -115,8 +117,8 @@ impl Tty {
         self.tick = self.tick.max(tick);
     }
 
-    /// Whether a read of at most `n` bytes, which has waited since a tick, would be answered: by a complete piece in canonical
-    /// mode, and else by MIN and TIME.
+    /// Whether a read of at most `n` bytes, which has waited since a tick, would be answered: by a complete piece in
+    /// canonical mode, and else by MIN and TIME.
     pub fn ready(&self, nonblock: bool, since: u64, n: usize) -> bool
         ensures { result ≡ is_ready_for self.now nonblock since n }
     {
@@ -125,8 +127,8 @@ impl Tty {
             .ready(asked, &self.modes, nonblock, since, self.tick)
     }
 
-    /// Reads into a place, and answers how many bytes; `None` where the read has to wait. In canonical mode the bytes are of
-    /// the first piece. 0 bytes are the end of the input, or what a read that asks for none is given.
+    /// Reads into a place, and answers how many bytes; `None` where the read has to wait. In canonical mode the bytes
+    /// are of the first piece. 0 bytes are the end of the input, or what a read that asks for none is given.
     pub fn read(
         &mut self,
         nonblock: bool,
@@ -164,7 +166,8 @@ impl Tty {
         Ok(count)
     }
 
-    /// Makes the change of modes that a mode word asks for. Answers whether it is a mode word; another text changes nothing.
+    /// Makes the change of modes that a mode word asks for. Answers whether it is a mode word; another text changes
+    /// nothing.
     pub fn set(&mut self, word: &[u8]) -> Result<bool, NoMemory>
         ensures known { IfOk result (λ known. known ≡ is_some (word_of word.now)) }
         ensures after { OnOk result (self.new ≡ after_setting self.old (word_of word.now)) }
@@ -185,7 +188,8 @@ impl Tty {
         Ok(true)
     }
 
-    /// Takes the first bytes that went to the wire into a place, as many as are there and as it holds. Answers how many.
+    /// Takes the first bytes that went to the wire into a place, as many as are there and as it holds. Answers how
+    /// many.
     pub fn take_wire(&mut self, place: &mut [u8]) -> Result<usize, NoMemory>
         ensures count { IfOk result (λ count. count ≡ taken_count self.old place.old) }
         ensures place { IfOk result (λ count. place.new ≡ at_front place.old (take count (wire_of self.old))) }

@@ -3,7 +3,7 @@ use Rattle.std.specs.Prelude.{◌≡◌, ◌≢◌, ◌⊎◌, ◌≤◌, ℕ, L
 use Rattle.tty_base.specs.Outside.{Rose, TookCount, LeavesRest}
 use Rattle.tty_calls.specs.declared.journals.PortRun.{PortRun}
 use Rattle.tty_one.specs.Endings.{AreKnown, AreRun, AreRunOne, AreGen, AskCheck, AskToRead, IsStatus, IsTold}
-use Rattle.tty_one.specs.Outcome.{IsDone, IsFull, IsToldRefused, IsToldIllegal, IsBroken, IsStatusOr, Completes, CompletesCheck}
+use Rattle.tty_one.specs.Outcome.{IsDone, IsToldRefused, IsToldIllegal, IsBroken, IsStatusOr, Completes, CompletesCheck}
 use Rattle.tty_run.specs.Headline.{IsPlayedOnThreads}
 
 -- the words among the arguments of a program, whose name comes first
@@ -14,8 +14,9 @@ words_after_name arguments = map string_bytes (drop 1 arguments)
 abbrev pub IsStarved : Type 0 → Type 0 → ℕ → Type 0
 IsStarved Unread Untold status = (status ≡ 5) × Unread × Untold
 
--- The call of these words ended with this status: by the faults of the source and of the sink, before and now, and by what the source has
--- left and what the sink was given, before and now, where they tell. The runs are those that the call returned.
+-- The call of these words ended with this status: by the faults of the source and of the sink, before and now, and by
+-- what the source has left and what the sink was given, before and now, where they tell. The runs are those that the
+-- call returned.
 pub record IsEnded (Unread : Type 0) (words : List (List ℕ)) (faults faults' misses misses' : ℕ) (left rest before now : Option (List ℕ)) (status : ℕ) : Type 0 where
   pub runs : List PortRun
   pub headline : AreRun words → status ≡ 0 → IsPlayedOnThreads words left before now runs
@@ -30,12 +31,11 @@ pub record IsEnded (Unread : Type 0) (words : List (List ℕ)) (faults faults' m
   pub done : status ≡ 0 → IsDone words left before now runs
   pub bad_session : status ≡ 1 → IsToldRefused words left before now
   pub not_legal : status ≡ 7 → IsToldIllegal words left before now
-  pub full : status ≡ 8 → IsFull words left runs
   pub broken : status ≡ 4 → IsBroken (AreKnown words) (AskToRead words) words faults faults' left rest before now runs
-  pub no_runs : status ≢ 0 → status ≢ 4 → status ≢ 8 → runs ≡ []
+  pub no_runs : status ≢ 0 → status ≢ 4 → runs ≡ []
   pub none_judged : AskCheck words → runs ≡ []
   pub rest_left : IfSome left (λ bytes. LeavesRest bytes rest)
-  pub complete : IfSome left (λ bytes. AreRun words ⊎ AreRunOne words → length bytes ≤ 4194304 → (Rose faults faults' → ⊥) → Completes bytes status runs)
+  pub complete : IfSome left (λ bytes. AreRun words ⊎ AreRunOne words → length bytes ≤ 4194304 → (Rose faults faults' → ⊥) → Completes bytes status)
   pub made : AreGen words → IsStatusOr 0 status
   pub unread : AreGen words → Unread
   pub judged : IfSome left (λ bytes. AskCheck words → length bytes ≤ 4194304 → (Rose faults faults' → ⊥) → CompletesCheck bytes status)

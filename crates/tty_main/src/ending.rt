@@ -1,3 +1,5 @@
+//! How the program runs and ends.
+
 ghost use Rattle.std.specs.Prelude.{◌≡◌, ◌⊎◌, [], IfOk, IfSome, IfNone, OnErr};
 ghost use Rattle.std.specs.Process.{exit_status};
 ghost use Rattle.tty_one.specs.Endings.{texts_of};

@@ -18,7 +18,8 @@ use crate::words::Word;
 #[derive(Clone, Copy, PartialEq, Eq, Debug)]
 pub struct BadWord;
 
-/// Reads a mode word: a flag's name, `-` and the name, `NAME=N` with N from 0 to 255 in decimal digits without sign or leading zero, `raw` or `sane`.
+/// Reads a mode word: a flag's name, `-` and the name, `NAME=N` with N from 0 to 255 in decimal digits without sign
+/// or leading zero, `raw` or `sane`.
 ///
 /// `BadWord` comes exactly where the text is none of these.
 pub fn set_word(text: &str) -> Result<Word, BadWord>
@@ -41,7 +42,8 @@ pub fn set_word_bytes(bytes: &[u8]) -> Result<Word, BadWord>
     read_word(bytes).ok_or(BadWord)
 }
 
-/// Each mode word is read back from its text, what is read spells the text, and different mode words have different texts.
+/// Each mode word is read back from its text, what is read spells the text, and different mode words have different
+/// texts.
 pub fn words_are_their_texts()
     ensures read_back { (w : Word) → IsModeWord w → word_of (word_text w) ≡ Some w }
     ensures spelled { (text : List ℕ) → IfSome (word_of text) (λ w. IsModeWord w × (word_text w ≡ text)) }

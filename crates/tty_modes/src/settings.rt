@@ -154,7 +154,8 @@ fn are_unprinted(characters: &[u8]) -> bool
     true
 }
 
-/// The same after one was changed to a value, from what it was before: where none was printed, the value alone counts.
+/// Whether none is from blank to tilde after one of them was changed, by what held before: where none was, the
+/// new value alone counts.
 fn stay_unprinted(before: bool, value: u8, characters: &[u8]) -> bool
     ensures { (old : List ℕ) (place : ℕ) → before ≡ are_unprinted old → place < length old → characters.now ≡ slice_set old place value →
         result ≡ are_unprinted characters.now }

@@ -12,7 +12,7 @@ const FLAG_SLOTS: [u8; 128] = [
     0, 0, 0, 0, 0, 0, 0, 0,
 ];
 
-/// The same of the control characters.
+/// The control character whose name has this slot. Where none has it, any may stand there.
 const CHARACTER_SLOTS: [u8; 128] = [
     0, 0, 0, 0, 0, 0, 0, 0, 10, 0, 0, 0, 0, 0, 0, 1, 0, 0, 0, 0, 0, 0, 3, 0, 0, 0, 0, 0, 0, 0, 0,
     0, 0, 0, 2, 0, 0, 0, 0, 0, 0, 0, 5, 0, 6, 0, 0, 0, 0, 0, 0, 0, 0, 0, 0, 0, 0, 0, 0, 0, 0, 0, 0,

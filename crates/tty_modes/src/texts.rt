@@ -32,7 +32,7 @@ fn are_bytes_same(word: &[u8], text: &[u8]) -> bool
     true
 }
 
-/// The same, four bytes at a time. The last four are compared together with some that were seen.
+/// Whether two texts are the same, four bytes at a time. The last four are compared together with some that were seen.
 #[inline(always)]
 fn are_fours_same(word: &[u8], text: &[u8]) -> bool
     requires same { length word.now ≡ length text.now }

@@ -20,7 +20,7 @@ use Rattle.tty_base.specs.Lines.{arrival_count}
 use Rattle.tty_terminal.specs.Runs.{chars_of}
 use Rattle.tty_one.specs.declared.words.Command.TheVariants.{Check}
 use Rattle.tty_one.specs.declared.works.Ending.{Ending}
-use Rattle.tty_one.specs.declared.works.Ending.TheVariants.{Done, BadSession, BadWords, ReadFault, TooLong, NotLegal, JournalFull}
+use Rattle.tty_one.specs.declared.works.Ending.TheVariants.{Done, BadSession, BadWords, ReadFault, TooLong, NotLegal}
 use Rattle.tty_one.specs.Endings.{status_of, IsOfSource, IsShort}
 use Rattle.tty_one.specs.Outcome.{IsAllOf, IsJudged, IsRefused, CompletesCheck}
 use Rattle.tty_one.specs.Works.{IsJudgedText, IsWork}
@@ -100,11 +100,10 @@ judged_works faults now left rest text (NotLegal line) runs none whole short h =
   },
   short,
 )
-judged_works faults now left rest text JournalFull runs none whole short h = absurd h
 
 -- ---- how each text is told
 
-spelled_in : (bytes : List ℕ) (verdict : Verdict) (h : IsJudged (Some bytes) verdict) → SpellsRuns bytes h.session (map run_of h.runs)
+pub spelled_in : (bytes : List ℕ) (verdict : Verdict) (h : IsJudged (Some bytes) verdict) → SpellsRuns bytes h.session (map run_of h.runs)
 spelled_in bytes verdict h = subst (λ (text : List ℕ). SpellsRuns text h.session (map run_of h.runs)) h.whole h.spelled
 
 refused_in : (bytes : List ℕ) (bad : BadLine) → IsRefused refusal_of_runs (Some bytes) bad → refusal_of_runs bytes ≡ Some bad
@@ -118,7 +117,7 @@ not_both bytes session runs bad spells refused = none_some bad (sym (spelled_fau
     none_some b h = cc
 
 -- whatever runs the text spells, they are legal together
-legal_alike : (bytes : List ℕ) (one other : PlainSession) (runs others : List PortRun) → SpellsRuns bytes one (map run_of runs) → SpellsRuns bytes other (map run_of others) → AreLegal one runs → AreLegal other others
+pub legal_alike : (bytes : List ℕ) (one other : PlainSession) (runs others : List PortRun) → SpellsRuns bytes one (map run_of runs) → SpellsRuns bytes other (map run_of others) → AreLegal one runs → AreLegal other others
 legal_alike bytes one other runs others spells spelled h =
     let same = spelled_once bytes one other (map run_of runs) (map run_of others) spells spelled in
     subst (λ (s : PlainSession). AreLegal s others) same.0 (all_legal_as one runs others same.1 h)
@@ -154,4 +153,3 @@ completes_check bytes faults faults' rest runs (NotLegal line) status (inl is) o
       illegal = λ session found spells illegal. inl is;
       refused = λ bad wrong. absurd (not_both bytes work.told.judged.session (map run_of work.told.judged.runs) bad (spelled_in bytes work.verdict work.told.judged) wrong);
     }
-completes_check bytes faults faults' rest runs JournalFull status (inl is) of work short sound = absurd work

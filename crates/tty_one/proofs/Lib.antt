@@ -1,8 +1,11 @@
 mod Answered
 mod Judged
 mod Numbered
+mod OneReport
 pub mod Outcomes
 pub mod PortLemmas
+mod Printed
 pub mod Refused
 mod ReportedLines
+pub mod Roomy
 mod WordLemmas

@@ -1,8 +1,7 @@
 -- No journal of the session of a number is full, since nothing is written in it.
-use Rattle.std.proofs.Common.{◌≡◌, ◌≤◌, ◌==◌, ◌+◌, ℕ, Bool, true, false, if◌then◌else◌, List, [], ◌∷◌, ◌++◌, map, refl, sym, ap, subst, ◌∙◌, arith}
-use Rattle.std.specs.Prelude.{filter, sum_by, slice_get, Some, IfOk, Result, Ok, Err}
+use Rattle.std.proofs.Common.{◌≡◌, ◌==◌, ℕ, Bool, true, false, if◌then◌else◌, List, [], ◌∷◌, map, refl, arith}
+use Rattle.std.specs.Prelude.{filter, sum_by, IfOk, Result, Ok, Err}
 use Rattle.std.specs.List.{range_with_len}
-use Rattle.std.proofs.lemmas.Bool.{false≢true}
 use Rattle.std.proofs.lemmas.List.Sums.{sum_by-cons, sum_by-append}
 use Rattle.tty_calls.specs.declared.journals.PortRun.{PortRun}
 use Rattle.tty_calls.specs.Plain.{PlainCall, reads, sets_disc}
@@ -10,16 +9,15 @@ use Rattle.tty_calls.specs.Sessions.{PlainScript, scripts_on, scripts_over}
 use Rattle.session_gen.proofs.Within.{generated_within}
 use Rattle.session_gen.specs.Generated.{caller_script, opening_calls, opening_phase, changes_twice, reading_calls, reading_phase, generated_session}
 use Rattle.journal_bound.specs.Counts.{written_count, byte_count_on}
-use Rattle.journal_bound.proofs.Bound.{never_full}
+use Rattle.journal_bound.proofs.Bound.{few_calls, never_full}
 use Rattle.tty_base.specs.declared.buffers.NoMemory.{NoMemory}
 use Rattle.tty_one.specs.declared.works.Work.{Work}
 use Rattle.tty_one.specs.declared.works.Ending.{Ending}
-use Rattle.tty_one.specs.declared.works.Ending.TheVariants.{Done, BadSession, BadWords, ReadFault, TooLong, NotLegal, JournalFull}
+use Rattle.tty_one.specs.declared.works.Ending.TheVariants.{Done, BadSession, BadWords, ReadFault, TooLong, NotLegal}
 use Rattle.tty_one.specs.declared.playing.Telling.TheVariants.{Summary}
 use Rattle.tty_one.specs.declared.words.Command.TheVariants.{Gen}
-use Rattle.tty_one.specs.Outcome.{IsOrdered, AreCutShort}
-use Rattle.tty_one.specs.Works.{IsSessionWork, CanEnd}
-use Rattle.tty_one.proofs.PortLemmas.{none_full}
+use Rattle.tty_one.specs.Outcome.{IsOrdered}
+use Rattle.tty_one.specs.Works.{IsSessionWork, CanEnd, IsNeverFull}
 
 -- the bytes that scripts write
 abbrev written_in : List PlainScript → ℕ
@@ -61,15 +59,13 @@ nothing_written number p =
     let later = readings_nothing number p (range_with_len 1 15) in
     omega (arith, whole, here, later)
 
-never_cut : (number : ℕ) (runs : List PortRun) → AreCutShort IsOrdered (generated_session number) runs → ⊥
-never_cut number runs h =
-    let few = λ (p : ℕ). le_zero (byte_count_on p (opening_phase ∷ map (reading_phase number) (range_with_len 1 15))) (nothing_written number p) in
-    false≢true (
-    sym (none_full runs (λ p run is. let part = h.each p run is in never_full p (generated_session number) run part.terminal (generated_within number) part.short (few p))) ∙ h.full
-    )
-  where
-    le_zero : (n : ℕ) → n ≡ 0 → n ≤ 1800000
-    le_zero n none = omega (arith, none)
+-- no journal of the session of a number is ever full
+pub number_room : (number : ℕ) → IsNeverFull (generated_session number)
+number_room number p run t short =
+    let limits = generated_within number in
+    let phases = (generated_session number).phases in
+    let none : byte_count_on p phases ≡ 0 = nothing_written number p in
+    never_full p (generated_session number) run t limits short (omega (arith, none, few_calls p phases, limits.few_calls, limits.few_characters p))
 
 -- how the work on the session of a number can end
 ends_at : (number : ℕ) (e : Ending) (runs : List PortRun) → IsSessionWork IsOrdered (Summary number) (generated_session number) e runs → CanEnd (Gen number) e
@@ -79,7 +75,6 @@ ends_at number BadWords runs h = h
 ends_at number ReadFault runs h = h
 ends_at number TooLong runs h = h
 ends_at number (NotLegal line) runs h = h
-ends_at number JournalFull runs h = never_cut number runs h
 
 pub number_ends : (number : ℕ) (r : Result Work NoMemory) → IfOk r (λ work. IsSessionWork IsOrdered (Summary number) (generated_session number) work.ending work.runs.items) → IfOk r (λ work. CanEnd (Gen number) work.ending)
 number_ends number (Ok work) h = ends_at number work.ending work.runs.items h

@@ -1,6 +1,5 @@
 -- What each status says of the work that ended with it.
 use Rattle.std.proofs.Common.{◌≡◌, ◌⊎◌, ◌+◌, ◌≤◌, take, drop, length, codes, get_or, arith, ℕ, Bool, true, false, List, [], ◌∷◌, ◌++◌, Option, None, Some, IfSome, inl, inr, refl, sym, ap, subst, ◌∙◌}
-use Rattle.std.proofs.lemmas.Bool.{false≢true}
 use Rattle.tty_base.specs.Contents.{Contents}
 use Rattle.tty_base.specs.Outside.{Rose, LeavesRest, TookCount}
 use Rattle.tty_calls.specs.declared.journals.PortRun.{PortRun}
@@ -14,9 +13,9 @@ use Rattle.tty_one.specs.declared.words.Command.TheVariants.{Run, RunOne, Gen, C
 use Rattle.tty_one.specs.declared.playing.Telling.{Telling}
 use Rattle.tty_one.specs.declared.playing.Telling.TheVariants.{Report}
 use Rattle.tty_one.specs.declared.works.Ending.{Ending}
-use Rattle.tty_one.specs.declared.works.Ending.TheVariants.{Done, BadSession, BadWords, ReadFault, TooLong, NotLegal, JournalFull}
+use Rattle.tty_one.specs.declared.works.Ending.TheVariants.{Done, BadSession, BadWords, ReadFault, TooLong, NotLegal}
 use Rattle.tty_one.specs.Endings.{Ask, AskRun, AskRunOne, AskCheck, AskOneToRead, IsOfOne, AreKnown, AreOfOne, AreRun, AreRunOne, AreGen, line_of, status_of, text_of, bad_session_line, IsOfSource, IsTold}
-use Rattle.tty_one.specs.Outcome.{IsOrdered, IsInAnyOrder, IsPlayedText, IsRefused, IsReported, AreCutShort, IsStatusOr, Completes, CompletesCheck, WasGiven, WasGivenFront, IsDone, IsFull, IsToldRefused, IsToldIllegal, IsBroken, breaks_fault, breaks_long, breaks_refusal, breaks_text, breaks_verdict, breaks_full}
+use Rattle.tty_one.specs.Outcome.{IsOrdered, IsInAnyOrder, IsPlayedText, IsRefused, IsReported, IsStatusOr, Completes, CompletesCheck, WasGiven, WasGivenFront, IsDone, IsToldRefused, IsToldIllegal, IsBroken, breaks_fault, breaks_long, breaks_refusal, breaks_text, breaks_verdict}
 use Rattle.tty_one.specs.Works.{IsWork, CanEnd, ReadsNothing}
 use Rattle.tty_one.proofs.Judged.{completes_check}
 
@@ -38,19 +37,19 @@ gen_differs h = let first : 103 ≡ 114 = ap (λ word. get_or word 0 0) h in ome
 gen_is_not_run : (words rest others : List (List ℕ)) → words ≡ codes "gen" ∷ rest → words ≡ codes "run" ∷ others → ⊥
 gen_is_not_run words rest others gen run = gen_differs (same_heads (codes "gen") (codes "run") rest others (sym gen ∙ run))
 
-not_gen_and_one : (words : List (List ℕ)) (journals : Bool) → AreGen words → AskRunOne journals words → ⊥
+pub not_gen_and_one : (words : List (List ℕ)) (journals : Bool) → AreGen words → AskRunOne journals words → ⊥
 not_gen_and_one words false gen run = gen_is_not_run words (gen.1.0 ∷ []) (codes "--one" ∷ []) gen.1.1 run
 not_gen_and_one words true gen (inl run) = gen_is_not_run words (gen.1.0 ∷ []) (codes "--one" ∷ codes "--journal" ∷ []) gen.1.1 run
 not_gen_and_one words true gen (inr run) = gen_is_not_run words (gen.1.0 ∷ []) (codes "--journal" ∷ codes "--one" ∷ []) gen.1.1 run
 
-not_gen_and_run : (words : List (List ℕ)) (journals : Bool) → AreGen words → AskRun journals words → ⊥
+pub not_gen_and_run : (words : List (List ℕ)) (journals : Bool) → AreGen words → AskRun journals words → ⊥
 not_gen_and_run words false gen run = gen_is_not_run words (gen.1.0 ∷ []) [] gen.1.1 run
 not_gen_and_run words true gen run = gen_is_not_run words (gen.1.0 ∷ []) (codes "--journal" ∷ []) gen.1.1 run
 
-not_check_and_gen : (words : List (List ℕ)) → AreGen words → AskCheck words → ⊥
+pub not_check_and_gen : (words : List (List ℕ)) → AreGen words → AskCheck words → ⊥
 not_check_and_gen words gen check = let same : 2 ≡ 1 = ap length (sym gen.1.1 ∙ check) in omega (arith, same)
 
-not_check_and_one : (words : List (List ℕ)) (journals : Bool) → AskCheck words → AskRunOne journals words → ⊥
+pub not_check_and_one : (words : List (List ℕ)) (journals : Bool) → AskCheck words → AskRunOne journals words → ⊥
 not_check_and_one words false check run = let same : 2 ≡ 1 = ap length (sym run ∙ check) in omega (arith, same)
 not_check_and_one words true check (inl run) = let same : 3 ≡ 1 = ap length (sym run ∙ check) in omega (arith, same)
 not_check_and_one words true check (inr run) = let same : 3 ≡ 1 = ap length (sym run ∙ check) in omega (arith, same)
@@ -58,14 +57,14 @@ not_check_and_one words true check (inr run) = let same : 3 ≡ 1 = ap length (s
 check_differs : codes "check" ≡ codes "run" → ⊥
 check_differs h = let first : 99 ≡ 114 = ap (λ word. get_or word 0 0) h in omega (arith, first)
 
-not_check_and_run : (words : List (List ℕ)) (journals : Bool) → AskCheck words → AskRun journals words → ⊥
+pub not_check_and_run : (words : List (List ℕ)) (journals : Bool) → AskCheck words → AskRun journals words → ⊥
 not_check_and_run words false check run = check_differs (same_heads (codes "check") (codes "run") [] [] (sym check ∙ run))
 not_check_and_run words true check run = let same : 2 ≡ 1 = ap length (sym run ∙ check) in omega (arith, same)
 
 option_differs : codes "--journal" ≡ codes "--one" → ⊥
 option_differs h = let third : 106 ≡ 111 = ap (λ word. get_or word 2 0) h in omega (arith, third)
 
-not_run_and_one : (words : List (List ℕ)) (journals others : Bool) → AskRun journals words → AskRunOne others words → ⊥
+pub not_run_and_one : (words : List (List ℕ)) (journals others : Bool) → AskRun journals words → AskRunOne others words → ⊥
 not_run_and_one words false false run one = let same : 1 ≡ 2 = ap length (sym run ∙ one) in omega (arith, same)
 not_run_and_one words false true run (inl one) = let same : 1 ≡ 3 = ap length (sym run ∙ one) in omega (arith, same)
 not_run_and_one words false true run (inr one) = let same : 1 ≡ 3 = ap length (sym run ∙ one) in omega (arith, same)
@@ -136,7 +135,6 @@ broken Known Reading words command faults faults' left rest before now runs BadW
 broken Known Reading words command faults faults' left rest before now runs ReadFault asked can reads of work front = breaks_fault (reads (read_fault_reads command can)) of.0 work front
 broken Known Reading words command faults faults' left rest before now runs TooLong asked can reads of work front = breaks_long (reads (long_reads command can)) of work front
 broken Known Reading words command faults faults' left rest before now runs (NotLegal line) asked can reads of work front = broken_verdict Known Reading words command faults faults' left rest before now runs line asked work front
-broken Known Reading words command faults faults' left rest before now runs JournalFull asked can reads of work front = breaks_full (record { command = command; asked = asked; played = work }) front
 
 -- a status that is not that of a write fault is that of the ending
 status_is : (status n : ℕ) → (status ≡ n) ⊎ (status ≡ 4) → (status ≡ 4 → ⊥) → status ≡ n
@@ -151,7 +149,6 @@ done_at words command left before now runs BadWords asked work given is = absurd
 done_at words command left before now runs ReadFault asked work given is = absurd (omega (arith, is))
 done_at words command left before now runs TooLong asked work given is = absurd (omega (arith, is))
 done_at words command left before now runs (NotLegal line) asked work given is = absurd (omega (arith, is))
-done_at words command left before now runs JournalFull asked work given is = absurd (omega (arith, is))
 
 pub done_by : (words : List (List ℕ)) (command : Command) (left before now : Option (List ℕ)) (runs : List PortRun) (e : Ending) (status : ℕ)
     → Ask command words → IsWork command left e runs → (status ≡ status_of e) ⊎ (status ≡ 4) → ((status ≡ 4 → ⊥) → WasGiven before now (text_of e)) → status ≡ 0 → IsDone words left before now runs
@@ -168,7 +165,6 @@ refused_at words command left before now runs BadWords asked work given is = abs
 refused_at words command left before now runs ReadFault asked work given is = absurd (omega (arith, is))
 refused_at words command left before now runs TooLong asked work given is = absurd (omega (arith, is))
 refused_at words command left before now runs (NotLegal line) asked work given is = absurd (omega (arith, is))
-refused_at words command left before now runs JournalFull asked work given is = absurd (omega (arith, is))
 
 pub refused_by : (words : List (List ℕ)) (command : Command) (left before now : Option (List ℕ)) (runs : List PortRun) (e : Ending) (status : ℕ)
     → Ask command words → IsWork command left e runs → (status ≡ status_of e) ⊎ (status ≡ 4) → ((status ≡ 4 → ⊥) → WasGiven before now (text_of e)) → status ≡ 1 → IsToldRefused words left before now
@@ -191,29 +187,12 @@ illegal_at words command left before now runs (BadSession line) asked work given
 illegal_at words command left before now runs BadWords asked work given is = absurd (omega (arith, is))
 illegal_at words command left before now runs ReadFault asked work given is = absurd (omega (arith, is))
 illegal_at words command left before now runs TooLong asked work given is = absurd (omega (arith, is))
-illegal_at words command left before now runs JournalFull asked work given is = absurd (omega (arith, is))
 
 pub illegal_by : (words : List (List ℕ)) (command : Command) (left before now : Option (List ℕ)) (runs : List PortRun) (e : Ending) (status : ℕ)
     → Ask command words → IsWork command left e runs → (status ≡ status_of e) ⊎ (status ≡ 4) → ((status ≡ 4 → ⊥) → WasGiven before now (text_of e)) → status ≡ 7 → IsToldIllegal words left before now
 illegal_by words command left before now runs e status asked work is given seven =
     let other : status ≡ 4 → ⊥ = λ four. omega (arith, seven, four) in
     illegal_at words command left before now runs e asked work (given other) (sym (status_is status (status_of e) is other) ∙ seven)
-
--- a full journal
-full_at : (words : List (List ℕ)) (command : Command) (left : Option (List ℕ)) (runs : List PortRun) (e : Ending) → Ask command words → IsWork command left e runs → status_of e ≡ 8 → IsFull words left runs
-full_at words command left runs (Done report) asked work is = absurd (omega (arith, is))
-full_at words command left runs (BadSession line) asked work is = absurd (omega (arith, is))
-full_at words command left runs BadWords asked work is = absurd (omega (arith, is))
-full_at words command left runs ReadFault asked work is = absurd (omega (arith, is))
-full_at words command left runs TooLong asked work is = absurd (omega (arith, is))
-full_at words command left runs (NotLegal line) asked work is = absurd (omega (arith, is))
-full_at words command left runs JournalFull asked work is = record { command = command; asked = asked; played = work }
-
-pub full_by : (words : List (List ℕ)) (command : Command) (left : Option (List ℕ)) (runs : List PortRun) (e : Ending) (status : ℕ)
-    → Ask command words → IsWork command left e runs → (status ≡ status_of e) ⊎ (status ≡ 4) → status ≡ 8 → IsFull words left runs
-full_by words command left runs e status asked work is eight =
-    let other : status ≡ 4 → ⊥ = λ four. omega (arith, eight, four) in
-    full_at words command left runs e asked work (sym (status_is status (status_of e) is other) ∙ eight)
 
 -- a status other than 0, 1 and 7 tells its line
 line_at : (e : Ending) → (status_of e ≡ 0 → ⊥) → (status_of e ≡ 1 → ⊥) → (status_of e ≡ 7 → ⊥) → text_of e ≡ line_of (status_of e)
@@ -223,7 +202,6 @@ line_at BadWords not_done not_refused not_illegal = refl
 line_at ReadFault not_done not_refused not_illegal = refl
 line_at TooLong not_done not_refused not_illegal = refl
 line_at (NotLegal line) not_done not_refused not_illegal = absurd (not_illegal refl)
-line_at JournalFull not_done not_refused not_illegal = refl
 
 pub told_by : (before now : Option (List ℕ)) (e : Ending) (status : ℕ) → (status ≡ status_of e) ⊎ (status ≡ 4) → ((status ≡ 4 → ⊥) → WasGiven before now (text_of e)) → WasGivenFront before now (text_of e)
     → IfSome before (λ bytes. IsTold status bytes now)
@@ -247,7 +225,6 @@ took_at BadWords faults faults' left rest of is = absurd of
 took_at ReadFault faults faults' left rest of is = absurd (omega (arith, is))
 took_at TooLong faults faults' left rest of is = of
 took_at (NotLegal line) faults faults' left rest of is = absurd (omega (arith, is))
-took_at JournalFull faults faults' left rest of is = absurd (omega (arith, is))
 
 pub took_by : (e : Ending) (status faults faults' : ℕ) (left rest : Option (List ℕ)) → IsOfSource e faults faults' left rest → (status ≡ status_of e) ⊎ (status ≡ 4) → IfSome left (λ bytes. status ≡ 6 → TookCount 4194305 bytes rest)
 took_by e status faults faults' None rest of is = tt
@@ -264,7 +241,6 @@ long_by BadWords status faults faults' (Some bytes) rest of is = λ took. absurd
 long_by ReadFault status faults faults' (Some bytes) rest of is = λ took. absurd (of.1 took)
 long_by TooLong status faults faults' (Some bytes) rest of is = λ took. is
 long_by (NotLegal line) status faults faults' (Some bytes) rest of is = λ took. absurd (of took)
-long_by JournalFull status faults faults' (Some bytes) rest of is = λ took. absurd (of took)
 
 -- ---- what a text comes to where reading did not fail
 
@@ -291,59 +267,47 @@ module _ (InOrder : ℕ → PlainSession → PortRun → Type 0) (telling : Tell
   spelled_by : (bytes text : List ℕ) (runs : List PortRun) (h : IsPlayedText (Some bytes) (λ session. IsReported InOrder telling session runs text)) → Spells bytes h.session
   spelled_by bytes text runs h = spelled_in bytes (λ session. IsReported InOrder telling session runs text) h
 
-  plays_so : (bytes : List ℕ) (runs : List PortRun) (text : List ℕ) (status : ℕ) → status ≡ 0 → IsPlayedText (Some bytes) (λ session. IsReported InOrder telling session runs text) → Completes bytes status runs
+  plays_so : (bytes : List ℕ) (runs : List PortRun) (text : List ℕ) (status : ℕ) → status ≡ 0 → IsPlayedText (Some bytes) (λ session. IsReported InOrder telling session runs text) → Completes bytes status
   plays_so bytes runs text status is h =
       record {
-        played = λ session spells room. inl is;
-        full = λ session spells full. absurd (false≢true (sym h.ends.room ∙ full));
+        played = λ session spells. inl is;
         refused = λ bad wrong. absurd (not_both bytes h.session bad (spelled_by bytes text runs h) wrong);
       }
 
-  fills_so : (bytes : List ℕ) (runs : List PortRun) (status : ℕ) → status ≡ 8 → IsPlayedText (Some bytes) (λ session. AreCutShort InOrder session runs) → Completes bytes status runs
-  fills_so bytes runs status is h =
-      record {
-        played = λ session spells room. absurd (false≢true (sym room ∙ h.ends.full));
-        full = λ session spells full. inl is;
-        refused = λ bad wrong. absurd (not_both bytes h.session bad (spelled_in bytes (λ session. AreCutShort InOrder session runs) h) wrong);
-      }
-
-refuses_so : (bytes : List ℕ) (runs : List PortRun) (bad : BadLine) (status : ℕ) → status ≡ 1 → IsRefused refusal (Some bytes) bad → Completes bytes status runs
-refuses_so bytes runs bad status is h =
+refuses_so : (bytes : List ℕ) (bad : BadLine) (status : ℕ) → status ≡ 1 → IsRefused refusal (Some bytes) bad → Completes bytes status
+refuses_so bytes bad status is h =
     record {
-      played = λ session spells room. absurd (not_both bytes session bad spells (refused_in bytes bad h));
-      full = λ session spells full. absurd (not_both bytes session bad spells (refused_in bytes bad h));
+      played = λ session spells. absurd (not_both bytes session bad spells (refused_in bytes bad h));
       refused = λ other wrong. inl is;
     }
 
 completes_one : (journals : Bool) (bytes : List ℕ) (faults faults' : ℕ) (rest : Option (List ℕ)) (runs : List PortRun) (e : Ending) (status : ℕ) → status ≡ status_of e
-    → IsOfSource e faults faults' (Some bytes) rest → IsWork (RunOne journals) (Some bytes) e runs → LeavesRest bytes rest → length bytes ≤ 4194304 → (Rose faults faults' → ⊥) → Completes bytes status runs
+    → IsOfSource e faults faults' (Some bytes) rest → IsWork (RunOne journals) (Some bytes) e runs → LeavesRest bytes rest → length bytes ≤ 4194304 → (Rose faults faults' → ⊥) → Completes bytes status
 completes_one journals bytes faults faults' rest runs (Done report) status is of work left short sound = plays_so IsOrdered (Report journals) bytes runs report.items status is work
-completes_one journals bytes faults faults' rest runs (BadSession line) status is of work left short sound = refuses_so bytes runs work.1.bad status is work.1.refused
+completes_one journals bytes faults faults' rest runs (BadSession line) status is of work left short sound = refuses_so bytes work.1.bad status is work.1.refused
 completes_one journals bytes faults faults' rest runs BadWords status is of work left short sound = absurd of
 completes_one journals bytes faults faults' rest runs ReadFault status is of work left short sound = absurd (sound of.0)
 completes_one journals bytes faults faults' rest runs TooLong status is of work left short sound = absurd (too_short bytes rest left of short)
 completes_one journals bytes faults faults' rest runs (NotLegal line) status is of work left short sound = absurd work
-completes_one journals bytes faults faults' rest runs JournalFull status is of work left short sound = fills_so IsOrdered (Report journals) bytes runs status is work
 
 completes_run : (journals : Bool) (bytes : List ℕ) (faults faults' : ℕ) (rest : Option (List ℕ)) (runs : List PortRun) (e : Ending) (status : ℕ) → status ≡ status_of e
-    → IsOfSource e faults faults' (Some bytes) rest → IsWork (Run journals) (Some bytes) e runs → LeavesRest bytes rest → length bytes ≤ 4194304 → (Rose faults faults' → ⊥) → Completes bytes status runs
+    → IsOfSource e faults faults' (Some bytes) rest → IsWork (Run journals) (Some bytes) e runs → LeavesRest bytes rest → length bytes ≤ 4194304 → (Rose faults faults' → ⊥) → Completes bytes status
 completes_run journals bytes faults faults' rest runs (Done report) status is of work left short sound = plays_so IsInAnyOrder (Report journals) bytes runs report.items status is work
-completes_run journals bytes faults faults' rest runs (BadSession line) status is of work left short sound = refuses_so bytes runs work.1.bad status is work.1.refused
+completes_run journals bytes faults faults' rest runs (BadSession line) status is of work left short sound = refuses_so bytes work.1.bad status is work.1.refused
 completes_run journals bytes faults faults' rest runs BadWords status is of work left short sound = absurd of
 completes_run journals bytes faults faults' rest runs ReadFault status is of work left short sound = absurd (sound of.0)
 completes_run journals bytes faults faults' rest runs TooLong status is of work left short sound = absurd (too_short bytes rest left of short)
 completes_run journals bytes faults faults' rest runs (NotLegal line) status is of work left short sound = absurd work
-completes_run journals bytes faults faults' rest runs JournalFull status is of work left short sound = fills_so IsInAnyOrder (Report journals) bytes runs status is work
 
 -- a text could not be given
-not_told : (bytes : List ℕ) (status : ℕ) (runs : List PortRun) → status ≡ 4 → Completes bytes status runs
-not_told bytes status runs four = record { played = λ session spells room. inr (inl four); full = λ session spells full. inr (inl four); refused = λ bad wrong. inr (inl four) }
+not_told : (bytes : List ℕ) (status : ℕ) → status ≡ 4 → Completes bytes status
+not_told bytes status four = record { played = λ session spells. inr (inl four); refused = λ bad wrong. inr (inl four) }
 
 pub completes : (words : List (List ℕ)) (command : Command) (left rest : Option (List ℕ)) (faults faults' : ℕ) (runs : List PortRun) (e : Ending) (status : ℕ) → Ask command words → (status ≡ status_of e) ⊎ (status ≡ 4)
     → IsOfSource e faults faults' left rest → IsWork command left e runs → IfSome left (λ bytes. LeavesRest bytes rest)
-    → IfSome left (λ bytes. AreRunOne words → length bytes ≤ 4194304 → (Rose faults faults' → ⊥) → Completes bytes status runs)
+    → IfSome left (λ bytes. AreRunOne words → length bytes ≤ 4194304 → (Rose faults faults' → ⊥) → Completes bytes status)
 completes words command None rest faults faults' runs e status asked is of done left = left
-completes words command (Some bytes) rest faults faults' runs e status asked (inr four) of done left = λ known short sound. not_told bytes status runs four
+completes words command (Some bytes) rest faults faults' runs e status asked (inr four) of done left = λ known short sound. not_told bytes status four
 completes words (Run journals) (Some bytes) rest faults faults' runs e status asked (inl is) of done left = λ run. absurd (not_run_and_one words journals run.0 asked run.1)
 completes words (RunOne journals) (Some bytes) rest faults faults' runs e status asked (inl is) of done left = λ known short sound. completes_one journals bytes faults faults' rest runs e status is of done left short sound
 completes words (Gen number) (Some bytes) rest faults faults' runs e status asked (inl is) of done left = λ run. absurd (not_gen_and_one words run.0 (number, asked) run.1)
@@ -351,9 +315,9 @@ completes words Check (Some bytes) rest faults faults' runs e status asked (inl 
 
 pub completes_on_threads : (journals : Bool) (left rest : Option (List ℕ)) (faults faults' : ℕ) (runs : List PortRun) (e : Ending) (status : ℕ) → (status ≡ status_of e) ⊎ (status ≡ 4)
     → IsOfSource e faults faults' left rest → IsWork (Run journals) left e runs → IfSome left (λ bytes. LeavesRest bytes rest)
-    → IfSome left (λ bytes. length bytes ≤ 4194304 → (Rose faults faults' → ⊥) → Completes bytes status runs)
+    → IfSome left (λ bytes. length bytes ≤ 4194304 → (Rose faults faults' → ⊥) → Completes bytes status)
 completes_on_threads journals None rest faults faults' runs e status is of done left = left
-completes_on_threads journals (Some bytes) rest faults faults' runs e status (inr four) of done left = λ short sound. not_told bytes status runs four
+completes_on_threads journals (Some bytes) rest faults faults' runs e status (inr four) of done left = λ short sound. not_told bytes status four
 completes_on_threads journals (Some bytes) rest faults faults' runs e status (inl is) of done left = λ short sound. completes_run journals bytes faults faults' rest runs e status is of done left short sound
 
 pub judged : (words : List (List ℕ)) (command : Command) (left rest : Option (List ℕ)) (faults faults' : ℕ) (runs : List PortRun) (e : Ending) (status : ℕ) → Ask command words → (status ≡ status_of e) ⊎ (status ≡ 4)
@@ -375,7 +339,6 @@ made_so number BadWords status (inl is) can = absurd can
 made_so number ReadFault status (inl is) can = absurd can
 made_so number TooLong status (inl is) can = absurd can
 made_so number (NotLegal line) status (inl is) can = absurd can
-made_so number JournalFull status (inl is) can = absurd can
 
 pub made : (words : List (List ℕ)) (command : Command) (e : Ending) (status : ℕ) → Ask command words → (status ≡ status_of e) ⊎ (status ≡ 4) → CanEnd command e → AreGen words → IsStatusOr 0 status
 made words (Run journals) e status asked is can = λ gen. absurd (not_gen_and_run words journals gen asked)
@@ -391,7 +354,6 @@ none_at left runs BadWords done = done
 none_at left runs ReadFault done = done
 none_at left runs TooLong done = done
 none_at left runs (NotLegal line) done = done.told.no_runs
-none_at left runs JournalFull done = absurd done
 
 pub none_judged : (words : List (List ℕ)) (command : Command) (left : Option (List ℕ)) (runs : List PortRun) (e : Ending) → Ask command words → IsWork command left e runs → AskCheck words → runs ≡ []
 none_judged words (Run journals) left runs e asked done = λ check. absurd (not_check_and_run words journals check asked)
@@ -400,9 +362,9 @@ none_judged words (Gen number) left runs e asked done = λ check. absurd (not_ch
 none_judged words Check left runs e asked done = λ check. none_at left runs e done
 
 -- other words ask for nothing
-pub unasked : (words : List (List ℕ)) (left : Option (List ℕ)) (status : ℕ) (runs : List PortRun) (faults faults' : ℕ) → (AreOfOne words → ⊥) → IfSome left (λ bytes. AreRunOne words → length bytes ≤ 4194304 → (Rose faults faults' → ⊥) → Completes bytes status runs)
-unasked words None status runs faults faults' other = tt
-unasked words (Some bytes) status runs faults faults' other = λ run. absurd (other (RunOne run.0, tt, run.1))
+pub unasked : (words : List (List ℕ)) (left : Option (List ℕ)) (status : ℕ) (faults faults' : ℕ) → (AreOfOne words → ⊥) → IfSome left (λ bytes. AreRunOne words → length bytes ≤ 4194304 → (Rose faults faults' → ⊥) → Completes bytes status)
+unasked words None status faults faults' other = tt
+unasked words (Some bytes) status faults faults' other = λ run. absurd (other (RunOne run.0, tt, run.1))
 
 pub unmade : (words : List (List ℕ)) (status : ℕ) → (AreOfOne words → ⊥) → AreGen words → IsStatusOr 0 status
 unmade words status other gen = absurd (other (Gen gen.0, tt, gen.1))

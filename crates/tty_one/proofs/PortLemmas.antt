@@ -1,8 +1,7 @@
 -- What became of the ports of a session that was played, as it is reported.
-use Rattle.std.proofs.Common.{◌≡◌, ◌≢◌, ◌<◌, ◌==◌, length, arith, zero, suc, ℕ, false, List, [], ◌∷◌, Some, refl, sym, ap, subst, ◌∙◌, map, eq-eqb}
+use Rattle.std.proofs.Common.{◌≡◌, ◌≢◌, ◌<◌, length, arith, zero, suc, ℕ, List, [], ◌∷◌, Some, refl, sym, subst, ◌∙◌, map}
 use Rattle.std.specs.Prelude.{slice_get}
 use Rattle.std.specs.Prelude.{IfOk, Result, Ok, Err}
-use Rattle.std.proofs.lemmas.Bool.{false≢true, or_from, or_parts, ne_eqb}
 use Rattle.std.proofs.lemmas.List.{length-map}
 use Rattle.tty_base.specs.Contents.{Contents}
 use Rattle.tty_base.specs.declared.buffers.NoMemory.{NoMemory}
@@ -15,17 +14,9 @@ use Rattle.one_thread.specs.Played.{ArePlayed, IsPlayedOn}
 use Rattle.tty_one.specs.declared.playing.Telling.{Telling}
 use Rattle.tty_one.specs.declared.works.Work.{Work}
 use Rattle.tty_one.specs.declared.works.Ending.{Ending}
-use Rattle.tty_one.specs.declared.works.Ending.TheVariants.{Done, BadSession, BadWords, ReadFault, TooLong, NotLegal, JournalFull}
-use Rattle.tty_one.specs.Outcome.{end_at, has_full_journal, IsWhole, IsPartly}
-use Rattle.tty_one.specs.Works.{IsEndingOf, IsSessionWork}
-
--- where each journal has room, none is full
-pub none_full : (runs : List PortRun) → ((p : ℕ) (run : PortRun) → slice_get runs p ≡ Some run → length run.journal.items < 4194304) → has_full_journal runs ≡ false
-none_full [] room = refl
-none_full (run ∷ runs) room =
-    or_from (length run.journal.items == 4194304) (has_full_journal runs) (ne_eqb (length run.journal.items) 4194304 (λ full. omega (arith, full, room zero run refl))) (
-    none_full runs (λ p r is. room (suc p) r is)
-    )
+use Rattle.tty_one.specs.declared.works.Ending.TheVariants.{Done, BadSession, BadWords, ReadFault, TooLong, NotLegal}
+use Rattle.tty_one.specs.Outcome.{end_at, IsWhole}
+use Rattle.tty_one.specs.Works.{IsEndingOf, IsSessionWork, IsNeverFull}
 
 -- what is left of a terminal, as a report says it
 end_is : (p : ℕ) (s : PlainSession) (run : PortRun) (end : PortEnd) (h : IsPlayedOn p s run end) → end_of end ≡ end_at h.terminal
@@ -35,19 +26,6 @@ end_is p s run end h =
     let generation = h.at_end.generation in
     let wire = h.at_end.wire in
     cc
-
--- where no journal is full, none of them is
-room_of : (runs : List PortRun) (p : ℕ) (run : PortRun) → has_full_journal runs ≡ false → slice_get runs p ≡ Some run → length run.journal.items ≢ 4194304
-room_of [] p run none is = absurd (cc)
-room_of (first ∷ runs) zero run none is = λ full.
-    let here : (length first.journal.items == 4194304) ≡ false = (or_parts (length first.journal.items == 4194304) (has_full_journal runs) none).0 in
-    let same : first ≡ run = some_same first run is in
-    false≢true (sym here ∙ eq-eqb (length first.journal.items) 4194304 (ap (λ r. length r.journal.items) same ∙ full))
-  where
-    some_same : (a b : PortRun) → Some a ≡ Some b → a ≡ b
-    some_same a b h = cc
-room_of (first ∷ runs) (suc p) run none is =
-    room_of runs p run ((or_parts (length first.journal.items == 4194304) (has_full_journal runs) none).1) is
 
 -- the end of a place is one of the plain ends there
 record HasEnd (ends : List PortEnd) (p : ℕ) (plain : PlainEnd) : Type 0 where
@@ -77,51 +55,37 @@ abbrev pub AreOrdered : (ℕ → PlainSession → PortRun → Type 0) → PlainS
 AreOrdered InOrder session runs = (p : ℕ) (run : PortRun) → slice_get runs p ≡ Some run → length run.journal.items ≢ 4194304 → InOrder p session run
 
 module _ (InOrder : ℕ → PlainSession → PortRun → Type 0) where
-  whole_from : (p : ℕ) (s : PlainSession) (run : PortRun) (end : PortEnd) → IsPlayedOn p s run end → length run.journal.items ≢ 4194304 → InOrder p s run → IsWhole InOrder p s run (end_of end)
-  whole_from p s run end h room ordered = record { terminal = h.terminal; at_end = end_is p s run end h; legal = h.legal room; in_order = ordered }
+  whole_from : (p : ℕ) (s : PlainSession) (run : PortRun) (end : PortEnd) → IsPlayedOn p s run end → length run.journal.items < 4194304 → InOrder p s run → IsWhole InOrder p s run (end_of end)
+  whole_from p s run end h room ordered = record { terminal = h.terminal; at_end = end_is p s run end h; legal = h.legal (λ full. omega (arith, full, room)); in_order = ordered; room = room }
 
-  partly_from : (p : ℕ) (s : PlainSession) (run : PortRun) (end : PortEnd) → IsPlayedOn p s run end → (length run.journal.items ≢ 4194304 → InOrder p s run) → IsPartly InOrder p s run
-  partly_from p s run end h ordered = record {
-    terminal = h.terminal;
-    short = h.short;
-    few = h.few;
-    whole = λ room. subst (λ (e : PlainEnd). IsWhole InOrder p s run e) (end_is p s run end h) (whole_from p s run end h room (ordered room));
-  }
-
-  each_whole : (session : PlainSession) (runs : List PortRun) (ends : List PortEnd) → ArePlayed session runs ends → AreOrdered InOrder session runs → has_full_journal runs ≡ false
+  each_whole : (session : PlainSession) (runs : List PortRun) (ends : List PortEnd) → IsNeverFull session → ArePlayed session runs ends → AreOrdered InOrder session runs
       → (p : ℕ) (run : PortRun) (plain : PlainEnd) → slice_get runs p ≡ Some run → slice_get (map end_of ends) p ≡ Some plain → IsWhole InOrder p session run plain
-  each_whole session runs ends played ordered room p run plain is at =
+  each_whole session runs ends room played ordered p run plain is at =
       let found = end_found ends p plain at in
-      let free = room_of runs p run room is in
-      subst (λ (e : PlainEnd). IsWhole InOrder p session run e) (sym found.is) (whole_from p session run found.end (played.each p run found.end is found.at) free (ordered p run is free))
+      let part = played.each p run found.end is found.at in
+      let few = room p run part.terminal part.short in
+      let free : length run.journal.items ≢ 4194304 = λ full. omega (arith, full, few) in
+      subst (λ (e : PlainEnd). IsWhole InOrder p session run e) (sym found.is) (whole_from p session run found.end part few (ordered p run is free))
 
-  each_partly : (session : PlainSession) (runs : List PortRun) (ends : List PortEnd) → ArePlayed session runs ends → AreOrdered InOrder session runs → (p : ℕ) (run : PortRun) → slice_get runs p ≡ Some run → IsPartly InOrder p session run
-  each_partly session runs ends played ordered p run is =
-      let found = there_too runs ends p run (played.runs_of_all ∙ sym played.ends_of_all) is in
-      partly_from p session run found.0 (played.each p run found.0 is found.1) (ordered p run is)
-
-  ending_works : (telling : Telling) (session : PlainSession) (played : Played) (e : Ending) → ArePlayed session played.runs.items played.ends.items → AreOrdered InOrder session played.runs.items → IsEndingOf telling session played e
+  ending_works : (telling : Telling) (session : PlainSession) (played : Played) (e : Ending) → IsNeverFull session → ArePlayed session played.runs.items played.ends.items → AreOrdered InOrder session played.runs.items → IsEndingOf telling session played e
       → IsSessionWork InOrder telling session e played.runs.items
-  ending_works telling session played (Done text) plays ordered ending =
+  ending_works telling session played (Done text) room plays ordered ending =
       record {
         ends = map end_of played.ends.items;
         runs_of_all = plays.runs_of_all;
         ends_of_all = length-map played.ends.items end_of ∙ plays.ends_of_all;
-        each = each_whole session played.runs.items played.ends.items plays ordered ending.0;
-        room = ending.0;
-        told = ending.1;
+        each = each_whole session played.runs.items played.ends.items room plays ordered;
+        told = ending;
       }
-  ending_works telling session played (BadSession line) plays ordered ending = ending
-  ending_works telling session played BadWords plays ordered ending = ending
-  ending_works telling session played ReadFault plays ordered ending = ending
-  ending_works telling session played TooLong plays ordered ending = ending
-  ending_works telling session played (NotLegal line) plays ordered ending = ending
-  ending_works telling session played JournalFull plays ordered ending =
-      record { runs_of_all = plays.runs_of_all; each = each_partly session played.runs.items played.ends.items plays ordered; full = ending }
+  ending_works telling session played (BadSession line) room plays ordered ending = ending
+  ending_works telling session played BadWords room plays ordered ending = ending
+  ending_works telling session played ReadFault room plays ordered ending = ending
+  ending_works telling session played TooLong room plays ordered ending = ending
+  ending_works telling session played (NotLegal line) room plays ordered ending = ending
 
   -- the work on what was played
-  pub played_works : (telling : Telling) (session : PlainSession) (played : Played) (r : Result Work NoMemory) → ArePlayed session played.runs.items played.ends.items → AreOrdered InOrder session played.runs.items
+  pub played_works : (telling : Telling) (session : PlainSession) (played : Played) (r : Result Work NoMemory) → IsNeverFull session → ArePlayed session played.runs.items played.ends.items → AreOrdered InOrder session played.runs.items
       → IfOk r (λ work. IsEndingOf telling session played work.ending) → IfOk r (λ work. work.runs ≡ played.runs) → IfOk r (λ work. IsSessionWork InOrder telling session work.ending work.runs.items)
-  played_works telling session played (Ok work) plays ordered ending same =
-      subst (λ (runs : Contents PortRun). IsSessionWork InOrder telling session work.ending runs.items) (sym same) (ending_works telling session played work.ending plays ordered ending)
-  played_works telling session played (Err e) plays ordered ending same = ending
+  played_works telling session played (Ok work) room plays ordered ending same =
+      subst (λ (runs : Contents PortRun). IsSessionWork InOrder telling session work.ending runs.items) (sym same) (ending_works telling session played work.ending room plays ordered ending)
+  played_works telling session played (Err e) room plays ordered ending same = ending

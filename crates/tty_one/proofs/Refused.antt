@@ -1,5 +1,5 @@
 -- What was read, and how work ends for want of it.
-use Rattle.std.proofs.Common.{◌≡◌, ℕ, List, [], Option, Some, Result, Ok, Err, sym, subst}
+use Rattle.std.proofs.Common.{◌≡◌, ◌≤◌, ℕ, List, [], Option, Some, Result, Ok, Err, length, sym, subst}
 use Rattle.std.specs.Prelude.{IfOk, OnErr}
 use Rattle.tty_base.specs.Contents.{Contents}
 use Rattle.tty_base.specs.declared.buffers.NoMemory.{NoMemory}
@@ -15,10 +15,11 @@ use Rattle.tty_one.specs.declared.reading.Reading.{Reading}
 use Rattle.tty_one.specs.declared.reading.Reading.TheVariants.{Of, Ended}
 use Rattle.tty_one.specs.declared.works.Work.{Work}
 use Rattle.tty_one.specs.declared.works.Ending.{Ending}
-use Rattle.tty_one.specs.declared.works.Ending.TheVariants.{Done, BadSession, BadWords, ReadFault, TooLong, NotLegal, JournalFull}
+use Rattle.tty_one.specs.declared.works.Ending.TheVariants.{Done, BadSession, BadWords, ReadFault, TooLong, NotLegal}
 use Rattle.tty_one.specs.Endings.{IsOfSource, IsShort}
 use Rattle.tty_one.specs.Outcome.{IsAllOf, refusal_by}
-use Rattle.tty_one.specs.Works.{IsLineOf, IsUnread, IsTextRead, IsSessionRead, IsSessionIn, IsRefusal, IsWork}
+use Rattle.tty_one.proofs.Roomy.{never_full_here}
+use Rattle.tty_one.specs.Works.{IsLineOf, IsUnread, IsTextRead, IsSessionRead, IsSessionIn, IsRefusal, IsWork, IsNeverFull, IsShortText}
 
 -- the text that was read
 module _ (first_wrong : List ℕ → Option BadLine) (faults now : ℕ) (left rest : Option (List ℕ)) (reading : Reading (Contents ℕ)) where
@@ -29,6 +30,10 @@ module _ (first_wrong : List ℕ → Option BadLine) (faults now : ℕ) (left re
 
   pub none_read : (e : Ending) → reading ≡ Ended e → IsTextRead first_wrong reading faults now left rest → IsUnread first_wrong left e × IsOfSource e faults now left rest
   none_read e is h = subst (λ (r : Reading (Contents ℕ)). IsTextRead first_wrong r faults now left rest) is h
+
+-- which is no longer than the longest
+pub short_read : (reading : Reading (Contents ℕ)) (text : Contents ℕ) (bytes : List ℕ) → reading ≡ Of text → bytes ≡ text.items → IsShortText reading → length bytes ≤ 4194304
+short_read reading text bytes is same h = subst (λ (xs : List ℕ). length xs ≤ 4194304) (sym same) (subst IsShortText is h)
 
 -- what holds whatever comes holds at an error
 pub at_err : {A : Type 0} (P : Type 0) (r : Result A NoMemory) → P → OnErr r P
@@ -53,14 +58,13 @@ refused_from first_wrong faults now left rest text BadWords whole short h = absu
 refused_from first_wrong faults now left rest text ReadFault whole short h = absurd h
 refused_from first_wrong faults now left rest text TooLong whole short h = absurd h
 refused_from first_wrong faults now left rest text (NotLegal line) whole short h = absurd h
-refused_from first_wrong faults now left rest text JournalFull whole short h = absurd h
 
 -- a session that was read in a text
-pub session_read : (faults now : ℕ) (left rest : Option (List ℕ)) (text : List ℕ) (r : Result (Reading Session) NoMemory) → IsAllOf left text → IsShort left rest → IfOk r (IsSessionIn text)
+pub session_read : (faults now : ℕ) (left rest : Option (List ℕ)) (text : List ℕ) (r : Result (Reading Session) NoMemory) → IsAllOf left text → IsShort left rest → length text ≤ 4194304 → IfOk r (IsSessionIn text)
     → IfOk r (λ reading. IsSessionRead reading faults now left rest)
-session_read faults now left rest text (Ok (Of session)) whole short h = (record { read = text; whole = whole; spelled = h }, short)
-session_read faults now left rest text (Ok (Ended ending)) whole short h = refused_from refusal faults now left rest text ending whole short h
-session_read faults now left rest text (Err e) whole short h = h
+session_read faults now left rest text (Ok (Of session)) whole short few h = (record { read = text; whole = whole; spelled = h; few = few }, short)
+session_read faults now left rest text (Ok (Ended ending)) whole short few h = refused_from refusal faults now left rest text ending whole short h
+session_read faults now left rest text (Err e) whole short few h = h
 
 -- how the work of a command ends for want of what it reads
 pub unread_works : (command : Command) (left : Option (List ℕ)) (e : Ending) (runs : List PortRun) → runs ≡ [] → IsUnread (refusal_by command) left e → IsWork command left e runs
@@ -70,7 +74,6 @@ unread_works command left BadWords runs none h = absurd h
 unread_works command left ReadFault runs none h = none
 unread_works command left TooLong runs none h = none
 unread_works command left (NotLegal line) runs none h = absurd h
-unread_works command left JournalFull runs none h = absurd h
 
 -- work that ended without a run
 pub ended_works : (command : Command) (faults now : ℕ) (left rest : Option (List ℕ)) (e : Ending) (work : Work) → work ≡ record { ending = e; runs = record { items = []; spare = 0 } } → IsWork command left e [] → IsOfSource e faults now left rest
@@ -78,8 +81,9 @@ pub ended_works : (command : Command) (faults now : ℕ) (left rest : Option (Li
 ended_works command faults now left rest e work same done of =
     subst (λ (w : Work). IsWork command left w.ending w.runs.items × IsOfSource w.ending faults now left rest) (sym same) (done, of)
 
--- a session that was read keeps the limits of every session
-pub read_within : (faults now : ℕ) (left rest : Option (List ℕ)) (reading : Reading Session) (session : Session) → reading ≡ Of session → IsSessionRead reading faults now left rest → IsWithinLimits (session_of session)
+-- a session that was read keeps the limits of every session, and no journal of it is ever full
+pub read_within : (faults now : ℕ) (left rest : Option (List ℕ)) (reading : Reading Session) (session : Session) → reading ≡ Of session → IsSessionRead reading faults now left rest
+    → IsWithinLimits (session_of session) × IsNeverFull (session_of session)
 read_within faults now left rest reading session is h =
     let parts = subst (λ (r : Reading Session). IsSessionRead r faults now left rest) is h in
-    spelled_within parts.0.read (session_of session) parts.0.spelled
+    (spelled_within parts.0.read (session_of session) parts.0.spelled, λ p run t short. never_full_here parts.0.read (session_of session) p run t parts.0.spelled parts.0.few short)

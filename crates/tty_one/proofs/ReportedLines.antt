@@ -5,7 +5,6 @@ use Rattle.tty_calls.specs.declared.journals.PortRun.{PortRun}
 use Rattle.tty_calls.specs.Plain.{PlainAnswer}
 use Rattle.tty_calls.specs.Sessions.{PlainSession}
 use Rattle.tty_terminal.specs.Terminals.{Terminal}
-use Rattle.session_print.specs.Ends.{PlainEnd}
 use Rattle.session_print.specs.Laws.{IsLineOf, TellsEachCall}
 use Rattle.session_print.specs.Report.{Told, told_on, calls_text, calls_from}
 use Rattle.journal_check.specs.Legal.{IsLegal}

@@ -12,7 +12,7 @@ use Rattle.journal_check.specs.declared.verdicts.Verdict.TheVariants.{Legal, Wro
 use Rattle.tty_one.specs.declared.words.Command.{Command}
 use Rattle.tty_one.specs.declared.words.Command.TheVariants.{Run, RunOne, Gen, Check}
 use Rattle.tty_one.specs.declared.works.Ending.{Ending}
-use Rattle.tty_one.specs.declared.works.Ending.TheVariants.{Done, BadSession, BadWords, ReadFault, TooLong, NotLegal, JournalFull}
+use Rattle.tty_one.specs.declared.works.Ending.TheVariants.{Done, BadSession, BadWords, ReadFault, TooLong, NotLegal}
 
 -- the words that ask for a session to be read and played on threads, with its journals or without them
 abbrev pub AskRun : Bool → List (List ℕ) → Type 0
@@ -52,8 +52,8 @@ IsOfOne (RunOne journals) = Unit {0}
 IsOfOne (Gen number) = Unit {0}
 IsOfOne Check = Unit {0}
 
--- words of the program; those that need no thread; those that ask for a session to be read and played, on threads and on one; those
--- that ask for the session of a number
+-- words of the program; those that need no thread; those that ask for a session to be read and played, on threads and
+-- on one; those that ask for the session of a number
 abbrev pub AreKnown : List (List ℕ) → Type 0
 AreKnown words = (command : Command) × Ask command words
 
@@ -68,6 +68,10 @@ AreRunOne words = (journals : Bool) × AskRunOne journals words
 
 abbrev pub AreGen : List (List ℕ) → Type 0
 AreGen words = (number : ℕ) × AskGen number words
+
+-- words that ask for a session to be played, and its journals to be told
+abbrev pub AskJournals : List (List ℕ) → Type 0
+AskJournals words = AskRun true words ⊎ AskRunOne true words
 
 -- words that ask for a text to be read: without threads, and with them
 abbrev pub AskOneToRead : List (List ℕ) → Type 0
@@ -94,18 +98,17 @@ verdict_line Legal = codes "legal\n"
 verdict_line (Wrong port entry) = codes "not legal port " ++ (decimal port ++ (codes " entry " ++ (decimal entry ++ newline)))
 verdict_line (Account port) = codes "not legal port " ++ (decimal port ++ codes " account\n")
 
--- the line of a status that refuses without having read a text, or that has no journals to give
+-- the line of a status that refuses without having read a text
 abbrev pub line_of : ℕ → List ℕ
 line_of status =
     if status == 2 then codes "bad words\n"
     else if status == 3 then codes "read fault\n"
     else if status == 6 then codes "session too long\n"
-    else if status == 8 then codes "journal full\n"
     else []
 
 -- the statuses of the program
 abbrev pub IsStatus : ℕ → Type 0
-IsStatus status = status ≤ 8
+IsStatus status = status ≤ 7
 
 -- the bytes of a list of texts
 abbrev pub texts_of : List (Bor (List ℕ)) → List (List ℕ)
@@ -115,8 +118,8 @@ texts_of words = map (λ word. word.now) words
 abbrev pub Adds : List ℕ → Option (List ℕ) → Type 0
 Adds before given = (more : List ℕ) × (given ≡ Some (before ++ more))
 
--- What a sink was given at a status: at 0 a text, at 1 the line of a text that was refused, at 7 that of a verdict, at 4 the front of
--- what was to be given, else the line of the status.
+-- What a sink was given at a status: at 0 a text, at 1 the line of a text that was refused, at 7 that of a verdict,
+-- at 4 the front of what was to be given, else the line of the status.
 abbrev pub IsTold : ℕ → List ℕ → Option (List ℕ) → Type 0
 IsTold status before given =
     Adds before given × (status ≢ 0 → status ≢ 1 → status ≢ 4 → status ≢ 7 → given ≡ Some (before ++ line_of status))
@@ -128,7 +131,6 @@ status_of BadWords = 2
 status_of ReadFault = 3
 status_of TooLong = 6
 status_of (NotLegal line) = 7
-status_of JournalFull = 8
 
 abbrev pub text_of : Ending → List ℕ
 text_of (Done text) = text.items
@@ -137,7 +139,6 @@ text_of BadWords = line_of 2
 text_of ReadFault = line_of 3
 text_of TooLong = line_of 6
 text_of (NotLegal line) = line.items
-text_of JournalFull = line_of 8
 
 -- not as many bytes as one more than the longest text were read
 abbrev pub IsShort : Option (List ℕ) → Option (List ℕ) → Type 0
@@ -151,4 +152,3 @@ IsOfSource BadWords faults now left rest = ⊥
 IsOfSource ReadFault faults now left rest = Rose faults now × IsShort left rest
 IsOfSource TooLong faults now left rest = IfSome left (λ bytes. TookCount 4194305 bytes rest)
 IsOfSource (NotLegal line) faults now left rest = IsShort left rest
-IsOfSource JournalFull faults now left rest = IsShort left rest

@@ -1,6 +1,6 @@
 -- What a call of the program came to: what was read, the runs, and the text that was given.
-use Rattle.std.specs.Prelude.{◌≡◌, ◌≢◌, ◌⊎◌, ◌≤◌, ℕ, List, [], ◌∷◌, ◌++◌, Bool, true, false, if◌then◌else◌, codes, Option, None, Some, length, map, flat_map, option_to_list, slice_get, IfSome, ◌==◌}
-use Rattle.std.specs.List.{list_any, concat, AllZip}
+use Rattle.std.specs.Prelude.{◌<◌, ◌≡◌, ◌≢◌, ◌⊎◌, ℕ, List, [], ◌∷◌, ◌++◌, Bool, if◌then◌else◌, codes, Option, None, Some, length, map, flat_map, option_to_list, slice_get, IfSome}
+use Rattle.std.specs.List.{concat, AllZip}
 use Rattle.tty_base.specs.Outside.{Rose, TookCount, GivesFront}
 use Rattle.tty_calls.specs.declared.journals.PortRun.{PortRun}
 use Rattle.tty_calls.specs.Plain.{PlainAnswer, PlainEntry}
@@ -10,17 +10,17 @@ use Rattle.session_text.specs.declared.faults.BadLine.{BadLine}
 use Rattle.session_text.specs.Refusals.{refusal}
 use Rattle.session_text.specs.Grammar.{Spells}
 use Rattle.session_print.specs.Ends.{PlainEnd}
-use Rattle.session_print.specs.Report.{Told, told_on, answer_by, answer_in, ports_from, play_text}
+use Rattle.session_print.specs.Report.{Told, told_on, answer_by, answer_in, calls_from, ports_from, play_text}
 use Rattle.session_print.specs.Lines.{newline}
 use Rattle.session_print.specs.Journals.{journals_text}
 use Rattle.session_print.specs.Laws.{IsLineOf}
 use Rattle.session_print.specs.Summary.{summary_text}
 use Rattle.session_gen.specs.Generated.{generated_session}
 use Rattle.check_text.specs.Grammar.{Spells as SpellsRuns}
+use Rattle.check_text.specs.Printed.{text_after}
 use Rattle.check_text.specs.Reading.{refusal as refusal_of_runs}
 use Rattle.check_text.specs.Runs.{run_of}
 use Rattle.journal_check.specs.Legal.{IsLegal}
-use Rattle.journal_check.specs.Short.{IsCutShort}
 use Rattle.journal_check.specs.Verdicts.{AreLegal, Fits}
 use Rattle.journal_check.specs.declared.verdicts.Verdict.{Verdict}
 use Rattle.journal_check.specs.declared.verdicts.Verdict.TheVariants.{Legal}
@@ -35,10 +35,6 @@ use Rattle.tty_one.specs.Endings.{Ask, line_of, bad_session_line, verdict_line}
 abbrev pub end_at : Terminal → PlainEnd
 end_at t = record { counts = t.tally.counts; signals = t.tally.signals.items; generation = t.generation; wire = t.output.wire }
 
--- some journal has as many entries as a journal can have
-abbrev pub has_full_journal : List PortRun → Bool
-has_full_journal runs = list_any (λ run. length run.journal.items == 4194304) runs
-
 -- the run of a port is in the order of one thread
 abbrev pub IsOrdered : ℕ → PlainSession → PortRun → Type 0
 IsOrdered p session run = IsInOneOrder p session run.journal.items run.line.overruns.items
@@ -47,40 +43,28 @@ IsOrdered p session run = IsInOneOrder p session run.journal.items run.line.over
 abbrev pub IsInAnyOrder : ℕ → PlainSession → PortRun → Type 0
 IsInAnyOrder p session run = Unit {0}
 
--- The run of a port is legal and in order, and this is the end of the terminal to which it leads.
+-- The run of a port is legal and in order, this is the end of the terminal to which it leads, and its journal did not
+-- reach the limit.
 pub record IsWhole (InOrder : ℕ → PlainSession → PortRun → Type 0) (p : ℕ) (session : PlainSession) (run : PortRun) (end : PlainEnd) : Type 0 where
   pub terminal : Terminal
   pub at_end : end ≡ end_at terminal
   pub legal : IsLegal p session run terminal
   pub in_order : InOrder p session run
+  pub room : length run.journal.items < 4194304
 
 -- what is told of a session that was played, of the runs of its ports, and of their ends
 abbrev pub text_by : Telling → PlainSession → List PortRun → List PlainEnd → List ℕ
 text_by (Report journals) session runs ends = play_text journals session runs ends
 text_by (Summary number) session runs ends = summary_text number session runs ends
 
--- The runs are those of the session's ports, one of each, each of them whole and none with a full journal. The text is what is told of
--- the session, of these runs, and of their ends.
+-- The runs are those of the session's ports, one of each, each of them whole. The text is what is told of the
+-- session, of these runs, and of their ends.
 pub record IsReported (InOrder : ℕ → PlainSession → PortRun → Type 0) (telling : Telling) (session : PlainSession) (runs : List PortRun) (text : List ℕ) : Type 0 where
   pub ends : List PlainEnd
   pub runs_of_all : length runs ≡ session.ports
   pub ends_of_all : length ends ≡ session.ports
   pub each : (p : ℕ) (run : PortRun) (end : PlainEnd) → slice_get runs p ≡ Some run → slice_get ends p ≡ Some end → IsWhole InOrder p session run end
-  pub room : has_full_journal runs ≡ false
   pub told : text ≡ text_by telling session runs ends
-
--- The run of a port as far as it went; where its journal is not full it is whole.
-pub record IsPartly (InOrder : ℕ → PlainSession → PortRun → Type 0) (p : ℕ) (session : PlainSession) (run : PortRun) : Type 0 where
-  pub terminal : Terminal
-  pub short : IsCutShort p session run terminal
-  pub few : length run.journal.items ≤ 4194304
-  pub whole : length run.journal.items ≢ 4194304 → IsWhole InOrder p session run (end_at terminal)
-
--- The runs are those of the session's ports, one of each, as far as they went, and some journal is full.
-pub record AreCutShort (InOrder : ℕ → PlainSession → PortRun → Type 0) (session : PlainSession) (runs : List PortRun) : Type 0 where
-  pub runs_of_all : length runs ≡ session.ports
-  pub each : (p : ℕ) (run : PortRun) → slice_get runs p ≡ Some run → IsPartly InOrder p session run
-  pub full : has_full_journal runs ≡ true
 
 -- a text that was read is all that the source had left, where it tells
 abbrev pub IsAllOf : Option (List ℕ) → List ℕ → Type 0
@@ -94,7 +78,8 @@ pub record IsPlayedText (left : Option (List ℕ)) (EndsBy : PlainSession → Ty
   pub spelled : Spells read session
   pub ends : EndsBy session
 
--- Runs were read and judged: the text that was read spells a session and these runs, and this is the verdict that fits them.
+-- Runs were read and judged: the text that was read spells a session and these runs, and this is the verdict that
+-- fits them.
 pub record IsJudged (left : Option (List ℕ)) (verdict : Verdict) : Type 0 where
   pub read : List ℕ
   pub session : PlainSession
@@ -109,20 +94,13 @@ pub record IsToldVerdict (left : Option (List ℕ)) (verdict : Verdict) (runs : 
   pub no_runs : runs ≡ []
   pub told : text ≡ verdict_line verdict
 
--- What a command asks for was done, and the text tells it: the session that was read, or the one of the number, was played; or each run
--- that was read is legal.
+-- What a command asks for was done, and the text tells it: the session that was read, or the one of the number, was
+-- played; or each run that was read is legal.
 abbrev pub IsToldBy : Command → Option (List ℕ) → List PortRun → List ℕ → Type 0
 IsToldBy (Run journals) left runs text = IsPlayedText left (λ session. IsReported IsInAnyOrder (Report journals) session runs text)
 IsToldBy (RunOne journals) left runs text = IsPlayedText left (λ session. IsReported IsOrdered (Report journals) session runs text)
 IsToldBy (Gen number) left runs text = IsReported IsOrdered (Summary number) (generated_session number) runs text
 IsToldBy Check left runs text = IsToldVerdict left Legal runs text
-
--- The session of a command was played as far as it went, and some journal is full: never that of a number.
-abbrev pub IsFullBy : Command → Option (List ℕ) → List PortRun → Type 0
-IsFullBy (Run journals) left runs = IsPlayedText left (λ session. AreCutShort IsInAnyOrder session runs)
-IsFullBy (RunOne journals) left runs = IsPlayedText left (λ session. AreCutShort IsOrdered session runs)
-IsFullBy (Gen number) left runs = ⊥
-IsFullBy Check left runs = ⊥
 
 -- the first wrong line of a text, by the grammar of what a command reads
 abbrev pub refusal_by : Command → List ℕ → Option BadLine
@@ -143,6 +121,10 @@ WasGiven before now text = IfSome before (λ bytes. now ≡ Some (bytes ++ text)
 
 abbrev pub WasGivenFront : Option (List ℕ) → Option (List ℕ) → List ℕ → Type 0
 WasGivenFront before now text = IfSome before (λ bytes. GivesFront bytes text now)
+
+-- two sinks were given the same text
+abbrev pub GaveTheSame : (before before' : List ℕ) (now now' : Option (List ℕ)) → Type 0
+GaveTheSame before before' now now' = (text : List ℕ) × (now ≡ Some (before ++ text)) × (now' ≡ Some (before' ++ text))
 
 -- A text that was refused was told as that.
 pub record IsToldRefused (words : List (List ℕ)) (left before now : Option (List ℕ)) : Type 0 where
@@ -168,15 +150,9 @@ pub record IsDone (words : List (List ℕ)) (left before now : Option (List ℕ)
   pub done : IsToldBy command left runs text
   pub given : WasGiven before now text
 
--- A session was played as far as it went, and some journal is full.
-pub record IsFull (words : List (List ℕ)) (left : Option (List ℕ)) (runs : List PortRun) : Type 0 where
-  pub command : Command
-  pub asked : Ask command words
-  pub played : IsFullBy command left runs
-
--- A text could not be given whole: the line for other words; the line of a fault of the source, or of a text that is too long, where the
--- words ask for a text to be read; the line of a text that was refused; what was to be told of what was done; the line of runs that are
--- not all legal; or the line of a full journal.
+-- A text could not be given whole: the line for other words; the line of a fault of the source, or of a text that is
+-- too long, where the words ask for a text to be read; the line of a text that was refused; what was to be told of
+-- what was done; or the line of runs that are not all legal.
 pub data IsBroken (Known Reading : Type 0) (words : List (List ℕ)) (faults faults' : ℕ) (left rest before now : Option (List ℕ)) (runs : List PortRun) : Type 0 where
   breaks_words : (Known → ⊥) → runs ≡ [] → WasGivenFront before now (line_of 2) → IsBroken Known Reading words faults faults' left rest before now runs
   breaks_fault : Reading → Rose faults faults' → runs ≡ [] → WasGivenFront before now (line_of 3) → IsBroken Known Reading words faults faults' left rest before now runs
@@ -184,16 +160,14 @@ pub data IsBroken (Known Reading : Type 0) (words : List (List ℕ)) (faults fau
   breaks_refusal : (command : Command) (bad : BadLine) → Ask command words → IsRefused (refusal_by command) left bad → runs ≡ [] → WasGivenFront before now (bad_session_line bad) → IsBroken Known Reading words faults faults' left rest before now runs
   breaks_text : (command : Command) (text : List ℕ) → Ask command words → IsToldBy command left runs text → WasGivenFront before now text → IsBroken Known Reading words faults faults' left rest before now runs
   breaks_verdict : (verdict : Verdict) (text : List ℕ) → Ask Check words → IsToldVerdict left verdict runs text → verdict ≢ Legal → WasGivenFront before now text → IsBroken Known Reading words faults faults' left rest before now runs
-  breaks_full : IsFull words left runs → WasGivenFront before now (line_of 8) → IsBroken Known Reading words faults faults' left rest before now runs
 
 -- the status, unless the text could not be given or memory was wanting
 abbrev pub IsStatusOr : ℕ → ℕ → Type 0
 IsStatusOr wanted status = (status ≡ wanted) ⊎ ((status ≡ 4) ⊎ (status ≡ 5))
 
--- A text that spells a session is played, and a full journal told; one that is refused is told as that.
-pub record Completes (bytes : List ℕ) (status : ℕ) (runs : List PortRun) : Type 0 where
-  pub played : (session : PlainSession) → Spells bytes session → has_full_journal runs ≡ false → IsStatusOr 0 status
-  pub full : (session : PlainSession) → Spells bytes session → has_full_journal runs ≡ true → IsStatusOr 8 status
+-- A text that spells a session is played, and one that is refused is told as that.
+pub record Completes (bytes : List ℕ) (status : ℕ) : Type 0 where
+  pub played : (session : PlainSession) → Spells bytes session → IsStatusOr 0 status
   pub refused : (bad : BadLine) → refusal bytes ≡ Some bad → IsStatusOr 1 status
 
 -- Runs that a text spells are told as legal exactly where all are, and a text that is refused is told as that.
@@ -201,6 +175,27 @@ pub record CompletesCheck (bytes : List ℕ) (status : ℕ) : Type 0 where
   pub legal : (session : PlainSession) (runs : List PortRun) → SpellsRuns bytes session (map run_of runs) → AreLegal session runs → IsStatusOr 0 status
   pub illegal : (session : PlainSession) (runs : List PortRun) → SpellsRuns bytes session (map run_of runs) → (AreLegal session runs → ⊥) → IsStatusOr 7 status
   pub refused : (bad : BadLine) → refusal_of_runs bytes ≡ Some bad → IsStatusOr 1 status
+
+-- behind a session's text, what its report has from the journals on
+abbrev pub with_journals : List ℕ → PlainSession → List PortRun → List ℕ
+with_journals text session runs = text ++ (newline ++ text_after session runs)
+
+-- A report is the lines of the calls and of the ports, and then the journals. Behind the session's text these spell
+-- the session and the runs, no verdict but legal fits them, and they are told to be legal where they can be read.
+pub record IsReadBack (text : List ℕ) (session : PlainSession) (runs : List PortRun) (report : List ℕ) : Type 0 where
+  pub ends : List PlainEnd
+  pub told : report ≡ (calls_from 0 session runs ++ ports_from 0 session runs ends) ++ text_after session runs
+  pub spelled : SpellsRuns (with_journals text session runs) session (map run_of runs)
+  pub judged : (verdict : Verdict) → IsJudged (Some (with_journals text session runs)) verdict → verdict ≡ Legal
+  pub checked : (status : ℕ) → CompletesCheck (with_journals text session runs) status → IsStatusOr 0 status
+
+-- what was given is a report, with its journals, of the session that these bytes spell, and it is read back
+pub record GaveJournals (bytes before : List ℕ) (now : Option (List ℕ)) (runs : List PortRun) : Type 0 where
+  pub session : PlainSession
+  pub report : List ℕ
+  pub spelled : Spells bytes session
+  pub given : now ≡ Some (before ++ report)
+  pub read_back : IsReadBack bytes session runs report
 
 -- all answers of a journal to a caller's step
 abbrev pub answers_to : List PlainEntry → ℕ → ℕ → List PlainAnswer

@@ -1,5 +1,5 @@
 -- What the work on a command came to, by its ending and its runs: for the functions below the top calls.
-use Rattle.std.specs.Prelude.{◌≡◌, ◌≢◌, ◌≤◌, ℕ, List, [], true, false, Option, Some, length, map}
+use Rattle.std.specs.Prelude.{◌≡◌, ◌≢◌, ◌≤◌, ◌<◌, ℕ, List, [], Option, Some, length, map}
 use Rattle.tty_base.specs.Contents.{Contents}
 use Rattle.tty_calls.specs.declared.journals.PortRun.{PortRun}
 use Rattle.tty_calls.specs.declared.sessions.Session.{Session}
@@ -9,6 +9,8 @@ use Rattle.session_text.specs.Refusals.{refusal}
 use Rattle.session_text.specs.Grammar.{Spells}
 use Rattle.session_print.specs.Ends.{end_of}
 use Rattle.check_text.specs.Reading.{refusal as refusal_of_runs}
+use Rattle.tty_terminal.specs.Terminals.{Terminal}
+use Rattle.journal_check.specs.Short.{IsCutShort}
 use Rattle.journal_check.specs.declared.verdicts.Verdict.{Verdict}
 use Rattle.journal_check.specs.declared.verdicts.Verdict.TheVariants.{Legal}
 use Rattle.one_thread.specs.declared.playing.Played.{Played}
@@ -18,9 +20,9 @@ use Rattle.tty_one.specs.declared.playing.Telling.{Telling}
 use Rattle.tty_one.specs.declared.reading.Reading.{Reading}
 use Rattle.tty_one.specs.declared.reading.Reading.TheVariants.{Of, Ended}
 use Rattle.tty_one.specs.declared.works.Ending.{Ending}
-use Rattle.tty_one.specs.declared.works.Ending.TheVariants.{Done, BadSession, BadWords, ReadFault, TooLong, NotLegal, JournalFull}
+use Rattle.tty_one.specs.declared.works.Ending.TheVariants.{Done, BadSession, BadWords, ReadFault, TooLong, NotLegal}
 use Rattle.tty_one.specs.Endings.{bad_session_line, verdict_line, IsShort, IsOfSource}
-use Rattle.tty_one.specs.Outcome.{text_by, IsReported, AreCutShort, IsAllOf, IsToldVerdict, IsToldBy, IsFullBy, IsRefused, refusal_by, has_full_journal}
+use Rattle.tty_one.specs.Outcome.{text_by, IsReported, IsAllOf, IsToldVerdict, IsToldBy, IsRefused, refusal_by}
 
 -- ---- reading
 
@@ -38,7 +40,6 @@ IsUnread first_wrong left BadWords = ⊥
 IsUnread first_wrong left ReadFault = Unit {0}
 IsUnread first_wrong left TooLong = Unit {0}
 IsUnread first_wrong left (NotLegal line) = ⊥
-IsUnread first_wrong left JournalFull = ⊥
 
 -- what reading a text came to, by the faults of the source and what it has left, before and now
 abbrev pub IsTextRead : (List ℕ → Option BadLine) → Reading (Contents ℕ) → ℕ → ℕ → Option (List ℕ) → Option (List ℕ) → Type 0
@@ -50,11 +51,16 @@ abbrev pub IsShortText : Reading (Contents ℕ) → Type 0
 IsShortText (Of text) = length text.items ≤ 4194304
 IsShortText (Ended ending) = Unit {0}
 
--- the text that was read spells the session
+-- no journal of the session is ever full
+abbrev pub IsNeverFull : PlainSession → Type 0
+IsNeverFull session = (p : ℕ) (run : PortRun) (t : Terminal) → IsCutShort p session run t → length run.journal.items < 4194304
+
+-- the text that was read spells the session, and is no longer than the longest
 pub record IsReadAs (left : Option (List ℕ)) (session : PlainSession) : Type 0 where
   pub read : List ℕ
   pub whole : IsAllOf left read
   pub spelled : Spells read session
+  pub few : length read ≤ 4194304
 
 -- what reading a session came to
 abbrev pub IsSessionRead : Reading Session → ℕ → ℕ → Option (List ℕ) → Option (List ℕ) → Type 0
@@ -69,7 +75,6 @@ IsRefusal first_wrong text BadWords = ⊥
 IsRefusal first_wrong text ReadFault = ⊥
 IsRefusal first_wrong text TooLong = ⊥
 IsRefusal first_wrong text (NotLegal line) = ⊥
-IsRefusal first_wrong text JournalFull = ⊥
 
 -- what a text is read as
 abbrev pub IsSessionIn : List ℕ → Reading Session → Type 0
@@ -80,14 +85,12 @@ IsSessionIn text (Ended ending) = IsRefusal refusal text ending
 
 -- of what was played
 abbrev pub IsEndingOf : Telling → PlainSession → Played → Ending → Type 0
-IsEndingOf telling session played (Done text) =
-    (has_full_journal played.runs.items ≡ false) × (text.items ≡ text_by telling session played.runs.items (map end_of played.ends.items))
+IsEndingOf telling session played (Done text) = text.items ≡ text_by telling session played.runs.items (map end_of played.ends.items)
 IsEndingOf telling session played (BadSession line) = ⊥
 IsEndingOf telling session played BadWords = ⊥
 IsEndingOf telling session played ReadFault = ⊥
 IsEndingOf telling session played TooLong = ⊥
 IsEndingOf telling session played (NotLegal line) = ⊥
-IsEndingOf telling session played JournalFull = has_full_journal played.runs.items ≡ true
 
 -- of a session
 abbrev pub IsSessionWork : (ℕ → PlainSession → PortRun → Type 0) → Telling → PlainSession → Ending → List PortRun → Type 0
@@ -97,7 +100,6 @@ IsSessionWork InOrder telling session BadWords runs = ⊥
 IsSessionWork InOrder telling session ReadFault runs = ⊥
 IsSessionWork InOrder telling session TooLong runs = ⊥
 IsSessionWork InOrder telling session (NotLegal line) runs = ⊥
-IsSessionWork InOrder telling session JournalFull runs = AreCutShort InOrder session runs
 
 -- ---- judging
 
@@ -115,7 +117,6 @@ IsVerdictEnding verdict BadWords = ⊥
 IsVerdictEnding verdict ReadFault = ⊥
 IsVerdictEnding verdict TooLong = ⊥
 IsVerdictEnding verdict (NotLegal line) = (verdict ≢ Legal) × (line.items ≡ verdict_line verdict)
-IsVerdictEnding verdict JournalFull = ⊥
 
 -- how the journals of a text end the work
 abbrev pub IsJudgedText : List ℕ → Ending → Type 0
@@ -125,7 +126,6 @@ IsJudgedText text BadWords = ⊥
 IsJudgedText text ReadFault = ⊥
 IsJudgedText text TooLong = ⊥
 IsJudgedText text (NotLegal line) = IsIllegal (Some text) [] line.items
-IsJudgedText text JournalFull = ⊥
 
 -- ---- a command
 
@@ -144,9 +144,8 @@ IsWork command left BadWords runs = runs ≡ []
 IsWork command left ReadFault runs = runs ≡ []
 IsWork command left TooLong runs = runs ≡ []
 IsWork command left (NotLegal line) runs = IsIllegalBy command left runs line.items
-IsWork command left JournalFull runs = IsFullBy command left runs
 
--- only a command that reads can be refused what it reads, and the session of a number never fills a journal
+-- only a command that reads can be refused what it reads
 abbrev pub CanEnd : Command → Ending → Type 0
 CanEnd (Run journals) ending = Unit {0}
 CanEnd (RunOne journals) ending = Unit {0}
@@ -156,7 +155,6 @@ CanEnd (Gen number) BadWords = ⊥
 CanEnd (Gen number) ReadFault = ⊥
 CanEnd (Gen number) TooLong = ⊥
 CanEnd (Gen number) (NotLegal line) = ⊥
-CanEnd (Gen number) JournalFull = ⊥
 CanEnd Check ending = Unit {0}
 
 -- a command that reads nothing

@@ -1,11 +1,18 @@
-ghost use Rattle.std.specs.Prelude.{◌≡◌, ℕ, List, Bool, Some};
+//! Laws of the reports and journals of sessions: each call has one line, a session has one report, no journal is
+//! ever full, and journals that are printed are legal.
+
+ghost use Rattle.std.specs.Prelude.{◌≡◌, ◌<◌, ◌≤◌, ℕ, List, Bool, true, Option, Some, length};
 ghost use Rattle.tty_calls.specs.declared.journals.PortRun.{PortRun};
 ghost use Rattle.tty_calls.specs.Plain.{PlainCall};
 ghost use Rattle.tty_calls.specs.Sessions.{PlainSession, call_at};
 ghost use Rattle.tty_terminal.specs.Terminals.{Terminal};
+ghost use Rattle.session_text.specs.Grammar.{Spells};
 ghost use Rattle.journal_check.specs.Legal.{IsLegal};
+ghost use Rattle.journal_check.specs.Short.{IsCutShort};
+ghost use Rattle.tty_one.specs.declared.playing.Telling.{Telling};
 ghost use Rattle.tty_one.specs.declared.playing.Telling.TheVariants.{Report};
-ghost use Rattle.tty_one.specs.Outcome.{IsAnsweredOnce, IsReported, IsOrdered, IsInAnyOrder, TellsEachOnce};
+ghost use Rattle.tty_one.specs.Endings.{AreRunOne, AreGen, AskJournals};
+ghost use Rattle.tty_one.specs.Outcome.{IsAnsweredOnce, IsReported, IsOrdered, IsInAnyOrder, IsDone, GaveTheSame, TellsEachOnce, IsReadBack, GaveJournals};
 
 use session_print::each_call_has_its_line;
 
@@ -21,3 +28,35 @@ pub fn each_call_has_one_line()
 {
     each_call_has_its_line();
 }
+
+/// A law: a session has one report on one thread, with its journals or without them, and the session of a
+/// number one summary. So two calls of `tty_one` that ended with 0 gave the same bytes: by `run --one` where
+/// they read the same text, and by `gen` with the same number.
+pub fn a_session_has_one_report()
+    ensures report { (telling : Telling) (session : PlainSession) (runs others : List PortRun) (text other : List ℕ)
+        → IsReported IsOrdered telling session runs text → IsReported IsOrdered telling session others other → text ≡ other }
+    ensures read { (words : List (List ℕ)) (bytes before before' : List ℕ) (now now' : Option (List ℕ)) (runs others : List PortRun) → AreRunOne words
+        → IsDone words (Some bytes) (Some before) now runs → IsDone words (Some bytes) (Some before') now' others → GaveTheSame before before' now now' }
+    ensures made { (words : List (List ℕ)) (left left' : Option (List ℕ)) (before before' : List ℕ) (now now' : Option (List ℕ)) (runs others : List PortRun) → AreGen words
+        → IsDone words left (Some before) now runs → IsDone words left' (Some before') now' others → GaveTheSame before before' now now' }
+{}
+
+/// A law: no journal is ever full. A run of a session that a text of at most 4,194,304 bytes spells, as far
+/// as it went, has fewer entries than that.
+pub fn no_journal_is_ever_full()
+    ensures { (text : List ℕ) (session : PlainSession) (p : ℕ) (run : PortRun) (t : Terminal) → Spells text session → length text ≤ 4194304
+        → IsCutShort p session run t → length run.journal.items < 4194304 }
+{}
+
+/// A law: journals that are printed are legal. What `run --journal` tells of a session, from the line
+/// `journals` on, put on lines of its own behind the session's text, spells that session and the runs that it
+/// is told of; and `check` tells `legal` to it, wherever it can read that text and give its line. So it is
+/// with what was given by each call with these words that ended with 0.
+pub fn printed_journals_are_legal()
+    ensures in_any_order { (text : List ℕ) (session : PlainSession) (runs : List PortRun) (report : List ℕ) → Spells text session
+        → IsReported IsInAnyOrder (Report true) session runs report → IsReadBack text session runs report }
+    ensures in_one_order { (text : List ℕ) (session : PlainSession) (runs : List PortRun) (report : List ℕ) → Spells text session
+        → IsReported IsOrdered (Report true) session runs report → IsReadBack text session runs report }
+    ensures given { (words : List (List ℕ)) (bytes before : List ℕ) (now : Option (List ℕ)) (runs : List PortRun) → AskJournals words
+        → IsDone words (Some bytes) (Some before) now runs → GaveJournals bytes before now runs }
+{}

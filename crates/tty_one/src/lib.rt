@@ -11,7 +11,10 @@ mod top;
 mod words;
 mod works;
 
-pub use laws::each_call_has_one_line;
+pub use laws::{
+    a_session_has_one_report, each_call_has_one_line, no_journal_is_ever_full,
+    printed_journals_are_legal,
+};
 pub use playing::{Telling, work_of};
 pub use reading::{Reading, read_session};
 pub use top::tty_one;

@@ -7,19 +7,19 @@ ghost use Rattle.tty_calls.specs.Sessions.{session_of};
 ghost use Rattle.session_gen.specs.Generated.{generated_session};
 ghost use Rattle.session_print.specs.Ends.{end_of};
 ghost use Rattle.tty_one.specs.Endings.{IsShort, IsOfSource};
-ghost use Rattle.tty_one.specs.Outcome.{IsOrdered, has_full_journal, text_by as text_of_telling};
+ghost use Rattle.tty_one.specs.Outcome.{IsOrdered, text_by as text_of_telling};
 ghost use Rattle.tty_one.specs.declared.playing.Telling.TheVariants.{Summary};
 ghost use Rattle.tty_one.specs.declared.words.Command.TheVariants.{RunOne, Gen};
-ghost use Rattle.tty_one.specs.Works.{IsWork, IsSessionWork, IsEndingOf, CanEnd};
+ghost use Rattle.tty_one.specs.Works.{IsWork, IsSessionWork, IsEndingOf, CanEnd, IsNeverFull};
 
 use crate::reading::{Reading, read_session};
 use crate::works::{Ending, Work};
-use one_thread::{JOURNAL_LIMIT, Played, play};
+use one_thread::{Played, play};
 use session_gen::make;
 use session_print::{play_text, summary};
 use std::alloc::Global;
 use tty_base::{Bytes, NoMemory, Source};
-use tty_calls::{PortRun, Session};
+use tty_calls::Session;
 
 /// What is told of a session that was played.
 #[derive(Clone, Copy)]
@@ -48,8 +48,7 @@ pub(crate) fn run_one<S: Source>(
     }
 }
 
-/// Makes the session of a number, plays it on one thread and makes its summary. Nothing is written in such
-/// a session, so none of its journals is ever full.
+/// Makes the session of a number, plays it on one thread and makes its summary.
 pub(crate) fn run_number(alloc: Global, number: u32) -> Result<Work, NoMemory>
     ensures played { IfOk result (λ work. IsSessionWork IsOrdered (Summary number) (generated_session number) work.ending work.runs.items) }
     ensures can { IfOk result (λ work. CanEnd (Gen number) work.ending) }
@@ -65,15 +64,15 @@ fn run_session(
     session: &Session,
     telling: Telling,
 ) -> Result<Work, NoMemory>
-    requires { IsWithinLimits (session_of session.now) }
+    requires { IsWithinLimits (session_of session.now) × IsNeverFull (session_of session.now) }
     ensures { IfOk result (λ work. IsSessionWork IsOrdered telling (session_of session.now) work.ending work.runs.items) }
 {
     let played = play(alloc, session)?;
     work_of(alloc, used, session, played, telling)
 }
 
-/// The work on a session that was played: what is told of it, or that a journal is full. A report takes the
-/// memory of `used`, and what stood there is gone.
+/// The work on a session that was played: what is told of it. A report takes the memory of `used`, and what
+/// stood there is gone.
 pub fn work_of(
     alloc: Global,
     used: Bytes,
@@ -84,25 +83,10 @@ pub fn work_of(
     ensures ending { IfOk result (λ work. IsEndingOf telling (session_of session.now) played work.ending) }
     ensures runs { IfOk result (λ work. work.runs ≡ played.runs) }
 {
-    let ending = ending_of(alloc, used, session, &played, telling)?;
+    let text = text_by(alloc, used, session, &played, telling)?;
     let Played { runs, ends: _ } = played;
+    let ending = Ending::Done(text);
     Ok(Work { ending, runs })
-}
-
-fn ending_of(
-    alloc: Global,
-    used: Bytes,
-    session: &Session,
-    played: &Played,
-    telling: Telling,
-) -> Result<Ending, NoMemory>
-    ensures { IfOk result (λ ending. IsEndingOf telling (session_of session.now) played.now ending) }
-{
-    if has_full_journal(played.runs.as_slice()) {
-        return Ok(Ending::JournalFull);
-    }
-    let text = text_by(alloc, used, session, played, telling)?;
-    Ok(Ending::Done(text))
 }
 
 fn text_by(
@@ -120,11 +104,4 @@ fn text_by(
         Telling::Report { journals } => play_text(alloc, used, session, runs, ends, journals),
         Telling::Summary(number) => summary(alloc, number, session, runs, ends),
     }
-}
-
-fn has_full_journal(runs: &[PortRun]) -> bool
-    ensures { result ≡ has_full_journal runs.now }
-{
-    runs.iter()
-        .any(|run| run.journal.len() == JOURNAL_LIMIT as usize)
 }

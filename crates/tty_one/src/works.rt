@@ -30,7 +30,6 @@ pub enum Ending {
     TooLong,
     /// The journals that were read are not all legal; this line says which.
     NotLegal(Bytes),
-    JournalFull,
 }
 
 /// What was done: how it ended, and the runs.
@@ -81,7 +80,6 @@ impl Ending {
             Ending::ReadFault => 3,
             Ending::TooLong => 6,
             Ending::NotLegal(_) => 7,
-            Ending::JournalFull => 8,
         }
     }
 
@@ -96,7 +94,6 @@ impl Ending {
             Ending::ReadFault => b"read fault\n",
             Ending::TooLong => b"session too long\n",
             Ending::NotLegal(line) => line.as_slice(),
-            Ending::JournalFull => b"journal full\n",
         }
     }
 }

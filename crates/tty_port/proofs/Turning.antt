@@ -11,6 +11,7 @@ use Rattle.tty_port.specs.Placed.{IsHistoryOf, ArePlaced}
 use Rattle.tty_port.specs.Adding.{Adds}
 use Rattle.tty_port.specs.Calls.{PortSeat}
 use Rattle.tty_port.specs.Lines.{MakesOne, MakesNone}
+use Rattle.tty_port.specs.Shared.{IsFound}
 use Rattle.tty_port.specs.declared.kept_port.KeptPort.{KeptPort}
 
 pub adds_by : (n : ℕ) (P : Stamped EntryWithCall → Type 0) (old new : List (Stamped EntryWithCall)) → ((x : Stamped EntryWithCall) → P x → x.seat ≡ n) → Adds P old new → AddsBy n old new
@@ -55,25 +56,31 @@ added_none n old new h same = h.1 ∙ none_more old h.0 (sym (ap length h.1) ∙
 pub installed_now : (s : PortSeat) → is_raised s ≡ false → generation_installed s ≡ generation_of (list_seen s)
 installed_now s low = let bit : raises_of s.me.0 ≡ 0 = ap bit_of low in omega arith
 
--- the port that a turn of the seat with the number n found
-pub record IsFound (name : Name) (n : ℕ) (old : PortSeat) (v : KeptPort) : Type 0 where
-  pub named : port_name v ≡ name
-  pub keeps : Keeps n (list_seen old) (history_of v)
-  pub history : IsHistoryOf name.callers v.port.value (history_of v)
-
 some_name : (x y : Name) (o : Option Name) → o ≡ Some x → o ≡ Some y → y ≡ x
 some_name x y o h k = cc
 
-pub found : (name : Name) (n : ℕ) (old : PortSeat) (v v1 v2 : KeptPort) → number_of old ≡ n → name_of old ≡ Some name → name_of old ≡ Some (port_name v) → Keeps (number_of old) (list_seen old) (history_of v) → v1 ≡ v → v2 ≡ v → IsHistoryOf v1.callers v1.port.value (history_of v1) → IsFound name n old v2
-found name n old v v1 v2 number named named_now keeps one two history =
-    let same : port_name v ≡ name = some_name name (port_name v) (name_of old) named named_now in
-    let first : IsHistoryOf v.callers v.port.value (history_of v) = subst (λ (x : KeptPort). IsHistoryOf x.callers x.port.value (history_of x)) one history in
-    subst (IsFound name n old) (sym two)
-    (record {
-      named = same;
-      keeps = subst (λ (k : ℕ). Keeps k (list_seen old) (history_of v)) number keeps;
-      history = subst (λ (k : ℕ). IsHistoryOf k v.port.value (history_of v)) (ap (λ (x : Name). x.callers) same) first;
-    })
+-- what a turn found, by the port as it was looked at
+pub found : (name : Name) (n : ℕ) (old : PortSeat) (v w : KeptPort) → name_of old ≡ Some name → name_of old ≡ Some (port_name v) → Keeps n (list_seen old) (history_of v) → w ≡ v → IsHistoryOf w.callers w.port.value (history_of w) → IsFound name n old v
+found name n old v w named named_now keeps same history =
+    let named_so : port_name v ≡ name = some_name name (port_name v) (name_of old) named named_now in
+    let first : IsHistoryOf v.callers v.port.value (history_of v) = subst (λ (x : KeptPort). IsHistoryOf x.callers x.port.value (history_of x)) same history in
+    record {
+      named = named_so;
+      keeps = keeps;
+      history = subst (λ (k : ℕ). IsHistoryOf k v.port.value (history_of v)) (ap (λ (x : Name). x.callers) named_so) first;
+    }
+
+-- it found the port as it is looked at again
+pub found_still : (name : Name) (n : ℕ) (old : PortSeat) (v w : KeptPort) → number_of old ≡ n → w ≡ v → IsFound name (number_of old) old v → IsFound name n old w
+found_still name n old v w number same h = subst (IsFound name n old) (sym same) (subst (λ (k : ℕ). IsFound name k old v) number h)
+
+-- The turn added an entry of no call, which its maker has made, with the seat so many places after the callers'.
+pub enters_one : (P : ℕ → List (Stamped EntryWithCall) → Stamped EntryWithCall → Type 0) (place : ℕ) → ((m : ℕ) (before : List (Stamped EntryWithCall)) (x : Stamped EntryWithCall) → P m before x → x.seat ≡ m + place)
+    → (name : Name) (old new : PortSeat) (v w : KeptPort) → IsFound name (name.callers + place) old v → number_of old ≡ name.callers + place → number_of new ≡ number_of old → list_seen new ≡ history_of w
+    → Adds (P (port_name v).callers (history_of v)) (history_of v) (history_of w) → MakesOne (P name.callers) old new
+enters_one P place seat name old new v w at was same seen h =
+    makes_one (P name.callers) (name.callers + place) old new (history_of v) (history_of w) (seat name.callers (history_of v)) was (same ∙ was) at.keeps
+    (subst (λ (m : ℕ). Adds (P m (history_of v)) (history_of v) (history_of w)) (ap (λ (x : Name). x.callers) at.named) h) seen
 
 -- the history that the seat has seen is that of the port
 pub placed_now : (name : Name) (w : KeptPort) (s : PortSeat) → port_name w ≡ name → IsHistoryOf w.callers w.port.value (history_of w) → list_seen s ≡ history_of w → ArePlaced name.callers (sum name.counts) (list_seen s)

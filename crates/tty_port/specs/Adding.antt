@@ -64,15 +64,15 @@ abbrev pub IsTold : ℕ → ℕ → PlainCall → List (Stamped EntryWithCall) �
 IsTold c step call [] = ⊥
 IsTold c step call (x ∷ xs) = IsOfStep c step call x ⊎ IsTold c step call xs
 
--- the call is the caller's next, or the one that has begun; where parts of it were taken, and it does not wait, that was in this
--- generation
+-- the call is the caller's next, or the one that has begun; where parts of it were taken, and it does not wait, that
+-- was in this generation
 pub record IsUnderWay (c step : ℕ) (call : PlainCall) (generation : ℕ) (xs : List (Stamped EntryWithCall)) : Type 0 where
   pub next : (standing_at c xs).next ≡ step
   pub not_over : (standing_at c xs).over ≡ false
   pub same : (standing_at c xs).begun ≡ true → IsTold c step call xs
   pub one : (standing_at c xs).begun ≡ true → (standing_at c xs).waits ≡ false → 0 < (standing_at c xs).parts → (standing_at c xs).generation ≡ generation
 
--- the same, in whatever generation it goes on
+-- the call is under way, in whatever generation it goes on
 abbrev pub Rests : ℕ → ℕ → PlainCall → List (Stamped EntryWithCall) → Type 0
 Rests c step call xs = (generation : ℕ) → IsUnderWay c step call generation xs
 

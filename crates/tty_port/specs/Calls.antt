@@ -43,7 +43,8 @@ abbrev pub FirstHas : ℕ → List (Stamped EntryWithCall) → Type 0
 FirstHas generation [] = Unit {0}
 FirstHas generation (x ∷ xs) = x.what.entry.generation ≡ generation
 
--- The entries between two waits have one generation: the reference is held from the first of them on, and given back at a wait.
+-- The entries between two waits have one generation: the reference is held from the first of them on, and given back at
+-- a wait.
 abbrev pub KeepGeneration : List (Stamped EntryWithCall) → Type 0
 KeepGeneration [] = Unit {0}
 KeepGeneration (x ∷ xs) = MatchBool (is_wait x.what.entry.event) (Unit {0}) (FirstHas x.what.entry.generation xs) × KeepGeneration xs
@@ -65,9 +66,9 @@ pub record IsAnswered (c step : ℕ) (call : PlainCall) (a : PlainAnswer) (old n
   -- where the answer raised the generation, it was installed
   pub installed : install_count new + last.what.entry.generation ≡ install_count old + last.after
 
--- The generation was found in this call: by taking the reference that the call held, when nobody changed the discipline; or,
--- where the call may change it, after the mark was set, when nobody held a reference. Such a call has no parts and does not wait.
--- Another took a first reference, and one more after each wait.
+-- The generation was found in this call: by taking the reference that the call held, when nobody changed the
+-- discipline; or, where the call may change it, after the mark was set, when nobody held a reference. Such a call has
+-- no parts and does not wait. Another took a first reference, and one more after each wait.
 pub record Answers (c step : ℕ) (call : PlainCall) (a : PlainAnswer) (old new : PortSeat) : Type 0 where
   pub answered : IsAnswered c step call a old new
   pub stepped : step_count old + waits_in answered.pauses < step_count new

@@ -40,7 +40,8 @@ ArePieces m run generation part (x ∷ xs) = IsPiece m run part generation x × 
 abbrev pub IsCaughtUp : Terminal → Type 0
 IsCaughtUp t = is_stuck t ≡ false → t.sent ≤ t.taken
 
--- Made on this history, the piece has as many characters as a piece may have, or leaves a port that can be flushed no further.
+-- Made on this history, the piece has as many characters as a piece may have, or leaves a port that can be flushed no
+-- further.
 abbrev pub IsWhole : Name → List (Stamped EntryWithCall) → Stamped EntryWithCall → Type 0
 IsWhole name before x = length (chars_at (x ∷ [])) < 64 → IsCaughtUp (terminal_at name (before ++ x ∷ []))
 
@@ -58,7 +59,8 @@ pub record HasNothingLeft (t : Terminal) : Type 0 where
 abbrev pub run_past : (run n : ℕ) → ℕ
 run_past run n = if n == 0 then run else run + 1
 
--- a run of n characters by the flusher of the port with this name, under one reference, whose generation is that of each piece
+-- a run of n characters by the flusher of the port with this name, under one reference, whose generation is that of
+-- each piece
 pub record FlushesRun (name : Name) (run n : ℕ) (old new : PortSeat) : Type 0 where
   pub begins : Begins (list_seen old) (list_seen new)
   pub made : List (Stamped EntryWithCall)

@@ -1,5 +1,5 @@
--- A port as the value of a cell. Its journal is the history: each entry with the seat of its maker, the generation that stands
--- since, and the call that the port keeps for it. Its name is what never changes.
+-- A port as the value of a cell. Its journal is the history: each entry with the seat of its maker, the generation that
+-- stands since, and the call that the port keeps for it. Its name is what never changes.
 use Rattle.std.specs.Prelude.{ℕ, ◌+◌, List, [], ◌∷◌, Option, None, if◌then◌else◌}
 use Rattle.atomic_table.specs.Seated.{TableId}
 use Rattle.tty_calls.specs.declared.journals.Who.{Who}
@@ -11,8 +11,8 @@ use Rattle.port_cell.specs.declared.kept.Stamped.{Stamped}
 use Rattle.tty_port.specs.Inside.{Name, EntryWithCall}
 use Rattle.tty_port.specs.declared.kept_port.KeptPort.{KeptPort}
 
--- the seat of a maker, where m callers have seats: each caller the one of its number, and flusher, line, clock and session the
--- four after them
+-- the seat of a maker, where m callers have seats: each caller the one of its number, and flusher, line, clock and
+-- session the four after them
 abbrev pub seat_of : ℕ → Who → ℕ
 seat_of m (Caller c) = c
 seat_of m Flusher = m

@@ -7,4 +7,5 @@ pub mod Calls
 pub mod Flushing
 pub mod Lines
 pub mod Going
+pub mod Pacing
 pub mod Shared

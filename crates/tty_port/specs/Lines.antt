@@ -29,8 +29,8 @@ pub record MakesNone (old new : PortSeat) : Type 0 where
   pub found : Keeps (number_of old) (list_seen old) (list_seen new)
   pub own : own_entries new ≡ own_entries old
 
--- The putter met the end that takes out, of which these characters were taken: all that it put is pushed, and it loaded one head,
--- which is their number. They begin what it put, and each head that it loaded is at most their number.
+-- The putter met the end that takes out, of which these characters were taken: all that it put is pushed, and it loaded
+-- one head, which is their number. They begin what it put, and each head that it loaded is at most their number.
 pub record Meets (taken : List Flagged) (old new : PutterState Flagged) : Type 0 where
   pub putter : new ≡ with_loaded (record old { pushed = old.sent }) (length taken)
   pub begins : IsPrefix taken old.sent

@@ -27,7 +27,8 @@ abbrev pub HaveCalls : (ℕ → ℕ → Option PlainCall) → List (Stamped Entr
 HaveCalls calls [] = Unit {0}
 HaveCalls calls (x ∷ xs) = HasCall calls x × HaveCalls calls xs
 
--- This is the history of that port, where m callers have seats. A run of these entries has the calls that are told here.
+-- This is the history of that port, where m callers have seats. A run of these entries has the calls that are told
+-- here.
 pub record IsHistoryOf (m : ℕ) (v : PortValue) (xs : List (Stamped EntryWithCall)) : Type 0 where
   pub entries : entries_in xs ≡ v.journal
   pub placed : ArePlaced m (sum v.counts) xs

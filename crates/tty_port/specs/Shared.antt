@@ -11,7 +11,9 @@ use Rattle.port_cell.specs.Seats.{IsSeat}
 use Rattle.port_cell.specs.Cells.{identity_of, opening_value}
 use Rattle.tty_port.specs.Inside.{Name, EntryWithCall}
 use Rattle.tty_port.specs.Histories as ports
+use Rattle.tty_port.specs.Placed.{IsHistoryOf}
 use Rattle.tty_port.specs.Calls.{PortSeat}
+use Rattle.tty_port.specs.declared.kept_port.KeptPort.{KeptPort}
 use Rattle.tty_port.specs.declared.shared.SharedPort.{SharedPort}
 
 abbrev pub table_of : SharedPort → TableId
@@ -47,6 +49,12 @@ IsMarking p n s = IsUsing p n (Marked (generation_in (last_word s))) s
 -- it has found that nobody holds a reference to the generation that it marked
 abbrev pub IsByItself : SharedPort → ℕ → PortSeat → Type 0
 IsByItself p n s = IsUsing p n (Alone (generation_in (last_word s))) s
+
+-- the port with this name that a turn of the seat with this number found
+pub record IsFound (name : Name) (n : ℕ) (s : PortSeat) (v : KeptPort) : Type 0 where
+  pub named : ports.name_of v ≡ name
+  pub keeps : Keeps n (list_seen s) (ports.history_of v)
+  pub history : IsHistoryOf name.callers v.port.value (ports.history_of v)
 
 -- the seats from this number on, which have seen this history
 abbrev pub AreHere : SharedPort → List (Stamped EntryWithCall) → ℕ → List PortSeat → Type 0

@@ -127,7 +127,7 @@ impl SharedPort {
         ensures err { OnErr result (MakesNone seat.old seat.new) }
         ensures full { IfErr result (λ d. IsFull (name_of_port self.now) d (list_seen seat.new)) }
     {
-        let since = self.cell.changes();
+        let since = self.cell.for_change.changes();
         match self.attempt(rt, seat, caller, step, call) {
             Ok(Tried::Done(answer)) => Ok(Some(answer)),
             Ok(Tried::Part) => Ok(None),
@@ -163,8 +163,7 @@ impl SharedPort {
         ensures err { OnErr result (MakesNone seat.old seat.new) }
         ensures full { IfErr result (λ d. IsFull (name_of_port self.now) d (list_seen seat.new)) }
     {
-        let mut turn = self.cell.turn(rt, seat);
-        let found = turn.value().entry_count();
+        let (mut turn, found) = self.begin_turn(rt, seat);
         let tried = turn.value().attempt(caller, step, call);
         self.end_turn(seat, turn, found, woken_by(call, &tried));
         tried

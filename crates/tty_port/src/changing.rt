@@ -48,8 +48,7 @@ impl SharedPort {
         ensures none { OnErr result (install_count seat.new ≡ install_count seat.old) }
         ensures full { IfErr result (λ d. IsFull (name_of_port self.now) d (list_seen seat.new)) }
     {
-        let mut turn = self.cell.turn(rt, seat);
-        let found = turn.value().entry_count();
+        let (mut turn, found) = self.begin_turn(rt, seat);
         let before = turn.value().generation();
         let tried = turn.value().attempt(caller, step, call);
         let raised = turn.value().generation() != before;
@@ -70,6 +69,7 @@ impl SharedPort {
         requires lowered { is_raised seat.old ≡ false }
         requires found { found ≡ length (list_seen seat.old) }
         requires name { name_of seat.old ≡ Some (port_name (value_in turn)) }
+        requires named { port_name (value_in turn) ≡ name_of_port self.now }
         requires list { AddsBy (number_of seat.old) (list_seen seat.old) (history_of (value_in turn)) }
         requires generation { MatchBool raised
             ((generation_of (history_of (value_in turn)) ≡ generation_of (list_seen seat.old) + 1) × (generation_of (history_of (value_in turn)) ≤ 4194304))

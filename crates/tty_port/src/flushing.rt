@@ -88,8 +88,7 @@ impl SharedPort {
         ensures full { IfErr result (λ d. IsFull (name_of_port self.now) d (list_seen seat.new)) }
         ensures few { next_run (list_seen seat.new) ≤ 4194304 }
     {
-        let mut turn = self.cell.turn(rt, seat);
-        let found = turn.value().entry_count();
+        let (mut turn, found) = self.begin_turn(rt, seat);
         let flushed = turn.value().flush_piece(run, part);
         self.end_turn(seat, turn, found, woken_by_piece(part, &flushed));
         flushed

@@ -21,7 +21,7 @@ impl SharedPort {
         ensures clear { changing_in (last_word seat.new) ≡ 0 }
     {
         for _ in rt.forever() {
-            let since = self.cell.changes();
+            let since = self.cell.for_change.changes();
             match self.cell.enter(seat) {
                 Ok(_) => return,
                 Err(_) => self.cell.park(rt, seat, since),
@@ -64,7 +64,7 @@ impl SharedPort {
         ensures stepped { step_count seat.old < step_count seat.new }
     {
         for _ in rt.forever() {
-            let since = self.cell.changes();
+            let since = self.cell.for_change.changes();
             match self.cell.mark(seat) {
                 Ok(()) => return,
                 Err(_) => self.cell.park(rt, seat, since),
@@ -82,7 +82,7 @@ impl SharedPort {
         ensures unused { users_in (last_word seat.new) ≡ 0 }
     {
         for _ in rt.forever() {
-            let since = self.cell.changes();
+            let since = self.cell.for_change.changes();
             match self.cell.settled(seat) {
                 Ok(()) => return,
                 Err(_) => self.cell.park(rt, seat, since),

@@ -4,16 +4,17 @@ ghost use Rattle.std.specs.Prelude.{◌≡◌, ◌+◌, ◌<◌, ◌≤◌, true
 ghost use Rattle.tty_calls.specs.Plain.{ticked, clock_ended, caller_ended};
 ghost use Rattle.tty_calls.specs.declared.journals.Who.TheVariants.{Caller, Clock};
 ghost use Rattle.tty_terminal.specs.Steps.{may_end};
-ghost use Rattle.port_cell.specs.Entries.{generation_of, AddsBy};
-ghost use Rattle.port_cell.specs.Knowledge.{number_of, name_of, list_seen, has_turn, is_raised};
+ghost use Rattle.port_cell.specs.Entries.{generation_of, AddsBy, Keeps};
+ghost use Rattle.port_cell.specs.Knowledge.{number_of, name_of, list_seen, own_entries, user_of, has_turn, is_raised};
 ghost use Rattle.port_cell.specs.Seats.{IsSeat, IsSameSeat, KeepsUse};
 ghost use Rattle.port_cell.specs.Lent.{value_in};
+ghost use Rattle.port_cell.specs.Views.{Knows};
 ghost use Rattle.tty_port.specs.Histories.{history_of, name_of as port_name};
 ghost use Rattle.tty_port.specs.Seen.{standing_at, marks_at, terminal_at, IsBetween};
-ghost use Rattle.tty_port.specs.Placed.{IsHistoryOf, ArePlaced};
+ghost use Rattle.tty_port.specs.Placed.{ArePlaced};
 ghost use Rattle.tty_port.specs.Adding.{IsEntry, IsFull};
 ghost use Rattle.tty_port.specs.Lines.{MakesOne, MakesNone, EndsLine};
-ghost use Rattle.tty_port.specs.Shared.{IsHere, name_of_port, table_of};
+ghost use Rattle.tty_port.specs.Shared.{IsHere, IsFound, name_of_port, table_of};
 
 use crate::kept_port::KeptPort;
 use crate::shared::{Seat, SharedPort};
@@ -24,6 +25,29 @@ use std::sync::Wait;
 use tty_calls::Denied;
 
 impl SharedPort {
+    /// Takes a turn, and tells how many entries it found.
+    pub(crate) fn begin_turn<R: Wait>(&self, rt: &R, seat: &mut Seat) -> (Turn<KeptPort>, u64)
+        requires seat { IsSeat (table_of self.now) seat.old }
+        requires named { name_of seat.old ≡ Some (name_of_port self.now) }
+        requires none { has_turn seat.old ≡ false }
+        ensures seat { IsSeat (table_of self.now) seat.new }
+        ensures same { IsSameSeat seat.old seat.new }
+        ensures references { KeepsUse seat.old seat.new }
+        ensures turn { has_turn seat.new ≡ true }
+        ensures lowered { is_raised seat.new ≡ false }
+        ensures seen { list_seen seat.new ≡ history_of (value_in result.0) }
+        ensures name { name_of seat.old ≡ Some (port_name (value_in result.0)) }
+        ensures list { Keeps (number_of seat.old) (list_seen seat.old) (history_of (value_in result.0)) }
+        ensures own { own_entries seat.new ≡ own_entries seat.old }
+        ensures generation { Knows (generation_of (history_of (value_in result.0))) (user_of seat.old) }
+        ensures found { IsFound (name_of_port self.now) (number_of seat.old) seat.old (value_in result.0) }
+        ensures count { result.1 ≡ length (history_of (value_in result.0)) }
+    {
+        let mut turn = self.cell.turn(rt, seat);
+        let count = turn.value().entry_count();
+        (turn, count)
+    }
+
     /// Notes what this turn added to so many entries, where that is anything, and gives the turn back. Then
     /// wakes those who may go on.
     pub(crate) fn end_turn(
@@ -38,6 +62,7 @@ impl SharedPort {
         requires lowered { is_raised seat.old ≡ false }
         requires found { found ≡ length (list_seen seat.old) }
         requires name { name_of seat.old ≡ Some (port_name (value_in turn)) }
+        requires named { port_name (value_in turn) ≡ name_of_port self.now }
         requires list { AddsBy (number_of seat.old) (list_seen seat.old) (history_of (value_in turn)) }
         requires generation { generation_of (history_of (value_in turn)) ≡ generation_of (list_seen seat.old) }
         ensures seat { IsSeat (table_of self.now) seat.new }
@@ -46,7 +71,7 @@ impl SharedPort {
         ensures turn { has_turn seat.new ≡ false }
         ensures lowered { is_raised seat.new ≡ false }
         ensures list { list_seen seat.new ≡ history_of (value_in turn) }
-        ensures history { IsHistoryOf (value_in turn).callers (value_in turn).port.value (history_of (value_in turn)) }
+        ensures placed { ArePlaced (name_of_port self.now).callers (sum (name_of_port self.now).counts) (list_seen seat.new) }
     {
         if turn.value().entry_count() != found {
             self.cell.note(seat, &mut turn);
@@ -66,8 +91,7 @@ impl SharedPort {
         ensures err { OnErr result (MakesNone seat.old seat.new) }
         ensures full { IfErr result (λ d. IsFull (name_of_port self.now) d (list_seen seat.new)) }
     {
-        let mut turn = self.cell.turn(rt, seat);
-        let found = turn.value().entry_count();
+        let (mut turn, found) = self.begin_turn(rt, seat);
         let result = turn.value().tick();
         self.end_turn(seat, turn, found, Woken::All);
         result
@@ -84,8 +108,7 @@ impl SharedPort {
         ensures err { OnErr result (MakesNone seat.old seat.new) }
         ensures full { IfErr result (λ d. IsFull (name_of_port self.now) d (list_seen seat.new)) }
     {
-        let mut turn = self.cell.turn(rt, seat);
-        let found = turn.value().entry_count();
+        let (mut turn, found) = self.begin_turn(rt, seat);
         let result = turn.value().clock_end();
         self.end_turn(seat, turn, found, Woken::All);
         result
@@ -111,8 +134,7 @@ impl SharedPort {
         ensures err { OnErr result (MakesNone seat.old seat.new) }
         ensures full { IfErr result (λ d. IsFull (name_of_port self.now) d (list_seen seat.new)) }
     {
-        let mut turn = self.cell.turn(rt, seat);
-        let found = turn.value().entry_count();
+        let (mut turn, found) = self.begin_turn(rt, seat);
         let result = turn.value().line_end(putter);
         self.end_turn(seat, turn, found, Woken::All);
         result
@@ -130,8 +152,7 @@ impl SharedPort {
         ensures err { OnErr result (MakesNone seat.old seat.new) }
         ensures full { IfErr result (λ d. IsFull (name_of_port self.now) d (list_seen seat.new)) }
     {
-        let mut turn = self.cell.turn(rt, seat);
-        let found = turn.value().entry_count();
+        let (mut turn, found) = self.begin_turn(rt, seat);
         let result = turn.value().caller_end(caller);
         self.end_turn(seat, turn, found, Woken::All);
         result
@@ -147,8 +168,7 @@ impl SharedPort {
         ensures ended { result ≡ may_end (name_of_port self.now).counts (terminal_at (name_of_port self.now) (list_seen seat.new)) }
         ensures placed { ArePlaced (name_of_port self.now).callers (sum (name_of_port self.now).counts) (list_seen seat.new) }
     {
-        let mut turn = self.cell.turn(rt, seat);
-        turn.value().entry_count();
+        let (mut turn, _) = self.begin_turn(rt, seat);
         let ended = turn.value().may_end();
         self.cell.give(seat, turn);
         ended

@@ -25,7 +25,7 @@ impl SharedPort {
             Woken::Nobody => {}
             Woken::Flusher => self.wake_flusher(),
             Woken::All => {
-                self.cell.wake();
+                self.cell.for_change.wake();
                 self.wake_flusher();
             }
         }
@@ -34,15 +34,6 @@ impl SharedPort {
     /// Wakes the flusher, for which what a line pushes is something to do.
     pub(crate) fn wake_flusher(&self) {
         self.for_flusher.wake();
-    }
-
-    /// Waits for something, after so much that happened, that may let a caller or the line go on. It comes
-    /// back without that too, after a millisecond at the latest.
-    pub(crate) fn pause<R: Wait>(&self, rt: &R, seat: &mut Seat, since: ChangeCount)
-        requires { IsHere self.now (number_of seat.old) seat.old }
-        ensures { seat.new ≡ seat.old }
-    {
-        self.cell.park(rt, seat, since);
     }
 
     /// Notes that the flusher looks now, so that its next wait misses nothing that happens from here on.
@@ -58,7 +49,11 @@ impl SharedPort {
 
     /// The flusher waits for something that may be work for it and that happened after its latest flush run
     /// began. It comes back without that too, after a millisecond at the latest.
-    pub fn flusher_pause<R: Wait>(&self, rt: &R) {
+    pub fn pause<R: Wait>(&self, rt: &R, seat: &mut Seat)
+        requires { IsHere self.now (number_of seat.old) seat.old }
+        ensures { seat.new ≡ seat.old }
+    {
+        let _seat = &*seat;
         let word = self.flusher_looked.load(Ordering::SeqCst);
         self.for_flusher.wait(rt, ChangeCount { word });
     }

@@ -31,4 +31,4 @@ mod told;
 mod waiting;
 
 pub use texts::{with_journals, written_out};
-pub use told::{PIECE, ROOM, Told, told_of};
+pub use told::{PIECE, ROOM, Told, told_of, told_on_threads};

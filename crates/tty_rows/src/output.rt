@@ -131,46 +131,6 @@ done
 ",
 };
 
-/// STOP holds what is written, and under ixany any character sends it.
-const STOP_AND_ANY_CHARACTER: Row = Row {
-    session: "# STOP comes before a byte is written, so the byte is held. With ixany the next character,
-# which is read as any other, lets it go out.
-tty-session 1
-ports 1
-phase
-caller a 0
-open 0 rw nonblock
-modes 0 now raw ixon ixany
-phase
-line 0
-rx 13
-caller a 0
-write 0 61
-outq 0
-phase
-line 0
-rx 78
-caller a 0
-outq 0
-read 0 8
-end
-",
-    report: "0.a.0 open ok
-0.a.1 modes ok
-0.a.2 write 1
-0.a.3 outq 1
-0.a.4 outq 0
-0.a.5 read 1 78
-port 0 line arrived=2 lost=0 sent=2 overrun=0
-port 0 input taken=2 dropped=0
-port 0 counts mark=0 parity=0 frame=0 break=0 cut=0 echo=0 pin=0 pout=0 pbad=0 pfull=0
-port 0 signals -
-port 0 generation 1
-port 0 wire 61
-done
-",
-};
-
 /// Under ixoff STOP is sent at 4,000 unread bytes, and START when 128 are left.
 const STOP_IS_SENT: Row = Row {
     session: "tty-session 1
@@ -266,7 +226,6 @@ fn output_is_processed_and_held(rt: HostRuntime) -> Result<(), Fail> {
         CARRIAGE_RETURNS,
         UTF8_COLUMN,
         HELD_OUTPUT,
-        STOP_AND_ANY_CHARACTER,
         STOP_IS_SENT,
         SMALL_CALLS,
     ];

@@ -63,64 +63,8 @@ done
 ",
 };
 
-/// In version 2 a session says how many characters a flip buffer holds.
-pub(crate) const SMALL_FLIP_BUFFER: Row = Row {
-    session: "# A flip buffer of 64 characters, and 65 characters on a port that nobody has open: the last
-# one is an overrun, and the hangup drops the others.
-tty-session 2
-ports 1
-flip 0 64
-phase
-line 0
-rx 6161616161616161616161616161616161616161616161616161616161616161616161616161616161616161616161616161616161616161616161616161616161
-end
-",
-    report: "port 0 line arrived=65 lost=0 sent=64 overrun=1 flip=64
-port 0 input taken=0 dropped=64
-port 0 counts mark=0 parity=0 frame=0 break=0 cut=0 echo=0 pin=0 pout=0 pbad=0 pfull=0
-port 0 signals -
-port 0 generation 1
-port 0 wire -
-done
-",
-};
-
-/// A line that nobody reads is dropped by the hangup.
-pub(crate) const UNREAD_LINE: Row = Row {
-    session: "# A port that is opened and closed, and a line that nobody reads.
-tty-session 1
-ports 1
-phase
-  caller getty 0
-    open 0 rw nonblock
-    modes 0 now raw   
-    close 0
-phase
-  # The port is closed, so these characters stay until the hangup drops them.
-  line 0
-    rx 6869
-end
-",
-    report: "0.getty.0 open ok
-0.getty.1 modes ok
-0.getty.2 close ok
-port 0 line arrived=2 lost=0 sent=2 overrun=0
-port 0 input taken=0 dropped=2
-port 0 counts mark=0 parity=0 frame=0 break=0 cut=0 echo=0 pin=0 pout=0 pbad=0 pfull=0
-port 0 signals -
-port 0 generation 2
-port 0 wire -
-done
-",
-};
-
 #[test]
 fn overruns_are_told(rt: HostRuntime) -> Result<(), Fail> {
-    let rows = [
-        ONE_OVERRUN,
-        OVERRUN_IN_THE_MIDDLE,
-        SMALL_FLIP_BUFFER,
-        UNREAD_LINE,
-    ];
+    let rows = [ONE_OVERRUN, OVERRUN_IN_THE_MIDDLE];
     plays(&rt, rt.alloc(), &["run", "--one"], &rows)
 }

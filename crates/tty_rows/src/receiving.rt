@@ -3,36 +3,6 @@
 use super::rows::{Row, plays};
 use std::test::Fail;
 
-/// Three bytes are read, and the port is closed.
-const THREE_BYTES: Row = Row {
-    session: "tty-session 1
-ports 1
-phase
-caller a 0
-open 0 rw nonblock
-modes 0 now raw
-phase
-line 0
-rx 68690a
-caller a 0
-read 0 64
-close 0
-end
-",
-    report: "0.a.0 open ok
-0.a.1 modes ok
-0.a.2 read 3 68690a
-0.a.3 close ok
-port 0 line arrived=3 lost=0 sent=3 overrun=0
-port 0 input taken=3 dropped=0
-port 0 counts mark=0 parity=0 frame=0 break=0 cut=0 echo=0 pin=0 pout=0 pbad=0 pfull=0
-port 0 signals -
-port 0 generation 2
-port 0 wire -
-done
-",
-};
-
 /// The line's phase ends before the caller's begins.
 pub(crate) const READ_A_PHASE_LATER: Row = Row {
     session: "tty-session 1
@@ -76,37 +46,6 @@ port 0 counts mark=0 parity=0 frame=0 break=0 cut=0 echo=0 pin=0 pout=0 pbad=0 p
 port 0 signals -
 port 0 generation 1
 port 0 wire -
-done
-",
-};
-
-/// What came before the open is flushed under the modes of the open, and so echoed.
-const TYPED_AHEAD: Row = Row {
-    session: "# Two characters come while nobody has the port open. They wait, and the caller of the
-# second phase reads them.
-tty-session 1
-ports 1
-phase
-line 0
-rx 6869
-phase
-caller login 0
-open 0 rw nonblock
-modes 0 now raw
-read 0 64
-close 0
-end
-",
-    report: "0.login.0 open ok
-0.login.1 modes ok
-0.login.2 read 2 6869
-0.login.3 close ok
-port 0 line arrived=2 lost=0 sent=2 overrun=0
-port 0 input taken=2 dropped=0
-port 0 counts mark=0 parity=0 frame=0 break=0 cut=0 echo=0 pin=0 pout=0 pbad=0 pfull=0
-port 0 signals -
-port 0 generation 2
-port 0 wire 6869
 done
 ",
 };
@@ -377,10 +316,8 @@ done
 #[test]
 fn a_line_is_received(rt: HostRuntime) -> Result<(), Fail> {
     let rows = [
-        THREE_BYTES,
         READ_A_PHASE_LATER,
         EMPTY_SESSION,
-        TYPED_AHEAD,
         LOST_IN_THE_FIFO,
         RECEIVE_TIMEOUT,
         BREAKS,

@@ -1,8 +1,12 @@
 //! What is told of a text: a call of the program over memory.
 
 use std::alloc::{AllocError, Global};
+use std::sync::Wait;
+use std::thread::Threads;
 use tty_base::{Bytes, MemSink, MemSource};
-use tty_one::{Ran, tty_one};
+use tty_one::tty_one;
+use tty_port::OpenGate;
+use tty_run::tty_run;
 
 /// How many bytes a source or a sink moves at most in one call.
 pub const PIECE: usize = 4_096;
@@ -17,13 +21,36 @@ pub struct Told {
     pub text: Vec<u8>,
 }
 
-/// What is told of a text with these words.
+/// What is told of a text with these words, without threads.
 pub fn told_of(alloc: Global, words: &[&str], text: Vec<u8>) -> Result<Told, AllocError> {
-    let mut source = MemSource::new(Bytes::from_vec(text), PIECE, Vec::new(alloc));
-    let Ok(mut sink) = MemSink::new(alloc, PIECE, ROOM, Vec::new(alloc)) else {
-        return Err(AllocError);
-    };
-    let Ran { status, .. } = tty_one(alloc, words, &mut source, &mut sink);
+    let mut source = source_of(alloc, text);
+    let mut sink = sink(alloc)?;
+    let status = tty_one(alloc, words, &mut source, &mut sink).status;
     let text = sink.given().to_vec(alloc)?;
     Ok(Told { status, text })
+}
+
+/// What is told of a text with these words, on threads.
+pub fn told_on_threads<R: Threads + Wait + Sync>(
+    rt: &R,
+    alloc: Global,
+    words: &[&str],
+    text: Vec<u8>,
+) -> Result<Told, AllocError> {
+    let mut source = source_of(alloc, text);
+    let mut sink = sink(alloc)?;
+    let status = tty_run(rt, alloc, words, &mut source, &mut sink, &OpenGate).status;
+    let text = sink.given().to_vec(alloc)?;
+    Ok(Told { status, text })
+}
+
+fn source_of(alloc: Global, text: Vec<u8>) -> MemSource {
+    MemSource::new(Bytes::from_vec(text), PIECE, Vec::new(alloc))
+}
+
+fn sink(alloc: Global) -> Result<MemSink, AllocError> {
+    match MemSink::new(alloc, PIECE, ROOM, Vec::new(alloc)) {
+        Ok(sink) => Ok(sink),
+        Err(_) => Err(AllocError),
+    }
 }

@@ -3,56 +3,6 @@
 use super::rows::{Row, plays};
 use std::test::Fail;
 
-/// With MIN 3 and TIME 2 one tick is too short, and two let a read go on.
-const MIN_AND_TIME: Row = Row {
-    session: "# A read wants three bytes, or two tenths of a second without a further one. On port 0 the
-# clock stops too early, and the read waits in vain; on port 1 it gets its two bytes.
-tty-session 1
-ports 2
-phase
-caller a 0
-open 0 rw
-modes 0 now raw min=3 time=2
-caller a 1
-open 0 rw
-modes 0 now raw min=3 time=2
-phase
-line 0
-rx 6162
-line 1
-rx 6162
-clock 0
-tick 1
-clock 1
-tick 2
-caller a 0
-read 0 64
-caller a 1
-read 0 64
-end
-",
-    report: "0.a.0 open ok
-0.a.1 modes ok
-0.a.2 read idle
-1.a.0 open ok
-1.a.1 modes ok
-1.a.2 read 2 6162
-port 0 line arrived=2 lost=0 sent=2 overrun=0
-port 0 input taken=2 dropped=0
-port 0 counts mark=0 parity=0 frame=0 break=0 cut=0 echo=0 pin=0 pout=0 pbad=0 pfull=0
-port 0 signals -
-port 0 generation 1
-port 0 wire -
-port 1 line arrived=2 lost=0 sent=2 overrun=0
-port 1 input taken=2 dropped=0
-port 1 counts mark=0 parity=0 frame=0 break=0 cut=0 echo=0 pin=0 pout=0 pbad=0 pfull=0
-port 1 signals -
-port 1 generation 1
-port 1 wire -
-done
-",
-};
-
 /// On a blocking handle a read waits, here in vain; on the other it is to be tried again.
 pub(crate) const BLOCKING_AND_NOT: Row = Row {
     session: "tty-session 1
@@ -189,7 +139,6 @@ done
 #[test]
 fn calls_wait(rt: HostRuntime) -> Result<(), Fail> {
     let rows = [
-        MIN_AND_TIME,
         BLOCKING_AND_NOT,
         NOTHING_COMES,
         FIRST_OF_TWO_READERS,

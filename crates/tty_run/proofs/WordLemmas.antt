@@ -1,11 +1,11 @@
 -- What tells the words of one thread from those of threads, and what each come to.
-use Rattle.std.proofs.Common.{◌≡◌, ◌⊎◌, ◌≤◌, ℕ, length, List, Option, None, Some, IfSome, inl, inr}
+use Rattle.std.proofs.Common.{◌⊎◌, ◌≤◌, ℕ, length, List, Option, None, Some, IfSome, inl, inr}
 use Rattle.tty_base.specs.Outside.{Rose}
 use Rattle.tty_calls.specs.declared.journals.PortRun.{PortRun}
 use Rattle.tty_one.specs.declared.words.Command.{Command}
 use Rattle.tty_one.specs.declared.words.Command.TheVariants.{Run, RunOne, Gen, Check}
-use Rattle.tty_one.specs.Endings.{Ask, AskRun, AreKnown, AreOfOne, AreRun, AreRunOne, AskOneToRead, AskToRead}
-use Rattle.tty_one.specs.Outcome.{Completes, IsBroken, breaks_words, breaks_fault, breaks_long, breaks_refusal, breaks_text, breaks_verdict, breaks_full, IsDone, IsToldBy, WasGiven}
+use Rattle.tty_one.specs.Endings.{Ask, AreKnown, AreOfOne, AreRun, AreRunOne, AskOneToRead, AskToRead}
+use Rattle.tty_one.specs.Outcome.{Completes, IsBroken, breaks_words, breaks_fault, breaks_long, breaks_refusal, breaks_text, breaks_verdict, IsDone, IsToldBy, WasGiven}
 use Rattle.tty_one.proofs.Outcomes.{one_if_not_run, run_is_not_one}
 use Rattle.tty_run.specs.Headline.{IsPlayedOnThreads}
 
@@ -22,26 +22,25 @@ broken_one words faults faults' left rest before now runs no_run (breaks_long re
 broken_one words faults faults' left rest before now runs no_run (breaks_refusal command bad asked refused none front) = breaks_refusal command bad asked refused none front
 broken_one words faults faults' left rest before now runs no_run (breaks_text command text asked told front) = breaks_text command text asked told front
 broken_one words faults faults' left rest before now runs no_run (breaks_verdict verdict text asked told illegal front) = breaks_verdict verdict text asked told illegal front
-broken_one words faults faults' left rest before now runs no_run (breaks_full full front) = breaks_full full front
 
 -- a session is played on one thread
-pub complete_one : (words : List (List ℕ)) (left : Option (List ℕ)) (faults faults' : ℕ) (runs : List PortRun) (status : ℕ) → (AreRun words → ⊥)
-    → IfSome left (λ bytes. AreRunOne words → length bytes ≤ 4194304 → (Rose faults faults' → ⊥) → Completes bytes status runs)
-    → IfSome left (λ bytes. AreRun words ⊎ AreRunOne words → length bytes ≤ 4194304 → (Rose faults faults' → ⊥) → Completes bytes status runs)
-complete_one words None faults faults' runs status no_run h = h
-complete_one words (Some bytes) faults faults' runs status no_run h = λ asked. by asked
+pub complete_one : (words : List (List ℕ)) (left : Option (List ℕ)) (faults faults' : ℕ) (status : ℕ) → (AreRun words → ⊥)
+    → IfSome left (λ bytes. AreRunOne words → length bytes ≤ 4194304 → (Rose faults faults' → ⊥) → Completes bytes status)
+    → IfSome left (λ bytes. AreRun words ⊎ AreRunOne words → length bytes ≤ 4194304 → (Rose faults faults' → ⊥) → Completes bytes status)
+complete_one words None faults faults' status no_run h = h
+complete_one words (Some bytes) faults faults' status no_run h = λ asked. by asked
   where
-    by : AreRun words ⊎ AreRunOne words → length bytes ≤ 4194304 → (Rose faults faults' → ⊥) → Completes bytes status runs
+    by : AreRun words ⊎ AreRunOne words → length bytes ≤ 4194304 → (Rose faults faults' → ⊥) → Completes bytes status
     by (inl run) = absurd (no_run run)
     by (inr one) = h one
 
 -- ---- words of threads
 
-pub complete_on_threads : (words : List (List ℕ)) (left : Option (List ℕ)) (faults faults' : ℕ) (runs : List PortRun) (status : ℕ)
-    → IfSome left (λ bytes. length bytes ≤ 4194304 → (Rose faults faults' → ⊥) → Completes bytes status runs)
-    → IfSome left (λ bytes. AreRun words ⊎ AreRunOne words → length bytes ≤ 4194304 → (Rose faults faults' → ⊥) → Completes bytes status runs)
-complete_on_threads words None faults faults' runs status h = h
-complete_on_threads words (Some bytes) faults faults' runs status h = λ asked. h
+pub complete_on_threads : (words : List (List ℕ)) (left : Option (List ℕ)) (faults faults' : ℕ) (status : ℕ)
+    → IfSome left (λ bytes. length bytes ≤ 4194304 → (Rose faults faults' → ⊥) → Completes bytes status)
+    → IfSome left (λ bytes. AreRun words ⊎ AreRunOne words → length bytes ≤ 4194304 → (Rose faults faults' → ⊥) → Completes bytes status)
+complete_on_threads words None faults faults' status h = h
+complete_on_threads words (Some bytes) faults faults' status h = λ asked. h
 
 -- what is done for the words of threads was done on threads
 headline_at : (words : List (List ℕ)) (left before now : Option (List ℕ)) (runs : List PortRun) (command : Command) (text : List ℕ) → AreRun words → Ask command words → IsToldBy command left runs text → WasGiven before now text

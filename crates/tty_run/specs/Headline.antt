@@ -5,8 +5,8 @@ use Rattle.tty_one.specs.declared.playing.Telling.TheVariants.{Report}
 use Rattle.tty_one.specs.Endings.{AskRun}
 use Rattle.tty_one.specs.Outcome.{IsInAnyOrder, IsReported, IsPlayedText, WasGiven}
 
--- The text that was read spells a session; each of its ports has one returned run, which is legal and leads to the end that is
--- reported, and whose journal is not full; and the sink was given the text of that session, of these runs and of their ends, with the
+-- The text that was read spells a session; each of its ports has one returned run, which is legal and leads to the
+-- end that is reported; and the sink was given the text of that session, of these runs and of their ends, with the
 -- journals where the words ask for them.
 pub record IsPlayedOnThreads (words : List (List ℕ)) (left before now : Option (List ℕ)) (runs : List PortRun) : Type 0 where
   pub journals : Bool

@@ -6,7 +6,7 @@ ghost use Rattle.tty_calls.specs.Limits.{IsWithinLimits};
 ghost use Rattle.tty_calls.specs.Sessions.{session_of};
 ghost use Rattle.tty_one.specs.Endings.{IsShort, IsOfSource};
 ghost use Rattle.tty_one.specs.Outcome.{IsInAnyOrder};
-ghost use Rattle.tty_one.specs.Works.{IsWork, IsSessionWork};
+ghost use Rattle.tty_one.specs.Works.{IsWork, IsSessionWork, IsNeverFull};
 ghost use Rattle.tty_one.specs.declared.playing.Telling.TheVariants.{Report};
 ghost use Rattle.tty_one.specs.declared.words.Command.TheVariants.{Run};
 
@@ -48,7 +48,7 @@ fn run_session<R: Threads + Wait + Sync, G: Gate + Sync>(
     journals: bool,
     gate: &G,
 ) -> Result<Work, NoMemory>
-    requires { IsWithinLimits (session_of session.now) }
+    requires { IsWithinLimits (session_of session.now) × IsNeverFull (session_of session.now) }
     ensures { IfOk result (λ work. IsSessionWork IsInAnyOrder (Report journals) (session_of session.now) work.ending work.runs.items) }
 {
     let played = play(rt, alloc, session, gate)?;

@@ -1,7 +1,9 @@
+//! The top call: what the words ask for is done, on threads where they say so.
+
 ghost use Rattle.std.specs.Prelude.{◌≡◌, ◌⊎◌, ◌≢◌, ◌≤◌, [], IfSome, length};
 ghost use Rattle.tty_base.specs.Outside.{Rose, TookCount, LeavesRest};
 ghost use Rattle.tty_one.specs.Endings.{AreKnown, AreRun, AreRunOne, AreGen, AskCheck, AskToRead, IsStatus, IsTold, texts_of};
-ghost use Rattle.tty_one.specs.Outcome.{IsDone, IsFull, IsToldRefused, IsToldIllegal, IsBroken, IsStatusOr, Completes, CompletesCheck};
+ghost use Rattle.tty_one.specs.Outcome.{IsDone, IsToldRefused, IsToldIllegal, IsBroken, IsStatusOr, Completes, CompletesCheck};
 ghost use Rattle.tty_run.specs.Headline.{IsPlayedOnThreads};
 
 use crate::playing::run;
@@ -14,9 +16,9 @@ use tty_port::Gate;
 
 /// Does what the words ask for, and ends with a status: 0 the work is done, 1 the text read is not in its
 /// grammar, 2 the words are none of the program's, 3 reading failed, 4 writing failed, 5 no memory was left,
-/// 6 the text is too long, 7 the journals that were read are not all legal, 8 a journal is full. What is
-/// told goes to the sink: at 0 the session's report, with its journals where the words ask for them, the
-/// summary of a number's session, or that the journals are legal; else the line of the status.
+/// 6 the text is too long, 7 the journals that were read are not all legal. What is told goes to the sink:
+/// at 0 the session's report, with its journals where the words ask for them, the summary of a number's
+/// session, or that the journals are legal; else the line of the status.
 ///
 /// By `run` the session is played on threads: in each phase each port has one for each caller, one each for
 /// line and flusher, and one for a clock that has ticks. The other words are those of `tty_one`, which needs no thread.
@@ -51,22 +53,19 @@ pub fn tty_run<R: Threads + Wait + Sync, S: Source, K: Sink, G: Gate + Sync>(
     ensures bad_session { result.status ≡ 1 → IsToldRefused (texts_of words.now) (S.left source.old) (K.given sink.old) (K.given sink.new) }
     // 7: the runs that the text spells are not all legal, and the sink was given the verdict that fits them.
     ensures not_legal { result.status ≡ 7 → IsToldIllegal (texts_of words.now) (S.left source.old) (K.given sink.old) (K.given sink.new) }
-    // 8 comes exactly with a full journal, unless its line could not be given; each run is one of the session
-    // as far as it went.
-    ensures full { result.status ≡ 8 → IsFull (texts_of words.now) (S.left source.old) result.runs.items }
     // 4: what was to be given is the text of the status that there would have been; that of 3 or of 6 stands
     // only where the words ask for a text to be read.
     ensures broken { result.status ≡ 4 → IsBroken (AreKnown (texts_of words.now)) (AskToRead (texts_of words.now)) (texts_of words.now) (S.faults source.old) (S.faults source.new) (S.left source.old) (S.left source.new) (K.given sink.old) (K.given sink.new) result.runs.items }
-    ensures no_runs { result.status ≢ 0 → result.status ≢ 4 → result.status ≢ 8 → result.runs.items ≡ [] }
+    ensures no_runs { result.status ≢ 0 → result.status ≢ 4 → result.runs.items ≡ [] }
     ensures none_judged { AskCheck (texts_of words.now) → result.runs.items ≡ [] }
     // The source has left an end of what it had left.
     ensures rest { IfSome (S.left source.old) (λ bytes. LeavesRest bytes (S.left source.new)) }
     // Where a session is to be read and reading did not fail, a text that spells a session is played, and
     // one that spells none is refused, unless the text could not be given or memory was wanting.
     ensures complete { IfSome (S.left source.old) (λ bytes. AreRun (texts_of words.now) ⊎ AreRunOne (texts_of words.now) → length bytes ≤ 4194304
-        → (Rose (S.faults source.old) (S.faults source.new) → ⊥) → Completes bytes result.status result.runs.items) }
-    // The session of a number is played, unless its summary could not be given or memory was wanting: it
-    // fills no journal, and nothing is read.
+        → (Rose (S.faults source.old) (S.faults source.new) → ⊥) → Completes bytes result.status) }
+    // The session of a number is played, unless its summary could not be given or memory was wanting, and
+    // nothing is read.
     ensures made { AreGen (texts_of words.now) → IsStatusOr 0 result.status }
     ensures unread { AreGen (texts_of words.now) → source.new ≡ source.old }
     // Likewise journals are judged: 0 exactly where every run is legal, else 7.

@@ -8,9 +8,11 @@ pub mod Grown
 pub mod HangupLaws
 pub mod HappenedLaws
 pub mod InPlace
+pub mod LiveLaws
 pub mod MarkLaws
 pub mod OneRun
 pub mod QuestionLemmas
+pub mod ReadLaws
 pub mod RoomLaws
 pub mod Received
 pub mod Runs

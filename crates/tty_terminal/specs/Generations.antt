@@ -1,4 +1,5 @@
--- What begins a new generation: a change of the discipline, the last close, and a hangup. Each names all that it touches.
+-- What begins a new generation: a change of the discipline, the last close, and a hangup. Each names all that it
+-- touches.
 use Rattle.std.specs.Prelude.{◌≡◌, ℕ, [], ◌+◌, ◌==◌, false, Option, None, Some, if◌then◌else◌, map}
 use Rattle.flow_control.specs.Output.{is_halted, after_start, after_release, after_reset}
 use Rattle.handle_table.specs.declared.HandleState.{HandleState}
@@ -10,8 +11,8 @@ use Rattle.tty_terminal.specs.declared.callers.Bound.{Bound}
 use Rattle.tty_terminal.specs.declared.callers.CallerState.{CallerState}
 use Rattle.tty_terminal.specs.Terminals.{Terminal, live_count}
 
--- A change to another discipline: the old one goes with all that it holds, and the halt by STOP with it. The modes and what
--- TCOOFF holds stay.
+-- A change to another discipline: the old one goes with all that it holds, and the halt by STOP with it. The modes
+-- and what TCOOFF holds stay.
 abbrev pub after_change : Terminal → Kind → Terminal
 after_change t new = record t { disc = fresh_of new; output = after_start t.output; generation = t.generation + 1 }
 
@@ -28,8 +29,8 @@ bound_after_hangup (Some b) = Some (record b { handle = table.handle_after_hangu
 abbrev pub caller_after_hangup : CallerState → CallerState
 caller_after_hangup s = record s { bound = bound_after_hangup s.bound }
 
--- A hangup: every handle dies, and N_TTY stands anew. Held output, both halts, the note for ixoff and exclusive use go. The
--- modes, the counts, the signals, the wire and the tick stay.
+-- A hangup: every handle dies, and N_TTY stands anew. Held output, both halts, the note for ixoff and exclusive use
+-- go. The modes, the counts, the signals, the wire and the tick stay.
 abbrev pub after_hangup : Terminal → Terminal
 after_hangup t =
     record t {
@@ -57,8 +58,8 @@ caller_after_close h s = record s { bound = bound_after_close h s.bound }
 abbrev pub after_close : Terminal → ℕ → Terminal
 after_close t h = record t { handles = table.without_handle t.handles h; callers = map (caller_after_close h) t.callers }
 
--- what a hangup leaves to whoever opens the port next: N_TTY anew, with nothing unread and nothing held, output that flows, no
--- note for ixoff, no exclusive use, and no live handle
+-- what a hangup leaves to whoever opens the port next: N_TTY anew, with nothing unread and nothing held, output that
+-- flows, no note for ixoff, no exclusive use, and no live handle
 pub record HasNothing (t : Terminal) : Type 0 where
   pub fresh : t.disc ≡ fresh_of kind.Tty
   pub unread : unread_of t.disc ≡ 0

@@ -111,8 +111,8 @@ abbrev pub happened_after : Bool → (happened now : List Happening) → List Ha
 happened_after true happened now = []
 happened_after false happened now = happened ++ now
 
--- What has happened since the latest change, last close or hangup, in the order of the entries. The rule for ixoff, which
--- leaves a discipline as it is, is not among it.
+-- What has happened since the latest change, last close or hangup, in the order of the entries. The rule for ixoff,
+-- which leaves a discipline as it is, is not among it.
 abbrev pub happened_in : (ℕ → ℕ → Option PlainCall) → Terminal → List PlainEntry → List Happening → List Happening
 happened_in calls t [] happened = happened
 happened_in calls t (e ∷ es) happened =

@@ -249,7 +249,8 @@ packet_in (room.Fresh fresh) = []
 packet_in (room.Counts counts) = []
 packet_in (room.Packet bytes) = bytes.items
 
--- what a call needs was made before it: room for the bytes of its answer, the discipline that it installs, the counts that it tells, and its packet as it is spelled
+-- what a call needs was made before it: room for the bytes of its answer, the discipline that it installs, the counts
+-- that it tells, and its packet as it is spelled
 pub record IsRoomFor (t : Terminal) (call : PlainCall) (made : Room) : Type 0 where
   pub holds : holds_bytes made ≡ gives_bytes call
   pub empty : (bytes_in made).items ≡ []
@@ -258,8 +259,8 @@ pub record IsRoomFor (t : Terminal) (call : PlainCall) (made : Room) : Type 0 wh
   pub counts : counts_in made ≡ counts_for t call
   pub packet : packet_in made ≡ spelled_packet call
 
--- what a call of a caller needs: a known caller, a handle's number in the table, a length of 32 bits, what was made for it, and
--- room for whatever it may send
+-- what a call of a caller needs: a known caller, a handle's number in the table, a length of 32 bits, what was made
+-- for it, and room for whatever it may send
 pub record CanAct (v : InRoom) (c : ℕ) (call : PlainCall) (made : Room) : Type 0 where
   pub known : c < length v.terminal.callers
   pub number : handle_of call < 32
@@ -269,7 +270,8 @@ pub record CanAct (v : InRoom) (c : ℕ) (call : PlainCall) (made : Room) : Type
   pub wire : ROOM_FOR_CALL ≤ v.wire_room
   pub column : column_in v.terminal.disc < 2 ^ 62
 
--- a call met its outcome, without the rule for ixoff after it; and how much room on the wire, and how many columns, it took
+-- a call met its outcome, without the rule for ixoff after it; and how much room on the wire, and how many columns,
+-- it took
 pub record Acts (old new : InRoom) (c : ℕ) (call : PlainCall) (result : Met) : Type 0 where
   pub met : Meets (outcome old.terminal (caller_at old.terminal c) call) result
   pub left : new.terminal ≡ left_before_rule (outcome old.terminal (caller_at old.terminal c) call) old.terminal

@@ -8,8 +8,8 @@ use Rattle.tty_calls.specs.Plain.{PlainAnswer, done, refused}
 use Rattle.handle_table.specs.declared.HandleState.{HandleState}
 use Rattle.tty_terminal.specs.Terminals.{Terminal}
 
--- `gives` answers, says whether what waits in the flip buffer is dropped with the answer, and leaves a terminal to which the
--- rule for ixoff is then applied
+-- `gives` answers, says whether what waits in the flip buffer is dropped with the answer, and leaves a terminal to
+-- which the rule for ixoff is then applied
 pub data Outcome : Type 0 where
   unknown : Outcome
   waits : Outcome

@@ -116,8 +116,8 @@ half_line read =
     ∷ whole (Caller 0) 3 2 (answers read)
     ∷ []
 
--- a hangup under a read that waits and under a write with parts: through the old handle a read gives the end of the file, a
--- write is refused, and a close is not the last
+-- a hangup under a read that waits and under a write with parts: through the old handle a read gives the end of the
+-- file, a write is refused, and a close is not the last
 abbrev pub hangup_calls : List (List PlainCall)
 hangup_calls =
     (opens 0 Rw false ∷ reads 0 5 ∷ writes 0 (120 ∷ []) ∷ closes 0 ∷ [])

@@ -28,7 +28,7 @@ quiet_with callers t = t.line_over && (t.clock_over && (nat_le callers (count_by
 abbrev pub quiet : List ℕ → Terminal → Bool
 quiet counts t = quiet_with (callers_in counts t.phase) t
 
--- the same, and no caller waits
+-- line and clock are over, every caller of the phase is over, and nothing is left to flush
 abbrev pub may_end_with : ℕ → Terminal → Bool
 may_end_with callers t = t.line_over && (t.clock_over && (nat_le callers (count_by is_over t.callers) && nothing_to_flush t))
 
@@ -42,8 +42,8 @@ Answers may waits a = (a ≡ idle) × (may ≡ true)
 Answers may (takes taken left) a = ⊥
 Answers may (gives answer drops left) a = a ≡ answer
 
--- How many characters an answer drops, where it drops any: what a look at the flip buffer shows. That is no more than the
--- buffer holds, at least what is known to be sent, and exactly that once the line is over.
+-- How many characters an answer drops, where it drops any: what a look at the flip buffer shows. That is no more than
+-- the buffer holds, at least what is known to be sent, and exactly that once the line is over.
 abbrev pub DropsAt : Terminal → Bool → ℕ → Type 0
 DropsAt t false n = n ≡ 0
 DropsAt t true n = (t.sent - t.taken ≤ n) × (n ≤ t.capacity) × (IsTrue t.line_over → n ≡ t.sent - t.taken)
@@ -60,7 +60,7 @@ MustWait waits = Unit {0}
 MustWait (takes taken left) = ⊥
 MustWait (gives answer drops left) = ⊥
 
--- the same as a test
+-- whether a call must wait
 abbrev pub is_wait : Outcome → Bool
 is_wait unknown = false
 is_wait waits = true

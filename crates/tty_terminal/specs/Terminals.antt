@@ -16,8 +16,8 @@ use Rattle.tty_terminal.specs.declared.callers.Piece.{Piece}
 pub record Terminal : Type 0 where
   pub disc : Disc
   pub modes : Settings
-  -- the wire, held output and its halts; and what was counted, with the signals. Room for more is no part of a terminal:
-  -- `output.spare` and `tally.signals.spare` are 0
+  -- the wire, held output and its halts; and what was counted, with the signals. Room for more is no part of a
+  -- terminal: `output.spare` and `tally.signals.spare` are 0
   pub output : Output
   pub tally : Tally
   -- the handles by their numbers, and whether the port may be opened again

@@ -55,7 +55,8 @@ with_piece_posted t tty bytes =
       output = after_send t.output (piece_text t.modes tty t.output bytes);
     }
 
--- Of the bytes that are left, so many fit. All of them end the write, some are a part of it, and where none fits it must wait.
+-- Of the bytes that are left, so many fit. All of them end the write, some are a part of it, and where none fits it
+-- must wait.
 abbrev pub part_outcome : Terminal → CallerState → (nonblock : Bool) → (left fit : ℕ) → (after : Terminal) → Outcome
 part_outcome t s nonblock left fit after =
     if fit == left then gives (count_is (s.taken + fit)) false after

@@ -1,3 +1,5 @@
+//! The room that a call needs beside the terminal, and what the call meets.
+
 ghost use Rattle.std.specs.Prelude.{◌≡◌, true, option_map, box_value};
 ghost use Rattle.tty_terminal.specs.Meeting.{bytes_in, holds_bytes, fresh_in, counts_in, packet_in};
 

@@ -1,3 +1,6 @@
+//! The one-thread terminal: what characters, calls, the line, the clock and a hangup do to it, and what can be asked
+//! of it.
+
 ghost use Rattle.std.specs.Prelude.{◌≡◌, ◌↔◌, ℕ, Some, true, false, ◌+◌, ◌*◌, ◌-◌, ◌≤◌, ◌<◌, ◌^◌, IsTrue, IfOk, OnOk, length, take, drop};
 ghost use Rattle.tty_calls.specs.Plain.{handle_of, call_of};
 ghost use Rattle.ldisc_switch.specs.Disciplines.{fresh_of, column_in};
@@ -67,10 +70,12 @@ impl Terminal {
     pub fn new(alloc: Global, callers: usize, capacity: u32) -> Result<Terminal, NoMemory>
         ensures { IfOk result (λ t. t ≡ record { terminal = opening callers capacity; wire_room = 0; signal_room = 0 }) }
     {
+        let callers = Callers::new(alloc, callers)?;
+        let wire = Wire::new(alloc)?;
         Ok(Terminal {
             disc: fresh(alloc, Kind::Tty)?,
             modes: Modes::sane(),
-            wire: Wire::new(alloc)?,
+            wire,
             tally: Tally::new(alloc),
             handles: Handles::new(),
             exclusive: false,
@@ -82,7 +87,7 @@ impl Terminal {
             phase: 0,
             line_over: false,
             clock_over: false,
-            callers: Callers::new(alloc, callers)?,
+            callers,
             flushed: None,
         })
     }

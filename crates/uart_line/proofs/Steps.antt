@@ -197,7 +197,7 @@ and_comm true false = refl
 and_comm false true = refl
 and_comm false false = refl
 
--- ---- the same of the line `l1` that the step left
+-- ---- what holds before a step holds of the line `l1` that the step left
 
 module _ (capacity : ℕ) (line l1 : LineState) (step : LineStep) (after : l1 ≡ after_line_step line step) where
   pub done-quiet : IsReceiver l1.registers → runs_handler l1 ≡ false

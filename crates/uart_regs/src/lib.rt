@@ -4,6 +4,7 @@
 
 ghost use Rattle.std.specs.Prelude.{◌≡◌, ◌≢◌, ◌*◌, ◌<◌, ◌≤◌};
 ghost use Rattle.tty_base.specs.declared.characters.Flag.TheVariants.{Overrun};
+ghost use Rattle.uart_regs.specs.Registers.{bit, is_set, is_break, is_parity_error, is_framing_error, is_error};
 
 mod fifo;
 
@@ -406,8 +407,6 @@ impl Uart {
         };
     }
 }
-
-ghost use Rattle.uart_regs.specs.Registers.{bit, is_set, is_break, is_parity_error, is_framing_error, is_error};
 
 /// Bit `place` of a register.
 pub fn is_set(value: u8, place: u8) -> bool

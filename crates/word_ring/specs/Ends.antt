@@ -1,4 +1,5 @@
--- The two ends of a ring and their notes, as contracts see them: here with numbers, in a layer above with what the numbers stand for.
+-- The two ends of a ring and their notes, as contracts see them: here with numbers, in a layer above with what the
+-- numbers stand for.
 use Rattle.std.specs.Prelude.{◌≡◌, ℕ, ◌≤◌, Bool, false, List, [], ◌∷◌, ◌++◌, length, All, Contains}
 use Rattle.std.specs.List.Sorted.{IsNonDecreasing}
 use Rattle.std.proofs.Common.{◌⊎◌}

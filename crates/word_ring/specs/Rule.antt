@@ -1,4 +1,5 @@
--- What holds of a ring between any two steps. Word 0 is the head, word 1 the tail, and the words from 2 on have four numbers each.
+-- What holds of a ring between any two steps. Word 0 is the head, word 1 the tail, and the words from 2 on have four
+-- numbers each.
 use Rattle.std.specs.Prelude.{◌≡◌, ℕ, ◌+◌, ◌/◌, ◌%◌, ◌<◌, ◌≤◌, Bool, true, false, List, length, slice_index, All}
 use mathlib.Core.List.{IsPrefix}
 use mathlib.Core.Option.{some}
@@ -8,9 +9,9 @@ use Rattle.word_ring.specs.declared.table.View.{View}
 use Rattle.word_ring.specs.Ends.{AreReleased, IsReleased}
 use Rattle.word_ring.specs.Lanes.{lane}
 
--- What was done so far: the numbers whose word was stored or that went past the words, those of them that were pushed, those of
--- them that were taken, the heads that were stored, the seats of the two ends, whether the slot was taken, and whether what was
--- pushed last goes past the words and is not yet taken.
+-- What was done so far: the numbers whose word was stored or that went past the words, those of them that were
+-- pushed, those of them that were taken, the heads that were stored, the seats of the two ends, whether the slot was
+-- taken, and whether what was pushed last goes past the words and is not yet taken.
 pub record Story : Type 0 where
   pub written : List ℕ
   pub pushed : List ℕ

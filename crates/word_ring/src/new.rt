@@ -1,5 +1,6 @@
 //! A new ring.
 ghost use Rattle.std.specs.Prelude.{◌≡◌, ◌<◌, ◌≤◌, false, [], IfOk};
+ghost use Rattle.word_ring.specs.Names.{NamesTellRings};
 
 use crate::putter::Putter;
 use crate::table::{Apart, Board, HEAD, Slot, TakeSlot};
@@ -52,8 +53,6 @@ pub fn ring(alloc: Global, n: usize) -> Result<(Putter, Taker), NoMemory>
     };
     Ok((putter, taker))
 }
-
-ghost use Rattle.word_ring.specs.Names.{NamesTellRings};
 
 /// Rings of one name are one ring.
 pub fn names_tell_rings()

@@ -17,7 +17,7 @@ fn told_of(session: &Path) -> Vec<u8> {
 
 #[test]
 fn each_example_is_told_as_its_report_says() {
-    let folder = Path::new(env!("CARGO_MANIFEST_DIR")).join("../../../examples");
+    let folder = Path::new(env!("CARGO_MANIFEST_DIR")).join("../../../crates/example_prog/data");
     let mut count = 0;
     for entry in fs::read_dir(&folder).expect("the examples") {
         let session = entry.expect("a file").path();

@@ -26,8 +26,8 @@ const MOST_RUN: usize = 64;
 const FEW: usize = 4093;
 
 impl NTty {
-    /// Receives characters from the front, each at this tick and with the rule for ixoff after it, up to the first that is
-    /// not accepted. Answers how many.
+    /// Receives characters from the front, each at this tick and with the rule for ixoff after it, up to the first
+    /// that is not accepted. Answers how many.
     pub fn receive_all(
         &mut self,
         chars: &[Flagged],
@@ -101,8 +101,8 @@ impl NTty {
         1
     }
 
-    /// Receives the characters at the front that concern no rule but those of storing and echo, all at once. Answers how
-    /// many: none, where the first may concern another or is not accepted.
+    /// Receives the characters at the front that concern no rule but those of storing and echo, all at once. Answers
+    /// how many: none, where the first may concern another or is not accepted.
     fn receive_run(&mut self, chars: &[Flagged], now: u64, modes: &Modes, wire: &mut Wire) -> usize
         requires fitting { FitsModes modes.now self.old }
         requires room { pending_count self.old wire.old + CHARACTER_ROOM * length chars.now ≤ wire.old.spare }

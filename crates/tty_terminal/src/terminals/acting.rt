@@ -111,7 +111,7 @@ impl Terminal {
         self.callers.close(h);
         if let Some(fresh) = room.take_fresh() {
             let _held = self.wire.held();
-            self.disc = fresh;
+            install(&mut self.disc, fresh);
             self.wire.release();
             self.exclusive = false;
             self.generation += 1;
@@ -315,7 +315,7 @@ impl Terminal {
         }
         if let Some(fresh) = room.take_fresh() {
             let _held = self.wire.held();
-            self.disc = fresh;
+            install(&mut self.disc, fresh);
             self.wire.start();
             self.generation += 1;
         }
@@ -623,6 +623,14 @@ fn send_character(wire: &mut Wire, character: u8)
     if character != 0 {
         wire.urgent(character);
     }
+}
+
+/// Puts a fresh discipline in place of another, which is let go here alone: it owns much.
+#[inline(always)]
+fn install(disc: &mut Disc, fresh: Disc)
+    ensures { disc.new ≡ fresh }
+{
+    *disc = fresh;
 }
 
 /// The discipline goes over to other modes.

@@ -1,7 +1,7 @@
 use Rattle.std.proofs.Common.{length, subst}
 use Rattle.one_thread.specs.Phases.{IsPortOf, IsFullRun}
-use Rattle.many_threads.specs.Phases.{IsBeforePhase, StandsBefore}
-use Rattle.many_threads.specs.declared.phases.PhaseEnd.{PhaseEnd}
+use Rattle.many_threads.specs.InPlay.{IsBeforePhase, StandsBefore}
+use Rattle.many_threads.specs.declared.shared_phase.PhaseEnd.{PhaseEnd}
 use Rattle.many_threads.proofs.Onward.{at_end_of}
 use Rattle.many_threads.proofs.ports.end.Goals as goal
 

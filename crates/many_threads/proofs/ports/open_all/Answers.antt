@@ -1,6 +1,6 @@
 use Rattle.std.proofs.Common.{[], ◌∷◌, ◌+◌, length, ap, subst, sym, ◌∙◌, length-append}
 use Rattle.tty_calls.specs.Sessions.{session_of}
-use Rattle.many_threads.specs.Phases.{IsInPlay}
+use Rattle.many_threads.specs.InPlay.{IsInPlay}
 use Rattle.many_threads.proofs.Onward.{each_one_more}
 use Rattle.many_threads.proofs.ports.open_all.Goals as goal
 

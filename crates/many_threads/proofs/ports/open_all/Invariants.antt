@@ -1,6 +1,6 @@
 use Rattle.std.proofs.Common.{◌≡◌, length}
 use Rattle.tty_calls.specs.Sessions.{session_of}
-use Rattle.many_threads.specs.Phases.{AreInPlay}
+use Rattle.many_threads.specs.InPlay.{AreInPlay}
 use Rattle.many_threads.proofs.ports.open_all.Given as goal
 
 abbrev pub invariant-loop-number : goal.invariant-loop-number

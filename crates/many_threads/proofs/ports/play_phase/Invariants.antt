@@ -2,4 +2,4 @@ use Rattle.one_thread.specs.Roles.{scene_of}
 use Rattle.many_threads.proofs.ports.play_phase.Given as goal
 
 abbrev pub ghost-play_on : goal.ghost-play_on
-ghost-play_on g a = scene_of a.number a.session.now
+ghost-play_on g a = scene_of a.port.number a.session.now

@@ -27,7 +27,6 @@ returns g c =
       done = called.done;
       bad_session = called.bad_session;
       not_legal = called.not_legal;
-      full = called.full;
       broken = called.broken;
       no_runs = called.no_runs;
       none_judged = called.none_judged;

@@ -5,12 +5,13 @@ use Rattle.tty_calls.specs.Limits.{IsWithinLimits}
 use Rattle.session_gen.proofs.Within.{generated_within}
 use Rattle.tty_one.specs.declared.playing.Telling.TheVariants.{Summary}
 use Rattle.tty_one.specs.Outcome.{IsOrdered}
-use Rattle.tty_one.specs.Works.{IsSessionWork}
-use Rattle.tty_one.proofs.Numbered.{number_ends}
+use Rattle.tty_one.specs.Works.{IsSessionWork, IsNeverFull}
+use Rattle.tty_one.proofs.Numbered.{number_ends, number_room}
 use Rattle.tty_one.proofs.playing.run_number.Goals as goal
 
 pub run_session-requires : goal.run_session-requires
-run_session-requires c = subst IsWithinLimits (sym c.in_ok-session.ensures.session) (generated_within c.args.number)
+run_session-requires c =
+    (subst IsWithinLimits (sym c.in_ok-session.ensures.session) (generated_within c.args.number), subst IsNeverFull (sym c.in_ok-session.ensures.session) (number_room c.args.number))
 
 pub returns : goal.returns
 returns c =

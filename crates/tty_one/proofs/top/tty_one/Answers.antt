@@ -2,7 +2,7 @@ use Rattle.std.proofs.Common.{ap, subst, ◌∙◌}
 use Rattle.tty_one.specs.declared.works.Ending.{Ending}
 use Rattle.tty_one.specs.Endings.{AreOfOne, AskOneToRead, texts_of, text_of}
 use Rattle.tty_one.specs.Outcome.{breaks_words, WasGivenFront}
-use Rattle.tty_one.proofs.Outcomes.{broken, done_by, refused_by, illegal_by, told_by, took_by, long_by, full_by, completes, judged, made, none_judged, unasked, unjudged, unmade, one_reads, reads_nothing, work_with}
+use Rattle.tty_one.proofs.Outcomes.{broken, done_by, refused_by, illegal_by, told_by, took_by, long_by, completes, judged, made, none_judged, unasked, unjudged, unmade, one_reads, reads_nothing, work_with}
 use Rattle.tty_one.proofs.top.tty_one.Goals as goal
 
 pub returns-in_default-clause-broken : goal.returns-in_default-clause-broken
@@ -12,7 +12,7 @@ returns-in_default-clause-broken g c = λ _.
     )
 
 pub returns-in_default-clause-complete : goal.returns-in_default-clause-complete
-returns-in_default-clause-complete g c = unasked (texts_of c.args.words.now) (g.S.Source.left c.args.source.now) _ _ _ _ c.in_default.ensures.other
+returns-in_default-clause-complete g c = unasked (texts_of c.args.words.now) (g.S.Source.left c.args.source.now) _ _ _ c.in_default.ensures.other
 
 pub returns-in_default-clause-made : goal.returns-in_default-clause-made
 returns-in_default-clause-made g c = unmade (texts_of c.args.words.now) _ c.in_default.ensures.other
@@ -48,11 +48,6 @@ returns-in-Ok-clause-broken g c = λ _.
     broken (AreOfOne (texts_of c.args.words.now)) (AskOneToRead (texts_of c.args.words.now)) (texts_of c.args.words.now) c.in-Some.command _ _ _ _ _ _ c.tell-in-Ok.result.runs.items c.in-Ok.work.ending c.in-Some.ensures.known.1 c.in-Ok.ensures.can (
     one_reads c.in-Some.command (texts_of c.args.words.now) c.in-Some.ensures.known.0 c.in-Some.ensures.known.1
     ) c.in-Ok.ensures.from done c.tell-in-Ok.ensures.front
-
-pub returns-in-Ok-clause-full : goal.returns-in-Ok-clause-full
-returns-in-Ok-clause-full g c =
-    let done = work_with c.in-Some.command (g.S.Source.left c.args.source.now) c.in-Ok.work.ending c.tell-in-Ok.result.runs c.in-Ok.work.runs c.tell-in-Ok.ensures.runs c.in-Ok.ensures.work in
-    full_by (texts_of c.args.words.now) c.in-Some.command (g.S.Source.left c.args.source.now) c.tell-in-Ok.result.runs.items c.in-Ok.work.ending c.tell-in-Ok.result.status c.in-Some.ensures.known.1 done c.tell-in-Ok.ensures.status
 
 pub returns-in-Ok-clause-complete : goal.returns-in-Ok-clause-complete
 returns-in-Ok-clause-complete g c =

@@ -6,4 +6,4 @@ use Rattle.tty_run.proofs.playing.run_session.Goals as goal
 
 pub returns : goal.returns
 returns g c =
-    played_works IsInAnyOrder (Report c.args.journals) (session_of c.args.session.now) c.in_ok-played.played c.work_of.result c.in_ok-played.ensures (λ p run is room. tt) c.work_of.ensures.ending c.work_of.ensures.runs
+    played_works IsInAnyOrder (Report c.args.journals) (session_of c.args.session.now) c.in_ok-played.played c.work_of.result c.requires.1 c.in_ok-played.ensures (λ p run is room. tt) c.work_of.ensures.ending c.work_of.ensures.runs

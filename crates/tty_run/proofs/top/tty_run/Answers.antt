@@ -1,7 +1,7 @@
-use Rattle.std.proofs.Common.{ap, inl}
+use Rattle.std.proofs.Common.{inl}
 use Rattle.tty_one.specs.declared.words.Command.TheVariants.{Run}
 use Rattle.tty_one.specs.Endings.{AreKnown, AskToRead, texts_of}
-use Rattle.tty_one.proofs.Outcomes.{broken, done_by, refused_by, illegal_by, told_by, took_by, long_by, full_by, completes_on_threads, judged, made, none_judged, one_if_not_run, reads_nothing, work_with}
+use Rattle.tty_one.proofs.Outcomes.{broken, done_by, refused_by, illegal_by, told_by, took_by, long_by, completes_on_threads, judged, made, none_judged, one_if_not_run, reads_nothing, work_with}
 use Rattle.tty_run.proofs.WordLemmas.{unknown_to_one, broken_one, complete_one, complete_on_threads, headline}
 use Rattle.tty_run.proofs.top.tty_run.Goals as goal
 
@@ -20,7 +20,7 @@ pub returns-in_default-clause-broken : goal.returns-in_default-clause-broken
 returns-in_default-clause-broken g c = λ four. broken_one (texts_of c.args.words.now) _ _ _ _ _ _ _ c.in_default.ensures.other (c.tty_one.ensures.broken four)
 
 pub returns-in_default-clause-complete : goal.returns-in_default-clause-complete
-returns-in_default-clause-complete g c = complete_one (texts_of c.args.words.now) _ _ _ _ _ c.in_default.ensures.other c.tty_one.ensures.complete
+returns-in_default-clause-complete g c = complete_one (texts_of c.args.words.now) _ _ _ _ c.in_default.ensures.other c.tty_one.ensures.complete
 
 -- ---- threads
 
@@ -58,15 +58,10 @@ returns-in-Ok-clause-broken g c = λ _.
     let done = work_with (Run c.in-Some.journals) (g.S.Source.left c.args.source.now) c.in-Ok.work.ending c.tell.result.runs c.in-Ok.work.runs c.tell.ensures.runs c.in-Ok.ensures.work in
     broken (AreKnown (texts_of c.args.words.now)) (AskToRead (texts_of c.args.words.now)) (texts_of c.args.words.now) (Run c.in-Some.journals) _ _ _ _ _ _ c.tell.result.runs.items c.in-Ok.work.ending c.in-Some.ensures.known tt (λ _. inl (c.in-Some.journals, c.in-Some.ensures.known)) c.in-Ok.ensures.from done c.tell.ensures.front
 
-pub returns-in-Ok-clause-full : goal.returns-in-Ok-clause-full
-returns-in-Ok-clause-full g c =
-    let done = work_with (Run c.in-Some.journals) (g.S.Source.left c.args.source.now) c.in-Ok.work.ending c.tell.result.runs c.in-Ok.work.runs c.tell.ensures.runs c.in-Ok.ensures.work in
-    full_by (texts_of c.args.words.now) (Run c.in-Some.journals) (g.S.Source.left c.args.source.now) c.tell.result.runs.items c.in-Ok.work.ending c.tell.result.status c.in-Some.ensures.known done c.tell.ensures.status
-
 pub returns-in-Ok-clause-complete : goal.returns-in-Ok-clause-complete
 returns-in-Ok-clause-complete g c =
     let done = work_with (Run c.in-Some.journals) (g.S.Source.left c.args.source.now) c.in-Ok.work.ending c.tell.result.runs c.in-Ok.work.runs c.tell.ensures.runs c.in-Ok.ensures.work in
-    complete_on_threads (texts_of c.args.words.now) (g.S.Source.left c.args.source.now) (g.S.Source.faults c.args.source.now) (g.S.Source.faults c.run.new.source) c.tell.result.runs.items c.tell.result.status (
+    complete_on_threads (texts_of c.args.words.now) (g.S.Source.left c.args.source.now) (g.S.Source.faults c.args.source.now) (g.S.Source.faults c.run.new.source) c.tell.result.status (
     completes_on_threads c.in-Some.journals (g.S.Source.left c.args.source.now) (g.S.Source.left c.run.new.source) (g.S.Source.faults c.args.source.now) (g.S.Source.faults c.run.new.source) c.tell.result.runs.items c.in-Ok.work.ending c.tell.result.status c.tell.ensures.status c.in-Ok.ensures.from done c.in-Ok.ensures.rest
     )
 

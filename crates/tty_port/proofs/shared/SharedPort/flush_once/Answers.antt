@@ -2,14 +2,14 @@ use Rattle.std.proofs.Common.{◌≡◌, ℕ, rules, sym, ap, ◌∙◌, subst}
 use Rattle.port_cell.specs.Entries.{generation_of}
 use Rattle.port_cell.specs.Word.{generation_in}
 use Rattle.port_cell.specs.Knowledge.{list_seen, user_of, last_word}
-use Rattle.tty_port.specs.Inside.{Name, EntryWithCall}
-use Rattle.tty_port.specs.Histories.{history_of, name_of}
+use Rattle.tty_port.specs.Inside.{Name}
+use Rattle.tty_port.specs.Histories.{history_of}
 use Rattle.tty_port.specs.Seen.{next_run}
 use Rattle.tty_port.specs.Flushing.{GoesOnAt, Hands}
 use Rattle.tty_port.specs.Shared.{name_of_port}
 use Rattle.tty_port.specs.declared.kept_port.KeptPort.{KeptPort}
 use Rattle.tty_port.proofs.Keeping.{goes_on_kept}
-use Rattle.tty_port.proofs.Turning.{found, placed_now}
+use Rattle.tty_port.proofs.Turning.{found_still}
 use Rattle.tty_port.proofs.CallTurns.{held}
 use Rattle.tty_port.proofs.FlushSteps.{flush_turns, run_kept}
 use Rattle.tty_port.proofs.Outcomes.{each_ok, on_err_only}
@@ -19,11 +19,10 @@ pub flush_piece-flushed-requires : goal.flush_piece-flushed-requires
 flush_piece-flushed-requires g c =
     let name = name_of_port c.args.self.now in
     let old = c.args.seat.now in
-    let v : KeptPort = c.value-2.result.now in
-    let first : c.value.result.now ≡ c.turn-turn.result.value = first_of (cc, search rules) in
-    let second : v ≡ c.turn-turn.result.value = first_of (cc, search rules) in
-    let at = found name name.callers old c.turn-turn.result.value c.value.result.now v c.requires.seat.number c.requires.seat.named c.turn-turn.ensures.name c.turn-turn.ensures.list first second c.entry_count-found.ensures.history in
-    let generation = held (user_of old) (generation_in (last_word old)) _ c.requires.seat.uses c.turn-turn.ensures.generation ∙ ap (λ (x : KeptPort). generation_of (history_of x)) (sym second) in
+    let v : KeptPort = c.value.result.now in
+    let same : v ≡ c.begin_turn-turn.result.0.value = first_of (cc, search rules) in
+    let at = found_still name name.callers old c.begin_turn-turn.result.0.value v c.requires.seat.number same c.begin_turn-turn.ensures.found in
+    let generation = held (user_of old) (generation_in (last_word old)) _ c.requires.seat.uses c.begin_turn-turn.ensures.generation ∙ ap (λ (x : KeptPort). generation_of (history_of x)) (sym same) in
     subst (λ (k : ℕ). GoesOnAt c.args.run c.args.part k (history_of v)) generation
     (goes_on_kept name.callers _ c.args.run c.args.part (generation_in (last_word old)) (list_seen old) (history_of v) at.history.placed at.keeps c.requires.piece)
 
@@ -31,14 +30,13 @@ pub returns-clause-flushed : goal.returns-clause-flushed
 returns-clause-flushed g c =
     let name = name_of_port c.args.self.now in
     let old = c.args.seat.now in
-    let v : KeptPort = c.value-2.result.now in
-    let first : c.value.result.now ≡ c.turn-turn.result.value = first_of (cc, search rules) in
-    let second : v ≡ c.turn-turn.result.value = first_of (cc, search rules) in
-    let at = found name name.callers old c.turn-turn.result.value c.value.result.now v c.requires.seat.number c.requires.seat.named c.turn-turn.ensures.name c.turn-turn.ensures.list first second c.entry_count-found.ensures.history in
-    let generation = held (user_of old) (generation_in (last_word old)) _ c.requires.seat.uses c.turn-turn.ensures.generation ∙ ap (λ (x : KeptPort). generation_of (history_of x)) (sym second) in
+    let v : KeptPort = c.value.result.now in
+    let same : v ≡ c.begin_turn-turn.result.0.value = first_of (cc, search rules) in
+    let at = found_still name name.callers old c.begin_turn-turn.result.0.value v c.requires.seat.number same c.begin_turn-turn.ensures.found in
+    let generation = held (user_of old) (generation_in (last_word old)) _ c.requires.seat.uses c.begin_turn-turn.ensures.generation ∙ ap (λ (x : KeptPort). generation_of (history_of x)) (sym same) in
     let w : KeptPort = c.flush_piece-flushed.new.self in
     let seen : list_seen c.end_turn.new.seat ≡ history_of w = first_of (cc, search rules) in
-    let now = c.end_turn.ensures.same.number ∙ (c.turn-turn.ensures.same.number ∙ c.requires.seat.number) in
+    let now = c.end_turn.ensures.same.number ∙ (c.begin_turn-turn.ensures.same.number ∙ c.requires.seat.number) in
     each_ok c.flush_piece-flushed.result _ _
     (λ x h. flush_turns name _ c.args.run c.args.part (generation_in (last_word old)) old c.end_turn.new.seat (history_of v) (history_of w)
     (record { was = c.requires.seat.number; now = now; keeps = at.keeps; placed = at.history.placed; at = sym generation; seen = seen })
@@ -49,22 +47,9 @@ pub returns-clause-next : goal.returns-clause-next
 returns-clause-next g c =
     let name = name_of_port c.args.self.now in
     let old = c.args.seat.now in
-    let v : KeptPort = c.value-2.result.now in
-    let first : c.value.result.now ≡ c.turn-turn.result.value = first_of (cc, search rules) in
-    let second : v ≡ c.turn-turn.result.value = first_of (cc, search rules) in
-    let at = found name name.callers old c.turn-turn.result.value c.value.result.now v c.requires.seat.number c.requires.seat.named c.turn-turn.ensures.name c.turn-turn.ensures.list first second c.entry_count-found.ensures.history in
+    let v : KeptPort = c.value.result.now in
+    let same : v ≡ c.begin_turn-turn.result.0.value = first_of (cc, search rules) in
+    let at = found_still name name.callers old c.begin_turn-turn.result.0.value v c.requires.seat.number same c.begin_turn-turn.ensures.found in
     let w : KeptPort = c.flush_piece-flushed.new.self in
     let seen : list_seen c.end_turn.new.seat ≡ history_of w = first_of (cc, search rules) in
     on_err_only c.flush_piece-flushed.result _ _ (λ same. ap next_run (seen ∙ same) ∙ run_kept name.callers _ (list_seen old) (history_of v) at.history.placed at.keeps) c.flush_piece-flushed.ensures.same
-
-pub returns-clause-placed : goal.returns-clause-placed
-returns-clause-placed g c =
-    let name = name_of_port c.args.self.now in
-    let old = c.args.seat.now in
-    let v : KeptPort = c.value-2.result.now in
-    let first : c.value.result.now ≡ c.turn-turn.result.value = first_of (cc, search rules) in
-    let second : v ≡ c.turn-turn.result.value = first_of (cc, search rules) in
-    let at = found name name.callers old c.turn-turn.result.value c.value.result.now v c.requires.seat.number c.requires.seat.named c.turn-turn.ensures.name c.turn-turn.ensures.list first second c.entry_count-found.ensures.history in
-    let w : KeptPort = c.flush_piece-flushed.new.self in
-    let seen : list_seen c.end_turn.new.seat ≡ history_of w = first_of (cc, search rules) in
-    placed_now name w c.end_turn.new.seat (c.flush_piece-flushed.ensures.name ∙ at.named) c.end_turn.ensures.history seen

@@ -1,0 +1,55 @@
+//! What becomes of an example.
+
+use crate::files::Example;
+use std::alloc::{AllocError, Global};
+use std::sync::Wait;
+use std::thread::Threads;
+use tty_rows::{told_of, told_on_threads, with_journals};
+
+/// The examples whose report no schedule can change. In each of their phases there is one caller, or a line
+/// alone, or a caller who waits for the line.
+const ALIKE: [&str; 5] = ["login", "mode_words", "output", "overruns", "unread_line"];
+
+/// What is wrong with an example; nothing, where it is told as its files say, and its journals are legal.
+pub(crate) fn fault_of<R: Threads + Wait + Sync>(
+    rt: &R,
+    alloc: Global,
+    example: &Example,
+) -> Result<Option<&'static str>, AllocError> {
+    let report = example.report.as_slice();
+    let told = told_of(alloc, &["run", "--one"], text_of(alloc, example)?)?;
+    if told.text.as_slice() != report {
+        return Ok(Some("another report"));
+    }
+    let is_alike = ALIKE.contains(&example.name.as_str());
+    let told = told_on_threads(rt, alloc, &["run"], text_of(alloc, example)?)?;
+    if is_alike && told.text.as_slice() != report {
+        return Ok(Some("another report on threads"));
+    }
+    let words = ["run", "--one", "--journal"];
+    let told = told_of(alloc, &words, text_of(alloc, example)?)?;
+    if let Some(journal) = &example.journal {
+        if told.text.as_slice() != journal.as_slice() {
+            return Ok(Some("another journal"));
+        }
+    }
+    if !is_legal(alloc, example, told.text.as_slice())? {
+        return Ok(Some("not legal on one thread"));
+    }
+    let told = told_on_threads(rt, alloc, &["run", "--journal"], text_of(alloc, example)?)?;
+    if !is_legal(alloc, example, told.text.as_slice())? {
+        return Ok(Some("not legal on threads"));
+    }
+    Ok(None)
+}
+
+fn text_of(alloc: Global, example: &Example) -> Result<Vec<u8>, AllocError> {
+    example.session.as_bytes().to_vec(alloc)
+}
+
+/// The journals in what was told of an example are legal.
+fn is_legal(alloc: Global, example: &Example, told: &[u8]) -> Result<bool, AllocError> {
+    let text = with_journals(alloc, example.session.as_str(), told)?;
+    let judged = told_of(alloc, &["check"], text)?;
+    Ok(judged.text.as_slice() == b"legal\n".as_slice())
+}

@@ -1,0 +1,4 @@
+pub mod Control
+pub mod Roster
+pub mod Keeping
+pub mod Rows

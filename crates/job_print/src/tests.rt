@@ -1,0 +1,36 @@
+//! Printed lines, from outside.
+
+use super::{JobAnswer, Target, put_answer, put_signal};
+use arrayvec::ArrayString;
+use job_control::{JobSignal, Proc};
+use std::test::Fail;
+use tty_base::NoMemory;
+
+fn put_lines(text: &mut String, procs: &[Proc]) -> Result<(), NoMemory> {
+    let stopped = JobAnswer::Stopped(JobSignal::Ttin);
+    put_answer(text, 0, "sh", 1, "sctty", JobAnswer::Done)?;
+    put_answer(text, 0, "sh", 2, "gpgrp", JobAnswer::Number(1))?;
+    put_answer(text, 0, "job", 0, "read", stopped)?;
+    put_answer(text, 0, "job", 3, "sctty", JobAnswer::NotPermitted)?;
+    put_signal(text, 0, procs, JobSignal::Ttin, Target::Group(2))?;
+    put_signal(text, 0, procs, JobSignal::Int, Target::Nobody)
+}
+
+#[test]
+fn lines_of_a_report(rt: HostRuntime) -> Result<(), Fail> {
+    let mut text = String::new(rt.alloc());
+    let procs = [Proc {
+        name: ArrayString::new(),
+        session: 1,
+        group: 1,
+        parent: None,
+        leader: true,
+        nottin: false,
+        nottou: false,
+    }];
+    let is_put = put_lines(&mut text, procs.as_slice()).is_ok();
+    let wanted =
+        "0.sh.1 sctty ok\n0.sh.2 gpgrp 1\n0.job.0 read stopped TTIN\n0.job.3 sctty EPERM\njob 0 TTIN group 2\njob 0 INT -\n";
+    assert!(rt; is_put && text.as_str() == wanted);
+    Ok(())
+}

@@ -1,0 +1,58 @@
+use Rattle.std.proofs.Common.{[], refl, lit<, lit≤}
+use Rattle.job_steps.proofs.shell_ends.Goals as goal
+
+pub returns-clause-log : goal.returns-clause-log
+returns-clause-log c = record {
+  last = _;
+  leads = (
+    lit≤ tt,
+    lit≤ tt,
+    record { nothing_due = refl; next = refl; entry = record { entry = _; some = lit< tt; stands = refl; is_answer = (refl, ([], refl)) }; goes_on = refl },
+    (
+      lit≤ tt,
+      lit≤ tt,
+      record { nothing_due = refl; next = refl; answers = (refl, refl) },
+      (
+        lit≤ tt,
+        lit≤ tt,
+        record { nothing_due = refl; next = refl; answers = (refl, refl) },
+        (
+          lit≤ tt,
+          lit≤ tt,
+          record { nothing_due = refl; next = refl; entry = record { entry = _; some = lit< tt; stands = refl; is_answer = (refl, ([], refl)) }; goes_on = refl },
+          (
+            lit≤ tt,
+            lit≤ tt,
+            record { nothing_due = refl; next = refl; answers = (refl, refl) },
+            (
+              lit≤ tt,
+              lit≤ tt,
+              record { nothing_due = refl; next = refl; answers = (refl, refl) },
+              (
+                lit≤ tt,
+                lit≤ tt,
+                record { nothing_due = refl; next = refl; answers = (refl, refl) },
+                (
+                  lit≤ tt,
+                  lit≤ tt,
+                  refl,
+                  (
+                    lit≤ tt,
+                    lit≤ tt,
+                    record { rest = _; is_due = refl; entry = record { entry = _; some = lit< tt; stands = refl; is_answer = (refl, ([], refl)) } },
+                    refl,
+                  ),
+                ),
+              ),
+            ),
+          ),
+        ),
+      ),
+    ),
+  );
+  nothing_due = refl;
+  all_sent = refl;
+}
+
+pub returns-clause-played : goal.returns-clause-played
+returns-clause-played c = refl

@@ -1,0 +1,5 @@
+pub mod Sessions
+pub mod Derived
+pub mod Steps
+pub mod Order
+pub mod Rows

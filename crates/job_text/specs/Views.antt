@@ -1,0 +1,33 @@
+-- What the reader's values are as plain data. Nothing is said of the room behind a name.
+use Rattle.std.specs.Prelude.{map}
+use Rattle.text_lines.specs.Lines.{words_of}
+use Rattle.session_text.specs.Views.{reading_of}
+use Rattle.job_text.specs.declared.procs.ProcWords.{ProcWords as PartedLine}
+use Rattle.job_text.specs.declared.reader.JobsReader.{JobsReader}
+use Rattle.job_text.specs.Procs.{ProcWords}
+use Rattle.job_text.specs.Sessions.{own_of, bare}
+use Rattle.job_text.specs.Reading.{JobsReading}
+
+abbrev pub proc_words_of : PartedLine → ProcWords
+proc_words_of w = record {
+  name = w.name.now;
+  port = w.port.now;
+  session = w.session.now;
+  group = w.group.now;
+  parent = w.parent.now;
+  flags = words_of w.flags.now;
+}
+
+abbrev pub jobs_reading_of : JobsReader → JobsReading
+jobs_reading_of r = record {
+  session = reading_of r.session;
+  open_block = r.block;
+  ports = r.ports;
+  procs = map bare r.procs.items;
+  exited = r.exited.items;
+  scripts = r.callers.items;
+  own = r.own.items;
+  parts = map own_of r.parts.items;
+  left_at_opening = r.left_at_opening;
+  steps_left = r.steps_left;
+}

@@ -1,0 +1,19 @@
+//! The text of a session of processes: what may be written, what it means, and what is wrong with a text that is none.
+//!
+//! The processes, and the calls of job control, stand between the items of a session of ports, which are read as such
+//! a session's.
+#![tactic(auto)]
+
+mod calls;
+mod laws;
+mod procs;
+mod reader;
+mod sessions;
+#[cfg(test)]
+mod tests;
+mod verbs;
+
+pub use calls::OwnCall;
+pub use laws::{a_worked_text_is_read, worked_texts_are_refused_at_their_lines};
+pub use reader::parse_jobs;
+pub use sessions::{JobsPart, JobsSession, PlacedCall, PortProc};

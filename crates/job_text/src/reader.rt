@@ -1,0 +1,493 @@
+//! Reads a text line by line.
+
+ghost use Rattle.std.specs.Prelude.{◌≡◌, false, [], ◌∷◌, ◌++◌, OnOk, map, min, if◌then◌else◌};
+ghost use Rattle.std.specs.Option.{option_map_or};
+ghost use Rattle.text_lines.specs.Lines.{words_of};
+ghost use Rattle.text_lines.specs.Values.{read_of};
+ghost use Rattle.session_text.specs.Reading.{Gives};
+ghost use Rattle.further_text.specs.Sorts.{sort_of};
+ghost use Rattle.job_text.specs.Sessions.{bare, bare_session_of};
+ghost use Rattle.job_text.specs.Reading.{after_call, after_item, after_line, after_opening, after_proc, after_session_item, after_shared, exits, first_jobs_reading, has_exited, has_stood, is_before_phases, is_nobody, is_same_process, is_stray, jobs_at_end, jobs_in, place_of, spend, with_call, with_caller, with_exit, with_own, with_phase_closed, with_proc};
+ghost use Rattle.job_text.specs.Views.{jobs_reading_of};
+
+use crate::calls::{OwnCall, call_of};
+use crate::procs::{count_on, has_leader, place_named, proc_of, words_in};
+use crate::sessions::{JobsPart, JobsSession, PlacedCall, PortProc};
+use crate::verbs::{JobVerb, verb_of};
+use further_text::{Sort, bad, has_count, sort_of};
+use session_text::{Reader, Reason, TextFault};
+use std::alloc::Global;
+use std::mem;
+use text_lines::{FirstTwo, is_comment, is_name, read_number, split_line, split_word};
+use tty_base::{Buffer, NoMemory};
+
+/// So many steps a text has at most.
+const STEPS: u64 = 65_536;
+
+/// So many processes a port has at most.
+const PROCS: usize = 1_024;
+
+/// A process, by its port and its place among those of the port.
+#[derive(Clone, Copy, Debug, PartialEq, Eq)]
+pub(crate) struct Process {
+    port: u64,
+    place: usize,
+}
+
+/// Which block is open.
+#[derive(Clone, Copy, Debug, PartialEq, Eq)]
+pub(crate) enum Block {
+    /// That of a process.
+    Caller(Process),
+    /// That of a process that has exited.
+    Exited,
+    /// Another, or none.
+    Another,
+}
+
+/// What was read of a text.
+#[derive(Drop)]
+pub(crate) struct JobsReader {
+    session: Reader,
+    block: Block,
+    ports: u8,
+    procs: Buffer<PortProc>,
+    exited: Buffer<Process>,
+    /// Whose blocks the open phase has, and its calls of job control.
+    callers: Buffer<Process>,
+    own: Buffer<PlacedCall>,
+    /// The phases before the open one.
+    parts: Buffer<JobsPart>,
+    /// How many steps could still come when the open caller's block began, and how many now.
+    left_at_opening: u64,
+    steps_left: u64,
+}
+
+impl JobsReader {
+    /// Before the first line.
+    fn new(alloc: Global) -> JobsReader
+        ensures { jobs_reading_of result ≡ first_jobs_reading }
+    {
+        JobsReader {
+            session: Reader::new(alloc),
+            block: Block::Another,
+            ports: 0,
+            procs: Buffer::new(alloc),
+            exited: Buffer::new(alloc),
+            callers: Buffer::new(alloc),
+            own: Buffer::new(alloc),
+            parts: Buffer::new(alloc),
+            left_at_opening: STEPS,
+            steps_left: STEPS,
+        }
+    }
+
+    /// Reads the line with this number.
+    fn read_line(&mut self, alloc: Global, number: u32, line: &[u8]) -> Result<(), TextFault>
+        ensures { Gives (λ _. jobs_reading_of self.new) result (after_line (jobs_reading_of self.old) number (words_of line.now)) }
+    {
+        match split_word(line) {
+            None => Ok(()),
+            Some((word, behind)) => {
+                if is_comment(word) {
+                    return Ok(());
+                }
+                self.read_item(alloc, number, word, behind)
+            }
+        }
+    }
+
+    fn read_item(
+        &mut self,
+        alloc: Global,
+        number: u32,
+        word: &[u8],
+        behind: &[u8],
+    ) -> Result<(), TextFault>
+        ensures { Gives (λ _. jobs_reading_of self.new) result (after_item (jobs_reading_of self.old) number word.now (words_of behind.now)) }
+    {
+        let arguments = FirstTwo::of(behind);
+        if self.session.is_at_start() {
+            return self.read_by_session(alloc, number, word, &arguments);
+        }
+        match verb_of(word) {
+            None => self.read_shared(alloc, number, word, &arguments),
+            Some(JobVerb::Proc) => self.read_proc(number, behind),
+            Some(verb) => self.read_call(number, verb, &arguments),
+        }
+    }
+
+    /// Reads an item of the session of ports.
+    fn read_by_session(
+        &mut self,
+        alloc: Global,
+        number: u32,
+        word: &[u8],
+        arguments: &FirstTwo,
+    ) -> Result<(), TextFault>
+        ensures { Gives (λ _. jobs_reading_of self.new) result (after_session_item (jobs_reading_of self.old) number word.now arguments.now) }
+    {
+        self.session.read_item(alloc, number, word, arguments)
+    }
+
+    /// Reads an item that may stand in the text of any session.
+    fn read_shared(
+        &mut self,
+        alloc: Global,
+        number: u32,
+        word: &[u8],
+        arguments: &FirstTwo,
+    ) -> Result<(), TextFault>
+        ensures { Gives (λ _. jobs_reading_of self.new) result (after_shared (jobs_reading_of self.old) number word.now arguments.now (sort_of word.now)) }
+    {
+        match sort_of(word) {
+            Sort::Ports => self.read_ports(alloc, number, word, arguments),
+            Sort::Caller => self.read_caller(alloc, number, word, arguments),
+            Sort::Border => self.read_border(alloc, number, word, arguments),
+            Sort::Inside => self.read_inside(alloc, number, word, arguments),
+            Sort::Other => {
+                self.read_by_session(alloc, number, word, arguments)?;
+                self.block = Block::Another;
+                Ok(())
+            }
+        }
+    }
+
+    fn read_ports(
+        &mut self,
+        alloc: Global,
+        number: u32,
+        word: &[u8],
+        arguments: &FirstTwo,
+    ) -> Result<(), TextFault>
+        ensures { Gives (λ _. jobs_reading_of self.new) result (after_shared (jobs_reading_of self.old) number word.now arguments.now Sort.Ports) }
+    {
+        if !has_count(arguments, 1) {
+            return self.read_by_session(alloc, number, word, arguments);
+        }
+        let ports = ports_of(arguments.whole().first_number());
+        self.read_by_session(alloc, number, word, arguments)?;
+        self.ports = ports;
+        Ok(())
+    }
+
+    fn read_caller(
+        &mut self,
+        alloc: Global,
+        number: u32,
+        word: &[u8],
+        arguments: &FirstTwo,
+    ) -> Result<(), TextFault>
+        ensures { Gives (λ _. jobs_reading_of self.new) result (after_shared (jobs_reading_of self.old) number word.now arguments.now Sort.Caller) }
+    {
+        if !has_count(arguments, 2) {
+            return self.read_by_session(alloc, number, word, arguments);
+        }
+        let words = arguments.whole();
+        if self.is_stray(words.first(), words.second()) {
+            return Err(bad(number, Reason::Order));
+        }
+        let (name, port) = (words.first(), words.second_number());
+        self.read_opening(alloc, number, word, arguments, name, port)
+    }
+
+    /// Reads the item that opens the block of a caller of this name on this port.
+    fn read_opening(
+        &mut self,
+        alloc: Global,
+        number: u32,
+        word: &[u8],
+        arguments: &FirstTwo,
+        name: &[u8],
+        port: u64,
+    ) -> Result<(), TextFault>
+        ensures { Gives (λ _. jobs_reading_of self.new) result (after_opening (jobs_reading_of self.old) number word.now arguments.now name.now port) }
+    {
+        self.read_by_session(alloc, number, word, arguments)?;
+        self.open_named(number, name, port)
+    }
+
+    fn open_named(&mut self, number: u32, name: &[u8], port: u64) -> Result<(), TextFault>
+        ensures { Gives (λ _. jobs_reading_of self.new) result (with_caller number port (place_of (jobs_reading_of self.old) port name.now) (jobs_reading_of self.old)) }
+    {
+        let place = place_named(self.procs.as_slice(), port, name);
+        self.open_caller(number, port, place)
+    }
+
+    /// Whether a caller is named that is no process.
+    fn is_stray(&self, name: &[u8], port: &[u8]) -> bool
+        ensures { result ≡ is_stray (jobs_reading_of self.now) name.now port.now }
+    {
+        self.session.is_in_phase() && is_name(name) && self.names_nobody(name, port)
+    }
+
+    fn names_nobody(&self, name: &[u8], port: &[u8]) -> bool
+        ensures { result ≡ option_map_or (is_nobody (jobs_reading_of self.now) name.now) (read_of port.now) false }
+    {
+        match read_number(port) {
+            None => false,
+            Some(port) => {
+                port < u64::from(self.ports)
+                    && place_named(self.procs.as_slice(), port, name).is_none()
+            }
+        }
+    }
+
+    fn open_caller(&mut self, number: u32, port: u64, place: Option<usize>) -> Result<(), TextFault>
+        ensures { Gives (λ _. jobs_reading_of self.new) result (with_caller number port place (jobs_reading_of self.old)) }
+    {
+        match place {
+            None => Err(bad(number, Reason::Order)),
+            Some(place) => {
+                let process = Process { port, place };
+                self.callers.reserve(1)?;
+                self.callers.add(process);
+                self.left_at_opening = self.steps_left;
+                self.block = block_of(self.exited.as_slice(), process);
+                Ok(())
+            }
+        }
+    }
+
+    /// Reads an item at which an open phase is over.
+    fn read_border(
+        &mut self,
+        alloc: Global,
+        number: u32,
+        word: &[u8],
+        arguments: &FirstTwo,
+    ) -> Result<(), TextFault>
+        ensures { Gives (λ _. jobs_reading_of self.new) result (after_shared (jobs_reading_of self.old) number word.now arguments.now Sort.Border) }
+    {
+        let is_open = self.session.is_in_phase();
+        self.read_by_session(alloc, number, word, arguments)?;
+        Ok(self.close_phase(alloc, is_open)?)
+    }
+
+    fn close_phase(&mut self, alloc: Global, is_open: bool) -> Result<(), NoMemory>
+        ensures { OnOk result (jobs_reading_of self.new ≡ with_phase_closed is_open (jobs_reading_of self.old)) }
+    {
+        self.block = Block::Another;
+        self.callers = Buffer::new(alloc);
+        let own = mem::replace(&mut self.own, Buffer::new(alloc));
+        if is_open {
+            self.parts.reserve(1)?;
+            self.parts.add(JobsPart { own });
+        }
+        Ok(())
+    }
+
+    /// Reads an item that stands inside a block.
+    fn read_inside(
+        &mut self,
+        alloc: Global,
+        number: u32,
+        word: &[u8],
+        arguments: &FirstTwo,
+    ) -> Result<(), TextFault>
+        ensures { Gives (λ _. jobs_reading_of self.new) result (after_shared (jobs_reading_of self.old) number word.now arguments.now Sort.Inside) }
+    {
+        if matches!(self.block, Block::Exited) {
+            return Err(bad(number, Reason::Order));
+        }
+        self.read_by_session(alloc, number, word, arguments)?;
+        self.spend(number)
+    }
+
+    /// Counts a step.
+    fn spend(&mut self, number: u32) -> Result<(), TextFault>
+        ensures { Gives (λ _. jobs_reading_of self.new) result (spend number (jobs_reading_of self.old)) }
+    {
+        if self.steps_left == 0 {
+            return Err(bad(number, Reason::Limit));
+        }
+        self.steps_left -= 1;
+        Ok(())
+    }
+
+    /// Reads the line of a process.
+    fn read_proc(&mut self, number: u32, line: &[u8]) -> Result<(), TextFault>
+        ensures { Gives (λ _. jobs_reading_of self.new) result (after_proc (jobs_reading_of self.old) number (words_of line.now)) }
+    {
+        if !self.is_before_phases() {
+            return Err(bad(number, Reason::Order));
+        }
+        match words_in(line) {
+            Err(reason) => Err(bad(number, reason)),
+            Ok(words) => match proc_of(self.ports, self.procs.as_slice(), &words) {
+                Err(reason) => Err(bad(number, reason)),
+                Ok(proc) => self.take_proc(number, proc),
+            },
+        }
+    }
+
+    /// Whether `ports` has stood, and no phase has begun.
+    fn is_before_phases(&self) -> bool
+        ensures { result ≡ is_before_phases (jobs_reading_of self.now) }
+    {
+        !(self.ports == 0) && !self.session.is_in_phase() && !self.session.is_ended()
+    }
+
+    fn take_proc(&mut self, number: u32, proc: PortProc) -> Result<(), TextFault>
+        ensures { Gives (λ _. jobs_reading_of self.new) result (with_proc (jobs_reading_of self.old) number (bare proc)) }
+    {
+        if has_stood(self.procs.as_slice(), &proc) {
+            return Err(bad(number, Reason::Order));
+        }
+        if count_on(self.procs.as_slice(), proc.port) >= PROCS {
+            return Err(bad(number, Reason::Limit));
+        }
+        self.block = Block::Another;
+        Ok(self.add_proc(proc)?)
+    }
+
+    fn add_proc(&mut self, proc: PortProc) -> Result<(), NoMemory>
+        ensures { OnOk result (jobs_reading_of self.new ≡ record (jobs_reading_of self.old) { procs = (jobs_reading_of self.old).procs ++ bare proc ∷ [] }) }
+    {
+        self.procs.reserve(1)?;
+        self.procs.add(proc);
+        Ok(())
+    }
+
+    /// Reads a call of job control.
+    fn read_call(
+        &mut self,
+        number: u32,
+        verb: JobVerb,
+        arguments: &FirstTwo,
+    ) -> Result<(), TextFault>
+        ensures { Gives (λ _. jobs_reading_of self.new) result (after_call (jobs_reading_of self.old) number verb arguments.now) }
+    {
+        if !matches!(self.block, Block::Caller(_)) {
+            return Err(bad(number, Reason::Order));
+        }
+        match call_of(verb, arguments) {
+            Err(reason) => Err(bad(number, reason)),
+            Ok(call) => self.take_call(number, call),
+        }
+    }
+
+    fn take_call(&mut self, number: u32, call: OwnCall) -> Result<(), TextFault>
+        ensures { Gives (λ _. jobs_reading_of self.new) result (with_call (jobs_reading_of self.old) number call) }
+    {
+        self.add_own(call)?;
+        self.exit_by(call)?;
+        self.spend(number)
+    }
+
+    /// Adds a call to the last caller's block.
+    fn add_own(&mut self, call: OwnCall) -> Result<(), NoMemory>
+        ensures { OnOk result (jobs_reading_of self.new ≡ with_own (jobs_reading_of self.old) call) }
+    {
+        self.own.reserve(1)?;
+        self.own.add(PlacedCall {
+            script: self.callers.len().saturating_sub(1),
+            place: self.left_at_opening.saturating_sub(self.steps_left),
+            call,
+        });
+        Ok(())
+    }
+
+    /// Notes that the process of the open block has exited, where the call is its end.
+    fn exit_by(&mut self, call: OwnCall) -> Result<(), NoMemory>
+        ensures { OnOk result (jobs_reading_of self.new ≡ with_exit call (jobs_reading_of self.old)) }
+    {
+        match call {
+            OwnCall::Exit => self.exit(),
+            _ => Ok(()),
+        }
+    }
+
+    fn exit(&mut self) -> Result<(), NoMemory>
+        ensures { OnOk result (jobs_reading_of self.new ≡ exits (jobs_reading_of self.old).open_block (jobs_reading_of self.old)) }
+    {
+        match self.block {
+            Block::Caller(process) => {
+                self.exited.reserve(1)?;
+                self.exited.add(process);
+                self.block = Block::Exited;
+                Ok(())
+            }
+            _ => {
+                self.block = Block::Exited;
+                Ok(())
+            }
+        }
+    }
+
+    /// The session, where the text ends before the line with this number.
+    fn finish(self, number: u32) -> Result<JobsSession, TextFault>
+        ensures { Gives bare_session_of result (jobs_at_end (jobs_reading_of self) number) }
+    {
+        let JobsReader {
+            session,
+            block: _,
+            ports: _,
+            procs,
+            exited: _,
+            callers: _,
+            own: _,
+            parts,
+            left_at_opening: _,
+            steps_left: _,
+        } = self;
+        let session = session.finish(number)?;
+        Ok(JobsSession {
+            session,
+            procs,
+            parts,
+        })
+    }
+}
+
+/// There are 8 ports at most.
+fn ports_of(number: u64) -> u8
+    ensures { result ≡ min number 8 }
+{
+    if number < 8 { number as u8 } else { 8 }
+}
+
+fn block_of(exited: &[Process], process: Process) -> Block
+    ensures { result ≡ (if has_exited exited.now process then Block.Exited else Block.Caller process) }
+{
+    if has_exited(exited, process) {
+        Block::Exited
+    } else {
+        Block::Caller(process)
+    }
+}
+
+fn has_exited(exited: &[Process], process: Process) -> bool
+    ensures { result ≡ has_exited exited.now process }
+{
+    exited.iter().any(|other| is_same_process(process, *other))
+}
+
+fn is_same_process(a: Process, b: Process) -> bool
+    ensures { result ≡ is_same_process a b }
+{
+    a.port == b.port && a.place == b.place
+}
+
+fn has_stood(procs: &[PortProc], proc: &PortProc) -> bool
+    ensures { result ≡ has_stood (map bare procs.now) (bare proc.now) }
+{
+    place_named(procs, u64::from(proc.port), proc.proc.name.as_bytes()).is_some()
+        || (proc.proc.leader && has_leader(procs, proc))
+}
+
+/// The session of processes that a text spells. `Bad` comes exactly where it spells none, and names its first wrong
+/// line, counted from 1 and as far as 32 bits count, and why that line is wrong.
+pub fn parse_jobs(alloc: Global, text: &[u8]) -> Result<JobsSession, TextFault>
+    ensures { Gives bare_session_of result (jobs_in text.now) }
+{
+    let mut reader = JobsReader::new(alloc);
+    let mut rest = text;
+    let mut number = 1u32;
+    while let Some((line, after)) = split_line(rest) {
+        reader.read_line(alloc, number, line)?;
+        rest = after;
+        number = number.saturating_add(1);
+    }
+    reader.finish(number)
+}

@@ -1,0 +1,37 @@
+//! A session of processes.
+
+use crate::calls::OwnCall;
+use job_control::Proc;
+use tty_base::Buffer;
+use tty_calls::Session;
+
+/// A process, and its port.
+#[derive(Clone, Copy, Debug)]
+pub struct PortProc {
+    pub port: u8,
+    pub proc: Proc,
+}
+
+/// A call of job control, by the script that it stands in among those of its phase, and by its place among the calls
+/// there.
+#[derive(Clone, Copy, Debug, PartialEq, Eq)]
+pub struct PlacedCall {
+    pub script: usize,
+    pub place: u64,
+    pub call: OwnCall,
+}
+
+/// What a phase has beside that of a session of ports.
+#[derive(Debug, Drop)]
+pub struct JobsPart {
+    pub own: Buffer<PlacedCall>,
+}
+
+/// A session of processes: a session of ports, its processes, and for each phase what it has beside. The parent of a
+/// process is named by its place among those of the port.
+#[derive(Debug, Drop)]
+pub struct JobsSession {
+    pub session: Session,
+    pub procs: Buffer<PortProc>,
+    pub parts: Buffer<JobsPart>,
+}

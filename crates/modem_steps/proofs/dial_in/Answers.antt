@@ -1,0 +1,42 @@
+use Rattle.std.proofs.Common.{[], refl, lit<, lit≤}
+use Rattle.modem_steps.proofs.dial_in.Goals as goal
+
+pub returns-clause-log : goal.returns-clause-log
+returns-clause-log c = record {
+  last = _;
+  leads = (
+    lit≤ tt,
+    lit≤ tt,
+    record { nothing_due = refl; in_block = refl; item = refl },
+    (
+      lit≤ tt,
+      lit≤ tt,
+      record { nothing_due = refl; next = refl; for_port = tt; entry = record { entry = _; some = lit< tt; stands = refl; is_answer = (refl, ([], refl)) }; not_held_up = refl },
+      (
+        lit≤ tt,
+        lit≤ tt,
+        record { nothing_due = refl; next = refl; answers = refl },
+        (
+          lit≤ tt,
+          lit≤ tt,
+          record { nothing_due = refl; in_block = refl; item = refl },
+          (
+            lit≤ tt,
+            lit≤ tt,
+            record { is_due = refl; entry = record { entry = _; some = lit< tt; stands = refl; is_answer = (refl, ([], refl)) } },
+            (
+              lit≤ tt,
+              lit≤ tt,
+              record { nothing_due = refl; next = refl; for_port = tt; entry = record { entry = _; some = lit< tt; stands = refl; is_answer = (refl, ([], refl)) }; not_held_up = refl },
+              refl,
+            ),
+          ),
+        ),
+      ),
+    ),
+  );
+  nothing_due = refl;
+}
+
+pub returns-clause-played : goal.returns-clause-played
+returns-clause-played c = refl

@@ -1,0 +1,6 @@
+pub mod Verbs
+pub mod Items
+pub mod Rows
+pub mod Sessions
+pub mod Reading
+pub mod Views

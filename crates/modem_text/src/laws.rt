@@ -1,0 +1,21 @@
+//! Worked lines and worked texts, as laws: what each says, or why it is wrong.
+
+ghost use Rattle.std.specs.Prelude.{◌≡◌, Ok, Err, map};
+ghost use Rattle.modem_text.specs.Items.{item_of};
+ghost use Rattle.modem_text.specs.Reading.{modem_in};
+ghost use Rattle.modem_text.specs.Rows.{line_rows, refused_rows, two_ports_text, two_ports};
+
+/// A law: what worked lines say, and why they are wrong.
+pub fn worked_lines_are_read()
+    ensures { map (λ row. item_of 2 row.verb row.arguments) line_rows ≡ map (λ row. row.read) line_rows }
+{}
+
+/// A law: the first wrong line of worked texts, and why it is wrong.
+pub fn worked_texts_are_refused_at_their_lines()
+    ensures { map (λ row. modem_in row.text) refused_rows ≡ map (λ row. Err row.line) refused_rows }
+{}
+
+/// A law: the session of a worked text.
+pub fn a_worked_text_is_read()
+    ensures { modem_in two_ports_text ≡ Ok two_ports }
+{}

@@ -1,0 +1,4 @@
+pub mod Names
+pub mod Stepped
+pub mod Ordered
+pub mod Played

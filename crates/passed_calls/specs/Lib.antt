@@ -1,0 +1,5 @@
+pub mod Blocks
+pub mod Derived
+pub mod Journals
+pub mod Logs
+pub mod Scripts

@@ -1,6 +1,0 @@
-use Rattle.port_cell.specs.Seats.{IsFree}
-use Rattle.port_cell.specs.Cells.{identity_of}
-use Rattle.port_cell.proofs.tests.watch.Given as goal
-
-abbrev pub invariant-loop : goal.invariant-loop
-invariant-loop g l = IsFree (identity_of l.cell) l.seat

@@ -1,0 +1,5 @@
+pub mod Emptiness
+pub mod Handing
+pub mod Keeping
+pub mod Noting
+pub mod Settling

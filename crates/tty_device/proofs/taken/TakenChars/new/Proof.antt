@@ -1,0 +1,31 @@
+-- No characters, in a struct that owns nothing.
+use Rattle.std.proofs.Common.{[], ◌∷◌, refl}
+use types.Kit.{raw, ◌$◌, ◌∵◌, !, qed, keep, join, suffices, done}
+use types.Run.{enter, no_more, returns}
+use types.ByLocal.{alloc_all, pass_all, free_all, look_at, sets}
+use types.Part.{agg}
+use denote.Steps.{nothing}
+use denote.Triple.Entry.{on_entry}
+use denote.Triple.Walked.{Stays, walk_of, says, ends_at}
+use Rattle.std.proofs.raw_atomic.Walks.{proved}
+use Rattle.tty_device.proofs.Emptiness.{empty_val, taken_in}
+use Rattle.tty_device.specs.contracts.taken.TakenChars.new as f
+use Rattle.tty_device.proofs.taken.TakenChars.new.Statement.{statement}
+use Rattle.tty_device.proofs.taken.TakenChars.new.Code as code
+
+abbrev stayed : Stays f.ended.signature.params f.ended.kept
+stayed = tt
+
+pub new_spec : {M : Type 1} → statement M
+new_spec 𝓤 𝓛 𝓜 𝓡 wired =
+    let c = f.clauses 𝓛 𝓜.mem 𝓡.returns in let W = walk_of 𝓛 f.ended stayed c in
+    proved 𝓛 f.ended stayed c 𝓜 𝓡 tt
+    f.Key.name code.function (code.unfolded 𝓤 𝓛.H 𝓜 𝓡 wired)
+    (λ κs. tt) (λ κs. tt) (λ κs qs bounds a g are.
+    let y : W.Ghost = ((κs, qs, bounds, a, tt), g) in
+    qed 𝓛 (raw (on_entry 𝓛 f.signature κs qs a y.0.4) ∷ raw ((c κs a).requires g) ∷ []) ∵ keep ! [] $
+    enter ! _ _ _ _ _ $ alloc_all ! (λ l. pass_all ! refl tt $
+    sets ! (agg ! (no_more !)) refl (tt, tt) $
+    returns ! (look_at ! 0 refl) $ free_all ! refl $
+    suffices ! _ (ends_at 𝓛 f.ended stayed c y empty_val (record { items = [] }) tt tt) $ says ! refl $
+    nothing ! $ taken_in ! [] $ nothing ! $ join ! $ nothing ! $ done !))

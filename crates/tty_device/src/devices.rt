@@ -1,0 +1,289 @@
+//! The port itself.
+
+ghost use Rattle.std.specs.Prelude.{◌≡◌, ◌≤◌, ◌<◌, ◌^◌, [], length, take, IfOk, OnOk, OnErr};
+ghost use Rattle.tty_calls.specs.Plain.{call_of};
+ghost use Rattle.ldisc_switch.specs.Disciplines.{column_in};
+ghost use Rattle.tty_terminal.specs.Meeting.{Meets, drops_of, room_for_characters};
+ghost use Rattle.tty_device.specs.Acts.{settled, verbs_after, DropsOut, HandsOver};
+ghost use Rattle.tty_device.specs.Kept.{chars_of, dropped_of};
+ghost use Rattle.tty_device.specs.Devices.{DeviceState, outcome_for, after_call, after_cancel, Drops, DropsWhere, with_taken_of, after_hang_up, is_stuck, FlushesWhere, after_advance, wire_of, taken_count, at_front, without_wire_front, first_signal, without_first_signal};
+ghost use Rattle.tty_device.specs.Lines.{buffer_size, fresh_device, fresh_line};
+
+use crate::askers::{Asker, Verbs, asker_for, verb_of};
+use crate::lines::Line;
+use crate::places::{make_room, put_front};
+use crate::stations::Station;
+use crate::taken::{Fate, TakenChars};
+use flip_buffer::{FlipOut, flip};
+use flow_control::Signals;
+use ldisc_switch::{Kind, fresh};
+use std::alloc::Global;
+use std::marker::Model;
+use tty_base::{Bytes, Chars, Errno, NoMemory, Signal};
+use tty_calls::{Answer, Call};
+use tty_terminal::Met;
+
+/// How many handles a port has at most.
+const MOST_HANDLES: u8 = 32;
+
+/// How many characters one flush takes at most.
+const MOST_FLUSHED: usize = 64;
+
+/// The fewest and the most characters that a flip buffer holds.
+const SMALLEST_BUFFER: usize = 64;
+
+const LARGEST_BUFFER: usize = 65536;
+
+/// A port that runs for ever: a terminal with its handles, both line disciplines and the end of the flip buffer that
+/// takes out.
+///
+/// No method has a condition. One that finds no memory leaves the port as it was, and no number of calls, bytes,
+/// changes or hangups ends it. A call that must wait is asked again by the same caller; another call of that caller
+/// gives it up.
+#[derive(Drop)]
+pub struct Device {
+    pub(crate) station: Station,
+    verbs: Verbs,
+    pub(crate) flip: FlipOut,
+    pub(crate) taken: TakenChars,
+    pub(crate) dropped: u64,
+    alloc: Global,
+    chars: Chars,
+    bytes: Bytes,
+    signals: Signals,
+}
+
+impl Model for Device {
+    ghost use Rattle.tty_device.specs.Devices.{DeviceState};
+
+    ghost Value = { DeviceState };
+
+    ghost use Rattle.tty_device.specs.Inside.{device_of, IsSound};
+
+    ghost view = { device_of };
+
+    ghost invariant = { IsSound };
+}
+
+impl Device {
+    /// A closed port for so many callers, with the default modes, and the end that puts characters into its flip
+    /// buffer, which holds `capacity` of them: 64 at least, and 65,536 at most.
+    pub fn new(alloc: Global, callers: usize, capacity: usize) -> Result<(Device, Line), NoMemory>
+        ensures device { IfOk result (λ made. made.0 ≡ fresh_device made.0.ring callers (buffer_size capacity)) }
+        ensures line { IfOk result (λ made. made.1 ≡ fresh_line made.0.ring (buffer_size capacity)) }
+    {
+        let capacity = capacity.min(LARGEST_BUFFER).max(SMALLEST_BUFFER);
+        let (input, output) = flip(alloc, capacity)?;
+        let device = Device {
+            station: Station::new(alloc, callers, capacity as u32)?,
+            verbs: Verbs::new(alloc, callers)?,
+            flip: output,
+            taken: TakenChars::new(),
+            dropped: 0,
+            alloc,
+            chars: Chars::new(alloc),
+            bytes: Bytes::new(alloc),
+            signals: Signals::new(alloc),
+        };
+        Ok((device, Line::new(input)))
+    }
+
+    // ---- calls
+
+    /// Makes a call of a caller: it is answered, takes a part of a write, or must wait. An answer drops what waits in
+    /// the flip buffer where the call is for that. EINVAL is answered to a caller that the port has not, and EBADF
+    /// for a handle's number from 32 on.
+    pub fn call(&mut self, caller: usize, call: &Call) -> Result<Met, NoMemory>
+        ensures met { IfOk result (λ met. Meets (outcome_for self.old caller (call_of call.now)) met) }
+        ensures after { OnOk result (self.new ≡ with_taken_of self.new (after_call self.old caller (call_of call.now))) }
+        ensures drops { OnOk result (DropsWhere (drops_of (outcome_for self.old caller (call_of call.now))) self.old self.new) }
+        ensures err { OnErr result (self.new ≡ self.old) }
+    {
+        if caller >= self.station.callers() {
+            return Ok(Met::Gives(Answer::Refused(Errno::EINVAL)));
+        }
+        if call.handle() >= MOST_HANDLES {
+            return Ok(Met::Gives(Answer::Refused(Errno::EBADF)));
+        }
+        let state = self.station.caller(caller);
+        let verb = self.verbs.get(caller);
+        let asker = asker_for(&state, verb, call);
+        let mut dropped = Chars::new(self.alloc);
+        let drops = self.station.drops(&asker, call);
+        if drops {
+            dropped.reserve(self.flip.capacity())?;
+        }
+        let met = self.station.meet(&asker, call)?;
+        settle(
+            &mut self.station,
+            &mut self.verbs,
+            caller,
+            &asker,
+            call,
+            &met,
+        );
+        if drops {
+            drop_shown(
+                &mut self.flip,
+                &mut self.taken,
+                &mut self.dropped,
+                &mut dropped,
+            );
+        }
+        Ok(met)
+    }
+
+    /// Gives up a call that waits.
+    pub fn cancel(&mut self, caller: usize)
+        ensures { self.new ≡ after_cancel self.old caller }
+    {
+        if caller < self.station.callers() {
+            self.station.end_call(caller);
+        }
+    }
+
+    /// Hangs the port up, as vhangup(2) does, and drops what waits in the flip buffer.
+    pub fn hang_up(&mut self) -> Result<(), NoMemory>
+        ensures after { OnOk result (self.new ≡ with_taken_of self.new (after_hang_up self.old)) }
+        ensures drops { OnOk result (Drops self.old self.new) }
+        ensures err { OnErr result (self.new ≡ self.old) }
+    {
+        let mut dropped = Chars::new(self.alloc);
+        dropped.reserve(self.flip.capacity())?;
+        let fresh = fresh(self.alloc, Kind::Tty)?;
+        self.station.hang_up(fresh);
+        self.station.forget();
+        drop_shown(
+            &mut self.flip,
+            &mut self.taken,
+            &mut self.dropped,
+            &mut dropped,
+        );
+        Ok(())
+    }
+
+    // ---- characters
+
+    /// Whether no character can be flushed: no handle is live, or the discipline does not accept.
+    pub fn is_stuck(&self) -> bool
+        ensures { result ≡ is_stuck self.now }
+    {
+        self.station.live() == 0 || !self.station.accepts()
+    }
+
+    /// Hands characters over to the discipline, `most` at most and 64 at most, as long as it accepts. Answers how many.
+    pub fn flush(&mut self, most: usize) -> Result<usize, NoMemory>
+        ensures flushes { IfOk result (λ count. FlushesWhere (is_stuck self.old) self.old self.new most count) }
+        ensures err { OnErr result (self.new ≡ self.old) }
+    {
+        if self.is_stuck() {
+            return Ok(0);
+        }
+        let most = most.min(MOST_FLUSHED);
+        let room = self.station.room_for_characters(most);
+        self.station.reserve(room, most)?;
+        self.chars.truncate(0);
+        self.chars.reserve(most)?;
+        let count = hand_over(&mut self.station, &mut self.flip, &mut self.chars, most);
+        self.taken.note(&self.chars, Fate { dropped: false });
+        Ok(count)
+    }
+
+    /// Sets the clock, which counts tenths of a second. A tick that is past changes nothing.
+    pub fn advance(&mut self, tick: u64)
+        ensures { self.new ≡ after_advance self.old tick }
+    {
+        self.station.advance(tick);
+    }
+
+    // ---- what went out
+
+    /// Takes the first bytes that went to the wire into a place, as many as are there and as it holds. Answers how
+    /// many.
+    pub fn take_wire(&mut self, place: &mut [u8]) -> Result<usize, NoMemory>
+        ensures count { IfOk result (λ count. count ≡ taken_count self.old place.old) }
+        ensures place { IfOk result (λ count. place.new ≡ at_front place.old (take count (wire_of self.old))) }
+        ensures after { IfOk result (λ count. self.new ≡ without_wire_front count self.old) }
+        ensures err { OnErr result ((self.new ≡ self.old) × (place.new ≡ place.old)) }
+    {
+        let count = place.len().min(self.station.wire_len());
+        make_room(&mut self.bytes, self.alloc, count)?;
+        self.station.take_wire(count, &mut self.bytes);
+        put_front(place, self.bytes.as_slice());
+        Ok(count)
+    }
+
+    /// Takes the first signal that was raised; `None` where there is none.
+    pub fn take_signal(&mut self) -> Result<Option<Signal>, NoMemory>
+        ensures signal { IfOk result (λ signal. signal ≡ first_signal self.old) }
+        ensures after { OnOk result (self.new ≡ without_first_signal self.old) }
+        ensures err { OnErr result (self.new ≡ self.old) }
+    {
+        let Some(signal) = self.station.first_signal() else {
+            return Ok(None);
+        };
+        make_room(&mut self.signals, self.alloc, 1)?;
+        self.station.take_signal(&mut self.signals);
+        Ok(Some(signal))
+    }
+}
+
+/// Notes of a caller whether its call is over, or waits.
+fn settle(
+    station: &mut Station,
+    verbs: &mut Verbs,
+    caller: usize,
+    asker: &Asker,
+    call: &Call,
+    met: &Met,
+)
+    requires known { caller < length station.old.terminal.callers }
+    requires verbs { length verbs.old ≡ length station.old.terminal.callers }
+    ensures station { station.new ≡ record station.old { terminal = settled station.old.terminal caller asker.now (call_of call.now) met.now } }
+    ensures verbs { verbs.new ≡ verbs_after verbs.old caller (call_of call.now) met.now }
+{
+    match met {
+        Met::Waits => {
+            station.wait(caller, asker, call.handle());
+            verbs.set(caller, verb_of(call));
+        }
+        _ => station.end_call(caller),
+    }
+    station.forget();
+}
+
+/// Drops what one look shows, by way of a list that has room for all.
+fn drop_shown(flip: &mut FlipOut, taken: &mut TakenChars, count: &mut u64, chars: &mut Chars)
+    requires empty { chars.old.items ≡ [] }
+    requires room { flip.old.capacity ≤ chars.old.spare }
+    requires noted { chars_of taken.old.items ≡ flip.old.taken }
+    requires counted { count.old ≡ length (dropped_of taken.old.items) }
+    ensures drops { DropsOut flip.old flip.new taken.old.items taken.new.items }
+    ensures counted { count.new ≡ length (dropped_of taken.new.items) }
+{
+    let capacity = flip.capacity();
+    let shown = flip.drop_all(capacity, chars);
+    let _most = flip.taken();
+    taken.note(chars, Fate { dropped: true });
+    *count += shown as u64;
+}
+
+/// Hands over what one look shows, in room that was reserved.
+fn hand_over(station: &mut Station, flip: &mut FlipOut, chars: &mut Chars, most: usize) -> usize
+    requires few { most ≤ 64 }
+    requires empty { chars.old.items ≡ [] }
+    requires spare { most ≤ chars.old.spare }
+    requires wire { room_for_characters station.old.terminal most ≤ station.old.wire_room }
+    requires signals { most ≤ station.old.signal_room }
+    requires uncounted { station.old.terminal.taken ≡ 0 }
+    requires column { column_in station.old.terminal.disc < 2 ^ 32 }
+    ensures { HandsOver station.old.terminal station.new.terminal flip.old flip.new chars.new.items most result }
+{
+    let count = flip.look().min(most);
+    flip.peek(count, chars);
+    let received = station.receive_all(chars.as_slice());
+    flip.release(received);
+    chars.truncate(received);
+    station.forget();
+    received
+}

@@ -1,0 +1,119 @@
+//! The end that puts characters in.
+
+ghost use Rattle.std.specs.Prelude.{◌≡◌, ◌+◌, ◌-◌, ◌≤◌, ◌<◌, [], ◌∷◌, ◌++◌, true, false, length, take};
+ghost use Rattle.flow_control.specs.Counting.{count_after};
+ghost use Rattle.tty_device.specs.Lines.{LineState, with_flag, IsFull, Puts};
+
+use flip_buffer::FlipIn;
+use std::marker::Model;
+use tty_base::{Flag, Flagged, Moves, Put};
+
+/// How many characters can be put, ever: 100 years at three billion a second.
+const MOST_SENT: u64 = 9223372036854775808;
+
+/// The end of a port's flip buffer that puts characters in, with its count of overruns. It may be used on another
+/// thread than the port; each end knows of the other only what it loads.
+#[derive(Drop)]
+pub struct Line {
+    pub(crate) input: FlipIn,
+    overruns: u64,
+}
+
+impl Model for Line {
+    ghost use Rattle.tty_device.specs.Lines.{LineState};
+
+    ghost Value = { LineState };
+
+    ghost use Rattle.tty_device.specs.Inside.{line_of};
+
+    ghost view = { line_of };
+}
+
+impl Moves for Line {}
+
+impl Line {
+    /// An end that has put nothing.
+    pub(crate) fn new(input: FlipIn) -> Line
+        ensures { result ≡ record { ring = input.ring; capacity = input.capacity; sent = input.sent; pushed = input.pushed; overruns = 0; known = input.floor } }
+    {
+        Line { input, overruns: 0 }
+    }
+
+    /// Puts bytes, each with this flag, up to the first that the buffer has no room for, and answers how many. The
+    /// others are overruns. 2^63 characters can be put in all.
+    pub fn put(&mut self, bytes: &[u8], flag: Flag) -> usize
+        ensures within { result ≤ length bytes.now }
+        ensures after { self.new ≡ record self.old {
+          sent = self.old.sent ++ with_flag flag (take result bytes.now);
+          overruns = count_after self.old.overruns (length bytes.now - result);
+          known = self.new.known;
+        } }
+        ensures known { self.old.known ≤ self.new.known }
+        ensures full { result < length bytes.now → IsFull self.new.sent self.new.known self.old.capacity }
+    {
+        let count = put_some(&mut self.input, bytes, flag);
+        let refused = (bytes.len() - count) as u64;
+        self.overruns = self.overruns.saturating_add(refused);
+        count
+    }
+
+    /// Makes all that was put visible to the other end.
+    pub fn push(&mut self)
+        ensures { self.new ≡ record self.old { pushed = self.old.sent } }
+    {
+        self.input.push();
+    }
+
+    /// How many characters were put.
+    pub fn sent(&self) -> u64
+        ensures { result ≡ length self.now.sent }
+    {
+        self.input.sent()
+    }
+
+    /// How many characters were refused. The count stands still at its type's end.
+    pub fn overruns(&self) -> u64
+        ensures { result ≡ self.now.overruns }
+    {
+        self.overruns
+    }
+
+    /// How many characters were put and are not taken, by what this call loads.
+    pub fn waiting(&mut self) -> u64
+        ensures count { result + self.new.known ≡ length self.old.sent }
+        ensures after { self.new ≡ record self.old { known = self.new.known } }
+        ensures known { self.old.known ≤ self.new.known }
+        ensures most { result ≤ self.old.capacity }
+    {
+        self.input.waiting()
+    }
+}
+
+/// Puts a character, where there is room and fewer than 2^63 were put.
+fn put_one(input: &mut FlipIn, c: Flagged) -> bool
+    ensures put { result ≡ true → Puts input.old input.new (c ∷ []) }
+    ensures refused { result ≡ false → Puts input.old input.new [] × IsFull input.new.sent input.new.floor input.old.capacity }
+{
+    if input.sent() >= MOST_SENT {
+        return false;
+    }
+    input.put(c).is_ok()
+}
+
+/// Puts bytes up to the first that is refused, and answers how many.
+fn put_some(input: &mut FlipIn, bytes: &[u8], flag: Flag) -> usize
+    ensures within { result ≤ length bytes.now }
+    ensures puts { Puts input.old input.new (with_flag flag (take result bytes.now)) }
+    ensures full { result < length bytes.now → IsFull input.new.sent input.new.floor input.old.capacity }
+{
+    for i in 0..bytes.len() {
+        let c = Flagged {
+            byte: bytes[i],
+            flag,
+        };
+        if !put_one(input, c) {
+            return i;
+        }
+    }
+    bytes.len()
+}

@@ -1,0 +1,83 @@
+-- What `run --journal` prints of a session is told to be legal.
+use Rattle.std.proofs.Common.{◌≡◌, ℕ, ◌<◌, ◌≤◌, inl, inr, List, [], ◌∷◌, true, false, codes, Option, Some, map, length, sym, ◌∙◌, ap, subst, arith, append_assoc}
+use Rattle.tty_calls.specs.declared.journals.PortRun.{PortRun}
+use Rattle.tty_calls.specs.Sessions.{PlainSession}
+use Rattle.session_text.specs.Grammar.{Spells}
+use Rattle.session_print.specs.Report.{calls_from, ports_from}
+use Rattle.check_text.specs.Grammar.{most, Spells as SpellsRuns}
+use Rattle.check_text.specs.Printed.{text_after}
+use Rattle.check_text.specs.Runs.{run_of}
+use Rattle.journal_check.specs.Verdicts.{OfRun, AreLegal}
+use Rattle.journal_check.specs.declared.verdicts.Verdict.TheVariants.{Legal}
+use Rattle.journal_check.proofs.VerdictLemmas.{one_verdict}
+use Rattle.read_back.proofs.Runs.{are_read_back}
+use Rattle.tty_one.specs.declared.playing.Telling.TheVariants.{Report}
+use Rattle.tty_one.specs.declared.words.Command.{Command}
+use Rattle.tty_one.specs.declared.words.Command.TheVariants.{Run, RunOne, Gen, Check}
+use Rattle.tty_one.specs.Endings.{Ask, AskJournals}
+use Rattle.tty_one.specs.Outcome.{IsOrdered, IsInAnyOrder, IsReported, IsPlayedText, IsToldBy, IsDone, with_journals, IsReadBack, GaveJournals}
+use Rattle.tty_one.proofs.Judged.{spelled_in, legal_alike}
+use Rattle.tty_one.proofs.Outcomes.{not_gen_and_run, not_gen_and_one, not_check_and_run, not_check_and_one, not_run_and_one}
+use Rattle.tty_one.proofs.PortLemmas.{there_too}
+
+pub reported_back : (InOrder : ℕ → PlainSession → PortRun → Type 0) → (text : List ℕ) (session : PlainSession) (runs : List PortRun) (report : List ℕ) → Spells text session → IsReported InOrder (Report true) session runs report
+    → IsReadBack text session runs report
+reported_back InOrder text session runs report spelled h =
+    record {
+      ends = h.ends;
+      told = h.told ∙ sym (append_assoc (calls_from 0 session runs) (ports_from 0 session runs h.ends) (text_after session runs));
+      spelled = spells;
+      judged = λ verdict j. one_verdict j.session j.runs verdict Legal j.fits (legal_alike (with_journals text session runs) session j.session runs j.runs spells (spelled_in (with_journals text session runs) verdict j) legal);
+      checked = λ status completes. completes.legal session runs spells legal;
+    }
+  where
+    legal : AreLegal session runs
+    legal = record {
+      each = λ p run is.
+          let end = there_too runs h.ends p run (h.runs_of_all ∙ sym h.ends_of_all) is in
+          let whole = h.each p run end.0 is end.1 in
+          (whole.terminal, whole.legal);
+    }
+
+    few : (p : ℕ) → OfRun runs p (λ run. length run.journal.items ≤ most)
+    few p run is =
+        let end = there_too runs h.ends p run (h.runs_of_all ∙ sym h.ends_of_all) is in
+        let room = (h.each p run end.0 is end.1).room in
+        omega (arith, room)
+
+    spells : SpellsRuns (with_journals text session runs) session (map run_of runs)
+    spells = are_read_back text session runs spelled h.runs_of_all legal few
+
+-- ---- what was given
+
+-- a session was read, and its report with journals is read back
+record IsTold (bytes : List ℕ) (runs : List PortRun) (text : List ℕ) : Type 0 where
+  session : PlainSession
+  spelled : Spells bytes session
+  read_back : IsReadBack bytes session runs text
+
+played_back : (InOrder : ℕ → PlainSession → PortRun → Type 0) → (bytes : List ℕ) (runs : List PortRun) (text : List ℕ) → IsPlayedText (Some bytes) (λ session. IsReported InOrder (Report true) session runs text) → IsTold bytes runs text
+played_back InOrder bytes runs text h =
+    let spelled : Spells bytes h.session = subst (λ (read : List ℕ). Spells read h.session) h.whole h.spelled in
+    record { session = h.session; spelled = spelled; read_back = reported_back InOrder bytes h.session runs text spelled h.ends }
+
+not_two : (words : List (List ℕ)) (one other : List (List ℕ)) → words ≡ one → words ≡ other → length one < length other → ⊥
+not_two words one other h k less = (let same : length one ≡ length other = ap (λ (ws : List (List ℕ)). length ws) (sym h ∙ k) in omega (arith, same, less))
+
+told_back : (words : List (List ℕ)) (bytes : List ℕ) (command : Command) (runs : List PortRun) (text : List ℕ) → AskJournals words → Ask command words → IsToldBy command (Some bytes) runs text → IsTold bytes runs text
+told_back words bytes (Run true) runs text journals asked told = played_back IsInAnyOrder bytes runs text told
+told_back words bytes (Run false) runs text (inl h) asked told = absurd (not_two words (codes "run" ∷ []) (codes "run" ∷ codes "--journal" ∷ []) asked h (omega arith))
+told_back words bytes (Run false) runs text (inr h) asked told = absurd (not_run_and_one words false true asked h)
+told_back words bytes (RunOne true) runs text journals asked told = played_back IsOrdered bytes runs text told
+told_back words bytes (RunOne false) runs text (inl h) asked told = absurd (not_run_and_one words true false h asked)
+told_back words bytes (RunOne false) runs text (inr (inl h)) asked told = absurd (not_two words (codes "run" ∷ codes "--one" ∷ []) (codes "run" ∷ codes "--one" ∷ codes "--journal" ∷ []) asked h (omega arith))
+told_back words bytes (RunOne false) runs text (inr (inr h)) asked told = absurd (not_two words (codes "run" ∷ codes "--one" ∷ []) (codes "run" ∷ codes "--journal" ∷ codes "--one" ∷ []) asked h (omega arith))
+told_back words bytes (Gen number) runs text (inl h) asked told = absurd (not_gen_and_run words true (number, asked) h)
+told_back words bytes (Gen number) runs text (inr h) asked told = absurd (not_gen_and_one words true (number, asked) h)
+told_back words bytes Check runs text (inl h) asked told = absurd (not_check_and_run words true asked h)
+told_back words bytes Check runs text (inr h) asked told = absurd (not_check_and_one words true asked h)
+
+pub gave_journals : (words : List (List ℕ)) (bytes before : List ℕ) (now : Option (List ℕ)) (runs : List PortRun) → AskJournals words → IsDone words (Some bytes) (Some before) now runs → GaveJournals bytes before now runs
+gave_journals words bytes before now runs journals h =
+    let told = told_back words bytes h.command runs h.text journals h.asked h.done in
+    record { session = told.session; report = h.text; spelled = told.spelled; given = h.given; read_back = told.read_back }

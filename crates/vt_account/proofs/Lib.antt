@@ -1,0 +1,5 @@
+pub mod Received
+pub mod Accounting
+pub mod Playing
+pub mod KeyLines
+pub mod Limits

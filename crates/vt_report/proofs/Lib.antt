@@ -1,0 +1,4 @@
+pub mod Standing
+pub mod Pieces
+pub mod Counting
+pub mod Played

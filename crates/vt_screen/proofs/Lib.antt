@@ -1,0 +1,2 @@
+pub mod PaperLemmas
+pub mod ScreenLemmas

@@ -1,0 +1,3 @@
+pub mod Paper
+pub mod Scrolling
+pub mod Rows

@@ -1,0 +1,6 @@
+pub mod Sessions
+pub mod Verbs
+pub mod Items
+pub mod Reading
+pub mod Views
+pub mod Rows
