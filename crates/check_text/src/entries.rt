@@ -271,7 +271,7 @@ pub(crate) fn overrun_in(words: &[u8]) -> Result<Overrun, Reason>
 }
 
 /// What the line of a port did, without its overruns.
-#[derive(Clone, Copy, Debug, PartialEq, Eq)]
+#[derive(Clone, Copy, PartialEq, Eq)]
 pub(crate) struct LineNumbers {
     pub(crate) arrived: u32,
     pub(crate) lost: u32,

@@ -23,7 +23,7 @@ use tty_base::{Buffer, Chars, LineReport, NoMemory, Overruns};
 use tty_calls::{Journal, PortRun, Session};
 
 /// Which line is due.
-#[derive(Clone, Copy, Debug, PartialEq, Eq)]
+#[derive(Clone, Copy, PartialEq, Eq)]
 pub(crate) enum Due {
     Journals,
     /// The heading of a port's journal.

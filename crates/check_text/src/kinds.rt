@@ -9,7 +9,7 @@ ghost use Rattle.text_lines.specs.Values.{choice_of};
 use tty_calls::Call;
 
 /// What a call is answered, where it is neither refused nor told that nothing can come any more.
-#[derive(Clone, Copy, Debug, PartialEq, Eq)]
+#[derive(Clone, Copy, PartialEq, Eq)]
 pub(crate) enum AnswerKind {
     Done,
     Count,
@@ -35,7 +35,7 @@ pub(crate) fn answer_kind(call: &Call) -> AnswerKind
 }
 
 /// What an entry says.
-#[derive(Clone, Copy, Debug, PartialEq, Eq)]
+#[derive(Clone, Copy, PartialEq, Eq)]
 pub(crate) enum EventKind {
     Answer,
     Part,

@@ -7,7 +7,7 @@ use session_text::is_call;
 use tty_modes::is_same;
 
 /// What a first word does in a session's text.
-#[derive(Clone, Copy, Debug, PartialEq, Eq)]
+#[derive(Clone, Copy, PartialEq, Eq)]
 pub enum Sort {
     /// It says how many ports there are.
     Ports,

@@ -22,7 +22,7 @@ pub struct HandleState {
 }
 
 /// The handles of a port, by their numbers from 0 to 31. No call takes memory.
-#[derive(Debug, Drop)]
+#[derive(Drop)]
 pub struct Handles {
     slots: [Option<HandleState>; NUMBERS],
     live: usize,

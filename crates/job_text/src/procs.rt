@@ -18,7 +18,7 @@ use text_lines::{is_name, name_of, split_word};
 use tty_modes::is_same;
 
 /// The words of a process's line.
-#[derive(Debug, Drop)]
+#[derive(Drop)]
 pub(crate) struct ProcWords<'a> {
     name: &'a [u8],
     port: &'a [u8],
@@ -155,7 +155,7 @@ fn found(place: Option<usize>) -> Result<Option<u16>, Reason>
 }
 
 /// What a process's line says behind its parent.
-#[derive(Clone, Copy, Debug, PartialEq, Eq)]
+#[derive(Clone, Copy, PartialEq, Eq)]
 pub(crate) struct Flags {
     leader: bool,
     nottin: bool,

@@ -28,14 +28,14 @@ const STEPS: u64 = 65_536;
 const PROCS: usize = 1_024;
 
 /// A process, by its port and its place among those of the port.
-#[derive(Clone, Copy, Debug, PartialEq, Eq)]
+#[derive(Clone, Copy, PartialEq, Eq)]
 pub(crate) struct Process {
     port: u64,
     place: usize,
 }
 
 /// Which block is open.
-#[derive(Clone, Copy, Debug, PartialEq, Eq)]
+#[derive(Clone, Copy, PartialEq, Eq)]
 pub(crate) enum Block {
     /// That of a process.
     Caller(Process),

@@ -6,7 +6,7 @@ use tty_base::Buffer;
 use tty_calls::Session;
 
 /// A process, and its port.
-#[derive(Clone, Copy, Debug)]
+#[derive(Clone, Copy)]
 pub struct PortProc {
     pub port: u8,
     pub proc: Proc,
@@ -14,7 +14,7 @@ pub struct PortProc {
 
 /// A call of job control, by the script that it stands in among those of its phase, and by its place among the calls
 /// there.
-#[derive(Clone, Copy, Debug, PartialEq, Eq)]
+#[derive(Clone, Copy, PartialEq, Eq)]
 pub struct PlacedCall {
     pub script: usize,
     pub place: u64,
@@ -22,14 +22,14 @@ pub struct PlacedCall {
 }
 
 /// What a phase has beside that of a session of ports.
-#[derive(Debug, Drop)]
+#[derive(Drop)]
 pub struct JobsPart {
     pub own: Buffer<PlacedCall>,
 }
 
 /// A session of processes: a session of ports, its processes, and for each phase what it has beside. The parent of a
 /// process is named by its place among those of the port.
-#[derive(Debug, Drop)]
+#[derive(Drop)]
 pub struct JobsSession {
     pub session: Session,
     pub procs: Buffer<PortProc>,

@@ -40,7 +40,7 @@ pub(crate) struct PhaseWork<'s> {
 }
 
 /// What a phase came to: its end, with the number of the next flush run, or a full journal.
-#[derive(Clone, Copy, Debug)]
+#[derive(Clone, Copy)]
 pub(crate) enum PhaseEnd {
     Over(u32),
     Full,

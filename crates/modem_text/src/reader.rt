@@ -27,7 +27,7 @@ const STEPS: u64 = 65_536;
 const CALLERS: usize = 15;
 
 /// Which block is open.
-#[derive(Clone, Copy, Debug, PartialEq, Eq)]
+#[derive(Clone, Copy, PartialEq, Eq)]
 pub(crate) enum Block {
     Caller,
     /// The modem block of this port.

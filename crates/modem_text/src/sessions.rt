@@ -6,7 +6,7 @@ use tty_base::Buffer;
 use tty_calls::Session;
 
 /// An item of a port's modem block: the modem gives a line this level.
-#[derive(Clone, Copy, Debug, PartialEq, Eq)]
+#[derive(Clone, Copy, PartialEq, Eq)]
 pub struct PinItem {
     pub port: u8,
     pub pin: Pin,
@@ -15,7 +15,7 @@ pub struct PinItem {
 
 /// A call of modem lines, by the script that it stands in among those of its phase, and by its place among the calls
 /// there.
-#[derive(Clone, Copy, Debug, PartialEq, Eq)]
+#[derive(Clone, Copy, PartialEq, Eq)]
 pub struct PlacedCall {
     pub script: usize,
     pub place: u64,
@@ -23,14 +23,14 @@ pub struct PlacedCall {
 }
 
 /// What a phase has beside that of a session of ports.
-#[derive(Debug, Drop)]
+#[derive(Drop)]
 pub struct ModemPart {
     pub pins: Buffer<PinItem>,
     pub own: Buffer<PlacedCall>,
 }
 
 /// A session of ports with modem lines: a session of ports, and for each phase what it has beside.
-#[derive(Debug, Drop)]
+#[derive(Drop)]
 pub struct ModemSession {
     pub session: Session,
     pub parts: Buffer<ModemPart>,

@@ -23,7 +23,7 @@ const PIECE: u32 = 64;
 
 /// Where the player stands: the next piece of a flush run, the ticks that are left, and the place of
 /// the caller whose write goes on.
-#[derive(Clone, Copy, Debug)]
+#[derive(Clone, Copy)]
 pub(crate) struct Stand {
     run: u32,
     part: u32,
@@ -33,7 +33,7 @@ pub(crate) struct Stand {
 
 /// What is done next: a piece of a flush run, a call of the caller at a place, a tick or the end of the
 /// clock, or the end of the phase.
-#[derive(Clone, Copy, Debug)]
+#[derive(Clone, Copy)]
 pub(crate) enum Turn {
     Flush,
     Call(usize),

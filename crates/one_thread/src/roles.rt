@@ -12,7 +12,7 @@ use tty_calls::{Names, Phase, Script, Session};
 
 /// A caller of a phase: its number, its first step in the phase, and the place of its script among
 /// those of the phase.
-#[derive(Clone, Copy, Debug)]
+#[derive(Clone, Copy)]
 pub struct Role {
     pub number: u16,
     pub first: u32,

@@ -175,10 +175,11 @@ fn each_call_is_answered(rt: HostRuntime) -> Result<(), Fail> {
     let rows = calls_and_answers(rt.alloc())?;
     let mut one = OneCaller::new(rt.alloc(), 64).ok().ok_or("a port")?;
     for (call, answer) in rows {
+        let before = one.entries();
         let tried = one.attempt(&call);
         assert!(rt;
             matches!(&tried, Some(Ok(Tried::Done(told))) if is_same(told, &answer)),
-            "at {call:?}"
+            "after {before} entries"
         );
     }
     assert_eq!(rt; one.entries(), 22);
@@ -196,13 +197,13 @@ fn a_refusal_keeps_the_journal_and_is_told_from_then_on(rt: HostRuntime) -> Resu
         match one.attempt(&call) {
             Some(Err(Denied::NoMemory)) => {
                 refused = true;
-                assert_eq!(rt; one.entries(), before, "at {call:?}");
+                assert_eq!(rt; one.entries(), before);
             }
             Some(Ok(Tried::Done(_))) => {
-                assert!(rt; !refused, "at {call:?}");
-                assert_eq!(rt; one.entries().checked_sub(before), Some(1), "at {call:?}");
+                assert!(rt; !refused, "after {before} entries");
+                assert_eq!(rt; one.entries().checked_sub(before), Some(1));
             }
-            _ => assert!(rt; false, "at {call:?}"),
+            _ => assert!(rt; false, "after {before} entries"),
         }
     }
     assert!(rt; !refused || one.is_starved());

@@ -22,7 +22,7 @@ use tty_modes::Word;
 const FLIP: u32 = 4_096;
 
 /// The phase that is being read.
-#[derive(Debug, Drop)]
+#[derive(Drop)]
 pub(crate) struct OpenPhase {
     lines: Vec<LineSteps>,
     ticks: Vec<u32>,
@@ -30,7 +30,7 @@ pub(crate) struct OpenPhase {
 }
 
 /// A session as far as it was read.
-#[derive(Debug, Drop)]
+#[derive(Drop)]
 pub(crate) struct Draft {
     flips: Vec<u32>,
     /// The phases before the open one.

@@ -23,7 +23,7 @@ use tty_calls::Session;
 use tty_modes::Word;
 
 /// Where the reader of a text stands, and what it has read.
-#[derive(Debug, Drop)]
+#[derive(Drop)]
 pub struct Reader {
     stand: Stand,
     draft: Draft,

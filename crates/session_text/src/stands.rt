@@ -26,7 +26,7 @@ const TICKS: u64 = 65_536;
 const CALLERS: usize = 16;
 
 /// Which items may come next.
-#[derive(Clone, Copy, Debug, PartialEq, Eq)]
+#[derive(Clone, Copy, PartialEq, Eq)]
 pub(crate) enum Place {
     /// Before the first item.
     Start,
@@ -47,14 +47,14 @@ pub(crate) enum Place {
 }
 
 /// A caller of the open phase.
-#[derive(Debug, Drop)]
+#[derive(Drop)]
 pub(crate) struct Key {
     name: ArrayString<16>,
     port: u64,
 }
 
 /// Where the reader of a text stands.
-#[derive(Debug, Drop)]
+#[derive(Drop)]
 pub(crate) struct Stand {
     place: Place,
     version: u8,

@@ -7,7 +7,7 @@ use tty_base::{Buffer, Bytes, Counts, Errno, Moves, Signal};
 use tty_modes::Modes;
 
 /// What a call is answered.
-#[derive(Debug, Drop)]
+#[derive(Drop)]
 pub enum Answer {
     /// The call did what it is for.
     Done,
@@ -49,7 +49,7 @@ impl Answer {
 }
 
 /// An answer whose bytes, modes and counts stand with whoever tells it.
-#[derive(Clone, Copy, Debug)]
+#[derive(Clone, Copy)]
 pub enum AnswerRef<'a> {
     Done,
     Count(u32),
@@ -71,7 +71,7 @@ pub enum Denied {
 }
 
 /// What is left of a port at its end.
-#[derive(Debug, Drop)]
+#[derive(Drop)]
 pub struct PortEnd {
     /// What was counted.
     pub counts: Counts,

@@ -49,7 +49,7 @@ pub enum Act {
 
 /// A call of a terminal. A handle `h` is a number below 32 that the caller chooses at `Open`. Bytes and
 /// mode words stand with whoever makes the call.
-#[derive(Clone, Copy, Debug)]
+#[derive(Clone, Copy)]
 pub enum Call<'a> {
     /// Opens the port under the number `h` (open(2)).
     Open {

@@ -31,7 +31,7 @@ impl Who {
 }
 
 /// What one entry of a journal says. Bytes and characters stand with whoever tells it.
-#[derive(Clone, Copy, Debug)]
+#[derive(Clone, Copy)]
 pub enum Event<'a> {
     /// A call was answered, and these characters of the flip buffer were dropped with it.
     Answer {
@@ -59,7 +59,7 @@ pub enum Event<'a> {
 }
 
 /// An entry of a port's journal: one atomic event.
-#[derive(Clone, Copy, Debug)]
+#[derive(Clone, Copy)]
 pub struct Entry<'a> {
     pub who: Who,
     /// The caller's step, the number of the flush run, or the phase.
@@ -72,7 +72,7 @@ pub struct Entry<'a> {
 }
 
 /// One port's journal, and what its line did.
-#[derive(Debug, Drop)]
+#[derive(Drop)]
 pub struct PortRun {
     pub journal: Journal,
     pub line: LineReport,

@@ -14,7 +14,7 @@ use tty_base::{Moves, NoMemory};
 use tty_modes::Word;
 
 /// A call that names parts of lists.
-#[derive(Clone, Copy, Debug)]
+#[derive(Clone, Copy)]
 enum KeptCall {
     Open {
         h: u8,
@@ -86,7 +86,7 @@ enum KeptCall {
 }
 
 /// Calls, in order. One takes twelve bytes; the bytes and the mode words of all stand in a list each.
-#[derive(Debug, Drop)]
+#[derive(Drop)]
 pub struct Calls {
     kept: Vec<KeptCall>,
     bytes: Vec<u8>,

@@ -14,7 +14,7 @@ use tty_base::{Counts, Errno, Flagged, Moves, NoMemory};
 use tty_modes::Modes;
 
 /// An answer with which characters were dropped.
-#[derive(Clone, Copy, Debug)]
+#[derive(Clone, Copy)]
 struct KeptPurge {
     answer: KeptEvent,
     dropped: Part,
@@ -22,7 +22,7 @@ struct KeptPurge {
 
 /// An event that names what stands in lists. The first eight are answers with which nothing was dropped;
 /// in an enum of their own they would take four bytes more.
-#[derive(Clone, Copy, Debug)]
+#[derive(Clone, Copy)]
 enum KeptEvent {
     Done,
     Count(u32),
@@ -45,7 +45,7 @@ enum KeptEvent {
 }
 
 /// An entry that names what stands in lists.
-#[derive(Clone, Copy, Debug)]
+#[derive(Clone, Copy)]
 struct KeptEntry {
     who: Who,
     step: u32,
@@ -55,7 +55,7 @@ struct KeptEntry {
 }
 
 /// What entries tell, in a list for each kind of it.
-#[derive(Debug, Drop)]
+#[derive(Drop)]
 struct Lists {
     bytes: Store<u8>,
     characters: Store<Flagged>,
@@ -67,7 +67,7 @@ struct Lists {
 
 /// What happened on a port, in order. An entry takes 28 bytes; the bytes, characters, modes and counts
 /// that all tell stand in a list each.
-#[derive(Debug, Drop)]
+#[derive(Drop)]
 pub struct Journal {
     entries: Store<KeptEntry>,
     lists: Lists,

@@ -9,7 +9,7 @@ use std::marker::Model;
 use tty_base::NoMemory;
 
 /// A part of a list: where it begins, and how many elements it has.
-#[derive(Clone, Copy, Debug)]
+#[derive(Clone, Copy)]
 pub(crate) struct Part {
     pub(crate) first: u32,
     pub(crate) count: u32,
@@ -40,7 +40,7 @@ pub(crate) fn keep<T: Copy>(list: &mut Vec<T>, more: &[T]) -> Result<Part, NoMem
 }
 
 /// A list with reserved room, of fewer than 2^32 elements.
-#[derive(Debug, Drop)]
+#[derive(Drop)]
 pub(crate) struct Store<T> {
     items: Vec<T>,
     spare: u32,

@@ -6,7 +6,7 @@ use line_steps::LineSteps;
 use tty_base::{Buffer, Moves};
 
 /// One caller's calls in a phase.
-#[derive(Debug, Drop)]
+#[derive(Drop)]
 pub struct Script {
     pub port: u8,
     /// A letter a to z, and up to 15 letters, digits or `_`.
@@ -16,7 +16,7 @@ pub struct Script {
 
 /// A part of the session whose work ends before the next phase begins. `lines` and `ticks` have one
 /// item for each port.
-#[derive(Debug, Drop)]
+#[derive(Drop)]
 pub struct Phase {
     pub lines: Buffer<LineSteps>,
     pub ticks: Buffer<u32>,
@@ -25,7 +25,7 @@ pub struct Phase {
 
 /// What is to be played: for each port and phase the line's steps, the clock's ticks and the callers'
 /// calls. `flips` has the capacity of each port's flip buffer.
-#[derive(Debug, Drop)]
+#[derive(Drop)]
 pub struct Session {
     pub version: u8,
     pub ports: u8,

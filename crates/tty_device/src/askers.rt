@@ -12,7 +12,7 @@ use tty_calls::Call;
 use tty_terminal::{Bound, CallerState};
 
 /// What a call is, as far as calls that can wait differ.
-#[derive(Clone, Copy, Debug, PartialEq, Eq)]
+#[derive(Clone, Copy, PartialEq, Eq)]
 pub(crate) enum Verb {
     /// It never waits.
     Never,
@@ -23,7 +23,7 @@ pub(crate) enum Verb {
 }
 
 /// Since when a caller waits, and the handle that its call began with.
-#[derive(Clone, Copy, Debug, PartialEq, Eq)]
+#[derive(Clone, Copy, PartialEq, Eq)]
 pub(crate) struct Asker {
     pub(crate) waits: Option<u64>,
     pub(crate) bound: Option<Bound>,

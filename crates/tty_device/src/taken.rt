@@ -8,7 +8,7 @@ use std::marker::Model;
 use tty_base::Chars;
 
 /// What becomes of characters that are taken: the discipline receives them, or they are dropped.
-#[derive(Clone, Copy, Debug)]
+#[derive(Clone, Copy)]
 pub(crate) struct Fate {
     pub(crate) dropped: bool,
 }

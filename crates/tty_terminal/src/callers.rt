@@ -13,14 +13,14 @@ use tty_base::NoMemory;
 
 /// The handle that a call began with which waits, or of which parts were taken: its number, and what
 /// became of it. `None` says that it was closed while it was live.
-#[derive(Clone, Copy, Debug, PartialEq, Eq)]
+#[derive(Clone, Copy, PartialEq, Eq)]
 pub struct Bound {
     pub h: u8,
     pub handle: Option<HandleState>,
 }
 
 /// Where a caller stands.
-#[derive(Clone, Copy, Debug, PartialEq, Eq)]
+#[derive(Clone, Copy, PartialEq, Eq)]
 pub struct CallerState {
     /// The number of its next step.
     pub next: u32,

@@ -77,7 +77,7 @@ impl Room {
 }
 
 /// What a call meets.
-#[derive(Debug, Drop)]
+#[derive(Drop)]
 pub enum Met {
     /// It is answered.
     Gives(Answer),

@@ -4,7 +4,7 @@ use tty_base::Full;
 use tty_calls::Denied;
 
 /// What happened on a board.
-#[derive(Clone, Copy, Debug, PartialEq, Eq)]
+#[derive(Clone, Copy, PartialEq, Eq)]
 pub enum VtEvent {
     /// This console was made the active one.
     Activate(u8),
@@ -15,14 +15,14 @@ pub enum VtEvent {
 }
 
 /// An entry of a board: the number of the seat that made it, and what happened.
-#[derive(Clone, Copy, Debug, PartialEq, Eq)]
+#[derive(Clone, Copy, PartialEq, Eq)]
 pub struct VtEntry {
     pub seat: u32,
     pub event: VtEvent,
 }
 
 /// What became of a key: the console to which it went, and whether it was lost there, since the buffer was full.
-#[derive(Clone, Copy, Debug, PartialEq, Eq)]
+#[derive(Clone, Copy, PartialEq, Eq)]
 pub struct Keyed {
     pub console: u8,
     pub lost: Option<Full>,

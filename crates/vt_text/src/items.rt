@@ -13,7 +13,7 @@ use text_lines::{FirstTwo, read_number};
 const OPERATORS: usize = 16;
 
 /// Whose block is open.
-#[derive(Clone, Copy, Debug, PartialEq, Eq)]
+#[derive(Clone, Copy, PartialEq, Eq)]
 pub(crate) enum Block {
     Neither,
     Caller,

@@ -5,7 +5,7 @@ use tty_base::{Buffer, Bytes};
 use tty_calls::Session;
 
 /// A call of an operator.
-#[derive(Clone, Copy, Debug, PartialEq, Eq)]
+#[derive(Clone, Copy, PartialEq, Eq)]
 pub enum OpCall {
     /// Makes this console the active one.
     Activate(u8),
@@ -14,14 +14,14 @@ pub enum OpCall {
 }
 
 /// The calls of an operator in a phase.
-#[derive(Debug, Drop)]
+#[derive(Drop)]
 pub struct OpScript {
     pub name: ArrayString<16>,
     pub calls: Buffer<OpCall>,
 }
 
 /// What the keyboard and the operators do in a phase.
-#[derive(Debug, Drop)]
+#[derive(Drop)]
 pub struct VtPhase {
     pub keys: Bytes,
     pub operators: Buffer<OpScript>,
@@ -29,7 +29,7 @@ pub struct VtPhase {
 
 /// A session of consoles: the calls of their callers, as a session with a port for each console, and for each phase
 /// what else is done in it.
-#[derive(Debug, Drop)]
+#[derive(Drop)]
 pub struct VtSession {
     pub calls: Session,
     pub phases: Buffer<VtPhase>,

@@ -7,7 +7,7 @@ use session_text::is_call;
 use tty_modes::is_same;
 
 /// What the first word of a line is.
-#[derive(Clone, Copy, Debug, PartialEq, Eq)]
+#[derive(Clone, Copy, PartialEq, Eq)]
 pub(crate) enum VtVerb {
     Header,
     Consoles,

@@ -12,7 +12,7 @@ use tty_calls::{Answer, AnswerRef, Call, Denied, Event};
 use tty_terminal::Met;
 
 /// What an attempt of a call came to.
-#[derive(Debug, Drop)]
+#[derive(Drop)]
 pub enum Tried {
     /// The call is answered.
     Done(Answer),

@@ -9,7 +9,7 @@ use tty_base::Chars;
 use tty_calls::Denied;
 
 /// What a piece of a flush run came to.
-#[derive(Clone, Copy, Debug, PartialEq, Eq)]
+#[derive(Clone, Copy, PartialEq, Eq)]
 pub enum Flushed {
     /// So many characters were handed over.
     Took(u32),
