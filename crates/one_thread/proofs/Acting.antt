@@ -23,7 +23,7 @@ use Rattle.journal_check.specs.Legal.{IsInPhase, IsCallOf, IsCallerOf, first_ste
 use Rattle.port_core.specs.Flips.{DropsShown}
 use Rattle.port_core.specs.Attempts.{PlainTried, done_by, took_part, must_wait, AnswersCall, TakesPartOf, MustGoOnWaiting, Attempts}
 use Rattle.port_core.specs.Ports.{PlainKept, PortValue, kept_with, with_call, Appends, caller_entry, end_entry}
-use Rattle.one_thread.specs.Order.{IsPieceOf, turn_after_event}
+use Rattle.one_thread.specs.Order.{IsPieceOf, turn_after_event, is_of_consoles}
 use Rattle.one_thread.specs.Roles.{Scene, calls_in, role_in, AreRolesOf}
 use Rattle.one_thread.specs.Stages.{place_of}
 use Rattle.one_thread.specs.Turns.{role_numbers, turn_with, IsTurn, standing_at, standing_at_rest, IsInRole, IsKept, IsInParts, IsGoing, HasCallers, next_run, Plays, PlaysOn, going_after}
@@ -102,7 +102,7 @@ callers_act s scripts roles v w stand place r going callers is may acts =
 pub record Turns (s : Scene) (scripts : List Script) (roles : List Role) (v : PortValue) (stand : Stand) (place : ℕ) (r : Role) : Type 0 where
   pub plays : Plays s scripts roles v stand
   pub is : slice_get roles place ≡ Some r
-  pub turn_is : IsTurn v (role_numbers roles) stand.going (turn.Call place)
+  pub turn_is : IsTurn (is_of_consoles s.session) v (role_numbers roles) stand.going (turn.Call place)
 
 turns_may : (s : Scene) (scripts : List Script) (roles : List Role) (v : PortValue) (stand : Stand) (place : ℕ) (r : Role) → Turns s scripts roles v stand place r → MayAct s v r.number
 turns_may s scripts roles v stand place r h = may_act s scripts roles v stand place r h.plays h.is h.turn_is

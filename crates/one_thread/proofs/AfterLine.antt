@@ -27,7 +27,7 @@ use Rattle.journal_check.specs.Phases.{HasPlayed}
 use Rattle.port_core.specs.Flips.{after_meeting}
 use Rattle.port_core.specs.Phases.{EndsPhase}
 use Rattle.port_core.specs.Ports.{PortValue, IsPort, call_in, Denies, phase_entry}
-use Rattle.one_thread.specs.Order.{IsInTurn, can_go_on, is_waiting, must_wait}
+use Rattle.one_thread.specs.Order.{IsInTurn, can_go_on, is_waiting, must_wait, is_of_consoles}
 use Rattle.one_thread.specs.Roles.{Scene, calls_in, role_in, AreRolesOf}
 use Rattle.one_thread.specs.Stages.{place_of, IsOfScene, AreAtFirst, BeginsRun, IsAfterLine, EndsAfterLine, StopsAfterLine}
 use Rattle.one_thread.specs.Turns.{role_numbers, IsTurn, standing_at, standing_at_rest, IsAtRest, IsInRole, IsAbsent, HasCallers, next_run, HasRuns, Plays, PlaysOn}
@@ -159,9 +159,9 @@ pub record NothingIsLeft (v : PortValue) (roles : List Role) (going : Option ℕ
   pub clock_is : v.terminal.clock_over ≡ true
   pub over : (i : ℕ) → i < length (role_numbers roles) → (caller_at v.terminal (slice_index (role_numbers roles) i)).over ≡ true
 
-pub nothing_left : (v : PortValue) (roles : List Role) (going : Option ℕ) → IsTurn v (role_numbers roles) going turn.End → NothingIsLeft v roles going
-nothing_left v roles going is =
-    let h = session_turn (role_numbers roles) going (nothing_to_flush v.terminal) v.terminal.clock_over (can_go_on (call_in v.kept) v.terminal) (is_waiting v.terminal) is.who in
+pub nothing_left : (clock_first : Bool) (v : PortValue) (roles : List Role) (going : Option ℕ) → IsTurn clock_first v (role_numbers roles) going turn.End → NothingIsLeft v roles going
+nothing_left clock_first v roles going is =
+    let h = session_turn (role_numbers roles) going clock_first (nothing_to_flush v.terminal) v.terminal.clock_over (can_go_on (call_in v.kept) v.terminal) (is_waiting v.terminal) is.who in
     record {
       settled = h.0.settled;
       idle_is = h.0.idle_is;
@@ -230,13 +230,13 @@ has_ended s scripts roles v stand c plays nothing false is =
     }
 
 pub ends_of : (s : Scene) (scripts : List Script) (roles : List Role) (start v w : PortValue) (putter now : PutterState Flagged) (ticks : ℕ) (stand rested : Stand) → Playing s scripts roles start v ticks stand
-    → IsTurn v (role_numbers roles) stand.going turn.End → EndsPhase v w putter now → ticks ≡ ticks_on s.port (phase_at s.session start.terminal.phase)
+    → IsTurn (is_of_consoles s.session) v (role_numbers roles) stand.going turn.End → EndsPhase v w putter now → ticks ≡ ticks_on s.port (phase_at s.session start.terminal.phase)
     → rested ≡ record { run = next_run stand.run stand.part; part = 0; ticks = stand.ticks; going = None } → EndsAfterLine s start w putter now rested.run
 ends_of s scripts roles start v w putter now ticks stand rested h turn ends asked rest =
     let plays = h.plays in
     let e : PlainEntry = phase_entry v Session phase_ended in
     let more = more_of s v w v.kept (after_meeting v.flip putter) e plays.of_scene.counts plays.of_scene.known ends.appends refl refl in
-    let nothing = nothing_left v roles stand.going turn in
+    let nothing = nothing_left (is_of_consoles s.session) v roles stand.going turn in
     let in_turn : IsInTurn s.port s.session (place_of s v.journal) e = record { by_turn = by_turn s scripts roles v stand Session plays turn.who; piece = tt } in
     let runs = runs_rest v w (place_of s v.journal).before stand.run stand.part e plays.runs more.journal (ap (λ (m : Marks). m.latest) (marks_at s v w e more)) refl in
     let few = runs.few in

@@ -17,7 +17,7 @@ use Rattle.tty_terminal.specs.Steps.{callers_in, quiet, nothing_to_flush, is_wai
 use Rattle.tty_terminal.proofs.Effects.{outcome_keeps}
 use Rattle.tty_terminal.proofs.WaitLaws.{run_waits, run_parts}
 use Rattle.port_core.specs.Ports.{PortValue, call_in}
-use Rattle.one_thread.specs.Order.{can_go_on, is_waiting, must_wait}
+use Rattle.one_thread.specs.Order.{can_go_on, is_waiting, must_wait, is_of_consoles}
 use Rattle.one_thread.specs.Roles.{Scene, calls_in, role_in, IsRoleOf, AreRolesOf}
 use Rattle.one_thread.specs.Turns.{role_numbers, IsTurn, standing_at, IsInParts, IsGoing, Plays}
 use Rattle.one_thread.specs.declared.roles.Role.{Role}
@@ -110,7 +110,7 @@ none_going : (numbers : List ℕ) (going : Option ℕ) (d : ℕ) → going ≡ N
 none_going numbers going d none h = let e = sym none ∙ h.at_place in absurd (cc)
 
 pub may_act : (s : Scene) (scripts : List Script) (roles : List Role) (v : PortValue) (stand : Stand) (i : ℕ) (r : Role) → Plays s scripts roles v stand → slice_get roles i ≡ Some r
-    → IsTurn v (role_numbers roles) stand.going (turn.Call i) → MayAct s v r.number
+    → IsTurn (is_of_consoles s.session) v (role_numbers roles) stand.going (turn.Call i) → MayAct s v r.number
 may_act s scripts roles v stand i r plays is turn =
     let c = r.number in
     let numbers = role_numbers roles in
@@ -121,7 +121,7 @@ may_act s scripts roles v stand i r plays is turn =
     λ none d w some. absurd (none_going numbers stand.going d none (plays.callers.parts d w some)) in
     let settled_generation : stand.going ≡ None → (standing_at v c).waits ≡ false → 0 < (standing_at v c).parts → (standing_at v c).generation ≡ v.terminal.generation =
     λ none w some. absurd (none_going numbers stand.going c none (plays.callers.parts c w some)) in
-    elim (caller_turn numbers stand.going (nothing_to_flush v.terminal) v.terminal.clock_over (can_go_on (call_in v.kept) v.terminal) (is_waiting v.terminal) c who) [
+    elim (caller_turn numbers stand.going (is_of_consoles s.session) (nothing_to_flush v.terminal) v.terminal.clock_over (can_go_on (call_in v.kept) v.terminal) (is_waiting v.terminal) c who) [
       | inl going ↦
           let open_part : IsInParts v c = subst (λ (n : ℕ). IsInParts v n) going.is (plays.callers.goes_on going.place going.at_place).1 in
           let begun = run_parts (call_at s.port s.session) (counts_on s.port s.session) _ v.journal v.terminal plays.run c open_part.parts in

@@ -18,7 +18,7 @@ use Rattle.tty_terminal.proofs.Runs.{leads_more}
 use Rattle.tty_terminal.proofs.WaitLaws.{run_waits}
 use Rattle.journal_check.specs.Legal.{IsInPhase, AreInPhases, session_events, flip_on}
 use Rattle.port_core.specs.Ports.{PlainKept, PortValue, call_in, Appends}
-use Rattle.one_thread.specs.Order.{Place, first_place, AreInTurn, IsInTurn, IsPieceOf, turn, turn_after, turn_after_event, turn_by_rank, callers_of, first_of, can_go_on, is_waiting, must_wait}
+use Rattle.one_thread.specs.Order.{Place, first_place, AreInTurn, IsInTurn, IsPieceOf, turn, turn_after, turn_after_event, turn_by_rank, callers_of, first_of, can_go_on, is_waiting, must_wait, is_of_consoles}
 use Rattle.one_thread.specs.Roles.{Scene, numbers_in, role_in}
 use Rattle.one_thread.specs.Stages.{place_of, IsOfScene}
 use Rattle.one_thread.specs.Turns.{role_numbers, turn_with, IsKept, HasCallers, HasRuns, Plays, PlaysOn}
@@ -113,21 +113,21 @@ third false true x y z e f = refl
 third false false x y z e f = absurd (false≢true f)
 
 pub by_turn : (s : Scene) (scripts : List Script) (roles : List Role) (v : PortValue) (stand : Stand) (who : Who) → Plays s scripts roles v stand
-    → who ≡ turn_with (role_numbers roles) stand.going (turn_by_rank (call_in v.kept) (role_numbers roles) v.terminal) → who ≡ turn s.port s.session (place_of s v.journal)
+    → who ≡ turn_with (role_numbers roles) stand.going (turn_by_rank (is_of_consoles s.session) (call_in v.kept) (role_numbers roles) v.terminal) → who ≡ turn s.port s.session (place_of s v.journal)
 by_turn s scripts roles v stand who plays is =
     let place = place_of s v.journal in
     let at = place_is s v plays.run in
     let numbers = role_numbers roles in
     let callers : callers_of s.port s.session v.terminal.phase ≡ numbers = sym plays.callers.are_roles.numbers ∙ numbers_same scripts roles in
-    let same : turn_by_rank (call_in v.kept) numbers v.terminal ≡ turn_by_rank (call_at s.port s.session) numbers v.terminal =
-    ap (λ (w : Who). if not (nothing_to_flush v.terminal) then Flusher else w)
+    let same : turn_by_rank (is_of_consoles s.session) (call_in v.kept) numbers v.terminal ≡ turn_by_rank (is_of_consoles s.session) (call_at s.port s.session) numbers v.terminal =
+    ap (λ (w : Who). if not (nothing_to_flush v.terminal) then Flusher else if is_of_consoles s.session && not v.terminal.clock_over then Clock else w)
     (first_same (can_go_on (call_in v.kept) v.terminal) (can_go_on (call_at s.port s.session) v.terminal) numbers
     (if not v.terminal.clock_over then Clock else first_of (is_waiting v.terminal) numbers Session) (λ i lt. can_same s scripts roles v stand plays (slice_index numbers i))) in
-    let there : turn_by_rank (call_at s.port s.session) numbers v.terminal ≡ turn_by_rank (call_at s.port s.session) (callers_of s.port s.session place.terminal.phase) place.terminal =
-    ap (λ (ns : List ℕ). turn_by_rank (call_at s.port s.session) ns v.terminal) (sym callers)
-    ∙ ap (λ (t : Terminal). turn_by_rank (call_at s.port s.session) (callers_of s.port s.session t.phase) t) (sym at) in
-    let ranked : who ≡ turn_after place.before (turn_by_rank (call_at s.port s.session) (callers_of s.port s.session place.terminal.phase) place.terminal) =
-    (is ∙ ap (λ (w : Who). turn_with numbers stand.going w) (same ∙ there)) ∙ sym (plays.settled (turn_by_rank (call_at s.port s.session) (callers_of s.port s.session place.terminal.phase) place.terminal)) in
+    let there : turn_by_rank (is_of_consoles s.session) (call_at s.port s.session) numbers v.terminal ≡ turn_by_rank (is_of_consoles s.session) (call_at s.port s.session) (callers_of s.port s.session place.terminal.phase) place.terminal =
+    ap (λ (ns : List ℕ). turn_by_rank (is_of_consoles s.session) (call_at s.port s.session) ns v.terminal) (sym callers)
+    ∙ ap (λ (t : Terminal). turn_by_rank (is_of_consoles s.session) (call_at s.port s.session) (callers_of s.port s.session t.phase) t) (sym at) in
+    let ranked : who ≡ turn_after place.before (turn_by_rank (is_of_consoles s.session) (call_at s.port s.session) (callers_of s.port s.session place.terminal.phase) place.terminal) =
+    (is ∙ ap (λ (w : Who). turn_with numbers stand.going w) (same ∙ there)) ∙ sym (plays.settled (turn_by_rank (is_of_consoles s.session) (call_at s.port s.session) (callers_of s.port s.session place.terminal.phase) place.terminal)) in
     ranked
     ∙ third (nat_le (length s.session.phases) place.terminal.phase) place.terminal.line_over Session _ _
     (lt-leb (length s.session.phases) place.terminal.phase (subst (λ (t : Terminal). t.phase < length s.session.phases) (sym at) plays.within))
@@ -135,7 +135,7 @@ by_turn s scripts roles v stand who plays is =
 
 pub plays_more : (s : Scene) (scripts : List Script) (roles : List Role) (v w : PortValue) (stand now : Stand) (e : PlainEntry) → Plays s scripts roles v stand → IsMore s v w e
     → IsInPhase s.port s.session v.terminal.phase e.who e.step e.event
-    → e.who ≡ turn_with (role_numbers roles) stand.going (turn_by_rank (call_in v.kept) (role_numbers roles) v.terminal)
+    → e.who ≡ turn_with (role_numbers roles) stand.going (turn_by_rank (is_of_consoles s.session) (call_in v.kept) (role_numbers roles) v.terminal)
     → IsPieceOf s.port s.session (place_of s v.journal) e.part e.event → session_events e.event ≡ []
     → w.terminal.phase ≡ v.terminal.phase → w.terminal.line_over ≡ v.terminal.line_over → w.terminal.sent ≡ v.terminal.sent
     → (w.terminal.clock_over ≡ true → now.ticks ≡ 0) → w.terminal.tick + now.ticks ≡ v.terminal.tick + stand.ticks

@@ -9,7 +9,7 @@ use Rattle.tty_calls.specs.Sessions.{PlainSession, call_at}
 use Rattle.tty_terminal.specs.Terminals.{Terminal, live_count}
 use Rattle.tty_terminal.specs.Receiving.{accepts, after_character, after_characters, AcceptsAll}
 use Rattle.port_core.specs.Ports.{is_stuck}
-use Rattle.one_thread.specs.Order.{Place, cuts_in, accepted_front, front_to_flush, due, turn, turn_after, turn_by_rank, callers_of, IsInTurn}
+use Rattle.one_thread.specs.Order.{Place, cuts_in, accepted_front, front_to_flush, due, turn, turn_after, turn_by_rank, callers_of, IsInTurn, is_of_consoles}
 use Rattle.journal_check.proofs.Truths.{if_false, if_true}
 
 -- ---- what is due
@@ -70,7 +70,7 @@ turn_before : (p : ℕ) (session : PlainSession) (s : Place) → s.terminal.phas
 turn_before p session s within over =
     let inside : nat_le (length session.phases) s.terminal.phase ≡ false = grind (arith, nat_tests) in
     turn_if (nat_le (length session.phases) s.terminal.phase) s.terminal.line_over (length (due p session s) == 0)
-    (turn_after s.before (turn_by_rank (call_at p session) (callers_of p session s.terminal.phase) s.terminal)) inside over
+    (turn_after s.before (turn_by_rank (is_of_consoles session) (call_at p session) (callers_of p session s.terminal.phase) s.terminal)) inside over
 
 on_false : (b : Bool) (A B : Type 0) → b ≡ false → B → MatchBool b A B
 on_false true A B h k = absurd (cc)

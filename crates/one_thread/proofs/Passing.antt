@@ -25,7 +25,7 @@ use Rattle.journal_check.specs.Legal.{first_step}
 use Rattle.port_core.specs.Flips.{shown_count}
 use Rattle.port_core.specs.Flushes.{Takes}
 use Rattle.port_core.specs.Ports.{PlainKept, PortValue, IsPort, call_in, Appends, phase_entry, flush_entry}
-use Rattle.one_thread.specs.Order.{IsPiece, is_most, is_after_flush, can_go_on, is_waiting}
+use Rattle.one_thread.specs.Order.{IsPiece, is_most, is_after_flush, can_go_on, is_waiting, is_of_consoles}
 use Rattle.one_thread.specs.Roles.{Scene, calls_in, role_in, AreRolesOf}
 use Rattle.one_thread.specs.Stages.{place_of, RunsBelow}
 use Rattle.one_thread.specs.Turns.{role_numbers, turn_with, IsTurn, standing_at, standing_at_rest, IsInRole, IsKept, HasCallers, next_run, HasRuns, Plays, PlaysOn}
@@ -115,16 +115,16 @@ marks_at s v w e more = ap (λ (t : Terminal). marks_of t) more.terminal ∙ ste
 settled_callers : (s : Scene) (scripts : List Script) (roles : List Role) (v : PortValue) (stand : Stand) → Plays s scripts roles v stand → stand.going ≡ None → HasCallers s scripts roles v None
 settled_callers s scripts roles v stand plays none = subst (λ (g : Option ℕ). HasCallers s scripts roles v g) none plays.callers
 
-pub clock_turn_of : (v : PortValue) (numbers : List ℕ) (going : Option ℕ) → IsTurn v numbers going turn.Pass → (going ≡ None) × (v.terminal.clock_over ≡ false)
-clock_turn_of v numbers going is = clock_turn numbers going (nothing_to_flush v.terminal) v.terminal.clock_over (can_go_on (call_in v.kept) v.terminal) (is_waiting v.terminal) is.who
+pub clock_turn_of : (clock_first : Bool) (v : PortValue) (numbers : List ℕ) (going : Option ℕ) → IsTurn clock_first v numbers going turn.Pass → (going ≡ None) × (v.terminal.clock_over ≡ false)
+clock_turn_of clock_first v numbers going is = clock_turn numbers going clock_first (nothing_to_flush v.terminal) v.terminal.clock_over (can_go_on (call_in v.kept) v.terminal) (is_waiting v.terminal) is.who
 
-pub clock_over_more : (s : Scene) (scripts : List Script) (roles : List Role) (v w : PortValue) (stand : Stand) → Plays s scripts roles v stand → IsTurn v (role_numbers roles) stand.going turn.Pass → stand.ticks ≡ 0
+pub clock_over_more : (s : Scene) (scripts : List Script) (roles : List Role) (v w : PortValue) (stand : Stand) → Plays s scripts roles v stand → IsTurn (is_of_consoles s.session) v (role_numbers roles) stand.going turn.Pass → stand.ticks ≡ 0
     → Appends v w v.flip (phase_entry v Clock clock_ended) → PlaysOn s scripts roles v w stand (record { run = next_run stand.run stand.part; part = 0; ticks = stand.ticks; going = None })
 clock_over_more s scripts roles v w stand plays is none_left appends =
     let e : PlainEntry = phase_entry v Clock clock_ended in
     let more = more_of s v w v.kept v.flip e plays.of_scene.counts plays.of_scene.known appends refl refl in
     let marks = marks_at s v w e more in
-    let turn = clock_turn_of v (role_numbers roles) stand.going is in
+    let turn = clock_turn_of (is_of_consoles s.session) v (role_numbers roles) stand.going is in
     plays_more s scripts roles v w stand (record { run = next_run stand.run stand.part; part = 0; ticks = stand.ticks; going = None }) e plays more tt is.who tt refl
     (ap (λ (m : Marks). m.phase) marks) (ap (λ (m : Marks). m.line_over) marks) (ap (λ (m : Marks). m.sent) marks) (λ over. none_left)
     (ap (λ (m : Marks). m.tick + stand.ticks) marks)
@@ -132,14 +132,14 @@ clock_over_more s scripts roles v w stand plays is none_left appends =
     (callers_same s scripts roles v w (settled_callers s scripts roles v stand plays turn.0) (ap (λ (m : Marks). m.phase) marks) (ap (λ (x : PortValue). x.kept) appends.appended) (stands_at s v w e more))
     (λ other. refl)
 
-pub tick_more : (s : Scene) (scripts : List Script) (roles : List Role) (v w : PortValue) (stand rested : Stand) → Plays s scripts roles v stand → IsTurn v (role_numbers roles) stand.going turn.Pass → stand.ticks ≢ 0
+pub tick_more : (s : Scene) (scripts : List Script) (roles : List Role) (v w : PortValue) (stand rested : Stand) → Plays s scripts roles v stand → IsTurn (is_of_consoles s.session) v (role_numbers roles) stand.going turn.Pass → stand.ticks ≢ 0
     → Appends v w v.flip (phase_entry v Clock ticked) → rested ≡ record { run = next_run stand.run stand.part; part = 0; ticks = stand.ticks; going = None }
     → PlaysOn s scripts roles v w stand (record { run = rested.run; part = rested.part; ticks = stand.ticks - 1; going = rested.going })
 tick_more s scripts roles v w stand rested plays is some_left appends rest =
     let e : PlainEntry = phase_entry v Clock ticked in
     let more = more_of s v w v.kept v.flip e plays.of_scene.counts plays.of_scene.known appends refl refl in
     let marks = marks_at s v w e more in
-    let turn = clock_turn_of v (role_numbers roles) stand.going is in
+    let turn = clock_turn_of (is_of_consoles s.session) v (role_numbers roles) stand.going is in
     let one_more : w.terminal.tick ≡ v.terminal.tick + 1 = ap (λ (m : Marks). m.tick) marks in
     let same_clock : w.terminal.clock_over ≡ v.terminal.clock_over = ap (λ (m : Marks). m.clock_over) marks in
     subst (λ (r : Stand). PlaysOn s scripts roles v w stand (record { run = r.run; part = r.part; ticks = stand.ticks - 1; going = r.going })) (sym rest)
@@ -175,8 +175,8 @@ runs_flush v w before run part chars runs more latest same =
     after_some : (n : ℕ) → true ≡ not (n + 1 == 0)
     after_some n = grind (arith, nat_tests)
 
-pub flush_turn_of : (v : PortValue) (numbers : List ℕ) (going : Option ℕ) → IsTurn v numbers going turn.Flush → (going ≡ None) × (nothing_to_flush v.terminal ≡ false)
-flush_turn_of v numbers going is = flusher_turn numbers going (nothing_to_flush v.terminal) v.terminal.clock_over (can_go_on (call_in v.kept) v.terminal) (is_waiting v.terminal) is.who
+pub flush_turn_of : (clock_first : Bool) (v : PortValue) (numbers : List ℕ) (going : Option ℕ) → IsTurn clock_first v numbers going turn.Flush → (going ≡ None) × (nothing_to_flush v.terminal ≡ false)
+flush_turn_of clock_first v numbers going is = flusher_turn numbers going clock_first (nothing_to_flush v.terminal) v.terminal.clock_over (can_go_on (call_in v.kept) v.terminal) (is_waiting v.terminal) is.who
 
 most_case : (len taken sent : ℕ) (accepting : Bool) → ((len ≡ 64) ⊎ ((taken + len ≡ sent) ⊎ (accepting ≡ false))) → ((len == 64) || ((taken + len == sent) || not accepting)) ≡ true
 most_case len taken sent accepting h =
@@ -216,13 +216,13 @@ not_twice : (a b : Bool) → a ≡ not b → b ≡ not a
 not_twice a true e = sym (ap (λ (x : Bool). not x) e)
 not_twice a false e = sym (ap (λ (x : Bool). not x) e)
 
-pub flush_more : (s : Scene) (scripts : List Script) (roles : List Role) (v w : PortValue) (stand : Stand) (n : ℕ) → Plays s scripts roles v stand → IsPort v → IsTurn v (role_numbers roles) stand.going turn.Flush
+pub flush_more : (s : Scene) (scripts : List Script) (roles : List Role) (v w : PortValue) (stand : Stand) (n : ℕ) → Plays s scripts roles v stand → IsPort v → IsTurn (is_of_consoles s.session) v (role_numbers roles) stand.going turn.Flush
     → Takes v w stand.run stand.part 64 n → PlaysOn s scripts roles v w stand (record { run = stand.run; part = stand.part + 1; ticks = stand.ticks; going = stand.going })
 flush_more s scripts roles v w stand n plays port is takes =
     let e : PlainEntry = flush_entry v stand.run stand.part takes.chars in
     let more = more_of s v w v.kept w.flip e plays.of_scene.counts plays.of_scene.known takes.appends takes.takes_out.capacity takes.takes_out.ring in
     let marks = marks_at s v w e more in
-    let turn = flush_turn_of v (role_numbers roles) stand.going is in
+    let turn = flush_turn_of (is_of_consoles s.session) v (role_numbers roles) stand.going is in
     let at = place_is s v plays.run in
     let taken = run_in_line (call_at s.port s.session) (counts_on s.port s.session) _ v.journal v.terminal plays.run plays.line in
     let most = most_of v w stand.run stand.part n port plays.line taken takes (ap (λ (t : Terminal). accepts t) more.terminal) in

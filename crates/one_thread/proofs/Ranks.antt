@@ -1,5 +1,5 @@
 -- Whose turn it is, and what that says of the ranks before.
-use Rattle.std.proofs.Common.{◌≡◌, ℕ, zero, suc, ◌+◌, ◌<◌, ◌⊎◌, List, [], ◌∷◌, Bool, true, false, not, Option, None, Some, if◌then◌else◌, length, drop, get_or, refl, sym, ◌∙◌, ap, inl, inr, arith}
+use Rattle.std.proofs.Common.{◌≡◌, ℕ, zero, suc, ◌+◌, ◌<◌, ◌⊎◌, List, [], ◌∷◌, Bool, true, false, not, ◌&&◌, Option, None, Some, if◌then◌else◌, length, drop, get_or, refl, sym, ◌∙◌, ap, inl, inr, arith}
 use Rattle.std.specs.Prelude.{slice_index}
 use Rattle.std.proofs.lemmas.List.{drop_more, get_or-map, length-map}
 use Rattle.tty_calls.specs.declared.journals.Who.{Who}
@@ -71,28 +71,47 @@ first_view : (p : ℕ → Bool) (cs : List ℕ) (other : Who) → FirstView p cs
 first_view p [] other = inl ((λ i lt. absurd (omega arith)), refl)
 first_view p (c ∷ cs) other = view_more p c cs other (p c) refl (first_view p cs other)
 
-abbrev pub rank : (idle over : Bool) → (p q : ℕ → Bool) → List ℕ → Who
-rank idle over p q cs = if not idle then Flusher else first_of p cs (if not over then Clock else first_of q cs Session)
+abbrev pub rank : (clock_first idle over : Bool) → (p q : ℕ → Bool) → List ℕ → Who
+rank clock_first idle over p q cs =
+    if not idle then Flusher else if clock_first && not over then Clock else first_of p cs (if not over then Clock else first_of q cs Session)
+
+-- the clock comes first, and is not over; or it is as if it came behind the callers
+abbrev ClockView : (clock_first over : Bool) → Who → Type 0
+ClockView clock_first over other =
+    ((over ≡ false) × ((if clock_first && not over then Clock else other) ≡ Clock)) ⊎ ((if clock_first && not over then Clock else other) ≡ other)
+
+clock_view : (clock_first over : Bool) (other : Who) → ClockView clock_first over other
+clock_view true true other = inr refl
+clock_view true false other = inl (refl, refl)
+clock_view false over other = inr refl
 
 flusher_last : (q : ℕ → Bool) (cs : List ℕ) (over : Bool) → Flusher ≡ (if not over then Clock else first_of q cs Session) → ⊥
 flusher_last q cs false e = absurd (cc)
 flusher_last q cs true e = elim (first_view q cs Session) [ inl h ↦ (let k = e ∙ h.1 in absurd (cc)) | inr h ↦ (let k = e ∙ h.2 in absurd (cc)) ]
 
-pub flusher_turn : (numbers : List ℕ) (going : Option ℕ) (idle over : Bool) (p q : ℕ → Bool) → Flusher ≡ turn_with numbers going (rank idle over p q numbers) → (going ≡ None) × (idle ≡ false)
-flusher_turn numbers (Some i) idle over p q e = absurd (cc)
-flusher_turn numbers None false over p q e = (refl, refl)
-flusher_turn numbers None true over p q e =
-    elim (first_view p numbers (if not over then Clock else first_of q numbers Session)) [ inl h ↦ absurd (flusher_last q numbers over (e ∙ h.1)) | inr h ↦ (let k = e ∙ h.2 in absurd (cc)) ]
+pub flusher_turn : (numbers : List ℕ) (going : Option ℕ) (clock_first idle over : Bool) (p q : ℕ → Bool) → Flusher ≡ turn_with numbers going (rank clock_first idle over p q numbers) → (going ≡ None) × (idle ≡ false)
+flusher_turn numbers (Some i) clock_first idle over p q e = absurd (cc)
+flusher_turn numbers None clock_first false over p q e = (refl, refl)
+flusher_turn numbers None clock_first true over p q e =
+    let last : Who = if not over then Clock else first_of q numbers Session in
+    elim (clock_view clock_first over (first_of p numbers last)) [
+      | inl clock ↦ (let k = e ∙ clock.1 in absurd (cc))
+      | inr same ↦ elim (first_view p numbers last) [ inl h ↦ absurd (flusher_last q numbers over (e ∙ (same ∙ h.1))) | inr h ↦ (let k = e ∙ (same ∙ h.2) in absurd (cc)) ]
+    ]
 
 clock_last : (q : ℕ → Bool) (cs : List ℕ) (over : Bool) → Clock ≡ (if not over then Clock else first_of q cs Session) → over ≡ false
 clock_last q cs false e = refl
 clock_last q cs true e = elim (first_view q cs Session) [ inl h ↦ (let k = e ∙ h.1 in absurd (cc)) | inr h ↦ (let k = e ∙ h.2 in absurd (cc)) ]
 
-pub clock_turn : (numbers : List ℕ) (going : Option ℕ) (idle over : Bool) (p q : ℕ → Bool) → Clock ≡ turn_with numbers going (rank idle over p q numbers) → (going ≡ None) × (over ≡ false)
-clock_turn numbers (Some i) idle over p q e = absurd (cc)
-clock_turn numbers None false over p q e = absurd (cc)
-clock_turn numbers None true over p q e =
-    elim (first_view p numbers (if not over then Clock else first_of q numbers Session)) [ inl h ↦ (refl, clock_last q numbers over (e ∙ h.1)) | inr h ↦ (let k = e ∙ h.2 in absurd (cc)) ]
+pub clock_turn : (numbers : List ℕ) (going : Option ℕ) (clock_first idle over : Bool) (p q : ℕ → Bool) → Clock ≡ turn_with numbers going (rank clock_first idle over p q numbers) → (going ≡ None) × (over ≡ false)
+clock_turn numbers (Some i) clock_first idle over p q e = absurd (cc)
+clock_turn numbers None clock_first false over p q e = absurd (cc)
+clock_turn numbers None clock_first true over p q e =
+    let last : Who = if not over then Clock else first_of q numbers Session in
+    elim (clock_view clock_first over (first_of p numbers last)) [
+      | inl clock ↦ (refl, clock.0)
+      | inr same ↦ elim (first_view p numbers last) [ inl h ↦ (refl, clock_last q numbers over (e ∙ (same ∙ h.1))) | inr h ↦ (let k = e ∙ (same ∙ h.2) in absurd (cc)) ]
+    ]
 
 -- all is over but callers that wait, of whom one may be asked for
 pub record NothingGoesOn (numbers : List ℕ) (going : Option ℕ) (idle over : Bool) (p : ℕ → Bool) : Type 0 where
@@ -105,16 +124,20 @@ session_last : (q : ℕ → Bool) (cs : List ℕ) (over : Bool) → Session ≡ 
 session_last q cs false e = absurd (cc)
 session_last q cs true e = elim (first_view q cs Session) [ inl h ↦ (refl, h.0) | inr h ↦ (let k = e ∙ h.2 in absurd (cc)) ]
 
-pub session_turn : (numbers : List ℕ) (going : Option ℕ) (idle over : Bool) (p q : ℕ → Bool) → Session ≡ turn_with numbers going (rank idle over p q numbers)
+pub session_turn : (numbers : List ℕ) (going : Option ℕ) (clock_first idle over : Bool) (p q : ℕ → Bool) → Session ≡ turn_with numbers going (rank clock_first idle over p q numbers)
     → NothingGoesOn numbers going idle over p × NoneIs q numbers
-session_turn numbers (Some i) idle over p q e = absurd (cc)
-session_turn numbers None false over p q e = absurd (cc)
-session_turn numbers None true over p q e =
-    elim (first_view p numbers (if not over then Clock else first_of q numbers Session)) [
-      | inl h ↦
-          let last = session_last q numbers over (e ∙ h.1) in
-          (record { settled = refl; idle_is = refl; over_is = last.0; none = h.0 }, last.1)
-      | inr h ↦ (let k = e ∙ h.2 in absurd (cc))
+session_turn numbers (Some i) clock_first idle over p q e = absurd (cc)
+session_turn numbers None clock_first false over p q e = absurd (cc)
+session_turn numbers None clock_first true over p q e =
+    let last : Who = if not over then Clock else first_of q numbers Session in
+    elim (clock_view clock_first over (first_of p numbers last)) [
+      | inl clock ↦ (let k = e ∙ clock.1 in absurd (cc))
+      | inr same ↦ elim (first_view p numbers last) [
+        | inl h ↦
+            let at_end = session_last q numbers over (e ∙ (same ∙ h.1)) in
+            (record { settled = refl; idle_is = refl; over_is = at_end.0; none = h.0 }, at_end.1)
+        | inr h ↦ (let k = e ∙ (same ∙ h.2) in absurd (cc))
+      ]
     ]
 
 same_caller : (c d : ℕ) → Caller c ≡ Caller d → c ≡ d
@@ -132,13 +155,17 @@ caller_last q cs true c e =
       | inr h ↦ (let is = same_caller c h.0 (e ∙ h.2) in (refl, ap (λ (d : ℕ). q d) is ∙ h.1))
     ]
 
-pub caller_turn : (numbers : List ℕ) (going : Option ℕ) (idle over : Bool) (p q : ℕ → Bool) (c : ℕ) → Caller c ≡ turn_with numbers going (rank idle over p q numbers) → CallerView numbers going idle over p q c
-caller_turn numbers (Some i) idle over p q c e = inl (record { place = i; at_place = refl; is = sym (same_caller c _ e) })
-caller_turn numbers None false over p q c e = absurd (cc)
-caller_turn numbers None true over p q c e =
-    elim (first_view p numbers (if not over then Clock else first_of q numbers Session)) [
-      | inl h ↦
-          let last = caller_last q numbers over c (e ∙ h.1) in
-          inr (inr (record { settled = refl; idle_is = refl; over_is = last.0; none = h.0 }, last.1))
-      | inr h ↦ (let is = same_caller c h.0 (e ∙ h.2) in inr (inl (refl, ap (λ (d : ℕ). p d) is ∙ h.1)))
+pub caller_turn : (numbers : List ℕ) (going : Option ℕ) (clock_first idle over : Bool) (p q : ℕ → Bool) (c : ℕ) → Caller c ≡ turn_with numbers going (rank clock_first idle over p q numbers) → CallerView numbers going idle over p q c
+caller_turn numbers (Some i) clock_first idle over p q c e = inl (record { place = i; at_place = refl; is = sym (same_caller c _ e) })
+caller_turn numbers None clock_first false over p q c e = absurd (cc)
+caller_turn numbers None clock_first true over p q c e =
+    let last : Who = if not over then Clock else first_of q numbers Session in
+    elim (clock_view clock_first over (first_of p numbers last)) [
+      | inl clock ↦ (let k = e ∙ clock.1 in absurd (cc))
+      | inr same ↦ elim (first_view p numbers last) [
+        | inl h ↦
+            let in_vain = caller_last q numbers over c (e ∙ (same ∙ h.1)) in
+            inr (inr (record { settled = refl; idle_is = refl; over_is = in_vain.0; none = h.0 }, in_vain.1))
+        | inr h ↦ (let is = same_caller c h.0 (e ∙ (same ∙ h.2)) in inr (inl (refl, ap (λ (d : ℕ). p d) is ∙ h.1)))
+      ]
     ]

@@ -11,6 +11,7 @@ use Rattle.tty_terminal.specs.declared.callers.CallerState.{CallerState}
 use Rattle.tty_terminal.specs.Terminals.{caller_at, has_begun}
 use Rattle.port_core.specs.Attempts.{PlainTried, IsReady, Attempts}
 use Rattle.port_core.specs.Ports.{PortValue, Appends, end_entry}
+use Rattle.one_thread.specs.Order.{is_of_consoles}
 use Rattle.one_thread.specs.Roles.{Scene, calls_in}
 use Rattle.one_thread.specs.Turns.{role_numbers, IsTurn, standing_at, IsNextCall, next_run, Plays, PlaysOn, going_after}
 use Rattle.one_thread.specs.declared.roles.Role.{Role}
@@ -70,7 +71,7 @@ ready_for s scripts roles v stand place r call h =
       generation = λ none some. may.generation (ap (λ (o : Option ℕ). is_some o) none) some;
     }
 
-calls_of_next : (s : Scene) (scripts : List Script) (roles : List Role) (v : PortValue) (stand : Stand) (place : ℕ) (call : PlainCall) → Plays s scripts roles v stand → IsTurn v (role_numbers roles) stand.going (turn.Call place)
+calls_of_next : (s : Scene) (scripts : List Script) (roles : List Role) (v : PortValue) (stand : Stand) (place : ℕ) (call : PlainCall) → Plays s scripts roles v stand → IsTurn (is_of_consoles s.session) v (role_numbers roles) stand.going (turn.Call place)
     → (n : IsNextCall scripts roles v place call) → Calls s scripts roles v stand place n.role call
 calls_of_next s scripts roles v stand place call plays is n = record { turns = record { plays = plays; is = n.at_place; turn_is = is }; next = n.next }
 
@@ -83,7 +84,7 @@ number_known s scripts roles v stand place call d plays n =
     subst (λ (r : Role). r.number < sum v.counts) (got_role scripts roles v place call d n) (role_known s scripts roles v stand place n.role plays n.at_place)
 
 pub ready_at : (s : Scene) (scripts : List Script) (roles : List Role) (v : PortValue) (stand : Stand) (place : ℕ) (call : PlainCall) (d : Role) (state : CallerState) → Plays s scripts roles v stand
-    → IsTurn v (role_numbers roles) stand.going (turn.Call place) → IsNextCall scripts roles v place call → state ≡ caller_at v.terminal (get_or roles place d).number
+    → IsTurn (is_of_consoles s.session) v (role_numbers roles) stand.going (turn.Call place) → IsNextCall scripts roles v place call → state ≡ caller_at v.terminal (get_or roles place d).number
     → IsReady v (get_or roles place d).number state.next call
 ready_at s scripts roles v stand place call d state plays is n at =
     subst (λ (x : CallerState). IsReady v (get_or roles place d).number x.next call) (sym at)
@@ -91,7 +92,7 @@ ready_at s scripts roles v stand place call d state plays is n at =
     (ready_for s scripts roles v stand place n.role call (calls_of_next s scripts roles v stand place call plays is n)))
 
 pub tried_at : (s : Scene) (scripts : List Script) (roles : List Role) (v w : PortValue) (stand rested : Stand) (place : ℕ) (call : PlainCall) (d : Role) (state : CallerState) (tried : PlainTried) (going : Option ℕ) → Plays s scripts roles v stand
-    → IsTurn v (role_numbers roles) stand.going (turn.Call place) → IsNextCall scripts roles v place call → state ≡ caller_at v.terminal (get_or roles place d).number
+    → IsTurn (is_of_consoles s.session) v (role_numbers roles) stand.going (turn.Call place) → IsNextCall scripts roles v place call → state ≡ caller_at v.terminal (get_or roles place d).number
     → Attempts v w (get_or roles place d).number state.next call tried → rested ≡ record { run = next_run stand.run stand.part; part = 0; ticks = stand.ticks; going = None } → going ≡ going_after place tried
     → PlaysOn s scripts roles v w stand (record { run = rested.run; part = rested.part; ticks = rested.ticks; going = going })
 tried_at s scripts roles v w stand rested place call d state tried going plays is n at attempts rest goes =
@@ -104,7 +105,7 @@ tried_at s scripts roles v w stand rested place call d state tried going plays i
 
 -- ---- the caller at a place
 
-pub turns_at : (s : Scene) (scripts : List Script) (roles : List Role) (v : PortValue) (stand : Stand) (place : ℕ) (d : Role) → Plays s scripts roles v stand → IsTurn v (role_numbers roles) stand.going (turn.Call place)
+pub turns_at : (s : Scene) (scripts : List Script) (roles : List Role) (v : PortValue) (stand : Stand) (place : ℕ) (d : Role) → Plays s scripts roles v stand → IsTurn (is_of_consoles s.session) v (role_numbers roles) stand.going (turn.Call place)
     → Turns s scripts roles v stand place (get_or roles place d)
 turns_at s scripts roles v stand place d plays is =
     let within = is.within in

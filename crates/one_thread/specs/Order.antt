@@ -72,11 +72,17 @@ abbrev pub due : ℕ → PlainSession → Place → List Flagged
 due p session s = front_to_flush s.terminal (slice_index_or (cuts_in p session s.terminal.phase) s.cuts [])
 
 -- After the line's end: a flush, else the first caller that can go on, else the clock, else the first caller that
--- waits, which is told that it waits in vain, else the end of the phase.
-abbrev pub turn_by_rank : (ℕ → ℕ → Option PlainCall) → List ℕ → Terminal → Who
-turn_by_rank calls callers t =
+-- waits, which is told that it waits in vain, else the end of the phase. Where the clock is first it comes before the
+-- callers.
+abbrev pub turn_by_rank : (clock_first : Bool) → (ℕ → ℕ → Option PlainCall) → List ℕ → Terminal → Who
+turn_by_rank clock_first calls callers t =
     if not (nothing_to_flush t) then Flusher
+    else if clock_first && not t.clock_over then Clock
     else first_of (can_go_on calls t) callers (if not t.clock_over then Clock else first_of (is_waiting t) callers Session)
+
+-- consoles have no clocks: there the clock ends with the line. Their sessions have no version
+abbrev pub is_of_consoles : PlainSession → Bool
+is_of_consoles session = session.version == 0
 
 -- a call of which a part was taken goes on
 abbrev pub turn_after_event : PlainEvent → Who → Who → Who
@@ -100,7 +106,7 @@ abbrev pub turn : ℕ → PlainSession → Place → Who
 turn p session s =
     if nat_le (length session.phases) s.terminal.phase then Session
     else if not s.terminal.line_over then (if length (due p session s) == 0 then Line else Flusher)
-    else turn_after s.before (turn_by_rank (call_at p session) (callers_of p session s.terminal.phase) s.terminal)
+    else turn_after s.before (turn_by_rank (is_of_consoles session) (call_at p session) (callers_of p session s.terminal.phase) s.terminal)
 
 -- ---- how much a flush takes
 

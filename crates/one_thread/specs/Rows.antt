@@ -40,6 +40,10 @@ early_clock =
     ∷ whole Session 0 0 phase_ended
     ∷ []
 
+-- the same where the ports are consoles
+abbrev pub three_bytes_consoles : PlainSession
+three_bytes_consoles = record three_bytes_session { version = 0 }
+
 -- ---- two callers read where nothing comes, and the clock has a tick
 
 abbrev pub waiters_session : PlainSession

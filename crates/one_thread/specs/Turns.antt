@@ -52,8 +52,8 @@ IsTurnWithin turn.Pass n = Unit {0}
 IsTurnWithin turn.End n = Unit {0}
 
 -- a turn by the calls that the port keeps, where the call of the caller at a place may go on
-pub record IsTurn (v : PortValue) (numbers : List ℕ) (going : Option ℕ) (next : Turn) : Type 0 where
-  pub who : who_of numbers next ≡ turn_with numbers going (turn_by_rank (call_in v.kept) numbers v.terminal)
+pub record IsTurn (clock_first : Bool) (v : PortValue) (numbers : List ℕ) (going : Option ℕ) (next : Turn) : Type 0 where
+  pub who : who_of numbers next ≡ turn_with numbers going (turn_by_rank clock_first (call_in v.kept) numbers v.terminal)
   pub within : IsTurnWithin next (length numbers)
 
 -- ---- where callers stand

@@ -7,7 +7,7 @@ ghost use Rattle.tty_terminal.specs.Steps.{after};
 ghost use Rattle.port_core.specs.Attempts.{tried_of};
 ghost use Rattle.port_core.specs.Ports.{call_in, Denies, IsOpen};
 ghost use Rattle.journal_check.specs.Legal.{phase_at};
-ghost use Rattle.one_thread.specs.Order.{can_go_on, is_waiting};
+ghost use Rattle.one_thread.specs.Order.{can_go_on, is_of_consoles, is_waiting};
 ghost use Rattle.one_thread.specs.Roles.{Scene, calls_in, role_in, AreRolesOf};
 ghost use Rattle.one_thread.specs.Stages.{IsAfterLine, EndsAfterLine, StopsAfterLine};
 ghost use Rattle.one_thread.specs.Turns.{role_numbers, IsFirst, IsTurn, IsNextCall, Plays, PlaysOn, next_run, going_after};
@@ -77,16 +77,19 @@ fn first_to_wait(port: &Port, roles: &[Role]) -> Option<usize>
 
 /// Whose turn it is.
 #[inline(always)]
-fn turn_of(port: &Port, roles: &[Role], going: Option<usize>) -> Turn
+fn turn_of(port: &Port, roles: &[Role], going: Option<usize>, clock_first: bool) -> Turn
     requires known { All (λ r. r.number < sum port.now.counts) roles.now }
     requires place { (i : ℕ) → going ≡ Some i → i < length roles.now }
-    ensures { IsTurn port.now (role_numbers roles.now) going result }
+    ensures { IsTurn clock_first port.now (role_numbers roles.now) going result }
 {
     if let Some(place) = going {
         return Turn::Call(place);
     }
     if !port.has_nothing_to_flush() {
         return Turn::Flush;
+    }
+    if clock_first && !port.clock_is_over() {
+        return Turn::Pass;
     }
     if let Some(place) = first_to_go_on(port, roles) {
         return Turn::Call(place);
@@ -131,7 +134,7 @@ fn rest(stand: Stand) -> Stand
 fn flush(port: &mut Port, roles: &[Role], scripts: &[Script], stand: Stand) -> Result<Stand, Denied>
     ghost scene: { Scene }
     requires plays { Plays scene scripts.now roles.now port.old stand }
-    requires turn { IsTurn port.old (role_numbers roles.now) stand.going turn.Flush }
+    requires turn { IsTurn (is_of_consoles scene.session) port.old (role_numbers roles.now) stand.going turn.Flush }
     ensures open { OnOk result (IsOpen port.old) }
     ensures ok { IfOk result (λ now. PlaysOn scene scripts.now roles.now port.old port.new stand now) }
     ensures err { IfErr result (λ d. Denies d port.old port.new) }
@@ -150,7 +153,7 @@ fn flush(port: &mut Port, roles: &[Role], scripts: &[Script], stand: Stand) -> R
 fn pass(port: &mut Port, roles: &[Role], scripts: &[Script], stand: Stand) -> Result<Stand, Denied>
     ghost scene: { Scene }
     requires plays { Plays scene scripts.now roles.now port.old stand }
-    requires turn { IsTurn port.old (role_numbers roles.now) stand.going turn.Pass }
+    requires turn { IsTurn (is_of_consoles scene.session) port.old (role_numbers roles.now) stand.going turn.Pass }
     ensures open { OnOk result (IsOpen port.old) }
     ensures ok { IfOk result (λ now. PlaysOn scene scripts.now roles.now port.old port.new stand now) }
     ensures err { IfErr result (λ d. Denies d port.old port.new) }
@@ -188,7 +191,7 @@ fn try_call(
 ) -> Result<Stand, Denied>
     ghost scene: { Scene }
     requires plays { Plays scene scripts.now roles.now port.old stand }
-    requires turn { IsTurn port.old (role_numbers roles.now) stand.going (turn.Call place) }
+    requires turn { IsTurn (is_of_consoles scene.session) port.old (role_numbers roles.now) stand.going (turn.Call place) }
     requires call { IsNextCall scripts.now roles.now port.old place (call_of call.now) }
     ensures open { OnOk result (IsOpen port.old) }
     ensures ok { IfOk result (λ now. PlaysOn scene scripts.now roles.now port.old port.new stand now) }
@@ -213,7 +216,7 @@ fn go_on(
 ) -> Result<Stand, Denied>
     ghost scene: { Scene }
     requires plays { Plays scene scripts.now roles.now port.old stand }
-    requires turn { IsTurn port.old (role_numbers roles.now) stand.going (turn.Call place) }
+    requires turn { IsTurn (is_of_consoles scene.session) port.old (role_numbers roles.now) stand.going (turn.Call place) }
     ensures open { OnOk result (IsOpen port.old) }
     ensures ok { IfOk result (λ now. PlaysOn scene scripts.now roles.now port.old port.new stand now) }
     ensures err { IfErr result (λ d. Denies d port.old port.new) }
@@ -239,7 +242,7 @@ fn play_turn(
 ) -> Result<Stand, Denied>
     ghost scene: { Scene }
     requires plays { Plays scene scripts.now roles.now port.old stand }
-    requires turn { IsTurn port.old (role_numbers roles.now) stand.going next }
+    requires turn { IsTurn (is_of_consoles scene.session) port.old (role_numbers roles.now) stand.going next }
     requires goes_on { next ≢ turn.End }
     ensures open { OnOk result (IsOpen port.old) }
     ensures ok { IfOk result (λ now. PlaysOn scene scripts.now roles.now port.old port.new stand now) }
@@ -253,7 +256,8 @@ fn play_turn(
     }
 }
 
-/// What comes after the line of a phase. It gives the number of the next flush run.
+/// What comes after the line of a phase, with the clock before the callers or behind them. It gives the number of the
+/// next flush run.
 pub(crate) fn play_after_line(
     port: &mut Port,
     putter: &mut FlipIn,
@@ -261,12 +265,14 @@ pub(crate) fn play_after_line(
     scripts: &[Script],
     ticks: u32,
     run: u32,
+    clock_first: bool,
 ) -> Result<u32, Denied>
     ghost scene: { Scene }
     requires after { IsAfterLine scene port.old run }
     requires roles { AreRolesOf scene port.old.terminal.phase (map (role_in scripts.now) roles.now) }
     requires ticks { ticks ≡ ticks_on scene.port (phase_at scene.session port.old.terminal.phase) }
     requires ring { putter.old.ring ≡ port.old.flip.ring }
+    requires first { clock_first ≡ is_of_consoles scene.session }
     ensures ok { IfOk result (λ next. EndsAfterLine scene port.old port.new putter.old putter.new next) }
     ensures err { IfErr result (λ d. StopsAfterLine scene port.old port.new d) }
     ensures putter { OnErr result (putter.new ≡ putter.old) }
@@ -278,10 +284,10 @@ pub(crate) fn play_after_line(
         ticks,
         going: None,
     };
-    let mut next = turn_of(port, roles, stand.going);
+    let mut next = turn_of(port, roles, stand.going, clock_first);
     while !matches!(next, Turn::End) {
         stand = play_turn(port, roles, scripts, next, stand)?;
-        next = turn_of(port, roles, stand.going);
+        next = turn_of(port, roles, stand.going, clock_first);
     }
     port.phase_end(putter)?;
     Ok(rest(stand).run)

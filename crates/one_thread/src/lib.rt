@@ -14,6 +14,6 @@ pub use playing::{Played, play};
 pub use ports::{JOURNAL_LIMIT, hang_up, open_port, stop};
 pub use roles::{Role, counts_of, move_on, roles_of};
 pub use rows::{
-    moved_three_bytes_are_not_in_order, moved_waiters_are_not_in_order, three_bytes_are_in_order,
-    waiters_are_told_in_order,
+    a_console_ends_its_clock_first, moved_three_bytes_are_not_in_order,
+    moved_waiters_are_not_in_order, three_bytes_are_in_order, waiters_are_told_in_order,
 };

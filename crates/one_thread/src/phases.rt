@@ -5,6 +5,7 @@ ghost use Rattle.tty_base.specs.Lines.{is_step};
 ghost use Rattle.tty_calls.specs.Limits.{IsWithinLimits};
 ghost use Rattle.tty_calls.specs.Sessions.{session_of, line_on, ticks_on};
 ghost use Rattle.journal_check.specs.Legal.{phase_at};
+ghost use Rattle.one_thread.specs.Order.{is_of_consoles};
 ghost use Rattle.one_thread.specs.Roles.{Scene, scene_of, names_in, role_in, AreRolesOf};
 ghost use Rattle.one_thread.specs.Casting.{scripts_at};
 ghost use Rattle.one_thread.specs.Lines.{IsAtPhase};
@@ -68,6 +69,7 @@ fn play_parts(
     steps: &LineSteps,
     ticks: u32,
     run: u32,
+    clock_first: bool,
 ) -> Result<u32, Denied>
     ghost scene: { Scene }
     requires within { station.old.port.terminal.phase < length scene.session.phases }
@@ -77,6 +79,7 @@ fn play_parts(
     requires good { All (λ step. IsTrue (is_step step)) steps.now.items }
     requires roles { AreRolesOf scene station.old.port.terminal.phase (map (role_in scripts.now) roles.now) }
     requires ticks { ticks ≡ ticks_on scene.port (phase_at scene.session station.old.port.terminal.phase) }
+    requires first { clock_first ≡ is_of_consoles scene.session }
     ensures at_phase { IfOk result (λ next. IsAtPhase scene (station.old.port.terminal.phase + 1) station.new.port station.new.putter station.new.line next) }
     ensures played { OnOk result (HavePlayedInOrder scene (station.old.port.terminal.phase + 1) station.new.port.journal station.new.line.report.overruns.items) }
     ensures steps { station.new.steps ≡ station.old.steps }
@@ -96,6 +99,7 @@ fn play_parts(
         scripts,
         ticks,
         next,
+        clock_first,
     )
 }
 
@@ -131,6 +135,7 @@ pub(crate) fn play_phase(
         steps_of(session, number, k),
         ticks_of(session, number, k),
         run,
+        session.version == 0,
     )?;
     move_on(roles.as_slice(), scripts, station.steps.as_mut_slice());
     Ok(next)

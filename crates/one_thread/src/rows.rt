@@ -3,7 +3,7 @@
 ghost use Rattle.std.specs.Prelude.{[]};
 ghost use Rattle.tty_terminal.specs.Rows.{three_bytes};
 ghost use Rattle.one_thread.specs.Order.{IsInOneOrder};
-ghost use Rattle.one_thread.specs.Rows.{three_bytes_session, late_flush, early_clock, waiters_session, waiters, last_waiter_first, both_told, early_tick};
+ghost use Rattle.one_thread.specs.Rows.{three_bytes_session, three_bytes_consoles, late_flush, early_clock, waiters_session, waiters, last_waiter_first, both_told, early_tick};
 
 /// A law: three bytes come, are flushed at the end of the line's window, and are read once the line is
 /// over.
@@ -16,6 +16,12 @@ pub fn three_bytes_are_in_order()
 pub fn moved_three_bytes_are_not_in_order()
     ensures late_flush { IsInOneOrder 0 three_bytes_session late_flush [] → ⊥ }
     ensures early_clock { IsInOneOrder 0 three_bytes_session early_clock [] → ⊥ }
+{}
+
+/// A law: on a console the clock ends before a caller that can go on.
+pub fn a_console_ends_its_clock_first()
+    ensures early_clock { IsInOneOrder 0 three_bytes_consoles early_clock [] }
+    ensures late_clock { IsInOneOrder 0 three_bytes_consoles three_bytes [] → ⊥ }
 {}
 
 /// A law: callers that wait in vain are told so from the first on, once the clock is over, and each is

@@ -35,6 +35,7 @@ phase_names past xs ys future same =
 pub shape_stays : (p k : ℕ) (session later : PlainSession) (name : List ℕ) → AddsCall p k session later name → HasShape p session later
 shape_stays p k session later name h =
     record {
+      consoles = h.consoles;
       flip = h.flip;
       lines = h.lines;
       names =

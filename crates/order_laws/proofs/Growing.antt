@@ -17,7 +17,7 @@ use Rattle.tty_terminal.proofs.StandingLaws.{step_stands, leads_stands}
 use Rattle.journal_check.specs.Legal.{IsInPhase, AreInPhases, IsCallerOf, IsCallOf, is_caller_end, first_step, steps_in, flip_on}
 use Rattle.journal_check.proofs.PhaseLemmas.{phase-after}
 use Rattle.journal_check.proofs.Truths.{if_true}
-use Rattle.one_thread.specs.Order.{Place, first_place, next_place, AreInTurn, IsInTurn, IsPieceOf, is_most, is_after_flush, front_to_flush, due, turn, turn_after, turn_by_rank, callers_of, cuts_in, cuts_flushed, first_of, can_go_on, is_waiting, must_wait}
+use Rattle.one_thread.specs.Order.{Place, first_place, next_place, AreInTurn, IsInTurn, IsPieceOf, is_most, is_after_flush, front_to_flush, due, turn, turn_after, turn_by_rank, is_of_consoles, callers_of, cuts_in, cuts_flushed, first_of, can_go_on, is_waiting, must_wait}
 use Rattle.one_thread.proofs.Places.{phase_from, leads_phase}
 use Rattle.one_thread.proofs.Ranks.{first_same}
 use Rattle.order_laws.specs.Growth.{HasShape, Grew, KeepsEnded}
@@ -44,13 +44,15 @@ can_same p session later t c pair knows =
     ap (λ (o : Option PlainCall). is_wait (outcome_of t (caller_at t c) o)) (known.1 ∙ sym (pair.calls c (caller_at t c).next known.0 known.1)))
 
 rank_same : (p : ℕ) (session later : PlainSession) (t : Terminal) → Pair p session later → KnowsAll (call_at p session) t
-    → turn_by_rank (call_at p session) (callers_of p session t.phase) t ≡ turn_by_rank (call_at p later) (callers_of p later t.phase) t
+    → turn_by_rank (is_of_consoles session) (call_at p session) (callers_of p session t.phase) t
+    ≡ turn_by_rank (is_of_consoles later) (call_at p later) (callers_of p later t.phase) t
 rank_same p session later t pair knows =
     let callers = callers_of p session t.phase in
-    ap (λ (who : Who). if not (nothing_to_flush t) then Flusher else who)
+    ap (λ (who : Who). if not (nothing_to_flush t) then Flusher else if is_of_consoles session && not t.clock_over then Clock else who)
     (first_same (can_go_on (call_at p session) t) (can_go_on (call_at p later) t) callers (if not t.clock_over then Clock else first_of (is_waiting t) callers Session)
     (λ i lt. can_same p session later t (slice_index callers i) pair knows))
-    ∙ ap (λ (cs : List ℕ). turn_by_rank (call_at p later) cs t) (sym (callers_same p session later t.phase pair.shape))
+    ∙ (ap (λ (cs : List ℕ). turn_by_rank (is_of_consoles session) (call_at p later) cs t) (sym (callers_same p session later t.phase pair.shape))
+    ∙ ap (λ (first : Bool). turn_by_rank first (call_at p later) (callers_of p later t.phase) t) (sym pair.shape.consoles))
 
 due_same : (p : ℕ) (session later : PlainSession) (s : Place) → HasShape p session later → due p session s ≡ due p later s
 due_same p session later s shape =

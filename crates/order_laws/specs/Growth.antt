@@ -5,13 +5,16 @@ use Rattle.tty_calls.specs.Sessions.{PlainScript, PlainPhase, PlainSession, line
 use Rattle.tty_terminal.specs.Terminals.{Terminal, caller_at}
 use Rattle.tty_terminal.specs.Runs.{Grows}
 use Rattle.journal_check.specs.Legal.{first_step, steps_in, flip_on}
+use Rattle.one_thread.specs.Order.{is_of_consoles}
 
 -- the names of a port's callers in a phase, in the text's order
 abbrev pub names_in : ℕ → PlainPhase → List (List ℕ)
 names_in p phase = map (λ s. s.name) (scripts_on p phase)
 
--- on a port, the same flip buffer, and in each phase the same line and the same callers
+-- on a port, the same flip buffer, and in each phase the same line and the same callers; and both are of consoles, or
+-- neither
 pub record HasShape (p : ℕ) (session later : PlainSession) : Type 0 where
+  pub consoles : is_of_consoles later ≡ is_of_consoles session
   pub flip : flip_on p later ≡ flip_on p session
   pub lines : map (line_on p) later.phases ≡ map (line_on p) session.phases
   pub names : map (names_in p) later.phases ≡ map (names_in p) session.phases
@@ -39,6 +42,7 @@ joined phases = flat_map (λ scripts. scripts) phases
 
 -- On a port, the later session has one call more: in phase k, of the caller of this name, which has no call behind it.
 pub record AddsCall (p k : ℕ) (session later : PlainSession) (name : List ℕ) : Type 0 where
+  pub consoles : is_of_consoles later ≡ is_of_consoles session
   pub flip : flip_on p later ≡ flip_on p session
   pub lines : map (line_on p) later.phases ≡ map (line_on p) session.phases
   pub past : List (List PlainScript)

@@ -1,14 +1,15 @@
 use Rattle.std.proofs.Common.{sym, subst}
+use Rattle.one_thread.specs.Order.{is_of_consoles}
 use Rattle.one_thread.specs.Turns.{role_numbers, PlaysOn}
 use Rattle.one_thread.specs.declared.after_line.Stand.{Stand}
 use Rattle.one_thread.proofs.Passing.{clock_turn_of, clock_over_more, tick_more}
 use Rattle.one_thread.proofs.after_line.pass.Goals as goal
 
 pub clock_end-requires : goal.clock_end-requires
-clock_end-requires g c = (clock_turn_of c.args.port.now (role_numbers c.args.roles.now) c.args.stand.going c.requires.1).1
+clock_end-requires g c = (clock_turn_of (is_of_consoles g.scene.session) c.args.port.now (role_numbers c.args.roles.now) c.args.stand.going c.requires.1).1
 
 pub tick-requires : goal.tick-requires
-tick-requires g c = (clock_turn_of c.args.port.now (role_numbers c.args.roles.now) c.args.stand.going c.requires.1).1
+tick-requires g c = (clock_turn_of (is_of_consoles g.scene.session) c.args.port.now (role_numbers c.args.roles.now) c.args.stand.going c.requires.1).1
 
 pub returns-then-stand-eq0-clause-ok : goal.returns-then-stand-eq0-clause-ok
 returns-then-stand-eq0-clause-ok g c =

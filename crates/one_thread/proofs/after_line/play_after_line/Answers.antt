@@ -1,6 +1,7 @@
-use Rattle.std.proofs.Common.{◌∙◌, sym, subst}
+use Rattle.std.proofs.Common.{Bool, None, ◌∙◌, sym, subst}
 use Rattle.std.proofs.lemmas.Bool.{false≢true}
 use Rattle.std.proofs.lemmas.Result.{err_from_is_err_and}
+use Rattle.one_thread.specs.Order.{is_of_consoles}
 use Rattle.one_thread.specs.Turns.{role_numbers, IsTurn}
 use Rattle.one_thread.specs.declared.after_line.Turn.{Turn}
 use Rattle.one_thread.specs.declared.after_line.Turn.TheVariants as turn
@@ -17,7 +18,7 @@ pub loop-next-init : goal.loop-next-init
 loop-next-init g c =
     record {
       playing = begins g.scene c.args.scripts.now c.args.roles.now c.args.port.now c.args.ticks c.args.run c.requires.0 c.requires.1.0 c.journal-journal.ensures.port;
-      turn = c.turn_of-next.ensures;
+      turn = subst (λ (b : Bool). IsTurn b c.args.port.now (role_numbers c.args.roles.now) None c.turn_of-next.result) c.requires.1.1.1.1 c.turn_of-next.ensures;
     }
 
 pub returns-in_err-stand-clause-err : goal.returns-in_err-stand-clause-err
@@ -38,18 +39,18 @@ loop-next-preserved g c =
     record {
       playing =
           goes_on_playing g.scene c.args.scripts.now c.args.roles.now c.args.port.now c.loop-next.port c.play_turn.new.port c.args.ticks c.loop-next.stand c.in_ok-stand.stand c.loop-next.invariant.playing c.in_ok-stand.ensures.ok;
-      turn = c.turn_of-next-in-loop-next.ensures;
+      turn = subst (λ (b : Bool). IsTurn b c.play_turn.new.port (role_numbers c.args.roles.now) c.in_ok-stand.stand.going c.turn_of-next-in-loop-next.result) c.requires.1.1.1.1 c.turn_of-next-in-loop-next.ensures;
     }
 
 pub phase_end-requires-clause-may : goal.phase_end-requires-clause-may
 phase_end-requires-clause-may g c =
     let playing = c.loop-next.invariant.playing in
-    let at_end : IsTurn c.loop-next.port (role_numbers c.args.roles.now) c.loop-next.stand.going turn.End =
+    let at_end : IsTurn (is_of_consoles g.scene.session) c.loop-next.port (role_numbers c.args.roles.now) c.loop-next.stand.going turn.End =
     elim c.match-matches.branch [
-      | in-End w ↦ subst (λ (n : Turn). IsTurn c.loop-next.port (role_numbers c.args.roles.now) c.loop-next.stand.going n) w.in-End.is c.loop-next.invariant.turn
+      | in-End w ↦ subst (λ (n : Turn). IsTurn (is_of_consoles g.scene.session) c.loop-next.port (role_numbers c.args.roles.now) c.loop-next.stand.going n) w.in-End.is c.loop-next.invariant.turn
       | in_default w ↦ absurd (false≢true (sym w.matches-is ∙ c.if-not-matches.false))
     ] in
-    may_end_of g.scene c.args.scripts.now c.args.roles.now c.loop-next.port c.loop-next.stand playing.plays (nothing_left c.loop-next.port c.args.roles.now c.loop-next.stand.going at_end)
+    may_end_of g.scene c.args.scripts.now c.args.roles.now c.loop-next.port c.loop-next.stand playing.plays (nothing_left (is_of_consoles g.scene.session) c.loop-next.port c.args.roles.now c.loop-next.stand.going at_end)
 
 pub returns-in_err-phase_end-clause-err : goal.returns-in_err-phase_end-clause-err
 returns-in_err-phase_end-clause-err g c =
@@ -60,9 +61,9 @@ returns-in_err-phase_end-clause-err g c =
 pub returns-clause-ok : goal.returns-clause-ok
 returns-clause-ok g c =
     let playing = c.loop-next.invariant.playing in
-    let at_end : IsTurn c.loop-next.port (role_numbers c.args.roles.now) c.loop-next.stand.going turn.End =
+    let at_end : IsTurn (is_of_consoles g.scene.session) c.loop-next.port (role_numbers c.args.roles.now) c.loop-next.stand.going turn.End =
     elim c.match-matches.branch [
-      | in-End w ↦ subst (λ (n : Turn). IsTurn c.loop-next.port (role_numbers c.args.roles.now) c.loop-next.stand.going n) w.in-End.is c.loop-next.invariant.turn
+      | in-End w ↦ subst (λ (n : Turn). IsTurn (is_of_consoles g.scene.session) c.loop-next.port (role_numbers c.args.roles.now) c.loop-next.stand.going n) w.in-End.is c.loop-next.invariant.turn
       | in_default w ↦ absurd (false≢true (sym w.matches-is ∙ c.if-not-matches.false))
     ] in
     ends_of g.scene c.args.scripts.now c.args.roles.now c.args.port.now c.loop-next.port c.phase_end.new.self c.args.putter.now c.phase_end.new.putter c.args.ticks c.loop-next.stand c.rest.result playing at_end c.in_ok-phase_end.ensures.ok

@@ -1,4 +1,5 @@
 use Rattle.std.proofs.Common.{◌-◌, length}
+use Rattle.one_thread.specs.Order.{is_of_consoles}
 use Rattle.one_thread.specs.Turns.{role_numbers, IsTurn}
 use Rattle.one_thread.proofs.AfterLine.{Playing}
 use Rattle.one_thread.proofs.after_line.play_after_line.Given as goal
@@ -10,7 +11,7 @@ abbrev pub invariant-loop-next : goal.invariant-loop-next
 invariant-loop-next g l =
     record {
       playing : Playing g.scene l.scripts l.roles l.fn.port l.port l.ticks l.stand;
-      turn : IsTurn l.port (role_numbers l.roles) l.stand.going l.next;
+      turn : IsTurn (is_of_consoles g.scene.session) l.port (role_numbers l.roles) l.stand.going l.next;
     }
 
 abbrev pub decreases-loop-next : goal.decreases-loop-next
