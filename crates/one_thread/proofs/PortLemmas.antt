@@ -254,14 +254,23 @@ hung_played s v flip putter now w line run end at_end port same hang left =
 
 pub hung_in_order : (s : Scene) (v : PortValue) (flip : TakerState Flagged) (now : PutterState Flagged) (w : PortValue) (line : LineState) (run : PortRun) (end : PortEnd)
     → IsOfScene s v → IsPort v → v.terminal.phase ≡ length s.session.phases → HaveSeenAll s v.journal line.report.overruns.items → HangsUp (record v { flip = flip }) w now → IsLeftOf w line run end → IsRunInOrder s.port s.session run
-hung_in_order s v flip now w line run end of_scene port past see_all hang left other =
+hung_in_order s v flip now w line run end of_scene port past see_all hang left =
     let e : PlainEntry = hangup_entry (record v { flip = flip }) hang.dropped in
     let entries : run.journal.items ≡ v.journal ++ e ∷ [] = left.journal ∙ ap (λ (x : PortValue). x.journal) hang.appends.appended in
     let overruns : run.line.overruns.items ≡ line.report.overruns.items = ap (λ (r : LineReport). r.overruns.items) left.report in
+    let turns : AreInTurn s.port s.session (first_place s.port s.session) run.journal.items =
+    subst (λ (es : List PlainEntry). AreInTurn s.port s.session (first_place s.port s.session) es) (sym entries) (hangup_in_turn s v e hang.dropped of_scene port past refl refl) in
     record {
-      turns = subst (λ (es : List PlainEntry). AreInTurn s.port s.session (first_place s.port s.session) es) (sym entries) (hangup_in_turn s v e hang.dropped of_scene port past refl refl);
-      seen = subst (λ (es : List PlainEntry). AllSeeAll s.port s.session es run.line.overruns.items) (sym entries) (subst (λ (os : List Overrun). AllSeeAll s.port s.session (v.journal ++ e ∷ []) os) (sym overruns) (see_all (e ∷ [])));
+      turns = turns;
+      whole = λ other. record { turns = turns; seen = subst (λ (es : List PlainEntry). AllSeeAll s.port s.session es run.line.overruns.items) (sym entries) (subst (λ (os : List Overrun). AllSeeAll s.port s.session (v.journal ++ e ∷ []) os) (sym overruns) (see_all (e ∷ []))) };
     }
+
+-- a port whose journal is full kept the order as far as it went
+pub full_in_order : (s : Scene) (v : PortValue) (run : PortRun) → IsOfScene s v → run.journal.items ≡ v.journal → length v.journal ≡ 4194304 → IsRunInOrder s.port s.session run
+full_in_order s v run of_scene is full = record {
+  turns = subst (λ (es : List PlainEntry). AreInTurn s.port s.session (first_place s.port s.session) es) (sym is) of_scene.turns;
+  whole = λ other. absurd (other (told_full run v.journal is full));
+}
 
 -- ---- the beginning
 

@@ -6,7 +6,7 @@ use Rattle.tty_calls.specs.Sessions.{PlainSession}
 use Rattle.tty_terminal.specs.Terminals.{Terminal}
 use Rattle.journal_check.specs.Legal.{IsLegal}
 use Rattle.journal_check.specs.Short.{IsCutShort}
-use Rattle.one_thread.specs.Order.{IsInOneOrder}
+use Rattle.one_thread.specs.Order.{first_place, AreInTurn, IsInOneOrder}
 
 -- what a report prints of the end of a port that has come to this terminal
 pub record IsEndOf (t : Terminal) (end : PortEnd) : Type 0 where
@@ -30,9 +30,10 @@ pub record ArePlayed (session : PlainSession) (runs : List PortRun) (ends : List
   pub ends_of_all : length ends ≡ session.ports
   pub each : (p : ℕ) (run : PortRun) (end : PortEnd) → slice_get runs p ≡ Some run → slice_get ends p ≡ Some end → IsPlayedOn p session run end
 
--- a run is in the order of one thread, unless its journal is full
-abbrev pub IsRunInOrder : ℕ → PlainSession → PortRun → Type 0
-IsRunInOrder p session run = length run.journal.items ≢ 4194304 → IsInOneOrder p session run.journal.items run.line.overruns.items
+-- a run is in the order of one thread, where its journal is full as far as it went
+pub record IsRunInOrder (p : ℕ) (session : PlainSession) (run : PortRun) : Type 0 where
+  pub turns : AreInTurn p session (first_place p session) run.journal.items
+  pub whole : length run.journal.items ≢ 4194304 → IsInOneOrder p session run.journal.items run.line.overruns.items
 
 abbrev pub AreInOneOrder : PlainSession → List PortRun → Type 0
 AreInOneOrder session runs = (p : ℕ) (run : PortRun) → slice_get runs p ≡ Some run → IsRunInOrder p session run

@@ -5,7 +5,7 @@ use Rattle.port_core.specs.Ports.{PortValue, Denies}
 use Rattle.port_core.specs.Phases.{HangsUp}
 use Rattle.port_core.specs.Flips.{after_meeting}
 use Rattle.one_thread.specs.Phases.{IsLeftOf}
-use Rattle.one_thread.proofs.PortLemmas.{full_played, full_at_end, told_full, hung_played, hung_in_order}
+use Rattle.one_thread.proofs.PortLemmas.{full_played, full_at_end, full_in_order, hung_played, hung_in_order}
 use Rattle.one_thread.proofs.ports.hang_up.Goals as goal
 
 pub returns-in-Ok-clause-played : goal.returns-in-Ok-clause-played
@@ -32,8 +32,8 @@ returns-in-Err-Full-clause-played c s at_end =
     (subst (λ (x : PortValue). IsLeftOf x c.args.line c.left_of-in-Err-Full.result.0 c.left_of-in-Err-Full.result.1) (denied.1 ∙ c.meet.ensures.port) c.left_of-in-Err-Full.ensures)
 
 pub returns-in-Err-Full-clause-in_order : goal.returns-in-Err-Full-clause-in_order
-returns-in-Err-Full-clause-in_order c s of_scene past see_all other =
+returns-in-Err-Full-clause-in_order c s of_scene past see_all =
     let v = c.args.port in
     let denied : Denies Full c.meet.new.self c.last_hangup.new.self = subst (λ (d : Denied). Denies d c.meet.new.self c.last_hangup.new.self) c.in-Err-Full.field-0-is c.in-Err-Full.ensures.err in
     let full : length v.journal ≡ v.limit = subst (λ (x : PortValue). length x.journal ≡ x.limit) c.meet.ensures.port denied.0 in
-    absurd (other (told_full c.left_of-in-Err-Full.result.0 v.journal (c.left_of-in-Err-Full.ensures.journal ∙ ap (λ (x : PortValue). x.journal) (denied.1 ∙ c.meet.ensures.port)) (full ∙ of_scene.limit)))
+    full_in_order s v c.left_of-in-Err-Full.result.0 of_scene (c.left_of-in-Err-Full.ensures.journal ∙ ap (λ (x : PortValue). x.journal) (denied.1 ∙ c.meet.ensures.port)) (full ∙ of_scene.limit)

@@ -3,7 +3,7 @@ use Rattle.tty_calls.specs.declared.answers.Denied.{Denied}
 use Rattle.tty_calls.specs.declared.answers.Denied.TheVariants.{Full}
 use Rattle.one_thread.specs.Roles.{scene_of}
 use Rattle.one_thread.specs.Phases.{IsStopped}
-use Rattle.one_thread.proofs.PortLemmas.{phases_over, at_end_of, port_of_scene, told_full}
+use Rattle.one_thread.proofs.PortLemmas.{phases_over, at_end_of, port_of_scene, full_in_order}
 use Rattle.one_thread.proofs.ports.play_port.Goals as goal
 
 pub hang_up-requires-clause-after : goal.hang_up-requires-clause-after
@@ -35,5 +35,5 @@ returns-in-Err-Full c =
     let full : IsStopped Full s station = subst (λ (d : Denied). IsStopped d s station) c.in-Err-Full.field-0-is c.in-Err-Full.ensures.err in
     record {
       played = c.stop.ensures.played s (port_of_scene s station.port full.0) full.1;
-      in_order = λ other. absurd (other (told_full c.stop.result.0 station.port.journal c.stop.ensures.journal full.1.full));
+      in_order = full_in_order s station.port c.stop.result.0 full.0 c.stop.ensures.journal full.1.full;
     }
