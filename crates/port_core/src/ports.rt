@@ -13,10 +13,12 @@ use crate::asked::AskedCalls;
 use crate::entries::reserve_entry;
 use crate::waiting::WaitingCall;
 use flip_buffer::FlipOut;
+use handle_table::HandleState;
 use std::alloc::Global;
 use std::marker::Model;
-use tty_base::{Moves, NoMemory};
+use tty_base::{Moves, NoMemory, Signal};
 use tty_calls::{Denied, Entry, Event, Journal, PortEnd, Who};
+use tty_modes::Modes;
 use tty_terminal::{CallerState, Piece, Terminal};
 
 /// A port. Contracts see it as the record `PortValue`.
@@ -66,7 +68,7 @@ fn slots_for(alloc: Global, count: usize) -> Result<Vec<Option<WaitingCall>>, No
 }
 
 impl Port {
-    ghost use Rattle.tty_terminal.specs.Terminals.{opening, caller_at, has_begun};
+    ghost use Rattle.tty_terminal.specs.Terminals.{opening, caller_at, handle_at, has_begun};
     ghost use Rattle.tty_terminal.specs.Steps.{may_end, quiet, callers_in, nothing_to_flush};
     ghost use Rattle.tty_terminal.specs.Runs.{IsRun, Grows, AgreesOn};
     ghost use Rattle.tty_terminal.specs.Standing.{standing_of, standing_in, at_first};
@@ -277,6 +279,34 @@ impl Port {
         ensures { result.now ≡ self.now.terminal.output.wire }
     {
         self.terminal.wire()
+    }
+
+    /// How the handle of a number stands, if it is in use.
+    pub fn handle(&self, h: u8) -> Option<HandleState>
+        ensures { result ≡ handle_at self.now.terminal h }
+    {
+        self.terminal.handle(h)
+    }
+
+    /// Whether the port may not be opened again (EXCL).
+    pub fn is_exclusive(&self) -> bool
+        ensures { result ≡ self.now.terminal.exclusive }
+    {
+        self.terminal.is_exclusive()
+    }
+
+    /// The modes in force.
+    pub fn modes(&self) -> Modes
+        ensures { result ≡ self.now.terminal.modes }
+    {
+        self.terminal.modes()
+    }
+
+    /// The signals so far.
+    pub fn signals(&self) -> &[Signal]
+        ensures { result.now ≡ self.now.terminal.tally.signals.items }
+    {
+        self.terminal.signals()
     }
 
     // ---- laws of every port

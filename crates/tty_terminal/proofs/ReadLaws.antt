@@ -13,7 +13,7 @@ use Rattle.ldisc_switch.specs.declared.discipline.Disc.TheVariants as disc
 use Rattle.tty_terminal.specs.declared.callers.CallerState.{CallerState}
 use Rattle.tty_terminal.specs.declared.terminals.Terminal.TheInside.{Inside}
 use Rattle.tty_terminal.specs.Inside.{terminal_of, value_of}
-use Rattle.tty_terminal.specs.Terminals.{Terminal, caller_at}
+use Rattle.tty_terminal.specs.Terminals.{Terminal}
 use Rattle.tty_terminal.specs.Meeting.{InRoom}
 use Rattle.tty_terminal.specs.Outcomes.{Outcome, waits, gives, refuses, may_read}
 use Rattle.tty_terminal.specs.Transfers.{since_or, read_outcome, reading_outcome}
@@ -52,14 +52,13 @@ unready_read t s n handle tty may live is unready =
     ∙ (ap (read_outcome t s handle.nonblock n) is ∙ through (is_readable t.modes handle.nonblock n (since_or s.waits t.tick) t.tick tty) _ _ unready))
 
 -- the same of a terminal with its room, by what its fields told
-pub told_unready : (a : Inside) (v : InRoom) (caller n : ℕ) (asked : Option HandleState) (handle : HandleState) (tty : NTtyState) (state : CallerState) (since : ℕ) (may ready : Bool)
+pub told_unready : (a : Inside) (v : InRoom) (s : CallerState) (n : ℕ) (asked : Option HandleState) (handle : HandleState) (tty : NTtyState) (since : ℕ) (may ready : Bool)
     → value_of a ≡ v → asked ≡ Some handle → may ≡ may_read handle.access → may ≡ true → not handle.live ≡ false → a.disc ≡ disc.Tty tty
-    → state ≡ caller_at (terminal_of a) caller → since ≡ unwrap_or state.waits a.tick → ready ≡ is_readable a.modes handle.nonblock n since a.tick tty → ready ≡ false
-    → reading_outcome v.terminal (caller_at v.terminal caller) n asked ≡ (if handle.nonblock then refuses EAGAIN v.terminal else waits)
-told_unready a v caller n asked handle tty state since may ready view some access may_be live is at began asks none =
+    → since ≡ unwrap_or s.waits a.tick → ready ≡ is_readable a.modes handle.nonblock n since a.tick tty → ready ≡ false
+    → reading_outcome v.terminal s n asked ≡ (if handle.nonblock then refuses EAGAIN v.terminal else waits)
+told_unready a v s n asked handle tty since may ready view some access may_be live is began asks none =
     let t = terminal_of a in
-    let s = caller_at t caller in
-    let from : since ≡ since_or s.waits a.tick = began ∙ (since_is state.waits a.tick ∙ ap (λ (k : CallerState). since_or k.waits a.tick) at) in
+    let from : since ≡ since_or s.waits a.tick = began ∙ since_is s.waits a.tick in
     let unready : is_readable a.modes handle.nonblock n (since_or s.waits a.tick) a.tick tty ≡ false = ap (λ (w : ℕ). is_readable a.modes handle.nonblock n w a.tick tty) (sym from) ∙ (sym asks ∙ none) in
-    subst (λ (u : InRoom). reading_outcome u.terminal (caller_at u.terminal caller) n asked ≡ (if handle.nonblock then refuses EAGAIN u.terminal else waits)) view
+    subst (λ (u : InRoom). reading_outcome u.terminal s n asked ≡ (if handle.nonblock then refuses EAGAIN u.terminal else waits)) view
     (ap (λ (h : Option HandleState). reading_outcome t s n h) some ∙ unready_read t s n handle tty (sym access ∙ may_be) live is unready)

@@ -5,6 +5,7 @@ pub mod Generations
 pub mod Happened
 pub mod Heard
 pub mod Inside
+pub mod Kept
 pub mod Makers
 pub mod Marks
 pub mod Meeting

@@ -1,5 +1,5 @@
 -- What the code answers of an outcome, and the room that it needs.
-use Rattle.std.specs.Prelude.{◌≡◌, ◌<◌, ◌≤◌, ◌==◌, ◌+◌, ◌*◌, ◌^◌, ℕ, List, [], Option, None, Some, Bool, true, false, nat_lt, if◌then◌else◌, length, option_map}
+use Rattle.std.specs.Prelude.{◌≡◌, ◌<◌, ◌≤◌, ◌==◌, ◌+◌, ◌-◌, ◌*◌, ◌^◌, min, ℕ, List, [], Option, None, Some, Bool, true, false, nat_lt, if◌then◌else◌, length, option_map}
 use Rattle.tty_base.specs.Contents.{Contents}
 use Rattle.tty_base.specs.declared.counters.Counts.{Counts}
 use Rattle.tty_calls.specs.Plain.{PlainCall, opens, closes, reads, writes, gets_modes, sets_modes, gets_disc, sets_disc, flushes, steers, counts_input, counts_output, excludes, admits, drains, gets_counts, hangs_up, sends_packet, takes_packet, handle_of, answer_of}
@@ -19,7 +19,8 @@ use Rattle.tty_terminal.specs.declared.rooms.Room.{Room}
 use Rattle.tty_terminal.specs.declared.rooms.Room.TheVariants as room
 use Rattle.tty_terminal.specs.declared.rooms.Met.{Met}
 use Rattle.tty_terminal.specs.declared.rooms.Met.TheVariants as met
-use Rattle.tty_terminal.specs.Terminals.{Terminal, handle_at, caller_at}
+use Rattle.tty_terminal.specs.declared.callers.CallerState.{CallerState}
+use Rattle.tty_terminal.specs.Terminals.{Terminal, handle_at}
 use Rattle.tty_terminal.specs.Outcomes.{Outcome, unknown, waits, takes, gives}
 use Rattle.tty_terminal.specs.Opening.{is_last_live}
 use Rattle.tty_terminal.specs.Switching.{number_of}
@@ -259,12 +260,15 @@ pub record IsRoomFor (t : Terminal) (call : PlainCall) (made : Room) : Type 0 wh
   pub counts : counts_in made ≡ counts_for t call
   pub packet : packet_in made ≡ spelled_packet call
 
--- what a call of a caller needs: a known caller, a handle's number in the table, a length of 32 bits, what was made
+-- what a write has taken, with the 64 bytes that it can take at once, is a number of 32 bits
+abbrev pub IsCounted : CallerState → PlainCall → Type 0
+IsCounted s call = s.taken + min 64 (byte_count call - s.taken) < 2 ^ 32
+
+-- what a call needs, where its caller stands so: a handle's number in the table, bytes that it can count, what was made
 -- for it, and room for whatever it may send
-pub record CanAct (v : InRoom) (c : ℕ) (call : PlainCall) (made : Room) : Type 0 where
-  pub known : c < length v.terminal.callers
+pub record CanAct (v : InRoom) (s : CallerState) (call : PlainCall) (made : Room) : Type 0 where
   pub number : handle_of call < 32
-  pub bytes : byte_count call < 2 ^ 32
+  pub bytes : IsCounted s call
   pub few : v.terminal.generation < 2 ^ 31
   pub room : IsRoomFor v.terminal call made
   pub wire : ROOM_FOR_CALL ≤ v.wire_room
@@ -272,9 +276,9 @@ pub record CanAct (v : InRoom) (c : ℕ) (call : PlainCall) (made : Room) : Type
 
 -- a call met its outcome, without the rule for ixoff after it; and how much room on the wire, and how many columns,
 -- it took
-pub record Acts (old new : InRoom) (c : ℕ) (call : PlainCall) (result : Met) : Type 0 where
-  pub met : Meets (outcome old.terminal (caller_at old.terminal c) call) result
-  pub left : new.terminal ≡ left_before_rule (outcome old.terminal (caller_at old.terminal c) call) old.terminal
+pub record Acts (old new : InRoom) (s : CallerState) (call : PlainCall) (result : Met) : Type 0 where
+  pub met : Meets (outcome old.terminal s call) result
+  pub left : new.terminal ≡ left_before_rule (outcome old.terminal s call) old.terminal
   pub wire : old.wire_room ≤ new.wire_room + 4096
   pub column : column_in new.terminal.disc ≤ column_in old.terminal.disc + 4096
 

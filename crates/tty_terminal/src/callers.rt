@@ -95,23 +95,30 @@ impl Callers {
     }
 
     /// Where a caller stands.
-    pub(crate) fn get(&self, caller: u16) -> CallerState
+    pub(crate) fn get(&self, caller: usize) -> CallerState
         requires { caller < length self.now }
         ensures { result ≡ slice_index_or self.now caller idle_caller }
     {
-        self.states[caller as usize]
+        self.states[caller]
     }
 
     /// A caller stands elsewhere.
-    pub(crate) fn set(&mut self, caller: u16, state: CallerState)
+    pub(crate) fn set(&mut self, caller: usize, state: CallerState)
         requires { caller < length self.old }
         ensures { self.new ≡ slice_set self.old caller state }
     {
-        let old = self.states[caller as usize];
+        let old = self.states[caller];
         self.over = self.over - usize::from(old.over) + usize::from(state.over);
         self.resting = self.resting - usize::from(rests(&old)) + usize::from(rests(&state));
         self.begun = self.begun - usize::from(began(&old)) + usize::from(began(&state));
-        self.states[caller as usize] = state;
+        self.states[caller] = state;
+    }
+
+    /// How many callers there are.
+    pub(crate) fn count(&self) -> usize
+        ensures { result ≡ length self.now }
+    {
+        self.states.len()
     }
 
     /// How many callers' calls of the phase are over.

@@ -8,6 +8,7 @@ ghost use Rattle.ldisc_switch.specs.declared.kinds.Kind.{Kind};
 
 mod acting;
 mod asking;
+mod lasting;
 
 use crate::callers::{Bound, CallerState, Callers, IDLE, Piece};
 use crate::rooms::{Met, ROOM_FOR_CALL, Room};
@@ -64,7 +65,7 @@ impl Terminal {
     ghost use Rattle.tty_terminal.specs.Calls.{outcome};
     ghost use Rattle.tty_terminal.specs.Steps.{left_by, nothing_to_flush, quiet_with, may_end_with, after_answer, after_wait, after_part, after_caller_end, bound_at, next_phase, with_dropped};
     ghost use Rattle.tty_calls.specs.Limits.{byte_count};
-    ghost use Rattle.tty_terminal.specs.Meeting.{Meets, IsRoomFor, room_for_characters};
+    ghost use Rattle.tty_terminal.specs.Meeting.{Meets, IsRoomFor, IsCounted, room_for_characters};
 
     /// A closed terminal for so many callers, on a port whose flip buffer holds so many characters.
     pub fn new(alloc: Global, callers: usize, capacity: u32) -> Result<Terminal, NoMemory>
@@ -167,7 +168,7 @@ impl Terminal {
     /// Makes a call of a caller, as far as it changes the terminal beside that caller's own state: it
     /// is answered, takes a part, or must wait. The rule for ixoff follows an answer.
     #[inline(always)]
-    pub fn meet(&mut self, caller: u16, call: &Call, mut room: Room) -> Met
+    pub fn meet(&mut self, caller: u16, call: &Call, room: Room) -> Met
         requires known { caller < length self.old.terminal.callers }
         requires number { handle_of (call_of call.now) < 32 }
         requires bytes { byte_count (call_of call.now) < 2 ^ 32 }
@@ -179,7 +180,24 @@ impl Terminal {
         ensures left { self.new.terminal ≡ left_by (outcome self.old.terminal (caller_at self.old.terminal caller) (call_of call.now)) self.old.terminal }
         ensures column { column_in self.new.terminal.disc ≤ column_in self.old.terminal.disc + 4096 }
     {
-        let met = self.act(caller, call, &mut room);
+        let state = self.callers.get(caller as usize);
+        self.meet_from(&state, call, room)
+    }
+
+    /// Likewise a call whose caller stands so, wherever that is kept.
+    #[inline(always)]
+    pub fn meet_from(&mut self, state: &CallerState, call: &Call, mut room: Room) -> Met
+        requires number { handle_of (call_of call.now) < 32 }
+        requires bytes { IsCounted state.now (call_of call.now) }
+        requires few { self.old.terminal.generation < 2 ^ 31 }
+        requires room { IsRoomFor self.old.terminal (call_of call.now) room }
+        requires wire { ROOM_FOR_CALL ≤ self.old.wire_room }
+        requires column { column_in self.old.terminal.disc < 2 ^ 62 }
+        ensures met { Meets (outcome self.old.terminal state.now (call_of call.now)) result }
+        ensures left { self.new.terminal ≡ left_by (outcome self.old.terminal state.now (call_of call.now)) self.old.terminal }
+        ensures column { column_in self.new.terminal.disc ≤ column_in self.old.terminal.disc + 4096 }
+    {
+        let met = self.act(state, call, &mut room);
         if let Met::Gives(_) = &met {
             self.apply_ixoff_rule();
         }
@@ -200,9 +218,9 @@ impl Terminal {
         requires few { (caller_at self.old.terminal caller).next < 2 ^ 31 }
         ensures { self.new ≡ record self.old { terminal = after_answer self.old.terminal caller } }
     {
-        let state = self.callers.get(caller);
+        let state = self.callers.get(caller as usize);
         self.callers.set(
-            caller,
+            caller as usize,
             CallerState {
                 next: state.next + 1,
                 over: state.over,
@@ -212,8 +230,7 @@ impl Terminal {
     }
 
     /// The handle that a call of the caller keeps from its first wait or part on.
-    fn bound_at(&self, state: &CallerState, h: u8) -> Option<Bound>
-        requires { h < 32 }
+    pub fn bound_at(&self, state: &CallerState, h: u8) -> Option<Bound>
         ensures { result ≡ bound_at self.now.terminal state.now.bound h }
     {
         match state.bound {
@@ -231,11 +248,11 @@ impl Terminal {
         requires number { h < 32 }
         ensures { self.new ≡ record self.old { terminal = after_wait self.old.terminal caller h } }
     {
-        let state = self.callers.get(caller);
+        let state = self.callers.get(caller as usize);
         let bound = self.bound_at(&state, h);
         let waits = Some(self.tick);
         self.callers.set(
-            caller,
+            caller as usize,
             CallerState {
                 waits,
                 bound,
@@ -253,7 +270,7 @@ impl Terminal {
         requires bytes { (caller_at self.old.terminal caller).taken + count < 2 ^ 32 }
         ensures { self.new ≡ record self.old { terminal = after_part self.old.terminal caller h count } }
     {
-        let state = self.callers.get(caller);
+        let state = self.callers.get(caller as usize);
         let bound = self.bound_at(&state, h);
         let generation = if state.parts == 0 {
             self.generation
@@ -261,7 +278,7 @@ impl Terminal {
             state.generation
         };
         self.callers.set(
-            caller,
+            caller as usize,
             CallerState {
                 waits: None,
                 parts: state.parts + 1,
@@ -278,9 +295,9 @@ impl Terminal {
         requires { caller < length self.old.terminal.callers }
         ensures { self.new ≡ record self.old { terminal = after_caller_end self.old.terminal caller } }
     {
-        let state = self.callers.get(caller);
+        let state = self.callers.get(caller as usize);
         self.callers.set(
-            caller,
+            caller as usize,
             CallerState {
                 over: true,
                 ..state
@@ -373,7 +390,7 @@ impl Terminal {
         requires { caller < length self.now.terminal.callers }
         ensures { result ≡ caller_at self.now.terminal caller }
     {
-        self.callers.get(caller)
+        self.callers.get(caller as usize)
     }
 
     /// Whether a handle is live.

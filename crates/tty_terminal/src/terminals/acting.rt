@@ -1,6 +1,6 @@
 //! What each call does.
 
-ghost use Rattle.std.specs.Prelude.{◌≡◌, ℕ, List, [], ◌∷◌, Option, Some, None, Bool, true, false, ◌==◌, ◌+◌, ◌-◌, ◌≤◌, ◌<◌, ◌^◌, length, drop, option_map, box_value, if◌then◌else◌};
+ghost use Rattle.std.specs.Prelude.{◌≡◌, ℕ, List, [], ◌∷◌, Option, Some, None, Bool, true, false, ◌==◌, ◌+◌, ◌-◌, ◌≤◌, ◌<◌, ◌^◌, min, length, drop, option_map, box_value, if◌then◌else◌};
 ghost use Rattle.tty_calls.specs.Plain.{call_of, answer_of, counts_are};
 ghost use Rattle.tty_modes.specs.Word.{after_words};
 ghost use Rattle.flow_control.specs.Output.{on_wire};
@@ -57,7 +57,7 @@ fn modes_after(modes: &Modes, words: &[Word]) -> Modes
 }
 
 impl Terminal {
-    ghost use Rattle.tty_terminal.specs.Terminals.{handle_at, handle_for, caller_at};
+    ghost use Rattle.tty_terminal.specs.Terminals.{handle_at, handle_for};
     ghost use Rattle.tty_terminal.specs.Outcomes.{refuses, does, tells, on_live, on_access, may_read, may_write};
     ghost use Rattle.tty_terminal.specs.Opening.{opening_outcome, closing_outcome};
     ghost use Rattle.tty_terminal.specs.Transfers.{reading_outcome, writing_outcome, write_outcome};
@@ -67,12 +67,11 @@ impl Terminal {
     ghost use Rattle.tty_terminal.specs.Packets.{sending_outcome, taking_outcome};
     ghost use Rattle.tty_terminal.specs.Meeting.{Meets, left_before_rule, read_room, packet_room, close_kind, CanAct, Acts, group_of};
 
-    /// The handle that a call of the caller goes by.
-    pub(super) fn handle_for(&self, caller: u16, h: u8) -> Option<HandleState>
-        requires { caller < length self.now.terminal.callers }
-        ensures { result ≡ handle_for self.now.terminal (caller_at self.now.terminal caller) h }
+    /// The handle that a call goes by where its caller stands so.
+    pub(super) fn handle_for(&self, state: &CallerState, h: u8) -> Option<HandleState>
+        ensures { result ≡ handle_for self.now.terminal state.now h }
     {
-        match self.callers.get(caller).bound {
+        match state.bound {
             Some(bound) => bound.handle,
             None => self.handles.state(h),
         }
@@ -119,12 +118,17 @@ impl Terminal {
         Met::Gives(Answer::Done)
     }
 
-    fn read(&mut self, caller: u16, handle: Option<HandleState>, n: u32, mut room: Bytes) -> Met
-        requires known { caller < length self.old.terminal.callers }
+    fn read(
+        &mut self,
+        state: &CallerState,
+        handle: Option<HandleState>,
+        n: u32,
+        mut room: Bytes,
+    ) -> Met
         requires empty { room.items ≡ [] }
         requires fits { read_room self.old.terminal n self.old.terminal.disc ≤ room.spare }
-        ensures met { Meets (reading_outcome self.old.terminal (caller_at self.old.terminal caller) n handle) result }
-        ensures left { self.new.terminal ≡ left_before_rule (reading_outcome self.old.terminal (caller_at self.old.terminal caller) n handle) self.old.terminal }
+        ensures met { Meets (reading_outcome self.old.terminal state.now n handle) result }
+        ensures left { self.new.terminal ≡ left_before_rule (reading_outcome self.old.terminal state.now n handle) self.old.terminal }
         ensures wire { self.new.wire_room ≡ self.old.wire_room }
         ensures column { column_in self.new.terminal.disc ≡ column_in self.old.terminal.disc }
     {
@@ -137,7 +141,7 @@ impl Terminal {
         if !handle.live {
             return Met::Gives(Answer::Got(room.into_vec()));
         }
-        let since = self.callers.get(caller).waits.unwrap_or(self.tick);
+        let since = state.waits.unwrap_or(self.tick);
         match &mut self.disc {
             Disc::Slip(_) => refuse(Errno::EIO),
             Disc::Tty(tty) => {
@@ -154,35 +158,33 @@ impl Terminal {
     }
 
     #[inline(always)]
-    fn write(&mut self, caller: u16, handle: Option<HandleState>, bytes: &[u8]) -> Met
-        requires known { caller < length self.old.terminal.callers }
-        requires short { length bytes.now < 2 ^ 32 }
+    fn write(&mut self, state: &CallerState, handle: Option<HandleState>, bytes: &[u8]) -> Met
+        requires short { state.now.taken + min 64 (length bytes.now - state.now.taken) < 2 ^ 32 }
         requires wire { 512 ≤ self.old.wire_room }
         requires column { column_in self.old.terminal.disc < 2 ^ 62 }
-        ensures met { Meets (writing_outcome self.old.terminal (caller_at self.old.terminal caller) bytes.now handle) result }
-        ensures left { self.new.terminal ≡ left_before_rule (writing_outcome self.old.terminal (caller_at self.old.terminal caller) bytes.now handle) self.old.terminal }
+        ensures met { Meets (writing_outcome self.old.terminal state.now bytes.now handle) result }
+        ensures left { self.new.terminal ≡ left_before_rule (writing_outcome self.old.terminal state.now bytes.now handle) self.old.terminal }
         ensures wire { self.old.wire_room ≤ self.new.wire_room + 512 }
         ensures column { column_in self.new.terminal.disc ≤ column_in self.old.terminal.disc + 4096 }
     {
-        let state = self.callers.get(caller);
         let Some(handle) = handle else {
-            return refuse_write(&state, Errno::EBADF);
+            return refuse_write(state, Errno::EBADF);
         };
         if !may_write(handle.access) {
-            return refuse_write(&state, Errno::EBADF);
+            return refuse_write(state, Errno::EBADF);
         }
         if !handle.live {
-            return refuse_write(&state, Errno::EIO);
+            return refuse_write(state, Errno::EIO);
         }
-        if self.is_outlived(&state) {
+        if self.is_outlived(state) {
             return Met::Gives(Answer::Count(state.taken));
         }
-        self.write_rest(&state, handle.nonblock, rest_of(bytes, state.taken))
+        self.write_rest(state, handle.nonblock, rest_of(bytes, state.taken))
     }
 
     /// Writes the bytes that are left of a write that nothing refuses, as far as they fit.
     fn write_rest(&mut self, state: &CallerState, nonblock: bool, rest: &[u8]) -> Met
-        requires short { state.now.taken + length rest.now < 2 ^ 32 }
+        requires short { state.now.taken + min 64 (length rest.now) < 2 ^ 32 }
         requires wire { 512 ≤ self.old.wire_room }
         requires column { column_in self.old.terminal.disc < 2 ^ 62 }
         ensures met { Meets (write_outcome self.old.terminal state.now nonblock rest.now self.old.terminal.disc) result }
@@ -482,13 +484,13 @@ impl Terminal {
         }
     }
 
-    /// Makes a call of a caller, without the rule for ixoff after it. The nineteen calls are four groups, each
-    /// in a function of its own that hands the others on: a proof of one function with all of them is too
-    /// long, and a read or a write need not make room for what the rare calls keep.
+    /// Makes a call where its caller stands so, without the rule for ixoff after it. The nineteen calls are four
+    /// groups, each in a function of its own that hands the others on: a proof of one function with all of them is
+    /// too long, and a read or a write need not make room for what the rare calls keep.
     #[inline(always)]
-    pub(super) fn act(&mut self, caller: u16, call: &Call, room: &mut Room) -> Met
-        requires { CanAct self.old caller (call_of call.now) room.old }
-        ensures { Acts self.old self.new caller (call_of call.now) result }
+    pub(super) fn act(&mut self, state: &CallerState, call: &Call, room: &mut Room) -> Met
+        requires { CanAct self.old state.now (call_of call.now) room.old }
+        ensures { Acts self.old self.new state.now (call_of call.now) result }
     {
         match call {
             Call::Open {
@@ -498,105 +500,105 @@ impl Terminal {
             } => { self.open(*h, *access, *nonblock) }
             Call::Close { h } => { self.close(*h, room) }
             Call::Read { h, n } => {
-                let handle = self.handle_for(caller, *h);
-                self.read(caller, handle, *n, room.take_bytes())
+                let handle = self.handle_for(state, *h);
+                self.read(state, handle, *n, room.take_bytes())
             }
             Call::Write { h, bytes } => {
-                let handle = self.handle_for(caller, *h);
-                self.write(caller, handle, bytes)
+                let handle = self.handle_for(state, *h);
+                self.write(state, handle, bytes)
             }
-            _ => self.act_on_modes(caller, call, room),
+            _ => self.act_on_modes(state, call, room),
         }
     }
 
     /// The calls on modes and disciplines.
     #[inline(never)]
-    fn act_on_modes(&mut self, caller: u16, call: &Call, room: &mut Room) -> Met
-        requires can { CanAct self.old caller (call_of call.now) room.old }
+    fn act_on_modes(&mut self, state: &CallerState, call: &Call, room: &mut Room) -> Met
+        requires can { CanAct self.old state.now (call_of call.now) room.old }
         requires group { 1 ≤ group_of (call_of call.now) }
-        ensures { Acts self.old self.new caller (call_of call.now) result }
+        ensures { Acts self.old self.new state.now (call_of call.now) result }
     {
         match call {
             Call::GetModes { h } => {
-                let handle = self.handle_for(caller, *h);
+                let handle = self.handle_for(state, *h);
                 self.tell(handle, Answer::ModesAre(self.modes))
             }
             Call::SetModes { h, when, words } => {
-                let handle = self.handle_for(caller, *h);
+                let handle = self.handle_for(state, *h);
                 self.set_modes(handle, *when, words)
             }
             Call::GetDisc { h } => {
-                let handle = self.handle_for(caller, *h);
+                let handle = self.handle_for(state, *h);
                 self.tell(handle, Answer::Number(self.disc_number()))
             }
             Call::SetDisc { h, number } => {
-                let handle = self.handle_for(caller, *h);
+                let handle = self.handle_for(state, *h);
                 self.set_disc(handle, *number, room)
             }
-            _ => self.act_on_output(caller, call, room),
+            _ => self.act_on_output(state, call, room),
         }
     }
 
     /// The calls on held output, and on who may open.
-    fn act_on_output(&mut self, caller: u16, call: &Call, room: &mut Room) -> Met
-        requires can { CanAct self.old caller (call_of call.now) room.old }
+    fn act_on_output(&mut self, state: &CallerState, call: &Call, room: &mut Room) -> Met
+        requires can { CanAct self.old state.now (call_of call.now) room.old }
         requires group { 2 ≤ group_of (call_of call.now) }
-        ensures { Acts self.old self.new caller (call_of call.now) result }
+        ensures { Acts self.old self.new state.now (call_of call.now) result }
     {
         match call {
             Call::Flush { h, queue } => {
-                let handle = self.handle_for(caller, *h);
+                let handle = self.handle_for(state, *h);
                 self.flush(handle, *queue)
             }
             Call::Xonc { h, act } => {
-                let handle = self.handle_for(caller, *h);
+                let handle = self.handle_for(state, *h);
                 self.steer(handle, *act)
             }
             Call::Outq { h } => {
-                let handle = self.handle_for(caller, *h);
+                let handle = self.handle_for(state, *h);
                 self.tell(handle, Answer::Number(self.held_count()))
             }
             Call::Excl { h } => {
-                let handle = self.handle_for(caller, *h);
+                let handle = self.handle_for(state, *h);
                 self.set_exclusive(handle, true)
             }
             Call::Nxcl { h } => {
-                let handle = self.handle_for(caller, *h);
+                let handle = self.handle_for(state, *h);
                 self.set_exclusive(handle, false)
             }
-            _ => self.act_on_rest(caller, call, room),
+            _ => self.act_on_rest(state, call, room),
         }
     }
 
     /// The other calls.
-    fn act_on_rest(&mut self, caller: u16, call: &Call, room: &mut Room) -> Met
-        requires can { CanAct self.old caller (call_of call.now) room.old }
+    fn act_on_rest(&mut self, state: &CallerState, call: &Call, room: &mut Room) -> Met
+        requires can { CanAct self.old state.now (call_of call.now) room.old }
         requires group { 3 ≤ group_of (call_of call.now) }
-        ensures { Acts self.old self.new caller (call_of call.now) result }
+        ensures { Acts self.old self.new state.now (call_of call.now) result }
     {
         match call {
             Call::Drain { h } => {
-                let handle = self.handle_for(caller, *h);
+                let handle = self.handle_for(state, *h);
                 self.drain(handle)
             }
             Call::Inq { h } => {
-                let handle = self.handle_for(caller, *h);
+                let handle = self.handle_for(state, *h);
                 self.tell(handle, Answer::Number(self.input_count()))
             }
             Call::Counts { h } => {
-                let handle = self.handle_for(caller, *h);
+                let handle = self.handle_for(state, *h);
                 self.tell_counts(handle, room.take_counts())
             }
             Call::Vhangup { h } => {
-                let handle = self.handle_for(caller, *h);
+                let handle = self.handle_for(state, *h);
                 self.vhangup(handle, room)
             }
             Call::SendPacket { h, bytes } => {
-                let handle = self.handle_for(caller, *h);
+                let handle = self.handle_for(state, *h);
                 self.send_packet(handle, bytes, room.packet())
             }
             Call::TakePacket { h } => {
-                let handle = self.handle_for(caller, *h);
+                let handle = self.handle_for(state, *h);
                 self.take_packet(handle, room.take_bytes())
             }
             _ => unreachable!(),

@@ -195,9 +195,8 @@ impl Terminal {
     }
 
     #[inline(always)]
-    fn read_must_wait(&self, caller: u16, handle: Option<HandleState>, n: u32) -> bool
-        requires { caller < length self.now.terminal.callers }
-        ensures { result ≡ is_wait (reading_outcome self.now.terminal (caller_at self.now.terminal caller) n handle) }
+    fn read_must_wait(&self, state: &CallerState, handle: Option<HandleState>, n: u32) -> bool
+        ensures { result ≡ is_wait (reading_outcome self.now.terminal state.now n handle) }
     {
         let Some(handle) = handle else {
             return false;
@@ -205,17 +204,21 @@ impl Terminal {
         if !may_read(handle.access) || !handle.live || handle.nonblock {
             return false;
         }
-        let since = self.callers.get(caller).waits.unwrap_or(self.tick);
+        let since = state.waits.unwrap_or(self.tick);
         match &self.disc {
             Disc::Tty(tty) => !tty.ready(n, &self.modes, false, since, self.tick),
             Disc::Slip(_) => false,
         }
     }
 
-    fn write_must_wait(&self, caller: u16, handle: Option<HandleState>, bytes: &[u8]) -> bool
-        requires known { caller < length self.now.terminal.callers }
-        requires column { column_in self.now.terminal.disc < 2 ^ 62 }
-        ensures { result ≡ is_wait (writing_outcome self.now.terminal (caller_at self.now.terminal caller) bytes.now handle) }
+    fn write_must_wait(
+        &self,
+        state: &CallerState,
+        handle: Option<HandleState>,
+        bytes: &[u8],
+    ) -> bool
+        requires { column_in self.now.terminal.disc < 2 ^ 62 }
+        ensures { result ≡ is_wait (writing_outcome self.now.terminal state.now bytes.now handle) }
     {
         let Some(handle) = handle else {
             return false;
@@ -223,8 +226,7 @@ impl Terminal {
         if !may_write(handle.access) || !handle.live || handle.nonblock {
             return false;
         }
-        let state = self.callers.get(caller);
-        if self.is_outlived(&state) {
+        if self.is_outlived(state) {
             return false;
         }
         self.rest_must_wait(rest_of(bytes, state.taken))
@@ -261,29 +263,28 @@ impl Terminal {
         ensures value { result ≡ is_wait (outcome self.now.terminal (caller_at self.now.terminal caller) (call_of call.now)) }
         ensures fact { IsTrue result ↔ MustWait (outcome self.now.terminal (caller_at self.now.terminal caller) (call_of call.now)) }
     {
-        self.waits_by_call(caller, call)
+        let state = self.callers.get(caller as usize);
+        self.waits_by_call(&state, call)
     }
 
     #[inline(always)]
-    fn waits_by_call(&self, caller: u16, call: &Call) -> bool
-        requires known { caller < length self.now.terminal.callers }
-        requires number { handle_of (call_of call.now) < 32 }
-        requires column { column_in self.now.terminal.disc < 2 ^ 62 }
-        ensures { result ≡ call_waits self.now.terminal (caller_at self.now.terminal caller) (call_of call.now) }
+    fn waits_by_call(&self, state: &CallerState, call: &Call) -> bool
+        requires { column_in self.now.terminal.disc < 2 ^ 62 }
+        ensures { result ≡ call_waits self.now.terminal state.now (call_of call.now) }
     {
         match call {
             Call::Read { h, n } => {
-                let handle = self.handle_for(caller, *h);
-                self.read_must_wait(caller, handle, *n)
+                let handle = self.handle_for(state, *h);
+                self.read_must_wait(state, handle, *n)
             }
             Call::Write { h, bytes } => {
-                let handle = self.handle_for(caller, *h);
-                self.write_must_wait(caller, handle, bytes)
+                let handle = self.handle_for(state, *h);
+                self.write_must_wait(state, handle, bytes)
             }
             Call::SetModes { h, when, words: _ } => {
-                *when != When::Now && self.must_drain(self.handle_for(caller, *h))
+                *when != When::Now && self.must_drain(self.handle_for(state, *h))
             }
-            Call::Drain { h } => self.must_drain(self.handle_for(caller, *h)),
+            Call::Drain { h } => self.must_drain(self.handle_for(state, *h)),
             _ => false,
         }
     }
@@ -295,25 +296,29 @@ impl Terminal {
         requires number { handle_of (call_of call.now) < 32 }
         ensures { result ≡ drops_of (outcome self.now.terminal (caller_at self.now.terminal caller) (call_of call.now)) }
     {
-        self.drops_by_call(caller, call)
+        let state = self.callers.get(caller as usize);
+        self.drops_from(&state, call)
+    }
+
+    /// Likewise, where its caller stands so.
+    pub fn drops_from(&self, state: &CallerState, call: &Call) -> bool
+        ensures { result ≡ drops_of (outcome self.now.terminal state.now (call_of call.now)) }
+    {
+        self.drops_by_call(state, call)
     }
 
     #[inline(always)]
-    fn drops_by_call(&self, caller: u16, call: &Call) -> bool
-        requires known { caller < length self.now.terminal.callers }
-        requires number { handle_of (call_of call.now) < 32 }
-        ensures { result ≡ call_drops self.now.terminal (caller_at self.now.terminal caller) (call_of call.now) }
+    fn drops_by_call(&self, state: &CallerState, call: &Call) -> bool
+        ensures { result ≡ call_drops self.now.terminal state.now (call_of call.now) }
     {
         match call {
             Call::Flush { h, queue } => {
-                is_live(self.handle_for(caller, *h)) && *queue != Queue::Output
+                is_live(self.handle_for(state, *h)) && *queue != Queue::Output
             }
             Call::SetModes { h, when, words: _ } => {
-                *when == When::Flush
-                    && self.wire.held() == 0
-                    && is_live(self.handle_for(caller, *h))
+                *when == When::Flush && self.wire.held() == 0 && is_live(self.handle_for(state, *h))
             }
-            Call::Vhangup { h } => is_live(self.handle_for(caller, *h)),
+            Call::Vhangup { h } => is_live(self.handle_for(state, *h)),
             _ => false,
         }
     }

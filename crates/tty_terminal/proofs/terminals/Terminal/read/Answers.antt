@@ -8,11 +8,9 @@ use Rattle.n_tty.specs.Reading.{bytes_read, is_readable}
 use Rattle.handle_table.specs.declared.HandleState.{HandleState}
 use Rattle.ldisc_switch.specs.declared.discipline.Disc.{Disc}
 use Rattle.ldisc_switch.specs.declared.discipline.Disc.TheVariants as disc
-use Rattle.tty_terminal.specs.declared.callers.CallerState.{CallerState}
 use Rattle.tty_terminal.specs.declared.rooms.Met.{Met}
 use Rattle.tty_terminal.specs.declared.rooms.Met.TheVariants as met
 use Rattle.tty_terminal.specs.Inside.{terminal_of}
-use Rattle.tty_terminal.specs.Terminals.{caller_at}
 use Rattle.tty_terminal.specs.Outcomes.{Outcome, waits, gives, refuses, may_read}
 use Rattle.tty_terminal.specs.Transfers.{since_or, reading_outcome}
 use Rattle.tty_terminal.specs.Meeting.{InRoom, Meets, left_before_rule, read_room}
@@ -21,16 +19,16 @@ use Rattle.tty_terminal.proofs.RoomLaws.{through}
 use Rattle.tty_terminal.proofs.terminals.Terminal.read.Goals as goal
 
 -- what the read comes to
-comes_to : (c : goal.After-into_vec-then-ready) → (let t = terminal_of c.self.inside in reading_outcome t (caller_at t c.args.caller) c.args.n c.args.handle ≡ gives (got (bytes_read t.modes c.args.n c.in-Tty.tty)) false (record t { disc = disc.Tty c.read-count.new.self }))
+comes_to : (c : goal.After-into_vec-then-ready) → (let t = terminal_of c.self.inside in reading_outcome t c.args.state.now c.args.n c.args.handle ≡ gives (got (bytes_read t.modes c.args.n c.in-Tty.tty)) false (record t { disc = disc.Tty c.read-count.new.self }))
 comes_to c =
     let a = c.self.inside in
     let t = terminal_of a in
-    let s = caller_at t c.args.caller in
+    let s = c.args.state.now in
     let n = c.args.n in
     let handle = c.in-Some.handle in
     let tty = c.in-Tty.tty in
     let may : may_read handle.access ≡ true = sym c.may_read.ensures ∙ c.if-not-may_read.false in
-    let since : c.unwrap_or-since.result ≡ since_or s.waits a.tick = c.unwrap_or-since.ensures ∙ (since_is c.get.result.waits a.tick ∙ ap (λ (k : CallerState). since_or k.waits a.tick) c.get.ensures) in
+    let since : c.unwrap_or-since.result ≡ since_or s.waits a.tick = c.unwrap_or-since.ensures ∙ since_is s.waits a.tick in
     let ready : is_readable a.modes handle.nonblock n (since_or s.waits a.tick) a.tick tty ≡ true = ap (λ (w : ℕ). is_readable a.modes handle.nonblock n w a.tick tty) (sym since) ∙ (sym c.ready.ensures ∙ c.if-ready.true) in
     let live : not handle.live ≡ false = search rules in
     ap (λ (h : Option HandleState). reading_outcome t s n h) c.in-Some.is
@@ -42,14 +40,14 @@ returns-then-ready-clause-met c =
     let a = c.self.inside in
     let given = met.Gives (Got c.into_vec-then-ready.result) in
     let read = bytes_read a.modes c.args.n c.in-Tty.tty in
-    subst (λ (v : InRoom). Meets (reading_outcome v.terminal (caller_at v.terminal c.args.caller) c.args.n c.args.handle) given) c.self.view_is
+    subst (λ (v : InRoom). Meets (reading_outcome v.terminal c.args.state.now c.args.n c.args.handle) given) c.self.view_is
     (subst (λ (o : Outcome). Meets o given) (sym (comes_to c))
     (ap got (c.into_vec-then-ready.ensures ∙ (ap (λ (r : Contents ℕ). r.items) c.read-count.ensures.bytes ∙ ap (λ (xs : List ℕ). xs ++ read) c.requires.empty))))
 
 pub returns-then-ready-clause-left : goal.returns-then-ready-clause-left
 returns-then-ready-clause-left c =
     let t = terminal_of c.self.inside in
-    subst (λ (v : InRoom). record t { disc = disc.Tty c.read-count.new.self } ≡ left_before_rule (reading_outcome v.terminal (caller_at v.terminal c.args.caller) c.args.n c.args.handle) v.terminal) c.self.view_is
+    subst (λ (v : InRoom). record t { disc = disc.Tty c.read-count.new.self } ≡ left_before_rule (reading_outcome v.terminal c.args.state.now c.args.n c.args.handle) v.terminal) c.self.view_is
     (sym (ap (λ (o : Outcome). left_before_rule o t) (comes_to c)))
 
 pub read-count-requires-clause-complete : goal.read-count-requires-clause-complete
@@ -64,26 +62,26 @@ pub returns-then-handle-clause-met : goal.returns-then-handle-clause-met
 returns-then-handle-clause-met c =
     let live : not c.in-Some.handle.live ≡ false = search rules in
     let v = c.args.self.now in
-    let comes = told_unready c.self.inside c.args.self.now c.args.caller c.args.n c.args.handle c.in-Some.handle c.in-Tty.tty c.get.result c.unwrap_or-since.result c.may_read.result c.ready.result c.self.view_is c.in-Some.is c.may_read.ensures c.if-not-may_read.false live c.in-Tty.is c.get.ensures c.unwrap_or-since.ensures c.ready.ensures c.if-ready.false ∙ taken c.in-Some.handle.nonblock (refuses EAGAIN v.terminal) waits c.if-handle.true in
+    let comes = told_unready c.self.inside c.args.self.now c.args.state.now c.args.n c.args.handle c.in-Some.handle c.in-Tty.tty c.unwrap_or-since.result c.may_read.result c.ready.result c.self.view_is c.in-Some.is c.may_read.ensures c.if-not-may_read.false live c.in-Tty.is c.unwrap_or-since.ensures c.ready.ensures c.if-ready.false ∙ taken c.in-Some.handle.nonblock (refuses EAGAIN v.terminal) waits c.if-handle.true in
     subst (λ (o : Outcome). Meets o c.refuse-then-handle.result) (sym comes) (subst (λ (m : Met). Meets (refuses EAGAIN v.terminal) m) (sym c.refuse-then-handle.ensures) refl)
 
 pub returns-then-handle-clause-left : goal.returns-then-handle-clause-left
 returns-then-handle-clause-left c =
     let live : not c.in-Some.handle.live ≡ false = search rules in
     let v = c.args.self.now in
-    let comes = told_unready c.self.inside c.args.self.now c.args.caller c.args.n c.args.handle c.in-Some.handle c.in-Tty.tty c.get.result c.unwrap_or-since.result c.may_read.result c.ready.result c.self.view_is c.in-Some.is c.may_read.ensures c.if-not-may_read.false live c.in-Tty.is c.get.ensures c.unwrap_or-since.ensures c.ready.ensures c.if-ready.false ∙ taken c.in-Some.handle.nonblock (refuses EAGAIN v.terminal) waits c.if-handle.true in
+    let comes = told_unready c.self.inside c.args.self.now c.args.state.now c.args.n c.args.handle c.in-Some.handle c.in-Tty.tty c.unwrap_or-since.result c.may_read.result c.ready.result c.self.view_is c.in-Some.is c.may_read.ensures c.if-not-may_read.false live c.in-Tty.is c.unwrap_or-since.ensures c.ready.ensures c.if-ready.false ∙ taken c.in-Some.handle.nonblock (refuses EAGAIN v.terminal) waits c.if-handle.true in
     ap (λ (d : Disc). record (terminal_of c.self.inside) { disc = d }) (sym c.in-Tty.is) ∙ (ap (λ (u : InRoom). u.terminal) c.self.view_is ∙ sym (ap (λ (o : Outcome). left_before_rule o v.terminal) comes))
 
 pub returns-clause-met : goal.returns-clause-met
 returns-clause-met c =
     let live : not c.in-Some.handle.live ≡ false = search rules in
     let v = c.args.self.now in
-    let comes = told_unready c.self.inside c.args.self.now c.args.caller c.args.n c.args.handle c.in-Some.handle c.in-Tty.tty c.get.result c.unwrap_or-since.result c.may_read.result c.ready.result c.self.view_is c.in-Some.is c.may_read.ensures c.if-not-may_read.false live c.in-Tty.is c.get.ensures c.unwrap_or-since.ensures c.ready.ensures c.if-ready.false ∙ through c.in-Some.handle.nonblock (refuses EAGAIN v.terminal) waits c.if-handle.false in
+    let comes = told_unready c.self.inside c.args.self.now c.args.state.now c.args.n c.args.handle c.in-Some.handle c.in-Tty.tty c.unwrap_or-since.result c.may_read.result c.ready.result c.self.view_is c.in-Some.is c.may_read.ensures c.if-not-may_read.false live c.in-Tty.is c.unwrap_or-since.ensures c.ready.ensures c.if-ready.false ∙ through c.in-Some.handle.nonblock (refuses EAGAIN v.terminal) waits c.if-handle.false in
     subst (λ (o : Outcome). Meets o met.Waits) (sym comes) tt
 
 pub returns-clause-left : goal.returns-clause-left
 returns-clause-left c =
     let live : not c.in-Some.handle.live ≡ false = search rules in
     let v = c.args.self.now in
-    let comes = told_unready c.self.inside c.args.self.now c.args.caller c.args.n c.args.handle c.in-Some.handle c.in-Tty.tty c.get.result c.unwrap_or-since.result c.may_read.result c.ready.result c.self.view_is c.in-Some.is c.may_read.ensures c.if-not-may_read.false live c.in-Tty.is c.get.ensures c.unwrap_or-since.ensures c.ready.ensures c.if-ready.false ∙ through c.in-Some.handle.nonblock (refuses EAGAIN v.terminal) waits c.if-handle.false in
+    let comes = told_unready c.self.inside c.args.self.now c.args.state.now c.args.n c.args.handle c.in-Some.handle c.in-Tty.tty c.unwrap_or-since.result c.may_read.result c.ready.result c.self.view_is c.in-Some.is c.may_read.ensures c.if-not-may_read.false live c.in-Tty.is c.unwrap_or-since.ensures c.ready.ensures c.if-ready.false ∙ through c.in-Some.handle.nonblock (refuses EAGAIN v.terminal) waits c.if-handle.false in
     ap (λ (d : Disc). record (terminal_of c.self.inside) { disc = d }) (sym c.in-Tty.is) ∙ (ap (λ (u : InRoom). u.terminal) c.self.view_is ∙ sym (ap (λ (o : Outcome). left_before_rule o v.terminal) comes))
