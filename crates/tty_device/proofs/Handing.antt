@@ -6,11 +6,12 @@ use Rattle.word_ring.specs.Ends.{TakerState}
 use Rattle.ldisc_switch.specs.Disciplines.{column_in}
 use Rattle.tty_terminal.specs.Terminals.{Terminal}
 use Rattle.tty_terminal.specs.Receiving.{accepts, after_character, after_characters, AcceptsAll}
-use Rattle.tty_device.specs.Kept.{kept, Taken, flushed, dropped, chars_of, flushed_of, dropped_of}
+use Rattle.tty_terminal.specs.Kept.{kept}
+use Rattle.tty_device.specs.Kept.{Taken, flushed, dropped, chars_of, dropped_of}
 use Rattle.tty_device.specs.Devices.{DeviceState, Drops, DropsWhere, Flushes, FlushesWhere}
 use Rattle.tty_device.specs.Acts.{HandsOver, DropsOut}
 use Rattle.tty_device.proofs.Keeping.{column_fits}
-use Rattle.tty_device.proofs.Noting.{more_flushed, more_dropped, count_flushed, count_dropped}
+use Rattle.tty_device.proofs.Noting.{more_flushed, more_dropped, count_flushed}
 
 pub as_many : (xs : List Taken) (taken : List Flagged) → chars_of xs ≡ taken → length xs ≡ length taken
 as_many xs taken is = sym (length-map xs (λ (x : Taken). x.char)) ∙ ap length is

@@ -1,5 +1,5 @@
 -- What was taken, and what became of it.
-use Rattle.std.proofs.Common.{◌≡◌, ℕ, ◌+◌, List, [], ◌∷◌, ◌++◌, Bool, true, false, if◌then◌else◌, length, map, refl, sym, ◌∙◌, ap, arith, append-nil}
+use Rattle.std.proofs.Common.{◌≡◌, ℕ, ◌+◌, List, [], ◌∷◌, ◌++◌, Bool, true, false, if◌then◌else◌, length, map, refl, sym, ◌∙◌, ap, arith}
 use Rattle.std.proofs.lemmas.List.{length-map, map-append}
 use Rattle.tty_base.specs.declared.characters.Flagged.{Flagged}
 use Rattle.tty_device.specs.Kept.{Taken, flushed, dropped, chars_of, flushed_of, dropped_of}

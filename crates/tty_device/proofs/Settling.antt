@@ -16,7 +16,7 @@ use Rattle.tty_terminal.proofs.Effects.{outcome_keeps}
 use Rattle.tty_device.specs.declared.askers.Asker.{Asker}
 use Rattle.tty_device.specs.declared.askers.Verb.{Verb}
 use Rattle.tty_device.specs.Askers.{state_of, verb_of}
-use Rattle.tty_device.specs.Kept.{kept}
+use Rattle.tty_terminal.specs.Kept.{kept}
 use Rattle.tty_device.specs.Acts.{settled, verbs_after}
 use Rattle.tty_device.specs.Devices.{DeviceState, state_for, is_known, outcome_for, caller_waiting, after_outcome, after_call, with_taken_of}
 use Rattle.ldisc_switch.specs.Disciplines.{column_in}

@@ -1,35 +1,19 @@
 -- What the parts of a method need, and what they come to: for private functions alone.
-use Rattle.std.specs.Prelude.{◌≡◌, ℕ, ◌<◌, ◌≤◌, ◌+◌, ◌-◌, ◌^◌, min, false, List, ◌++◌, length, map, slice_set}
+use Rattle.std.specs.Prelude.{◌≡◌, ℕ, ◌<◌, ◌≤◌, ◌+◌, ◌-◌, min, false, List, ◌++◌, length, map, slice_set}
 use Rattle.tty_base.specs.declared.characters.Flagged.{Flagged}
 use Rattle.word_ring.specs.Ends.{TakerState}
 use Rattle.tty_calls.specs.Plain.{PlainCall, handle_of}
-use Rattle.ldisc_switch.specs.Disciplines.{column_in}
-use Rattle.tty_terminal.specs.declared.rooms.TheConstants.{ROOM_FOR_CALL}
-use Rattle.tty_terminal.specs.declared.callers.CallerState.{CallerState}
 use Rattle.tty_terminal.specs.declared.rooms.Met.{Met}
 use Rattle.tty_terminal.specs.declared.rooms.Met.TheVariants as met
 use Rattle.tty_terminal.specs.Terminals.{Terminal, idle_caller}
 use Rattle.tty_terminal.specs.Receiving.{accepts, after_characters, AcceptsAll}
-use Rattle.tty_terminal.specs.Calls.{outcome}
 use Rattle.tty_terminal.specs.Steps.{with_caller}
-use Rattle.tty_terminal.specs.Meeting.{InRoom, left_before_rule}
+use Rattle.tty_terminal.specs.Kept.{kept}
 use Rattle.tty_device.specs.declared.askers.Asker.{Asker}
 use Rattle.tty_device.specs.declared.askers.Verb.{Verb}
 use Rattle.tty_device.specs.Askers.{state_of, verb_of}
-use Rattle.tty_device.specs.Kept.{kept, Taken, dropped}
+use Rattle.tty_device.specs.Kept.{Taken, dropped}
 use Rattle.tty_device.specs.Devices.{caller_waiting}
-
--- a handle's number in the table, and room for whatever the call may send
-pub record CanAct (v : InRoom) (call : PlainCall) : Type 0 where
-  pub number : handle_of call < 32
-  pub few : v.terminal.generation < 2 ^ 31
-  pub wire : ROOM_FOR_CALL ≤ v.wire_room
-  pub column : column_in v.terminal.disc < 2 ^ 62
-
--- the call did what its outcome leaves, and how much room on the wire it took
-pub record Acts (old new : InRoom) (s : CallerState) (call : PlainCall) : Type 0 where
-  pub left : new.terminal ≡ left_before_rule (outcome old.terminal s call) old.terminal
-  pub wire : old.wire_room ≤ new.wire_room + 4096
 
 -- what is noted of a caller once its call has met something
 abbrev pub settled : Terminal → (c : ℕ) → Asker → PlainCall → Met → Terminal

@@ -1,5 +1,5 @@
 -- A port that runs for ever.
-use Rattle.std.specs.Prelude.{◌≡◌, ℕ, ◌+◌, ◌-◌, ◌<◌, ◌≤◌, ◌==◌, min, max, nat_lt, Bool, true, false, not, ◌&&◌, ◌||◌, List, ◌++◌, length, map, drop, Option, None, Some, is_some, if◌then◌else◌, slice_get, slice_index_or, slice_set}
+use Rattle.std.specs.Prelude.{◌≡◌, ℕ, ◌+◌, ◌-◌, ◌<◌, ◌≤◌, ◌==◌, min, max, nat_lt, Bool, true, false, not, ◌&&◌, ◌||◌, List, ◌++◌, length, map, drop, Option, is_some, if◌then◌else◌, slice_get, slice_index_or, slice_set}
 use Rattle.atomic_table.specs.Seated.{TableId}
 use Rattle.tty_base.specs.declared.characters.Flagged.{Flagged}
 use Rattle.tty_base.specs.declared.counters.Errno.TheVariants.{EBADF, EINVAL}
@@ -12,10 +12,11 @@ use Rattle.tty_terminal.specs.Generations.{after_hangup}
 use Rattle.tty_terminal.specs.Outcomes.{Outcome, unknown, waits, takes, gives, refuses}
 use Rattle.tty_terminal.specs.Calls.{outcome}
 use Rattle.tty_terminal.specs.Steps.{with_caller, caller_after_wait}
+use Rattle.tty_terminal.specs.Kept.{kept}
 use Rattle.tty_device.specs.declared.askers.Verb.{Verb}
 use Rattle.tty_device.specs.declared.askers.Verb.TheVariants as verb
 use Rattle.tty_device.specs.Askers.{state_of, verb_of, asker_for}
-use Rattle.tty_device.specs.Kept.{kept, Taken, flushed, dropped}
+use Rattle.tty_device.specs.Kept.{Taken, flushed, dropped}
 
 pub record DeviceState : Type 0 where
   -- the terminal, of which nothing that only grows is kept but the tick: generation, taken, sent and phase are 0

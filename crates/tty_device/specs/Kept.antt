@@ -1,18 +1,6 @@
--- What a device keeps of a terminal, and what became of the characters that it took.
-use Rattle.std.specs.Prelude.{ℕ, ◌%◌, ◌^◌, Bool, true, false, List, [], ◌∷◌, map, if◌then◌else◌}
+-- What became of the characters that a device took.
+use Rattle.std.specs.Prelude.{Bool, true, false, List, [], ◌∷◌, map, if◌then◌else◌}
 use Rattle.tty_base.specs.declared.characters.Flagged.{Flagged}
-use Rattle.ldisc_switch.specs.declared.discipline.Disc.{Disc}
-use Rattle.ldisc_switch.specs.declared.discipline.Disc.TheVariants as disc
-use Rattle.tty_terminal.specs.Terminals.{Terminal}
-
--- the column is kept in 32 bits, as Linux keeps it
-abbrev pub with_column_in_32_bits : Disc → Disc
-with_column_in_32_bits (disc.Tty tty) = disc.Tty (record tty { column = tty.column % 2 ^ 32 })
-with_column_in_32_bits (disc.Slip slip) = disc.Slip slip
-
--- generations and characters are not counted, so that no number of them ends a device
-abbrev pub kept : Terminal → Terminal
-kept t = record t { disc = with_column_in_32_bits t.disc; generation = 0; taken = 0 }
 
 -- a character that was taken from the flip buffer, and whether it was dropped; else the discipline received it
 pub record Taken : Type 0 where

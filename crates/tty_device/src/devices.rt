@@ -1,18 +1,20 @@
 //! The port itself.
 
 ghost use Rattle.std.specs.Prelude.{◌≡◌, ◌≤◌, ◌<◌, ◌^◌, [], length, take, IfOk, OnOk, OnErr};
-ghost use Rattle.tty_calls.specs.Plain.{call_of};
+ghost use Rattle.tty_calls.specs.Plain.{call_of, handle_of};
 ghost use Rattle.ldisc_switch.specs.Disciplines.{column_in};
 ghost use Rattle.tty_terminal.specs.Meeting.{Meets, drops_of, room_for_characters};
+ghost use Rattle.tty_terminal.specs.Calls.{outcome};
+ghost use Rattle.tty_terminal.specs.Steps.{left_by};
+ghost use Rattle.tty_device.specs.Askers.{state_of};
 ghost use Rattle.tty_device.specs.Acts.{settled, verbs_after, DropsOut, HandsOver};
 ghost use Rattle.tty_device.specs.Kept.{chars_of, dropped_of};
-ghost use Rattle.tty_device.specs.Devices.{DeviceState, outcome_for, after_call, after_cancel, Drops, DropsWhere, with_taken_of, after_hang_up, is_stuck, FlushesWhere, after_advance, wire_of, taken_count, at_front, without_wire_front, first_signal, without_first_signal};
+ghost use Rattle.tty_device.specs.Devices.{DeviceState, caller_waiting, outcome_for, after_call, after_cancel, Drops, DropsWhere, with_taken_of, after_hang_up, is_stuck, FlushesWhere, after_advance, wire_of, taken_count, at_front, without_wire_front, first_signal, without_first_signal};
 ghost use Rattle.tty_device.specs.Lines.{buffer_size, fresh_device, fresh_line};
 
-use crate::askers::{Asker, Verbs, asker_for, verb_of};
+use crate::askers::{Asker, IDLE, Verbs, asker_for, verb_of};
 use crate::lines::Line;
 use crate::places::{make_room, put_front};
-use crate::stations::Station;
 use crate::taken::{Fate, TakenChars};
 use flip_buffer::{FlipOut, flip};
 use flow_control::Signals;
@@ -21,7 +23,7 @@ use std::alloc::Global;
 use std::marker::Model;
 use tty_base::{Bytes, Chars, Errno, NoMemory, Signal};
 use tty_calls::{Answer, Call};
-use tty_terminal::Met;
+use tty_terminal::{CallerState, Met, ROOM_FOR_CALL, Terminal};
 
 /// How many handles a port has at most.
 const MOST_HANDLES: u8 = 32;
@@ -42,7 +44,7 @@ const LARGEST_BUFFER: usize = 65536;
 /// gives it up.
 #[derive(Drop)]
 pub struct Device {
-    pub(crate) station: Station,
+    pub(crate) terminal: Terminal,
     verbs: Verbs,
     pub(crate) flip: FlipOut,
     pub(crate) taken: TakenChars,
@@ -75,7 +77,7 @@ impl Device {
         let capacity = capacity.min(LARGEST_BUFFER).max(SMALLEST_BUFFER);
         let (input, output) = flip(alloc, capacity)?;
         let device = Device {
-            station: Station::new(alloc, callers, capacity as u32)?,
+            terminal: Terminal::new(alloc, callers, capacity as u32)?,
             verbs: Verbs::new(alloc, callers)?,
             flip: output,
             taken: TakenChars::new(),
@@ -99,23 +101,22 @@ impl Device {
         ensures drops { OnOk result (DropsWhere (drops_of (outcome_for self.old caller (call_of call.now))) self.old self.new) }
         ensures err { OnErr result (self.new ≡ self.old) }
     {
-        if caller >= self.station.callers() {
+        if caller >= self.terminal.callers() {
             return Ok(Met::Gives(Answer::Refused(Errno::EINVAL)));
         }
         if call.handle() >= MOST_HANDLES {
             return Ok(Met::Gives(Answer::Refused(Errno::EBADF)));
         }
-        let state = self.station.caller(caller);
         let verb = self.verbs.get(caller);
-        let asker = asker_for(&state, verb, call);
+        let asker = asker_for(&self.terminal.standing(caller), verb, call);
         let mut dropped = Chars::new(self.alloc);
-        let drops = self.station.drops(&asker, call);
+        let drops = drops(&self.terminal, &asker, call);
         if drops {
             dropped.reserve(self.flip.capacity())?;
         }
-        let met = self.station.meet(&asker, call)?;
+        let met = meet(&mut self.terminal, self.alloc, &asker, call)?;
         settle(
-            &mut self.station,
+            &mut self.terminal,
             &mut self.verbs,
             caller,
             &asker,
@@ -137,8 +138,8 @@ impl Device {
     pub fn cancel(&mut self, caller: usize)
         ensures { self.new ≡ after_cancel self.old caller }
     {
-        if caller < self.station.callers() {
-            self.station.end_call(caller);
+        if caller < self.terminal.callers() {
+            self.terminal.stand(caller, IDLE);
         }
     }
 
@@ -151,8 +152,8 @@ impl Device {
         let mut dropped = Chars::new(self.alloc);
         dropped.reserve(self.flip.capacity())?;
         let fresh = fresh(self.alloc, Kind::Tty)?;
-        self.station.hang_up(fresh);
-        self.station.forget();
+        self.terminal.hang_up(fresh);
+        self.terminal.forget();
         drop_shown(
             &mut self.flip,
             &mut self.taken,
@@ -168,7 +169,7 @@ impl Device {
     pub fn is_stuck(&self) -> bool
         ensures { result ≡ is_stuck self.now }
     {
-        self.station.live() == 0 || !self.station.accepts()
+        self.terminal.live() == 0 || !self.terminal.accepts()
     }
 
     /// Hands characters over to the discipline, `most` at most and 64 at most, as long as it accepts. Answers how many.
@@ -180,11 +181,11 @@ impl Device {
             return Ok(0);
         }
         let most = most.min(MOST_FLUSHED);
-        let room = self.station.room_for_characters(most);
-        self.station.reserve(room, most)?;
+        let room = self.terminal.room_for_characters(most);
+        self.terminal.reserve(room, most)?;
         self.chars.truncate(0);
         self.chars.reserve(most)?;
-        let count = hand_over(&mut self.station, &mut self.flip, &mut self.chars, most);
+        let count = hand_over(&mut self.terminal, &mut self.flip, &mut self.chars, most);
         self.taken.note(&self.chars, Fate { dropped: false });
         Ok(count)
     }
@@ -193,7 +194,7 @@ impl Device {
     pub fn advance(&mut self, tick: u64)
         ensures { self.new ≡ after_advance self.old tick }
     {
-        self.station.advance(tick);
+        self.terminal.set_clock(tick);
     }
 
     // ---- what went out
@@ -206,9 +207,9 @@ impl Device {
         ensures after { IfOk result (λ count. self.new ≡ without_wire_front count self.old) }
         ensures err { OnErr result ((self.new ≡ self.old) × (place.new ≡ place.old)) }
     {
-        let count = place.len().min(self.station.wire_len());
+        let count = place.len().min(self.terminal.wire().len());
         make_room(&mut self.bytes, self.alloc, count)?;
-        self.station.take_wire(count, &mut self.bytes);
+        self.terminal.take_wire(count, &mut self.bytes);
         put_front(place, self.bytes.as_slice());
         Ok(count)
     }
@@ -219,37 +220,74 @@ impl Device {
         ensures after { OnOk result (self.new ≡ without_first_signal self.old) }
         ensures err { OnErr result (self.new ≡ self.old) }
     {
-        let Some(signal) = self.station.first_signal() else {
+        let Some(signal) = self.terminal.first_signal() else {
             return Ok(None);
         };
         make_room(&mut self.signals, self.alloc, 1)?;
-        self.station.take_signal(&mut self.signals);
+        self.terminal.take_signal(&mut self.signals);
         Ok(Some(signal))
+    }
+}
+
+/// Whether what waits in the flip buffer is dropped with the answer to a call.
+fn drops(terminal: &Terminal, asker: &Asker, call: &Call) -> bool
+    ensures { result ≡ drops_of (outcome terminal.now.terminal (state_of asker.now) (call_of call.now)) }
+{
+    terminal.drops_from(&asker.state(), call)
+}
+
+/// Makes a call. Without memory nothing changes.
+fn meet(terminal: &mut Terminal, alloc: Global, asker: &Asker, call: &Call) -> Result<Met, NoMemory>
+    requires number { handle_of (call_of call.now) < 32 }
+    requires few { terminal.old.terminal.generation < 2 ^ 31 }
+    requires column { column_in terminal.old.terminal.disc < 2 ^ 62 }
+    ensures met { IfOk result (λ met. Meets (outcome terminal.old.terminal (state_of asker.now) (call_of call.now)) met) }
+    ensures left { OnOk result (terminal.new.terminal ≡ left_by (outcome terminal.old.terminal (state_of asker.now) (call_of call.now)) terminal.old.terminal) }
+    ensures err { OnErr result (terminal.new.terminal ≡ terminal.old.terminal) }
+{
+    terminal.reserve(ROOM_FOR_CALL, 0)?;
+    let room = terminal.make_room(alloc, call)?;
+    Ok(terminal.meet_from(&asker.state(), call, room))
+}
+
+/// Where a caller stands whose call on the handle `h` waits.
+fn waiting(terminal: &Terminal, asker: &Asker, h: u8) -> CallerState
+    ensures { result ≡ caller_waiting terminal.now.terminal (state_of asker.now) h }
+{
+    let state = asker.state();
+    if state.waits.is_some() {
+        return state;
+    }
+    CallerState {
+        waits: Some(terminal.tick()),
+        bound: terminal.bound_at(&state, h),
+        ..state
     }
 }
 
 /// Notes of a caller whether its call is over, or waits.
 fn settle(
-    station: &mut Station,
+    terminal: &mut Terminal,
     verbs: &mut Verbs,
     caller: usize,
     asker: &Asker,
     call: &Call,
     met: &Met,
 )
-    requires known { caller < length station.old.terminal.callers }
-    requires verbs { length verbs.old ≡ length station.old.terminal.callers }
-    ensures station { station.new ≡ record station.old { terminal = settled station.old.terminal caller asker.now (call_of call.now) met.now } }
+    requires known { caller < length terminal.old.terminal.callers }
+    requires verbs { length verbs.old ≡ length terminal.old.terminal.callers }
+    ensures terminal { terminal.new ≡ record terminal.old { terminal = settled terminal.old.terminal caller asker.now (call_of call.now) met.now } }
     ensures verbs { verbs.new ≡ verbs_after verbs.old caller (call_of call.now) met.now }
 {
     match met {
         Met::Waits => {
-            station.wait(caller, asker, call.handle());
+            let state = waiting(terminal, asker, call.handle());
+            terminal.stand(caller, state);
             verbs.set(caller, verb_of(call));
         }
-        _ => station.end_call(caller),
+        _ => terminal.stand(caller, IDLE),
     }
-    station.forget();
+    terminal.forget();
 }
 
 /// Drops what one look shows, by way of a list that has room for all.
@@ -269,21 +307,21 @@ fn drop_shown(flip: &mut FlipOut, taken: &mut TakenChars, count: &mut u64, chars
 }
 
 /// Hands over what one look shows, in room that was reserved.
-fn hand_over(station: &mut Station, flip: &mut FlipOut, chars: &mut Chars, most: usize) -> usize
+fn hand_over(terminal: &mut Terminal, flip: &mut FlipOut, chars: &mut Chars, most: usize) -> usize
     requires few { most ≤ 64 }
     requires empty { chars.old.items ≡ [] }
     requires spare { most ≤ chars.old.spare }
-    requires wire { room_for_characters station.old.terminal most ≤ station.old.wire_room }
-    requires signals { most ≤ station.old.signal_room }
-    requires uncounted { station.old.terminal.taken ≡ 0 }
-    requires column { column_in station.old.terminal.disc < 2 ^ 32 }
-    ensures { HandsOver station.old.terminal station.new.terminal flip.old flip.new chars.new.items most result }
+    requires wire { room_for_characters terminal.old.terminal most ≤ terminal.old.wire_room }
+    requires signals { most ≤ terminal.old.signal_room }
+    requires uncounted { terminal.old.terminal.taken ≡ 0 }
+    requires column { column_in terminal.old.terminal.disc < 2 ^ 32 }
+    ensures { HandsOver terminal.old.terminal terminal.new.terminal flip.old flip.new chars.new.items most result }
 {
     let count = flip.look().min(most);
     flip.peek(count, chars);
-    let received = station.receive_all(chars.as_slice());
+    let received = terminal.receive_all(chars.as_slice());
     flip.release(received);
     chars.truncate(received);
-    station.forget();
+    terminal.forget();
     received
 }

@@ -7,7 +7,6 @@ mod askers;
 mod devices;
 mod lines;
 mod places;
-mod stations;
 mod taken;
 
 pub use accounts::{Account, Both};

@@ -1,6 +1,6 @@
-use Rattle.std.proofs.Common.{◌≡◌, ℕ, ◌+◌, List, ◌++◌, length, map, ap, ◌∙◌, arith, length-append}
+use Rattle.std.proofs.Common.{◌≡◌, List, ◌++◌, length, ap, ◌∙◌, arith, length-append}
 use Rattle.tty_base.specs.declared.characters.Flagged.{Flagged}
-use Rattle.tty_device.specs.Kept.{Taken, dropped, dropped_of}
+use Rattle.tty_device.specs.Kept.{Taken, dropped_of}
 use Rattle.tty_device.proofs.Noting.{taken_is, count_dropped}
 use Rattle.tty_device.proofs.devices.drop_shown.Goals as goal
 

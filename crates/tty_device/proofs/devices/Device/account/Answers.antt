@@ -1,5 +1,4 @@
-use Rattle.std.proofs.Common.{◌≡◌, ℕ, ◌+◌, length, ap, sym, ◌∙◌, arith}
-use Rattle.tty_device.specs.Kept.{flushed_of, dropped_of}
+use Rattle.std.proofs.Common.{length, ap, arith}
 use Rattle.tty_device.proofs.Noting.{taken_is}
 use Rattle.tty_device.proofs.devices.Device.account.Goals as goal
 

@@ -1,9 +1,8 @@
-use Rattle.std.proofs.Common.{◌≡◌, ℕ, ◌<◌, true, false, length, sym, ◌∙◌, ap, subst, refl, arith}
+use Rattle.std.proofs.Common.{◌≡◌, ◌<◌, length, sym, ◌∙◌, ap, subst, refl, arith}
 use Rattle.std.specs.Prelude.{slice_index_or}
 use Rattle.tty_calls.specs.Plain.{PlainCall, call_of, handle_of}
 use Rattle.tty_terminal.specs.declared.callers.CallerState.{CallerState}
-use Rattle.tty_terminal.specs.Terminals.{Terminal, caller_at}
-use Rattle.tty_terminal.specs.Outcomes.{Outcome}
+use Rattle.tty_terminal.specs.Terminals.{Terminal}
 use Rattle.tty_terminal.specs.Calls.{outcome}
 use Rattle.tty_terminal.specs.Meeting.{InRoom, drops_of}
 use Rattle.tty_device.specs.declared.askers.Verb.TheVariants as verb
@@ -18,14 +17,14 @@ use Rattle.tty_device.proofs.devices.Device.call.Goals.{then-drops-2, else-drops
 
 pub settle-requires-clause-known : goal.settle-requires-clause-known
 settle-requires-clause-known c =
-    let t : Terminal = c.self.inside.station.terminal in
+    let t : Terminal = c.self.inside.terminal.terminal in
     let met = ap (λ (x : Terminal). length x.callers) c.in_ok-met.ensures.left in
     let same = same_callers t (state_of c.asker_for-asker.result) (call_of c.args.call.now) in
     omega (arith, met, same, c.callers.ensures, c.if-caller-callers.false)
 
 pub settle-requires-clause-verbs : goal.settle-requires-clause-verbs
 settle-requires-clause-verbs c =
-    let t : Terminal = c.self.inside.station.terminal in
+    let t : Terminal = c.self.inside.terminal.terminal in
     let met = ap (λ (x : Terminal). length x.callers) c.in_ok-met.ensures.left in
     let same = same_callers t (state_of c.asker_for-asker.result) (call_of c.args.call.now) in
     omega (arith, met, same, c.self.invariant.verbs)
@@ -36,12 +35,12 @@ invariant_of-self-then-drops-2 c =
     let caller = c.args.caller in
     let asker = c.asker_for-asker.result in
     let call : PlainCall = call_of c.args.call.now in
-    let t : Terminal = c.meet.new.self.terminal in
-    let u : Terminal = c.settle.new.station.terminal in
+    let t : Terminal = c.meet.new.terminal.terminal in
+    let u : Terminal = c.settle.new.terminal.terminal in
     let m = c.in_ok-met.met in
-    let is : u ≡ settled t caller asker call m = ap (λ (s : InRoom). s.terminal) c.settle.ensures.station in
+    let is : u ≡ settled t caller asker call m = ap (λ (s : InRoom). s.terminal) c.settle.ensures.terminal in
     let met = ap (λ (x : Terminal). length x.callers) c.in_ok-met.ensures.left in
-    let same = same_callers a.station.terminal (state_of asker) call in
+    let same = same_callers a.terminal.terminal (state_of asker) call in
     let verbs = ap length c.settle.ensures.verbs ∙ as_many_verbs a.verbs caller call m in
     record {
       generation = settled_generation t u caller asker call m is;
@@ -58,12 +57,12 @@ invariant_of-self-else-drops-2 c =
     let caller = c.args.caller in
     let asker = c.asker_for-asker.result in
     let call : PlainCall = call_of c.args.call.now in
-    let t : Terminal = c.meet.new.self.terminal in
-    let u : Terminal = c.settle.new.station.terminal in
+    let t : Terminal = c.meet.new.terminal.terminal in
+    let u : Terminal = c.settle.new.terminal.terminal in
     let m = c.in_ok-met.met in
-    let is : u ≡ settled t caller asker call m = ap (λ (s : InRoom). s.terminal) c.settle.ensures.station in
+    let is : u ≡ settled t caller asker call m = ap (λ (s : InRoom). s.terminal) c.settle.ensures.terminal in
     let met = ap (λ (x : Terminal). length x.callers) c.in_ok-met.ensures.left in
-    let same = same_callers a.station.terminal (state_of asker) call in
+    let same = same_callers a.terminal.terminal (state_of asker) call in
     let verbs = ap length c.settle.ensures.verbs ∙ as_many_verbs a.verbs caller call m in
     record {
       generation = settled_generation t u caller asker call m is;
@@ -81,18 +80,18 @@ returns-clause-after c =
     let caller = c.args.caller in
     let asker = c.asker_for-asker.result in
     let call : PlainCall = call_of c.args.call.now in
-    let t : Terminal = a.station.terminal in
+    let t : Terminal = a.terminal.terminal in
     let m = c.in_ok-met.met in
     let v : DeviceState = c.if-drops-2.self in
     let known : caller < length t.callers = omega (arith, c.callers.ensures, c.if-caller-callers.false) in
     let number : handle_of call < 32 = omega (arith, c.handle.ensures, c.if-handle-ge-MOST_HANDLES.false) in
-    let state = c.caller-state.ensures in
+    let state = c.standing.ensures in
     let verbs : c.get-verb.result ≡ slice_index_or a.verbs caller verb.Never = c.get-verb.ensures in
     let goes : state_for d caller call ≡ state_of asker = sym (ap state_of (c.asker_for-asker.ensures ∙ (λ i. asker_for (state i) (verbs i) call))) in
-    let u = settled c.meet.new.self.terminal caller asker call m in
+    let u = settled c.meet.new.terminal.terminal caller asker call m in
     let left : with_both d u (verbs_after d.verbs caller call m) ≡ after_call d caller call =
-    call_left d caller call known number asker m c.meet.new.self.terminal goes c.in_ok-met.ensures.met c.in_ok-met.ensures.left in
-    let terminal = ap (λ (s : InRoom). s.terminal) c.settle.ensures.station in
+    call_left d caller call known number asker m c.meet.new.terminal.terminal goes c.in_ok-met.ensures.met c.in_ok-met.ensures.left in
+    let terminal = ap (λ (s : InRoom). s.terminal) c.settle.ensures.terminal in
     let after = c.settle.ensures.verbs in
     subst (λ (x : DeviceState). v ≡ with_taken_of v (after_call x caller call)) c.self.view_is
     (elim c.if-drops-2.branch [
@@ -109,11 +108,11 @@ returns-clause-drops c =
     let caller = c.args.caller in
     let asker = c.asker_for-asker.result in
     let call : PlainCall = call_of c.args.call.now in
-    let t : Terminal = a.station.terminal in
+    let t : Terminal = a.terminal.terminal in
     let v : DeviceState = c.if-drops-2.self in
     let known : caller < length t.callers = omega (arith, c.callers.ensures, c.if-caller-callers.false) in
     let number : handle_of call < 32 = omega (arith, c.handle.ensures, c.if-handle-ge-MOST_HANDLES.false) in
-    let state = c.caller-state.ensures in
+    let state = c.standing.ensures in
     let verbs : c.get-verb.result ≡ slice_index_or a.verbs caller verb.Never = c.get-verb.ensures in
     let goes : state_for d caller call ≡ state_of asker = sym (ap state_of (c.asker_for-asker.ensures ∙ (λ i. asker_for (state i) (verbs i) call))) in
     let told = ap drops_of (outcome_is d caller call known number ∙ ap (λ (s : CallerState). outcome t s call) goes) ∙ sym c.drops-drops.ensures in

@@ -11,7 +11,7 @@ pub invariant_of-self-2 : goal.invariant_of-self-2
 invariant_of-self-2 c =
     let a = c.self.inside in
     let t : Terminal = c.reserve.new.self.terminal in
-    let u : Terminal = c.hand_over-count.new.station.terminal in
+    let u : Terminal = c.hand_over-count.new.terminal.terminal in
     let g = c.hand_over-count.new.flip in
     let cs = c.hand_over-count.new.chars.items in
     let h = c.hand_over-count.ensures in
@@ -28,7 +28,7 @@ pub returns-clause-flushes : goal.returns-clause-flushes
 returns-clause-flushes c =
     let a = c.self.inside in
     let t : Terminal = c.reserve.new.self.terminal in
-    let u : Terminal = c.hand_over-count.new.station.terminal in
+    let u : Terminal = c.hand_over-count.new.terminal.terminal in
     let g = c.hand_over-count.new.flip in
     let cs = c.hand_over-count.new.chars.items in
     let h = c.hand_over-count.ensures in

@@ -3,14 +3,14 @@ use Rattle.std.proofs.lemmas.List.{length-map}
 use Rattle.tty_terminal.specs.Terminals.{Terminal}
 use Rattle.tty_terminal.specs.Generations.{caller_after_hangup, after_hangup}
 use Rattle.tty_terminal.specs.Meeting.{InRoom}
-use Rattle.tty_device.specs.Kept.{kept}
+use Rattle.tty_terminal.specs.Kept.{kept}
 use Rattle.tty_device.proofs.Handing.{kept_column, dropped_noted}
 use Rattle.tty_device.proofs.devices.Device.hang_up.Goals as goal
 
 pub invariant_of-self : goal.invariant_of-self
 invariant_of-self c =
     let a = c.self.inside in
-    let t : Terminal = a.station.terminal in
+    let t : Terminal = a.terminal.terminal in
     let m : Terminal = c.hang_up.new.self.terminal in
     let u : Terminal = c.forget.new.self.terminal in
     let hung : m ≡ after_hangup t = ap (λ (s : InRoom). s.terminal) c.hang_up.ensures in

@@ -1,6 +1,0 @@
-use Rattle.std.proofs.Common.{◌≡◌, ◌++◌, map, take, drop}
-use Rattle.tty_terminal.specs.Generations.{caller_after_close}
-use Rattle.tty_device.proofs.stations.close_all.Given as goal
-
-abbrev pub invariant-loop-caller : goal.invariant-loop-caller
-invariant-loop-caller l = l.callers ≡ map (caller_after_close l.h) (take l.caller-index l.fn.callers) ++ drop l.caller-index l.fn.callers

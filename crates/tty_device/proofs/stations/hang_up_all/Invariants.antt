@@ -1,6 +1,0 @@
-use Rattle.std.proofs.Common.{◌≡◌, ◌++◌, map, take, drop}
-use Rattle.tty_terminal.specs.Generations.{caller_after_hangup}
-use Rattle.tty_device.proofs.stations.hang_up_all.Given as goal
-
-abbrev pub invariant-loop-caller : goal.invariant-loop-caller
-invariant-loop-caller l = l.callers ≡ map caller_after_hangup (take l.caller-index l.fn.callers) ++ drop l.caller-index l.fn.callers
