@@ -3,9 +3,10 @@
 ghost use Rattle.std.specs.Prelude.{◌≡◌, ◌<◌, ◌+◌, ◌∷◌, ◌++◌, [], Some, IfOk, OnOk, IsTrue, map, replicate, slice_index, slice_index_or, slice_set};
 ghost use Rattle.tty_calls.specs.Plain.{call_of as call_view};
 ghost use Rattle.tty_calls.specs.Sessions.{session_of as session_view, phase_of, script_of};
+ghost use Rattle.text_lines.specs.Values.{word_at, number_at};
 ghost use Rattle.session_text.specs.Kinds.{modes_in};
 ghost use Rattle.session_text.specs.Stands.{is_good};
-ghost use Rattle.session_text.specs.Meaning.{steps_in, call_in, empty_phase};
+ghost use Rattle.session_text.specs.Meaning.{steps_in, call_in, bytes_handed, empty_phase};
 ghost use Rattle.session_text.specs.Drafts.{first_draft, all_phases, session_with, with_call, with_open, phase_after, draft_after};
 ghost use Rattle.session_text.specs.Views.{stand_of, phase_view, draft_of};
 
@@ -14,6 +15,7 @@ use super::stands::Stand;
 use super::verbs::{CallVerb, LineVerb, Verb};
 use line_steps::LineSteps;
 use std::alloc::Global;
+use std::mem;
 use text_lines::{Arguments, bytes_into, name_of};
 use tty_base::{Buffer, NoMemory};
 use tty_calls::{Call, Calls, Phase, Script, Session};
@@ -92,9 +94,8 @@ impl Draft {
     fn begin_phase(&mut self, alloc: Global, ports: u8) -> Result<(), NoMemory>
         ensures { OnOk result (draft_of self.new ≡ record (draft_of self.old) { phases = all_phases (draft_of self.old); open_phase = Some (empty_phase ports) }) }
     {
-        let begun = OpenPhase::new(alloc, ports)?;
         self.close_phase()?;
-        self.open_phase = Some(begun);
+        self.open_phase = Some(OpenPhase::new(alloc, ports)?);
         Ok(())
     }
 
@@ -128,16 +129,18 @@ impl Draft {
         }
     }
 
-    /// The session, with the open phase.
-    pub(crate) fn finish(mut self, stand: &Stand) -> Result<Session, NoMemory>
-        ensures { IfOk result (λ session. session_view session ≡ session_with (stand_of stand.now) (draft_of self)) }
+    /// Takes out the session, with the open phase.
+    pub(crate) fn finish(&mut self, stand: &Stand) -> Result<Session, NoMemory>
+        ensures { IfOk result (λ session. session_view session ≡ session_with (stand_of stand.now) (draft_of self.old)) }
     {
         self.close_phase()?;
+        let alloc = *self.flips.allocator();
+        let flips = mem::replace(&mut self.flips, Vec::new(alloc));
         Ok(Session {
             version: stand.version(),
             ports: stand.ports(),
-            flips: Buffer::from_vec(self.flips),
-            phases: self.phases,
+            flips: Buffer::from_vec(flips),
+            phases: mem::replace(&mut self.phases, Buffer::new(alloc)),
         })
     }
 }
@@ -183,14 +186,7 @@ impl OpenPhase {
     {
         let ports = stand.ports();
         match verb {
-            Verb::Caller => {
-                let script = Script {
-                    port: arguments.second_number() as u8,
-                    name: name_of(arguments.first()),
-                    calls: Calls::new(alloc),
-                };
-                Ok(self.callers.push(script)?)
-            }
+            Verb::Caller => add_caller(alloc, &mut self.callers, ports, arguments),
             Verb::Tick => {
                 let count = arguments.first_number() as u32;
                 add_ticks(&mut self.ticks, stand.port(), count)
@@ -256,6 +252,24 @@ fn add_to_line(
     Ok(())
 }
 
+/// Adds the caller that these arguments are.
+fn add_caller(
+    alloc: Global,
+    callers: &mut Vec<Script>,
+    ports: u8,
+    arguments: &Arguments,
+) -> Result<(), NoMemory>
+    requires { IsTrue (is_good ports Verb.Caller arguments.now) }
+    ensures { OnOk result (map script_of callers.new.items ≡ map script_of callers.old.items ++ record { port = number_at arguments.now 1; name = word_at arguments.now 0; calls = [] } ∷ []) }
+{
+    let script = Script {
+        port: arguments.second_number() as u8,
+        name: name_of(arguments.first()),
+        calls: Calls::new(alloc),
+    };
+    Ok(callers.push(script)?)
+}
+
 /// Adds the call that a verb and its arguments are, which have these mode words, to the last caller's.
 /// Its bytes are written to the list on the way; a call that hands over none does without.
 #[inline(always)]
@@ -273,12 +287,30 @@ fn add_call_of(
 {
     if hands_over(verb) {
         bytes_into(bytes, arguments.second())?;
-        let call = call_of(ports, verb, arguments, modes, bytes.as_slice());
-        add_call(callers, &call)
+        add_given(callers, ports, verb, arguments, modes, bytes.as_slice())
     } else {
-        let call = call_of(ports, verb, arguments, modes, &[]);
-        add_call(callers, &call)
+        add_given(callers, ports, verb, arguments, modes, &[])
     }
+}
+
+/// Adds the call that a verb and its arguments are, which have these mode words and hand over these
+/// bytes, to the last caller's.
+#[inline(always)]
+fn add_given(
+    callers: &mut Vec<Script>,
+    ports: u8,
+    verb: CallVerb,
+    arguments: &Arguments,
+    modes: &[Word],
+    bytes: &[u8],
+) -> Result<(), NoMemory>
+    requires good { IsTrue (is_good ports (Verb.Call verb) arguments.now) }
+    requires modes { modes.now ≡ modes_in arguments.now }
+    requires bytes { bytes.now ≡ bytes_handed verb arguments.now }
+    ensures { OnOk result (map script_of callers.new.items ≡ with_call (call_in verb arguments.now) (map script_of callers.old.items)) }
+{
+    let call = call_of(ports, verb, arguments, modes, bytes);
+    add_call(callers, &call)
 }
 
 /// Adds a call to the last caller's.

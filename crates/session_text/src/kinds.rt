@@ -11,7 +11,7 @@ use super::words::{access_of, act_of, is_mode, is_nonblock, queue_of, when_of};
 use text_lines::{Arguments, is_hex, is_name, read_number, split_word};
 
 /// What an argument may be.
-#[derive(Clone, Copy, PartialEq, Eq)]
+#[derive(Clone, Copy)]
 pub(crate) enum Kind {
     Name,
     /// A number below the number of ports.

@@ -1,13 +1,13 @@
 //! Reads a text line by line, each item judged where the reader stands, into its session or its first wrong line.
 
 ghost use Rattle.std.specs.Prelude.{◌≡◌, ◌<◌, ◌⊎◌, Some, IfOk, OnOk, IsTrue, length};
-ghost use Rattle.session_text.specs.Fronts.{front_in};
+ghost use Rattle.session_text.specs.Fronts.{front_from, front_in};
 ghost use Rattle.session_text.specs.Kinds.{modes_in};
 ghost use Rattle.session_text.specs.Refusals.{refusal, lines_in};
 ghost use Rattle.session_text.specs.Grammar.{Spells};
 ghost use Rattle.tty_calls.specs.Sessions.{session_of as session_view};
 ghost use Rattle.text_lines.specs.Lines.{words_of};
-ghost use Rattle.session_text.specs.Reading.{Gives, first_reading, reading_with, reading_after_line, reading_after_item, session_at_end, session_in};
+ghost use Rattle.session_text.specs.Reading.{Gives, first_reading, reading_with, reading_after_line, reading_after_item, session_at_end, session_from, session_in};
 ghost use Rattle.session_text.specs.Stands.{verdict_on, is_start, in_phase, is_ended, is_good};
 ghost use Rattle.session_text.specs.Views.{stand_of, reading_of, reading_at};
 
@@ -119,8 +119,15 @@ impl Reader {
     }
 
     /// The session, where the text ends before the line with this number.
-    pub fn finish(self, number: u32) -> Result<Session, TextFault>
+    pub fn finish(mut self, number: u32) -> Result<Session, TextFault>
         ensures { Gives session_view result (session_at_end (reading_of self) number) }
+    {
+        self.end(number)
+    }
+
+    /// Takes the session out, where the text ends before the line with this number.
+    fn end(&mut self, number: u32) -> Result<Session, TextFault>
+        ensures { Gives session_view result (session_at_end (reading_of self.old) number) }
     {
         if !self.is_ended() {
             return Err(TextFault::Bad(BadLine {
@@ -129,6 +136,48 @@ impl Reader {
             }));
         }
         Ok(self.draft.finish(&self.stand)?)
+    }
+
+    /// Reads a text from its first line on.
+    fn read_lines(&mut self, alloc: Global, text: &[u8]) -> Result<Session, TextFault>
+        ensures { Gives session_view result (session_from (reading_of self.old) 1 (lines_in text.now)) }
+    {
+        let mut rest = text;
+        let mut number = 1u32;
+        while let Some((line, after)) = split_line(rest) {
+            self.read_line(alloc, number, line)?;
+            rest = after;
+            number = number.saturating_add(1);
+        }
+        self.end(number)
+    }
+
+    /// Reads a text from its first line on, up to the session's end.
+    fn read_front<'a>(
+        &mut self,
+        alloc: Global,
+        text: &'a [u8],
+    ) -> Result<(Session, u32, &'a [u8]), TextFault>
+        ensures { Gives (λ front. record { session = session_view front.0; line = front.1; rest = lines_in front.2.now }) result (front_from (reading_of self.old) 1 (lines_in text.now)) }
+    {
+        let mut rest = text;
+        let mut number = 1u32;
+        while !self.is_ended() {
+            match split_line(rest) {
+                None => {
+                    return Err(TextFault::Bad(BadLine {
+                        line: number,
+                        reason: Reason::Order,
+                    }));
+                }
+                Some((line, after)) => {
+                    self.read_line(alloc, number, line)?;
+                    rest = after;
+                    number = number.saturating_add(1);
+                }
+            }
+        }
+        Ok((self.end(number)?, number, rest))
     }
 }
 
@@ -224,14 +273,7 @@ fn read_session(alloc: Global, text: &[u8]) -> Result<Session, TextFault>
     ensures { Gives session_view result (session_in text.now) }
 {
     let mut reader = Reader::new(alloc);
-    let mut rest = text;
-    let mut number = 1u32;
-    while let Some((line, after)) = split_line(rest) {
-        reader.read_line(alloc, number, line)?;
-        rest = after;
-        number = number.saturating_add(1);
-    }
-    reader.finish(number)
+    reader.read_lines(alloc, text)
 }
 
 /// The session that the front of a text spells, up to its `end`; the number of the line after that, and
@@ -240,22 +282,5 @@ pub fn parse_front(alloc: Global, text: &[u8]) -> Result<(Session, u32, &[u8]), 
     ensures { Gives (λ front. record { session = session_view front.0; line = front.1; rest = lines_in front.2.now }) result (front_in text.now) }
 {
     let mut reader = Reader::new(alloc);
-    let mut rest = text;
-    let mut number = 1u32;
-    while !reader.is_ended() {
-        match split_line(rest) {
-            None => {
-                return Err(TextFault::Bad(BadLine {
-                    line: number,
-                    reason: Reason::Order,
-                }));
-            }
-            Some((line, after)) => {
-                reader.read_line(alloc, number, line)?;
-                rest = after;
-                number = number.saturating_add(1);
-            }
-        }
-    }
-    Ok((reader.finish(number)?, number, rest))
+    reader.read_front(alloc, text)
 }

@@ -26,7 +26,7 @@ const TICKS: u64 = 65_536;
 const CALLERS: usize = 16;
 
 /// Which items may come next.
-#[derive(Clone, Copy, PartialEq, Eq)]
+#[derive(Clone, Copy)]
 pub(crate) enum Place {
     /// Before the first item.
     Start,
@@ -274,22 +274,38 @@ impl Stand {
             Verb::Session => {
                 self.version = arguments.first_number() as u8;
                 self.place = Place::Head;
+                Ok(())
             }
             Verb::Ports => {
                 self.ports = arguments.first_number() as u8;
                 self.place = Place::Before;
+                Ok(())
             }
-            Verb::Flip => add_port(&mut self.flips, arguments.first_number())?,
-            Verb::Phase => self.open_phase(alloc),
-            Verb::Line => self.open_line(arguments.first_number())?,
-            Verb::Clock => self.open_clock(arguments.first_number())?,
-            Verb::Caller => self.open_caller(arguments)?,
-            Verb::Step(step) => self.step(arrivals(step, arguments)),
-            Verb::Tick => self.tick(arguments.first_number()),
-            Verb::Call(_) => self.steps_left = self.steps_left.saturating_sub(1),
-            Verb::End => self.place = Place::Ended,
+            Verb::Flip => add_port(&mut self.flips, arguments.first_number()),
+            Verb::Phase => {
+                self.open_phase(alloc);
+                Ok(())
+            }
+            Verb::Line => self.open_line(arguments.first_number()),
+            Verb::Clock => self.open_clock(arguments.first_number()),
+            Verb::Caller => self.open_caller(arguments),
+            Verb::Step(step) => {
+                self.step(arrivals(step, arguments));
+                Ok(())
+            }
+            Verb::Tick => {
+                self.tick(arguments.first_number());
+                Ok(())
+            }
+            Verb::Call(_) => {
+                self.steps_left = self.steps_left.saturating_sub(1);
+                Ok(())
+            }
+            Verb::End => {
+                self.place = Place::Ended;
+                Ok(())
+            }
         }
-        Ok(())
     }
 
     fn open_phase(&mut self, alloc: Global)

@@ -7,7 +7,7 @@ ghost use Rattle.session_text.specs.VerbSlots.{slot_of};
 use tty_modes::is_same;
 
 /// The first word of a line of a session.
-#[derive(Clone, Copy, PartialEq, Eq)]
+#[derive(Clone, Copy)]
 pub(crate) enum Verb {
     Session,
     Ports,
@@ -23,7 +23,7 @@ pub(crate) enum Verb {
 }
 
 /// The first word of a line of a line block.
-#[derive(Clone, Copy, PartialEq, Eq)]
+#[derive(Clone, Copy)]
 pub(crate) enum LineVerb {
     Rx,
     Rxp,
@@ -36,7 +36,7 @@ pub(crate) enum LineVerb {
 }
 
 /// The first word of a call.
-#[derive(Clone, Copy, PartialEq, Eq)]
+#[derive(Clone, Copy)]
 pub(crate) enum CallVerb {
     Open,
     Close,
