@@ -1,6 +1,6 @@
 //! Where the characters are.
 
-ghost use Rattle.std.specs.Prelude.{◌≡◌, ◌+◌, ◌≤◌, length};
+ghost use Rattle.std.specs.Prelude.{◌≡◌, ◌+◌, ◌≤◌, max, length};
 ghost use mathlib.Core.List.{IsPrefix};
 ghost use Rattle.tty_device.specs.Kept.{chars_of, flushed_of, dropped_of};
 
@@ -56,10 +56,10 @@ impl Device {
         ensures dropped { result.account.dropped ≡ length (dropped_of self.old.taken) }
         ensures waiting { result.account.flushed + result.account.dropped + result.account.waiting ≡ length line.old.sent }
         ensures begins { IsPrefix (chars_of self.old.taken) line.old.sent }
-        ensures after { self.new ≡ record self.old { shown = self.new.shown } }
-        ensures shown { self.old.shown ≤ self.new.shown }
+        ensures after { self.new ≡ record self.old { shown = max self.old.shown (length line.old.sent) } }
         ensures line { line.new ≡ record line.old { pushed = line.old.sent; known = line.new.known } }
         ensures known { length self.old.taken ≤ line.new.known }
+        ensures rises { line.old.known ≤ line.new.known }
     {
         line.input.meet(self.flip.note());
         self.flip.meet(line.input.note());
