@@ -13,7 +13,6 @@ use Rattle.tty_calls.specs.declared.journals.Who.{Who}
 use Rattle.tty_calls.specs.declared.journals.Who.TheVariants as who
 use Rattle.tty_calls.specs.Plain.{PlainCall, PlainEvent, answered, parted, waited, flushed, ticked, line_ended, clock_ended, caller_ended, phase_ended, hung_up, PlainEntry, chars_in}
 use Rattle.tty_calls.specs.Sessions.{PlainSession, script_of, phase_of, session_of, scripts_on, scripts_over, call_at, counts_on}
-use Rattle.tty_calls.specs.Limits.{IsPhaseWithin, IsWithinLimits}
 use Rattle.tty_terminal.specs.Terminals.{Terminal, opening}
 use Rattle.tty_terminal.specs.Outcomes.{Outcome, unknown, waits, takes, gives}
 use Rattle.tty_terminal.specs.Calls.{outcome_of}
@@ -27,6 +26,7 @@ use Rattle.journal_check.specs.declared.turns.Turn.{Turn}
 use Rattle.journal_check.specs.declared.replay.Replay.{Replay}
 use Rattle.journal_check.specs.Legal.{flip_on}
 use Rattle.journal_check.specs.Verdicts.{IsFine, AreFineTo, HasNoWrong, IsFirstWrong}
+use Rattle.journal_check.specs.WellFormed.{IsWellFormed}
 use Rattle.journal_check.specs.Scripts.{no_turn, IsIdle, AreIdle}
 use Rattle.journal_check.specs.Replaying.{IsReady, Follows}
 use Rattle.journal_check.proofs.AccountLemmas.{next_at}
@@ -43,32 +43,16 @@ first_idle p session callers turns count is =
           subst (IsIdle p session 0 c) (sym here) (record { begun = omega arith; first = sym (no_calls_yet _) }));
     })
 
--- a phase has at most 16 callers
-pub few_scripts : (p : ℕ) (session : Session) (i : ℕ) (phase : Phase) → IsWithinLimits (session_of session) → i < length session.phases.items → phase ≡ get_or session.phases.items i phase → length (scripts_on p (phase_of phase)) ≤ 16
-few_scripts p session i phase limits lt is =
-    let here : get_or (map phase_of session.phases.items) i (phase_of phase) ≡ phase_of phase = get_or-map phase_of session.phases.items i phase (phase_of phase) lt ∙ ap phase_of (sym is) in
-    let within : IsPhaseWithin session.ports (phase_of phase) =
-    subst (IsPhaseWithin session.ports) here (All-get_or (IsPhaseWithin session.ports) (map phase_of session.phases.items) i (phase_of phase) (omega (arith, lt, length-map session.phases.items phase_of)) limits.phases) in
-    within.few_callers p
-
--- a phase has a line for each port
-pub many_lines : (session : Session) (i : ℕ) (phase : Phase) → IsWithinLimits (session_of session) → i < length session.phases.items → phase ≡ get_or session.phases.items i phase → length phase.lines.items ≡ session.ports
-many_lines session i phase limits lt is =
-    let here : get_or (map phase_of session.phases.items) i (phase_of phase) ≡ phase_of phase = get_or-map phase_of session.phases.items i phase (phase_of phase) lt ∙ ap phase_of (sym is) in
-    let within : IsPhaseWithin session.ports (phase_of phase) =
-    subst (IsPhaseWithin session.ports) here (All-get_or (IsPhaseWithin session.ports) (map phase_of session.phases.items) i (phase_of phase) (omega (arith, lt, length-map session.phases.items phase_of)) limits.phases) in
-    sym (length-map phase.lines.items (λ (steps : LineSteps). steps.items)) ∙ within.lines
-
 -- ---- how many characters an entry has
 
-drops_few : (t : Terminal) (o : Outcome) (n : ℕ) → t.capacity ≤ 65536 → Drops t o n → n ≤ 65536
+drops_few : (t : Terminal) (o : Outcome) (n : ℕ) → t.capacity < 2 ^ 32 → Drops t o n → n < 2 ^ 32
 drops_few t unknown n capacity h = omega (arith, h)
 drops_few t waits n capacity h = omega (arith, h)
 drops_few t (takes taken left) n capacity h = omega (arith, h)
 drops_few t (gives answer false left) n capacity h = omega (arith, h)
 drops_few t (gives answer true left) n capacity h = omega (arith, h.1, capacity)
 
-chars_few : (f : ℕ → ℕ → Option PlainCall) (counts : List ℕ) (t : Terminal) (who : Who) (step part : ℕ) (event : PlainEvent) → t.capacity ≤ 65536 → Within t → IsAllowed f counts t who step part event → length (chars_in event) ≤ 65536
+chars_few : (f : ℕ → ℕ → Option PlainCall) (counts : List ℕ) (t : Terminal) (who : Who) (step part : ℕ) (event : PlainEvent) → t.capacity < 2 ^ 32 → Within t → IsAllowed f counts t who step part event → length (chars_in event) < 2 ^ 32
 chars_few f counts t (who.Caller c) step part (answered a dropped) capacity within h = drops_few t (outcome_of t (caller_at t c) (f c step)) (length dropped) capacity h.drops
 chars_few f counts t who.Flusher step part (answered a dropped) capacity within h = absurd h
 chars_few f counts t who.Line step part (answered a dropped) capacity within h = absurd h
@@ -84,36 +68,32 @@ chars_few f counts t by step part caller_ended capacity within h = omega arith
 chars_few f counts t by step part phase_ended capacity within h = omega arith
 chars_few f counts t by step part (hung_up dropped) capacity within h = omega (arith, h.1.all, within, capacity)
 
-taken_few : (f : ℕ → ℕ → Option PlainCall) (counts : List ℕ) (t : Terminal) (es : List PlainEntry) (u : Terminal) → Leads f counts t es u → t.capacity ≤ 65536 → Within t → u.taken ≤ t.taken + 65536 * length es
+taken_few : (f : ℕ → ℕ → Option PlainCall) (counts : List ℕ) (t : Terminal) (es : List PlainEntry) (u : Terminal) → Leads f counts t es u → t.capacity < 2 ^ 32 → Within t → u.taken ≤ t.taken + 4294967295 * length es
 taken_few f counts t [] u h capacity within = omega (arith, ap (λ (v : Terminal). v.taken) h)
 taken_few f counts t (e ∷ es) u h capacity within =
     let does = step_does f counts t e h.0 in
     let few = chars_few f counts t e.who e.step e.part e.event capacity within h.0.1 in
     omega (arith, taken_few f counts (after f t e) es u h.1 (omega (arith, does.capacity, capacity)) (does.within within), does.taken, few)
 
-few_flip : (p : ℕ) (session : PlainSession) → IsWithinLimits session → p < session.ports → flip_on p session ≤ 65536
-few_flip p session limits lt = All-get_or (λ n. n ≤ 65536) session.flips p 0 (omega (arith, limits.flips, lt)) limits.few_flip
-
 -- ---- what a replay needs
 
-pub ready : (p : ℕ) (session : PlainSession) (before : List PlainEntry) (r : Replay) → IsWithinLimits session → p < session.ports → length before < 2 ^ 31 → Follows p session before r → IsReady p session r
-ready p session before r limits port few h =
+pub ready : (p : ℕ) (session : PlainSession) (before : List PlainEntry) (r : Replay) → IsWellFormed session → length before < 2 ^ 31 → Follows p session before r → IsReady p session r
+ready p session before r formed few h =
     let f = call_at p session in
     let counts = counts_on p session in
     let t = r.terminal.terminal in
     let leads = follows_leads p session before r h in
     let bounded = run_bounded f counts (flip_on p session) before t leads in
     let capacity = run_capacity f counts (flip_on p session) before t leads in
-    let flip = few_flip p session limits port in
-    let taken = taken_few f counts (opening (sum counts) (flip_on p session)) before t leads flip (omega arith) in
+    let taken = taken_few f counts (opening (sum counts) (flip_on p session)) before t leads h.flip (omega arith) in
     record {
-      limits = limits;
+      formed = formed;
       small = record {
         tick = omega (arith, bounded.tick, few);
         generation = omega (arith, bounded.generation, few);
         phase = omega (arith, bounded.phase, few);
         taken = omega (arith, taken, few);
-        capacity = omega (arith, capacity, flip);
+        capacity = omega (arith, capacity, h.flip);
         within = run_within f counts (flip_on p session) before t leads;
         next = λ c. omega (arith, bounded.next c, few);
         parts = λ c. omega (arith, run_part_count f counts (flip_on p session) before t leads c, few);
@@ -158,7 +138,3 @@ is_wrong p session es i e r after false at wrong follows h = record {
 pub none_wrong : (p : ℕ) (session : PlainSession) (es : List PlainEntry) (i : ℕ) (r : Replay) → length es ≤ i → Follows p session (take i es) r → HasNoWrong p session es
 none_wrong p session es i r all follows =
     (r.terminal.terminal, subst (λ (xs : List PlainEntry). AreFineTo p session xs r.terminal.terminal) (take_all i es all) follows.fine)
-
-pub few_scripts_of : (p : ℕ) (phase : Phase) (scripts : List Script) (count : ℕ) → scripts ≡ phase.callers.items → count ≡ length (filter (λ s. s.port == p) (map script_of scripts)) → length (scripts_on p (phase_of phase)) ≤ 16 → count < 256
-few_scripts_of p phase scripts count are is few =
-    omega (arith, is, ap (λ (xs : List Script). length (filter (λ s. s.port == p) (map script_of xs))) are, few)

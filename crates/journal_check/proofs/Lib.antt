@@ -4,6 +4,7 @@ pub mod FineLemmas
 pub mod VerdictLemmas
 pub mod MarkLemmas
 pub mod Tried
+pub mod WellFormedLemmas
 pub mod NameLemmas
 pub mod TurnLemmas
 pub mod GenerationLemmas

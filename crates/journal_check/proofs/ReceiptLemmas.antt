@@ -2,8 +2,8 @@
 use Rattle.std.proofs.Common.{◌≡◌, inl, inr, ℕ, zero, suc, ◌+◌, ◌<◌, ◌≤◌, IsTrue, List, [], ◌∷◌, ◌++◌, length, take, drop, get_or, map, refl, sym, ◌∙◌, ap, subst, arith, append_assoc, append-nil, length-append, length-drop}
 use Rattle.std.specs.Prelude.{All, sum_by}
 use Rattle.std.proofs.lemmas.Bool.{cases_lt}
-use Rattle.std.proofs.lemmas.List.{take_more, take_all, take-append-drop, map_more}
-use Rattle.std.proofs.lemmas.List.Elements.{All-get_or}
+use Rattle.std.proofs.lemmas.List.{get_or_past, take_more, take_all, take-append-drop, map_more}
+use Rattle.std.proofs.lemmas.List.Elements.{All-nil, All-same, All-get_or}
 use Rattle.std.proofs.lemmas.List.Sums.{sum_by-cons, sum_by-append}
 use Rattle.tty_base.specs.Contents.{Contents}
 use Rattle.tty_base.specs.declared.characters.Flagged.{Flagged}
@@ -11,12 +11,13 @@ use Rattle.tty_base.specs.declared.lines.LineStep.{LineStep}
 use Rattle.tty_base.specs.declared.lines.Overrun.{Overrun}
 use Rattle.tty_base.specs.Lines.{arrival_count, is_step}
 use Rattle.tty_calls.specs.Sessions.{PlainPhase, PlainSession, line_on}
-use Rattle.tty_calls.specs.Limits.{IsPhaseWithin, IsWithinLimits, character_count}
+use Rattle.tty_calls.specs.Limits.{character_count}
 use Rattle.uart_line.specs.Received.{received_list, received_list_after, lost_count, closed_script, script}
 use Rattle.uart_line.specs.LineState.{LineState, HasDone}
 use Rattle.uart_line.specs.Offered.{Adds}
 use Rattle.journal_check.specs.declared.lines.Received.{Received}
 use Rattle.journal_check.specs.Legal.{phase_at, script_of_first, script_on}
+use Rattle.journal_check.specs.WellFormed.{IsPhaseWellFormed, IsWellFormed}
 use Rattle.journal_check.specs.Accounts.{Walk, kept_from}
 use Rattle.journal_check.specs.Receipts.{received_count, kept_count, IsReceived, HasReceived}
 use Rattle.journal_check.proofs.AccountLemmas.{walk_append}
@@ -52,11 +53,15 @@ count_within p session k =
     let f : PlainPhase → ℕ = λ phase. arrival_count (line_on p phase) in
     omega (arith, ap (λ (xs : List PlainPhase). sum_by f xs) (take-append-drop k session.phases), sum_by-append f (take k session.phases) (drop k session.phases))
 
-pub good_steps : (p : ℕ) (session : PlainSession) (k : ℕ) (steps : List LineStep) → IsWithinLimits session → p < session.ports → k < length session.phases → steps ≡ line_on p (phase_at session k) → All (λ step. IsTrue (is_step step)) steps
-good_steps p session k steps limits port lt are =
-    let within = All-get_or (IsPhaseWithin session.ports) session.phases k no_phase lt limits.phases in
-    subst (λ (xs : List LineStep). All (λ step. IsTrue (is_step step)) xs) (sym are)
-    (All-get_or (λ (line : List LineStep). All (λ step. IsTrue (is_step step)) line) (phase_at session k).lines p [] (omega (arith, within.lines, port)) within.steps)
+-- the steps of a line of a well-formed session; a port that the phase has no line for has none
+pub good_steps : (p : ℕ) (session : PlainSession) (k : ℕ) (steps : List LineStep) → IsWellFormed session → k < length session.phases → steps ≡ line_on p (phase_at session k) → All (λ step. IsTrue (is_step step)) steps
+good_steps p session k steps formed lt are =
+    let lines = (phase_at session k).lines in
+    let good = (All-get_or IsPhaseWellFormed session.phases k no_phase lt formed.phases).steps in
+    subst (λ (xs : List LineStep). All (λ step. IsTrue (is_step step)) xs) (sym are) (elim (cases_lt p (length lines)) [
+      | inl within ↦ All-get_or (λ (line : List LineStep). All (λ step. IsTrue (is_step step)) line) lines p [] within good
+      | inr past ↦ All-same (λ step. IsTrue (is_step step)) (get_or lines p []) [] (get_or_past lines p [] past) (All-nil (λ step. IsTrue (is_step step)))
+    ])
 
 pub room_left : (p : ℕ) (session : PlainSession) (overruns : List Overrun) (k : ℕ) (line : LineState) (chars : Contents Flagged) (r : Received) (next : ℕ) (steps : List LineStep) → k < length session.phases → steps ≡ line_on p (phase_at session k)
     → HasReceived p session overruns k line chars r next → line.report.arrived + arrival_count steps ≤ line.most

@@ -6,7 +6,6 @@ use Rattle.tty_calls.specs.declared.journals.Who.{Who}
 use Rattle.tty_calls.specs.declared.journals.Who.TheVariants.{Caller, Flusher, Line, Clock, Session}
 use Rattle.tty_calls.specs.Plain.{PlainCall, PlainEvent, answered, parted, waited, flushed, ticked, line_ended, clock_ended, caller_ended, phase_ended, hung_up, PlainEntry, is_caller}
 use Rattle.tty_calls.specs.Sessions.{PlainSession, call_at, counts_on}
-use Rattle.tty_calls.specs.Limits.{IsWithinLimits}
 use Rattle.ldisc_switch.specs.Disciplines.{column_in}
 use Rattle.tty_terminal.specs.Terminals.{Terminal, opening, caller_at}
 use Rattle.tty_terminal.specs.Steps.{IsAllowed, after_event, Allowed, after}
@@ -149,11 +148,28 @@ phase_same caller_ended phase is = refl
 phase_same phase_ended phase is = absurd (false≢true (sym is))
 phase_same (hung_up dropped) phase is = refl
 
+phase_little : (event : PlainEvent) (phase : ℕ) → phase_after event phase ≤ phase + 1
+phase_little (answered a dropped) phase = omega arith
+phase_little (parted n) phase = omega arith
+phase_little waited phase = omega arith
+phase_little (flushed chars) phase = omega arith
+phase_little ticked phase = omega arith
+phase_little (line_ended n) phase = omega arith
+phase_little clock_ended phase = omega arith
+phase_little caller_ended phase = omega arith
+phase_little phase_ended phase = omega arith
+phase_little (hung_up dropped) phase = omega arith
+
+-- an entry is at most the end of a phase
+pub next_small : (f : ℕ → ℕ → Option PlainCall) (counts : List ℕ) (t u : Terminal) (e : PlainEntry) → Allowed f counts t e → u ≡ after f t e → t.phase < 2 ^ 31 → u.phase ≤ 2 ^ 31
+next_small f counts t u e allowed is small =
+    omega (arith, ap (λ (v : Terminal). v.phase) is, phase-after f counts t e allowed, phase_little e.event t.phase, small)
+
 -- after the end of a phase the turns are those before the next
-pub next_idle : (p : ℕ) (session : PlainSession) (f : ℕ → ℕ → Option PlainCall) (t u : Terminal) (turns : List Turn) (who : Who) (step part : ℕ) (event : PlainEvent) → IsWithinLimits session → AreTurns p session t.phase turns → u ≡ after_event f t who step part event → is_phase_end event ≡ true
+pub next_idle : (p : ℕ) (session : PlainSession) (f : ℕ → ℕ → Option PlainCall) (t u : Terminal) (turns : List Turn) (who : Who) (step part : ℕ) (event : PlainEvent) → AreTurns p session t.phase turns → u ≡ after_event f t who step part event → is_phase_end event ≡ true
     → AreIdle p session u.phase turns
-next_idle p session f t u turns who step part event limits are now is =
-    subst (λ (k : ℕ). AreIdle p session k turns) (sym (ap (λ (v : Terminal). v.phase) now ∙ phase_more f t who step part event is)) (turns_idle p session t.phase turns limits are)
+next_idle p session f t u turns who step part event are now is =
+    subst (λ (k : ℕ). AreIdle p session k turns) (sym (ap (λ (v : Terminal). v.phase) now ∙ phase_more f t who step part event is)) (turns_idle p session t.phase turns are)
 
 -- what the tests of an entry found, and what was made of the replay
 pub record GoesBy (p : ℕ) (session : PlainSession) (r after : Replay) (e : PlainEntry) : Type 0 where
@@ -201,6 +217,7 @@ goes_on p session before r now e h by =
         counts = by.counts ∙ h.counts;
         many = omega (arith, by.many, h.many, does.callers, ap (λ (v : Terminal). length v.callers) by.terminal);
         column = omega (arith, by.column, h.column, length-append before (e ∷ []));
+        flip = h.flip;
       },
     )
 

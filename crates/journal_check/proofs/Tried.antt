@@ -1,5 +1,5 @@
 -- What the outcome of a call tells of an entry of it; and characters that are handed over.
-use Rattle.std.proofs.Common.{◌≡◌, ℕ, zero, suc, Bool, false, ◌+◌, ◌<◌, ◌≤◌, ◌^◌, List, [], ◌∷◌, Some, true, length, take, take_all, ◌==◌, inl, inr, ne_eqb, sym, ◌∙◌, ap, subst, arith}
+use Rattle.std.proofs.Common.{◌≡◌, ℕ, zero, suc, Bool, false, ◌+◌, ◌-◌, ◌<◌, ◌≤◌, ◌^◌, List, [], ◌∷◌, Some, true, length, take, take_all, ◌==◌, inl, inr, ne_eqb, sym, ◌∙◌, ap, subst, arith}
 use Rattle.std.proofs.lemmas.Bool.{cases_lt, eqb-false, true_from_ne_false, false≢true}
 use Rattle.tty_base.specs.declared.characters.Flagged.{Flagged}
 use Rattle.tty_calls.specs.Plain.{PlainCall}
@@ -23,7 +23,7 @@ pub record LeftSmall (u : Terminal) (callers : ℕ) : Type 0 where
   pub known : length u.callers ≡ callers
   pub next : (c : ℕ) → (caller_at u c).next < 2 ^ 31
   pub parts : (c : ℕ) → (caller_at u c).parts < 2 ^ 31
-  pub taken : u.taken < 2 ^ 62
+  pub taken : u.taken < 2 ^ 63 - 2 ^ 32
 
 pub left_small : (t : Terminal) (c : ℕ) (call : PlainCall) → IsSmall t → LeftSmall (left_by (outcome t (caller_at t c) call) t) (length t.callers)
 left_small t c call small =
@@ -65,7 +65,7 @@ all_or_not t u xs n made is within left front stops = elim (cases_lt n (length x
 
 -- ---- characters that an answer drops
 
-pub drops_few : (t : Terminal) (drops : Bool) (n : ℕ) → DropsAt t drops n → t.capacity ≤ 65536 → n ≤ 65536
+pub drops_few : (t : Terminal) (drops : Bool) (n : ℕ) → DropsAt t drops n → t.capacity < 2 ^ 32 → n < 2 ^ 32
 drops_few t false n at capacity = omega (arith, at)
 drops_few t true n at capacity = omega (arith, at.1)
 

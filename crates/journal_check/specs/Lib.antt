@@ -10,3 +10,4 @@ pub mod Seen
 pub mod Short
 pub mod Trying
 pub mod Verdicts
+pub mod WellFormed

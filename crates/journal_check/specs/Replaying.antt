@@ -4,13 +4,14 @@ use Rattle.tty_calls.specs.declared.journals.Who.{Who}
 use Rattle.tty_calls.specs.declared.journals.Who.TheVariants.{Caller, Flusher, Line, Clock, Session}
 use Rattle.tty_calls.specs.Plain.{PlainEvent, answered, parted, waited, flushed, ticked, line_ended, clock_ended, caller_ended, phase_ended, hung_up, PlainEntry}
 use Rattle.tty_calls.specs.Sessions.{PlainSession, scripts_over, names_of, counts_on}
-use Rattle.tty_calls.specs.Limits.{IsWithinLimits}
 use Rattle.ldisc_switch.specs.Disciplines.{column_in}
 use Rattle.tty_terminal.specs.declared.callers.Piece.{Piece}
 use Rattle.tty_terminal.specs.Terminals.{Terminal, caller_at}
 use Rattle.tty_terminal.specs.Runs.{is_flush, RunHas, OneGeneration}
 use Rattle.journal_check.specs.declared.replay.Replay.{Replay}
+use Rattle.journal_check.specs.Legal.{flip_on}
 use Rattle.journal_check.specs.Verdicts.{AreFineTo}
+use Rattle.journal_check.specs.WellFormed.{IsWellFormed}
 use Rattle.journal_check.specs.Trying.{IsSmall}
 use Rattle.journal_check.specs.Scripts.{AreTurns}
 
@@ -65,7 +66,7 @@ latest_after (hung_up dropped) generation latest = latest
 
 -- what an entry needs to be judged
 pub record IsReady (p : ℕ) (session : PlainSession) (r : Replay) : Type 0 where
-  pub limits : IsWithinLimits session
+  pub formed : IsWellFormed session
   pub small : IsSmall r.terminal.terminal
   pub turns : AreTurns p session r.terminal.terminal.phase r.turns.items
   pub names : r.names ≡ names_of (scripts_over p session.phases)
@@ -82,3 +83,4 @@ pub record Follows (p : ℕ) (session : PlainSession) (before : List PlainEntry)
   pub counts : r.counts.items ≡ counts_on p session
   pub many : length r.turns.items ≡ length r.terminal.terminal.callers
   pub column : column_in r.terminal.terminal.disc ≤ 2 ^ 28 * length before
+  pub flip : flip_on p session < 2 ^ 32

@@ -1,49 +1,50 @@
--- Which script each caller has in a phase.
-use Rattle.std.specs.Prelude.{◌≡◌, ◌==◌, ℕ, ◌+◌, ◌<◌, ◌≤◌, ◌^◌, List, Option, None, Some, MatchBool, filter, length, slice_get, slice_index_or, slice_set}
-use Rattle.tty_calls.specs.Sessions.{PlainScript, PlainSession, scripts_over, names_of}
+-- Which scripts each caller has in a phase.
+use Rattle.std.specs.Prelude.{◌≡◌, ◌==◌, ℕ, ◌+◌, ◌<◌, ◌≤◌, List, [], Option, None, Some, MatchBool, if◌then◌else◌, filter, length, take, drop, slice_index_or, slice_set}
+use Rattle.tty_calls.specs.Plain.{PlainCall}
+use Rattle.tty_calls.specs.Sessions.{PlainScript, PlainSession, scripts_over, names_of, calls_of}
 use Rattle.journal_check.specs.declared.turns.Turn.{Turn}
 use Rattle.journal_check.specs.Legal.{phase_at, name_at, has_script, first_step}
 
 abbrev pub no_turn : Turn
 no_turn = record { begun = 0; first = 0; steps = 0; script = 0 }
 
--- a caller has its next turn in this phase, of so many calls, by the script at this place
+-- a turn with so many calls more in this phase: the caller's first ones there, by the script at this place, or further ones
+abbrev pub turn_then : Turn → (phase steps place : ℕ) → Turn
+turn_then t phase steps place =
+    if t.begun == phase + 1
+    then record { begun = t.begun; first = t.first; steps = t.steps + steps; script = t.script }
+    else record { begun = phase + 1; first = t.first + t.steps; steps = steps; script = place }
+
 abbrev pub turns_with_next : List Turn → Option ℕ → (phase steps place : ℕ) → List Turn
 turns_with_next turns None phase steps place = turns
 turns_with_next turns (Some c) phase steps place =
-    slice_set turns c (record {
-      begun = phase + 1;
-      first = (slice_index_or turns c no_turn).first + (slice_index_or turns c no_turn).steps;
-      steps = steps;
-      script = place;
-    })
+    slice_set turns c (turn_then (slice_index_or turns c no_turn) phase steps place)
 
--- the caller's turn is of this phase
-pub record IsOpen (p : ℕ) (session : PlainSession) (k c : ℕ) (t : Turn) : Type 0 where
+abbrev pub scripts_for : ℕ → List PlainScript → List PlainScript
+scripts_for p scripts = filter (λ s. s.port == p) scripts
+
+-- the caller's turn is of this phase, and has its calls among these scripts of the port, of which none stands before the
+-- turn's place
+pub record IsOpen (p : ℕ) (session : PlainSession) (k : ℕ) (scripts : List PlainScript) (c : ℕ) (t : Turn) : Type 0 where
   pub begun : t.begun ≡ k + 1
   pub first : t.first ≡ first_step p session k c
-  pub script : PlainScript
-  pub found : slice_get (phase_at session k).callers t.script ≡ Some script
-  pub on_port : script.port ≡ p
-  pub named : name_at p session c ≡ Some script.name
-  pub steps : t.steps ≡ length script.calls
+  pub steps : t.steps ≡ length (calls_of scripts (name_at p session c))
+  pub none : calls_of (scripts_for p (take t.script (phase_at session k).callers)) (name_at p session c) ≡ []
 
 -- it is of an earlier phase, if of any
 pub record IsIdle (p : ℕ) (session : PlainSession) (k c : ℕ) (t : Turn) : Type 0 where
   pub begun : t.begun ≤ k
   pub first : t.first + t.steps ≡ first_step p session k c
 
-abbrev pub scripts_for : ℕ → List PlainScript → List PlainScript
-scripts_for p scripts = filter (λ s. s.port == p) scripts
+-- a caller's turn is of phase k exactly where it has a script among these of the port
+abbrev pub IsTurnBy : ℕ → PlainSession → ℕ → List PlainScript → ℕ → Turn → Type 0
+IsTurnBy p session k scripts c t =
+    MatchBool (has_script scripts (name_at p session c)) (IsOpen p session k scripts c t) (IsIdle p session k c t)
 
--- a caller's turn is of phase k exactly where it has a script among these, the first ones of that phase
-abbrev pub IsTurnAmong : ℕ → PlainSession → ℕ → List PlainScript → ℕ → Turn → Type 0
-IsTurnAmong p session k scripts c t =
-    MatchBool (has_script (scripts_for p scripts) (name_at p session c)) (IsOpen p session k c t) (IsIdle p session k c t)
-
+-- the turns where these are the first scripts of the phase
 pub record AreTurnsAmong (p : ℕ) (session : PlainSession) (k : ℕ) (scripts : List PlainScript) (turns : List Turn) : Type 0 where
   pub many : length (names_of (scripts_over p session.phases)) ≤ length turns
-  pub each : (c : ℕ) → c < length turns → IsTurnAmong p session k scripts c (slice_index_or turns c no_turn)
+  pub each : (c : ℕ) → c < length turns → IsTurnBy p session k (scripts_for p scripts) c (slice_index_or turns c no_turn)
 
 -- the turns of phase k
 abbrev pub AreTurns : ℕ → PlainSession → ℕ → List Turn → Type 0
@@ -54,5 +55,6 @@ pub record AreIdle (p : ℕ) (session : PlainSession) (k : ℕ) (turns : List Tu
   pub many : length (names_of (scripts_over p session.phases)) ≤ length turns
   pub each : (c : ℕ) → c < length turns → IsIdle p session k c (slice_index_or turns c no_turn)
 
-abbrev pub AreSmallTurns : List Turn → Type 0
-AreSmallTurns turns = (c : ℕ) → c < length turns → (slice_index_or turns c no_turn).first + (slice_index_or turns c no_turn).steps < 2 ^ 32
+-- the calls under a name among a port's scripts from this place on
+abbrev pub calls_from : ℕ → List PlainScript → ℕ → List ℕ → List PlainCall
+calls_from p scripts from name = calls_of (scripts_for p (drop from scripts)) (Some name)

@@ -1,5 +1,5 @@
 -- What it is to try an entry, or a part of one, on a terminal.
-use Rattle.std.specs.Prelude.{◌≡◌, ℕ, Bool, MatchBool, is_some, ◌&&◌, ◌+◌, ◌<◌, ◌≤◌, ◌^◌, false}
+use Rattle.std.specs.Prelude.{◌≡◌, ℕ, Bool, MatchBool, is_some, ◌&&◌, ◌+◌, ◌-◌, ◌<◌, ◌≤◌, ◌^◌, false}
 use Rattle.tty_calls.specs.Plain.{PlainCall, PlainAnswer, handle_of}
 use Rattle.tty_calls.specs.Limits.{byte_count}
 use Rattle.ldisc_switch.specs.Disciplines.{column_in}
@@ -16,17 +16,17 @@ pub record IsSmall (t : Terminal) : Type 0 where
   pub tick : t.tick < 2 ^ 31
   pub generation : t.generation < 2 ^ 31
   pub phase : t.phase < 2 ^ 31
-  pub taken : t.taken < 2 ^ 62
-  pub capacity : t.capacity ≤ 65536
+  pub taken : t.taken < 2 ^ 63 - 2 ^ 32
+  pub capacity : t.capacity < 2 ^ 32
   pub within : t.sent ≤ t.taken + t.capacity
   pub next : (c : ℕ) → (caller_at t c).next < 2 ^ 31
   pub parts : (c : ℕ) → (caller_at t c).parts < 2 ^ 31
   pub column : column_in t.disc < 2 ^ 61
 
--- a call that a session can have
+-- a call by a handle of the table, whose bytes a number of 32 bits counts
 pub record IsSmallCall (call : PlainCall) : Type 0 where
   pub number : handle_of call < 32
-  pub bytes : byte_count call ≤ 65536
+  pub bytes : byte_count call < 2 ^ 32
 
 -- a call is answered so, in a phase with so many callers, where so many characters are dropped with it
 pub record IsAnsweredBy (t : Terminal) (callers c : ℕ) (call : PlainCall) (a : PlainAnswer) (dropped : ℕ) : Type 0 where

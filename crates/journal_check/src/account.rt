@@ -2,8 +2,8 @@
 
 ghost use Rattle.std.specs.Prelude.{◌≡◌, ◌↔◌, ◌<◌, ◌≤◌, IsTrue, IfOk, length};
 ghost use Rattle.tty_calls.specs.Sessions.{session_of};
-ghost use Rattle.tty_calls.specs.Limits.{IsWithinLimits};
 ghost use Rattle.uart_line.specs.Offered.{AreShown};
+ghost use Rattle.journal_check.specs.WellFormed.{IsWellFormed};
 ghost use Rattle.journal_check.specs.Legal.{flip_on, IsFinished, AreSeen, IsAccounted};
 ghost use Rattle.journal_check.specs.Verdicts.{HasNoWrong};
 ghost use Rattle.journal_check.specs.Receipts.{IsReceived};
@@ -19,7 +19,7 @@ use tty_base::NoMemory;
 use tty_calls::{PortRun, Session};
 
 /// The capacity of a port's flip buffer.
-fn capacity_of(session: &Session, port: usize) -> u32
+pub(crate) fn capacity_of(session: &Session, port: usize) -> u32
     ensures { result ≡ flip_on port (session_of session.now) }
 {
     match session.flips.as_slice().get(port) {
@@ -31,8 +31,6 @@ fn capacity_of(session: &Session, port: usize) -> u32
 /// Whether a journal is finished, its characters are those that its line received without the
 /// overruns, and the line's report has the numbers of its steps.
 fn is_kept(session: &Session, port: usize, run: &PortRun, received: &Received) -> bool
-    requires port { port < (session_of session.now).ports }
-    requires limits { IsWithinLimits (session_of session.now) }
     requires received { IsReceived port (session_of session.now) run.now.line.overruns.items received.now }
     requires shown { AreShown (flip_on port (session_of session.now)) 0 0 run.now.line.overruns.items }
     requires no_wrong { HasNoWrong port (session_of session.now) run.now.journal.items }
@@ -86,8 +84,7 @@ pub(crate) fn is_accounted(
     port: usize,
     run: &PortRun,
 ) -> Result<bool, NoMemory>
-    requires port { port < (session_of session.now).ports }
-    requires limits { IsWithinLimits (session_of session.now) }
+    requires formed { IsWellFormed (session_of session.now) }
     requires no_wrong { HasNoWrong port (session_of session.now) run.now.journal.items }
     ensures { IfOk result (λ right. IsTrue right ↔ IsAccounted port (session_of session.now) run.now) }
 {

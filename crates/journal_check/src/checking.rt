@@ -2,7 +2,7 @@
 
 ghost use Rattle.std.specs.Prelude.{◌≡◌, ◌<◌, All, IfOk, length};
 ghost use Rattle.tty_calls.specs.Sessions.{session_of};
-ghost use Rattle.tty_calls.specs.Limits.{IsWithinLimits};
+ghost use Rattle.journal_check.specs.WellFormed.{IsWellFormed};
 ghost use Rattle.journal_check.specs.Verdicts.{IsCountable, HasNoWrong, Fits};
 ghost use Rattle.journal_check.specs.Findings.{Finds, first_found};
 
@@ -30,8 +30,7 @@ fn judge_run(
     port: usize,
     run: &PortRun,
 ) -> Result<Finding, NoMemory>
-    requires port { port < (session_of session.now).ports }
-    requires limits { IsWithinLimits (session_of session.now) }
+    requires formed { IsWellFormed (session_of session.now) }
     requires few { IsCountable run.now }
     ensures { IfOk result (λ finding. Finds port (session_of session.now) run.now finding) }
 {
@@ -48,8 +47,7 @@ fn judge_account(
     port: usize,
     run: &PortRun,
 ) -> Result<Finding, NoMemory>
-    requires port { port < (session_of session.now).ports }
-    requires limits { IsWithinLimits (session_of session.now) }
+    requires formed { IsWellFormed (session_of session.now) }
     requires no_wrong { HasNoWrong port (session_of session.now) run.now.journal.items }
     ensures { IfOk result (λ finding. Finds port (session_of session.now) run.now finding) }
 {
@@ -61,24 +59,24 @@ fn judge_account(
 
 /// Judges the runs of a session, one for each port: whether all are legal, else the first port with a
 /// wrong entry and the first of these, else the first port whose run is all the same not legal. Each
-/// journal has fewer than 2^31 entries, as each has that a text of fewer bytes spells.
+/// journal has fewer than 2^31 entries, as each has that a text of fewer bytes spells. The session need not be within
+/// the limits of a text. `NoMemory` is also the answer where what it asks for is more than the judge's numbers count:
+/// 2^32 characters on a line, or bytes of a call, 2^64 calls of a caller, or more than 255 callers in a phase of a port
+/// that has more than 65536.
 pub fn check(alloc: Global, session: &Session, runs: &[PortRun]) -> Result<Verdict, NoMemory>
     requires runs { length runs.now ≡ (session_of session.now).ports }
-    requires limits { IsWithinLimits (session_of session.now) }
+    requires formed { IsWellFormed (session_of session.now) }
     requires few { All IsCountable runs.now }
     ensures { IfOk result (λ verdict. Fits (session_of session.now) runs.now verdict) }
 {
     let mut account = None;
-    for (port, run) in runs.iter().enumerate() {
-        match judge_run(alloc, session, port, run)? {
+    for port in 0..session.ports {
+        let place = usize::from(port);
+        let run = &runs[place];
+        match judge_run(alloc, session, place, run)? {
             Finding::Legal => {}
-            Finding::Wrong(entry) => {
-                return Ok(Verdict::Wrong {
-                    port: port as u8,
-                    entry,
-                });
-            }
-            Finding::Account => account = first_of(account, port as u8),
+            Finding::Wrong(entry) => return Ok(Verdict::Wrong { port, entry }),
+            Finding::Account => account = first_of(account, port),
         }
     }
     match account {

@@ -3,14 +3,15 @@
 ghost use Rattle.std.specs.Prelude.{◌≡◌, ◌↔◌, ℕ, Option, Some, true, false, ◌+◌, ◌≤◌, ◌<◌, ◌^◌, IsTrue, IfOk, OnOk, length};
 ghost use Rattle.tty_calls.specs.declared.journals.Who.TheVariants as who;
 ghost use Rattle.tty_calls.specs.Plain.{PlainCall, call_of, event_of};
-ghost use Rattle.tty_calls.specs.Sessions.{session_of, call_at};
-ghost use Rattle.tty_calls.specs.Limits.{IsWithinLimits};
+ghost use Rattle.tty_calls.specs.Sessions.{session_of, scripts_over, names_of, call_at};
+ghost use Rattle.tty_calls.specs.Limits.{byte_count};
 ghost use Rattle.ldisc_switch.specs.Disciplines.{column_in};
 ghost use Rattle.tty_terminal.specs.Receiving.{after_characters};
 ghost use Rattle.tty_terminal.specs.Steps.{IsFlush, IsNext, IsTick, IsLineEnd, IsCallerEnd, IsPhaseEnd, IsHangup, ByCaller, by_caller, IsAllowed, after_event, after_caller_end, next_phase, with_dropped};
 ghost use Rattle.tty_terminal.specs.Generations.{after_hangup};
 ghost use Rattle.tty_terminal.specs.Runs.{is_of_call, is_flush};
 ghost use Rattle.journal_check.specs.Legal.{IsInPhase};
+ghost use Rattle.journal_check.specs.WellFormed.{IsWellFormed};
 ghost use Rattle.journal_check.specs.Trying.{Tries, IsSmall, IsSmallCall};
 ghost use Rattle.journal_check.specs.Scripts.{AreTurns};
 ghost use Rattle.journal_check.specs.Replaying.{CallStays, Stays};
@@ -23,7 +24,7 @@ use crate::turns::{Turn, call_in};
 use ldisc_switch::{Kind, fresh};
 use std::alloc::Global;
 use tty_base::{Flagged, NoMemory};
-use tty_calls::{Call, Entry, Event, Session, Who};
+use tty_calls::{Call, Entry, Event, Names, Session, Who};
 use tty_terminal::Terminal;
 
 // ---- generations
@@ -114,28 +115,35 @@ fn try_caller_end(terminal: &mut Terminal, callers: usize, entry: &Entry) -> boo
     true
 }
 
-fn try_phase_end(terminal: &mut Terminal, counts: &[u8], entry: &Entry) -> bool
-    requires { IsSmall terminal.old.terminal }
-    ensures tries { Tries ((entry.now.who ≡ who.Session) × IsPhaseEnd counts.now terminal.old.terminal entry.now.step entry.now.part)
-        (next_phase terminal.old.terminal) terminal.new.terminal result }
-    ensures column { column_in terminal.new.terminal.disc ≡ column_in terminal.old.terminal.disc }
+fn try_phase_end(
+    terminal: &mut Terminal,
+    callers: usize,
+    counts: &[usize],
+    entry: &Entry,
+) -> Result<bool, NoMemory>
+    requires small { IsSmall terminal.old.terminal }
+    requires callers { callers ≡ length terminal.old.terminal.callers }
+    ensures tries { IfOk result (λ made. Tries ((entry.now.who ≡ who.Session) × IsPhaseEnd counts.now terminal.old.terminal entry.now.step entry.now.part)
+        (next_phase terminal.old.terminal) terminal.new.terminal made) }
+    ensures column { OnOk result (column_in terminal.new.terminal.disc ≡ column_in terminal.old.terminal.disc) }
 {
-    if entry.who != Who::Session || !may_end_phase(terminal, counts, entry.step, entry.part) {
-        return false;
+    if entry.who != Who::Session
+        || !may_end_phase(terminal, callers, counts, entry.step, entry.part)?
+    {
+        return Ok(false);
     }
     terminal.begin_phase();
-    true
+    Ok(true)
 }
 
 fn try_hangup(
     alloc: Global,
     terminal: &mut Terminal,
-    counts: &[u8],
+    counts: &[usize],
     entry: &Entry,
     dropped: &[Flagged],
 ) -> Result<bool, NoMemory>
-    requires small { IsSmall terminal.old.terminal }
-    requires few { length counts.now ≤ 64 }
+    requires { IsSmall terminal.old.terminal }
     ensures tries { IfOk result (λ made. Tries ((entry.now.who ≡ who.Session) × IsHangup counts.now terminal.old.terminal entry.now.step entry.now.part dropped.now)
         (with_dropped (after_hangup terminal.old.terminal) (length dropped.now)) terminal.new.terminal made) }
     ensures column { OnOk result (column_in terminal.new.terminal.disc ≤ column_in terminal.old.terminal.disc) }
@@ -155,12 +163,11 @@ fn try_other(
     alloc: Global,
     terminal: &mut Terminal,
     callers: usize,
-    counts: &[u8],
+    counts: &[usize],
     entry: &Entry,
 ) -> Result<bool, NoMemory>
     requires small { IsSmall terminal.old.terminal }
     requires callers { callers ≡ length terminal.old.terminal.callers }
-    requires few { length counts.now ≤ 64 }
     requires other { is_of_call (event_of entry.now.event) ≡ false }
     requires no_flush { is_flush (event_of entry.now.event) ≡ false }
     ensures tries { IfOk result (λ made. (calls : ℕ → ℕ → Option PlainCall) → Tries (IsAllowed calls counts.now terminal.old.terminal entry.now.who entry.now.step entry.now.part (event_of entry.now.event))
@@ -172,7 +179,7 @@ fn try_other(
         Event::LineEnd(sent) => Ok(try_line_end(terminal, entry, *sent)),
         Event::ClockEnd => Ok(try_clock_end(terminal, entry)),
         Event::CallerEnd => Ok(try_caller_end(terminal, callers, entry)),
-        Event::PhaseEnd => Ok(try_phase_end(terminal, counts, entry)),
+        Event::PhaseEnd => try_phase_end(terminal, callers, counts, entry),
         Event::Hangup(dropped) => { try_hangup(alloc, terminal, counts, entry, dropped) }
         _ => unreachable!(),
     }
@@ -180,15 +187,20 @@ fn try_other(
 
 // ---- calls and flushes
 
+/// The most bytes of a call that a number of 32 bits counts.
+const MOST_BYTES: usize = 0xffff_ffff;
+
 /// Tries an entry of a caller's next call, which is known.
 fn try_of_call(
     alloc: Global,
     terminal: &mut Terminal,
-    counts: &[u8],
+    callers: usize,
+    counts: &[usize],
     caller: u16,
     call: &Call,
     entry: &Entry,
 ) -> Result<bool, NoMemory>
+    requires callers { callers ≡ length terminal.old.terminal.callers }
     requires known { caller < length terminal.old.terminal.callers }
     requires small { IsSmall terminal.old.terminal }
     requires call { IsSmallCall (call_of call.now) }
@@ -201,13 +213,26 @@ fn try_of_call(
 {
     match &entry.event {
         Event::Answer { answer, dropped } => {
-            let callers = callers_of(counts, terminal.phase());
+            let of_phase = callers_of(counts, terminal.phase());
             let count = dropped.len();
-            try_answer(alloc, terminal, callers, caller, call, answer, count)
+            try_answer(
+                alloc, terminal, callers, of_phase, caller, call, answer, count,
+            )
         }
         Event::Part(count) => try_part(alloc, terminal, caller, call, *count),
         Event::Wait => Ok(try_wait(terminal, caller, call)),
         _ => unreachable!(),
+    }
+}
+
+/// Whether a number of 32 bits counts the bytes that a call hands over.
+fn is_counted(call: &Call) -> bool
+    ensures { IsTrue result ↔ (byte_count (call_of call.now) < 2 ^ 32) }
+{
+    match call {
+        Call::Write { bytes, .. } => bytes.len() <= MOST_BYTES,
+        Call::SendPacket { bytes, .. } => bytes.len() <= MOST_BYTES,
+        _ => true,
     }
 }
 
@@ -216,13 +241,15 @@ fn try_by_caller(
     alloc: Global,
     terminal: &mut Terminal,
     turns: &[Turn],
-    counts: &[u8],
+    names: &Names,
+    counts: &[usize],
     session: &Session,
     port: usize,
     caller: u16,
     entry: &Entry,
 ) -> Result<bool, NoMemory>
-    requires limits { IsWithinLimits (session_of session.now) }
+    requires formed { IsWellFormed (session_of session.now) }
+    requires names { names.now ≡ names_of (scripts_over port (session_of session.now).phases) }
     requires small { IsSmall terminal.old.terminal }
     requires turns { AreTurns port (session_of session.now) terminal.old.terminal.phase turns.now }
     requires many { length turns.now ≡ length terminal.old.terminal.callers }
@@ -237,8 +264,12 @@ fn try_by_caller(
         return Ok(false);
     }
     let turn = turns[caller as usize];
-    let call = call_in(session, port, terminal.phase(), caller, turn, entry.step);
-    try_of_call(alloc, terminal, counts, caller, &call, entry)
+    let phase = terminal.phase();
+    let call = call_in(session, names, port, phase, caller, turn, entry.step);
+    if !is_counted(&call) {
+        return Err(NoMemory);
+    }
+    try_of_call(alloc, terminal, turns.len(), counts, caller, &call, entry)
 }
 
 /// Tries a piece of a flush run.
@@ -259,16 +290,17 @@ pub(crate) fn try_entry(
     alloc: Global,
     terminal: &mut Terminal,
     turns: &[Turn],
-    counts: &[u8],
+    names: &Names,
+    counts: &[usize],
     session: &Session,
     port: usize,
     entry: &Entry,
 ) -> Result<bool, NoMemory>
-    requires limits { IsWithinLimits (session_of session.now) }
+    requires formed { IsWellFormed (session_of session.now) }
+    requires names { names.now ≡ names_of (scripts_over port (session_of session.now).phases) }
     requires small { IsSmall terminal.old.terminal }
     requires turns { AreTurns port (session_of session.now) terminal.old.terminal.phase turns.now }
     requires many { length turns.now ≡ length terminal.old.terminal.callers }
-    requires few { length counts.now ≤ 64 }
     requires in_phase { IsInPhase port (session_of session.now) terminal.old.terminal.phase entry.now.who entry.now.step (event_of entry.now.event) }
     ensures tries { IfOk result (λ made. Tries (IsAllowed (call_at port (session_of session.now)) counts.now terminal.old.terminal entry.now.who entry.now.step entry.now.part (event_of entry.now.event))
         (after_event (call_at port (session_of session.now)) terminal.old.terminal entry.now.who entry.now.step entry.now.part (event_of entry.now.event)) terminal.new.terminal made) }
@@ -277,7 +309,9 @@ pub(crate) fn try_entry(
     match &entry.event {
         Event::Answer { .. } | Event::Part(_) | Event::Wait => match entry.who {
             Who::Caller(caller) => {
-                try_by_caller(alloc, terminal, turns, counts, session, port, caller, entry)
+                try_by_caller(
+                    alloc, terminal, turns, names, counts, session, port, caller, entry,
+                )
             }
             _ => Ok(false),
         },

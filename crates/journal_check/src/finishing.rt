@@ -3,7 +3,6 @@
 ghost use Rattle.std.specs.Prelude.{◌≡◌, ◌+◌, ◌≤◌, ◌<◌, ◌^◌, length, slice_index};
 ghost use Rattle.tty_calls.specs.Plain.{event_of};
 ghost use Rattle.tty_calls.specs.Sessions.{session_of, ticks_on};
-ghost use Rattle.tty_calls.specs.Limits.{IsWithinLimits};
 ghost use Rattle.tty_terminal.specs.Runs.{phase_after};
 ghost use Rattle.journal_check.specs.Legal.{phase_at};
 ghost use Rattle.journal_check.specs.Finishing.{may_go as may_stand, ticks_after, is_hangup as hangs_up, goes_well as goes_well_from};
@@ -59,9 +58,7 @@ fn phase_then(event: &Event, phase: usize) -> usize
 
 /// How many ticks a port has in a phase.
 fn ticks_in(session: &Session, port: usize, phase: usize) -> u32
-    requires port { port < (session_of session.now).ports }
-    requires limits { IsWithinLimits (session_of session.now) }
-    requires phase { phase < length (session_of session.now).phases }
+    requires { phase < length (session_of session.now).phases }
     ensures { result ≡ ticks_on port (phase_at (session_of session.now) phase) }
 {
     match session.phases.as_slice()[phase].ticks.as_slice().get(port) {
@@ -73,9 +70,7 @@ fn ticks_in(session: &Session, port: usize, phase: usize) -> u32
 /// Whether these entries go through the phases, with so many characters sent at the end of each
 /// phase's line, to a hangup after the last.
 pub(crate) fn goes_well(session: &Session, port: usize, sents: &[usize], journal: &Journal) -> bool
-    requires port { port < (session_of session.now).ports }
-    requires limits { IsWithinLimits (session_of session.now) }
-    requires sents { length sents.now ≡ length (session_of session.now).phases }
+    requires { length sents.now ≡ length (session_of session.now).phases }
     ensures { result ≡ goes_well_from (λ k. slice_index sents.now k) (λ k. ticks_on port (phase_at (session_of session.now) k)) (length (session_of session.now).phases) 0 0 journal.now.items }
 {
     let mut phase = 0;

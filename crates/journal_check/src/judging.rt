@@ -1,14 +1,15 @@
 //! The judge of one port's journal.
 
-ghost use Rattle.std.specs.Prelude.{◌≡◌, ◌==◌, [], ◌<◌, ◌≤◌, ◌^◌, MatchOption, IfOk, length, map, filter, sum};
+ghost use Rattle.std.specs.Prelude.{◌≡◌, ◌==◌, [], ◌<◌, ◌^◌, MatchOption, IfOk, length, map, filter, sum};
 ghost use Rattle.tty_calls.specs.Sessions.{script_of, session_of, scripts_over, names_of, counts_on};
-ghost use Rattle.tty_calls.specs.Limits.{IsWithinLimits};
+ghost use Rattle.journal_check.specs.WellFormed.{IsWellFormed};
 ghost use Rattle.journal_check.specs.Verdicts.{HasNoWrong, IsFirstWrong};
 ghost use Rattle.journal_check.specs.Scripts.{AreTurns};
 ghost use Rattle.journal_check.specs.Replaying.{Follows};
 
+use crate::account::capacity_of;
 use crate::replay::{Replay, begin_phase, judge};
-use crate::turns::{NO_TURN, Turn};
+use crate::turns::{NO_TURN, Turn, sum_of};
 use std::alloc::Global;
 use tty_base::NoMemory;
 use tty_calls::{Journal, Names, Script, Session};
@@ -28,23 +29,25 @@ fn count_of(scripts: &[Script], port: usize) -> usize
 }
 
 /// How many callers a port has in each phase.
-fn counts_in(alloc: Global, session: &Session, port: usize) -> Result<Vec<u8>, NoMemory>
-    requires { IsWithinLimits (session_of session.now) }
+fn counts_in(alloc: Global, session: &Session, port: usize) -> Result<Vec<usize>, NoMemory>
     ensures { IfOk result (λ counts. counts.items ≡ counts_on port (session_of session.now)) }
 {
     let mut counts = Vec::new(alloc);
     for phase in session.phases.as_slice() {
-        counts.push(count_of(phase.callers.as_slice(), port) as u8)?;
+        counts.push(count_of(phase.callers.as_slice(), port))?;
     }
     Ok(counts)
 }
 
 /// The sum of these numbers.
-fn total(counts: &[u8]) -> usize
-    requires { length counts.now ≤ 64 }
-    ensures { result ≡ sum counts.now }
+fn total(counts: &[usize]) -> Result<usize, NoMemory>
+    ensures { IfOk result (λ all. all ≡ sum counts.now) }
 {
-    counts.iter().map(|count| *count as usize).sum()
+    let mut all = 0;
+    for count in counts {
+        all = sum_of(all, *count)?;
+    }
+    Ok(all)
 }
 
 /// Each caller's turn in the first phase.
@@ -57,26 +60,23 @@ fn first_turns(
 ) -> Result<Vec<Turn>, NoMemory>
     requires names { names.now ≡ names_of (scripts_over port (session_of session.now).phases) }
     requires callers { callers ≡ sum (counts_on port (session_of session.now)) }
-    requires limits { IsWithinLimits (session_of session.now) }
     ensures turns { IfOk result (λ turns. AreTurns port (session_of session.now) 0 turns.items) }
     ensures many { IfOk result (λ turns. length turns.items ≡ callers) }
 {
     let mut turns = vec![in alloc; NO_TURN; callers]?;
-    begin_phase(turns.as_mut_slice(), names, session, port, 0);
+    begin_phase(turns.as_mut_slice(), names, session, port, 0)?;
     Ok(turns)
 }
 
 /// The replay of a port of a session, before its first entry.
 fn begin(alloc: Global, session: &Session, port: usize) -> Result<Replay, NoMemory>
-    requires port { port < (session_of session.now).ports }
-    requires limits { IsWithinLimits (session_of session.now) }
     ensures { IfOk result (λ replay. Follows port (session_of session.now) [] replay) }
 {
     let names = Names::on_port(alloc, session, port)?;
     let counts = counts_in(alloc, session, port)?;
-    let callers = total(counts.as_slice());
+    let callers = total(counts.as_slice())?;
     let turns = first_turns(alloc, &names, session, port, callers)?;
-    let capacity = session.flips.as_slice()[port];
+    let capacity = capacity_of(session, port);
     Ok(Replay {
         terminal: Terminal::new(alloc, callers, capacity)?,
         turns,
@@ -94,8 +94,7 @@ fn first_wrong_of(
     port: usize,
     journal: &Journal,
 ) -> Result<Option<u32>, NoMemory>
-    requires port { port < (session_of session.now).ports }
-    requires limits { IsWithinLimits (session_of session.now) }
+    requires formed { IsWellFormed (session_of session.now) }
     requires few { length journal.now.items < 2 ^ 31 }
     requires first { Follows port (session_of session.now) [] replay.old }
     ensures { IfOk result (λ found. MatchOption found (HasNoWrong port (session_of session.now) journal.now.items) (λ place. IsFirstWrong port (session_of session.now) journal.now.items place)) }
@@ -116,8 +115,7 @@ pub(crate) fn first_wrong(
     port: usize,
     journal: &Journal,
 ) -> Result<Option<u32>, NoMemory>
-    requires port { port < (session_of session.now).ports }
-    requires limits { IsWithinLimits (session_of session.now) }
+    requires formed { IsWellFormed (session_of session.now) }
     requires few { length journal.now.items < 2 ^ 31 }
     ensures { IfOk result (λ found. MatchOption found (HasNoWrong port (session_of session.now) journal.now.items) (λ place. IsFirstWrong port (session_of session.now) journal.now.items place)) }
 {

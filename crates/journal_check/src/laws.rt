@@ -5,12 +5,19 @@ ghost use Rattle.tty_base.specs.declared.lines.Overrun.{Overrun};
 ghost use Rattle.tty_calls.specs.declared.journals.PortRun.{PortRun};
 ghost use Rattle.tty_calls.specs.Plain.{PlainEntry};
 ghost use Rattle.tty_calls.specs.Sessions.{PlainSession, call_at, counts_on};
+ghost use Rattle.tty_calls.specs.Limits.{IsWithinLimits};
 ghost use Rattle.tty_terminal.specs.Terminals.{Terminal};
 ghost use Rattle.tty_terminal.specs.Runs.{Leads};
 ghost use Rattle.journal_check.specs.Legal.{IsAccounted, IsLegalOn, IsPhasePart, session_events_in};
 ghost use Rattle.journal_check.specs.Phases.{BeginsPhase, CompletesPhase};
 ghost use Rattle.journal_check.specs.Verdicts.{HasNoWrong, Fits};
+ghost use Rattle.journal_check.specs.WellFormed.{IsWellFormed};
 ghost use Rattle.journal_check.specs.declared.verdicts.Verdict.{Verdict};
+
+/// A session within the limits is well-formed, so that its journals can be judged.
+pub fn a_session_within_the_limits_is_well_formed()
+    ensures { (session : PlainSession) → IsWithinLimits session → IsWellFormed session }
+{}
 
 /// No two verdicts fit the same runs.
 pub fn at_most_one_verdict_fits()

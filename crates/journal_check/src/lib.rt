@@ -13,6 +13,7 @@ mod laws;
 mod lines;
 mod overruns;
 mod replay;
+mod resting;
 mod seen;
 mod steps;
 mod turns;
@@ -20,7 +21,8 @@ mod verdicts;
 
 pub use checking::check;
 pub use laws::{
-    a_legal_run_has_no_wrong_entry, an_accounted_run_without_wrong_entries_is_legal,
-    at_most_one_verdict_fits, the_ends_of_a_phase_tell_its_part,
+    a_legal_run_has_no_wrong_entry, a_session_within_the_limits_is_well_formed,
+    an_accounted_run_without_wrong_entries_is_legal, at_most_one_verdict_fits,
+    the_ends_of_a_phase_tell_its_part,
 };
 pub use verdicts::Verdict;

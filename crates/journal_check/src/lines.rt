@@ -3,23 +3,26 @@
 ghost use Rattle.std.specs.Prelude.{◌≡◌, ◌+◌, ◌≤◌, ◌<◌, ◌^◌, ◌++◌, ◌∷◌, [], IsTrue, IfOk, OnOk, length, drop};
 ghost use Rattle.tty_base.specs.Lines.{arrival_count};
 ghost use Rattle.tty_calls.specs.Sessions.{session_of, line_on};
-ghost use Rattle.tty_calls.specs.Limits.{IsWithinLimits, character_count};
+ghost use Rattle.tty_calls.specs.Limits.{character_count};
 ghost use Rattle.journal_check.specs.Legal.{phase_at};
+ghost use Rattle.journal_check.specs.WellFormed.{IsWellFormed};
 ghost use Rattle.journal_check.specs.Accounts.{is_at, kept_from};
 ghost use Rattle.journal_check.specs.Receipts.{IsReceived};
 
-use line_steps::LineSteps;
+use crate::turns::sum_of;
 use std::alloc::Global;
 use tty_base::{Chars, Flagged, LineStep, NoMemory, Overrun};
 use tty_calls::Session;
 use uart_line::Line;
 
+/// The most characters that a line counts.
+const MOST_ARRIVALS: usize = 0xffff_ffff;
+
 /// How many characters arrive in these steps.
-fn arrivals_in(steps: &[LineStep]) -> u32
-    requires { arrival_count steps.now < 2 ^ 31 }
+fn arrivals_in(steps: &[LineStep]) -> usize
     ensures { result ≡ arrival_count steps.now }
 {
-    let mut count = 0;
+    let mut count = 0usize;
     for step in steps {
         match step {
             LineStep::Rx(_) | LineStep::Break => count += 1,
@@ -29,43 +32,35 @@ fn arrivals_in(steps: &[LineStep]) -> u32
     count
 }
 
-/// The steps of a port's line in a phase.
-fn steps_of(session: &Session, port: usize, phase: usize) -> &LineSteps
-    requires port { port < (session_of session.now).ports }
-    requires limits { IsWithinLimits (session_of session.now) }
-    requires phase { phase < length (session_of session.now).phases }
-    ensures { result.now.items ≡ line_on port (phase_at (session_of session.now) phase) }
-{
-    &session.phases.as_slice()[phase].lines.as_slice()[port]
-}
-
-/// The steps of a port's line in a phase, written out one by one.
+/// The steps of a port's line in a phase, written out one by one: none, where the phase has no line for the port.
 fn steps_out(
     alloc: Global,
     session: &Session,
     port: usize,
     phase: usize,
 ) -> Result<Vec<LineStep>, NoMemory>
-    requires port { port < (session_of session.now).ports }
-    requires limits { IsWithinLimits (session_of session.now) }
-    requires phase { phase < length (session_of session.now).phases }
+    requires { phase < length (session_of session.now).phases }
     ensures { IfOk result (λ steps. steps.items ≡ line_on port (phase_at (session_of session.now) phase)) }
 {
-    steps_of(session, port, phase).written_out(alloc)
+    match session.phases.as_slice()[phase].lines.as_slice().get(port) {
+        Some(steps) => steps.written_out(alloc),
+        None => Ok(Vec::new(alloc)),
+    }
 }
 
-/// How many characters arrive on a port.
+/// How many characters arrive on a port. More than a number of 32 bits counts is want of memory.
 fn arrivals_on(alloc: Global, session: &Session, port: usize) -> Result<u32, NoMemory>
-    requires port { port < (session_of session.now).ports }
-    requires limits { IsWithinLimits (session_of session.now) }
     ensures { IfOk result (λ count. count ≡ character_count port (session_of session.now).phases) }
 {
     let mut count = 0;
     for phase in 0..session.phases.len() {
         let steps = steps_out(alloc, session, port, phase)?;
-        count += arrivals_in(steps.as_slice());
+        count = sum_of(count, arrivals_in(steps.as_slice()))?;
     }
-    Ok(count)
+    if count > MOST_ARRIVALS {
+        return Err(NoMemory);
+    }
+    Ok(count as u32)
 }
 
 /// Whether the next overrun, if any, has this place.
@@ -120,8 +115,7 @@ pub(crate) fn received_on(
     port: usize,
     overruns: &[Overrun],
 ) -> Result<Received, NoMemory>
-    requires port { port < (session_of session.now).ports }
-    requires limits { IsWithinLimits (session_of session.now) }
+    requires { IsWellFormed (session_of session.now) }
     ensures { IfOk result (λ received. IsReceived port (session_of session.now) overruns.now received) }
 {
     let most = arrivals_on(alloc, session, port)?;

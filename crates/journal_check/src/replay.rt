@@ -1,9 +1,8 @@
 //! A journal replayed, entry by entry.
 
-ghost use Rattle.std.specs.Prelude.{◌≡◌, ℕ, List, ◌∷◌, [], ◌++◌, ◌+◌, ◌<◌, ◌≤◌, ◌^◌, true, false, MatchBool, IfOk, length};
+ghost use Rattle.std.specs.Prelude.{◌≡◌, ℕ, List, ◌∷◌, [], ◌++◌, ◌+◌, ◌<◌, ◌≤◌, ◌^◌, true, false, MatchBool, IfOk, OnOk, length};
 ghost use Rattle.tty_calls.specs.Plain.{PlainEntry, entry_of, event_of};
 ghost use Rattle.tty_calls.specs.Sessions.{session_of, scripts_over, names_of};
-ghost use Rattle.tty_calls.specs.Limits.{IsWithinLimits};
 ghost use Rattle.journal_check.specs.Legal.{is_phase_end};
 ghost use Rattle.journal_check.specs.Verdicts.{IsFine};
 ghost use Rattle.journal_check.specs.Scripts.{AreTurns, AreIdle};
@@ -24,7 +23,7 @@ pub(crate) struct Replay {
     pub(crate) turns: Vec<Turn>,
     pub(crate) names: Names,
     /// How many callers each phase has.
-    pub(crate) counts: Vec<u8>,
+    pub(crate) counts: Vec<usize>,
     /// The generation of the latest flush run.
     pub(crate) latest: u32,
 }
@@ -36,29 +35,34 @@ pub(crate) fn begin_phase(
     session: &Session,
     port: usize,
     phase: u32,
-)
+) -> Result<(), NoMemory>
     requires names { names.now ≡ names_of (scripts_over port (session_of session.now).phases) }
-    requires limits { IsWithinLimits (session_of session.now) }
+    requires small { phase ≤ 2 ^ 31 }
     requires idle { AreIdle port (session_of session.now) phase turns.old }
-    ensures turns { AreTurns port (session_of session.now) phase turns.new }
+    ensures turns { OnOk result (AreTurns port (session_of session.now) phase turns.new) }
+    ensures many { OnOk result (length turns.new ≡ length turns.old) }
 {
     if (phase as usize) < session.phases.len() {
-        open_phase(turns, names, session, port, phase);
+        open_phase(turns, names, session, port, phase)?;
     }
+    Ok(())
 }
 
 /// What an entry leaves beside the terminal.
-fn note(replay: &mut Replay, session: &Session, port: usize, entry: &Entry)
+fn note(replay: &mut Replay, session: &Session, port: usize, entry: &Entry) -> Result<(), NoMemory>
     requires names { replay.old.names ≡ names_of (scripts_over port (session_of session.now).phases) }
-    requires limits { IsWithinLimits (session_of session.now) }
+    requires small { replay.old.terminal.terminal.phase ≤ 2 ^ 31 }
     requires idle { is_phase_end (event_of entry.now.event) ≡ true → AreIdle port (session_of session.now) replay.old.terminal.terminal.phase replay.old.turns.items }
-    ensures same { replay.new ≡ record replay.old { turns = replay.new.turns; latest = latest_after (event_of entry.now.event) entry.now.generation replay.old.latest } }
-    ensures begins { is_phase_end (event_of entry.now.event) ≡ true → AreTurns port (session_of session.now) replay.old.terminal.terminal.phase replay.new.turns.items }
-    ensures stays { is_phase_end (event_of entry.now.event) ≡ false → replay.new.turns.items ≡ replay.old.turns.items }
-    ensures many { length replay.new.turns.items ≡ length replay.old.turns.items }
+    ensures same { OnOk result (replay.new ≡ record replay.old { turns = replay.new.turns; latest = latest_after (event_of entry.now.event) entry.now.generation replay.old.latest }) }
+    ensures begins { OnOk result (is_phase_end (event_of entry.now.event) ≡ true → AreTurns port (session_of session.now) replay.old.terminal.terminal.phase replay.new.turns.items) }
+    ensures stays { OnOk result (is_phase_end (event_of entry.now.event) ≡ false → replay.new.turns.items ≡ replay.old.turns.items) }
+    ensures many { OnOk result (length replay.new.turns.items ≡ length replay.old.turns.items) }
 {
     match entry.event {
-        Event::Flush(_) => replay.latest = entry.generation,
+        Event::Flush(_) => {
+            replay.latest = entry.generation;
+            Ok(())
+        }
         Event::PhaseEnd => begin_phase(
             replay.turns.as_mut_slice(),
             &replay.names,
@@ -66,7 +70,7 @@ fn note(replay: &mut Replay, session: &Session, port: usize, entry: &Entry)
             port,
             replay.terminal.phase(),
         ),
-        _ => {}
+        _ => Ok(()),
     }
 }
 
@@ -97,6 +101,7 @@ pub(crate) fn judge(
         alloc,
         &mut replay.terminal,
         turns,
+        &replay.names,
         counts,
         session,
         port,
@@ -104,6 +109,6 @@ pub(crate) fn judge(
     )? {
         return Ok(false);
     }
-    note(replay, session, port, entry);
+    note(replay, session, port, entry)?;
     Ok(true)
 }

@@ -1,6 +1,6 @@
 //! One entry of each kind on the terminal: whether it may stand, and what it does where it may.
 
-ghost use Rattle.std.specs.Prelude.{◌≡◌, ◌↔◌, List, ◌+◌, ◌*◌, ◌^◌, ◌≤◌, ◌<◌, ◌&&◌, false, Some, is_some, IsTrue, IfOk, OnOk, length};
+ghost use Rattle.std.specs.Prelude.{◌≡◌, ◌↔◌, List, ◌+◌, ◌-◌, ◌*◌, ◌^◌, ◌≤◌, ◌<◌, ◌&&◌, false, Some, is_some, IsTrue, IfOk, OnOk, length};
 ghost use Rattle.tty_base.specs.declared.characters.Flagged.{Flagged};
 ghost use Rattle.tty_calls.specs.Plain.{call_of, answer_lent, handle_of, idle};
 ghost use Rattle.ldisc_switch.specs.Disciplines.{column_in};
@@ -12,6 +12,7 @@ ghost use Rattle.tty_terminal.specs.Steps.{IsNext, IsTick, IsLineEnd, IsCallerEn
 ghost use Rattle.journal_check.specs.Trying.{Tries, IsSmall, IsSmallCall, IsAnsweredBy, BeginsWait};
 
 use crate::answers::is_same;
+use crate::resting::{is_quiet, may_end};
 use std::alloc::Global;
 use tty_base::{Flagged, NoMemory};
 use tty_calls::{AnswerRef, Call};
@@ -21,7 +22,7 @@ use tty_terminal::{Met, Piece, ROOM_FOR_CALL, Terminal};
 const MOST_IN_PIECE: usize = 64;
 
 /// How many callers a phase has.
-pub(crate) fn callers_of(counts: &[u8], phase: u32) -> u8
+pub(crate) fn callers_of(counts: &[usize], phase: u32) -> usize
     ensures { result ≡ callers_in counts.now phase }
 {
     match counts.get(phase as usize) {
@@ -69,21 +70,30 @@ pub(crate) fn may_end_caller(
 }
 
 /// Whether the phase may end.
-pub(crate) fn may_end_phase(terminal: &Terminal, counts: &[u8], step: u32, part: u32) -> bool
-    ensures { IsTrue result ↔ IsPhaseEnd counts.now terminal.now.terminal step part }
+pub(crate) fn may_end_phase(
+    terminal: &Terminal,
+    callers: usize,
+    counts: &[usize],
+    step: u32,
+    part: u32,
+) -> Result<bool, NoMemory>
+    requires { callers ≡ length terminal.now.terminal.callers }
+    ensures { IfOk result (λ may. IsTrue may ↔ IsPhaseEnd counts.now terminal.now.terminal step part) }
 {
-    step == terminal.phase() && part == 0 && terminal.may_end(callers_of(counts, terminal.phase()))
+    if step != terminal.phase() || part != 0 {
+        return Ok(false);
+    }
+    may_end(terminal, callers, callers_of(counts, terminal.phase()))
 }
 
 /// Whether the session may hang up, with so many characters dropped.
 pub(crate) fn may_hang_up(
     terminal: &Terminal,
-    counts: &[u8],
+    counts: &[usize],
     step: u32,
     part: u32,
     dropped: &[Flagged],
 ) -> bool
-    requires { length counts.now ≤ 64 }
     ensures { IsTrue result ↔ IsHangup counts.now terminal.now.terminal step part dropped.now }
 {
     counts.len() <= terminal.phase() as usize
@@ -145,7 +155,7 @@ fn may_flush(terminal: &Terminal, run: u32, part: u32, count: usize) -> bool
 /// Hands characters over as long as the discipline accepts, and says whether it accepted all.
 fn receive_all(terminal: &mut Terminal, chars: &[Flagged]) -> bool
     requires few { length chars.now ≤ 64 }
-    requires taken { terminal.old.terminal.taken < 2 ^ 62 }
+    requires taken { terminal.old.terminal.taken < 2 ^ 63 - 2 ^ 32 }
     requires wire { room_for_characters terminal.old.terminal (length chars.now) ≤ terminal.old.wire_room }
     requires signals { length chars.now ≤ terminal.old.signal_room }
     requires column { column_in terminal.old.terminal.disc < 2 ^ 61 }
@@ -223,44 +233,55 @@ fn may_drop(terminal: &Terminal, drops: bool, count: usize) -> bool
         && (!terminal.line_is_over() || count as u64 == left)
 }
 
-/// Whether a call that must wait may be told so, in a phase with so many callers.
-fn may_be_idle(terminal: &Terminal, callers: u8, caller: u16) -> bool
-    requires { caller < length terminal.now.terminal.callers }
-    ensures { result ≡ (is_some (caller_at terminal.now.terminal caller).waits && quiet_with callers terminal.now.terminal) }
+/// Whether a call that must wait may be told so, in a phase with so many callers of so many.
+fn may_be_idle(
+    terminal: &Terminal,
+    known: usize,
+    callers: usize,
+    caller: u16,
+) -> Result<bool, NoMemory>
+    requires many { known ≡ length terminal.now.terminal.callers }
+    requires known { caller < length terminal.now.terminal.callers }
+    ensures { IfOk result (λ may. may ≡ (is_some (caller_at terminal.now.terminal caller).waits && quiet_with callers terminal.now.terminal)) }
 {
-    terminal.caller(caller).waits.is_some() && terminal.is_quiet(callers)
+    if terminal.caller(caller).waits.is_none() {
+        return Ok(false);
+    }
+    is_quiet(terminal, known, callers)
 }
 
 /// Tries an answer to a call that must wait: it can only be told so, and drops nothing.
 fn try_idle(
     terminal: &mut Terminal,
-    callers: u8,
+    known: usize,
+    callers: usize,
     caller: u16,
     call: &Call,
     answer: &AnswerRef,
     dropped: usize,
-) -> bool
+) -> Result<bool, NoMemory>
+    requires many { known ≡ length terminal.old.terminal.callers }
     requires known { caller < length terminal.old.terminal.callers }
     requires small { IsSmall terminal.old.terminal }
     requires must { MustWait (outcome terminal.old.terminal (caller_at terminal.old.terminal caller) (call_of call.now)) }
-    ensures tries { Tries (IsAnsweredBy terminal.old.terminal callers caller (call_of call.now) (answer_lent answer.now) dropped)
-        (after_answer (with_dropped (left_by (outcome terminal.old.terminal (caller_at terminal.old.terminal caller) (call_of call.now)) terminal.old.terminal) dropped) caller) terminal.new.terminal result }
-    ensures column { column_in terminal.new.terminal.disc ≡ column_in terminal.old.terminal.disc }
+    ensures tries { IfOk result (λ made. Tries (IsAnsweredBy terminal.old.terminal callers caller (call_of call.now) (answer_lent answer.now) dropped)
+        (after_answer (with_dropped (left_by (outcome terminal.old.terminal (caller_at terminal.old.terminal caller) (call_of call.now)) terminal.old.terminal) dropped) caller) terminal.new.terminal made) }
+    ensures column { OnOk result (column_in terminal.new.terminal.disc ≡ column_in terminal.old.terminal.disc) }
 {
     let _ = call;
-    if !is_idle(answer) || dropped != 0 || !may_be_idle(terminal, callers, caller) {
-        return false;
+    if !is_idle(answer) || dropped != 0 || !may_be_idle(terminal, known, callers, caller)? {
+        return Ok(false);
     }
     terminal.drop_characters(dropped as u64);
     terminal.advance(caller);
-    true
+    Ok(true)
 }
 
 /// Tries an answer to a call that need not wait.
 fn try_given(
     alloc: Global,
     terminal: &mut Terminal,
-    callers: u8,
+    callers: usize,
     caller: u16,
     call: &Call,
     answer: &AnswerRef,
@@ -293,16 +314,18 @@ fn try_given(
     }
 }
 
-/// Tries an answer to a call, with so many characters dropped, in a phase with so many callers.
+/// Tries an answer to a call, with so many characters dropped, in a phase with so many callers of so many.
 pub(crate) fn try_answer(
     alloc: Global,
     terminal: &mut Terminal,
-    callers: u8,
+    known: usize,
+    callers: usize,
     caller: u16,
     call: &Call,
     answer: &AnswerRef,
     dropped: usize,
 ) -> Result<bool, NoMemory>
+    requires many { known ≡ length terminal.old.terminal.callers }
     requires known { caller < length terminal.old.terminal.callers }
     requires small { IsSmall terminal.old.terminal }
     requires call { IsSmallCall (call_of call.now) }
@@ -311,7 +334,7 @@ pub(crate) fn try_answer(
     ensures column { OnOk result (column_in terminal.new.terminal.disc ≤ column_in terminal.old.terminal.disc + 4096) }
 {
     if terminal.must_wait(caller, call) {
-        return Ok(try_idle(terminal, callers, caller, call, answer, dropped));
+        return try_idle(terminal, known, callers, caller, call, answer, dropped);
     }
     try_given(alloc, terminal, callers, caller, call, answer, dropped)
 }

@@ -7,7 +7,7 @@ use Rattle.journal_check.proofs.judging.first_wrong_of.Goals as goal
 
 pub judge-requires : goal.judge-requires
 judge-requires c =
-    ready c.args.port (session_of c.args.session.now) (take c.loop-place.place c.args.journal.now.items) c.loop-place.replay c.requires.limits c.requires.port
+    ready c.args.port (session_of c.args.session.now) (take c.loop-place.place c.args.journal.now.items) c.loop-place.replay c.requires.formed
     (omega (arith, length-take-le c.loop-place.place c.args.journal.now.items (omega (arith, c.loop-place-test.true, c.len-place-end.ensures)), c.loop-place-test.true, c.len-place-end.ensures, c.requires.few)) c.loop-place.invariant
 
 pub returns-then-not-branch : goal.returns-then-not-branch

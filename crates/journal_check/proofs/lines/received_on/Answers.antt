@@ -17,7 +17,7 @@ loop-phase-init c =
 
 pub run_into-requires-clause-good : goal.run_into-requires-clause-good
 run_into-requires-clause-good c =
-    good_steps c.args.port (session_of c.args.session.now) c.loop-phase.phase c.as_slice.result.now c.requires.limits c.requires.port (let lt : c.loop-phase.phase < length (session_of c.args.session.now).phases = omega (arith, c.loop-phase-test.true, c.len-phase-end.ensures, length-map c.args.session.now.phases.items phase_of) in lt) (c.as_slice.ensures.value ∙ c.in_ok-steps.ensures)
+    good_steps c.args.port (session_of c.args.session.now) c.loop-phase.phase c.as_slice.result.now c.requires (let lt : c.loop-phase.phase < length (session_of c.args.session.now).phases = omega (arith, c.loop-phase-test.true, c.len-phase-end.ensures, length-map c.args.session.now.phases.items phase_of) in lt) (c.as_slice.ensures.value ∙ c.in_ok-steps.ensures)
 
 pub run_into-requires-clause-room : goal.run_into-requires-clause-room
 run_into-requires-clause-room c =

@@ -8,7 +8,7 @@ use Rattle.tty_terminal.specs.Steps.{IsAllowed}
 use Rattle.journal_check.specs.Legal.{IsInPhase}
 use Rattle.journal_check.specs.Scripts.{AreTurns}
 use Rattle.journal_check.specs.declared.replay.Replay.{Replay}
-use Rattle.journal_check.proofs.ReplayLemmas.{stays_if_fine, next_idle, goes_on, tries_true}
+use Rattle.journal_check.proofs.ReplayLemmas.{stays_if_fine, next_idle, next_small, goes_on, tries_true}
 use Rattle.journal_check.proofs.replay.judge.Goals as goal
 
 pub returns-then-not-stays : goal.returns-then-not-stays
@@ -21,7 +21,15 @@ note-requires-clause-idle c = λ is.
     let t : Terminal = c.args.replay.now.terminal.terminal in
     let e : PlainEntry = entry_of c.args.entry.now in
     let tries = tries_true _ _ _ c.in_ok-try_entry.field-0 c.in_ok-try_entry.ensures.tries c.if-not-branch.false in
-    next_idle c.args.port session (call_at c.args.port session) t c.try_entry.new.terminal.terminal c.args.replay.now.turns.items e.who e.step e.part e.event c.requires.limits c.requires.turns tries.1 is
+    next_idle c.args.port session (call_at c.args.port session) t c.try_entry.new.terminal.terminal c.args.replay.now.turns.items e.who e.step e.part e.event c.requires.turns tries.1 is
+
+pub note-requires-clause-small : goal.note-requires-clause-small
+note-requires-clause-small c =
+    let session = session_of c.args.session.now in
+    let t : Terminal = c.args.replay.now.terminal.terminal in
+    let e : PlainEntry = entry_of c.args.entry.now in
+    let tries = tries_true _ _ _ c.in_ok-try_entry.field-0 c.in_ok-try_entry.ensures.tries c.if-not-branch.false in
+    next_small (call_at c.args.port session) c.as_slice-counts.result.now t c.try_entry.new.terminal.terminal e (c.if-entry-generation.false ∙ c.generation.ensures, tries.0) tries.1 c.requires.small.phase
 
 pub returns : goal.returns
 returns c = λ before follows.
@@ -30,11 +38,11 @@ returns c = λ before follows.
     let t : Terminal = c.args.replay.now.terminal.terminal in
     let e : PlainEntry = entry_of c.args.entry.now in
     let tries = tries_true _ _ _ c.in_ok-try_entry.field-0 c.in_ok-try_entry.ensures.tries c.if-not-branch.false in
-    let same = c.note.ensures.same in
+    let same = c.in_ok-note.ensures.same in
     let counts : c.as_slice-counts.result.now ≡ counts_on p session = c.as_slice-counts.ensures.value ∙ c.requires.counts in
     let turns : AreTurns p session c.phase.result c.as_slice.result.now =
     subst (λ (k : ℕ). AreTurns p session k c.as_slice.result.now) (sym c.phase.ensures) (subst (AreTurns p session t.phase) (sym c.as_slice.ensures.value) c.requires.turns) in
-    let here = (c.is_in_phase.ensures p session c.requires.limits turns).0 c.if-not-is_in_phase.false in
+    let here = (c.is_in_phase.ensures p session turns).0 c.if-not-is_in_phase.false in
     goes_on p session before c.args.replay.now c.note.new.replay e follows (record {
       generation = c.if-entry-generation.false ∙ c.generation.ensures;
       in_phase = subst (λ (k : ℕ). IsInPhase p session k e.who e.step e.event) c.phase.ensures here;
@@ -45,7 +53,7 @@ returns c = λ before follows.
       latest = ap (λ (r : Replay). r.latest) same;
       names = ap (λ (r : Replay). r.names) same;
       counts = ap (λ (r : Replay). r.counts.items) same;
-      many = c.note.ensures.many;
-      begins = λ is. subst (λ (v : Terminal). AreTurns p session v.phase c.note.new.replay.turns.items) (sym (ap (λ (r : Replay). r.terminal.terminal) same)) (c.note.ensures.begins is);
-      same = c.note.ensures.stays;
+      many = c.in_ok-note.ensures.many;
+      begins = λ is. subst (λ (v : Terminal). AreTurns p session v.phase c.note.new.replay.turns.items) (sym (ap (λ (r : Replay). r.terminal.terminal) same)) (c.in_ok-note.ensures.begins is);
+      same = c.in_ok-note.ensures.stays;
     })

@@ -1,14 +1,19 @@
+use Rattle.std.proofs.Common.{◌≡◌, ℕ, List, None, Some, rules, sym, ◌∙◌, ap}
+use Rattle.std.specs.Prelude.{option_map}
 use Rattle.tty_calls.specs.Plain.{call_of}
 use Rattle.tty_calls.specs.Sessions.{session_of}
-use Rattle.journal_check.proofs.TurnLemmas.{step_there, call_there}
+use Rattle.journal_check.specs.Legal.{name_at}
+use Rattle.journal_check.proofs.TurnLemmas.{step_there, call_there, not_nameless}
 use Rattle.journal_check.proofs.turns.call_in.Goals as goal
 
-pub at-requires : goal.at-requires
-at-requires c =
-    step_there c.args.port (session_of c.args.session.now) c.args.phase c.args.caller c.args.turn c.args.step c.scripts_of.result.now c.index-scripts_of-turn.result
-    c.requires.open c.scripts_of.ensures c.index-scripts_of-turn.is c.requires.first c.requires.within
+pub call_from-requires : goal.call_from-requires
+call_from-requires c =
+    let named : name_at c.args.port (session_of c.args.session.now) c.args.caller ≡ Some c.in-Some.name.now = search rules in
+    step_there c.args.port (session_of c.args.session.now) c.args.phase c.args.caller c.args.turn c.args.step c.in-Some.name.now _
+    c.requires.open named c.scripts_of-scripts.ensures c.requires.first c.requires.within
 
 pub returns : goal.returns
 returns c =
-    call_there c.args.port (session_of c.args.session.now) c.args.phase c.args.caller c.args.turn c.args.step c.scripts_of.result.now c.index-scripts_of-turn.result (call_of c.at.result)
-    c.requires.limits c.requires.phase c.requires.open c.scripts_of.ensures c.index-scripts_of-turn.is c.at.ensures c.requires.first
+    let named : name_at c.args.port (session_of c.args.session.now) c.args.caller ≡ Some c.in-Some.name.now = search rules in
+    call_there c.args.port (session_of c.args.session.now) c.args.phase c.args.caller c.args.turn c.args.step c.in-Some.name.now _ (call_of c.call_from.result)
+    c.requires.phase c.requires.open named c.scripts_of-scripts.ensures c.call_from.ensures c.requires.first

@@ -6,6 +6,7 @@ use Rattle.tty_calls.specs.Sessions.{session_of}
 use Rattle.check_text.specs.Runs.{run_of}
 use Rattle.check_text.proofs.Within.{session_within, run_for_each}
 use Rattle.journal_check.specs.Verdicts.{IsCountable}
+use Rattle.journal_check.proofs.WellFormedLemmas.{within_limits_are_well_formed}
 use Rattle.tty_one.proofs.judging.judged_text.Goals as goal
 
 pub check-requires-clause-runs : goal.check-requires-clause-runs
@@ -14,8 +15,10 @@ check-requires-clause-runs c =
     ∙ sym (length-map c.in-Ok.runs.items run_of)
     ∙ run_for_each c.args.text.now (session_of c.in-Ok.session) (map run_of c.in-Ok.runs.items) c.in-Ok.ensures.ok
 
-pub check-requires-clause-limits : goal.check-requires-clause-limits
-check-requires-clause-limits c = session_within c.args.text.now (session_of c.in-Ok.session) (map run_of c.in-Ok.runs.items) c.in-Ok.ensures.ok
+pub check-requires-clause-formed : goal.check-requires-clause-formed
+check-requires-clause-formed c =
+    within_limits_are_well_formed (session_of c.in-Ok.session)
+    (session_within c.args.text.now (session_of c.in-Ok.session) (map run_of c.in-Ok.runs.items) c.in-Ok.ensures.ok)
 
 pub check-requires-clause-few : goal.check-requires-clause-few
 check-requires-clause-few c =
