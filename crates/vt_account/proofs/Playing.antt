@@ -3,33 +3,37 @@ use Rattle.std.proofs.Common.{◌≡◌, ℕ, suc, zero, ◌+◌, ◌-◌, ◌<�
 use Rattle.std.specs.Prelude.{slice_index_or, slice_set}
 use Rattle.std.proofs.lemmas.List.{length-set, length-map, drop_all, take_all, drop-map, get_or-map, map-set}
 use Rattle.std.proofs.lemmas.List.Sums.{fold-append}
+use Rattle.tty_calls.specs.declared.answers.Denied.{Denied}
+use Rattle.tty_calls.specs.declared.answers.Denied.TheVariants.{NoMemory, Full}
 use Rattle.tty_calls.specs.declared.sessions.Phase.{Phase}
 use Rattle.tty_calls.specs.Sessions.{PlainPhase, phase_of}
 use Rattle.vt_consoles.specs.declared.entries.VtEntry.{VtEntry}
 use Rattle.vt_consoles.specs.declared.entries.VtEvent.{VtEvent}
 use Rattle.vt_consoles.specs.declared.entries.VtEvent.TheVariants.{Key}
-use Rattle.vt_consoles.specs.Boards.{BoardState, Adds, active_on}
+use Rattle.vt_consoles.specs.Boards.{BoardState, Adds, IsBoard, IsDenied, active_on}
 use Rattle.vt_consoles.specs.Runs.{active_after, active_of}
 use Rattle.vt_text.specs.declared.sessions.OpCall.{OpCall}
 use Rattle.vt_text.specs.declared.sessions.VtPhase.{VtPhase}
-use Rattle.vt_text.specs.Sessions.{PlainOperator, PlainVtPhase, vt_phase_of}
+use Rattle.vt_text.specs.Sessions.{PlainOperator, PlainVtPhase, PlainVtSession, vt_phase_of}
 use Rattle.vt_account.specs.Account.{accepted}
-use Rattle.vt_account.specs.InOrder.{active_behind, key_entries, event_of, call_entries, operator_entries, operators_entries, phase_entries, entries_from}
+use Rattle.vt_account.specs.InOrder.{active_behind, key_entries, event_of, call_entries, operator_entries, operators_entries, phase_entries, entries_from, entries_in_order, IsBoardDenied}
 use Rattle.vt_account.specs.Keyed.{all_keys}
-use Rattle.vt_account.specs.Played.{AddsAll, HasLeft, key_lines, phases_in_order, HasPressed, HasCalled, HasOperated, HasPlayed}
+use Rattle.vt_account.specs.Seats.{operator_names}
+use Rattle.vt_account.specs.Played.{AddsAll, LacksRoom, HasLeft, key_lines, phases_in_order, HasPressed, HasCalled, HasOperated, HasPlayed}
 use Rattle.vt_account.proofs.Accounting.{active_keys}
 
 -- ---- parts
 
 pub adds_none : (b : BoardState) → AddsAll [] b b
-adds_none b = record { consoles = refl; added = sym (append-nil b.entries) }
+adds_none b = record { consoles = refl; limit = refl; added = sym (append-nil b.entries) }
 
 pub adds_one : (seat : ℕ) (event : VtEvent) (old new : BoardState) → Adds seat event old new → AddsAll (record { seat = seat; event = event } ∷ []) old new
-adds_one seat event old new h = record { consoles = ap (λ (b : BoardState). b.consoles) h.adds; added = ap (λ (b : BoardState). b.entries) h.adds }
+adds_one seat event old new h = record { consoles = ap (λ (b : BoardState). b.consoles) h.adds; limit = ap (λ (b : BoardState). b.limit) h.adds; added = ap (λ (b : BoardState). b.entries) h.adds }
 
 pub adds_both : (xs ys : List VtEntry) (a b c : BoardState) → AddsAll xs a b → AddsAll ys b c → AddsAll (xs ++ ys) a c
 adds_both xs ys a b c h k = record {
   consoles = k.consoles ∙ h.consoles;
+  limit = k.limit ∙ h.limit;
   added = k.added ∙ ap (λ (l : List VtEntry). l ++ ys) h.added ∙ append_assoc a.entries xs ys;
 }
 
@@ -49,6 +53,30 @@ left_less whole xs left a b c h k = record {
 
 pub left_none : (whole : List VtEntry) (a b : BoardState) → HasLeft whole [] a b → AddsAll whole a b
 left_none whole a b h = subst (λ (xs : List VtEntry). AddsAll xs a b) (sym (append-nil h.done) ∙ h.all) h.adds
+
+-- ---- no room
+
+pub lacks_one : (e : VtEntry) (b : BoardState) (d : Denied) → IsDenied b d → LacksRoom (e ∷ []) b d
+lacks_one e b Full h = omega (arith, h)
+lacks_one e b NoMemory h = tt
+
+-- .. nor for more
+pub lacks_more : (xs ys : List VtEntry) (b : BoardState) (d : Denied) → LacksRoom xs b d → LacksRoom (xs ++ ys) b d
+lacks_more xs ys b Full h = omega (arith, h, length-append xs ys)
+lacks_more xs ys b NoMemory h = tt
+
+pub lacks_behind : (xs ys : List VtEntry) (a b : BoardState) (d : Denied) → AddsAll xs a b → LacksRoom ys b d → LacksRoom (xs ++ ys) a d
+lacks_behind xs ys a b Full h k =
+    let both : length b.entries ≡ length a.entries + length xs = ap (λ (l : List VtEntry). length l) h.added ∙ length-append a.entries xs in
+    omega (arith, k, both, h.limit, length-append xs ys)
+lacks_behind xs ys a b NoMemory h k = tt
+
+lacks_left : (whole xs left : List VtEntry) (a b : BoardState) (d : Denied) → HasLeft whole (xs ++ left) a b → LacksRoom xs b d → LacksRoom whole a d
+lacks_left whole xs left a b d h k =
+    subst (λ (l : List VtEntry). LacksRoom l a d) h.all (lacks_behind h.done (xs ++ left) a b d h.adds (lacks_more xs left b d k))
+
+pub lacks_memory : (xs : List VtEntry) (b : BoardState) (d : Denied) → d ≡ NoMemory → LacksRoom xs b d
+lacks_memory xs b d e = subst (LacksRoom xs b) (sym e) tt
 
 -- ---- keys
 
@@ -149,6 +177,16 @@ pressed_all seat first count place a b le h =
     left_none (key_entries seat (active_on a) first count) a b
     (subst (λ (n : ℕ). HasLeft (key_entries seat (active_on a) first count) (key_entries seat (active_on a) (first + place) n) a b) none h.left)
 
+pub pressed_lacks : (seat first count place : ℕ) (a b : BoardState) (d : Denied) → place < count → HasPressed seat first count place a b → IsDenied b d
+    → LacksRoom (key_entries seat (active_on a) first count) a d
+pressed_lacks seat first count place a b d lt h denied =
+    let whole = key_entries seat (active_on a) first count in
+    let key : VtEntry = record { seat = seat; event = Key (first + place) (active_on a) } in
+    let more : count - place ≡ suc (count - (place + 1)) = omega (arith, lt) in
+    lacks_left whole (key ∷ []) (key_entries seat (active_on a) ((first + place) + 1) (count - (place + 1))) a b d
+    (subst (λ (n : ℕ). HasLeft whole (key_entries seat (active_on a) (first + place) n) a b) more h.left)
+    (lacks_one key b d denied)
+
 pub called_more : (seat place : ℕ) (calls : List OpCall) (call : OpCall) (a b c : BoardState) → drop place calls ≡ call ∷ drop (place + 1) calls
     → HasCalled seat calls place a b → AddsAll (call_entries seat (active_on b) (accepted b.consoles call)) b c → HasCalled seat calls (place + 1) a c
 called_more seat place calls call a b c next h k =
@@ -163,6 +201,18 @@ called_all seat place calls a b none h =
     let whole = call_entries seat (active_on a) (flat_map (accepted a.consoles) calls) in
     left_none whole a b (subst (λ (l : List OpCall). HasLeft whole (call_entries seat (active_on b) (flat_map (accepted a.consoles) l)) a b) none h)
 
+pub called_lacks : (seat place : ℕ) (calls : List OpCall) (call : OpCall) (a b : BoardState) (d : Denied) → drop place calls ≡ call ∷ drop (place + 1) calls
+    → HasCalled seat calls place a b → LacksRoom (call_entries seat (active_on b) (accepted b.consoles call)) b d
+    → LacksRoom (call_entries seat (active_on a) (flat_map (accepted a.consoles) calls)) a d
+called_lacks seat place calls call a b d next h k =
+    let whole = call_entries seat (active_on a) (flat_map (accepted a.consoles) calls) in
+    let one = call_entries seat (active_on b) (accepted a.consoles call) in
+    let rest = flat_map (accepted a.consoles) (drop (place + 1) calls) in
+    lacks_left whole one (call_entries seat (active_behind (active_on b) one) rest) a b d
+    (subst (λ (l : List VtEntry). HasLeft whole l a b)
+    (ap (λ (l : List OpCall). call_entries seat (active_on b) (flat_map (accepted a.consoles) l)) next ∙ calls_both seat (active_on b) (accepted a.consoles call) rest) h)
+    (subst (λ (n : ℕ). LacksRoom (call_entries seat (active_on b) (accepted n call)) b d) h.adds.consoles k)
+
 pub operated_more : (names : List (List ℕ)) (place : ℕ) (operators : List PlainOperator) (operator : PlainOperator) (a b c : BoardState) → drop place operators ≡ operator ∷ drop (place + 1) operators
     → HasOperated names operators place a b → AddsAll (operator_entries names b.consoles (active_on b) operator) b c → HasOperated names operators (place + 1) a c
 operated_more names place operators operator a b c next h k =
@@ -176,6 +226,16 @@ pub operated_all : (names : List (List ℕ)) (place : ℕ) (operators : List Pla
 operated_all names place operators a b none h =
     let whole = operators_entries names a.consoles (active_on a) operators in
     left_none whole a b (subst (λ (l : List PlainOperator). HasLeft whole (operators_entries names a.consoles (active_on b) l) a b) none h)
+
+pub operated_lacks : (names : List (List ℕ)) (place : ℕ) (operators : List PlainOperator) (operator : PlainOperator) (a b : BoardState) (d : Denied) → drop place operators ≡ operator ∷ drop (place + 1) operators
+    → HasOperated names operators place a b → LacksRoom (operator_entries names b.consoles (active_on b) operator) b d
+    → LacksRoom (operators_entries names a.consoles (active_on a) operators) a d
+operated_lacks names place operators operator a b d next h k =
+    let whole = operators_entries names a.consoles (active_on a) operators in
+    let one = operator_entries names a.consoles (active_on b) operator in
+    lacks_left whole one (operators_entries names a.consoles (active_behind (active_on b) one) (drop (place + 1) operators)) a b d
+    (subst (λ (l : List PlainOperator). HasLeft whole (operators_entries names a.consoles (active_on b) l) a b) next h)
+    (subst (λ (n : ℕ). LacksRoom (operator_entries names n (active_on b) operator) b d) h.adds.consoles k)
 
 -- ---- phases
 
@@ -304,3 +364,71 @@ phase_played a b c names first seat count phase e f h k =
     let keys : AddsAll (key_entries (length names) (active_on a) first (length phase.keys)) a b =
     subst (λ (n : ℕ). AddsAll (key_entries (length names) (active_on a) first n) a b) f (subst (λ (n : ℕ). AddsAll (key_entries n (active_on a) first count) a b) e h) in
     phase_both a b c names a.consoles first phase keys (subst (λ (n : ℕ). AddsAll (operators_entries names n (active_on b) phase.operators) b c) keys.consoles k)
+
+-- a phase whose keys, or whose operators' calls, have no room
+pub keys_lack : (a : BoardState) (names : List (List ℕ)) (first seat count : ℕ) (phase : PlainVtPhase) (d : Denied) → seat ≡ length names → count ≡ length phase.keys
+    → LacksRoom (key_entries seat (active_on a) first count) a d → LacksRoom (phase_entries names a.consoles (active_on a) first phase) a d
+keys_lack a names first seat count phase d e f h =
+    lacks_more (key_entries (length names) (active_on a) first (length phase.keys)) (operators_entries names a.consoles (active_on a) phase.operators) a d
+    (subst (λ (n : ℕ). LacksRoom (key_entries (length names) (active_on a) first n) a d) f (subst (λ (n : ℕ). LacksRoom (key_entries n (active_on a) first count) a d) e h))
+
+pub operators_lack : (a b : BoardState) (names : List (List ℕ)) (first seat count : ℕ) (phase : PlainVtPhase) (d : Denied) → seat ≡ length names → count ≡ length phase.keys
+    → AddsAll (key_entries seat (active_on a) first count) a b → LacksRoom (operators_entries names b.consoles (active_on b) phase.operators) b d
+    → LacksRoom (phase_entries names a.consoles (active_on a) first phase) a d
+operators_lack a b names first seat count phase d e f h k =
+    let keys : AddsAll (key_entries (length names) (active_on a) first (length phase.keys)) a b =
+    subst (λ (n : ℕ). AddsAll (key_entries (length names) (active_on a) first n) a b) f (subst (λ (n : ℕ). AddsAll (key_entries n (active_on a) first count) a b) e h) in
+    let same : active_on b ≡ active_on a =
+    active_then (key_entries (length names) (active_on a) first (length phase.keys)) a b keys ∙ active_keys (length names) (active_on a) (active_on a) first (length phase.keys) in
+    lacks_behind (key_entries (length names) (active_on a) first (length phase.keys)) (operators_entries names a.consoles (active_on a) phase.operators) a b d keys
+    (subst (λ (n : ℕ). LacksRoom (operators_entries names a.consoles n phase.operators) b d) same
+    (subst (λ (n : ℕ). LacksRoom (operators_entries names n (active_on b) phase.operators) b d) keys.consoles k))
+
+-- a phase that has no room, among others
+pub phase_lacks : (names : List (List ℕ)) (keyboards : List VtPhase) (x : VtPhase) (place first : ℕ) (a b : BoardState) (phases played : List PlainPhase) (d : Denied)
+    → place < length keyboards → x ≡ get_or keyboards place x
+    → LacksRoom (phase_entries names b.consoles (active_on b) first (vt_phase_of x)) b d
+    → HasPlayed names (map vt_phase_of keyboards) place first a b phases played
+    → LacksRoom (entries_from names a.consoles (active_on a) 0 (map vt_phase_of keyboards)) a d
+phase_lacks names keyboards x place first a b phases played d lt is_x k h =
+    let ks : List PlainVtPhase = map vt_phase_of keyboards in
+    let whole = entries_from names a.consoles (active_on a) 0 ks in
+    let phase = vt_phase_of x in
+    let one = phase_entries names a.consoles (active_on b) first phase in
+    lacks_left whole one (entries_from names a.consoles (active_behind (active_on b) one) (first + length phase.keys) (drop (place + 1) ks)) a b d
+    (subst (λ (l : List PlainVtPhase). HasLeft whole (entries_from names a.consoles (active_on b) first l) a b) (next_mapped vt_phase_of keyboards place x lt is_x) h.left)
+    (subst (λ (n : ℕ). LacksRoom (phase_entries names n (active_on b) first phase) b d) h.left.adds.consoles k)
+
+-- ---- the board of a session
+
+pub board_denied : (session : PlainVtSession) (names : List (List ℕ)) (board : BoardState) (keyboards : List PlainVtPhase) (d : Denied)
+    → names ≡ operator_names session.phases → board ≡ record { consoles = session.calls.ports; limit = 4194304; entries = [] } → keyboards ≡ session.phases
+    → LacksRoom (entries_from names board.consoles (active_on board) 0 keyboards) board d → IsBoardDenied session d
+board_denied session names board keyboards Full is_names is_board is_keyboards h =
+    let here : LacksRoom (entries_from names session.calls.ports 0 0 keyboards) (record { consoles = session.calls.ports; limit = 4194304; entries = [] }) Full =
+    subst (λ (b : BoardState). LacksRoom (entries_from names b.consoles (active_on b) 0 keyboards) b Full) is_board h in
+    subst (λ (ks : List PlainVtPhase). 4194304 < length (entries_from (operator_names session.phases) session.calls.ports 0 0 ks)) is_keyboards
+    (subst (λ (ns : List (List ℕ)). 4194304 < length (entries_from ns session.calls.ports 0 0 keyboards)) is_names
+    (omega (arith, here)))
+board_denied session names board keyboards NoMemory is_names is_board is_keyboards h = tt
+
+pub memory_denied : (session : PlainVtSession) (d : Denied) → d ≡ NoMemory → IsBoardDenied session d
+memory_denied session d e = subst (IsBoardDenied session) (sym e) tt
+
+entries_are : (session : PlainVtSession) (names : List (List ℕ)) (board played : BoardState) (keyboards : List PlainVtPhase)
+    → names ≡ operator_names session.phases → board ≡ record { consoles = session.calls.ports; limit = 4194304; entries = [] } → keyboards ≡ session.phases
+    → AddsAll (entries_from names board.consoles (active_on board) 0 keyboards) board played → played.entries ≡ entries_in_order session
+entries_are session names board played keyboards is_names is_board is_keyboards adds =
+    adds.added
+    ∙ ap (λ (b : BoardState). b.entries ++ entries_from names b.consoles (active_on b) 0 keyboards) is_board
+    ∙ ap (λ (ns : List (List ℕ)). entries_from ns session.calls.ports 0 0 keyboards) is_names
+    ∙ ap (λ (ks : List PlainVtPhase). entries_from (operator_names session.phases) session.calls.ports 0 0 ks) is_keyboards
+
+-- a board that was played had room
+pub had_room : (session : PlainVtSession) (names : List (List ℕ)) (board played : BoardState) (keyboards : List PlainVtPhase)
+    → names ≡ operator_names session.phases → board ≡ record { consoles = session.calls.ports; limit = 4194304; entries = [] } → keyboards ≡ session.phases
+    → AddsAll (entries_from names board.consoles (active_on board) 0 keyboards) board played → IsBoard played → length (entries_in_order session) ≤ 4194304
+had_room session names board played keyboards is_names is_board is_keyboards adds is =
+    let same : length played.entries ≡ length (entries_in_order session) = ap (λ (l : List VtEntry). length l) (entries_are session names board played keyboards is_names is_board is_keyboards adds) in
+    let limit : board.limit ≡ 4194304 = ap (λ (b : BoardState). b.limit) is_board in
+    omega (arith, limit, adds.limit, is.within, same)

@@ -1,6 +1,8 @@
 -- The order of one thread for a board: in each phase the keys, and then the operators one after the other.
-use Rattle.std.specs.Prelude.{ℕ, ◌+◌, List, [], ◌∷◌, ◌++◌, flat_map, length, map, option_to_list}
+use Rattle.std.specs.Prelude.{ℕ, ◌+◌, ◌<◌, List, [], ◌∷◌, ◌++◌, flat_map, length, map, option_to_list}
 use Rattle.std.specs.List.{fold, range_with_len}
+use Rattle.tty_calls.specs.declared.answers.Denied.{Denied}
+use Rattle.tty_calls.specs.declared.answers.Denied.TheVariants.{NoMemory, Full}
 use Rattle.tty_calls.specs.Sessions.{number_in}
 use Rattle.vt_consoles.specs.declared.entries.VtEntry.{VtEntry}
 use Rattle.vt_consoles.specs.declared.entries.VtEvent.{VtEvent}
@@ -59,3 +61,8 @@ entries_from names consoles active first (phase ∷ phases) =
 -- the entries of the board of a session on one thread
 abbrev pub entries_in_order : PlainVtSession → List VtEntry
 entries_in_order session = entries_from (operator_names session.phases) session.calls.ports 0 0 session.phases
+
+-- why the board of a session is not played: it has no room for all entries, or memory is short
+abbrev pub IsBoardDenied : PlainVtSession → Denied → Type 0
+IsBoardDenied session Full = 4194304 < length (entries_in_order session)
+IsBoardDenied session NoMemory = Unit {0}

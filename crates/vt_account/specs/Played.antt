@@ -1,7 +1,9 @@
 -- What the board and the phases come to as they are played on one thread: for private functions alone.
-use Rattle.std.specs.Prelude.{◌≡◌, ℕ, ◌+◌, ◌-◌, ◌==◌, List, [], ◌∷◌, ◌++◌, drop, flat_map, fold, length, map, take, if◌then◌else◌}
+use Rattle.std.specs.Prelude.{◌≡◌, ℕ, ◌+◌, ◌-◌, ◌<◌, ◌==◌, List, [], ◌∷◌, ◌++◌, drop, flat_map, fold, length, map, take, if◌then◌else◌}
 use Rattle.std.specs.List.{range_with_len}
 use Rattle.tty_base.specs.declared.lines.LineStep.{LineStep}
+use Rattle.tty_calls.specs.declared.answers.Denied.{Denied}
+use Rattle.tty_calls.specs.declared.answers.Denied.TheVariants.{NoMemory, Full}
 use Rattle.tty_calls.specs.Sessions.{PlainPhase, with_name}
 use Rattle.vt_consoles.specs.declared.entries.VtEntry.{VtEntry}
 use Rattle.vt_consoles.specs.Boards.{BoardState, active_on}
@@ -18,7 +20,13 @@ names_behind names operators = fold (λ known operator. with_name known operator
 -- a board with further entries
 pub record AddsAll (entries : List VtEntry) (old new : BoardState) : Type 0 where
   pub consoles : new.consoles ≡ old.consoles
+  pub limit : new.limit ≡ old.limit
   pub added : new.entries ≡ old.entries ++ entries
+
+-- why a board was denied one of the entries that were to be added: it has no room for all, or memory was short
+abbrev pub LacksRoom : List VtEntry → BoardState → Denied → Type 0
+LacksRoom entries b Full = b.limit < length b.entries + length entries
+LacksRoom entries b NoMemory = Unit {0}
 
 -- a board has some of the entries that are to be added, and these are left
 pub record HasLeft (whole left : List VtEntry) (old new : BoardState) : Type 0 where

@@ -1,13 +1,13 @@
 //! The session that the consoles play: their keys come on lines.
 
-ghost use Rattle.std.specs.Prelude.{◌≡◌, ◌<◌, ◌≤◌, ◌==◌, ◌^◌, [], IfOk, OnOk, if◌then◌else◌, length, map};
+ghost use Rattle.std.specs.Prelude.{◌≡◌, ◌<◌, ◌≤◌, ◌==◌, ◌^◌, [], IfErr, IfOk, OnOk, if◌then◌else◌, length, map};
 ghost use Rattle.tty_calls.specs.Sessions.{phase_of, session_of};
 ghost use Rattle.vt_consoles.specs.Boards.{active_on};
 ghost use Rattle.vt_text.specs.Sessions.{vt_phase_of, vt_session_of};
 ghost use Rattle.vt_account.specs.Seats.{operator_names};
 ghost use Rattle.vt_account.specs.Keyed.{all_keys, key_line, keyed, IsWithinKeys};
-ghost use Rattle.vt_account.specs.InOrder.{entries_from, entries_in_order};
-ghost use Rattle.vt_account.specs.Played.{AddsAll, key_lines, phases_in_order};
+ghost use Rattle.vt_account.specs.InOrder.{IsBoardDenied, entries_from, entries_in_order};
+ghost use Rattle.vt_account.specs.Played.{AddsAll, LacksRoom, key_lines, phases_in_order};
 
 use crate::board::play_phase;
 use crate::seats::seats_of;
@@ -59,7 +59,8 @@ fn keys_on(p: u8, active: u8, keys: &[u8]) -> &[u8]
 
 /// Puts the keys of a phase on the lines of the consoles: all go to the active one.
 fn set_lines(alloc: Global, board: &Board, keys: &[u8], phase: &mut Phase) -> Result<(), Denied>
-    ensures { OnOk result (phase_of phase.new ≡ record (phase_of phase.old) { lines = key_lines board.now.consoles (active_on board.now) keys.now }) }
+    ensures set { OnOk result (phase_of phase.new ≡ record (phase_of phase.old) { lines = key_lines board.now.consoles (active_on board.now) keys.now }) }
+    ensures denied { IfErr result (λ denied. denied ≡ Denied.NoMemory) }
 {
     match lines_of(alloc, board.consoles(), board.active(), keys) {
         Ok(lines) => {
@@ -82,6 +83,7 @@ fn play_phases(
     requires each { length phases.old ≡ length keyboards.now }
     requires keys { length (all_keys (map vt_phase_of keyboards.now)) < 2 ^ 32 }
     ensures entries { OnOk result (AddsAll (entries_from names.now board.old.consoles (active_on board.old) 0 (map vt_phase_of keyboards.now)) board.old board.new) }
+    ensures denied { IfErr result (λ denied. LacksRoom (entries_from names.now board.old.consoles (active_on board.old) 0 (map vt_phase_of keyboards.now)) board.old denied) }
     ensures phases { OnOk result (map phase_of phases.new ≡ phases_in_order names.now board.old.consoles (active_on board.old) 0 (map vt_phase_of keyboards.now) (map phase_of phases.old)) }
 {
     let mut first = 0;
@@ -98,7 +100,8 @@ fn play_phases(
 /// A board, with so many consoles and room for as many entries as a board may have.
 fn new_board(alloc: Global, consoles: u8) -> Result<Board, Denied>
     requires { (0 < consoles) × (consoles ≤ 8) }
-    ensures { IfOk result (λ board. board ≡ record { consoles = consoles; limit = 4194304; entries = [] }) }
+    ensures made { IfOk result (λ board. board ≡ record { consoles = consoles; limit = 4194304; entries = [] }) }
+    ensures denied { IfErr result (λ denied. denied ≡ Denied.NoMemory) }
 {
     match Board::new(alloc, consoles, MOST_ENTRIES) {
         Ok(board) => Ok(board),
@@ -107,10 +110,13 @@ fn new_board(alloc: Global, consoles: u8) -> Result<Board, Denied>
 }
 
 /// Plays the keyboard and the operators of a session on one thread. Afterwards the session's calls are those of the
-/// session that its consoles play: the keys come on their lines.
+/// session that its consoles play: the keys come on their lines. `Full` comes exactly where the session has more
+/// entries than a board may have.
 pub fn play_board(alloc: Global, session: &mut VtSession) -> Result<Board, Denied>
     requires { IsWithinKeys (vt_session_of session.old) }
     ensures entries { IfOk result (λ board. board.entries ≡ entries_in_order (vt_session_of session.old)) }
+    ensures room { OnOk result (length (entries_in_order (vt_session_of session.old)) ≤ 4194304) }
+    ensures denied { IfErr result (λ denied. IsBoardDenied (vt_session_of session.old) denied) }
     ensures keyed { OnOk result (session_of session.new.calls ≡ keyed (vt_session_of session.old) (entries_in_order (vt_session_of session.old))) }
     ensures phases { session.new.phases ≡ session.old.phases }
 {
@@ -119,13 +125,15 @@ pub fn play_board(alloc: Global, session: &mut VtSession) -> Result<Board, Denie
     let mut phases = mem::replace(&mut session.calls.phases, Buffer::new(alloc)).into_vec();
     let keyboards = session.phases.as_slice();
     play_phases(alloc, &mut board, &names, keyboards, phases.as_mut_slice())?;
+    let _entries = board.entries();
     session.calls.version = 0;
     session.calls.phases = Buffer::from_vec(phases);
     Ok(board)
 }
 
 fn seats_or_denied(alloc: Global, phases: &[VtPhase]) -> Result<Names, Denied>
-    ensures { IfOk result (λ names. names ≡ operator_names (map vt_phase_of phases.now)) }
+    ensures names { IfOk result (λ names. names ≡ operator_names (map vt_phase_of phases.now)) }
+    ensures denied { IfErr result (λ denied. denied ≡ Denied.NoMemory) }
 {
     match seats_of(alloc, phases) {
         Ok(names) => Ok(names),

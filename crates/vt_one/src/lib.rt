@@ -4,6 +4,8 @@
 //! first, and then each console is a port on whose line its keys come.
 #![tactic(auto)]
 
+mod laws;
 mod playing;
 
+pub use laws::consoles_go_by_their_ranks;
 pub use playing::{VtPlayed, play_vt};

@@ -1,8 +1,10 @@
 use Rattle.std.proofs.Common.{sym, subst}
+use Rattle.std.proofs.lemmas.Result.{err_from_is_err_and}
 use Rattle.tty_calls.specs.Limits.{IsWithinLimits}
 use Rattle.tty_calls.specs.Sessions.{session_of}
 use Rattle.vt_text.specs.Sessions.{vt_session_of}
 use Rattle.vt_account.specs.InOrder.{entries_in_order}
+use Rattle.vt_account.proofs.Playing.{memory_denied}
 use Rattle.vt_one.proofs.Parts.{keyed_by, is_played, is_in_order}
 use Rattle.vt_one.proofs.playing.play_vt.Goals as goal
 
@@ -26,3 +28,8 @@ returns-clause-in_order c =
 pub returns-clause-keyed : goal.returns-clause-keyed
 returns-clause-keyed c =
     keyed_by (vt_session_of c.args.session.now) (session_of c.play_board.new.session.calls) c.in_ok-board.board.entries c.in_ok-board.ensures.entries c.in_ok-board.ensures.keyed
+
+pub returns-in_err-consoles-clause-denied : goal.returns-in_err-consoles-clause-denied
+returns-in_err-consoles-clause-denied c =
+    let p = err_from_is_err_and c.from_residual-in_err-consoles.result c.from_residual-in_err-consoles.ensures.1 in
+    rw (p.1, p.2) (memory_denied (vt_session_of c.args.session.now) c.in_err-consoles.field-0.0 c.in_err-consoles.ensures.denied)
