@@ -5,10 +5,10 @@ use Rattle.session_print.specs.Words.{errno_name}
 use Rattle.job_control.specs.declared.processes.Proc.{Proc}
 use Rattle.job_control.specs.declared.processes.JobSignal.{JobSignal}
 use Rattle.job_control.specs.declared.processes.JobSignal.TheVariants.{Int, Quit, Susp, Ttin, Ttou, Hup, Cont}
-use Rattle.job_print.specs.declared.answers.JobAnswer.{JobAnswer}
-use Rattle.job_print.specs.declared.answers.JobAnswer.TheVariants.{Done, Number, Refused, NotPermitted, Stopped}
-use Rattle.job_print.specs.declared.answers.Target.{Target}
-use Rattle.job_print.specs.declared.answers.Target.TheVariants.{Group, Process, Nobody}
+use Rattle.job_control.specs.declared.answers.JobAnswer.{JobAnswer}
+use Rattle.job_control.specs.declared.answers.JobAnswer.TheVariants.{Done, Number, Refused, NotPermitted, Stopped}
+use Rattle.job_control.specs.declared.answers.Target.{Target}
+use Rattle.job_control.specs.declared.answers.Target.TheVariants.{Group, Process, Nobody}
 
 -- the end of a line
 abbrev pub newline : List ℕ

@@ -4,8 +4,7 @@ ghost use Rattle.std.specs.Prelude.{◌≡◌, ◌++◌, OnOk, string_bytes};
 ghost use Rattle.session_print.specs.Words.{errno_name};
 ghost use Rattle.job_print.specs.Lines.{answer_line, answer_text, name_at, signal_line, signal_text, target_text};
 
-use crate::answers::{JobAnswer, Target};
-use job_control::{JobSignal, Proc};
+use job_control::{JobAnswer, JobSignal, Proc, Target};
 use tty_base::{Errno, NoMemory};
 
 /// Adds the line of a call that was answered without the port: by this caller of the port, and so many of its calls

@@ -14,8 +14,13 @@ use Rattle.tty_terminal.specs.Rows.{whole, answers, normal}
 use Rattle.journal_check.specs.Legal.{flip_on}
 use Rattle.job_control.specs.declared.processes.Proc.{Proc}
 use Rattle.job_control.specs.declared.processes.JobSignal.TheVariants.{Int, Ttin, Hup}
-use Rattle.passed_calls.specs.Logs.{Logged}
-use Rattle.job_steps.specs.Sessions.{JobCall, plain, sctty, gpgrp, spgrp, exits, JobsPhase, JobsSession, job_done, job_number, job_refused, not_permitted, stopped_by, to_group, JobEvent, own, passed, passed_down, sent, JobLog}
+use Rattle.passed_calls.specs.declared.logs.Logged.{Logged}
+use Rattle.job_control.specs.declared.answers.JobAnswer.TheVariants as told
+use Rattle.job_control.specs.declared.answers.Target.TheVariants as towards
+use Rattle.passed_calls.specs.Scripts.{plain, further}
+use Rattle.job_text.specs.declared.calls.OwnCall.TheVariants as call
+use Rattle.job_text.specs.Events.{JobEvent, own, passed, passed_down, sent, JobLog}
+use Rattle.job_text.specs.Sessions.{JobCall, JobsPhase, JobsSession}
 use Rattle.job_steps.specs.Derived.{derived}
 use Rattle.job_steps.specs.Steps.{Port, JobsState, after_event}
 
@@ -58,21 +63,21 @@ port_of session log journal = record {
 
 abbrev pub foreground_given : JobsSession
 foreground_given = session_with (Some 0) (
-    phase_with [] (codes "sh") (plain (opens 0 Rw true) ∷ sctty 0 ∷ gpgrp 0 ∷ [])
+    phase_with [] (codes "sh") (plain (opens 0 Rw true) ∷ further (call.Sctty 0) ∷ further (call.Gpgrp 0) ∷ [])
     ∷ phase_with [] (codes "job") (plain (reads 0 8) ∷ [])
-    ∷ phase_with [] (codes "sh") (spgrp 0 2 ∷ [])
+    ∷ phase_with [] (codes "sh") (further (call.Spgrp 0 2) ∷ [])
     ∷ phase_with (Rx (normal 3) ∷ []) (codes "job") (plain (reads 0 8) ∷ [])
     ∷ [])
 
 abbrev pub foreground_log : JobLog
 foreground_log =
     logged 2 (passed 0 0 done)
-    ∷ logged 2 (own 0 1 job_done)
-    ∷ logged 2 (own 0 2 (job_number 1))
-    ∷ logged 6 (own 1 0 (stopped_by Ttin))
-    ∷ logged 6 (sent Ttin (to_group 2))
-    ∷ logged 10 (own 0 3 job_done)
-    ∷ logged 14 (sent Int (to_group 2))
+    ∷ logged 2 (own 0 1 told.Done)
+    ∷ logged 2 (own 0 2 (told.Number 1))
+    ∷ logged 6 (own 1 0 (told.Stopped Ttin))
+    ∷ logged 6 (sent Ttin (towards.Group 2))
+    ∷ logged 10 (own 0 3 told.Done)
+    ∷ logged 14 (sent Int (towards.Group 2))
     ∷ logged 16 (passed 1 1 (refused EAGAIN))
     ∷ []
 
@@ -112,8 +117,8 @@ foreground_journal =
 abbrev pub read_passed : JobLog
 read_passed =
     logged 2 (passed 0 0 done)
-    ∷ logged 2 (own 0 1 job_done)
-    ∷ logged 2 (own 0 2 (job_number 1))
+    ∷ logged 2 (own 0 1 told.Done)
+    ∷ logged 2 (own 0 2 (told.Number 1))
     ∷ logged 7 (passed 1 0 (refused EAGAIN))
     ∷ []
 
@@ -132,54 +137,54 @@ read_passed_journal =
 abbrev pub stopped_early : JobLog
 stopped_early =
     logged 2 (passed 0 0 done)
-    ∷ logged 2 (own 0 1 job_done)
-    ∷ logged 2 (own 0 2 (job_number 1))
-    ∷ logged 5 (own 1 0 (stopped_by Ttin))
-    ∷ logged 5 (sent Ttin (to_group 2))
+    ∷ logged 2 (own 0 1 told.Done)
+    ∷ logged 2 (own 0 2 (told.Number 1))
+    ∷ logged 5 (own 1 0 (told.Stopped Ttin))
+    ∷ logged 5 (sent Ttin (towards.Group 2))
     ∷ []
 
 -- the interrupt goes to the group of the shell, which is in the background
 abbrev pub interrupt_to_shell : JobLog
 interrupt_to_shell =
     logged 2 (passed 0 0 done)
-    ∷ logged 2 (own 0 1 job_done)
-    ∷ logged 2 (own 0 2 (job_number 1))
-    ∷ logged 6 (own 1 0 (stopped_by Ttin))
-    ∷ logged 6 (sent Ttin (to_group 2))
-    ∷ logged 10 (own 0 3 job_done)
-    ∷ logged 14 (sent Int (to_group 1))
+    ∷ logged 2 (own 0 1 told.Done)
+    ∷ logged 2 (own 0 2 (told.Number 1))
+    ∷ logged 6 (own 1 0 (told.Stopped Ttin))
+    ∷ logged 6 (sent Ttin (towards.Group 2))
+    ∷ logged 10 (own 0 3 told.Done)
+    ∷ logged 14 (sent Int (towards.Group 1))
     ∷ []
 
 -- the interrupt is sent to nobody
 abbrev pub interrupt_unsent : JobLog
 interrupt_unsent =
     logged 2 (passed 0 0 done)
-    ∷ logged 2 (own 0 1 job_done)
-    ∷ logged 2 (own 0 2 (job_number 1))
-    ∷ logged 6 (own 1 0 (stopped_by Ttin))
-    ∷ logged 6 (sent Ttin (to_group 2))
-    ∷ logged 10 (own 0 3 job_done)
+    ∷ logged 2 (own 0 1 told.Done)
+    ∷ logged 2 (own 0 2 (told.Number 1))
+    ∷ logged 6 (own 1 0 (told.Stopped Ttin))
+    ∷ logged 6 (sent Ttin (towards.Group 2))
+    ∷ logged 10 (own 0 3 told.Done)
     ∷ []
 
 -- ---- the group of a job is orphaned, and the shell ends
 
 abbrev pub shell_ends : JobsSession
 shell_ends = session_with None (
-    phase_with [] (codes "sh") (plain (opens 0 Rw true) ∷ sctty 0 ∷ [])
-    ∷ phase_with [] (codes "job") (plain (reads 0 8) ∷ plain (writes 0 (97 ∷ [])) ∷ plain (sets_modes 0 Now (Raw ∷ [])) ∷ sctty 0 ∷ [])
-    ∷ phase_with [] (codes "sh") (exits ∷ [])
+    phase_with [] (codes "sh") (plain (opens 0 Rw true) ∷ further (call.Sctty 0) ∷ [])
+    ∷ phase_with [] (codes "job") (plain (reads 0 8) ∷ plain (writes 0 (97 ∷ [])) ∷ plain (sets_modes 0 Now (Raw ∷ [])) ∷ further (call.Sctty 0) ∷ [])
+    ∷ phase_with [] (codes "sh") (further call.Exit ∷ [])
     ∷ [])
 
 abbrev pub shell_ends_log : JobLog
 shell_ends_log =
     logged 2 (passed 0 0 done)
-    ∷ logged 2 (own 0 1 job_done)
-    ∷ logged 6 (own 1 0 (job_refused EIO))
+    ∷ logged 2 (own 0 1 told.Done)
+    ∷ logged 6 (own 1 0 (told.Refused EIO))
     ∷ logged 7 (passed 1 1 (count_is 1))
-    ∷ logged 7 (own 1 2 (job_refused EIO))
-    ∷ logged 7 (own 1 3 not_permitted)
-    ∷ logged 11 (own 0 2 job_done)
-    ∷ logged 11 (sent Hup (to_group 1))
+    ∷ logged 7 (own 1 2 (told.Refused EIO))
+    ∷ logged 7 (own 1 3 told.NotPermitted)
+    ∷ logged 11 (own 0 2 told.Done)
+    ∷ logged 11 (sent Hup (towards.Group 1))
     ∷ logged 12 (passed_down 0 0)
     ∷ []
 
@@ -212,19 +217,19 @@ shell_ends_journal =
 
 -- the orphaned group is stopped
 abbrev pub orphan_stopped : JobLog
-orphan_stopped = logged 2 (passed 0 0 done) ∷ logged 2 (own 0 1 job_done) ∷ logged 6 (own 1 0 (stopped_by Ttin)) ∷ logged 6 (sent Ttin (to_group 2)) ∷ []
+orphan_stopped = logged 2 (passed 0 0 done) ∷ logged 2 (own 0 1 told.Done) ∷ logged 6 (own 1 0 (told.Stopped Ttin)) ∷ logged 6 (sent Ttin (towards.Group 2)) ∷ []
 
 -- the leader ends, and nothing is hung up
 abbrev pub not_hung_up : JobLog
 not_hung_up =
     logged 2 (passed 0 0 done)
-    ∷ logged 2 (own 0 1 job_done)
-    ∷ logged 6 (own 1 0 (job_refused EIO))
+    ∷ logged 2 (own 0 1 told.Done)
+    ∷ logged 6 (own 1 0 (told.Refused EIO))
     ∷ logged 7 (passed 1 1 (count_is 1))
-    ∷ logged 7 (own 1 2 (job_refused EIO))
-    ∷ logged 7 (own 1 3 not_permitted)
-    ∷ logged 11 (own 0 2 job_done)
-    ∷ logged 11 (sent Hup (to_group 1))
+    ∷ logged 7 (own 1 2 (told.Refused EIO))
+    ∷ logged 7 (own 1 3 told.NotPermitted)
+    ∷ logged 11 (own 0 2 told.Done)
+    ∷ logged 11 (sent Hup (towards.Group 1))
     ∷ []
 
 -- the state of a port after these events

@@ -27,8 +27,15 @@ use Rattle.job_control.specs.Roster.{group_at}
 use Rattle.job_control.specs.Control.{JobState, first_jobs, leads_holder, judged, sctty_refusal, after_sctty, no_terminal, controls, let_go, after_notty, foreground_of, gpgrp_answer, spgrp_refusal, after_spgrp, after_exit, leader_of}
 use Rattle.passed_calls.specs.Blocks.{names_on}
 use Rattle.passed_calls.specs.Journals.{Journal, terminal_at, IsAnswerAt}
-use Rattle.job_steps.specs.Sessions.{JobCall, plain, sctty, notty, gpgrp, spgrp, exits, JobsSession, JobAnswer, job_done, job_number, job_refused, not_permitted, stopped_by, Target, to_group, to_process, to_nobody, JobEvent, own, passed, passed_down, sent, JobLog}
-use Rattle.job_steps.specs.Derived.{blocks_in, job_call_at}
+use Rattle.job_control.specs.declared.answers.JobAnswer.{JobAnswer}
+use Rattle.job_control.specs.declared.answers.JobAnswer.TheVariants as told
+use Rattle.job_control.specs.declared.answers.Target.{Target}
+use Rattle.job_control.specs.declared.answers.Target.TheVariants as towards
+use Rattle.passed_calls.specs.Scripts.{plain, further}
+use Rattle.job_text.specs.declared.calls.OwnCall.TheVariants as call
+use Rattle.job_text.specs.Events.{JobEvent, own, passed, passed_down, sent, JobLog}
+use Rattle.job_text.specs.Sessions.{JobCall, JobsSession, blocks_in}
+use Rattle.job_steps.specs.Derived.{job_call_at}
 
 -- ---- the state of a port beside its terminal
 
@@ -125,12 +132,12 @@ judged_call jobs t p call = judged_if jobs t p (handle_of call) (checked call)
 -- what it is answered, where it does not go on
 abbrev pub judged_answer : Judged → Option JobAnswer
 judged_answer Pass = None
-judged_answer Eio = Some (job_refused EIO)
-judged_answer (Stop signal) = Some (stopped_by signal)
+judged_answer Eio = Some (told.Refused EIO)
+judged_answer (Stop signal) = Some (told.Stopped signal)
 
 -- the signal of a call that is stopped goes to the group of its process
 abbrev pub sent_by_stop : JobState → (p : ℕ) → Judged → List JobEvent
-sent_by_stop jobs p (Stop signal) = sent signal (to_group (group_at jobs.procs p)) ∷ []
+sent_by_stop jobs p (Stop signal) = sent signal (towards.Group (group_at jobs.procs p)) ∷ []
 sent_by_stop jobs p other = []
 
 -- ---- the calls of job control
@@ -145,21 +152,21 @@ abbrev pub leaves : JobAnswer → JobState → Outcome
 leaves answer jobs = record { answer = answer; left = jobs; due = [] }
 
 abbrev pub refusal_answer : JobRefusal → JobAnswer
-refusal_answer refusals.EPERM = not_permitted
-refusal_answer refusals.ENOTTY = job_refused ENOTTY
+refusal_answer refusals.EPERM = told.NotPermitted
+refusal_answer refusals.ENOTTY = told.Refused ENOTTY
 
 abbrev pub done_or : Option JobRefusal → JobAnswer
-done_or None = job_done
+done_or None = told.Done
 done_or (Some refusal) = refusal_answer refusal
 
 abbrev pub number_or : Result ℕ JobRefusal → JobAnswer
-number_or (Ok n) = job_number n
+number_or (Ok n) = told.Number n
 number_or (Err refusal) = refusal_answer refusal
 
 -- the group in the foreground, as a target
 abbrev pub target_of : Option ℕ → Target
-target_of None = to_nobody
-target_of (Some group) = to_group group
+target_of None = towards.Nobody
+target_of (Some group) = towards.Group group
 
 abbrev pub foreground_target : JobState → Target
 foreground_target jobs = target_of (foreground_of jobs)
@@ -181,39 +188,39 @@ exit_due jobs t p c =
 -- the background check of spgrp, after its ENOTTY and before its EPERM
 abbrev pub spgrp_judged : JobState → (p group : ℕ) → Judged → Outcome
 spgrp_judged jobs p group Pass = leaves (done_or (spgrp_refusal jobs p group)) (after_spgrp jobs p group)
-spgrp_judged jobs p group Eio = leaves (job_refused ENOTTY) jobs
-spgrp_judged jobs p group (Stop signal) = record { answer = stopped_by signal; left = jobs; due = sent_by_stop jobs p (Stop signal) }
+spgrp_judged jobs p group Eio = leaves (told.Refused ENOTTY) jobs
+spgrp_judged jobs p group (Stop signal) = record { answer = told.Stopped signal; left = jobs; due = sent_by_stop jobs p (Stop signal) }
 
 abbrev pub spgrp_outcome : JobState → Terminal → (p group : ℕ) → Outcome
 spgrp_outcome jobs t p group =
-    if controls jobs p then spgrp_judged jobs p group (judged jobs p Change (has_flag t.modes TOSTOP)) else leaves (job_refused ENOTTY) jobs
+    if controls jobs p then spgrp_judged jobs p group (judged jobs p Change (has_flag t.modes TOSTOP)) else leaves (told.Refused ENOTTY) jobs
 
 -- EBADF without a handle; through a dead one EIO, and of spgrp ENOTTY
 abbrev pub through : JobState → Option HandleState → (dead : JobAnswer) → Outcome → Outcome
-through jobs None dead outcome = leaves (job_refused EBADF) jobs
+through jobs None dead outcome = leaves (told.Refused EBADF) jobs
 through jobs (Some handle) dead outcome = if handle.live then outcome else leaves dead jobs
 
 -- the port is asked nothing in these; a call for the port comes to what the background check says
 abbrev pub outcome_of : JobState → Terminal → (p c : ℕ) → JobCall → Outcome
 outcome_of jobs t p c (plain call) = record {
-  answer = unwrap_or (judged_answer (judged_call jobs t p call)) job_done;
+  answer = unwrap_or (judged_answer (judged_call jobs t p call)) told.Done;
   left = jobs;
   due = sent_by_stop jobs p (judged_call jobs t p call);
 }
-outcome_of jobs t p c (sctty h) = through jobs (handle_at t h) (job_refused EIO) (leaves (done_or (sctty_refusal jobs p)) (after_sctty jobs p))
-outcome_of jobs t p c (notty h) =
-    through jobs (handle_at t h) (job_refused EIO)
+outcome_of jobs t p c (further (call.Sctty h)) = through jobs (handle_at t h) (told.Refused EIO) (leaves (done_or (sctty_refusal jobs p)) (after_sctty jobs p))
+outcome_of jobs t p c (further (call.Notty h)) =
+    through jobs (handle_at t h) (told.Refused EIO)
     (record { answer = done_or (no_terminal jobs p); left = after_notty jobs p; due = notty_due jobs p })
-outcome_of jobs t p c (gpgrp h) = through jobs (handle_at t h) (job_refused EIO) (leaves (number_or (gpgrp_answer jobs p)) jobs)
-outcome_of jobs t p c (spgrp h group) = through jobs (handle_at t h) (job_refused ENOTTY) (spgrp_outcome jobs t p group)
-outcome_of jobs t p c exits = record { answer = job_done; left = after_exit jobs p; due = exit_due jobs t p c }
+outcome_of jobs t p c (further (call.Gpgrp h)) = through jobs (handle_at t h) (told.Refused EIO) (leaves (number_or (gpgrp_answer jobs p)) jobs)
+outcome_of jobs t p c (further (call.Spgrp h group)) = through jobs (handle_at t h) (told.Refused ENOTTY) (spgrp_outcome jobs t p group)
+outcome_of jobs t p c (further call.Exit) = record { answer = told.Done; left = after_exit jobs p; due = exit_due jobs t p c }
 
 -- ---- the step
 
 -- a call is answered without the port: a call of job control, or a call that does not go on to the port
 abbrev pub is_own : JobState → Terminal → (p : ℕ) → JobCall → Bool
 is_own jobs t p (plain call) = not (is_none (judged_answer (judged_call jobs t p call)))
-is_own jobs t p other = true
+is_own jobs t p (further call) = true
 
 abbrev pub OwnAnswer : JobState → Terminal → (p c : ℕ) → Option JobCall → JobAnswer → Type 0
 OwnAnswer jobs t p c None answer = ⊥
@@ -292,7 +299,7 @@ after_own t p c s at (Some call) = record (with_jobs s at (outcome_of s.now.jobs
 -- a caller's hangup tells the leader of the session, and nobody holds the port then
 abbrev pub told_leader : Option ℕ → List JobEvent
 told_leader None = []
-told_leader (Some leader) = sent Hup (to_process leader) ∷ sent Cont (to_process leader) ∷ []
+told_leader (Some leader) = sent Hup (towards.Process leader) ∷ sent Cont (towards.Process leader) ∷ []
 
 abbrev pub after_passed : JobsState → (at : ℕ) → Option JobCall → PlainAnswer → JobsState
 after_passed s at (Some (plain (hangs_up h))) done = record (with_jobs s at (let_go s.now.jobs)) { due = told_leader (leader_of s.now.jobs) }

@@ -4,4 +4,5 @@ pub mod Procs
 pub mod Reading
 pub mod Rows
 pub mod Sessions
+pub mod Events
 pub mod Views

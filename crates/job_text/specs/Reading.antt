@@ -1,26 +1,24 @@
 -- Reading a text line by line: what stands beside the items of a session of ports, or the first wrong line. What is
 -- left of a text without processes and calls of job control is read as a session's.
-use Rattle.std.specs.Prelude.{ℕ, ◌-◌, ◌==◌, ◌&&◌, ◌||◌, nat_le, nat_lt, min, Bool, true, false, not, List, [], ◌∷◌, ◌++◌, length, count_by, Option, None, Some, is_some, is_none, Result, Ok, if◌then◌else◌}
+use Rattle.std.specs.Prelude.{ℕ, ◌-◌, ◌==◌, ◌&&◌, ◌||◌, nat_le, nat_lt, Bool, true, false, not, List, [], ◌∷◌, ◌++◌, length, count_by, Option, None, Some, is_some, is_none, Result, Ok, if◌then◌else◌}
 use Rattle.std.specs.List.{list_any}
 use Rattle.std.specs.Option.{option_map_or}
 use Rattle.text_lines.specs.Lines.{first_is}
 use Rattle.text_lines.specs.Values.{word_at, number_at, is_name, read_of}
 use Rattle.session_text.specs.declared.faults.Reason.TheVariants.{Order, Limit}
 use Rattle.session_text.specs.declared.faults.BadLine.{BadLine}
-use Rattle.session_text.specs.Stands.{in_phase, is_start, is_ended, verdict_on}
-use Rattle.session_text.specs.Drafts.{session_with as session_read}
 use Rattle.session_text.specs.Refusals.{next_line, lines_in}
-use Rattle.session_text.specs.Reading.{PlainReading, first_reading, reading_after_item}
 use Rattle.further_text.specs.declared.sorts.Sort.{Sort}
 use Rattle.further_text.specs.declared.sorts.Sort.TheVariants.{Ports, Caller, Border, Inside, Other}
 use Rattle.further_text.specs.Faults.{bad, wrong_if, wrong_unless, on_line, ◌>>=◌}
+use Rattle.further_text.specs.Reading.{BaseReading, first_base, at_start, in_open_phase, at_end, base_after_item, base_after_ports, base_after_step, base_at_end, spend, with_block, place_in}
 use Rattle.further_text.specs.Sorts.{sort_of}
 use Rattle.job_text.specs.declared.verbs.JobVerb.{JobVerb}
 use Rattle.job_text.specs.declared.verbs.JobVerb.TheVariants as verb
 use Rattle.job_text.specs.declared.calls.OwnCall.{OwnCall}
 use Rattle.job_text.specs.declared.calls.OwnCall.TheVariants as call
 use Rattle.job_text.specs.declared.sessions.PortProc.{PortProc}
-use Rattle.job_text.specs.declared.sessions.PlacedCall.{PlacedCall}
+use Rattle.passed_calls.specs.declared.placed.PlacedCall.{PlacedCall}
 use Rattle.job_text.specs.declared.reader.Process.{Process}
 use Rattle.job_text.specs.declared.reader.Block.{Block}
 use Rattle.job_text.specs.declared.reader.Block.TheVariants as block
@@ -29,41 +27,27 @@ use Rattle.job_text.specs.Calls.{call_of}
 use Rattle.job_text.specs.Procs.{words_in, proc_of, place_named, leads_with}
 use Rattle.job_text.specs.Verbs.{verb_of}
 
--- What was read of the session of ports; which block is open; how many ports there are; the processes, and who has
--- exited; in the open phase whose blocks there are, and the calls of job control; those of the phases before it; and
--- how many steps may still come, now and when the open block began.
+-- What was read of the session of ports; which block is open; the processes, and who has exited; in the open phase whose
+-- blocks there are, and the calls of job control; and those of the phases before it.
 pub record JobsReading : Type 0 where
-  pub session : PlainReading
+  pub base : BaseReading
   pub open_block : Block
-  pub ports : ℕ
   pub procs : List PortProc
   pub exited : List Process
   pub scripts : List Process
-  pub own : List PlacedCall
-  pub parts : List (List PlacedCall)
-  pub left_at_opening : ℕ
-  pub steps_left : ℕ
+  pub own : List (PlacedCall OwnCall)
+  pub parts : List (List (PlacedCall OwnCall))
 
 abbrev pub first_jobs_reading : JobsReading
-first_jobs_reading = record {
-  session = first_reading;
-  open_block = block.Another;
-  ports = 0;
-  procs = [];
-  exited = [];
-  scripts = [];
-  own = [];
-  parts = [];
-  left_at_opening = 65536;
-  steps_left = 65536;
-}
+first_jobs_reading = record { base = first_base; open_block = block.Another; procs = []; exited = []; scripts = []; own = []; parts = [] }
 
-abbrev pub in_open_phase : JobsReading → Bool
-in_open_phase r = in_phase r.session.stand.place
+-- what is read with the session of ports
+abbrev pub with_base : JobsReading → Result BaseReading BadLine → Result JobsReading BadLine
+with_base r read = read >>= λ base. Ok (record r { base = base })
 
 -- behind `ports`, and before the first phase
 abbrev pub is_before_phases : JobsReading → Bool
-is_before_phases r = (not (r.ports == 0) && not (in_open_phase r)) && not (is_ended r.session.stand.place)
+is_before_phases r = (not (r.base.ports == 0) && not (in_open_phase r.base)) && not (at_end r.base)
 
 abbrev pub is_caller : Block → Bool
 is_caller (block.Caller process) = true
@@ -77,20 +61,15 @@ is_exited other = false
 -- ---- the items of a session of ports
 
 abbrev pub after_session_item : JobsReading → ℕ → List ℕ → List (List ℕ) → Result JobsReading BadLine
-after_session_item r n word arguments =
-    reading_after_item r.session n arguments (verdict_on r.session.stand word arguments) >>= λ session. Ok (record r { session = session })
-
--- a step is one of those that may still come
-abbrev pub spend : ℕ → JobsReading → Result JobsReading BadLine
-spend n r = wrong_if n Limit (r.steps_left == 0) (Ok (record r { steps_left = r.steps_left - 1 }))
+after_session_item r n word arguments = with_base r (base_after_item r.base n word arguments)
 
 -- a port has no process of this name
 abbrev pub is_nobody : JobsReading → (name : List ℕ) → (port : ℕ) → Bool
-is_nobody r name port = nat_lt port r.ports && is_none (place_named r.procs port name)
+is_nobody r name port = nat_lt port r.base.ports && is_none (place_named r.procs port name)
 
 -- a caller is named that is no process
 abbrev pub is_stray : JobsReading → (name port : List ℕ) → Bool
-is_stray r name port = (in_open_phase r && is_name name) && option_map_or (is_nobody r name) (read_of port) false
+is_stray r name port = (in_open_phase r.base && is_name name) && option_map_or (is_nobody r name) (read_of port) false
 
 abbrev pub is_same_process : Process → Process → Bool
 is_same_process a b = a.port == b.port && a.place == b.place
@@ -101,9 +80,9 @@ has_exited exited process = list_any (is_same_process process) exited
 -- the block of a process
 abbrev pub with_caller_of : Process → JobsReading → JobsReading
 with_caller_of process r = record r {
+  base = with_block r.base;
   open_block = if has_exited r.exited process then block.Exited else block.Caller process;
   scripts = r.scripts ++ process ∷ [];
-  left_at_opening = r.steps_left;
 }
 
 abbrev pub with_caller : ℕ → (port : ℕ) → Option ℕ → JobsReading → Result JobsReading BadLine
@@ -128,21 +107,18 @@ with_phase_closed is_open r = record r {
   parts = if is_open then r.parts ++ r.own ∷ [] else r.parts;
 }
 
--- with another number of arguments `ports` and `caller` are wrong items of the session
+-- with another number of arguments `caller` is a wrong item of the session
 abbrev pub after_shared : JobsReading → ℕ → List ℕ → List (List ℕ) → Sort → Result JobsReading BadLine
-after_shared r n word arguments Ports =
-    if length arguments == 1
-    then (after_session_item r n word arguments >>= λ next. Ok (record next { ports = min (number_at arguments 0) 8 }))
-    else after_session_item r n word arguments
+after_shared r n word arguments Ports = with_base r (base_after_ports r.base n word arguments)
 after_shared r n word arguments Caller =
     if length arguments == 2
     then wrong_if n Order (is_stray r (word_at arguments 0) (word_at arguments 1))
     (after_opening r n word arguments (word_at arguments 0) (number_at arguments 1))
     else after_session_item r n word arguments
 after_shared r n word arguments Border =
-    after_session_item r n word arguments >>= λ next. Ok (with_phase_closed (in_open_phase r) next)
+    after_session_item r n word arguments >>= λ next. Ok (with_phase_closed (in_open_phase r.base) next)
 after_shared r n word arguments Inside =
-    wrong_if n Order (is_exited r.open_block) (after_session_item r n word arguments >>= spend n)
+    wrong_if n Order (is_exited r.open_block) (with_base r (base_after_step r.base n word arguments))
 after_shared r n word arguments Other =
     after_session_item r n word arguments >>= λ next. Ok (record next { open_block = block.Another })
 
@@ -162,7 +138,7 @@ with_proc r n q =
 abbrev pub after_proc : JobsReading → ℕ → List (List ℕ) → Result JobsReading BadLine
 after_proc r n arguments =
     wrong_unless n Order (is_before_phases r)
-    (on_line n (words_in arguments >>= proc_of r.ports r.procs) >>= with_proc r n)
+    (on_line n (words_in arguments >>= proc_of r.base.ports r.procs) >>= with_proc r n)
 
 -- ---- calls of job control
 
@@ -178,11 +154,11 @@ with_exit other r = r
 -- a call more of the last caller's block
 abbrev pub with_own : JobsReading → OwnCall → JobsReading
 with_own r call = record r {
-  own = r.own ++ record { script = length r.scripts - 1; place = r.left_at_opening - r.steps_left; call = call } ∷ [];
+  own = r.own ++ record { script = length r.scripts - 1; place = place_in r.base; call = call } ∷ [];
 }
 
 abbrev pub with_call : JobsReading → ℕ → OwnCall → Result JobsReading BadLine
-with_call r n call = spend n (with_exit call (with_own r call))
+with_call r n call = with_base (with_exit call (with_own r call)) (spend n r.base)
 
 abbrev pub after_call : JobsReading → ℕ → JobVerb → List (List ℕ) → Result JobsReading BadLine
 after_call r n v arguments = wrong_unless n Order (is_caller r.open_block) (on_line n (call_of v arguments) >>= with_call r n)
@@ -198,15 +174,14 @@ after_verb r n word arguments None = after_shared r n word arguments (sort_of wo
 -- the first item is the header
 abbrev pub after_item : JobsReading → ℕ → List ℕ → List (List ℕ) → Result JobsReading BadLine
 after_item r n word arguments =
-    if is_start r.session.stand.place then after_session_item r n word arguments else after_verb r n word arguments (verb_of word)
+    if at_start r.base then after_session_item r n word arguments else after_verb r n word arguments (verb_of word)
 
 abbrev pub after_line : JobsReading → ℕ → List (List ℕ) → Result JobsReading BadLine
 after_line r n [] = Ok r
 after_line r n (word ∷ arguments) = if first_is 35 word then Ok r else after_item r n word arguments
 
 abbrev pub jobs_at_end : JobsReading → ℕ → Result JobsSession BadLine
-jobs_at_end r n =
-    if is_ended r.session.stand.place then Ok (session_with (session_read r.session.stand r.session.draft) r.procs r.parts) else bad n Order
+jobs_at_end r n = base_at_end r.base n >>= λ session. Ok (session_with session r.procs r.parts)
 
 -- a text that ends too early is wrong at the line after its last
 abbrev pub jobs_from : JobsReading → ℕ → List (List (List ℕ)) → Result JobsSession BadLine

@@ -8,9 +8,9 @@ use Rattle.session_text.specs.declared.faults.Reason.{Reason}
 use Rattle.session_text.specs.declared.faults.Reason.TheVariants.{Header, Word, Number, Order, Limit}
 use Rattle.session_text.specs.declared.faults.BadLine.{BadLine}
 use Rattle.job_control.specs.declared.processes.Proc.{Proc}
-use Rattle.passed_calls.specs.Scripts.{CallerScript}
 use Rattle.job_text.specs.declared.calls.OwnCall.TheVariants as call
-use Rattle.job_text.specs.Sessions.{JobCall, plain, job, JobsPhase, JobsSession}
+use Rattle.passed_calls.specs.Scripts.{CallerScript, plain, further}
+use Rattle.job_text.specs.Sessions.{JobCall, JobsPhase, JobsSession}
 
 -- a text, its first wrong line, and why that line is wrong
 pub record RefusedRow : Type 0 where
@@ -105,13 +105,13 @@ shell_session = record {
   flips = 4096 ∷ [];
   procs = (shell ∷ a_job ∷ []) ∷ [];
   phases =
-      phase_of (record { port = 0; name = codes "sh"; calls = plain (opens 0 Rw true) ∷ job (call.Sctty 0) ∷ job (call.Gpgrp 0) ∷ [] } ∷ [])
+      phase_of (record { port = 0; name = codes "sh"; calls = plain (opens 0 Rw true) ∷ further (call.Sctty 0) ∷ further (call.Gpgrp 0) ∷ [] } ∷ [])
       ∷ record {
         lines = (Rx (record { byte = 3; flag = Normal }) ∷ []) ∷ [];
         ticks = 0 ∷ [];
         callers =
             record { port = 0; name = codes "job"; calls = plain (reads 0 8) ∷ [] }
-            ∷ record { port = 0; name = codes "sh"; calls = job (call.Spgrp 0 2) ∷ job call.Exit ∷ [] } ∷ [];
+            ∷ record { port = 0; name = codes "sh"; calls = further (call.Spgrp 0 2) ∷ further call.Exit ∷ [] } ∷ [];
       }
       ∷ phase_of (record { port = 0; name = codes "sh"; calls = [] } ∷ []) ∷ [];
 }

@@ -1,21 +1,20 @@
 -- Sessions whose callers are processes.
-use Rattle.std.specs.Prelude.{ℕ, ◌+◌, ◌-◌, ◌==◌, List, [], ◌∷◌, ◌++◌, map, filter, take, drop}
+use Rattle.std.specs.Prelude.{ℕ, ◌==◌, List, [], map, filter, flat_map}
 use Rattle.std.specs.List.{range_with_len}
 use Rattle.tty_base.specs.declared.lines.LineStep.{LineStep}
-use Rattle.tty_calls.specs.Plain.{PlainCall}
-use Rattle.tty_calls.specs.Sessions.{PlainScript, PlainPhase, PlainSession, session_of}
+use Rattle.tty_calls.specs.Sessions.{PlainPhase, PlainSession, session_of}
 use Rattle.job_control.specs.declared.processes.Proc.{Proc}
-use Rattle.passed_calls.specs.Scripts.{CallerScript}
+use Rattle.passed_calls.specs.declared.placed.PlacedCall.{PlacedCall}
+use Rattle.passed_calls.specs.Blocks.{Block}
+use Rattle.passed_calls.specs.Scripts.{AnyCall, CallerScript, block_of, mixed_scripts, phases_with}
 use Rattle.job_text.specs.declared.calls.OwnCall.{OwnCall}
 use Rattle.job_text.specs.declared.sessions.PortProc.{PortProc}
-use Rattle.job_text.specs.declared.sessions.PlacedCall.{PlacedCall}
 use Rattle.job_text.specs.declared.sessions.JobsPart.{JobsPart}
 use Rattle.job_text.specs.declared.sessions.JobsSession.{JobsSession as KeptSession}
 
 -- a call that is for the port, or one of job control
-pub data JobCall : Type 0 where
-  plain : (call : PlainCall) → JobCall
-  job : (call : OwnCall) → JobCall
+abbrev pub JobCall : Type 0
+JobCall = AnyCall OwnCall
 
 -- a phase; `lines` and `ticks` have one item for each port
 pub record JobsPhase : Type 0 where
@@ -31,41 +30,29 @@ pub record JobsSession : Type 0 where
   pub procs : List (List Proc)
   pub phases : List JobsPhase
 
+-- the blocks of a session, which tell the callers' numbers
+abbrev pub blocks_in : JobsSession → List Block
+blocks_in session = flat_map (λ phase. map block_of phase.callers) session.phases
+
 -- ---- a session of ports, its processes, and what its phases have beside
 
--- a script's calls from a place on: those for the port, and the others at their places
-abbrev pub mixed : (place : ℕ) → List PlainCall → List PlacedCall → List JobCall
-mixed n calls [] = map plain calls
-mixed n calls (o ∷ os) = map plain (take (o.place - n) calls) ++ job o.call ∷ mixed (o.place + 1) (drop (o.place - n) calls) os
-
--- the scripts of a phase, from one on
-abbrev pub mixed_scripts : (script : ℕ) → List PlainScript → List PlacedCall → List (CallerScript JobCall)
-mixed_scripts k [] own = []
-mixed_scripts k (s ∷ ss) own =
-    record { port = s.port; name = s.name; calls = mixed 0 s.calls (filter (λ o. o.script == k) own) } ∷ mixed_scripts (k + 1) ss own
-
-abbrev pub phase_with : PlainPhase → List PlacedCall → JobsPhase
+abbrev pub phase_with : PlainPhase → List (PlacedCall OwnCall) → JobsPhase
 phase_with phase own = record { lines = phase.lines; ticks = phase.ticks; callers = mixed_scripts 0 phase.callers own }
-
-abbrev pub phases_with : List PlainPhase → List (List PlacedCall) → List JobsPhase
-phases_with [] parts = []
-phases_with (phase ∷ phases) [] = phase_with phase [] ∷ phases_with phases []
-phases_with (phase ∷ phases) (own ∷ parts) = phase_with phase own ∷ phases_with phases parts
 
 -- the processes of each port
 abbrev pub procs_on : ℕ → List PortProc → List Proc
 procs_on p procs = map (λ q. q.proc) (filter (λ q. q.port == p) procs)
 
-abbrev pub session_with : PlainSession → List PortProc → List (List PlacedCall) → JobsSession
+abbrev pub session_with : PlainSession → List PortProc → List (List (PlacedCall OwnCall)) → JobsSession
 session_with session procs parts = record {
   version = session.version;
   ports = session.ports;
   flips = session.flips;
   procs = map (λ p. procs_on p procs) (range_with_len 0 session.ports);
-  phases = phases_with session.phases parts;
+  phases = phases_with phase_with [] parts 0 session.phases;
 }
 
-abbrev pub own_of : JobsPart → List PlacedCall
+abbrev pub own_of : JobsPart → List (PlacedCall OwnCall)
 own_of part = part.own.items
 
 -- what a session that is kept is

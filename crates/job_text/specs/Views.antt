@@ -1,7 +1,7 @@
 -- What the reader's values are as plain data. Nothing is said of the room behind a name.
 use Rattle.std.specs.Prelude.{map}
 use Rattle.text_lines.specs.Lines.{words_of}
-use Rattle.session_text.specs.Views.{reading_of}
+use Rattle.further_text.specs.Views.{base_of}
 use Rattle.job_text.specs.declared.procs.ProcWords.{ProcWords as PartedLine}
 use Rattle.job_text.specs.declared.reader.JobsReader.{JobsReader}
 use Rattle.job_text.specs.Procs.{ProcWords}
@@ -20,14 +20,11 @@ proc_words_of w = record {
 
 abbrev pub jobs_reading_of : JobsReader → JobsReading
 jobs_reading_of r = record {
-  session = reading_of r.session;
+  base = base_of r.base;
   open_block = r.block;
-  ports = r.ports;
   procs = map bare r.procs.items;
   exited = r.exited.items;
   scripts = r.callers.items;
   own = r.own.items;
   parts = map own_of r.parts.items;
-  left_at_opening = r.left_at_opening;
-  steps_left = r.steps_left;
 }

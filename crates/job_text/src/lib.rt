@@ -6,14 +6,14 @@
 
 mod calls;
 mod laws;
+mod logs;
 mod procs;
 mod reader;
 mod sessions;
-#[cfg(test)]
-mod tests;
 mod verbs;
 
 pub use calls::OwnCall;
 pub use laws::{a_worked_text_is_read, worked_texts_are_refused_at_their_lines};
+pub use logs::{JobEvent, JobLog};
 pub use reader::parse_jobs;
-pub use sessions::{JobsPart, JobsSession, PlacedCall, PortProc};
+pub use sessions::{JobsPart, JobsSession, PortProc};

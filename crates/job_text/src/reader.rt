@@ -1,28 +1,27 @@
 //! Reads a text line by line.
 
-ghost use Rattle.std.specs.Prelude.{◌≡◌, false, [], ◌∷◌, ◌++◌, OnOk, map, min, if◌then◌else◌};
+ghost use Rattle.std.specs.Prelude.{◌≡◌, false, [], ◌∷◌, ◌++◌, OnOk, map, if◌then◌else◌};
 ghost use Rattle.std.specs.Option.{option_map_or};
 ghost use Rattle.text_lines.specs.Lines.{words_of};
 ghost use Rattle.text_lines.specs.Values.{read_of};
 ghost use Rattle.session_text.specs.Reading.{Gives};
+ghost use Rattle.further_text.specs.Reading.{spend};
 ghost use Rattle.further_text.specs.Sorts.{sort_of};
 ghost use Rattle.job_text.specs.Sessions.{bare, bare_session_of};
-ghost use Rattle.job_text.specs.Reading.{after_call, after_item, after_line, after_opening, after_proc, after_session_item, after_shared, exits, first_jobs_reading, has_exited, has_stood, is_before_phases, is_nobody, is_same_process, is_stray, jobs_at_end, jobs_in, place_of, spend, with_call, with_caller, with_exit, with_own, with_phase_closed, with_proc};
+ghost use Rattle.job_text.specs.Reading.{after_call, after_item, after_line, after_opening, after_proc, after_session_item, after_shared, exits, first_jobs_reading, has_exited, has_stood, is_before_phases, is_nobody, is_same_process, is_stray, jobs_at_end, jobs_in, place_of, with_base, with_call, with_caller, with_exit, with_own, with_phase_closed, with_proc};
 ghost use Rattle.job_text.specs.Views.{jobs_reading_of};
 
 use crate::calls::{OwnCall, call_of};
 use crate::procs::{count_on, has_leader, place_named, proc_of, words_in};
-use crate::sessions::{JobsPart, JobsSession, PlacedCall, PortProc};
+use crate::sessions::{JobsPart, JobsSession, PortProc};
 use crate::verbs::{JobVerb, verb_of};
-use further_text::{Sort, bad, has_count, sort_of};
-use session_text::{Reader, Reason, TextFault};
+use further_text::{BaseReader, Sort, bad, has_count, sort_of};
+use passed_calls::PlacedCall;
+use session_text::{Reason, TextFault};
 use std::alloc::Global;
 use std::mem;
 use text_lines::{FirstTwo, is_comment, is_name, read_number, split_line, split_word};
 use tty_base::{Buffer, NoMemory};
-
-/// So many steps a text has at most.
-const STEPS: u64 = 65_536;
 
 /// So many processes a port has at most.
 const PROCS: usize = 1_024;
@@ -48,19 +47,15 @@ pub(crate) enum Block {
 /// What was read of a text.
 #[derive(Drop)]
 pub(crate) struct JobsReader {
-    session: Reader,
+    base: BaseReader,
     block: Block,
-    ports: u8,
     procs: Buffer<PortProc>,
     exited: Buffer<Process>,
     /// Whose blocks the open phase has, and its calls of job control.
     callers: Buffer<Process>,
-    own: Buffer<PlacedCall>,
+    own: Buffer<PlacedCall<OwnCall>>,
     /// The phases before the open one.
     parts: Buffer<JobsPart>,
-    /// How many steps could still come when the open caller's block began, and how many now.
-    left_at_opening: u64,
-    steps_left: u64,
 }
 
 impl JobsReader {
@@ -69,16 +64,13 @@ impl JobsReader {
         ensures { jobs_reading_of result ≡ first_jobs_reading }
     {
         JobsReader {
-            session: Reader::new(alloc),
+            base: BaseReader::new(alloc),
             block: Block::Another,
-            ports: 0,
             procs: Buffer::new(alloc),
             exited: Buffer::new(alloc),
             callers: Buffer::new(alloc),
             own: Buffer::new(alloc),
             parts: Buffer::new(alloc),
-            left_at_opening: STEPS,
-            steps_left: STEPS,
         }
     }
 
@@ -107,7 +99,7 @@ impl JobsReader {
         ensures { Gives (λ _. jobs_reading_of self.new) result (after_item (jobs_reading_of self.old) number word.now (words_of behind.now)) }
     {
         let arguments = FirstTwo::of(behind);
-        if self.session.is_at_start() {
+        if self.base.is_at_start() {
             return self.read_by_session(alloc, number, word, &arguments);
         }
         match verb_of(word) {
@@ -127,7 +119,7 @@ impl JobsReader {
     ) -> Result<(), TextFault>
         ensures { Gives (λ _. jobs_reading_of self.new) result (after_session_item (jobs_reading_of self.old) number word.now arguments.now) }
     {
-        self.session.read_item(alloc, number, word, arguments)
+        self.base.read_item(alloc, number, word, arguments)
     }
 
     /// Reads an item that may stand in the text of any session.
@@ -141,7 +133,7 @@ impl JobsReader {
         ensures { Gives (λ _. jobs_reading_of self.new) result (after_shared (jobs_reading_of self.old) number word.now arguments.now (sort_of word.now)) }
     {
         match sort_of(word) {
-            Sort::Ports => self.read_ports(alloc, number, word, arguments),
+            Sort::Ports => self.base.read_ports(alloc, number, word, arguments),
             Sort::Caller => self.read_caller(alloc, number, word, arguments),
             Sort::Border => self.read_border(alloc, number, word, arguments),
             Sort::Inside => self.read_inside(alloc, number, word, arguments),
@@ -151,24 +143,6 @@ impl JobsReader {
                 Ok(())
             }
         }
-    }
-
-    fn read_ports(
-        &mut self,
-        alloc: Global,
-        number: u32,
-        word: &[u8],
-        arguments: &FirstTwo,
-    ) -> Result<(), TextFault>
-        ensures { Gives (λ _. jobs_reading_of self.new) result (after_shared (jobs_reading_of self.old) number word.now arguments.now Sort.Ports) }
-    {
-        if !has_count(arguments, 1) {
-            return self.read_by_session(alloc, number, word, arguments);
-        }
-        let ports = ports_of(arguments.whole().first_number());
-        self.read_by_session(alloc, number, word, arguments)?;
-        self.ports = ports;
-        Ok(())
     }
 
     fn read_caller(
@@ -218,7 +192,7 @@ impl JobsReader {
     fn is_stray(&self, name: &[u8], port: &[u8]) -> bool
         ensures { result ≡ is_stray (jobs_reading_of self.now) name.now port.now }
     {
-        self.session.is_in_phase() && is_name(name) && self.names_nobody(name, port)
+        self.base.is_in_phase() && is_name(name) && self.names_nobody(name, port)
     }
 
     fn names_nobody(&self, name: &[u8], port: &[u8]) -> bool
@@ -227,7 +201,7 @@ impl JobsReader {
         match read_number(port) {
             None => false,
             Some(port) => {
-                port < u64::from(self.ports)
+                port < u64::from(self.base.ports())
                     && place_named(self.procs.as_slice(), port, name).is_none()
             }
         }
@@ -242,7 +216,7 @@ impl JobsReader {
                 let process = Process { port, place };
                 self.callers.reserve(1)?;
                 self.callers.add(process);
-                self.left_at_opening = self.steps_left;
+                self.base.open_block();
                 self.block = block_of(self.exited.as_slice(), process);
                 Ok(())
             }
@@ -259,7 +233,7 @@ impl JobsReader {
     ) -> Result<(), TextFault>
         ensures { Gives (λ _. jobs_reading_of self.new) result (after_shared (jobs_reading_of self.old) number word.now arguments.now Sort.Border) }
     {
-        let is_open = self.session.is_in_phase();
+        let is_open = self.base.is_in_phase();
         self.read_by_session(alloc, number, word, arguments)?;
         Ok(self.close_phase(alloc, is_open)?)
     }
@@ -290,19 +264,14 @@ impl JobsReader {
         if matches!(self.block, Block::Exited) {
             return Err(bad(number, Reason::Order));
         }
-        self.read_by_session(alloc, number, word, arguments)?;
-        self.spend(number)
+        self.base.read_step(alloc, number, word, arguments)
     }
 
     /// Counts a step.
     fn spend(&mut self, number: u32) -> Result<(), TextFault>
-        ensures { Gives (λ _. jobs_reading_of self.new) result (spend number (jobs_reading_of self.old)) }
+        ensures { Gives (λ _. jobs_reading_of self.new) result (with_base (jobs_reading_of self.old) (spend number (jobs_reading_of self.old).base)) }
     {
-        if self.steps_left == 0 {
-            return Err(bad(number, Reason::Limit));
-        }
-        self.steps_left -= 1;
-        Ok(())
+        self.base.spend(number)
     }
 
     /// Reads the line of a process.
@@ -314,7 +283,7 @@ impl JobsReader {
         }
         match words_in(line) {
             Err(reason) => Err(bad(number, reason)),
-            Ok(words) => match proc_of(self.ports, self.procs.as_slice(), &words) {
+            Ok(words) => match proc_of(self.base.ports(), self.procs.as_slice(), &words) {
                 Err(reason) => Err(bad(number, reason)),
                 Ok(proc) => self.take_proc(number, proc),
             },
@@ -325,7 +294,7 @@ impl JobsReader {
     fn is_before_phases(&self) -> bool
         ensures { result ≡ is_before_phases (jobs_reading_of self.now) }
     {
-        !(self.ports == 0) && !self.session.is_in_phase() && !self.session.is_ended()
+        !(self.base.ports() == 0) && !self.base.is_in_phase() && !self.base.is_ended()
     }
 
     fn take_proc(&mut self, number: u32, proc: PortProc) -> Result<(), TextFault>
@@ -382,7 +351,7 @@ impl JobsReader {
         self.own.reserve(1)?;
         self.own.add(PlacedCall {
             script: self.callers.len().saturating_sub(1),
-            place: self.left_at_opening.saturating_sub(self.steps_left),
+            place: self.base.place(),
             call,
         });
         Ok(())
@@ -420,31 +389,21 @@ impl JobsReader {
         ensures { Gives bare_session_of result (jobs_at_end (jobs_reading_of self) number) }
     {
         let JobsReader {
-            session,
+            base,
             block: _,
-            ports: _,
             procs,
             exited: _,
             callers: _,
             own: _,
             parts,
-            left_at_opening: _,
-            steps_left: _,
         } = self;
-        let session = session.finish(number)?;
+        let session = base.finish(number)?;
         Ok(JobsSession {
             session,
             procs,
             parts,
         })
     }
-}
-
-/// There are 8 ports at most.
-fn ports_of(number: u64) -> u8
-    ensures { result ≡ min number 8 }
-{
-    if number < 8 { number as u8 } else { 8 }
 }
 
 fn block_of(exited: &[Process], process: Process) -> Block

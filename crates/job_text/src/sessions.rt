@@ -2,6 +2,7 @@
 
 use crate::calls::OwnCall;
 use job_control::Proc;
+use passed_calls::PlacedCall;
 use tty_base::Buffer;
 use tty_calls::Session;
 
@@ -12,19 +13,10 @@ pub struct PortProc {
     pub proc: Proc,
 }
 
-/// A call of job control, by the script that it stands in among those of its phase, and by its place among the calls
-/// there.
-#[derive(Clone, Copy, PartialEq, Eq)]
-pub struct PlacedCall {
-    pub script: usize,
-    pub place: u64,
-    pub call: OwnCall,
-}
-
 /// What a phase has beside that of a session of ports.
 #[derive(Drop)]
 pub struct JobsPart {
-    pub own: Buffer<PlacedCall>,
+    pub own: Buffer<PlacedCall<OwnCall>>,
 }
 
 /// A session of processes: a session of ports, its processes, and for each phase what it has beside. The parent of a

@@ -5,8 +5,6 @@
 mod modems;
 mod pins;
 mod rows;
-#[cfg(test)]
-mod tests;
 
 pub use modems::Modem;
 pub use pins::Pin;

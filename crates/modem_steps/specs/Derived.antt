@@ -1,13 +1,13 @@
 -- The session that the ports were played: the calls that were passed down, and in each phase, last, the caller
 -- `carrier`.
 use Rattle.std.specs.Prelude.{ℕ, ◌+◌, ◌==◌, ◌&&◌, nat_le, nat_lt, Option, Some, List, [], ◌∷◌, ◌++◌, map, filter, flat_map, length, sum_by, count_by}
-use Rattle.std.specs.List.{range_with_len}
 use Rattle.tty_calls.specs.Plain.{PlainCall, hangs_up}
 use Rattle.tty_calls.specs.Sessions.{PlainSession}
-use Rattle.passed_calls.specs.Blocks.{Block, names_on, number_on}
-use Rattle.passed_calls.specs.Scripts.{CallerScript, block_of, numbered_call}
-use Rattle.passed_calls.specs.Derived.{Passing, BlockPhase, blocks_of, passed_phases}
-use Rattle.modem_steps.specs.Sessions.{ModemCall, plain, ModemPhase, ModemSession, ModemEvent, pin_set, own, passed, carrier_lost, ModemLog, events_on, pins_on, carrier_name}
+use Rattle.passed_calls.specs.Blocks.{names_on, number_on}
+use Rattle.passed_calls.specs.Scripts.{CallerScript, plain, numbered_call}
+use Rattle.passed_calls.specs.Derived.{Passing, BlockPhase, passed_phases}
+use Rattle.modem_text.specs.Events.{ModemEvent, pin_set, own, passed, carrier_lost, ModemLog, events_on}
+use Rattle.modem_text.specs.Sessions.{ModemCall, ModemPhase, ModemSession, pins_on, carrier_name, phase_blocks, blocks_in}
 
 -- of each loss of the carrier, after how many items of modem blocks it came
 abbrev pub losses_after : (items : ℕ) → List ModemEvent → List ℕ
@@ -25,30 +25,19 @@ items_in p phases = sum_by (λ phase. length (pins_on p phase)) phases
 abbrev pub losses_between : List ModemEvent → (first last : ℕ) → ℕ
 losses_between events first last = count_by (λ n. nat_lt first n && nat_le n last) (losses_after 0 events)
 
--- the block of `carrier` on a port in the phase that comes after others
-abbrev pub carrier_block : ModemLog → (before : List ModemPhase) → ModemPhase → ℕ → Block
-carrier_block log before phase p = record {
-  port = p;
-  name = carrier_name;
-  steps = losses_between (events_on p log) (items_in p before) (items_in p before + length (pins_on p phase));
-}
+-- how often it was lost on a port in the phase that comes after others
+abbrev pub losses_in : ModemLog → (before : List ModemPhase) → ModemPhase → ℕ → ℕ
+losses_in log before phase p =
+    losses_between (events_on p log) (items_in p before) (items_in p before + length (pins_on p phase))
 
 abbrev pub block_phases_after : ModemLog → (ports : ℕ) → (before : List ModemPhase) → List ModemPhase → List BlockPhase
 block_phases_after log ports before [] = []
 block_phases_after log ports before (phase ∷ phases) =
-    record {
-      lines = phase.lines;
-      ticks = phase.ticks;
-      blocks = map block_of phase.callers ++ map (carrier_block log before phase) (range_with_len 0 ports);
-    }
+    record { lines = phase.lines; ticks = phase.ticks; blocks = phase_blocks (losses_in log before phase) ports phase }
     ∷ block_phases_after log ports (before ++ phase ∷ []) phases
 
 abbrev pub block_phases : ModemSession → ModemLog → List BlockPhase
 block_phases session log = block_phases_after log session.ports [] session.phases
-
--- the blocks of a session by themselves, which tell the callers' numbers
-abbrev pub blocks_in : ModemSession → List Block
-blocks_in session = blocks_of (block_phases session [])
 
 -- the number of `carrier` on a port
 abbrev pub carrier_on : ℕ → ModemSession → ℕ

@@ -1,4 +1,3 @@
-pub mod Sessions
 pub mod Derived
 pub mod Steps
 pub mod Order

@@ -10,7 +10,9 @@ use Rattle.tty_terminal.specs.Steps.{nothing_to_flush}
 use Rattle.one_thread.specs.Order.{must_wait, is_waiting, Place, turn, first_place, next_place, place_after, IsPieceOf, AllSeeAll}
 use Rattle.passed_calls.specs.Journals.{terminal_at}
 use Rattle.passed_calls.specs.Logs.{logged_on}
-use Rattle.modem_steps.specs.Sessions.{ModemCall, plain, ModemEvent, pin_set, own, passed, carrier_lost, ModemLog}
+use Rattle.passed_calls.specs.Scripts.{plain, further}
+use Rattle.modem_text.specs.Events.{ModemEvent, pin_set, own, passed, carrier_lost, ModemLog}
+use Rattle.modem_text.specs.Sessions.{ModemCall}
 use Rattle.modem_steps.specs.Derived.{carrier_on, derived}
 use Rattle.modem_steps.specs.Steps.{ModemState, Port, Item, items_on, next_call, waits_for_carrier, callers_in, first_state, after_event}
 
@@ -107,7 +109,7 @@ AreEntriesInTurn played port log place n (e ∷ es) =
 abbrev pub own_turn : Option ModemCall → ℕ → Turn
 own_turn None c = goes_on (Caller c)
 own_turn (Some (plain call)) c = is_told c
-own_turn (Some call) c = goes_on (Caller c)
+own_turn (Some (further call)) c = goes_on (Caller c)
 
 -- an event that no entry tells of, in its turn
 abbrev pub IsEventInTurn : PlainSession → Port → ModemState → Place → ModemEvent → Type 0

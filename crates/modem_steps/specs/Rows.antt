@@ -10,8 +10,11 @@ use Rattle.tty_terminal.specs.Rows.{whole, answers}
 use Rattle.journal_check.specs.Legal.{flip_on}
 use Rattle.modem_lines.specs.declared.pins.Pin.{Pin}
 use Rattle.modem_lines.specs.declared.pins.Pin.TheVariants.{Dcd}
-use Rattle.passed_calls.specs.Logs.{Logged}
-use Rattle.modem_steps.specs.Sessions.{ModemCall, plain, mget, softcar, getcar, msr, PinStep, ModemPhase, ModemSession, ModemEvent, pin_set, own, passed, carrier_lost, ModemLog, carrier_name}
+use Rattle.passed_calls.specs.declared.logs.Logged.{Logged}
+use Rattle.passed_calls.specs.Scripts.{plain, further}
+use Rattle.modem_text.specs.declared.items.OwnCall.TheVariants as call
+use Rattle.modem_text.specs.Events.{ModemEvent, pin_set, own, passed, carrier_lost, ModemLog}
+use Rattle.modem_text.specs.Sessions.{ModemCall, PinStep, ModemPhase, ModemSession, carrier_name}
 use Rattle.modem_steps.specs.Derived.{derived}
 use Rattle.modem_steps.specs.Steps.{Port, ModemState, first_state, after_event}
 
@@ -63,7 +66,7 @@ port_of session log journal = record {
 
 abbrev pub dial_in : ModemSession
 dial_in = session_with (
-    phase_with (pin_step Dcd ∷ []) (plain (opens 0 Rw false) ∷ mget 0 ∷ [])
+    phase_with (pin_step Dcd ∷ []) (plain (opens 0 Rw false) ∷ further (call.Mget 0) ∷ [])
     ∷ phase_with (fall Dcd ∷ []) (plain (reads 0 8) ∷ [])
     ∷ [])
 
@@ -121,8 +124,8 @@ raised_early = logged 1 (pin_set Dcd true) ∷ logged 2 (passed 0 0 done) ∷ lo
 
 abbrev pub local_line : ModemSession
 local_line = session_with (
-    phase_with (pin_step Dcd ∷ fall Dcd ∷ []) (plain (opens 0 Rw true) ∷ softcar 0 true ∷ getcar 0 ∷ mget 0 ∷ [])
-    ∷ phase_with [] (msr 0 ∷ msr 0 ∷ plain (reads 0 8) ∷ [])
+    phase_with (pin_step Dcd ∷ fall Dcd ∷ []) (plain (opens 0 Rw true) ∷ further (call.Softcar 0 true) ∷ further (call.Getcar 0) ∷ further (call.Mget 0) ∷ [])
+    ∷ phase_with [] (further (call.Msr 0) ∷ further (call.Msr 0) ∷ plain (reads 0 8) ∷ [])
     ∷ [])
 
 abbrev pub local_line_log : ModemLog
@@ -198,7 +201,7 @@ told_twice =
 -- ---- no carrier comes
 
 abbrev pub no_carrier : ModemSession
-no_carrier = session_with (phase_with [] (plain (opens 0 Rw false) ∷ mget 0 ∷ []) ∷ [])
+no_carrier = session_with (phase_with [] (plain (opens 0 Rw false) ∷ further (call.Mget 0) ∷ []) ∷ [])
 
 abbrev pub no_carrier_log : ModemLog
 no_carrier_log = logged 3 (own 0 0 idle) ∷ logged 3 (own 0 1 (refused EBADF)) ∷ []

@@ -13,8 +13,12 @@ use Rattle.modem_lines.specs.declared.pins.Pin.{Pin}
 use Rattle.modem_lines.specs.Lines.{Lines, first_lines, with_pin, loses_carrier, may_open, after_open, after_shut, assigned, raised, lowered, modem_bits, status_register, after_status}
 use Rattle.passed_calls.specs.Blocks.{names_on, number_on}
 use Rattle.passed_calls.specs.Journals.{Journal, terminal_at, IsAnswerAt}
-use Rattle.modem_steps.specs.Sessions.{ModemCall, plain, mget, mset, mbis, mbic, softcar, getcar, hupcl, msr, PinStep, ModemPhase, ModemSession, ModemEvent, pin_set, own, passed, carrier_lost, ModemLog, pins_on}
-use Rattle.modem_steps.specs.Derived.{blocks_in, carrier_on, modem_call_at}
+use Rattle.passed_calls.specs.Scripts.{plain, further}
+use Rattle.modem_text.specs.declared.items.OwnCall.{OwnCall}
+use Rattle.modem_text.specs.declared.items.OwnCall.TheVariants as call
+use Rattle.modem_text.specs.Events.{ModemEvent, pin_set, own, passed, carrier_lost, ModemLog}
+use Rattle.modem_text.specs.Sessions.{ModemCall, PinStep, ModemPhase, ModemSession, pins_on, blocks_in}
+use Rattle.modem_steps.specs.Derived.{carrier_on, modem_call_at}
 
 -- ---- the state of a port beside its terminal
 
@@ -52,38 +56,35 @@ abbrev pub one_or_zero : Bool → ℕ
 one_or_zero b = if b then 1 else 0
 
 -- the handle that a call of modem lines names, what it gives, and what it makes of the lines
-abbrev pub modem_handle : ModemCall → ℕ
-modem_handle (plain call) = 0
-modem_handle (mget h) = h
-modem_handle (mset h bits) = h
-modem_handle (mbis h bits) = h
-modem_handle (mbic h bits) = h
-modem_handle (softcar h on) = h
-modem_handle (getcar h) = h
-modem_handle (hupcl h on) = h
-modem_handle (msr h) = h
+abbrev pub modem_handle : OwnCall → ℕ
+modem_handle (call.Mget h) = h
+modem_handle (call.Mset h bits) = h
+modem_handle (call.Mbis h bits) = h
+modem_handle (call.Mbic h bits) = h
+modem_handle (call.Softcar h on) = h
+modem_handle (call.Getcar h) = h
+modem_handle (call.Hupcl h on) = h
+modem_handle (call.Msr h) = h
 
-abbrev pub modem_gives : Lines → ModemCall → PlainAnswer
-modem_gives lines (plain call) = idle
-modem_gives lines (mget h) = number_is (modem_bits lines)
-modem_gives lines (mset h bits) = done
-modem_gives lines (mbis h bits) = done
-modem_gives lines (mbic h bits) = done
-modem_gives lines (softcar h on) = done
-modem_gives lines (getcar h) = number_is (one_or_zero lines.clocal)
-modem_gives lines (hupcl h on) = done
-modem_gives lines (msr h) = number_is (status_register lines)
+abbrev pub modem_gives : Lines → OwnCall → PlainAnswer
+modem_gives lines (call.Mget h) = number_is (modem_bits lines)
+modem_gives lines (call.Mset h bits) = done
+modem_gives lines (call.Mbis h bits) = done
+modem_gives lines (call.Mbic h bits) = done
+modem_gives lines (call.Softcar h on) = done
+modem_gives lines (call.Getcar h) = number_is (one_or_zero lines.clocal)
+modem_gives lines (call.Hupcl h on) = done
+modem_gives lines (call.Msr h) = number_is (status_register lines)
 
-abbrev pub lines_after_call : Lines → ModemCall → Lines
-lines_after_call lines (plain call) = lines
-lines_after_call lines (mget h) = lines
-lines_after_call lines (mset h bits) = assigned lines bits
-lines_after_call lines (mbis h bits) = raised lines bits
-lines_after_call lines (mbic h bits) = lowered lines bits
-lines_after_call lines (softcar h on) = record lines { clocal = on }
-lines_after_call lines (getcar h) = lines
-lines_after_call lines (hupcl h on) = record lines { hupcl = on }
-lines_after_call lines (msr h) = after_status lines
+abbrev pub lines_after_call : Lines → OwnCall → Lines
+lines_after_call lines (call.Mget h) = lines
+lines_after_call lines (call.Mset h bits) = assigned lines bits
+lines_after_call lines (call.Mbis h bits) = raised lines bits
+lines_after_call lines (call.Mbic h bits) = lowered lines bits
+lines_after_call lines (call.Softcar h on) = record lines { clocal = on }
+lines_after_call lines (call.Getcar h) = lines
+lines_after_call lines (call.Hupcl h on) = record lines { hupcl = on }
+lines_after_call lines (call.Msr h) = after_status lines
 
 -- ---- opens
 
@@ -169,7 +170,7 @@ abbrev pub OwnAnswer : Port → ModemState → Terminal → ℕ → Option Modem
 OwnAnswer port s t c None answer = ⊥
 OwnAnswer port s t c (Some (plain call)) answer =
     (answer ≡ idle) × (IsTrue (plain_waits s.lines t call)) × (IsTrue (nobody_goes_on port s t c))
-OwnAnswer port s t c (Some call) answer = answer ≡ through (handle_at t (modem_handle call)) (modem_gives s.lines call)
+OwnAnswer port s t c (Some (further call)) answer = answer ≡ through (handle_at t (modem_handle call)) (modem_gives s.lines call)
 
 pub record IsOwn (port : Port) (s : ModemState) (t : Terminal) (c step : ℕ) (answer : PlainAnswer) : Type 0 where
   pub nothing_due : s.due ≡ []
@@ -202,7 +203,8 @@ IsAllowed port s at (carrier_lost h) = IsLoss port s at h
 -- the lines after a call that was answered without the port
 abbrev pub lines_after_own : Lines → Terminal → Option ModemCall → Lines
 lines_after_own lines t None = lines
-lines_after_own lines t (Some call) = if is_through (handle_at t (modem_handle call)) then lines_after_call lines call else lines
+lines_after_own lines t (Some (plain call)) = lines
+lines_after_own lines t (Some (further call)) = if is_through (handle_at t (modem_handle call)) then lines_after_call lines call else lines
 
 abbrev pub after_event : Port → ModemState → (at : ℕ) → ModemEvent → ModemState
 after_event port s at (pin_set pin up) =

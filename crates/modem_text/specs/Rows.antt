@@ -12,7 +12,8 @@ use Rattle.modem_text.specs.declared.verbs.ModemVerb.TheVariants.{Modem, Dcd, Mg
 use Rattle.modem_text.specs.declared.items.OwnCall.TheVariants as call
 use Rattle.modem_text.specs.declared.items.ModemItem.{ModemItem}
 use Rattle.modem_text.specs.declared.items.ModemItem.TheVariants as item
-use Rattle.modem_text.specs.Sessions.{plain, modem, ModemSession}
+use Rattle.passed_calls.specs.Scripts.{plain, further}
+use Rattle.modem_text.specs.Sessions.{ModemSession}
 
 -- a verb with its arguments, and what comes of it on a session of two ports
 pub record LineRow : Type 0 where
@@ -135,14 +136,14 @@ two_ports = record {
             (record { pin = pin.Cts; up = true } ∷ [])
             ∷ (record { pin = pin.Dcd; up = true } ∷ record { pin = pin.Ri; up = false } ∷ []) ∷ [];
         callers =
-            record { port = 0; name = codes "a"; calls = modem (call.Mget 0) ∷ plain (opens 0 Rw false) ∷ [] }
-            ∷ record { port = 1; name = codes "b"; calls = plain (gets_modes 0) ∷ modem (call.Mset 0 2) ∷ modem (call.Msr 0) ∷ [] } ∷ [];
+            record { port = 0; name = codes "a"; calls = further (call.Mget 0) ∷ plain (opens 0 Rw false) ∷ [] }
+            ∷ record { port = 1; name = codes "b"; calls = plain (gets_modes 0) ∷ further (call.Mset 0 2) ∷ further (call.Msr 0) ∷ [] } ∷ [];
       }
       ∷ record { lines = (Break ∷ []) ∷ [] ∷ []; ticks = 0 ∷ 0 ∷ []; pins = [] ∷ [] ∷ []; callers = [] }
       ∷ record {
         lines = [] ∷ [] ∷ [];
         ticks = 0 ∷ 0 ∷ [];
         pins = [] ∷ [] ∷ [];
-        callers = record { port = 0; name = codes "a"; calls = modem (call.Softcar 0 true) ∷ [] } ∷ [];
+        callers = record { port = 0; name = codes "a"; calls = further (call.Softcar 0 true) ∷ [] } ∷ [];
       } ∷ [];
 }

@@ -1,21 +1,20 @@
 -- Sessions of ports with modem lines.
-use Rattle.std.specs.Prelude.{ℕ, ◌+◌, ◌-◌, ◌==◌, Bool, List, [], ◌∷◌, ◌++◌, map, filter, take, drop, slice_index_or, codes}
+use Rattle.std.specs.Prelude.{ℕ, ◌==◌, Bool, List, [], ◌∷◌, ◌++◌, map, filter, flat_map, slice_index_or, codes}
 use Rattle.std.specs.List.{range_with_len}
 use Rattle.tty_base.specs.declared.lines.LineStep.{LineStep}
-use Rattle.tty_calls.specs.Plain.{PlainCall}
-use Rattle.tty_calls.specs.Sessions.{PlainScript, PlainPhase, PlainSession, session_of}
+use Rattle.tty_calls.specs.Sessions.{PlainPhase, PlainSession, session_of}
 use Rattle.modem_lines.specs.declared.pins.Pin.{Pin}
-use Rattle.passed_calls.specs.Scripts.{CallerScript}
+use Rattle.passed_calls.specs.declared.placed.PlacedCall.{PlacedCall}
+use Rattle.passed_calls.specs.Blocks.{Block}
+use Rattle.passed_calls.specs.Scripts.{AnyCall, CallerScript, block_of, mixed_scripts, phases_with}
 use Rattle.modem_text.specs.declared.items.OwnCall.{OwnCall}
 use Rattle.modem_text.specs.declared.sessions.PinItem.{PinItem}
-use Rattle.modem_text.specs.declared.sessions.PlacedCall.{PlacedCall}
 use Rattle.modem_text.specs.declared.sessions.ModemPart.{ModemPart}
 use Rattle.modem_text.specs.declared.sessions.ModemSession.{ModemSession as KeptSession}
 
 -- a call that is for the port, or one of the modem lines alone
-pub data ModemCall : Type 0 where
-  plain : (call : PlainCall) → ModemCall
-  modem : (call : OwnCall) → ModemCall
+abbrev pub ModemCall : Type 0
+ModemCall = AnyCall OwnCall
 
 -- an item of a modem block: the modem gives a line a level
 pub record PinStep : Type 0 where
@@ -43,28 +42,31 @@ pins_on p phase = slice_index_or phase.pins p []
 abbrev pub carrier_name : List ℕ
 carrier_name = codes "carrier"
 
+-- ---- the callers
+
+-- the block of `carrier` on a port, with so many calls
+abbrev pub carrier_block : (steps : ℕ) → ℕ → Block
+carrier_block steps p = record { port = p; name = carrier_name; steps = steps }
+
+-- the blocks of a phase: its callers', and on each port, last, that of `carrier`, which has so many calls there
+abbrev pub phase_blocks : (steps : ℕ → ℕ) → (ports : ℕ) → ModemPhase → List Block
+phase_blocks steps ports phase = map block_of phase.callers ++ map (λ p. carrier_block (steps p) p) (range_with_len 0 ports)
+
+-- the blocks of a session by themselves, which tell the callers' numbers
+abbrev pub blocks_in : ModemSession → List Block
+blocks_in session = flat_map (phase_blocks (λ p. 0) session.ports) session.phases
+
 -- ---- a session of ports, and what its phases have beside
 
 pub record PlainPart : Type 0 where
   pub pins : List PinItem
-  pub own : List PlacedCall
+  pub own : List (PlacedCall OwnCall)
 
 abbrev pub part_of : ModemPart → PlainPart
 part_of part = record { pins = part.pins.items; own = part.own.items }
 
 abbrev pub no_part : PlainPart
 no_part = record { pins = []; own = [] }
-
--- a script's calls from a place on: those for the port, and the others at their places
-abbrev pub mixed : (place : ℕ) → List PlainCall → List PlacedCall → List ModemCall
-mixed n calls [] = map plain calls
-mixed n calls (o ∷ os) = map plain (take (o.place - n) calls) ++ modem o.call ∷ mixed (o.place + 1) (drop (o.place - n) calls) os
-
--- the scripts of a phase, from one on
-abbrev pub mixed_scripts : (script : ℕ) → List PlainScript → List PlacedCall → List (CallerScript ModemCall)
-mixed_scripts k [] own = []
-mixed_scripts k (s ∷ ss) own =
-    record { port = s.port; name = s.name; calls = mixed 0 s.calls (filter (λ o. o.script == k) own) } ∷ mixed_scripts (k + 1) ss own
 
 abbrev pub step_of : PinItem → PinStep
 step_of item = record { pin = item.pin; up = item.up }
@@ -81,17 +83,12 @@ phase_with ports phase part = record {
   callers = mixed_scripts 0 phase.callers part.own;
 }
 
-abbrev pub phases_with : (ports : ℕ) → List PlainPhase → List PlainPart → List ModemPhase
-phases_with ports [] parts = []
-phases_with ports (phase ∷ phases) [] = phase_with ports phase no_part ∷ phases_with ports phases []
-phases_with ports (phase ∷ phases) (part ∷ parts) = phase_with ports phase part ∷ phases_with ports phases parts
-
 abbrev pub session_with : PlainSession → List PlainPart → ModemSession
 session_with session parts = record {
   version = session.version;
   ports = session.ports;
   flips = session.flips;
-  phases = phases_with session.ports session.phases parts;
+  phases = phases_with (phase_with session.ports) no_part parts 0 session.phases;
 }
 
 -- what a session that is kept is

@@ -7,16 +7,16 @@
 
 mod items;
 mod laws;
+mod logs;
 mod reader;
 mod sessions;
-#[cfg(test)]
-mod tests;
 mod verbs;
 
 pub use items::{ModemItem, OwnCall, item_of};
 pub use laws::{
     a_worked_text_is_read, worked_lines_are_read, worked_texts_are_refused_at_their_lines,
 };
+pub use logs::{ModemEvent, ModemLog};
 pub use reader::parse_modem;
-pub use sessions::{ModemPart, ModemSession, PinItem, PlacedCall};
+pub use sessions::{ModemPart, ModemSession, PinItem};
 pub use verbs::{ModemVerb, verb_of};

@@ -1,27 +1,26 @@
 //! Reads a text line by line.
 
-ghost use Rattle.std.specs.Prelude.{◌≡◌, ◌==◌, OnOk, count_by, min};
+ghost use Rattle.std.specs.Prelude.{◌≡◌, ◌==◌, OnOk, count_by};
 ghost use Rattle.text_lines.specs.Lines.{words_of};
 ghost use Rattle.session_text.specs.Reading.{Gives};
 ghost use Rattle.session_text.specs.Stands.{holds};
+ghost use Rattle.further_text.specs.Reading.{spend};
 ghost use Rattle.further_text.specs.Sorts.{sort_of};
 ghost use Rattle.modem_text.specs.Sessions.{modem_session_of};
-ghost use Rattle.modem_text.specs.Reading.{after_item, after_line, after_opening, after_own, after_session_item, after_shared, first_modem_reading, is_taken, may_stand, modem_at_end, modem_in, port_of, spend, with_caller, with_item, with_own, with_phase_closed, with_pin};
+ghost use Rattle.modem_text.specs.Reading.{after_item, after_line, after_opening, after_own, after_session_item, after_shared, first_modem_reading, is_taken, may_stand, modem_at_end, modem_in, port_of, with_base, with_caller, with_item, with_own, with_phase_closed, with_pin};
 ghost use Rattle.modem_text.specs.Views.{modem_reading_of};
 
 use crate::items::{ModemItem, OwnCall, item_of};
-use crate::sessions::{ModemPart, ModemSession, PinItem, PlacedCall};
+use crate::sessions::{ModemPart, ModemSession, PinItem};
 use crate::verbs::{ModemVerb, verb_of};
-use further_text::{Sort, bad, has_count, sort_of};
-use session_text::{Reader, Reason, TextFault};
+use further_text::{BaseReader, Sort, bad, has_count, sort_of};
+use passed_calls::PlacedCall;
+use session_text::{Reason, TextFault};
 use std::alloc::Global;
 use std::mem;
 use text_lines::{FirstTwo, is_comment, split_line, split_word};
 use tty_base::{Buffer, NoMemory};
 use tty_modes::is_same;
-
-/// So many steps a text has at most.
-const STEPS: u64 = 65_536;
 
 /// So many callers a port has at most in a phase, beside the one that hangs it up.
 const CALLERS: usize = 15;
@@ -39,20 +38,16 @@ pub(crate) enum Block {
 /// What was read of a text.
 #[derive(Drop)]
 pub(crate) struct ModemReader {
-    session: Reader,
+    base: BaseReader,
     block: Block,
-    ports: u8,
     /// The ports of the modem blocks, and of the callers' blocks, of the open phase.
     modems: Buffer<u64>,
     callers: Buffer<u64>,
     /// The items of the modem blocks, and the calls of modem lines, of the open phase.
     pins: Buffer<PinItem>,
-    own: Buffer<PlacedCall>,
+    own: Buffer<PlacedCall<OwnCall>>,
     /// The phases before the open one.
     parts: Buffer<ModemPart>,
-    /// How many steps could still come when the open caller's block began, and how many now.
-    left_at_opening: u64,
-    steps_left: u64,
 }
 
 impl ModemReader {
@@ -61,16 +56,13 @@ impl ModemReader {
         ensures { modem_reading_of result ≡ first_modem_reading }
     {
         ModemReader {
-            session: Reader::new(alloc),
+            base: BaseReader::new(alloc),
             block: Block::Another,
-            ports: 0,
             modems: Buffer::new(alloc),
             callers: Buffer::new(alloc),
             pins: Buffer::new(alloc),
             own: Buffer::new(alloc),
             parts: Buffer::new(alloc),
-            left_at_opening: STEPS,
-            steps_left: STEPS,
         }
     }
 
@@ -98,7 +90,7 @@ impl ModemReader {
     ) -> Result<(), TextFault>
         ensures { Gives (λ _. modem_reading_of self.new) result (after_item (modem_reading_of self.old) number word.now arguments.now) }
     {
-        if self.session.is_at_start() {
+        if self.base.is_at_start() {
             return self.read_by_session(alloc, number, word, arguments);
         }
         match verb_of(word) {
@@ -117,7 +109,7 @@ impl ModemReader {
     ) -> Result<(), TextFault>
         ensures { Gives (λ _. modem_reading_of self.new) result (after_session_item (modem_reading_of self.old) number word.now arguments.now) }
     {
-        self.session.read_item(alloc, number, word, arguments)
+        self.base.read_item(alloc, number, word, arguments)
     }
 
     /// Reads an item that may stand in the text of any session.
@@ -131,7 +123,7 @@ impl ModemReader {
         ensures { Gives (λ _. modem_reading_of self.new) result (after_shared (modem_reading_of self.old) number word.now arguments.now (sort_of word.now)) }
     {
         match sort_of(word) {
-            Sort::Ports => self.read_ports(alloc, number, word, arguments),
+            Sort::Ports => self.base.read_ports(alloc, number, word, arguments),
             Sort::Caller => self.read_caller(alloc, number, word, arguments),
             Sort::Border => self.read_border(alloc, number, word, arguments),
             Sort::Inside => self.read_inside(alloc, number, word, arguments),
@@ -141,24 +133,6 @@ impl ModemReader {
                 Ok(())
             }
         }
-    }
-
-    fn read_ports(
-        &mut self,
-        alloc: Global,
-        number: u32,
-        word: &[u8],
-        arguments: &FirstTwo,
-    ) -> Result<(), TextFault>
-        ensures { Gives (λ _. modem_reading_of self.new) result (after_shared (modem_reading_of self.old) number word.now arguments.now Sort.Ports) }
-    {
-        if !has_count(arguments, 1) {
-            return self.read_by_session(alloc, number, word, arguments);
-        }
-        let ports = ports_of(arguments.whole().first_number());
-        self.read_by_session(alloc, number, word, arguments)?;
-        self.ports = ports;
-        Ok(())
     }
 
     fn read_caller(
@@ -199,7 +173,7 @@ impl ModemReader {
     fn is_taken(&self, name: &[u8]) -> bool
         ensures { result ≡ is_taken (modem_reading_of self.now) name.now }
     {
-        self.session.is_in_phase() && is_same(name, b"carrier".as_slice())
+        self.base.is_in_phase() && is_same(name, b"carrier".as_slice())
     }
 
     fn open_caller(&mut self, number: u32, port: u64) -> Result<(), TextFault>
@@ -211,7 +185,7 @@ impl ModemReader {
         self.callers.reserve(1)?;
         self.callers.add(port);
         self.block = Block::Caller;
-        self.left_at_opening = self.steps_left;
+        self.base.open_block();
         Ok(())
     }
 
@@ -225,7 +199,7 @@ impl ModemReader {
     ) -> Result<(), TextFault>
         ensures { Gives (λ _. modem_reading_of self.new) result (after_shared (modem_reading_of self.old) number word.now arguments.now Sort.Border) }
     {
-        let is_open = self.session.is_in_phase();
+        let is_open = self.base.is_in_phase();
         self.read_by_session(alloc, number, word, arguments)?;
         Ok(self.close_phase(alloc, is_open)?)
     }
@@ -258,19 +232,14 @@ impl ModemReader {
         if matches!(self.block, Block::Modem(_)) {
             return Err(bad(number, Reason::Order));
         }
-        self.read_by_session(alloc, number, word, arguments)?;
-        self.spend(number)
+        self.base.read_step(alloc, number, word, arguments)
     }
 
     /// Counts a step.
     fn spend(&mut self, number: u32) -> Result<(), TextFault>
-        ensures { Gives (λ _. modem_reading_of self.new) result (spend number (modem_reading_of self.old)) }
+        ensures { Gives (λ _. modem_reading_of self.new) result (with_base (modem_reading_of self.old) (spend number (modem_reading_of self.old).base)) }
     {
-        if self.steps_left == 0 {
-            return Err(bad(number, Reason::Limit));
-        }
-        self.steps_left -= 1;
-        Ok(())
+        self.base.spend(number)
     }
 
     /// Reads an item that only this text has.
@@ -285,7 +254,7 @@ impl ModemReader {
         if !self.may_stand(verb) {
             return Err(bad(number, Reason::Order));
         }
-        match item_of(self.ports, verb, arguments) {
+        match item_of(self.base.ports(), verb, arguments) {
             Err(reason) => Err(bad(number, reason)),
             Ok(item) => self.take_item(number, item),
         }
@@ -295,7 +264,7 @@ impl ModemReader {
         ensures { result ≡ may_stand (modem_reading_of self.now) verb }
     {
         match verb {
-            ModemVerb::Modem => self.session.is_in_phase(),
+            ModemVerb::Modem => self.base.is_in_phase(),
             ModemVerb::Dcd | ModemVerb::Dsr | ModemVerb::Cts | ModemVerb::Ri => {
                 matches!(self.block, Block::Modem(_))
             }
@@ -348,7 +317,7 @@ impl ModemReader {
         self.own.reserve(1)?;
         self.own.add(PlacedCall {
             script: self.callers.len().saturating_sub(1),
-            place: self.left_at_opening.saturating_sub(self.steps_left),
+            place: self.base.place(),
             call,
         });
         Ok(())
@@ -359,27 +328,17 @@ impl ModemReader {
         ensures { Gives modem_session_of result (modem_at_end (modem_reading_of self) number) }
     {
         let ModemReader {
-            session,
+            base,
             block: _,
-            ports: _,
             modems: _,
             callers: _,
             pins: _,
             own: _,
             parts,
-            left_at_opening: _,
-            steps_left: _,
         } = self;
-        let session = session.finish(number)?;
+        let session = base.finish(number)?;
         Ok(ModemSession { session, parts })
     }
-}
-
-// There are 8 ports at most.
-fn ports_of(number: u64) -> u8
-    ensures { result ≡ min number 8 }
-{
-    if number < 8 { number as u8 } else { 8 }
 }
 
 fn port_of(block: Block) -> u8

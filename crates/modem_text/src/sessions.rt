@@ -2,6 +2,7 @@
 
 use crate::items::OwnCall;
 use modem_lines::Pin;
+use passed_calls::PlacedCall;
 use tty_base::Buffer;
 use tty_calls::Session;
 
@@ -13,20 +14,11 @@ pub struct PinItem {
     pub up: bool,
 }
 
-/// A call of modem lines, by the script that it stands in among those of its phase, and by its place among the calls
-/// there.
-#[derive(Clone, Copy, PartialEq, Eq)]
-pub struct PlacedCall {
-    pub script: usize,
-    pub place: u64,
-    pub call: OwnCall,
-}
-
 /// What a phase has beside that of a session of ports.
 #[derive(Drop)]
 pub struct ModemPart {
     pub pins: Buffer<PinItem>,
-    pub own: Buffer<PlacedCall>,
+    pub own: Buffer<PlacedCall<OwnCall>>,
 }
 
 /// A session of ports with modem lines: a session of ports, and for each phase what it has beside.

@@ -1,11 +1,7 @@
 -- A log beside the journals of ports: what happened, on which port, and after how many entries of its journal.
 use Rattle.std.specs.Prelude.{ℕ, ◌==◌, ◌≤◌, List, [], ◌∷◌, filter, take}
 use Rattle.tty_calls.specs.Plain.{PlainEntry}
-
-pub record Logged (E : Type 0) : Type 0 where
-  pub port : ℕ
-  pub at : ℕ
-  pub event : E
+use Rattle.passed_calls.specs.declared.logs.Logged.{Logged}
 
 -- what was logged of a port
 abbrev pub logged_on : {E : Type 0} → ℕ → List (Logged E) → List (Logged E)

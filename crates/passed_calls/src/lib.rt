@@ -1,10 +1,17 @@
-//! Sessions whose callers make calls that the port never sees: the session that the port was played.
+//! Sessions whose callers make calls that the port never sees: how these are kept, and the session that the port was
+//! played.
 #![tactic(auto)]
+
+mod logs;
+mod placed;
 
 ghost use Rattle.std.specs.Prelude.{◌≡◌, ℕ, List, Some, None, slice_get};
 ghost use Rattle.tty_calls.specs.Sessions.{scripts_over, names_of, calls_under, PlainSession, call_at};
 ghost use Rattle.passed_calls.specs.Blocks.{Block, blocks_on, names_on, number_on, steps_under};
 ghost use Rattle.passed_calls.specs.Derived.{Passing, Passed, BlockPhase, AreInSteps, blocks_of, by_caller, all_calls, calls_for, passed_phases};
+
+pub use logs::Logged;
+pub use placed::PlacedCall;
 
 /// A law: in the session that was played each port's callers have the numbers that they have in the session.
 pub fn numbers_stay()

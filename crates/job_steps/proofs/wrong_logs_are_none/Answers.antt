@@ -2,7 +2,8 @@ use Rattle.std.proofs.Common.{◌≡◌, ℕ, ◌∙◌, sym, ap, arith, subst, 
 use Rattle.tty_calls.specs.Plain.{PlainEntry}
 use Rattle.job_steps.specs.Steps.{Port, first_state, first_place, next_call, GoesOn}
 use Rattle.job_steps.specs.Rows.{foreground_given, read_passed, read_passed_journal, port_of, state_after}
-use Rattle.job_steps.specs.Sessions.{Target, to_group}
+use Rattle.job_control.specs.declared.answers.Target.{Target}
+use Rattle.job_control.specs.declared.answers.Target.TheVariants as towards
 use Rattle.job_steps.proofs.wrong_logs_are_none.Goals as goal
 
 -- the step of an entry that is there
@@ -12,10 +13,10 @@ step_in (Some e) = e.step
 
 -- the group of a target
 group_in : Target → ℕ
-group_in (to_group group) = group
+group_in (towards.Group group) = group
 group_in other = 0
 
-other_group : (m n : ℕ) → (m ≡ n → ⊥) → to_group m ≡ to_group n → ⊥
+other_group : (m n : ℕ) → (m ≡ n → ⊥) → towards.Group m ≡ towards.Group n → ⊥
 unfolding group_in
 other_group m n ne e = ne (ap group_in e)
 

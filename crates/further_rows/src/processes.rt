@@ -1,7 +1,7 @@
-//! Worked values from outside, and that calls succeed where memory is ample.
+//! Job control of a shell and its jobs.
 
-use super::{JobAct, JobRefusal, JobSignal, Jobs, Judged, Proc};
 use arrayvec::ArrayString;
+use job_control::{JobAct, JobRefusal, JobSignal, Jobs, Judged, Proc};
 use std::test::Fail;
 
 // A process of session 1 that ignores nothing.

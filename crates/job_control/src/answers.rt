@@ -1,6 +1,6 @@
 //! What a call is answered without the port, and where a signal goes.
 
-use job_control::JobSignal;
+use crate::processes::JobSignal;
 use tty_base::Errno;
 
 /// What a call is answered without the port.

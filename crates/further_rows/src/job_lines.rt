@@ -1,8 +1,8 @@
-//! Printed lines, from outside.
+//! Lines of a report on job control.
 
-use super::{JobAnswer, Target, put_answer, put_signal};
 use arrayvec::ArrayString;
-use job_control::{JobSignal, Proc};
+use job_control::{JobAnswer, JobSignal, Proc, Target};
+use job_print::{put_answer, put_signal};
 use std::test::Fail;
 use tty_base::NoMemory;
 

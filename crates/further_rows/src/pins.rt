@@ -1,6 +1,6 @@
-//! Worked values from outside, and that each call is made once.
+//! The lines of a modem: each call is made once.
 
-use super::{Modem, Pin};
+use modem_lines::{Modem, Pin};
 
 // What is told after a last close, with HUPCL or without.
 fn bits_after_last_close(hupcl: bool) -> u32 {
