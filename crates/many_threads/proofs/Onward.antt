@@ -1,6 +1,6 @@
 -- A port on threads from its opening over its phases to its end.
 use Rattle.std.proofs.Common.{◌≡◌, ◌⊎◌, inl, inr, ℕ, ◌+◌, ◌<◌, ◌≤◌, List, [], ◌∷◌, ◌++◌, Option, None, Some, length, refl, sym, ◌∙◌, ap, subst, arith}
-use Rattle.std.specs.Prelude.{IsTrue, Result, Ok, IfOk, All, slice_get, sum}
+use Rattle.std.specs.Prelude.{IsTrue, Result, Ok, Err, IfOk, All, slice_get, sum}
 use Rattle.std.proofs.lemmas.Bool.Decides.{nat_tests}
 use Rattle.std.proofs.lemmas.List.{length-map}
 use Rattle.std.proofs.lemmas.List.Elements.{All-nil}
@@ -198,3 +198,14 @@ each_one_more P all xs y is h k p x at = one_of (last_or xs y p x (ap (λ l. sli
 
 pub at_ok : {T E : Type 0} (r : Result T E) (x : T) (P : T → Type 0) → r ≡ Ok x → IfOk r P → P x
 at_ok {T = T} {E = E} r x P is h = subst (λ (o : Result T E). IfOk o P) is h
+
+-- ---- what was kept beside what was made
+
+pub kept_ok : {T U E : Type 0} (r : Result (T × U) E) (kept : T) (P : T → Type 0) → IfOk r (λ both. both.0 ≡ kept) → P kept → IfOk r (λ both. P both.0)
+kept_ok (Ok both) kept P is h = subst P (sym is) h
+kept_ok (Err e) kept P is h = tt
+
+pub beside_ok : {T U E : Type 0} (r : Result (T × U) E) (kept : T) (made : Result U E) (P : T → U → Type 0) (Q : U → Type 0) → IfOk r (λ both. both.0 ≡ kept) → IfOk r (λ both. made ≡ Ok both.1)
+    → IfOk made Q → ((u : U) → Q u → P kept u) → IfOk r (λ both. P both.0 both.1)
+beside_ok {T = T} (Ok both) kept made P Q is_kept is_made h f = subst (λ (t : T). P t both.1) (sym is_kept) (f both.1 (at_ok made both.1 Q is_made h))
+beside_ok (Err e) kept made P Q is_kept is_made h f = tt

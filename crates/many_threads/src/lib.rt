@@ -3,6 +3,7 @@
 //! the phase ends.
 #![tactic(auto)]
 
+mod beside;
 mod caller_part;
 mod caller_threads;
 mod cast;

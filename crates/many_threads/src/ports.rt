@@ -1,19 +1,23 @@
 //! The ports of a session on threads, from their opening to their end.
 
-ghost use Rattle.std.specs.Prelude.{◌≡◌, ◌+◌, ◌<◌, ◌≤◌, IfOk, length, sum};
+ghost use Rattle.std.specs.Prelude.{◌≡◌, ◌+◌, ◌<◌, ◌≤◌, None, IfOk, length, map, replicate, sum};
 ghost use Rattle.std.specs.Thread.{IsSync};
 ghost use Rattle.tty_calls.specs.Limits.{IsWithinLimits};
 ghost use Rattle.tty_calls.specs.Sessions.{session_of, counts_on};
 ghost use Rattle.one_thread.specs.Played.{IsPlayedOn};
-ghost use Rattle.one_thread.specs.Roles.{Scene, scene_of, names_in};
+ghost use Rattle.one_thread.specs.Roles.{Scene, scene_of, names_in, role_in, AreRolesOf, AreFirstSteps};
+ghost use Rattle.one_thread.specs.Casting.{scripts_at};
+ghost use Rattle.many_threads.specs.Cast.{seated};
 ghost use Rattle.many_threads.specs.PhaseStarts.{CanPlayPhase};
 ghost use Rattle.many_threads.specs.PhaseEnds.{PhaseComes};
 ghost use Rattle.many_threads.specs.InPlay.{IsBeforePhase, IsInPlay, AreInPlay, CanEnd};
 
+use crate::beside::beside;
 use crate::cast::{caller_count, seat_roles};
 use crate::shared_phase::{PhaseEnd, PhaseWork, play_shared};
 use one_thread::{
-    Station, counts_of, hang_up, move_on, open_port, roles_of, scripts_of, steps_of, stop, ticks_of,
+    Role, Station, counts_of, hang_up, move_on, open_port, roles_of, scripts_of, steps_of, stop,
+    ticks_of,
 };
 use std::alloc::Global;
 use std::sync::Wait;
@@ -98,6 +102,27 @@ fn play_work<R: Threads + Wait + Sync, G: Gate + Sync>(
     })
 }
 
+/// The roles of a port's callers in a phase, and the cast of these roles.
+fn cast_roles(
+    alloc: Global,
+    session: &Session,
+    k: usize,
+    port: &PortInPlay,
+) -> Result<(Vec<Role>, Vec<Option<Role>>), NoMemory>
+    requires within { IsWithinLimits (session_of session.now) }
+    requires phase { k < length (session_of session.now).phases }
+    requires names { port.now.names ≡ names_in (scene_of port.now.number session.now) }
+    requires callers { port.now.callers ≡ sum (counts_on port.now.number (session_of session.now)) }
+    requires steps { AreFirstSteps (scene_of port.now.number session.now) k port.now.station.steps.items }
+    ensures roles { IfOk result (λ r. AreRolesOf (scene_of port.now.number session.now) k (map (role_in (scripts_at session.now k)) r.0.items)) }
+    ensures cast { IfOk result (λ r. r.1.items ≡ seated r.0.items (replicate port.now.callers None)) }
+{
+    let steps = port.station.steps.as_slice();
+    let roles = roles_of(alloc, session, port.number, k, &port.names, steps)?;
+    let cast = seat_roles(alloc, roles.as_slice(), port.callers)?;
+    Ok((roles, cast))
+}
+
 /// Plays a phase of a port whose journal is not full, and whose next flush run has this number.
 fn play_on<R: Threads + Wait + Sync, G: Gate + Sync>(
     rt: &R,
@@ -118,16 +143,14 @@ fn play_on<R: Threads + Wait + Sync, G: Gate + Sync>(
     requires before { IsBeforePhase scene k port.station run }
     ensures { IfOk result (IsInPlay scene (k + 1)) }
 {
-    let number = port.number;
     let scripts = scripts_of(session, k);
-    let steps = port.station.steps.as_slice();
-    let roles = roles_of(alloc, session, number, k, &port.names, steps)?;
-    let cast = seat_roles(alloc, roles.as_slice(), port.callers)?;
+    let roles_and_cast = cast_roles(alloc, session, k, &port);
+    let (port, (roles, cast)) = beside(port, roles_and_cast)?;
     let work = PhaseWork {
         phase: port.station.port.phase(),
         run,
-        steps: steps_of(session, number, k),
-        ticks: ticks_of(session, number, k),
+        steps: steps_of(session, port.number, k),
+        ticks: ticks_of(session, port.number, k),
         cast: cast.as_slice(),
         scripts,
     };
@@ -192,7 +215,7 @@ pub(crate) fn play_side_by_side<R: Threads + Wait + Sync, G: Gate + Sync>(
             ensures { IfOk result (IsInPlay (scene_of port.number session.entry.now) (k + 1)) }
         { play_phase(rt, alloc, session, gate, k, port) },
     );
-    let mut all = others?;
+    let (one, mut all) = beside(one, others)?;
     all.push(one?)?;
     Ok(all)
 }

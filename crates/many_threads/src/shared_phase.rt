@@ -9,6 +9,7 @@ ghost use Rattle.many_threads.specs.Seats.{AreDealt};
 ghost use Rattle.many_threads.specs.PhaseStarts.{CanPlayPhase};
 ghost use Rattle.many_threads.specs.PhaseEnds.{AreBack, IsShared, IsClosed, IsNextTold, end_of, AreTaken, ThreadsCome, ThreadsLeave, EndsOrStops, PhaseComes};
 
+use crate::beside::beside;
 use crate::caller_threads::is_full;
 use crate::crew::{
     CallersOfCrew, ClockOfCrew, Crew, CrewBack, FlusherOfCrew, LineOfCrew, run_crew,
@@ -248,6 +249,6 @@ pub(crate) fn play_shared<R: Threads + Wait + Sync, G: Gate + Sync>(
     let PhaseEnd::Over(next) = end else {
         return Ok((left, PhaseEnd::Full));
     };
-    let end = end_phase(&mut left.port, &mut left.putter, next)?;
-    Ok((left, end))
+    let end = end_phase(&mut left.port, &mut left.putter, next);
+    beside(left, end)
 }

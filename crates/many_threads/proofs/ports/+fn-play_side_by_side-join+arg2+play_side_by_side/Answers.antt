@@ -27,13 +27,14 @@ returns g t c =
     let session = session_of c.args.session.now in
     let others = c.pop.new.self.items in
     let port = c.in-Some.port in
-    let all = c.in_ok-all.all in
-    let one = c.in_ok-one.field-0 in
+    let all = c.in_ok-one.all in
+    let one = c.in_ok-one-2.field-0 in
     let whole : c.args.ports.items ≡ others ++ port ∷ [] = c.in-Some.ensures.items in
     let size : length c.args.ports.items ≡ length others + 1 = ap length whole ∙ length-append others (port ∷ []) in
     let was = each_last (λ p. IsInPlay (record { port = p; session = session }) c.args.k) c.args.ports.items others port whole c.requires.in_play in
     let number : port.number ≡ length others = was.number in
-    let is_all : c.join-others.result.0 ≡ Ok all = first_of (cc, search rules) in
+    let is_all : c.join-others.result.0 ≡ Ok all = c.in_ok-one.ensures.made in
+    let kept : c.in_ok-one.one ≡ c.join-others.result.1 = c.in_ok-one.ensures.kept in
     let is_one : c.join-others.result.1 ≡ Ok one = first_of (cc, search rules) in
     let first = at_ok c.join-others.result.0 all (λ v. AreInPlay session (c.args.k + 1) v.items × (length v.items ≡ length others)) is_all c.join-others.ensures.first in
     let second = at_ok c.join-others.result.1 one (IsInPlay (record { port = port.number; session = session }) (c.args.k + 1)) is_one c.join-others.ensures.second in
