@@ -1,6 +1,6 @@
 //! Characters that go through a flip buffer, singly and in pieces from each alignment, as tests.
 
-ghost use Rattle.std.specs.Prelude.{◌≡◌, ◌<◌, ◌≤◌};
+ghost use Rattle.std.specs.Prelude.{◌≡◌, ◌<◌, ◌≤◌, ◌+◌};
 
 use arrayvec::ArrayVec;
 use flip_buffer::{FlipIn, FlipOut, flip};
@@ -25,116 +25,151 @@ fn character(i: usize) -> Flagged
     }
 }
 
+/// Puts so many characters, from this one on. Answers whether each found room, and was counted.
+fn puts(input: &mut FlipIn, first: usize, count: usize) -> bool
+    requires { first + count ≤ 100 }
+{
+    let before = input.sent();
+    if before > 1000 {
+        return false;
+    }
+    for i in 0..count {
+        if input.sent() != before + i as u64 || input.put(character(first + i)).is_err() {
+            return false;
+        }
+    }
+    true
+}
+
+/// Whether a list is so many characters, from this one on.
+fn are_from(list: &[Flagged], first: usize, count: usize) -> bool {
+    let mut next = first;
+    for c in list {
+        if next >= 100 || *c != character(next) {
+            return false;
+        }
+        next += 1;
+    }
+    list.len() == count
+}
+
+/// Whether 64 characters find room, and one more does not.
+fn fills(input: &mut FlipIn) -> bool {
+    let takes = puts(input, 0, 64) && input.sent() == 64;
+    takes && input.put(character(64)) == Err(Full { sent: 64, seen: 0 })
+}
+
+/// Whether these characters are taken at once.
+fn takes(output: &mut FlipOut, first: usize, count: usize) -> bool
+    requires { count ≤ 64 }
+    ensures { output.new.ring ≡ output.old.ring }
+{
+    let mut out = ArrayVec::new();
+    output.take(count, &mut out) == count && are_from(out.as_slice(), first, count)
+}
+
+/// Whether these characters are all that are left of 64.
+fn drops(
+    alloc: Global,
+    output: &mut FlipOut,
+    first: usize,
+    count: usize,
+) -> Result<bool, NoMemory> {
+    let most = output.capacity();
+    let mut rest = Chars::new(alloc);
+    rest.reserve(most)?;
+    let dropped = output.drop_all(most, &mut rest);
+    Ok(most == 64 && dropped == count && are_from(rest.as_slice(), first, count))
+}
+
+/// Whether a full buffer is seen once it is pushed, and gives its characters in two pieces.
+fn fills_and_empties(
+    alloc: Global,
+    input: &mut FlipIn,
+    output: &mut FlipOut,
+) -> Result<bool, NoMemory> {
+    let waits = fills(input) && output.look() == 0;
+    input.push();
+    Ok(waits && takes(output, 0, 10) && drops(alloc, output, 10, 54)? && output.taken() == 64)
+}
+
 #[test]
 fn sixty_five_characters(rt: HostRuntime) -> Result<(), Fail> {
     let (mut input, mut output) = flip(rt.alloc(), 64)?;
-    for i in 0..64 {
-        assert!(rt; input.sent() == i as u64);
-        assert!(rt; input.put(character(i)).is_ok());
-    }
-    assert!(rt; input.sent() == 64);
-    assert_eq!(rt; input.put(character(64)), Err(Full { sent: 64, seen: 0 }));
-    assert_eq!(rt; output.look(), 0);
-    input.push();
-    let mut out = ArrayVec::new();
-    assert_eq!(rt; output.take(10, &mut out), 10);
-    for i in 0..10 {
-        assert!(rt; out.as_slice().get(i).copied() == Some(character(i)));
-    }
-    let most = output.capacity();
-    let mut rest = Chars::new(rt.alloc());
-    rest.reserve(most)?;
-    assert_eq!(rt; output.drop_all(most, &mut rest), 54);
-    for i in 0..54 {
-        assert!(rt; rest.as_slice().get(i).copied() == Some(character(i + 10)));
-    }
-    assert_eq!(rt; (most, output.taken()), (64, 64));
+    assert!(rt; fills_and_empties(rt.alloc(), &mut input, &mut output) == Ok(true));
     Ok(())
+}
+
+/// Whether a character is taken between the ends that have met each other's notes.
+fn passes_notes(input: &mut FlipIn, output: &mut FlipOut) -> bool
+    requires { input.old.ring ≡ output.old.ring }
+    ensures { (input.new.ring ≡ input.old.ring) × (output.new.ring ≡ output.old.ring) }
+{
+    if input.sent() > 0 || input.put(character(1)).is_err() {
+        return false;
+    }
+    let note = input.note();
+    output.meet(note);
+    let head = output.note();
+    input.meet(head);
+    output.look() == 1 && takes(output, 1, 1) && output.taken() == 1
 }
 
 #[test]
 fn notes_and_the_end(rt: HostRuntime) -> Result<(), Fail> {
     let (mut input, mut output) = flip(rt.alloc(), 64)?;
-    assert!(rt; input.put(character(1)).is_ok());
-    let note = input.note();
-    output.meet(note);
-    let head = output.note();
-    input.meet(head);
-    assert_eq!(rt; output.look(), 1);
-    assert!(rt; takes_one(&mut output, character(1)));
-    assert_eq!(rt; output.taken(), 1);
+    assert!(rt; passes_notes(&mut input, &mut output));
     assert_eq!(rt; output.end(input), 1);
     Ok(())
+}
+
+/// Peeks at so many characters and so many more, and takes them.
+fn peeks(output: &mut FlipOut, out: &mut Chars, count: usize, more: usize) -> bool
+    requires few { (count < 100) × (more < 100) }
+    requires room { count + more ≤ out.old.spare }
+{
+    if output.look() < count + more {
+        return false;
+    }
+    output.peek(count, out);
+    output.peek(more, out);
+    output.release(count + more);
+    true
+}
+
+fn passes_thirteen(
+    alloc: Global,
+    input: &mut FlipIn,
+    output: &mut FlipOut,
+) -> Result<bool, NoMemory> {
+    let mut out = Chars::new(alloc);
+    out.reserve(13)?;
+    let puts = puts(input, 0, 13);
+    input.push();
+    let passes = puts && output.look() == 13 && peeks(output, &mut out, 8, 5);
+    Ok(passes && output.taken() == 13 && are_from(out.as_slice(), 0, 13))
 }
 
 #[test]
 fn eight_characters_are_peeked_and_five_more(rt: HostRuntime) -> Result<(), Fail> {
     let (mut input, mut output) = flip(rt.alloc(), 64)?;
-    for i in 0..13 {
-        assert!(rt; input.sent() == i as u64);
-        assert!(rt; input.put(character(i)).is_ok());
-    }
-    input.push();
-    let mut out = Chars::new(rt.alloc());
-    out.reserve(13)?;
-    let shown = output.look();
-    assert!(rt; shown == 13);
-    output.peek(8, &mut out);
-    output.peek(5, &mut out);
-    for i in 0..13 {
-        assert!(rt; out.as_slice().get(i).copied() == Some(character(i)));
-    }
-    output.release(13);
-    assert_eq!(rt; output.taken(), 13);
+    assert!(rt; passes_thirteen(rt.alloc(), &mut input, &mut output) == Ok(true));
     Ok(())
 }
 
-// Takes a character.
-fn takes_one(output: &mut FlipOut, c: Flagged) -> bool
-    ensures { output.new.ring ≡ output.old.ring }
-{
-    let mut taken = ArrayVec::new();
-    output.take(1, &mut taken) == 1 && taken.as_slice().first().copied() == Some(c)
-}
-
-// Puts a character and takes it.
-fn passes_one(input: &mut FlipIn, output: &mut FlipOut, c: Flagged) -> bool
+/// Puts a character and takes it.
+fn passes_one(input: &mut FlipIn, output: &mut FlipOut, i: usize) -> bool
+    requires { i < 100 }
     ensures { (input.new.ring ≡ input.old.ring) × (output.new.ring ≡ output.old.ring) }
 {
-    if input.sent() > 1000 || input.put(c).is_err() {
+    if input.sent() > 1000 || input.put(character(i)).is_err() {
         return false;
     }
     input.push();
-    takes_one(output, c)
+    takes(output, i, 1)
 }
 
-// Puts sixteen characters.
-fn puts_sixteen(input: &mut FlipIn, first: usize) -> bool
-    requires { first < 80 }
-{
-    for i in 0..16 {
-        if input.sent() > 1000 || input.put(character(first + i)).is_err() {
-            return false;
-        }
-    }
-    input.push();
-    true
-}
-
-// Takes sixteen characters, thirteen of them at once and then three.
-fn takes_sixteen(output: &mut FlipOut, out: &mut Chars) -> bool
-    requires { 16 ≤ out.old.spare }
-{
-    if output.look() < 16 {
-        return false;
-    }
-    output.peek(13, out);
-    output.peek(3, out);
-    output.release(16);
-    true
-}
-
-// Puts sixteen characters and takes them.
+/// Puts sixteen characters and takes them, thirteen of them at once and then three.
 fn passes_sixteen(
     alloc: Global,
     input: &mut FlipIn,
@@ -145,18 +180,12 @@ fn passes_sixteen(
 {
     let mut out = Chars::new(alloc);
     out.reserve(16)?;
-    if !puts_sixteen(input, first) || !takes_sixteen(output, &mut out) {
-        return Ok(false);
-    }
-    for i in 0..16 {
-        if out.as_slice().get(i).copied() != Some(character(first + i)) {
-            return Ok(false);
-        }
-    }
-    Ok(true)
+    let puts = puts(input, first, 16);
+    input.push();
+    Ok(puts && peeks(output, &mut out, 13, 3) && are_from(out.as_slice(), first, 16))
 }
 
-// Passes characters after so many single ones, more than once round the buffer.
+/// Passes characters after so many single ones, more than once round the buffer.
 fn passes_round(
     alloc: Global,
     input: &mut FlipIn,
@@ -166,7 +195,7 @@ fn passes_round(
     requires { lead < 4 }
 {
     for i in 0..lead {
-        if !passes_one(input, output, character(i)) {
+        if !passes_one(input, output, i) {
             return Ok(false);
         }
     }
@@ -193,7 +222,7 @@ fn pieces_from_each_alignment(rt: HostRuntime) -> Result<(), Fail> {
     Ok(())
 }
 
-// Passes eight bytes, where nothing waits.
+/// Passes eight bytes, where nothing waits.
 fn passes_eight(input: &mut FlipIn, output: &mut FlipOut, bytes: &[u8; 8]) -> bool
     requires { input.old.ring ≡ output.old.ring }
     ensures { (input.new.ring ≡ input.old.ring) × (output.new.ring ≡ output.old.ring) }
@@ -209,10 +238,10 @@ fn passes_eight(input: &mut FlipIn, output: &mut FlipOut, bytes: &[u8; 8]) -> bo
 #[test]
 fn eight_bytes_pass_between_two_rounds(rt: HostRuntime) -> Result<(), Fail> {
     let (mut input, mut output) = flip(rt.alloc(), 64)?;
-    assert!(rt; passes_one(&mut input, &mut output, character(1)));
+    assert!(rt; passes_one(&mut input, &mut output, 1));
     assert!(rt; passes_eight(&mut input, &mut output, b"a window"));
     assert_eq!(rt; (input.sent(), output.taken()), (9, 9));
-    assert!(rt; passes_one(&mut input, &mut output, character(2)));
+    assert!(rt; passes_one(&mut input, &mut output, 2));
     assert_eq!(rt; (input.sent(), output.taken()), (10, 10));
     Ok(())
 }

@@ -11,7 +11,7 @@ use std::thread::{Threads, join};
 use tty_base::{Full, NoMemory};
 use word_ring::{Putter, Taker, ring};
 
-// Puts all items, and gives the putter back.
+/// Puts all items, and gives the putter back.
 fn put_all<R: Wait>(rt: &R, mut putter: Putter, items: &[u16]) -> Putter
     requires { (putter.sent ≡ []) × (length items.now < 2 ^ 63) }
     ensures { (result.ring ≡ putter.ring) × (result.sent ≡ items.now) }
@@ -32,7 +32,7 @@ fn put_all<R: Wait>(rt: &R, mut putter: Putter, items: &[u16]) -> Putter
     putter
 }
 
-// Takes so many numbers.
+/// Takes so many numbers.
 fn take_all<R: Wait>(
     rt: &R,
     mut taker: Taker,
@@ -94,49 +94,11 @@ fn two_threads_pass_numbers_in_order(rt: HostRuntime) -> Result<(), Fail> {
     Ok(())
 }
 
-#[test]
-fn ring_of_two(rt: HostRuntime) -> Result<(), Fail> {
-    let (mut putter, mut taker) = ring(rt.alloc(), 2)?;
-    let mut out = ArrayVec::new();
-    assert!(rt; putter.put(5).is_ok() && putter.put(6).is_ok());
-    assert_eq!(rt; putter.put(7), Err(Full { sent: 2, seen: 0 }));
-    assert_eq!(rt; taker.look(), 0);
-    putter.push();
-    assert_eq!(rt; taker.take(64, &mut out), 2);
-    assert_eq!(rt; out.as_slice(), [5, 6].as_slice());
-    assert!(rt; putter.put(7).is_ok());
-    assert_eq!(rt; taker.look(), 0);
-    putter.push();
-    assert_eq!(rt; taker.look(), 1);
-    assert_eq!(rt; taker.peek_next(), 7);
-    taker.release(1);
-    assert_eq!(rt; taker.taken(), 3);
-    Ok(())
-}
-
-#[test]
-fn notes_and_the_end(rt: HostRuntime) -> Result<(), Fail> {
-    let (mut putter, mut taker) = ring(rt.alloc(), 3)?;
-    let mut out = ArrayVec::new();
-    assert!(rt; putter.put(1).is_ok());
-    assert!(rt; putter.put(2).is_ok());
-    let note = putter.note();
-    taker.meet(note);
-    assert_eq!(rt; taker.take(1, &mut out), 1);
-    let head = taker.note();
-    putter.meet(head);
-    assert_eq!(rt; (putter.sent(), taker.taken()), (2, 1));
-    assert_eq!(rt; taker.finish(putter), 2);
-    assert_eq!(rt; taker.take(9, &mut out), 1);
-    assert_eq!(rt; out.as_slice(), [1, 2].as_slice());
-    Ok(())
-}
-
-// Puts a number and takes it.
+/// Puts a number, which is seen once it is pushed, and takes it.
 fn passes_one(putter: &mut Putter, taker: &mut Taker, x: u16) -> bool
     ensures { (putter.new.ring ≡ putter.old.ring) × (taker.new.ring ≡ taker.old.ring) × (taker.new.capacity ≡ taker.old.capacity) }
 {
-    if putter.sent() > 1000 || putter.put(x).is_err() {
+    if putter.sent() > 1000 || putter.put(x).is_err() || taker.look() != 0 {
         return false;
     }
     putter.push();
@@ -147,7 +109,63 @@ fn passes_one(putter: &mut Putter, taker: &mut Taker, x: u16) -> bool
     true
 }
 
-// Puts sixteen numbers.
+/// Whether a list has these numbers once so many are taken into it.
+fn takes(taker: &mut Taker, most: usize, out: &mut ArrayVec<u16, 64>, wanted: &[u16]) -> bool
+    ensures { taker.new.ring ≡ taker.old.ring }
+{
+    if most > 64 || out.len() > 64 - most {
+        return false;
+    }
+    taker.take(most, out);
+    out.as_slice() == wanted
+}
+
+/// Whether a ring takes two numbers and no third, which are seen once they are pushed.
+fn takes_two(putter: &mut Putter, taker: &mut Taker) -> bool {
+    if putter.sent() > 0 || putter.put(5).is_err() || putter.put(6).is_err() {
+        return false;
+    }
+    let is_full = putter.put(7) == Err(Full { sent: 2, seen: 0 });
+    is_full && taker.look() == 0
+}
+
+#[test]
+fn ring_of_two(rt: HostRuntime) -> Result<(), Fail> {
+    let (mut putter, mut taker) = ring(rt.alloc(), 2)?;
+    assert!(rt; takes_two(&mut putter, &mut taker));
+    putter.push();
+    assert!(rt; takes(&mut taker, 64, &mut ArrayVec::new(), &[5, 6]));
+    assert!(rt; passes_one(&mut putter, &mut taker, 7) && taker.taken() == 3);
+    Ok(())
+}
+
+/// Whether the first of two numbers is taken into a list between ends that have met each other's notes.
+fn passes_notes(putter: &mut Putter, taker: &mut Taker, out: &mut ArrayVec<u16, 64>) -> bool
+    requires { putter.old.ring ≡ taker.old.ring }
+    ensures { (putter.new.ring ≡ putter.old.ring) × (taker.new.ring ≡ taker.old.ring) }
+{
+    if putter.sent() > 0 || putter.put(1).is_err() || putter.put(2).is_err() {
+        return false;
+    }
+    let note = putter.note();
+    taker.meet(note);
+    let is_taken = takes(taker, 1, out, &[1]);
+    let head = taker.note();
+    putter.meet(head);
+    is_taken && putter.sent() == 2 && taker.taken() == 1
+}
+
+#[test]
+fn notes_and_the_end(rt: HostRuntime) -> Result<(), Fail> {
+    let (mut putter, mut taker) = ring(rt.alloc(), 3)?;
+    let mut out = ArrayVec::new();
+    assert!(rt; passes_notes(&mut putter, &mut taker, &mut out));
+    assert_eq!(rt; taker.finish(putter), 2);
+    assert!(rt; takes(&mut taker, 9, &mut out, &[1, 2]));
+    Ok(())
+}
+
+/// Puts sixteen numbers.
 fn puts_sixteen(putter: &mut Putter, first: u16) -> bool
     requires { first < 1000 }
     ensures { putter.new.ring ≡ putter.old.ring }
@@ -161,7 +179,7 @@ fn puts_sixteen(putter: &mut Putter, first: u16) -> bool
     true
 }
 
-// Takes sixteen numbers, four at a time.
+/// Takes sixteen numbers, four at a time.
 fn take_sixteen(taker: &mut Taker) -> Option<[u64; 4]>
     ensures { (taker.new.ring ≡ taker.old.ring) × (taker.new.capacity ≡ taker.old.capacity) }
 {
@@ -187,7 +205,7 @@ fn are_in_order(words: [u64; 4], first: u64) -> bool
     true
 }
 
-// Passes eight numbers past the words of the ring.
+/// Passes eight numbers past the words of the ring.
 fn passes_eight(putter: &mut Putter, taker: &mut Taker, first: u8) -> bool
     requires few { first < 200 }
     requires ring { putter.old.ring ≡ taker.old.ring }
@@ -212,7 +230,7 @@ fn passes_eight(putter: &mut Putter, taker: &mut Taker, first: u8) -> bool
     true
 }
 
-// Passes single numbers.
+/// Passes single numbers.
 fn passes_ones(putter: &mut Putter, taker: &mut Taker, count: u16) -> bool
     ensures { (putter.new.ring ≡ putter.old.ring) × (taker.new.ring ≡ taker.old.ring) × (taker.new.capacity ≡ taker.old.capacity) }
 {
@@ -224,7 +242,7 @@ fn passes_ones(putter: &mut Putter, taker: &mut Taker, count: u16) -> bool
     true
 }
 
-// Passes eights between sixteens that go through the ring's words.
+/// Passes eights between sixteens that go through the ring's words.
 fn passes_rounds(putter: &mut Putter, taker: &mut Taker) -> bool
     requires ring { putter.old.ring ≡ taker.old.ring }
     requires room { 8 ≤ taker.old.capacity }
@@ -241,7 +259,7 @@ fn passes_rounds(putter: &mut Putter, taker: &mut Taker) -> bool
     true
 }
 
-// Passes numbers past the words of the ring and through them, after so many single ones.
+/// Passes numbers past the words of the ring and through them, after so many single ones.
 fn pass_past_the_words(alloc: Global, lead: u16) -> Result<bool, NoMemory>
     requires { lead < 4 }
 {
