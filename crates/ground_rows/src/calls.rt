@@ -1,7 +1,7 @@
 //! Journals, lists of calls, and the numbers of callers' names, as tests that what was added is what is found.
 
 use arrayvec::ArrayString;
-use std::alloc::Global;
+use std::alloc::{AllocError, Global};
 use std::test::Fail;
 use tty_base::{Buffer, Flagged, NoMemory};
 use tty_calls::{
@@ -85,37 +85,62 @@ fn each_entry_has_its_own_bytes_and_characters(rt: HostRuntime) -> Result<(), Fa
     Ok(())
 }
 
+/// What a call is, its handle and its bytes, of calls that have no words.
+fn plain_parts<'a>(call: &Call<'a>) -> (u8, u8, &'a [u8]) {
+    match call {
+        Call::Write { h, bytes } => (1, *h, bytes),
+        Call::Vhangup { h } => (2, *h, &[]),
+        Call::SendPacket { h, bytes } => (3, *h, bytes),
+        _ => (0, 0, &[]),
+    }
+}
+
+/// The handle, the time and the words of a call that sets modes.
+fn words_of<'a>(call: &Call<'a>) -> Option<(u8, When, &'a [Word])> {
+    match call {
+        Call::SetModes { h, when, words } => Some((*h, *when, words)),
+        _ => None,
+    }
+}
+
+fn is_same(call: &Call, given: &Call) -> bool {
+    plain_parts(call) == plain_parts(given) && words_of(call) == words_of(given)
+}
+
+fn add_all(calls: &mut Calls, given: &[Call]) -> Result<(), NoMemory> {
+    for call in given {
+        calls.add(call)?;
+    }
+    Ok(())
+}
+
+/// Whether these calls are kept, in their order, and no others.
+fn are_kept(calls: &Calls, given: &[Call]) -> bool {
+    for (place, call) in given.iter().enumerate() {
+        match calls.get(place) {
+            Some(kept) if is_same(&kept, call) => {}
+            _ => return false,
+        }
+    }
+    calls.len() == given.len() && calls.get(given.len()).is_none()
+}
+
 #[test]
 fn each_call_has_its_own_bytes_and_words(rt: HostRuntime) -> Result<(), Fail> {
-    let alloc = rt.alloc();
-    let mut calls = Calls::new(alloc);
-    assert!(rt; calls.get(0).is_none());
-    let words = [Word::Raw];
     let given = [
         Call::Write { h: 0, bytes: b"ab" },
         Call::SetModes {
             h: 3,
             when: When::Drain,
-            words: &words,
+            words: &[Word::Raw],
         },
         Call::Vhangup { h: 4 },
         Call::SendPacket { h: 5, bytes: b"c" },
     ];
-    for call in &given {
-        calls.add(call)?;
-    }
-    assert_eq!(rt; calls.len(), 4);
-    assert!(rt;
-        matches!(calls.get(0), Some(Call::Write { h: 0, bytes }) if bytes == b"ab".as_slice())
-    );
-    assert!(rt;
-        matches!(calls.get(1), Some(Call::SetModes { h: 3, when: When::Drain, words: given }) if given == words.as_slice())
-    );
-    assert!(rt; matches!(calls.get(2), Some(Call::Vhangup { h: 4 })));
-    assert!(rt;
-        matches!(calls.get(3), Some(Call::SendPacket { h: 5, bytes }) if bytes == b"c".as_slice())
-    );
-    assert!(rt; calls.get(4).is_none());
+    let mut calls = Calls::new(rt.alloc());
+    assert!(rt; are_kept(&calls, &[]));
+    add_all(&mut calls, &given)?;
+    assert!(rt; are_kept(&calls, &given));
     Ok(())
 }
 
@@ -136,35 +161,47 @@ fn script_of(alloc: Global, port: u8, name: &str) -> Script {
     }
 }
 
-#[test]
-fn a_name_keeps_the_number_of_its_first_script(rt: HostRuntime) -> Result<(), Fail> {
-    let alloc = rt.alloc();
-    let mut phases = Vec::new(alloc);
-    for names in [["b", "a", "x"], ["c", "b", "y"]] {
-        let [first, second, other] = names;
-        let callers = vec![in alloc;
-            script_of(alloc, 1, first),
-            script_of(alloc, 0, other),
-            script_of(alloc, 1, second),
-        ]?;
-        phases.push(Phase {
-            lines: Buffer::new(alloc),
-            ticks: Buffer::new(alloc),
-            callers: Buffer::from_vec(callers),
-        })?;
-    }
-    let session = Session {
+/// A phase with two callers on port 1, and one on port 0 between them.
+fn phase_of(alloc: Global, first: &str, other: &str, second: &str) -> Result<Phase, AllocError> {
+    let callers = vec![in alloc;
+        script_of(alloc, 1, first),
+        script_of(alloc, 0, other),
+        script_of(alloc, 1, second),
+    ]?;
+    Ok(Phase {
+        lines: Buffer::new(alloc),
+        ticks: Buffer::new(alloc),
+        callers: Buffer::from_vec(callers),
+    })
+}
+
+fn session_of(alloc: Global) -> Result<Session, AllocError> {
+    let early = phase_of(alloc, "b", "x", "a")?;
+    let late = phase_of(alloc, "c", "y", "b")?;
+    let phases = vec![in alloc; early, late]?;
+    Ok(Session {
         version: 1,
         ports: 2,
         flips: Buffer::new(alloc),
         phases: Buffer::from_vec(phases),
-    };
-    let names = Names::on_port(alloc, &session, 1)?;
-    assert_eq!(rt; names.len(), 3);
-    for (number, name) in ["b", "a", "c"].iter().enumerate() {
-        assert_eq!(rt; names.name(number), Some(*name));
-        assert_eq!(rt; names.number(&name_of(*name)), Some(number));
+    })
+}
+
+/// Whether these are the names, each with its place as its number.
+fn are_numbered(names: &Names, wanted: &[&str]) -> bool {
+    for (number, name) in wanted.iter().enumerate() {
+        let is_there = names.name(number) == Some(*name);
+        if !is_there || names.number(&name_of(*name)) != Some(number) {
+            return false;
+        }
     }
-    assert_eq!(rt; names.name(3), None);
+    names.len() == wanted.len() && names.name(wanted.len()).is_none()
+}
+
+#[test]
+fn a_name_keeps_the_number_of_its_first_script(rt: HostRuntime) -> Result<(), Fail> {
+    let session = session_of(rt.alloc())?;
+    let names = Names::on_port(rt.alloc(), &session, 1)?;
+    assert!(rt; are_numbered(&names, &["b", "a", "c"]));
     Ok(())
 }

@@ -4,10 +4,10 @@
 ghost use Rattle.std.specs.Prelude.{◌≡◌};
 ghost use Rattle.tty_base.specs.Lines.{is_step as can_take};
 
-use std::alloc::Global;
+use std::alloc::{AllocError, Global};
 use std::process::Abort;
 use std::test::Fail;
-use tty_base::{Chars, Flag, Flagged, LineReport, LineStep};
+use tty_base::{Chars, Flag, Flagged, LineReport, LineStep, NoMemory};
 use uart_line::Line;
 
 const MOST: u32 = 40;
@@ -30,54 +30,66 @@ fn received<R: Abort>(
 ) -> Result<(Chars, LineReport), Fail> {
     assert!(rt; steps.len() <= MOST as usize);
     assert!(rt; steps.iter().all(|step| is_step(*step)));
-    let mut line = Line::new(alloc, MOST)?;
     let mut chars = Chars::new(alloc);
     chars.reserve(MOST as usize)?;
+    let mut line = Line::new(alloc, MOST)?;
     line.run_into(steps, &mut chars);
     Ok((chars, line.into_report()))
 }
 
-#[test]
-fn a_masked_burst_is_received_with_a_mark(rt: HostRuntime) -> Result<(), Fail> {
-    let mut steps = vec![in rt.alloc(); LineStep::Trigger(14), LineStep::Mask]?;
+/// Twenty characters that arrive while the interrupt is masked.
+fn masked_burst(alloc: Global) -> Result<Vec<LineStep>, AllocError> {
+    let mut steps = vec![in alloc; LineStep::Trigger(14), LineStep::Mask]?;
     for byte in b"ABCDEFGHIJKLMNOPQRST" {
-        steps.push(LineStep::Rx(Flagged {
-            byte: *byte,
-            flag: Flag::Normal,
-        }))?;
+        steps.push(LineStep::Rx(Flagged::good(*byte)))?;
     }
     steps.push(LineStep::Unmask)?;
-    let (chars, report) = received(&rt, rt.alloc(), steps.as_slice())?;
+    Ok(steps)
+}
+
+/// Whether these are the first sixteen of the burst and one more, with the mark of an overrun behind the first.
+fn are_marked(chars: &[Flagged]) -> bool {
     let bytes = b"A\0BCDEFGHIJKLMNOP";
-    assert_eq!(rt; chars.len(), bytes.len());
-    for (c, byte) in chars.as_slice().iter().zip(bytes) {
-        assert_eq!(rt; c.byte, *byte);
+    for (c, byte) in chars.iter().zip(bytes) {
+        if c.byte != *byte {
+            return false;
+        }
     }
-    assert_eq!(rt;
-        chars.as_slice().get(1).map(|c| c.flag),
-        Some(Flag::Overrun)
-    );
-    assert_eq!(rt; report.arrived, 20);
-    assert_eq!(rt; report.fifo_lost, 4);
-    assert_eq!(rt; report.sent, 17);
-    assert_eq!(rt; report.overruns.len(), 0);
+    chars.len() == bytes.len() && chars.get(1).map(|c| c.flag) == Some(Flag::Overrun)
+}
+
+/// Whether so many arrived, were lost and were sent, and none was refused.
+fn tells(report: &LineReport, arrived: u32, lost: u32, sent: u64) -> bool {
+    let refused = report.overruns.len();
+    report.arrived == arrived && report.fifo_lost == lost && report.sent == sent && refused == 0
+}
+
+#[test]
+fn a_masked_burst_is_received_with_a_mark(rt: HostRuntime) -> Result<(), Fail> {
+    let steps = masked_burst(rt.alloc())?;
+    let (chars, report) = received(&rt, rt.alloc(), steps.as_slice())?;
+    assert!(rt; are_marked(chars.as_slice()) && tells(&report, 20, 4, 17));
     Ok(())
+}
+
+/// What is told of a line of which eight bytes are a whole window, and seven are none.
+fn after_a_window(alloc: Global) -> Result<LineReport, NoMemory> {
+    let mut chars = Chars::new(alloc);
+    chars.reserve(MOST as usize)?;
+    let mut line = Line::new(alloc, MOST)?;
+    line.step(LineStep::Trigger(8), &mut chars);
+    let bytes = b"ABCDEFGHIJ";
+    if line.whole_window(7).is_none() {
+        if let Some(count) = line.whole_window(bytes.len()) {
+            line.accept_window(&bytes[..count]);
+        }
+    }
+    Ok(line.into_report())
 }
 
 #[test]
 fn a_whole_window_is_accepted_and_counted(rt: HostRuntime) -> Result<(), Fail> {
-    let alloc = rt.alloc();
-    let mut line = Line::new(alloc, MOST)?;
-    let mut chars = Chars::new(alloc);
-    chars.reserve(MOST as usize)?;
-    line.step(LineStep::Trigger(8), &mut chars);
-    let bytes = b"ABCDEFGHIJ";
-    assert_eq!(rt; line.whole_window(7), None);
-    if let Some(count) = line.whole_window(bytes.len()) {
-        line.accept_window(&bytes[..count]);
-    }
-    let report = line.into_report();
-    assert_eq!(rt; (report.arrived, report.sent), (8, 8));
-    assert_eq!(rt; report.overruns.len(), 0);
+    let report = after_a_window(rt.alloc())?;
+    assert!(rt; tells(&report, 8, 0, 8));
     Ok(())
 }

@@ -1,5 +1,6 @@
 //! The default modes, the words that set modes and the texts that are none, as tests of worked values.
 
+use std::alloc::AllocError;
 use std::test::Fail;
 use tty_modes::places::{CHARACTER_COUNT, FLAG_COUNT, ICANON, IUTF8, OPOST, TOSTOP, VEOL2, VMIN};
 use tty_modes::{
@@ -7,21 +8,32 @@ use tty_modes::{
     words_are_their_texts,
 };
 
-#[test]
-fn defaults_print_as_their_line(rt: HostRuntime) -> Result<(), Fail> {
-    let modes = Modes::sane();
-    let mut text = String::new(rt.alloc());
+/// Adds the names of the flags that are set.
+fn add_flags(text: &mut String, modes: &Modes) -> Result<(), AllocError> {
     for flag in 0..FLAG_COUNT {
         if modes.has(flag) {
             text.push_str(flag_name(flag))?;
             text.push(' ')?;
         }
     }
+    Ok(())
+}
+
+/// Adds the names and values of the special characters.
+fn add_characters(text: &mut String, modes: &Modes) -> Result<(), AllocError> {
     for place in 0..CHARACTER_COUNT {
         let name = character_name(place);
         let value = modes.cc(place);
-        text.push_str(format!(in rt.alloc(); "{name}={value} ")?.as_str())?;
+        write!(text, "{name}={value} ")?;
     }
+    Ok(())
+}
+
+#[test]
+fn defaults_print_as_their_line(rt: HostRuntime) -> Result<(), Fail> {
+    let mut text = String::new(rt.alloc());
+    add_flags(&mut text, &Modes::sane())?;
+    add_characters(&mut text, &Modes::sane())?;
     assert_eq!(rt;
         text.as_str(),
         "icrnl ixon opost onlcr isig icanon echo echoe echok echoke echoctl iexten intr=3 quit=28 erase=127 kill=21 eof=4 time=0 min=1 start=17 stop=19 susp=26 eol=0 reprint=18 werase=23 lnext=22 eol2=0 "
@@ -31,15 +43,19 @@ fn defaults_print_as_their_line(rt: HostRuntime) -> Result<(), Fail> {
 
 #[test]
 fn words_are_read(rt: HostRuntime) {
-    assert_eq!(rt; set_word("ignbrk"), Ok(Word::On(0)));
-    assert_eq!(rt; set_word("tostop"), Ok(Word::On(28)));
-    assert_eq!(rt; set_word("-iutf8"), Ok(Word::Off(27)));
-    assert_eq!(rt; set_word("eol2=255"), Ok(Word::Cc(14, 255)));
-    assert_eq!(rt; set_word("min=0"), Ok(Word::Cc(6, 0)));
-    assert_eq!(rt; set_word("raw"), Ok(Word::Raw));
-    assert_eq!(rt; set_word("sane"), Ok(Word::Sane));
-    assert_eq!(rt; set_word_bytes(b"-echo"), Ok(Word::Off(19)));
-    assert_eq!(rt; set_word_bytes(b"ech\xef"), Err(BadWord));
+    for (text, word) in [
+        ("ignbrk", Word::On(0)),
+        ("tostop", Word::On(28)),
+        ("-iutf8", Word::Off(27)),
+        ("eol2=255", Word::Cc(14, 255)),
+        ("min=0", Word::Cc(6, 0)),
+        ("raw", Word::Raw),
+        ("sane", Word::Sane),
+    ] {
+        assert!(rt; set_word(text) == Ok(word), "{text}");
+    }
+    assert!(rt; set_word_bytes(b"-echo") == Ok(Word::Off(19)));
+    assert!(rt; set_word_bytes(b"ech\xef") == Err(BadWord));
 }
 
 #[test]
@@ -48,31 +64,61 @@ fn other_texts_are_refused(rt: HostRuntime) {
         "", "-", "=", "min", "min=", "min=01", "min=+1", "min=256", "min=-1", "=1", "-raw",
         "-sane", "--echo", "Echo", "echo=1",
     ] {
-        assert_eq!(rt; set_word(text), Err(BadWord));
+        assert!(rt; set_word(text) == Err(BadWord), "{text}");
     }
+}
+
+/// Applies words one after the other.
+fn change(modes: &mut Modes, words: &[Word]) {
+    for word in words {
+        modes.apply(*word);
+    }
+}
+
+/// Whether each of these flags is as wanted.
+fn are_set(modes: &Modes, flags: &[u32], wanted: bool) -> bool {
+    for flag in flags {
+        if modes.has(*flag) != wanted {
+            return false;
+        }
+    }
+    true
+}
+
+/// Whether the special character at a place has this value.
+fn is_at(modes: &Modes, place: u8, value: u8) -> bool {
+    modes.cc(place) == value
 }
 
 #[test]
 fn words_change_modes(rt: HostRuntime) {
     words_are_their_texts();
     let mut modes = Modes::sane();
-    modes.apply(Word::On(IUTF8));
-    modes.apply(Word::On(TOSTOP));
-    modes.apply(Word::Cc(VMIN, 3));
-    modes.apply(Word::Raw);
-    assert!(rt; !modes.has(ICANON) && !modes.has(OPOST) && modes.has(IUTF8) && modes.has(TOSTOP));
-    assert_eq!(rt; modes.cc(VMIN), 3);
+    let words = [
+        Word::On(IUTF8),
+        Word::On(TOSTOP),
+        Word::Cc(VMIN, 3),
+        Word::Raw,
+    ];
+    change(&mut modes, &words);
+    assert!(rt;
+        are_set(&modes, &[IUTF8, TOSTOP], true) && are_set(&modes, &[ICANON, OPOST], false)
+    );
+    assert!(rt; is_at(&modes, VMIN, 3));
     let before = modes;
-    modes.apply(Word::On(29));
-    modes.apply(Word::Off(4_294_967_295));
-    modes.apply(Word::Cc(15, 7));
-    assert!(rt; modes == before && !modes.has(29) && modes.cc(15) == 0);
-    modes.apply(Word::Off(TOSTOP));
-    assert!(rt; modes != before && !modes.has(TOSTOP));
-    modes.apply(Word::Sane);
-    assert!(rt; modes == Modes::sane() && !modes.has(IUTF8) && modes.cc(VEOL2) == 0);
+    change(
+        &mut modes,
+        &[Word::On(29), Word::Off(4_294_967_295), Word::Cc(15, 7)],
+    );
+    assert!(rt; modes == before && are_set(&modes, &[29], false) && is_at(&modes, 15, 0));
+    change(&mut modes, &[Word::Off(TOSTOP)]);
+    assert!(rt; modes != before && are_set(&modes, &[TOSTOP], false));
+    change(&mut modes, &[Word::Sane]);
+    assert!(rt;
+        modes == Modes::sane() && are_set(&modes, &[IUTF8], false) && is_at(&modes, VEOL2, 0)
+    );
     modes.apply_all(&[Word::On(IUTF8), Word::Raw, Word::Off(IUTF8)]);
-    assert!(rt; !modes.has(IUTF8) && !modes.has(ICANON));
+    assert!(rt; are_set(&modes, &[IUTF8, ICANON], false));
     moves(modes);
 }
 

@@ -1,6 +1,6 @@
 //! The registers of the 16550 receiver as they are read and written, as tests of worked values.
 
-use std::test::Fail;
+use std::process::Abort;
 use tty_base::{Flag, Flagged};
 use uart_regs::{Reg, Uart};
 
@@ -9,65 +9,105 @@ const GOOD: Flagged = Flagged {
     flag: Flag::Normal,
 };
 
+const BAD: Flagged = Flagged {
+    byte: 0x42,
+    flag: Flag::Parity,
+};
+
+/// What is done to a receiver, and what is to come of it.
+#[derive(Clone, Copy)]
+enum Step {
+    /// So many good characters arrive.
+    Arrive(u32),
+    /// One with a parity error arrives.
+    ArrivesBad,
+    /// So many character times pass.
+    Idles(u32),
+    /// Whether an interrupt is pending.
+    Pends(bool),
+    /// This register reads so.
+    Reads(Reg, u8),
+    /// This register is written so.
+    Writes(Reg, u8),
+}
+
 fn arrive_often(uart: &mut Uart, times: u32) {
     for _ in 0..times {
         uart.arrive(GOOD);
     }
 }
 
-#[test]
-fn fifo_fills_and_overruns(rt: HostRuntime) -> Result<(), Fail> {
-    let mut uart = Uart::new();
-    assert_eq!(rt; uart.read(Reg::R2), 0xc1);
-    arrive_often(&mut uart, 3);
-    assert_eq!(rt; uart.read(Reg::R5), 0x61);
-    assert_eq!(rt; uart.read(Reg::R2), 0xc1);
-    assert!(rt; !uart.pending());
-    uart.idle(4);
-    assert_eq!(rt; uart.read(Reg::R2), 0xcc);
-    arrive_often(&mut uart, 5);
-    assert_eq!(rt; uart.read(Reg::R2), 0xc4);
-    assert!(rt; uart.pending());
-    arrive_often(&mut uart, 9);
-    assert_eq!(rt; uart.read(Reg::R5), 0x63);
-    assert_eq!(rt; uart.read(Reg::R5), 0x61);
-    Ok(())
-}
-
-#[test]
-fn parity_error_at_the_front(rt: HostRuntime) -> Result<(), Fail> {
-    let mut uart = Uart::new();
-    uart.arrive(Flagged {
-        byte: 0x42,
-        flag: Flag::Parity,
-    });
-    assert_eq!(rt; uart.read(Reg::R2), 0xc6);
-    assert_eq!(rt; uart.read(Reg::R5), 0xe5);
-    assert_eq!(rt; uart.read(Reg::R5), 0x61);
-    assert_eq!(rt; uart.read(Reg::R0), 0x42);
-    assert_eq!(rt; uart.read(Reg::R0), 0);
-    Ok(())
-}
-
-#[test]
-fn registers_that_are_kept(rt: HostRuntime) -> Result<(), Fail> {
-    let mut uart = Uart::new();
-    uart.write(Reg::R1, 0xff);
-    uart.write(Reg::R4, 0xff);
-    uart.write(Reg::R7, 0xa5);
-    uart.write(Reg::R3, 0x83);
-    uart.write(Reg::R1, 0x01);
-    for (reg, value) in [
-        (Reg::R0, 0x0c),
-        (Reg::R1, 0x01),
-        (Reg::R3, 0x83),
-        (Reg::R4, 0x1f),
-        (Reg::R6, 0xb0),
-        (Reg::R7, 0xa5),
-    ] {
-        assert_eq!(rt; uart.read(reg), value);
+/// Whether a step goes as it is to go.
+fn goes(uart: &mut Uart, step: Step) -> bool {
+    match step {
+        Step::Arrive(times) => arrive_often(uart, times),
+        Step::ArrivesBad => uart.arrive(BAD),
+        Step::Idles(times) => uart.idle(times),
+        Step::Pends(wanted) => return uart.pending() == wanted,
+        Step::Reads(reg, wanted) => return uart.read(reg) == wanted,
+        Step::Writes(reg, value) => uart.write(reg, value),
     }
-    uart.write(Reg::R3, 0x03);
-    assert_eq!(rt; uart.read(Reg::R1), 0x0f);
-    Ok(())
+    true
+}
+
+/// Each step goes as it is to go, from a receiver that was reset on.
+fn tries(rt: &impl Abort, row: &[Step]) {
+    let mut uart = Uart::new();
+    for (place, step) in row.iter().enumerate() {
+        let goes = goes(&mut uart, *step);
+        assert!(rt; goes, "at step {place}");
+    }
+}
+
+#[test]
+fn fifo_fills_and_overruns(rt: HostRuntime) {
+    let row = [
+        Step::Reads(Reg::R2, 0xc1),
+        Step::Arrive(3),
+        Step::Reads(Reg::R5, 0x61),
+        Step::Reads(Reg::R2, 0xc1),
+        Step::Pends(false),
+        Step::Idles(4),
+        Step::Reads(Reg::R2, 0xcc),
+        Step::Arrive(5),
+        Step::Reads(Reg::R2, 0xc4),
+        Step::Pends(true),
+        Step::Arrive(9),
+        Step::Reads(Reg::R5, 0x63),
+        Step::Reads(Reg::R5, 0x61),
+    ];
+    tries(&rt, &row);
+}
+
+#[test]
+fn parity_error_at_the_front(rt: HostRuntime) {
+    let row = [
+        Step::ArrivesBad,
+        Step::Reads(Reg::R2, 0xc6),
+        Step::Reads(Reg::R5, 0xe5),
+        Step::Reads(Reg::R5, 0x61),
+        Step::Reads(Reg::R0, 0x42),
+        Step::Reads(Reg::R0, 0),
+    ];
+    tries(&rt, &row);
+}
+
+#[test]
+fn registers_that_are_kept(rt: HostRuntime) {
+    let row = [
+        Step::Writes(Reg::R1, 0xff),
+        Step::Writes(Reg::R4, 0xff),
+        Step::Writes(Reg::R7, 0xa5),
+        Step::Writes(Reg::R3, 0x83),
+        Step::Writes(Reg::R1, 0x01),
+        Step::Reads(Reg::R0, 0x0c),
+        Step::Reads(Reg::R1, 0x01),
+        Step::Reads(Reg::R3, 0x83),
+        Step::Reads(Reg::R4, 0x1f),
+        Step::Reads(Reg::R6, 0xb0),
+        Step::Reads(Reg::R7, 0xa5),
+        Step::Writes(Reg::R3, 0x03),
+        Step::Reads(Reg::R1, 0x0f),
+    ];
+    tries(&rt, &row);
 }

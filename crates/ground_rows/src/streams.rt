@@ -1,6 +1,8 @@
 //! Lists of bytes and of characters, and streams that are read and written, also where a device fails, as
 //! tests.
 
+ghost use Rattle.std.specs.Prelude.{◌≤◌};
+
 use std::alloc::Global;
 use std::io;
 use std::io::{ErrorKind, Read, Write};
@@ -65,94 +67,113 @@ fn a_list_keeps_what_was_added_in_reserved_room(rt: HostRuntime) -> Result<(), F
     bytes.reserve(3)?;
     bytes.add(97);
     bytes.append(&[98]);
-    assert_eq!(rt; bytes.as_slice(), b"ab".as_slice());
-    assert_eq!(rt;
-        bytes.copy(rt.alloc())?.into_vec().as_slice(),
-        b"ab".as_slice()
-    );
+    assert!(rt; bytes.as_slice() == b"ab".as_slice());
+    let copied = bytes.copy(rt.alloc())?.into_vec();
+    assert!(rt; copied.as_slice() == b"ab".as_slice());
     Ok(())
+}
+
+/// Whether the text `hello`, in pieces of two bytes, is read up to a limit, or this fault is told.
+fn reads(
+    alloc: Global,
+    fails: Vec<u32>,
+    limit: usize,
+    fault: Option<TakeFault>,
+) -> Result<bool, NoMemory> {
+    let mut source = MemSource::new(bytes_of(alloc, b"hello")?, 2, fails);
+    match read_all(alloc, &mut source, limit) {
+        Ok(text) => Ok(fault == None && text.as_slice() == b"hello".as_slice()),
+        Err(told) => Ok(fault == Some(told)),
+    }
 }
 
 #[test]
 fn a_text_is_read_in_pieces_up_to_its_limit(rt: HostRuntime) -> Result<(), Fail> {
     let alloc = rt.alloc();
-    for (limit, outcome) in [(5, None), (4, Some(TakeFault::TooLong))] {
-        let mut source = MemSource::new(bytes_of(alloc, b"hello")?, 2, Vec::new(alloc));
-        match read_all(alloc, &mut source, limit) {
-            Ok(text) => {
-                assert_eq!(rt; outcome, None);
-                assert_eq!(rt; text.as_slice(), b"hello".as_slice());
-            }
-            Err(fault) => assert_eq!(rt; outcome, Some(fault)),
-        }
-    }
+    assert!(rt; reads(alloc, Vec::new(alloc), 5, None)?);
+    assert!(rt; reads(alloc, Vec::new(alloc), 4, Some(TakeFault::TooLong))?);
     Ok(())
+}
+
+/// Whether a sink that fails in the text `hello` tells so, and was given these bytes before.
+fn fails_after(
+    alloc: Global,
+    piece: usize,
+    room: usize,
+    fails: Vec<u32>,
+    given: &[u8],
+) -> Result<bool, NoMemory>
+    requires { 1 ≤ piece }
+{
+    let mut sink = MemSink::new(alloc, piece, room, fails)?;
+    let told = write_all(&mut sink, b"hello");
+    Ok(told == Err(PutFault::WriteFault) && sink.given() == given)
 }
 
 #[test]
 fn a_failing_source_and_a_failing_sink_are_told(rt: HostRuntime) -> Result<(), Fail> {
     let alloc = rt.alloc();
-    let mut source = MemSource::new(bytes_of(alloc, b"hello")?, 2, vec![in alloc; 1]?);
-    assert_eq!(rt;
-        read_all(alloc, &mut source, 9).err(),
-        Some(TakeFault::ReadFault)
-    );
-    let mut sink = MemSink::new(alloc, 2, 9, vec![in alloc; 1]?)?;
-    assert_eq!(rt; write_all(&mut sink, b"hello"), Err(PutFault::WriteFault));
-    assert_eq!(rt; sink.given(), b"he".as_slice());
-    let mut small = MemSink::new(alloc, 8, 3, Vec::new(alloc))?;
-    assert_eq!(rt; write_all(&mut small, b"hello"), Err(PutFault::WriteFault));
-    assert_eq!(rt; small.given(), b"hel".as_slice());
+    assert!(rt; reads(alloc, vec![in alloc; 1]?, 9, Some(TakeFault::ReadFault))?);
+    assert!(rt; fails_after(alloc, 2, 9, vec![in alloc; 1]?, b"he")?);
+    assert!(rt; fails_after(alloc, 8, 3, Vec::new(alloc), b"hel")?);
     Ok(())
+}
+
+/// A device that fails at its first call, and then gives `hello`.
+fn failing(kind: ErrorKind) -> Flaky {
+    Flaky {
+        fault: Some(kind),
+        text: b"hello",
+    }
+}
+
+/// Whether a source gives `hello`.
+fn gives(alloc: Global, source: &mut StdSource<Flaky>) -> Result<bool, TakeFault> {
+    let text = read_all(alloc, source, 9)?;
+    Ok(text.as_slice() == b"hello".as_slice())
+}
+
+/// Whether a read of a few bytes answers so.
+fn answers(source: &mut StdSource<Flaky>, wanted: Result<usize, Failed>) -> bool {
+    let mut buf = [0u8; 4];
+    source.read(&mut buf) == wanted
 }
 
 #[test]
 fn standard_input_that_fails_is_a_fault_and_gives_its_text_after(
     rt: HostRuntime,
 ) -> Result<(), Fail> {
-    let mut source = StdSource::new(Flaky {
-        fault: Some(ErrorKind::BrokenPipe),
-        text: b"hello",
-    });
-    let mut buf = [0u8; 4];
-    assert_eq!(rt; source.read(&mut buf), Err(Failed));
-    let text = read_all(rt.alloc(), &mut source, 9)?;
-    assert_eq!(rt; text.as_slice(), b"hello".as_slice());
-    assert_eq!(rt; source.read(&mut buf), Ok(0));
+    let mut source = StdSource::new(failing(ErrorKind::BrokenPipe));
+    assert!(rt; answers(&mut source, Err(Failed)));
+    assert!(rt; gives(rt.alloc(), &mut source)? && answers(&mut source, Ok(0)));
     Ok(())
+}
+
+/// Whether a write of two bytes answers so.
+fn takes(sink: &mut StdSink<Flaky>, wanted: Result<usize, Failed>) -> bool {
+    sink.write(b"hi") == wanted
 }
 
 #[test]
 fn standard_output_that_fails_is_a_fault_and_can_go_on(rt: HostRuntime) {
-    let mut sink = StdSink::new(Flaky {
-        fault: Some(ErrorKind::BrokenPipe),
-        text: b"",
-    });
-    assert_eq!(rt; sink.write(b"hi"), Err(Failed));
-    assert_eq!(rt; sink.write(b"hi"), Ok(1));
+    let mut sink = StdSink::new(failing(ErrorKind::BrokenPipe));
+    assert!(rt; takes(&mut sink, Err(Failed)) && takes(&mut sink, Ok(1)));
 }
 
 #[test]
 fn a_signal_is_no_fault_of_standard_input_and_output(rt: HostRuntime) -> Result<(), Fail> {
-    let mut source = StdSource::new(Flaky {
-        fault: Some(ErrorKind::Interrupted),
-        text: b"hello",
-    });
-    let text = read_all(rt.alloc(), &mut source, 9)?;
-    assert_eq!(rt; text.as_slice(), b"hello".as_slice());
-    let mut sink = StdSink::new(Flaky {
-        fault: Some(ErrorKind::Interrupted),
-        text: b"",
-    });
-    assert_eq!(rt; write_all(&mut sink, b"hi"), Ok(()));
+    let mut source = StdSource::new(failing(ErrorKind::Interrupted));
+    assert!(rt; gives(rt.alloc(), &mut source)?);
+    let mut sink = StdSink::new(failing(ErrorKind::Interrupted));
+    assert!(rt; write_all(&mut sink, b"hi") == Ok(()));
     Ok(())
 }
 
 #[test]
 fn standard_output_adds_to_what_its_writer_holds(rt: HostRuntime) -> Result<(), Fail> {
     let mut text = Vec::new(rt.alloc());
-    assert_eq!(rt; write_all(&mut StdSink::new(&mut text), b"hello"), Ok(()));
-    assert_eq!(rt; text.as_slice(), b"hello".as_slice());
+    assert!(rt; write_all(&mut StdSink::new(&mut text), b"hello") == Ok(()));
+    assert!(rt; text.as_slice() == b"hello".as_slice());
     Ok(())
 }
 
@@ -164,9 +185,9 @@ fn a_list_takes_characters_in_its_reserved_room(rt: HostRuntime) -> Result<(), F
         byte: 97,
         flag: Flag::Parity,
     };
-    assert_eq!(rt; list.put(c), Ok(()));
+    assert!(rt; list.put(c) == Ok(()));
     list.push();
-    assert_eq!(rt; list.as_slice(), [c].as_slice());
+    assert!(rt; list.as_slice() == [c].as_slice());
     Ok(())
 }
 
@@ -176,11 +197,22 @@ fn a_ninth_character_takes_memory(rt: HostRuntime) -> Result<(), Fail> {
     let mut list = Chars::new(rt.alloc());
     list.append(&[c; 4]);
     list.add_four([c; 4]);
-    assert_eq!(rt; (list.len(), list.spare()), (8, 0));
+    assert!(rt; list.len() == 8 && list.spare() == 0);
     list.reserve(1)?;
     list.add(c);
-    assert_eq!(rt; list.copy(rt.alloc())?.as_slice(), [c; 9].as_slice());
+    let copied = list.copy(rt.alloc())?;
+    assert!(rt; copied.as_slice() == [c; 9].as_slice());
     Ok(())
+}
+
+/// Whether these are good characters with these bytes.
+fn are_good(characters: &[Flagged], bytes: &[u8]) -> bool {
+    for (c, byte) in characters.iter().zip(bytes) {
+        if *c != Flagged::good(*byte) {
+            return false;
+        }
+    }
+    characters.len() == bytes.len()
 }
 
 #[test]
@@ -190,11 +222,7 @@ fn good_characters_are_added_from_bytes(rt: HostRuntime) -> Result<(), Fail> {
     list.reserve(21)?;
     list.add_good(b"ABCDEFGH");
     list.add_good(b"0123456789xyz");
-    let bytes = b"abcdefghABCDEFGH0123456789xyz";
-    assert_eq!(rt; list.len(), bytes.len());
-    for (c, byte) in list.as_slice().iter().zip(bytes) {
-        assert_eq!(rt; *c, Flagged::good(*byte));
-    }
+    assert!(rt; are_good(list.as_slice(), b"abcdefghABCDEFGH0123456789xyz"));
     Ok(())
 }
 
@@ -204,7 +232,6 @@ fn a_shorter_list_keeps_its_room(rt: HostRuntime) -> Result<(), Fail> {
     let mut list = Chars::new(rt.alloc());
     list.append(&[c; 5]);
     list.truncate(3);
-    assert_eq!(rt; list.as_slice(), [c; 3].as_slice());
-    assert_eq!(rt; list.spare(), 5);
+    assert!(rt; list.as_slice() == [c; 3].as_slice() && list.spare() == 5);
     Ok(())
 }
