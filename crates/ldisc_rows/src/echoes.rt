@@ -54,20 +54,22 @@ fn each_event_by_the_flags(rt: HostRuntime) {
         (Word::Off(ECHO), EchoEvent::Newline, b""),
     ];
     for (word, event, want) in rows {
-        let mut modes = Modes::sane();
-        modes.apply(word);
-        assert!(rt; fits(event));
-        assert_eq!(rt; echo(event, &modes).as_slice(), want, "{event:?} {word:?}");
+        assert!(rt; echoes(&[word], event, want), "{event:?} {word:?}");
     }
-    let mut modes = Modes::sane();
-    modes.apply(Word::Raw);
-    modes.apply(Word::On(ECHONL));
-    assert_eq!(rt;
-        echo(EchoEvent::Newline, &modes).as_slice(),
-        b"\n".as_slice()
-    );
+    let words = [Word::Raw, Word::On(ECHONL)];
+    assert!(rt; echoes(&words, EchoEvent::Newline, b"\n"));
 }
 
+/// Whether this is echoed of an event, under the defaults changed by words.
+fn echoes(words: &[Word], event: EchoEvent, want: &[u8]) -> bool {
+    let mut modes = Modes::sane();
+    for word in words {
+        modes.apply(*word);
+    }
+    fits(event) && echo(event, &modes).as_slice() == want
+}
+
+/// Whether an echo of the event has at most so many columns as one can have.
 fn fits(event: EchoEvent) -> bool
     ensures { result ≡ true → FitsEcho event }
 {

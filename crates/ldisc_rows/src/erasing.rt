@@ -26,6 +26,17 @@ fn gone(first: u8, bytes: usize, width: usize) -> Option<Gone> {
     })
 }
 
+/// What ERASE takes from a line of these bytes, which begins in this column.
+fn erased(
+    alloc: Global,
+    bytes: &[u8],
+    start: usize,
+    modes: &Modes,
+) -> Result<Option<Gone>, NoMemory> {
+    let mut line = line_of(alloc, bytes)?;
+    Ok(line.erase(start, modes))
+}
+
 #[test]
 fn erase_takes_a_byte_or_a_character(rt: HostRuntime) -> Result<(), Fail> {
     let plain = Modes::sane();
@@ -43,16 +54,26 @@ fn erase_takes_a_byte_or_a_character(rt: HostRuntime) -> Result<(), Fail> {
         (b"\xc3\xa9\t", 0, gone(9, 1, 6), gone(9, 1, 7)),
     ];
     for (bytes, start, by_byte, by_character) in rows {
-        let mut line = line_of(rt.alloc(), bytes)?;
-        assert_eq!(rt; line.erase(start, &plain), by_byte);
-        let mut line = line_of(rt.alloc(), bytes)?;
-        assert_eq!(rt; line.erase(start, &utf8), by_character);
+        assert!(rt;
+            erased(rt.alloc(), bytes, start, &plain)? == by_byte,
+            "{bytes:?}"
+        );
+        assert!(rt;
+            erased(rt.alloc(), bytes, start, &utf8)? == by_character,
+            "{bytes:?}"
+        );
     }
     Ok(())
 }
 
+/// Whether WERASE leaves this of a line, and takes as much as it says before and after.
+fn leaves(line: &mut Edit, left: &[u8]) -> bool {
+    let len = line.word_len();
+    line.erase_word() == len && line.bytes() == left
+}
+
 #[test]
-fn words_lines_and_the_bound(rt: HostRuntime) -> Result<(), Fail> {
+fn words_are_erased(rt: HostRuntime) -> Result<(), Fail> {
     let rows = [
         (b"foo bar".as_slice(), b"foo ".as_slice()),
         (b"foo_1 .. ", b""),
@@ -60,18 +81,25 @@ fn words_lines_and_the_bound(rt: HostRuntime) -> Result<(), Fail> {
     ];
     for (bytes, left) in rows {
         let mut line = line_of(rt.alloc(), bytes)?;
-        let len = line.word_len();
-        assert_eq!(rt; line.erase_word(), len);
-        assert_eq!(rt; line.bytes(), left);
+        assert!(rt; leaves(&mut line, left), "{bytes:?}");
     }
-    let mut line = line_of(rt.alloc(), &[0x61; 4095])?;
-    assert!(rt; !line.add(0x62));
+    Ok(())
+}
+
+/// Whether a line of 4,095 letters takes no more, and KILL takes them all.
+fn is_bounded(line: &mut Edit) -> bool {
     let modes = Modes::sane();
-    assert!(rt; !line.bytes().is_empty());
-    assert_eq!(rt; line.width_of_last(0, &modes), 1);
-    assert_eq!(rt; line.width_at(0, 0, &modes), 1);
-    assert_eq!(rt; line.kill(), 4095);
-    assert_eq!(rt; line.bytes(), b"".as_slice());
+    if line.add(0x62) || line.bytes().is_empty() {
+        return false;
+    }
+    let is_wide = line.width_of_last(0, &modes) == 1 && line.width_at(0, 0, &modes) == 1;
+    is_wide && line.kill() == 4095 && line.bytes().is_empty()
+}
+
+#[test]
+fn a_line_is_bounded(rt: HostRuntime) -> Result<(), Fail> {
+    let mut line = line_of(rt.alloc(), &[0x61; 4095])?;
+    assert!(rt; is_bounded(&mut line));
     moves(line);
     Ok(())
 }

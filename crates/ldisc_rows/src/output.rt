@@ -48,12 +48,6 @@ impl Output {
     }
 }
 
-fn take_front_where(wire: &mut Wire, n: usize, out: &mut Bytes) {
-    if n <= wire.wire().len() && n <= out.spare() {
-        wire.take_front(n, out);
-    }
-}
-
 /// Whether 4,096 bytes are held, and go out in order.
 fn holds_what_fits(output: &mut Output, bytes: &[u8]) -> Result<bool, NoMemory> {
     output.wire.stop();
@@ -70,8 +64,7 @@ fn holds_what_fits(output: &mut Output, bytes: &[u8]) -> Result<bool, NoMemory> 
 #[test]
 fn held_output_goes_out_in_order(rt: HostRuntime) -> Result<(), Fail> {
     let mut output = Output::new(rt.alloc())?;
-    let bytes = vec![in rt.alloc(); 97u8; 4095]?;
-    assert!(rt; holds_what_fits(&mut output, bytes.as_slice())?);
+    assert!(rt; holds_what_fits(&mut output, &[97; 4095]) == Ok(true));
     Ok(())
 }
 
@@ -110,48 +103,73 @@ fn drops_and_resets(output: &mut Output) -> Result<bool, NoMemory> {
 #[test]
 fn both_halts_and_the_note(rt: HostRuntime) -> Result<(), Fail> {
     let mut output = Output::new(rt.alloc())?;
-    assert!(rt; halts_twice(&mut output)? && drops_and_resets(&mut output)?);
+    assert!(rt; halts_twice(&mut output) == Ok(true));
+    assert!(rt; drops_and_resets(&mut output) == Ok(true));
     let Output { wire } = output;
     assert!(rt; wire.into_wire().as_slice() == b"\x13ac".as_slice());
     room_makes_no_difference();
     Ok(())
 }
 
+/// What is taken from the front of what went out, at most three bytes.
+fn first_three(alloc: Global, wire: &mut Wire) -> Result<Bytes, NoMemory> {
+    let mut out = Bytes::new(alloc);
+    out.reserve(3)?;
+    let most = wire.wire().len().min(3);
+    wire.take_front(most, &mut out);
+    Ok(out)
+}
+
+/// Whether three of four bytes that went out are taken, and the fourth stays.
+fn gives_three(alloc: Global, output: &mut Output) -> Result<bool, NoMemory> {
+    let goes = output.send(b"abcd")?;
+    let out = first_three(alloc, &mut output.wire)?;
+    Ok(goes && out.as_slice() == b"abc".as_slice() && output.wire.wire() == b"d".as_slice())
+}
+
 #[test]
 fn what_went_out_is_taken_from_the_front(rt: HostRuntime) -> Result<(), Fail> {
     let mut output = Output::new(rt.alloc())?;
-    assert!(rt; output.send(b"abcd")?);
-    let mut out = Bytes::new(rt.alloc());
-    out.reserve(3)?;
-    take_front_where(&mut output.wire, 3, &mut out);
-    assert!(rt; out.as_slice() == b"abc".as_slice() && output.wire.wire() == b"d".as_slice());
+    assert!(rt; gives_three(rt.alloc(), &mut output) == Ok(true));
     Ok(())
+}
+
+/// Whether the first of two signals is taken, and the other stays.
+fn gives_a_signal(alloc: Global, tally: &mut Tally) -> Result<bool, NoMemory> {
+    tally.reserve(2)?;
+    tally.raise(Signal::Int);
+    tally.raise(Signal::Quit);
+    let mut out = Signals::new(alloc);
+    out.reserve(1)?;
+    let most = tally.signals.len().min(1);
+    tally.take_signals(most, &mut out);
+    let is_first = out.as_slice() == [Signal::Int].as_slice();
+    Ok(is_first && tally.signals.as_slice() == [Signal::Quit].as_slice())
 }
 
 #[test]
 fn signals_are_taken_from_the_front(rt: HostRuntime) -> Result<(), Fail> {
     let mut tally = Tally::new(rt.alloc());
-    tally.reserve(2)?;
-    tally.raise(Signal::Int);
-    tally.raise(Signal::Quit);
-    let mut out = Signals::new(rt.alloc());
-    out.reserve(1)?;
-    tally.take_signals(1, &mut out);
-    assert!(rt; out.as_slice() == [Signal::Int].as_slice());
-    assert!(rt; tally.signals.as_slice() == [Signal::Quit].as_slice());
+    assert!(rt; gives_a_signal(rt.alloc(), &mut tally) == Ok(true));
     Ok(())
 }
 
-#[test]
-fn counts_and_signals(rt: HostRuntime) -> Result<(), Fail> {
-    let mut tally = Tally::new(rt.alloc());
+/// Whether signals and counts add up.
+fn counts(tally: &mut Tally) -> Result<bool, NoMemory> {
     tally.reserve(2)?;
     tally.raise(Signal::Int);
     tally.raise(Signal::Susp);
     tally.count(Counter::Echo, 3);
     tally.count(Counter::Echo, u64::MAX);
     tally.count(Counter::PacketBad, 1);
-    assert!(rt; tally.counts.echo == u64::MAX && tally.counts.pbad == 1 && tally.counts.mark == 0);
-    assert!(rt; tally.signals.as_slice() == [Signal::Int, Signal::Susp].as_slice());
+    let counts = &tally.counts;
+    let are_counted = counts.echo == u64::MAX && counts.pbad == 1 && counts.mark == 0;
+    Ok(are_counted && tally.signals.as_slice() == [Signal::Int, Signal::Susp].as_slice())
+}
+
+#[test]
+fn counts_and_signals(rt: HostRuntime) -> Result<(), Fail> {
+    let mut tally = Tally::new(rt.alloc());
+    assert!(rt; counts(&mut tally) == Ok(true));
     Ok(())
 }

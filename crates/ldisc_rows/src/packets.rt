@@ -12,13 +12,7 @@ fn moves<T: Send + Drop>(_value: T) {}
 
 fn receive_all(slip: &mut NSlip, tally: &mut Tally, bytes: &[u8]) {
     for b in bytes {
-        slip.receive(
-            Flagged {
-                byte: *b,
-                flag: Flag::Normal,
-            },
-            tally,
-        );
+        slip.receive(good(*b), tally);
     }
 }
 
@@ -29,10 +23,8 @@ pub fn good(byte: u8) -> Flagged {
     }
 }
 
-#[test]
-fn characters_come_all_at_once(rt: HostRuntime) -> Result<(), Fail> {
-    let mut slip = NSlip::new(rt.alloc())?;
-    let mut tally = Tally::new(rt.alloc());
+/// Whether two packets that come all at once are kept, and counted.
+fn keeps_both(slip: &mut NSlip, tally: &mut Tally) -> bool {
     let line = [
         good(0x41),
         good(0xdb),
@@ -43,10 +35,17 @@ fn characters_come_all_at_once(rt: HostRuntime) -> Result<(), Fail> {
         good(0x43),
         good(0xc0),
     ];
-    slip.receive_all(line.as_slice(), &mut tally);
-    assert!(rt; slip.waiting() == 2 && slip.first_len() == 2);
-    assert!(rt; tally.counts.pin == 2 && tally.counts.pbad == 0);
+    slip.receive_all(line.as_slice(), tally);
+    let are_kept = slip.waiting() == 2 && slip.first_len() == 2;
+    are_kept && tally.counts.pin == 2 && tally.counts.pbad == 0
+}
+
+#[test]
+fn characters_come_all_at_once(rt: HostRuntime) -> Result<(), Fail> {
     pieces_are_counted();
+    let mut slip = NSlip::new(rt.alloc())?;
+    let mut tally = Tally::new(rt.alloc());
+    assert!(rt; keeps_both(&mut slip, &mut tally));
     Ok(())
 }
 
@@ -75,16 +74,20 @@ fn gives_so_many(alloc: Global, slip: &mut NSlip, count: u8) -> Result<bool, NoM
     Ok(true)
 }
 
+/// Whether 64 of 65 packets wait, and the last is counted as one too many.
+fn keeps_sixty_four(slip: &mut NSlip, tally: &mut Tally) -> bool {
+    for n in 0..65u8 {
+        receive_all(slip, tally, &[n, 0xc0]);
+    }
+    slip.waiting() == 64 && tally.counts.pin == 64 && tally.counts.pfull == 1
+}
+
 #[test]
 fn sixty_five_packets(rt: HostRuntime) -> Result<(), Fail> {
     let mut slip = NSlip::new(rt.alloc())?;
     let mut tally = Tally::new(rt.alloc());
-    for n in 0..65u8 {
-        receive_all(&mut slip, &mut tally, &[n, 0xc0]);
-    }
-    assert_eq!(rt; slip.waiting(), 64);
-    assert!(rt; tally.counts.pin == 64 && tally.counts.pfull == 1);
-    assert!(rt; gives_so_many(rt.alloc(), &mut slip, 64)? && slip.waiting() == 0);
+    assert!(rt; keeps_sixty_four(&mut slip, &mut tally));
+    assert!(rt; gives_so_many(rt.alloc(), &mut slip, 64) == Ok(true) && slip.waiting() == 0);
     moves(slip);
     Ok(())
 }
@@ -103,45 +106,53 @@ fn keeps_the_good_one(slip: &mut NSlip, tally: &mut Tally) -> bool {
     slip.first_len() == 2
 }
 
+/// Whether a flush drops no piece that has begun, and this is told of three packets.
+fn keeps_what_began(alloc: Global, slip: &mut NSlip, tally: &mut Tally) -> Result<bool, NoMemory> {
+    let is_kept = keeps_the_good_one(slip, tally) && gives(alloc, slip, &[0x41, 0xc0])?;
+    let is_empty = slip.waiting() == 0 && slip.first_len() == 0;
+    slip.flush_in();
+    receive_all(slip, tally, &[0x45, 0xc0]);
+    let goes_on = gives(alloc, slip, &[0x44, 0x45])?;
+    let counts = &tally.counts;
+    let is_told = counts.pin == 2 && counts.pbad == 1 && counts.parity == 1;
+    Ok(is_kept && is_empty && goes_on && is_told)
+}
+
 #[test]
 fn pieces_of_a_line(rt: HostRuntime) -> Result<(), Fail> {
     let mut slip = NSlip::new(rt.alloc())?;
     let mut tally = Tally::new(rt.alloc());
-    assert!(rt; keeps_the_good_one(&mut slip, &mut tally));
-    assert!(rt; gives(rt.alloc(), &mut slip, &[0x41, 0xc0])?);
-    assert!(rt; slip.waiting() == 0 && slip.first_len() == 0);
-    slip.flush_in();
-    receive_all(&mut slip, &mut tally, &[0x45, 0xc0]);
-    assert!(rt; gives(rt.alloc(), &mut slip, &[0x44, 0x45])?);
-    assert!(rt; tally.counts.pin == 2 && tally.counts.pbad == 1 && tally.counts.parity == 1);
+    assert!(rt; keeps_what_began(rt.alloc(), &mut slip, &mut tally) == Ok(true));
     Ok(())
+}
+
+/// Whether one of two packets is kept, the longest, and the other is counted as bad.
+fn keeps_the_longest(slip: &mut NSlip, tally: &mut Tally) -> bool {
+    let letters = [0x61; 1007];
+    for packet in [&letters[..1006], letters.as_slice()] {
+        receive_all(slip, tally, packet);
+        receive_all(slip, tally, &[0xc0]);
+    }
+    let is_kept = slip.waiting() == 1 && slip.first_len() == 1006;
+    is_kept && tally.counts.pin == 1 && tally.counts.pbad == 1
 }
 
 #[test]
 fn the_longest_packet_and_a_longer_one(rt: HostRuntime) -> Result<(), Fail> {
     let mut slip = NSlip::new(rt.alloc())?;
     let mut tally = Tally::new(rt.alloc());
-    let long = vec![in rt.alloc(); 0x61; 1007]?;
-    for packet in [&long.as_slice()[..1006], long.as_slice()] {
-        receive_all(&mut slip, &mut tally, packet);
-        receive_all(&mut slip, &mut tally, &[0xc0]);
-    }
-    assert!(rt; slip.waiting() == 1 && slip.first_len() == 1006);
-    assert!(rt; tally.counts.pin == 1 && tally.counts.pbad == 1);
+    assert!(rt; keeps_the_longest(&mut slip, &mut tally));
     Ok(())
 }
 
 /// Whether a packet is sent twice under a halt, and not a third time.
-fn sends_twice(
-    slip: &mut NSlip,
-    encoded: &[u8],
-    wire: &mut Wire,
-    tally: &mut Tally,
-) -> Result<bool, NoMemory> {
+fn sends_twice(alloc: Global, slip: &mut NSlip, encoded: &[u8]) -> Result<bool, NoMemory> {
+    let mut wire = Wire::new(alloc)?;
+    let mut tally = Tally::new(alloc);
     wire.stop();
     for is_sent in [true, true, false] {
         wire.reserve(encoded.len())?;
-        if slip.send_packet(encoded, wire, tally) != is_sent {
+        if slip.send_packet(encoded, &mut wire, &mut tally) != is_sent {
             return Ok(false);
         }
     }
@@ -150,11 +161,8 @@ fn sends_twice(
 
 #[test]
 fn a_packet_is_sent_where_there_is_room(rt: HostRuntime) -> Result<(), Fail> {
+    let encoded = encode(rt.alloc(), [0xc0; 1006].as_slice())?;
     let mut slip = NSlip::new(rt.alloc())?;
-    let mut tally = Tally::new(rt.alloc());
-    let mut wire = Wire::new(rt.alloc())?;
-    let packet = vec![in rt.alloc(); 0xc0; 1006]?;
-    let encoded = encode(rt.alloc(), packet.as_slice())?;
-    assert!(rt; sends_twice(&mut slip, encoded.as_slice(), &mut wire, &mut tally)?);
+    assert!(rt; sends_twice(rt.alloc(), &mut slip, encoded.as_slice()) == Ok(true));
     Ok(())
 }

@@ -1,7 +1,6 @@
 //! What output processing posts: TABs as blanks, CR and NL under their flags, and the column of what was posted.
 
 use opost_out::{Out, column_of_more};
-use std::process::Abort;
 use tty_modes::places::{IUTF8, TAB3};
 use tty_modes::{Modes, Word, set_word};
 
@@ -17,53 +16,44 @@ fn modes_of(words: &[&str]) -> Modes {
 
 fn moves<T: Send + Drop>(_value: T) {}
 
-fn assert_posts(rt: &impl Abort, modes: &Modes, bytes: &[u8], posted: &[u8]) {
+/// Whether these bytes are posted so, each as it was told before.
+fn posts(modes: &Modes, bytes: &[u8], posted: &[u8]) -> bool {
     let mut out = Out::new();
-    let mut at = 0;
+    let mut left = posted;
     for byte in bytes {
-        if out.column() < 1000 {
-            let ahead = out.would(*byte, modes);
-            let piece = out.post(*byte, modes);
-            assert!(rt; ahead.as_slice() == piece.as_slice());
-            for sent in piece.as_slice() {
-                assert_eq!(rt; posted.get(at).copied(), Some(*sent));
-                at += 1;
-            }
+        if out.column() >= 1000 {
+            return false;
+        }
+        let ahead = out.would(*byte, modes);
+        let piece = out.post(*byte, modes);
+        match left.strip_prefix(piece.as_slice()) {
+            Some(rest) if ahead.as_slice() == piece.as_slice() => left = rest,
+            _ => return false,
         }
     }
-    assert_eq!(rt; at, posted.len());
+    left.is_empty()
 }
 
 #[test]
 fn tab_becomes_blanks(rt: HostRuntime) {
     let modes = modes_of(["raw", "opost", "onlcr", "tab3"].as_slice());
-    assert_posts(&rt, &modes, b"a\tb\n\r", b"a       b\r\n\r");
+    assert!(rt; posts(&modes, b"a\tb\n\r", b"a       b\r\n\r"));
 }
 
 #[test]
 fn return_at_the_start_is_dropped(rt: HostRuntime) {
     let modes = modes_of(["raw", "opost", "onocr", "ocrnl"].as_slice());
-    assert_posts(&rt, &modes, b"\ra\r", b"a\n");
+    assert!(rt; posts(&modes, b"\ra\r", b"a\n"));
 }
 
 #[test]
 fn continuation_bytes_have_no_width(rt: HostRuntime) {
     let mut modes = Modes::sane();
     modes.apply(Word::On(TAB3));
-    let text = [0xc3, 0xa9, 9, 0x62];
-    assert_posts(
-        &rt,
-        &modes,
-        text.as_slice(),
-        [0xc3, 0xa9, 32, 32, 32, 32, 32, 32, 0x62].as_slice(),
-    );
+    let text = b"\xc3\xa9\tb";
+    assert!(rt; posts(&modes, text, b"\xc3\xa9      b"));
     modes.apply(Word::On(IUTF8));
-    assert_posts(
-        &rt,
-        &modes,
-        text.as_slice(),
-        [0xc3, 0xa9, 32, 32, 32, 32, 32, 32, 32, 0x62].as_slice(),
-    );
+    assert!(rt; posts(&modes, text, b"\xc3\xa9       b"));
 }
 
 #[test]

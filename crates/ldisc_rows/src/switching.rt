@@ -64,10 +64,10 @@ fn hears_a_character(disc: &mut Disc, wire: &mut Wire, tally: &mut Tally) -> Res
 
 #[test]
 fn a_character_under_n_tty(rt: HostRuntime) -> Result<(), Fail> {
-    let mut disc = fresh(rt.alloc(), Kind::Tty)?;
-    let mut wire = Wire::new(rt.alloc())?;
     let mut tally = Tally::new(rt.alloc());
-    assert!(rt; hears_a_character(&mut disc, &mut wire, &mut tally)?);
+    let mut wire = Wire::new(rt.alloc())?;
+    let mut disc = fresh(rt.alloc(), Kind::Tty)?;
+    assert!(rt; hears_a_character(&mut disc, &mut wire, &mut tally) == Ok(true));
     Ok(())
 }
 
@@ -108,16 +108,20 @@ fn hear_all(
     Ok(())
 }
 
+/// Whether START goes out at the first character, and a packet with an escape is kept.
+fn hears_a_packet(alloc: Global, disc: &mut Disc) -> Result<bool, NoMemory> {
+    let mut wire = Wire::new(alloc)?;
+    let mut tally = Tally::new(alloc);
+    wire.set_noted(true);
+    hear_all(disc, b"\xc0A\xdb\xdc\xc0", &mut wire, &mut tally)?;
+    let starts = wire.wire() == b"\x11".as_slice() && tally.counts.pin == 1;
+    Ok(starts && take_packet(alloc, disc)?.as_slice() == [0x41, 0xc0].as_slice())
+}
+
 #[test]
 fn packets_under_n_slip(rt: HostRuntime) -> Result<(), Fail> {
     let mut disc = fresh(rt.alloc(), Kind::Slip)?;
-    let mut wire = Wire::new(rt.alloc())?;
-    let mut tally = Tally::new(rt.alloc());
-    wire.set_noted(true);
-    hear_all(&mut disc, b"\xc0A\xdb\xdc\xc0", &mut wire, &mut tally)?;
-    assert!(rt; wire.wire() == b"\x11".as_slice() && tally.counts.pin == 1);
-    let packet = take_packet(rt.alloc(), &mut disc)?;
-    assert!(rt; packet.as_slice() == [0x41, 0xc0].as_slice());
+    assert!(rt; hears_a_packet(rt.alloc(), &mut disc) == Ok(true));
     Ok(())
 }
 
@@ -135,8 +139,8 @@ fn is_empty(disc: &Disc, wire: &mut Wire) -> Result<bool, NoMemory>
 
 #[test]
 fn nothing_is_unread_under_n_slip(rt: HostRuntime) -> Result<(), Fail> {
-    let disc = fresh(rt.alloc(), Kind::Slip)?;
     let mut wire = Wire::new(rt.alloc())?;
-    assert!(rt; is_empty(&disc, &mut wire)?);
+    let disc = fresh(rt.alloc(), Kind::Slip)?;
+    assert!(rt; is_empty(&disc, &mut wire) == Ok(true));
     Ok(())
 }

@@ -2,9 +2,8 @@
 
 use line_store::Store;
 use std::alloc::{AllocError, Global};
-use std::process::Abort;
 use std::test::Fail;
-use tty_base::Bytes;
+use tty_base::{Bytes, NoMemory};
 
 /// A store in two lists: its bytes, and for each end how many bytes stand before it.
 #[derive(Drop)]
@@ -33,6 +32,17 @@ impl Plain {
             self.ends.remove(0);
         }
         Ok(())
+    }
+
+    /// Likewise, what a read takes.
+    fn taken(&mut self, alloc: Global, n: usize) -> Result<Vec<u8>, AllocError> {
+        let mut wanted = Vec::new(alloc);
+        if self.ends.is_empty() {
+            self.take(n, &mut wanted)?;
+        } else {
+            self.take_line(n, &mut wanted)?;
+        }
+        Ok(wanted)
     }
 
     fn take(&mut self, n: usize, out: &mut Vec<u8>) -> Result<(), AllocError> {
@@ -77,21 +87,25 @@ fn end(both: &mut Both) -> Result<(), AllocError> {
     Ok(())
 }
 
-fn read(rt: &(impl Abort + Alloc<A = Global>), both: &mut Both, n: u8) -> Result<(), Fail> {
-    assert!(rt; both.plain.bytes.starts_with(both.store.front()));
-    let mut read = Bytes::new(rt.alloc());
-    let mut wanted = Vec::new(rt.alloc());
-    if both.store.lines() == 0 {
-        read.reserve(both.store.raw_len(u32::from(n)) as usize)?;
-        both.store.take_raw(u32::from(n), &mut read);
-        both.plain.take(usize::from(n), &mut wanted)?;
+/// What a read of at most `n` bytes takes from a store.
+fn taken(alloc: Global, store: &mut Store, n: u32) -> Result<Bytes, NoMemory> {
+    let mut read = Bytes::new(alloc);
+    if store.lines() == 0 {
+        read.reserve(store.raw_len(n) as usize)?;
+        store.take_raw(n, &mut read);
     } else {
-        read.reserve(both.store.line_len(u32::from(n)) as usize)?;
-        both.store.take_line(u32::from(n), &mut read);
-        both.plain.take_line(usize::from(n), &mut wanted)?;
+        read.reserve(store.line_len(n) as usize)?;
+        store.take_line(n, &mut read);
     }
-    assert_eq!(rt; read.as_slice(), wanted.as_slice());
-    Ok(())
+    Ok(read)
+}
+
+/// Whether a read of at most `n` bytes takes the same from both.
+fn read(alloc: Global, both: &mut Both, n: u8) -> Result<bool, NoMemory> {
+    let begins = both.plain.bytes.starts_with(both.store.front());
+    let read = taken(alloc, &mut both.store, u32::from(n))?;
+    let wanted = both.plain.taken(alloc, usize::from(n))?;
+    Ok(begins && read.as_slice() == wanted.as_slice())
 }
 
 fn forget(both: &mut Both, all: bool) {
@@ -104,59 +118,89 @@ fn forget(both: &mut Both, all: bool) {
     both.plain.ends.clear();
 }
 
+/// Whether a call that a number chooses answers the same on both, and as much is left.
+fn agree(alloc: Global, both: &mut Both, x: u32) -> Result<bool, NoMemory> {
+    let [_, _, n, kind] = x.to_le_bytes();
+    let mut same = true;
+    match kind {
+        0 => forget(both, n < 16),
+        1..=9 => end(both)?,
+        10..=40 => same = read(alloc, both, n)?,
+        _ => push(both, n, kind % 8 == 0)?,
+    }
+    let bytes = both.store.len() == both.plain.bytes.len();
+    Ok(same && bytes && both.store.lines() == both.plain.ends.len())
+}
+
+/// Whether so many calls that are drawn agree.
+fn all_agree(alloc: Global, both: &mut Both, calls: u32) -> Result<bool, NoMemory> {
+    let mut x = 7u32;
+    for _ in 0..calls {
+        x = x.wrapping_mul(1664525).wrapping_add(1013904223);
+        if !agree(alloc, both, x)? {
+            return Ok(false);
+        }
+    }
+    Ok(true)
+}
+
 // Many calls on both, more than the circle has places.
 #[test]
 fn the_circle_is_two_lists(rt: HostRuntime) -> Result<(), Fail> {
     let mut both = Both {
-        store: Store::new(rt.alloc())?,
         plain: Plain::new(rt.alloc()),
+        store: Store::new(rt.alloc())?,
     };
-    let mut x = 7u32;
-    for _ in 0..30000 {
-        x = x.wrapping_mul(1664525).wrapping_add(1013904223);
-        let [_, _, n, kind] = x.to_le_bytes();
-        match kind {
-            0 => forget(&mut both, n < 16),
-            1..=9 => end(&mut both)?,
-            10..=40 => read(&rt, &mut both, n)?,
-            _ => push(&mut both, n, kind % 8 == 0)?,
-        }
-        assert_eq!(rt; both.store.len(), both.plain.bytes.len());
-        assert_eq!(rt; both.store.lines(), both.plain.ends.len());
-    }
+    assert!(rt; all_agree(rt.alloc(), &mut both, 30000) == Ok(true));
     Ok(())
 }
 
 fn is_movable<T: Send + Sync>(_: &T) {}
 
+/// Adds a byte, and then so many ends of lines, where there is room.
+fn add(store: &mut Store, byte: u8, ends: usize) -> bool {
+    if store.len() >= 4096 {
+        return false;
+    }
+    store.push(byte);
+    for _ in 0..ends {
+        if store.lines() >= 4096 {
+            return false;
+        }
+        store.end_line();
+    }
+    true
+}
+
+/// Whether the next line that is taken has so many bytes.
+fn gives_line(store: &mut Store, out: &mut Bytes, len: u32) -> Result<bool, NoMemory> {
+    out.reserve(store.line_len(8) as usize)?;
+    Ok(store.lines() > 0 && store.take_line(8, out) == len)
+}
+
+/// Whether three lines, of which the second has no bytes, come as they are added.
+fn come_round(store: &mut Store, out: &mut Bytes) -> Result<bool, NoMemory> {
+    if !add(store, 0x61, 2) || !add(store, 0x62, 1) {
+        return Ok(false);
+    }
+    for len in [1, 0, 1] {
+        if !gives_line(store, out, len)? {
+            return Ok(false);
+        }
+    }
+    Ok(store.len() == 0 && store.lines() == 0)
+}
+
 // Marks without bytes between them stand apart, wherever in the circle they are.
 #[test]
 fn several_eof_marks_come_round(rt: HostRuntime) -> Result<(), Fail> {
+    let mut out = Bytes::new(rt.alloc());
     let mut store = Store::new(rt.alloc())?;
     is_movable(&store);
-    let mut out = Bytes::new(rt.alloc());
     for _ in 0..5000 {
-        assert!(rt; store.len() < 4096);
-        store.push(0x61);
-        for _ in 0..2 {
-            assert!(rt; store.lines() < 4096);
-            store.end_line();
-        }
-        assert!(rt; store.len() < 4096);
-        store.push(0x62);
-        assert!(rt; store.lines() < 4096);
-        store.end_line();
-        for want in [1, 0, 1] {
-            out.reserve(store.line_len(8) as usize)?;
-            assert!(rt; store.lines() > 0);
-            assert_eq!(rt; store.take_line(8, &mut out), want);
-        }
-        assert_eq!(rt; (store.len(), store.lines()), (0, 0));
+        assert!(rt; come_round(&mut store, &mut out) == Ok(true));
     }
-    assert!(rt;
-        out.as_slice()
-            .chunks(2)
-            .all(|pair| pair == [0x61, 0x62].as_slice())
-    );
+    let mut pairs = out.as_slice().chunks(2);
+    assert!(rt; pairs.all(|pair| pair == [0x61, 0x62].as_slice()));
     Ok(())
 }
