@@ -75,13 +75,21 @@ fn has_the_flush(journal: &Journal, characters: &[Flagged]) -> bool {
     }
 }
 
+fn is_over(journal: &Journal) -> bool {
+    journal.len() == 2 && journal.get(2).is_none()
+}
+
+/// Whether both entries are there once they are added, and no other.
+fn keeps_two(journal: &mut Journal) -> Result<bool, NoMemory> {
+    let characters = [Flagged::good(65), Flagged::good(66)];
+    add_two(journal, &characters)?;
+    Ok(has_the_answer(journal) && has_the_flush(journal, &characters) && is_over(journal))
+}
+
 #[test]
 fn each_entry_has_its_own_bytes_and_characters(rt: HostRuntime) -> Result<(), Fail> {
-    let characters = [Flagged::good(65), Flagged::good(66)];
     let mut journal = Journal::new(rt.alloc());
-    add_two(&mut journal, &characters)?;
-    assert!(rt; journal.len() == 2 && has_the_answer(&journal));
-    assert!(rt; has_the_flush(&journal, &characters) && journal.get(2).is_none());
+    assert!(rt; keeps_two(&mut journal) == Ok(true));
     Ok(())
 }
 
@@ -107,13 +115,6 @@ fn is_same(call: &Call, given: &Call) -> bool {
     plain_parts(call) == plain_parts(given) && words_of(call) == words_of(given)
 }
 
-fn add_all(calls: &mut Calls, given: &[Call]) -> Result<(), NoMemory> {
-    for call in given {
-        calls.add(call)?;
-    }
-    Ok(())
-}
-
 /// Whether these calls are kept, in their order, and no others.
 fn are_kept(calls: &Calls, given: &[Call]) -> bool {
     for (place, call) in given.iter().enumerate() {
@@ -123,6 +124,15 @@ fn are_kept(calls: &Calls, given: &[Call]) -> bool {
         }
     }
     calls.len() == given.len() && calls.get(given.len()).is_none()
+}
+
+/// Whether calls that are added are kept, and there are none before.
+fn keeps_all(calls: &mut Calls, given: &[Call]) -> Result<bool, NoMemory> {
+    let is_empty = are_kept(calls, &[]);
+    for call in given {
+        calls.add(call)?;
+    }
+    Ok(is_empty && are_kept(calls, given))
 }
 
 #[test]
@@ -138,9 +148,7 @@ fn each_call_has_its_own_bytes_and_words(rt: HostRuntime) -> Result<(), Fail> {
         Call::SendPacket { h: 5, bytes: b"c" },
     ];
     let mut calls = Calls::new(rt.alloc());
-    assert!(rt; are_kept(&calls, &[]));
-    add_all(&mut calls, &given)?;
-    assert!(rt; are_kept(&calls, &given));
+    assert!(rt; keeps_all(&mut calls, &given) == Ok(true));
     Ok(())
 }
 
@@ -187,6 +195,11 @@ fn session_of(alloc: Global) -> Result<Session, AllocError> {
     })
 }
 
+fn names_of(alloc: Global) -> Result<Names, NoMemory> {
+    let session = session_of(alloc)?;
+    Names::on_port(alloc, &session, 1)
+}
+
 /// Whether these are the names, each with its place as its number.
 fn are_numbered(names: &Names, wanted: &[&str]) -> bool {
     for (number, name) in wanted.iter().enumerate() {
@@ -200,8 +213,7 @@ fn are_numbered(names: &Names, wanted: &[&str]) -> bool {
 
 #[test]
 fn a_name_keeps_the_number_of_its_first_script(rt: HostRuntime) -> Result<(), Fail> {
-    let session = session_of(rt.alloc())?;
-    let names = Names::on_port(rt.alloc(), &session, 1)?;
+    let names = names_of(rt.alloc())?;
     assert!(rt; are_numbered(&names, &["b", "a", "c"]));
     Ok(())
 }

@@ -32,21 +32,41 @@ fn between_with(alloc: Global, len: usize, place: usize, other: u8) -> Result<us
     Ok(bytes_between(&bytes, b' ', b'~'))
 }
 
+fn letter_with(flag: Flag) -> Flagged {
+    Flagged { byte: b'a', flag }
+}
+
+/// Characters that are in no run.
+fn others() -> [Flagged; 7] {
+    [
+        Flagged::good(0x1f),
+        Flagged::good(0x7f),
+        Flagged::good(b'b'),
+        letter_with(Flag::Break),
+        letter_with(Flag::Parity),
+        letter_with(Flag::Frame),
+        letter_with(Flag::Overrun),
+    ]
+}
+
+/// Whether a run of so many letters ends at each other character in this place.
+fn run_ends_at(alloc: Global, len: usize, place: usize) -> Result<bool, AllocError>
+    requires { place < len }
+{
+    for other in others() {
+        if run_with(alloc, len, place, other)?.len() != place {
+            return Ok(false);
+        }
+    }
+    Ok(true)
+}
+
 #[test]
 fn a_run_ends_at_the_first_other(rt: HostRuntime) -> Result<(), Fail> {
     for len in 1..40 {
         for place in 0..len {
-            for byte in [0x1f, 0x7f, b'b'] {
-                let other = Flagged {
-                    byte,
-                    flag: Flag::Normal,
-                };
-                assert_eq!(rt; run_with(rt.alloc(), len, place, other)?.len(), place);
-            }
-            for flag in [Flag::Break, Flag::Parity, Flag::Frame, Flag::Overrun] {
-                let other = Flagged { byte: b'a', flag };
-                assert_eq!(rt; run_with(rt.alloc(), len, place, other)?.len(), place);
-            }
+            let ends = run_ends_at(rt.alloc(), len, place);
+            assert!(rt; ends == Ok(true), "at {place} of {len}");
         }
     }
     Ok(())
@@ -62,14 +82,25 @@ fn a_whole_run_is_taken(rt: HostRuntime) -> Result<(), Fail> {
     Ok(())
 }
 
+/// Whether so many bytes end at each byte beyond the bounds in this place.
+fn bytes_end_at(alloc: Global, len: usize, place: usize) -> Result<bool, AllocError>
+    requires { place < len }
+{
+    for other in [0x1f, 0x7f, 0xff] {
+        if between_with(alloc, len, place, other)? != place {
+            return Ok(false);
+        }
+    }
+    Ok(true)
+}
+
 #[test]
 fn bytes_end_at_the_first_other(rt: HostRuntime) -> Result<(), Fail> {
     for len in 1..70 {
-        assert_eq!(rt; between_with(rt.alloc(), len, 0, b'~')?, len);
+        assert!(rt; between_with(rt.alloc(), len, 0, b'~') == Ok(len));
         for place in 0..len {
-            for other in [0x1f, 0x7f, 0xff] {
-                assert_eq!(rt; between_with(rt.alloc(), len, place, other)?, place);
-            }
+            let end = bytes_end_at(rt.alloc(), len, place);
+            assert!(rt; end == Ok(true), "at {place} of {len}");
         }
     }
     Ok(())

@@ -23,13 +23,20 @@ fn add_seven(steps: &mut LineSteps, alloc: Global) -> Result<(), NoMemory> {
     add_run(steps, alloc, Flag::Parity, b"e")
 }
 
-#[test]
-fn steps_are_written_out_in_their_order(rt: HostRuntime) -> Result<(), Fail> {
-    let alloc = rt.alloc();
-    let mut steps = LineSteps::new(alloc);
-    assert_eq!(rt; steps.len(), 0);
-    add_seven(&mut steps, alloc)?;
-    assert_eq!(rt; steps.len(), 7);
+/// Whether these are all steps.
+fn are_written_out(
+    alloc: Global,
+    steps: &LineSteps,
+    wanted: &[LineStep],
+) -> Result<bool, NoMemory> {
+    let all = steps.written_out(alloc)?;
+    Ok(all.as_slice() == wanted)
+}
+
+/// Whether seven steps stand in their order once they are added.
+fn keeps_seven(alloc: Global, steps: &mut LineSteps) -> Result<bool, NoMemory> {
+    let is_empty = steps.len() == 0;
+    add_seven(steps, alloc)?;
     let wanted = [
         LineStep::Trigger(4),
         rx(Flag::Normal, b'a'),
@@ -39,18 +46,25 @@ fn steps_are_written_out_in_their_order(rt: HostRuntime) -> Result<(), Fail> {
         LineStep::Break,
         rx(Flag::Parity, b'e'),
     ];
-    let all = steps.written_out(alloc)?;
-    assert!(rt; all.as_slice() == wanted.as_slice());
+    Ok(is_empty && steps.len() == 7 && are_written_out(alloc, steps, &wanted)?)
+}
+
+#[test]
+fn steps_are_written_out_in_their_order(rt: HostRuntime) -> Result<(), Fail> {
+    let mut steps = LineSteps::new(rt.alloc());
+    assert!(rt; keeps_seven(rt.alloc(), &mut steps) == Ok(true));
     Ok(())
+}
+
+/// Whether a run of 200 is 200 steps once it is added.
+fn keeps_a_long_run(alloc: Global, steps: &mut LineSteps) -> Result<bool, NoMemory> {
+    add_run(steps, alloc, Flag::Normal, &[b'x'; 200])?;
+    are_written_out(alloc, steps, &[rx(Flag::Normal, b'x'); 200])
 }
 
 #[test]
 fn long_runs_are_written_out(rt: HostRuntime) -> Result<(), Fail> {
-    let alloc = rt.alloc();
-    let mut steps = LineSteps::new(alloc);
-    steps.add_run(Flag::Normal, vec![in alloc; b'x'; 200]?)?;
-    let all = steps.written_out(alloc)?;
-    assert_eq!(rt; all.len(), 200);
-    assert!(rt; all.iter().all(|step| *step == rx(Flag::Normal, b'x')));
+    let mut steps = LineSteps::new(rt.alloc());
+    assert!(rt; keeps_a_long_run(rt.alloc(), &mut steps) == Ok(true));
     Ok(())
 }

@@ -61,15 +61,20 @@ fn bytes_of(alloc: Global, text: &[u8]) -> Result<Bytes, NoMemory> {
     Bytes::from_vec(text.to_vec(alloc)?).copy(alloc)
 }
 
-#[test]
-fn a_list_keeps_what_was_added_in_reserved_room(rt: HostRuntime) -> Result<(), Fail> {
-    let mut bytes = Bytes::new(rt.alloc());
+/// Whether what is added to an empty list is kept, also in its copy.
+fn keeps(alloc: Global, bytes: &mut Bytes) -> Result<bool, NoMemory> {
     bytes.reserve(3)?;
     bytes.add(97);
     bytes.append(&[98]);
-    assert!(rt; bytes.as_slice() == b"ab".as_slice());
-    let copied = bytes.copy(rt.alloc())?.into_vec();
-    assert!(rt; copied.as_slice() == b"ab".as_slice());
+    let is_kept = bytes.as_slice() == b"ab".as_slice();
+    let copied = bytes.copy(alloc)?.into_vec();
+    Ok(is_kept && copied.as_slice() == b"ab".as_slice())
+}
+
+#[test]
+fn a_list_keeps_what_was_added_in_reserved_room(rt: HostRuntime) -> Result<(), Fail> {
+    let mut bytes = Bytes::new(rt.alloc());
+    assert!(rt; keeps(rt.alloc(), &mut bytes) == Ok(true));
     Ok(())
 }
 
@@ -177,31 +182,43 @@ fn standard_output_adds_to_what_its_writer_holds(rt: HostRuntime) -> Result<(), 
     Ok(())
 }
 
-#[test]
-fn a_list_takes_characters_in_its_reserved_room(rt: HostRuntime) -> Result<(), Fail> {
-    let mut list = Chars::new(rt.alloc());
+/// Whether a character is put into an empty list.
+fn puts(list: &mut Chars) -> Result<bool, NoMemory> {
     list.reserve(1)?;
     let c = Flagged {
         byte: 97,
         flag: Flag::Parity,
     };
-    assert!(rt; list.put(c) == Ok(()));
+    let is_put = list.put(c) == Ok(());
     list.push();
-    assert!(rt; list.as_slice() == [c].as_slice());
+    Ok(is_put && list.as_slice() == [c].as_slice())
+}
+
+#[test]
+fn a_list_takes_characters_in_its_reserved_room(rt: HostRuntime) -> Result<(), Fail> {
+    let mut list = Chars::new(rt.alloc());
+    assert!(rt; puts(&mut list) == Ok(true));
     Ok(())
+}
+
+/// Whether eight characters fill an empty list, and a ninth has room once it is reserved.
+fn keeps_nine(alloc: Global, list: &mut Chars) -> Result<bool, NoMemory>
+    requires { 8 ≤ list.old.spare }
+{
+    let c = Flagged::default();
+    list.append(&[c; 4]);
+    list.add_four([c; 4]);
+    let is_full = list.len() == 8 && list.spare() == 0;
+    list.reserve(1)?;
+    list.add(c);
+    let copied = list.copy(alloc)?;
+    Ok(is_full && copied.as_slice() == [c; 9].as_slice())
 }
 
 #[test]
 fn a_ninth_character_takes_memory(rt: HostRuntime) -> Result<(), Fail> {
-    let c = Flagged::default();
     let mut list = Chars::new(rt.alloc());
-    list.append(&[c; 4]);
-    list.add_four([c; 4]);
-    assert!(rt; list.len() == 8 && list.spare() == 0);
-    list.reserve(1)?;
-    list.add(c);
-    let copied = list.copy(rt.alloc())?;
-    assert!(rt; copied.as_slice() == [c; 9].as_slice());
+    assert!(rt; keeps_nine(rt.alloc(), &mut list) == Ok(true));
     Ok(())
 }
 
