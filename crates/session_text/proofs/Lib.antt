@@ -7,6 +7,7 @@ mod Heads
 mod Judged
 mod Lists
 mod ModeWords
+pub mod PhaseCounts
 mod Rests
 mod Runs
 pub mod Spelled

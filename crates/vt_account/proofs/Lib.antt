@@ -3,3 +3,4 @@ pub mod Accounting
 pub mod Playing
 pub mod KeyLines
 pub mod Limits
+pub mod ReadSessions

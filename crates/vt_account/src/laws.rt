@@ -1,6 +1,6 @@
 //! What follows from the definitions alone.
 
-ghost use Rattle.std.specs.Prelude.{◌≡◌, ◌<◌, ◌≤◌, ℕ, List, length, map, take};
+ghost use Rattle.std.specs.Prelude.{◌≡◌, ◌<◌, ◌≤◌, ℕ, List, Ok, length, map, take};
 ghost use Rattle.tty_base.specs.Characters.{good_characters};
 ghost use Rattle.tty_base.specs.Lines.{arrival_count};
 ghost use Rattle.uart_line.specs.Received.{received_list, lost_count, script};
@@ -8,6 +8,7 @@ ghost use Rattle.tty_calls.specs.Limits.{IsWithinLimits};
 ghost use Rattle.tty_calls.specs.Sessions.{line_on};
 ghost use Rattle.vt_consoles.specs.declared.entries.VtEntry.{VtEntry};
 ghost use Rattle.vt_text.specs.Sessions.{PlainVtSession};
+ghost use Rattle.vt_text.specs.Reading.{vt_in};
 ghost use Rattle.vt_text.specs.Rows.{two_consoles};
 ghost use Rattle.vt_account.specs.Account.{IsAccount};
 ghost use Rattle.vt_account.specs.Keyed.{IsWhole, IsWithinKeys, all_keys, consoles_in, keys_to, keyed, line_script};
@@ -46,4 +47,11 @@ pub fn wrong_entries_are_no_account()
 /// A law: the session that the consoles play keeps the limits of every session.
 pub fn keyed_sessions_are_within_limits()
     ensures { (session : PlainVtSession) (entries : List VtEntry) → IsWithinKeys session → IsWithinLimits (keyed session entries) }
+{}
+
+/// A law: the session of a text keeps the limits of sessions of consoles, and has far fewer entries than a board may
+/// have, so that its board is never full.
+pub fn sessions_that_are_read_are_within_keys()
+    ensures keys { (text : List ℕ) (session : PlainVtSession) → vt_in text ≡ Ok session → IsWithinKeys session }
+    ensures entries { (text : List ℕ) (session : PlainVtSession) → vt_in text ≡ Ok session → length (entries_in_order session) ≤ 327680 }
 {}

@@ -10,7 +10,7 @@ mod seats;
 pub use keying::play_board;
 pub use laws::{
     entries_in_order_are_an_account, keyed_sessions_are_within_limits,
-    keys_are_received_as_they_come, worked_sessions_have_their_entries,
-    wrong_entries_are_no_account,
+    keys_are_received_as_they_come, sessions_that_are_read_are_within_keys,
+    worked_sessions_have_their_entries, wrong_entries_are_no_account,
 };
 pub use seats::seats_of;

@@ -4,3 +4,4 @@ pub mod Items
 pub mod Reading
 pub mod Views
 pub mod Rows
+pub mod Limits
