@@ -3,50 +3,50 @@
 use session_gen::make;
 use std::alloc::Global;
 use std::test::Fail;
-use tty_base::{Flag, Flagged, LineStep};
-use tty_calls::Phase;
+use tty_base::{Flagged, LineStep, NoMemory};
+use tty_calls::{Phase, Session};
 
-/// The first byte of a port's line.
-fn first_byte(alloc: Global, phase: &Phase, port: usize) -> Option<u8> {
-    let line = phase.lines.as_slice().get(port)?;
-    match line.written_out(alloc).ok()?.first() {
-        Some(
-            LineStep::Rx(
-                Flagged {
-                    byte,
-                    flag: Flag::Normal,
-                },
-            ),
-        ) => Some(*byte),
-        _ => None,
-    }
+/// Whether the first step of a port's line is this good byte.
+fn begins(alloc: Global, phase: &Phase, port: usize, byte: u8) -> Result<bool, NoMemory> {
+    let Some(line) = phase.lines.as_slice().get(port) else {
+        return Ok(false);
+    };
+    let steps = line.written_out(alloc)?;
+    Ok(steps.as_slice().first().copied() == Some(LineStep::Rx(Flagged::good(byte))))
+}
+
+/// Whether the lines of both ports in the second phase begin so, and that of the first port in the third.
+fn begin(alloc: Global, session: &Session, bytes: [u8; 3]) -> Result<bool, NoMemory> {
+    let [_, second, third, ..] = session.phases.as_slice() else {
+        return Ok(false);
+    };
+    let [first, next_port, next_phase] = bytes;
+    Ok(
+        begins(alloc, second, 0, first)?
+            && begins(alloc, second, 1, next_port)?
+            && begins(alloc, third, 0, next_phase)?,
+    )
 }
 
 #[test]
 fn the_first_bytes_of_some_numbers(rt: HostRuntime) -> Result<(), Fail> {
     let rows = [
-        (0, 0x3c, 0x5e, 0xe3),
-        (7, 0x3d, 0x16, 0x5d),
-        (4_294_967_295, 0x3c, 0x69, 0x1b),
+        (0, [0x3c, 0x5e, 0xe3]),
+        (7, [0x3d, 0x16, 0x5d]),
+        (4_294_967_295, [0x3c, 0x69, 0x1b]),
     ];
-    let alloc = rt.alloc();
-    for (number, first, next_port, next_phase) in rows {
-        let session = make(alloc, number)?;
-        match session.phases.as_slice() {
-            [_, a, b, ..] => {
-                assert_eq!(rt; first_byte(alloc, a, 0), Some(first));
-                assert_eq!(rt; first_byte(alloc, a, 1), Some(next_port));
-                assert_eq!(rt; first_byte(alloc, b, 0), Some(next_phase));
-            }
-            _ => assert!(rt; false),
-        }
+    for (number, bytes) in rows {
+        let session = make(rt.alloc(), number)?;
+        assert!(rt;
+            begin(rt.alloc(), &session, bytes) == Ok(true),
+            "of {number}"
+        );
     }
     Ok(())
 }
 
-#[test]
-fn seven_has_98_calls_and_240_000_characters(rt: HostRuntime) -> Result<(), Fail> {
-    let session = make(rt.alloc(), 7)?;
+/// How many calls and characters a session has.
+fn sums(session: &Session) -> (usize, usize) {
     let mut calls = 0usize;
     let mut characters = 0usize;
     for phase in session.phases.as_slice() {
@@ -57,7 +57,13 @@ fn seven_has_98_calls_and_240_000_characters(rt: HostRuntime) -> Result<(), Fail
             characters = characters.saturating_add(line.len());
         }
     }
-    assert_eq!(rt; (calls, characters), (98, 240_000));
+    (calls, characters)
+}
+
+#[test]
+fn seven_has_98_calls_and_240_000_characters(rt: HostRuntime) -> Result<(), Fail> {
+    let session = make(rt.alloc(), 7)?;
+    assert_eq!(rt; sums(&session), (98, 240_000));
     moves(session);
     Ok(())
 }

@@ -40,12 +40,24 @@ fn script_of(alloc: Global, port: u8, name: &str, calls: &[Call]) -> Result<Scri
     Ok(Script { port, name, calls })
 }
 
-fn phase_of(alloc: Global, callers: Vec<Script>) -> Phase {
-    Phase {
+/// A caller, and what it calls in a phase.
+#[derive(Clone, Copy)]
+struct Caller<'a> {
+    name: &'a str,
+    calls: &'a [Call<'a>],
+}
+
+/// A phase with these callers on a port.
+fn phase_of(alloc: Global, port: u8, given: &[Caller]) -> Result<Phase, NoMemory> {
+    let mut callers = Vec::new(alloc);
+    for caller in given {
+        callers.push(script_of(alloc, port, caller.name, caller.calls)?)?;
+    }
+    Ok(Phase {
         lines: Buffer::new(alloc),
         ticks: Buffer::new(alloc),
         callers: Buffer::from_vec(callers),
-    }
+    })
 }
 
 fn entry_of<'a>(who: Who, step: u32, generation: u32, event: Event<'a>) -> Entry<'a> {
@@ -135,21 +147,57 @@ fn open<'a>() -> Call<'a> {
     }
 }
 
-/// Two callers, whose answers do not stand in the order of the text.
-fn two_callers(alloc: Global) -> Result<Session, NoMemory> {
-    let read = Call::Read { h: 0, n: 8 };
-    let first = script_of(alloc, 0, "a", &[open(), read])?;
-    let second = script_of(alloc, 0, "b", &[Call::Read { h: 1, n: 8 }])?;
-    let third = script_of(alloc, 0, "b", &[Call::Close { h: 0 }])?;
-    let fourth = script_of(alloc, 0, "a", &[Call::Read { h: 0, n: 4 }])?;
-    let early = phase_of(alloc, vec![in alloc; first, second]?);
-    let late = phase_of(alloc, vec![in alloc; third, fourth]?);
-    Ok(Session {
+/// A session of one port.
+fn on_one_port(alloc: Global, phases: Vec<Phase>) -> Session {
+    Session {
         version: 1,
         ports: 1,
         flips: Buffer::new(alloc),
-        phases: Buffer::from_vec(vec![in alloc; early, late]?),
-    })
+        phases: Buffer::from_vec(phases),
+    }
+}
+
+/// Two phases on the first port.
+fn two_phases(alloc: Global, early: &[Caller], late: &[Caller]) -> Result<Session, NoMemory> {
+    let early = phase_of(alloc, 0, early)?;
+    let late = phase_of(alloc, 0, late)?;
+    Ok(on_one_port(alloc, vec![in alloc; early, late]?))
+}
+
+/// The callers of the first phase.
+const EARLY: [Caller; 2] = [
+    Caller {
+        name: "a",
+        calls: &[
+            Call::Open {
+                h: 0,
+                access: Access::Rw,
+                nonblock: true,
+            },
+            Call::Read { h: 0, n: 8 },
+        ],
+    },
+    Caller {
+        name: "b",
+        calls: &[Call::Read { h: 1, n: 8 }],
+    },
+];
+
+/// Those of the second.
+const LATE: [Caller; 2] = [
+    Caller {
+        name: "b",
+        calls: &[Call::Close { h: 0 }],
+    },
+    Caller {
+        name: "a",
+        calls: &[Call::Read { h: 0, n: 4 }],
+    },
+];
+
+/// Two callers, whose answers do not stand in the order of the text.
+fn two_callers(alloc: Global) -> Result<Session, NoMemory> {
+    two_phases(alloc, &EARLY, &LATE)
 }
 
 fn run_of_two(alloc: Global) -> Result<PortRun, NoMemory> {
@@ -166,21 +214,43 @@ fn run_of_two(alloc: Global) -> Result<PortRun, NoMemory> {
     run_of(alloc, &entries)
 }
 
-#[test]
-fn each_call_is_told_with_the_answer_of_its_caller_and_step(rt: HostRuntime) -> Result<(), Fail> {
-    let alloc = rt.alloc();
-    each_call_has_its_line();
-    let end = PortEnd {
+fn end_of_two(alloc: Global) -> Result<PortEnd, NoMemory> {
+    let wire = Bytes::from_vec(b"ok".to_vec(alloc)?);
+    Ok(PortEnd {
         counts: Counts::default(),
         signals: Buffer::from_vec(vec![in alloc; Signal::Int, Signal::Susp]?),
         generation: 1,
-        wire: Bytes::from_vec(b"ok".to_vec(alloc)?),
-    };
-    let text = report(alloc, &two_callers(alloc)?, &[run_of_two(alloc)?], &[end])?;
-    assert_eq!(rt;
-        text.as_slice(),
-        b"0.a.0 open ok\n0.a.1 read 2 6869\n0.b.0 read EBADF\n0.b.1 close ok\n0.a.2 read idle\nport 0 line arrived=0 lost=0 sent=0 overrun=0\nport 0 input taken=2 dropped=0\nport 0 counts mark=0 parity=0 frame=0 break=0 cut=0 echo=0 pin=0 pout=0 pbad=0 pfull=0\nport 0 signals INT SUSP\nport 0 generation 1\nport 0 wire 6f6b\ndone\n".as_slice()
+        wire,
+    })
+}
+
+/// Whether this is the report of a play.
+fn report_is(
+    alloc: Global,
+    session: &Session,
+    runs: &[PortRun],
+    ends: &[PortEnd],
+    wanted: &[u8],
+) -> Result<bool, NoMemory> {
+    let text = report(alloc, session, runs, ends)?;
+    Ok(text.as_slice() == wanted)
+}
+
+#[test]
+fn each_call_is_told_with_the_answer_of_its_caller_and_step(rt: HostRuntime) -> Result<(), Fail> {
+    each_call_has_its_line();
+    let alloc = rt.alloc();
+    let ends = [end_of_two(alloc)?];
+    let runs = [run_of_two(alloc)?];
+    let session = two_callers(alloc)?;
+    let told = report_is(
+        alloc,
+        &session,
+        &runs,
+        &ends,
+        b"0.a.0 open ok\n0.a.1 read 2 6869\n0.b.0 read EBADF\n0.b.1 close ok\n0.a.2 read idle\nport 0 line arrived=0 lost=0 sent=0 overrun=0\nport 0 input taken=2 dropped=0\nport 0 counts mark=0 parity=0 frame=0 break=0 cut=0 echo=0 pin=0 pout=0 pbad=0 pfull=0\nport 0 signals INT SUSP\nport 0 generation 1\nport 0 wire 6f6b\ndone\n",
     );
+    assert!(rt; told == Ok(true));
     Ok(())
 }
 
@@ -208,12 +278,17 @@ fn every_answer(alloc: Global) -> Result<Session, NoMemory> {
         },
         Call::GetDisc { h: 0 },
     ];
-    let scripts = vec![in alloc; script_of(alloc, 1, "all_1", &calls)?]?;
+    let caller = Caller {
+        name: "all_1",
+        calls: &calls,
+    };
+    let flips = Buffer::from_vec(vec![in alloc; 4096, 64]?);
+    let phase = phase_of(alloc, 1, &[caller])?;
     Ok(Session {
         version: 2,
         ports: 2,
-        flips: Buffer::from_vec(vec![in alloc; 4096, 64]?),
-        phases: Buffer::from_vec(vec![in alloc; phase_of(alloc, scripts)]?),
+        flips,
+        phases: Buffer::from_vec(vec![in alloc; phase]?),
     })
 }
 
@@ -255,9 +330,12 @@ fn every_answer_and_every_port_is_told(rt: HostRuntime) -> Result<(), Fail> {
     let alloc = rt.alloc();
     let runs = [run_of(alloc, &[])?, answers(alloc)?];
     let ends = [end_of(alloc), end_of(alloc)];
-    let text = report(alloc, &every_answer(alloc)?, &runs, &ends)?;
-    assert_eq!(rt;
-        text.as_slice(),
+    let session = every_answer(alloc)?;
+    let told = report_is(
+        alloc,
+        &session,
+        &runs,
+        &ends,
         b"1.all_1.0 getm icrnl ixon opost onlcr isig icanon echo echoe echok echoke echoctl iexten intr=3 quit=28 erase=127 kill=21 eof=4 time=0 min=1 start=17 stop=19 susp=26 eol=0 reprint=18 werase=23 lnext=22 eol2=0
 1.all_1.1 counts mark=1 parity=2 frame=3 break=4 cut=5 echo=6 pin=7 pout=8 pbad=9 pfull=10
 1.all_1.2 inq 4294967295
@@ -280,9 +358,9 @@ port 1 signals -
 port 1 generation 0
 port 1 wire -
 done
-"
-            .as_slice()
+",
     );
+    assert!(rt; told == Ok(true));
     Ok(())
 }
 
@@ -293,17 +371,15 @@ fn three_bytes(alloc: Global) -> Result<Session, NoMemory> {
         when: When::Now,
         words: &[],
     };
-    let read = Call::Read { h: 0, n: 64 };
-    let first = script_of(alloc, 0, "a", &[open(), modes])?;
-    let second = script_of(alloc, 0, "a", &[read, Call::Close { h: 0 }])?;
-    let early = phase_of(alloc, vec![in alloc; first]?);
-    let late = phase_of(alloc, vec![in alloc; second]?);
-    Ok(Session {
-        version: 1,
-        ports: 1,
-        flips: Buffer::new(alloc),
-        phases: Buffer::from_vec(vec![in alloc; early, late]?),
-    })
+    let early = Caller {
+        name: "a",
+        calls: &[open(), modes],
+    };
+    let late = Caller {
+        name: "a",
+        calls: &[Call::Read { h: 0, n: 64 }, Call::Close { h: 0 }],
+    };
+    two_phases(alloc, &[early], &[late])
 }
 
 fn good(byte: u8) -> Flagged {
@@ -343,21 +419,28 @@ fn run_of_three_bytes(alloc: Global) -> Result<PortRun, NoMemory> {
     })
 }
 
+/// Whether this is told of a play with its journals.
+fn play_is(
+    alloc: Global,
+    session: &Session,
+    runs: &[PortRun],
+    ends: &[PortEnd],
+    wanted: &[u8],
+) -> Result<bool, NoMemory> {
+    let text = play_text(alloc, Bytes::new(alloc), session, runs, ends, true)?;
+    Ok(text.as_slice() == wanted)
+}
+
 #[test]
 fn the_journal_of_three_bytes_stands_before_done(rt: HostRuntime) -> Result<(), Fail> {
     let alloc = rt.alloc();
-    let session = three_bytes(alloc)?;
     let runs = [run_of_three_bytes(alloc)?];
-    let text = play_text(
+    let session = three_bytes(alloc)?;
+    let told = play_is(
         alloc,
-        Bytes::new(alloc),
         &session,
         &runs,
         &[end_of(alloc)],
-        true,
-    )?;
-    assert_eq!(rt;
-        text.as_slice(),
         b"0.a.0 open ok
 0.a.1 modes ok
 0.a.2 read 3 68690a
@@ -387,9 +470,9 @@ a 4 0 1 caller_end
 overruns 0 0
 line 0 3 0 3
 done
-"
-            .as_slice()
+",
     );
+    assert!(rt; told == Ok(true));
     Ok(())
 }
 
@@ -442,13 +525,26 @@ fn run_with_an_overrun(alloc: Global) -> Result<PortRun, NoMemory> {
     })
 }
 
+/// Whether these are the journals of a play.
+fn journals_are(
+    alloc: Global,
+    session: &Session,
+    runs: &[PortRun],
+    wanted: &[u8],
+) -> Result<bool, NoMemory> {
+    let text = journal_text(alloc, session, runs)?;
+    Ok(text.as_slice() == wanted)
+}
+
 #[test]
 fn further_entries_and_overruns_are_told(rt: HostRuntime) -> Result<(), Fail> {
     let alloc = rt.alloc();
-    let run = run_with_an_overrun(alloc)?;
-    let text = journal_text(alloc, &three_bytes(alloc)?, &[run])?;
-    assert_eq!(rt;
-        text.as_slice(),
+    let runs = [run_with_an_overrun(alloc)?];
+    let session = three_bytes(alloc)?;
+    let told = journals_are(
+        alloc,
+        &session,
+        &runs,
         b"journals
 journal 0 5
 a 0 0 0 wait
@@ -459,8 +555,8 @@ a 0 0 0 answer ok drop n78
 overruns 0 1
 64 64 0
 line 0 70 5 64
-"
-            .as_slice()
+",
     );
+    assert!(rt; told == Ok(true));
     Ok(())
 }

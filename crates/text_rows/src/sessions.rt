@@ -4,7 +4,7 @@ use session_text::{BadLine, Reason, TextFault, parse};
 use std::alloc::{AllocError, Global};
 use std::test::Fail;
 use tty_base::{Flag, Flagged, LineStep, NoMemory};
-use tty_calls::{Access, Call, Phase, When};
+use tty_calls::{Access, Call, Phase, Session, When};
 use tty_modes::Word;
 
 #[test]
@@ -14,16 +14,22 @@ fn three_bytes_are_two_phases(rt: HostRuntime) -> Result<(), Fail> {
     let session = parse(rt.alloc(), text)
         .ok()
         .ok_or("the text spells a session")?;
-    assert_eq!(rt; (session.version, session.ports), (1, 1));
-    assert_eq!(rt; session.flips.as_slice(), [4_096].as_slice());
-    match session.phases.as_slice() {
-        [first, second] => {
-            assert!(rt; opens_and_is_raw(first));
-            assert!(rt; types_three(rt.alloc(), second)? && reads_and_closes(second));
-        }
-        _ => assert!(rt; false),
-    }
+    assert!(rt; is_of_one_port(&session));
+    assert!(rt; are_two_phases(rt.alloc(), &session) == Ok(true));
     Ok(())
+}
+
+fn is_of_one_port(session: &Session) -> bool {
+    let flips = session.flips.as_slice() == [4_096].as_slice();
+    flips && session.version == 1 && session.ports == 1
+}
+
+fn are_two_phases(alloc: Global, session: &Session) -> Result<bool, NoMemory> {
+    let [first, second] = session.phases.as_slice() else {
+        return Ok(false);
+    };
+    let types = types_three(alloc, second)?;
+    Ok(types && opens_and_is_raw(first) && reads_and_closes(second))
 }
 
 fn is_open(call: &Call) -> bool {
@@ -121,6 +127,15 @@ fn repeated(
     Ok(text)
 }
 
+/// What is told of a text, where it spells no session.
+fn fault_of(alloc: Global, text: &[u8]) -> Option<TextFault> {
+    parse(alloc, text).err()
+}
+
+fn bad(line: u32, reason: Reason) -> Option<TextFault> {
+    Some(TextFault::Bad(BadLine { line, reason }))
+}
+
 /// A limit: what is repeated, how often it may be, and the first wrong line where it is repeated once
 /// more, with its reason.
 #[derive(Clone, Copy)]
@@ -133,185 +148,154 @@ struct Row<'a> {
     reason: Reason,
 }
 
+const LIMITS: [Row<'static>; 8] = [
+    Row {
+        begin: b"tty-session 1\nports 1\n",
+        piece: b"phase\n",
+        end: b"end\n",
+        most: 64,
+        line: 67,
+        reason: Reason::Limit,
+    },
+    Row {
+        begin: b"tty-session 1\nports 1\nphase\ncaller a_34567890123456 0\n",
+        piece: b"close 0\n",
+        end: b"end\n",
+        most: 65_536,
+        line: 65_541,
+        reason: Reason::Limit,
+    },
+    Row {
+        begin: b"tty-session 1\nports 1\nphase\nline 0\n",
+        piece: b"rx 4142434445464748\n",
+        end: b"end\n",
+        most: 32_768,
+        line: 32_773,
+        reason: Reason::Limit,
+    },
+    Row {
+        begin: b"tty-session 1\nports 1\nphase\nline 0\nrx ",
+        piece: b"41",
+        end: b"\nend\n",
+        most: 262_144,
+        line: 5,
+        reason: Reason::Limit,
+    },
+    Row {
+        begin: b"tty-session 1\nports 1\nphase\nclock 0\n",
+        piece: b"tick 4096\n",
+        end: b"end\n",
+        most: 16,
+        line: 21,
+        reason: Reason::Limit,
+    },
+    Row {
+        begin: b"tty-session 1\nports 1\nphase\ncaller a 0\nwrite 0 ",
+        piece: b"61",
+        end: b"\nend\n",
+        most: 65_536,
+        line: 5,
+        reason: Reason::Limit,
+    },
+    Row {
+        begin: b"tty-session 1\nports 1\nphase\ncaller a 0\nmodes 0 now",
+        piece: b" echo",
+        end: b"\nend\n",
+        most: 64,
+        line: 5,
+        reason: Reason::Limit,
+    },
+    Row {
+        begin: b"tty-session 1\nports 1\nphase\ncaller ",
+        piece: b"a",
+        end: b" 0\nend\n",
+        most: 16,
+        line: 4,
+        reason: Reason::Word,
+    },
+];
+
+/// What is told of a text in which a piece stands so many times.
+fn repeated_fault(alloc: Global, row: &Row, times: usize) -> Result<Option<TextFault>, AllocError> {
+    let text = repeated(alloc, row.begin, row.piece, times, row.end)?;
+    Ok(fault_of(alloc, text.as_slice()))
+}
+
 #[test]
 fn each_limit_is_reached_and_not_passed(rt: HostRuntime) -> Result<(), Fail> {
-    let rows = [
-        Row {
-            begin: b"tty-session 1\nports 1\n",
-            piece: b"phase\n",
-            end: b"end\n",
-            most: 64,
-            line: 67,
-            reason: Reason::Limit,
-        },
-        Row {
-            begin: b"tty-session 1\nports 1\nphase\ncaller a_34567890123456 0\n",
-            piece: b"close 0\n",
-            end: b"end\n",
-            most: 65_536,
-            line: 65_541,
-            reason: Reason::Limit,
-        },
-        Row {
-            begin: b"tty-session 1\nports 1\nphase\nline 0\n",
-            piece: b"rx 4142434445464748\n",
-            end: b"end\n",
-            most: 32_768,
-            line: 32_773,
-            reason: Reason::Limit,
-        },
-        Row {
-            begin: b"tty-session 1\nports 1\nphase\nline 0\nrx ",
-            piece: b"41",
-            end: b"\nend\n",
-            most: 262_144,
-            line: 5,
-            reason: Reason::Limit,
-        },
-        Row {
-            begin: b"tty-session 1\nports 1\nphase\nclock 0\n",
-            piece: b"tick 4096\n",
-            end: b"end\n",
-            most: 16,
-            line: 21,
-            reason: Reason::Limit,
-        },
-        Row {
-            begin: b"tty-session 1\nports 1\nphase\ncaller a 0\nwrite 0 ",
-            piece: b"61",
-            end: b"\nend\n",
-            most: 65_536,
-            line: 5,
-            reason: Reason::Limit,
-        },
-        Row {
-            begin: b"tty-session 1\nports 1\nphase\ncaller a 0\nmodes 0 now",
-            piece: b" echo",
-            end: b"\nend\n",
-            most: 64,
-            line: 5,
-            reason: Reason::Limit,
-        },
-        Row {
-            begin: b"tty-session 1\nports 1\nphase\ncaller ",
-            piece: b"a",
-            end: b" 0\nend\n",
-            most: 16,
-            line: 4,
-            reason: Reason::Word,
-        },
-    ];
-    for row in rows {
-        let fits = repeated(rt.alloc(), row.begin, row.piece, row.most, row.end)?;
-        assert!(rt;
-            parse(rt.alloc(), fits.as_slice()).is_ok(),
-            "at {:?}",
-            row.piece
-        );
-        let passes = repeated(rt.alloc(), row.begin, row.piece, row.most + 1, row.end)?;
-        assert_eq!(rt;
-            parse(rt.alloc(), passes.as_slice()).err(),
-            Some(TextFault::Bad(BadLine {
-                line: row.line,
-                reason: row.reason
-            })),
-            "at {:?}",
-            row.piece
-        );
+    for row in LIMITS {
+        let reaches = repeated_fault(rt.alloc(), &row, row.most)?;
+        assert!(rt; reaches == None, "at {:?}", row.piece);
+        let passes = repeated_fault(rt.alloc(), &row, row.most.saturating_add(1))?;
+        assert!(rt; passes == bad(row.line, row.reason), "at {:?}", row.piece);
     }
     Ok(())
 }
 
+/// A phase with sixteen callers on each of two ports.
+fn sixteen_callers(alloc: Global) -> Result<String, AllocError> {
+    let mut text = String::new(alloc);
+    text.push_str("tty-session 1\nports 2\nphase\n")?;
+    for i in 0..16 {
+        write!(text, "caller c{i} 0\ncaller c{i} 1\n")?;
+    }
+    Ok(text)
+}
+
+/// What is told of a text with one more line before its end.
+fn fault_with(alloc: Global, text: &str, line: &[u8]) -> Result<Option<TextFault>, AllocError> {
+    let whole = repeated(alloc, text.as_bytes(), line, 1, b"end\n")?;
+    Ok(fault_of(alloc, whole.as_slice()))
+}
+
 #[test]
 fn sixteen_callers_of_a_port_are_good(rt: HostRuntime) -> Result<(), Fail> {
-    let mut text = b"tty-session 1\nports 2\nphase\n".to_vec(rt.alloc())?;
-    for i in 0..16 {
-        text.extend_from_slice(format!(in rt.alloc();
-            "caller c{i} 0\ncaller c{i} 1\n"
-        )?.as_bytes())?;
+    let alloc = rt.alloc();
+    let text = sixteen_callers(alloc)?;
+    for (line, fault) in [
+        (b"".as_slice(), None),
+        (b"caller c0 0\n", bad(36, Reason::Order)),
+        (b"caller c16 0\n", bad(36, Reason::Limit)),
+    ] {
+        assert!(rt; fault_with(alloc, text.as_str(), line) == Ok(fault));
     }
-    let repeats = repeated(rt.alloc(), text.as_slice(), b"caller c0 0\n", 1, b"end\n")?;
-    let passes = repeated(rt.alloc(), text.as_slice(), b"caller c16 0\n", 1, b"end\n")?;
-    let fits = repeated(rt.alloc(), text.as_slice(), b"", 0, b"end\n")?;
-    assert!(rt; parse(rt.alloc(), fits.as_slice()).is_ok());
-    let at = |reason: Reason| Some(TextFault::Bad(BadLine { line: 36, reason }));
-    assert_eq!(rt;
-        parse(rt.alloc(), repeats.as_slice()).err(),
-        at(Reason::Order)
-    );
-    assert_eq!(rt;
-        parse(rt.alloc(), passes.as_slice()).err(),
-        at(Reason::Limit)
-    );
     Ok(())
+}
+
+/// What is told of a caller whose call begins so, goes on with a piece so many times, and ends.
+fn call_fault(
+    alloc: Global,
+    begin: &[u8],
+    piece: &[u8],
+    times: usize,
+    end: &[u8],
+) -> Result<Option<TextFault>, AllocError> {
+    let head = b"tty-session 1\nports 1\nphase\ncaller a 0\n";
+    let front = repeated(alloc, head, begin, 1, b"")?;
+    let text = repeated(alloc, front.as_slice(), piece, times, end)?;
+    Ok(fault_of(alloc, text.as_slice()))
 }
 
 #[test]
 fn a_wrong_argument_is_told_before_a_limit_that_its_line_passes(
     rt: HostRuntime,
 ) -> Result<(), Fail> {
-    for (begin, piece, times, end, reason) in [
-        (
-            b"modes 0 now".as_slice(),
-            b" echo".as_slice(),
-            64,
-            b" eco\nend\n".as_slice(),
-            Reason::Word,
-        ),
-        (
-            b"write 0 ".as_slice(),
-            b"61".as_slice(),
-            65_537,
-            b"6\nend\n".as_slice(),
-            Reason::Hex,
-        ),
-    ] {
-        let text = repeated(
-            rt.alloc(),
-            b"tty-session 1\nports 1\nphase\ncaller a 0\n",
-            begin,
-            1,
-            b"",
-        )?;
-        let text = repeated(rt.alloc(), text.as_slice(), piece, times, end)?;
-        assert_eq!(rt;
-            parse(rt.alloc(), text.as_slice()).err(),
-            Some(TextFault::Bad(BadLine { line: 5, reason }))
-        );
-    }
+    let words = call_fault(rt.alloc(), b"modes 0 now", b" echo", 64, b" eco\nend\n")?;
+    assert!(rt; words == bad(5, Reason::Word));
+    let bytes = call_fault(rt.alloc(), b"write 0 ", b"61", 65_537, b"6\nend\n")?;
+    assert!(rt; bytes == bad(5, Reason::Hex));
     Ok(())
 }
 
 #[test]
 fn a_long_text_of_one_byte_is_refused(rt: HostRuntime) -> Result<(), Fail> {
-    for (byte, fault) in [
-        (
-            b'a',
-            BadLine {
-                line: 1,
-                reason: Reason::Header,
-            },
-        ),
-        (
-            b'\n',
-            BadLine {
-                line: 4_194_305,
-                reason: Reason::Order,
-            },
-        ),
-        (
-            b'#',
-            BadLine {
-                line: 2,
-                reason: Reason::Order,
-            },
-        ),
+    for (byte, line, reason) in [
+        (b'a', 1, Reason::Header),
+        (b'\n', 4_194_305, Reason::Order),
+        (b'#', 2, Reason::Order),
     ] {
-        let text = repeated(rt.alloc(), b"", &[byte], 4_194_304, b"")?;
-        assert_eq!(rt;
-            parse(rt.alloc(), text.as_slice()).err(),
-            Some(TextFault::Bad(fault))
-        );
+        let text = vec![in rt.alloc(); byte; 4_194_304]?;
+        assert!(rt; fault_of(rt.alloc(), text.as_slice()) == bad(line, reason));
     }
     Ok(())
 }
