@@ -1,6 +1,7 @@
 //! Journals that are legal, and what is told of them when they are altered.
 
 use super::texts::written_out;
+use super::three_bytes::{JOURNALS, SESSION};
 use super::told::{Told, told_of};
 use std::alloc::{AllocError, Global};
 use std::process::Abort;
@@ -12,41 +13,6 @@ struct Altered {
     changes: &'static [(&'static str, &'static str)],
     told: &'static str,
 }
-
-/// Three bytes are read, and the port is closed.
-pub(crate) const THREE_BYTES: &str = "tty-session 1
-ports 1
-phase
-caller a 0
-open 0 rw nonblock
-modes 0 now raw
-phase
-line 0
-rx 68690a
-caller a 0
-read 0 64
-close 0
-end
-journals
-journal 0 14
-*line 0 0 0 line_end 0
-a 0 0 0 answer ok
-a 1 0 0 answer ok
-a 2 0 0 caller_end
-*clock 0 0 0 clock_end
-*session 0 0 0 phase_end
-*flush 0 0 0 flush n68n69n0a
-*line 1 0 0 line_end 3
-a 2 0 0 answer 3 68690a
-a 3 0 0 answer ok
-a 4 0 1 caller_end
-*clock 1 0 1 clock_end
-*session 1 0 1 phase_end
-*session 2 0 1 hangup -
-overruns 0 0
-line 0 3 0 3
-done
-";
 
 const OF_THREE_BYTES: [Altered; 34] = [
     Altered {
@@ -621,10 +587,24 @@ const OF_TWO_PORTS: [Altered; 6] = [
     },
 ];
 
+/// The session and its journal.
+fn three_bytes(alloc: Global) -> Result<String, AllocError> {
+    let mut text = String::new(alloc);
+    text.push_str(SESSION)?;
+    text.push_str(JOURNALS)?;
+    Ok(text)
+}
+
+#[test]
+fn altered_journals_of_three_bytes_are_judged(rt: HostRuntime) -> Result<(), Fail> {
+    let alloc = rt.alloc();
+    let three_bytes = three_bytes(alloc)?;
+    are_told(&rt, alloc, three_bytes.as_str(), &OF_THREE_BYTES)
+}
+
 #[test]
 fn altered_journals_are_judged(rt: HostRuntime) -> Result<(), Fail> {
     let alloc = rt.alloc();
-    are_told(&rt, alloc, THREE_BYTES, &OF_THREE_BYTES)?;
     are_told(&rt, alloc, PARTS, &OF_PARTS)?;
     are_told(&rt, alloc, WAITS, &OF_WAITS)?;
     are_told(&rt, alloc, ONE_OVERRUN, &OF_ONE_OVERRUN)?;

@@ -1,13 +1,13 @@
 //! The journal of three bytes with one field of an entry altered, and with two entries exchanged.
 
-use super::altered::THREE_BYTES;
+use super::three_bytes::{JOURNALS, SESSION};
 use super::told::{Told, told_of};
 use std::alloc::{AllocError, Global};
 use std::process::Abort;
 use std::test::Fail;
 
-/// The lines before the first entry, and the number of entries.
-const BEFORE: usize = 15;
+/// The lines of the journal before its first entry, and the number of entries.
+const BEFORE: usize = 2;
 
 const ENTRIES: usize = 14;
 
@@ -74,7 +74,8 @@ fn next_of(digit: &str) -> &'static str {
 /// The text with this entry at a place.
 fn with_entry(alloc: Global, place: usize, entry: Fields) -> Result<Vec<u8>, AllocError> {
     let mut text = String::new(alloc);
-    for (number, line) in THREE_BYTES.lines().enumerate() {
+    text.push_str(SESSION)?;
+    for (number, line) in JOURNALS.lines().enumerate() {
         if number == BEFORE.saturating_add(place) {
             let Fields {
                 who,
@@ -105,7 +106,7 @@ fn is_not_legal(rt: &impl Abort, alloc: Global, place: usize, entry: Fields) -> 
 #[test]
 fn each_altered_entry_is_not_legal(rt: HostRuntime) -> Result<(), Fail> {
     let alloc = rt.alloc();
-    for (place, line) in THREE_BYTES.lines().skip(BEFORE).take(ENTRIES).enumerate() {
+    for (place, line) in JOURNALS.lines().skip(BEFORE).take(ENTRIES).enumerate() {
         let entry = fields_of(line).expect(&rt, "an entry has five fields");
         for who in OTHERS {
             if who != entry.who {
@@ -138,12 +139,13 @@ fn each_altered_entry_is_not_legal(rt: HostRuntime) -> Result<(), Fail> {
 /// The text with two entries exchanged.
 fn with_exchange(alloc: Global, first: usize, second: usize) -> Result<Vec<u8>, AllocError> {
     let mut lines: Vec<&str> = Vec::new(alloc);
-    for line in THREE_BYTES.lines() {
+    for line in JOURNALS.lines() {
         lines.push(line)?;
     }
     let first = BEFORE.saturating_add(first);
     let second = BEFORE.saturating_add(second);
     let mut text = String::new(alloc);
+    text.push_str(SESSION)?;
     for number in 0..lines.len() {
         let from = match number {
             _ if number == first => second,

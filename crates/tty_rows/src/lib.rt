@@ -26,6 +26,8 @@ mod switching;
 mod texts;
 #[cfg(test)]
 mod threads;
+#[cfg(test)]
+mod three_bytes;
 mod told;
 #[cfg(test)]
 mod waiting;

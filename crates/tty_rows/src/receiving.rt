@@ -1,6 +1,7 @@
 //! What a line hands over, and what input modes make of it.
 
 use super::rows::{Row, plays};
+use super::three_bytes::REPORT;
 use std::test::Fail;
 
 /// The line's phase ends before the caller's begins.
@@ -20,18 +21,7 @@ read 0 64
 close 0
 end
 ",
-    report: "0.a.0 open ok
-0.a.1 modes ok
-0.a.2 read 3 68690a
-0.a.3 close ok
-port 0 line arrived=3 lost=0 sent=3 overrun=0
-port 0 input taken=3 dropped=0
-port 0 counts mark=0 parity=0 frame=0 break=0 cut=0 echo=0 pin=0 pout=0 pbad=0 pfull=0
-port 0 signals -
-port 0 generation 2
-port 0 wire -
-done
-",
+    report: REPORT,
 };
 
 /// Nothing happens but the hangup.

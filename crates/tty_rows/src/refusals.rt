@@ -1,5 +1,6 @@
 //! Words, texts, sources and sinks that end a call of the program early.
 
+use super::three_bytes::{REPORT, SESSION};
 use super::told::Told;
 use std::alloc::{AllocError, Global};
 use std::process::Abort;
@@ -8,34 +9,6 @@ use tty_base::{Bytes, MemSink, MemSource};
 use tty_one::{Ran, tty_one};
 
 const ONE: [&str; 2] = ["run", "--one"];
-
-const THREE_BYTES: &str = "tty-session 1
-ports 1
-phase
-caller a 0
-open 0 rw nonblock
-modes 0 now raw
-phase
-line 0
-rx 68690a
-caller a 0
-read 0 64
-close 0
-end
-";
-
-const REPORT: &str = "0.a.0 open ok
-0.a.1 modes ok
-0.a.2 read 3 68690a
-0.a.3 close ok
-port 0 line arrived=3 lost=0 sent=3 overrun=0
-port 0 input taken=3 dropped=0
-port 0 counts mark=0 parity=0 frame=0 break=0 cut=0 echo=0 pin=0 pout=0 pbad=0 pfull=0
-port 0 signals -
-port 0 generation 2
-port 0 wire -
-done
-";
 
 /// How many bytes a source or a sink moves at most in one call.
 const PIECE: usize = 8;
@@ -59,7 +32,7 @@ fn source_of(alloc: Global, text: &[u8], fails: Vec<u32>) -> Result<MemSource, A
 
 /// These words are told as bad words.
 fn are_bad(rt: &impl Abort, alloc: Global, words: &[&str]) -> Result<(), Fail> {
-    let mut source = source_of(alloc, THREE_BYTES.as_bytes(), Vec::new(alloc))?;
+    let mut source = source_of(alloc, SESSION.as_bytes(), Vec::new(alloc))?;
     let mut sink = MemSink::new(alloc, PIECE, ROOM, Vec::new(alloc))?;
     let Ran { status, .. } = tty_one(alloc, words, &mut source, &mut sink);
     assert_eq!(rt; status, 2);
@@ -104,7 +77,7 @@ fn told_with(
     writes: Vec<u32>,
     room: usize,
 ) -> Result<Told, AllocError> {
-    let mut source = source_of(alloc, THREE_BYTES.as_bytes(), reads)?;
+    let mut source = source_of(alloc, SESSION.as_bytes(), reads)?;
     let Ok(mut sink) = MemSink::new(alloc, PIECE, room, writes) else {
         return Err(AllocError);
     };
