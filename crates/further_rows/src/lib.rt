@@ -1,5 +1,5 @@
-//! Worked rows of modem lines and of job control, over the public calls of the crates that have them, as tests of what no
-//! clause says: that calls succeed where memory is ample, and what they answer, after the rules of the manual pages.
+//! Worked rows of modem lines and of job control, over the public calls of the crates that have them, as tests of what
+//! no clause says: that calls succeed where memory is ample, and what they answer, after the rules of the manual pages.
 //! Nothing stands on this crate.
 #![tactic(auto)]
 

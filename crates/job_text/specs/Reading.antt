@@ -27,8 +27,8 @@ use Rattle.job_text.specs.Calls.{call_of}
 use Rattle.job_text.specs.Procs.{words_in, proc_of, place_named, leads_with}
 use Rattle.job_text.specs.Verbs.{verb_of}
 
--- What was read of the session of ports; which block is open; the processes, and who has exited; in the open phase whose
--- blocks there are, and the calls of job control; and those of the phases before it.
+-- What was read of the session of ports; which block is open; the processes, and who has exited; in the open phase
+-- whose blocks there are, and the calls of job control; and those of the phases before it.
 pub record JobsReading : Type 0 where
   pub base : BaseReading
   pub open_block : Block

@@ -8,7 +8,8 @@ use Rattle.journal_check.specs.Legal.{phase_at, name_at, has_script, first_step}
 abbrev pub no_turn : Turn
 no_turn = record { begun = 0; first = 0; steps = 0; script = 0 }
 
--- a turn with so many calls more in this phase: the caller's first ones there, by the script at this place, or further ones
+-- a turn with so many calls more in this phase: the caller's first ones there, by the script at this place, or further
+-- ones
 abbrev pub turn_then : Turn → (phase steps place : ℕ) → Turn
 turn_then t phase steps place =
     if t.begun == phase + 1
@@ -23,8 +24,8 @@ turns_with_next turns (Some c) phase steps place =
 abbrev pub scripts_for : ℕ → List PlainScript → List PlainScript
 scripts_for p scripts = filter (λ s. s.port == p) scripts
 
--- the caller's turn is of this phase, and has its calls among these scripts of the port, of which none stands before the
--- turn's place
+-- the caller's turn is of this phase, and has its calls among these scripts of the port, of which none stands before
+-- the turn's place
 pub record IsOpen (p : ℕ) (session : PlainSession) (k : ℕ) (scripts : List PlainScript) (c : ℕ) (t : Turn) : Type 0 where
   pub begun : t.begun ≡ k + 1
   pub first : t.first ≡ first_step p session k c
