@@ -1,5 +1,5 @@
 -- The scripts of a phase, one for each caller, and where each caller's calls stand.
-use Rattle.std.proofs.Common.{◌≡◌, inl, inr, ℕ, zero, suc, ◌+◌, ◌-◌, ◌<◌, ◌≤◌, ◌^◌, ◌==◌, Bool, true, false, ◌&&◌, ◌||◌, cond, MatchBool, if◌then◌else◌, IsTrue, List, [], ◌∷◌, ◌++◌, Option, None, Some, length, take, drop, map, set, get_or, refl, sym, ◌∙◌, ap, subst, arith, append-nil, length-append, append_assoc, get_or-set_same, get_or-set_other, length-set, ne_eqb}
+use Rattle.std.proofs.Common.{◌≡◌, inl, inr, ℕ, zero, suc, ◌+◌, ◌-◌, ◌<◌, ◌≤◌, ◌==◌, Bool, true, false, ◌&&◌, ◌||◌, cond, MatchBool, if◌then◌else◌, IsTrue, List, [], ◌∷◌, ◌++◌, Option, None, Some, length, take, drop, map, set, get_or, refl, sym, ◌∙◌, ap, subst, arith, append-nil, length-append, append_assoc, get_or-set_same, get_or-set_other, length-set, ne_eqb}
 use Rattle.std.specs.Prelude.{All, slice_get, option_map, sum_by}
 use Rattle.std.specs.List.{list_any, position_from}
 use Rattle.std.specs.Str.{bytes_eq}
@@ -21,7 +21,7 @@ use Rattle.tty_calls.specs.Limits.{IsPhaseWithin, IsWithinLimits, call_count}
 use Rattle.journal_check.specs.declared.turns.Turn.{Turn}
 use Rattle.tty_terminal.specs.Runs.{is_of_call}
 use Rattle.journal_check.specs.WellFormed.{IsOfTable, AreOfTable, IsPhaseWellFormed, IsWellFormed}
-use Rattle.journal_check.specs.Legal.{phase_at, name_at, has_script, first_step, steps_in, is_caller_end, IsInPhase}
+use Rattle.journal_check.specs.Legal.{phase_at, name_at, has_script, first_step, is_caller_end, IsInPhase}
 use Rattle.journal_check.specs.Scripts.{no_turn, turn_then, turns_with_next, IsOpen, IsIdle, scripts_for, IsTurnBy, AreTurnsAmong, AreTurns, AreIdle, calls_from}
 use Rattle.journal_check.proofs.NameLemmas.{get_append, get_past, same_name, all_distinct, calls_append, first_next, call_of_phase}
 use Rattle.journal_check.proofs.Truths.{when_true, if_true, if_false}

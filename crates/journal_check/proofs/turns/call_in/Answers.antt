@@ -1,9 +1,8 @@
-use Rattle.std.proofs.Common.{◌≡◌, ℕ, List, None, Some, rules, sym, ◌∙◌, ap}
-use Rattle.std.specs.Prelude.{option_map}
+use Rattle.std.proofs.Common.{◌≡◌, Some, rules}
 use Rattle.tty_calls.specs.Plain.{call_of}
 use Rattle.tty_calls.specs.Sessions.{session_of}
 use Rattle.journal_check.specs.Legal.{name_at}
-use Rattle.journal_check.proofs.TurnLemmas.{step_there, call_there, not_nameless}
+use Rattle.journal_check.proofs.TurnLemmas.{step_there, call_there}
 use Rattle.journal_check.proofs.turns.call_in.Goals as goal
 
 pub call_from-requires : goal.call_from-requires

@@ -1,6 +1,5 @@
-use Rattle.std.proofs.Common.{take, sym, ◌∙◌}
+use Rattle.std.proofs.Common.{sym, ◌∙◌}
 use Rattle.tty_calls.specs.Sessions.{session_of}
-use Rattle.journal_check.specs.Legal.{phase_at}
 use Rattle.journal_check.proofs.TurnLemmas.{opened_turns, skipped_turns}
 use Rattle.journal_check.proofs.turns.open_phase.Goals as goal
 use Rattle.journal_check.proofs.turns.open_phase.Goals.{then-from-port+in_ok-open_script, else-from-port}
