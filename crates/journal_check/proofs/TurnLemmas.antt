@@ -427,11 +427,6 @@ call_there p session k c t step name scripts call lt o named are read first =
     ∙ call_of_phase p session k c i call lt (
     ap (λ (cs : List PlainCall). slice_get cs i) (all_from p session k c t name o named ∙ ap (λ (ss : List PlainScript). calls_from p ss t.script name) (sym are)) ∙ read)
 
--- a caller with a step in its turn has a name
-pub not_nameless : (p : ℕ) (session : PlainSession) (k c : ℕ) (t : Turn) (step : ℕ) → IsOpen p session k (scripts_on p (phase_at session k)) c t → t.first ≤ step → step < t.first + t.steps → name_at p session c ≡ None → ⊥
-not_nameless p session k c t step o first within none =
-    omega (arith, o.steps, ap (λ name. length (calls_of (scripts_on p (phase_at session k)) name)) none)
-
 -- ---- a walk over the scripts of a phase
 
 next_script : (ss : List PlainScript) (i : ℕ) (s : PlainScript) → slice_get ss i ≡ Some s → drop i ss ≡ s ∷ drop (i + 1) ss
