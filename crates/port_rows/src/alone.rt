@@ -7,7 +7,7 @@ ghost use Rattle.tty_calls.specs.Limits.{byte_count};
 
 use flip_buffer::flip;
 use port_core::{Port, Tried};
-use std::alloc::{AllocError, Global};
+use std::alloc::Global;
 use std::marker::Model;
 use std::test::Fail;
 use tty_base::{Counts, Errno, NoMemory};
@@ -51,6 +51,23 @@ impl OneCaller {
         Some(self.port.attempt(0, state.next, call))
     }
 
+    /// How the caller's next call goes, unless a call of it has begun.
+    fn goes(&mut self, call: &Call, wanted: Wanted) -> Option<Went> {
+        match self.attempt(call)? {
+            Ok(tried) => Some(went_by(&tried, wanted)),
+            Err(denied) => Some(Went::Denied(denied)),
+        }
+    }
+
+    /// Whether the caller's next call is refused memory, or else answered.
+    fn is_refused(&mut self, call: &Call) -> Option<bool> {
+        match self.attempt(call)? {
+            Ok(Tried::Done(_)) => Some(false),
+            Err(Denied::NoMemory) => Some(true),
+            _ => None,
+        }
+    }
+
     fn entries(&self) -> usize {
         self.port.journal().len()
     }
@@ -75,82 +92,160 @@ fn is_in_range(call: &Call) -> bool
     few && call.handle() < 32
 }
 
-fn is_same(one: &Answer, other: &Answer) -> bool {
-    match (one, other) {
-        (Answer::Done, Answer::Done) => true,
-        (Answer::Count(one), Answer::Count(other)) => one == other,
-        (Answer::Number(one), Answer::Number(other)) => one == other,
-        (Answer::Got(one), Answer::Got(other)) => one.as_slice() == other.as_slice(),
-        (Answer::CountsAre(one), Answer::CountsAre(other)) => **one == **other,
-        (Answer::Refused(one), Answer::Refused(other)) => one == other,
-        (Answer::ModesAre(_), Answer::ModesAre(_)) => true,
+/// What a call is to be answered.
+#[derive(Clone, Copy)]
+enum Wanted {
+    Done,
+    Count(u32),
+    Number(u32),
+    /// No bytes: the end of file.
+    Nothing,
+    /// The default modes.
+    Sane,
+    /// Counts that are all 0.
+    NoCounts,
+    Refused(Errno),
+}
+
+fn is_done(answer: &Answer) -> bool {
+    match answer {
+        Answer::Done => true,
         _ => false,
     }
 }
 
-/// Each call at least once, and what it is answered after those before it.
-fn calls_and_answers<'a>(alloc: Global) -> Result<Vec<(Call<'a>, Answer)>, AllocError> {
-    let counts = Box::new(alloc, Counts::default())?;
-    Ok(vec![in alloc;
-        (
-            Call::Open {
-                h: 0,
-                access: Access::Rw,
-                nonblock: true
-            },
-            Answer::Done
-        ),
-        (Call::GetModes { h: 0 }, Answer::ModesAre(Modes::sane())),
-        (
-            Call::SetModes {
-                h: 0,
-                when: When::Now,
-                words: &[Word::Raw]
-            },
-            Answer::Done
-        ),
-        (Call::GetDisc { h: 0 }, Answer::Number(0)),
-        (Call::Excl { h: 0 }, Answer::Done),
-        (Call::Nxcl { h: 0 }, Answer::Done),
-        (
-            Call::Xonc {
-                h: 0,
-                act: Act::Ooff
-            },
-            Answer::Done
-        ),
-        (Call::Write { h: 0, bytes: b"ab" }, Answer::Count(2)),
-        (Call::Outq { h: 0 }, Answer::Number(2)),
-        (
-            Call::Xonc {
-                h: 0,
-                act: Act::Oon
-            },
-            Answer::Done
-        ),
-        (Call::Drain { h: 0 }, Answer::Done),
-        (Call::Inq { h: 0 }, Answer::Number(0)),
-        (Call::Read { h: 0, n: 8 }, Answer::Refused(Errno::EAGAIN)),
-        (Call::Counts { h: 0 }, Answer::CountsAre(counts)),
-        (
-            Call::Flush {
-                h: 0,
-                queue: Queue::Both
-            },
-            Answer::Done
-        ),
-        (
-            Call::SendPacket { h: 0, bytes: b"c" },
-            Answer::Refused(Errno::ENOTTY)
-        ),
-        (Call::SetDisc { h: 0, number: 1 }, Answer::Done),
-        (Call::SendPacket { h: 0, bytes: b"c" }, Answer::Done),
-        (Call::TakePacket { h: 0 }, Answer::Refused(Errno::EAGAIN)),
-        (Call::Vhangup { h: 0 }, Answer::Done),
-        (Call::Read { h: 0, n: 8 }, Answer::Got(Vec::new(alloc))),
-        (Call::Close { h: 0 }, Answer::Done),
-    ]?)
+fn count_of(answer: &Answer) -> Option<u32> {
+    match answer {
+        Answer::Count(count) => Some(*count),
+        _ => None,
+    }
 }
+
+fn number_of(answer: &Answer) -> Option<u32> {
+    match answer {
+        Answer::Number(number) => Some(*number),
+        _ => None,
+    }
+}
+
+fn is_end(answer: &Answer) -> bool {
+    match answer {
+        Answer::Got(bytes) => bytes.is_empty(),
+        _ => false,
+    }
+}
+
+fn is_sane(answer: &Answer) -> bool {
+    match answer {
+        Answer::ModesAre(modes) => *modes == Modes::sane(),
+        _ => false,
+    }
+}
+
+fn has_no_counts(answer: &Answer) -> bool {
+    match answer {
+        Answer::CountsAre(counts) => **counts == Counts::default(),
+        _ => false,
+    }
+}
+
+fn refusal_of(answer: &Answer) -> Option<Errno> {
+    match answer {
+        Answer::Refused(errno) => Some(*errno),
+        _ => None,
+    }
+}
+
+fn is_answer(answer: &Answer, wanted: Wanted) -> bool {
+    match wanted {
+        Wanted::Done => is_done(answer),
+        Wanted::Count(count) => count_of(answer) == Some(count),
+        Wanted::Number(number) => number_of(answer) == Some(number),
+        Wanted::Nothing => is_end(answer),
+        Wanted::Sane => is_sane(answer),
+        Wanted::NoCounts => has_no_counts(answer),
+        Wanted::Refused(errno) => refusal_of(answer) == Some(errno),
+    }
+}
+
+/// How a call goes that is tried.
+#[derive(Clone, Copy, Debug, PartialEq, Eq)]
+enum Went {
+    /// It is answered as wanted.
+    Well,
+    /// It is refused memory, or the journal is full.
+    Denied(Denied),
+    /// It is answered otherwise, or its answer is still to come.
+    Otherwise,
+}
+
+fn went_by(tried: &Tried, wanted: Wanted) -> Went {
+    match tried {
+        Tried::Done(answer) if is_answer(answer, wanted) => Went::Well,
+        _ => Went::Otherwise,
+    }
+}
+
+/// Each call at least once, and what it is to be answered after those before it.
+const ROWS: [(Call<'static>, Wanted); 22] = [
+    (
+        Call::Open {
+            h: 0,
+            access: Access::Rw,
+            nonblock: true,
+        },
+        Wanted::Done,
+    ),
+    (Call::GetModes { h: 0 }, Wanted::Sane),
+    (
+        Call::SetModes {
+            h: 0,
+            when: When::Now,
+            words: &[Word::Raw],
+        },
+        Wanted::Done,
+    ),
+    (Call::GetDisc { h: 0 }, Wanted::Number(0)),
+    (Call::Excl { h: 0 }, Wanted::Done),
+    (Call::Nxcl { h: 0 }, Wanted::Done),
+    (
+        Call::Xonc {
+            h: 0,
+            act: Act::Ooff,
+        },
+        Wanted::Done,
+    ),
+    (Call::Write { h: 0, bytes: b"ab" }, Wanted::Count(2)),
+    (Call::Outq { h: 0 }, Wanted::Number(2)),
+    (
+        Call::Xonc {
+            h: 0,
+            act: Act::Oon,
+        },
+        Wanted::Done,
+    ),
+    (Call::Drain { h: 0 }, Wanted::Done),
+    (Call::Inq { h: 0 }, Wanted::Number(0)),
+    (Call::Read { h: 0, n: 8 }, Wanted::Refused(Errno::EAGAIN)),
+    (Call::Counts { h: 0 }, Wanted::NoCounts),
+    (
+        Call::Flush {
+            h: 0,
+            queue: Queue::Both,
+        },
+        Wanted::Done,
+    ),
+    (
+        Call::SendPacket { h: 0, bytes: b"c" },
+        Wanted::Refused(Errno::ENOTTY),
+    ),
+    (Call::SetDisc { h: 0, number: 1 }, Wanted::Done),
+    (Call::SendPacket { h: 0, bytes: b"c" }, Wanted::Done),
+    (Call::TakePacket { h: 0 }, Wanted::Refused(Errno::EAGAIN)),
+    (Call::Vhangup { h: 0 }, Wanted::Done),
+    (Call::Read { h: 0, n: 8 }, Wanted::Nothing),
+    (Call::Close { h: 0 }, Wanted::Done),
+];
 
 #[test]
 fn a_full_journal_keeps_its_entries(rt: HostRuntime) -> Result<(), Fail> {
@@ -159,53 +254,62 @@ fn a_full_journal_keeps_its_entries(rt: HostRuntime) -> Result<(), Fail> {
         access: Access::Rw,
         nonblock: false,
     };
-    let mut one = OneCaller::new(rt.alloc(), 2).ok().ok_or("a port")?;
-    let first = one.attempt(&open);
-    assert!(rt; matches!(first, Some(Ok(Tried::Done(Answer::Done)))));
-    let second = one.attempt(&Call::GetDisc { h: 0 });
-    assert!(rt; matches!(second, Some(Ok(Tried::Done(Answer::Number(0))))));
-    let third = one.attempt(&Call::GetDisc { h: 0 });
-    assert!(rt; matches!(third, Some(Err(Denied::Full))));
-    assert_eq!(rt; one.entries(), 2);
+    let ask = Call::GetDisc { h: 0 };
+    let mut one = OneCaller::new(rt.alloc(), 2)?;
+    assert!(rt; one.goes(&open, Wanted::Done) == Some(Went::Well));
+    assert!(rt; one.goes(&ask, Wanted::Number(0)) == Some(Went::Well));
+    let third = one.goes(&ask, Wanted::Number(0));
+    assert!(rt; third == Some(Went::Denied(Denied::Full)) && one.entries() == 2);
     Ok(())
+}
+
+/// The first row whose call is not answered as wanted, with the other entry that each makes.
+fn first_other(one: &mut OneCaller) -> Option<usize> {
+    for (place, row) in ROWS.iter().enumerate() {
+        if one.goes(&row.0, row.1) != Some(Went::Well) || one.entries() != place.saturating_add(1) {
+            return Some(place);
+        }
+    }
+    None
 }
 
 #[test]
 fn each_call_is_answered(rt: HostRuntime) -> Result<(), Fail> {
-    let rows = calls_and_answers(rt.alloc())?;
-    let mut one = OneCaller::new(rt.alloc(), 64).ok().ok_or("a port")?;
-    for (call, answer) in rows {
-        let before = one.entries();
-        let tried = one.attempt(&call);
-        assert!(rt;
-            matches!(&tried, Some(Ok(Tried::Done(told))) if is_same(told, &answer)),
-            "after {before} entries"
-        );
-    }
-    assert_eq!(rt; one.entries(), 22);
+    let mut one = OneCaller::new(rt.alloc(), 64)?;
+    let other = first_other(&mut one);
+    assert_eq!(rt; other, None);
     Ok(())
+}
+
+/// Whether a call makes one entry, or is refused memory and makes none; and none makes one once `refused` is set.
+fn is_kept(one: &mut OneCaller, call: &Call, refused: &mut bool) -> bool {
+    let before = one.entries();
+    let is_refused = one.is_refused(call);
+    let made = one.entries().checked_sub(before);
+    match is_refused {
+        Some(true) => {
+            *refused = true;
+            made == Some(0)
+        }
+        Some(false) => !*refused && made == Some(1),
+        None => false,
+    }
+}
+
+fn are_kept(one: &mut OneCaller) -> bool {
+    let mut refused = false;
+    for row in ROWS {
+        if !is_kept(one, &row.0, &mut refused) {
+            return false;
+        }
+    }
+    !refused || one.is_starved()
 }
 
 /// Nothing is refused where memory is ample: this is for a run in which an allocation fails.
 #[test]
 fn a_refusal_keeps_the_journal_and_is_told_from_then_on(rt: HostRuntime) -> Result<(), Fail> {
-    let rows = calls_and_answers(rt.alloc())?;
-    let mut one = OneCaller::new(rt.alloc(), 64).ok().ok_or("a port")?;
-    let mut refused = false;
-    for (call, _) in rows {
-        let before = one.entries();
-        match one.attempt(&call) {
-            Some(Err(Denied::NoMemory)) => {
-                refused = true;
-                assert_eq!(rt; one.entries(), before);
-            }
-            Some(Ok(Tried::Done(_))) => {
-                assert!(rt; !refused, "after {before} entries");
-                assert_eq!(rt; one.entries().checked_sub(before), Some(1));
-            }
-            _ => assert!(rt; false, "after {before} entries"),
-        }
-    }
-    assert!(rt; !refused || one.is_starved());
+    let mut one = OneCaller::new(rt.alloc(), 64)?;
+    assert!(rt; are_kept(&mut one));
     Ok(())
 }

@@ -12,7 +12,8 @@ use std::alloc::Global;
 use std::test::Fail;
 use tty_base::{Buffer, Counts, Flag, Flagged, LineStep, NoMemory};
 use tty_calls::{
-    Access, AnswerRef, Call, Calls, Event, Journal, Phase, Script, Session, When, Who,
+    Access, AnswerRef, Call, Calls, Event, Journal, Phase, PortEnd, PortRun, Script, Session, When,
+    Who,
 };
 use tty_modes::Word;
 use tty_port::OpenGate;
@@ -109,15 +110,48 @@ fn answer_at(journal: &Journal, step: u32) -> Option<AnswerRef<'_>> {
     None
 }
 
-fn is_done(journal: &Journal, step: u32) -> bool {
-    matches!(answer_at(journal, step), Some(AnswerRef::Done))
-}
-
-fn is_got(journal: &Journal, step: u32, wanted: &[u8]) -> bool {
-    match answer_at(journal, step) {
-        Some(AnswerRef::Got(bytes)) => bytes == wanted,
+fn is_done(answer: &AnswerRef) -> bool {
+    match answer {
+        AnswerRef::Done => true,
         _ => false,
     }
+}
+
+fn gives(answer: &AnswerRef, wanted: &[u8]) -> bool {
+    match answer {
+        AnswerRef::Got(bytes) => *bytes == wanted,
+        _ => false,
+    }
+}
+
+fn is_done_at(journal: &Journal, step: u32) -> bool {
+    match answer_at(journal, step) {
+        Some(answer) => is_done(&answer),
+        None => false,
+    }
+}
+
+fn gives_at(journal: &Journal, step: u32, wanted: &[u8]) -> bool {
+    match answer_at(journal, step) {
+        Some(answer) => gives(&answer, wanted),
+        None => false,
+    }
+}
+
+/// Whether three characters came, all calls were done, and the read gave these.
+fn is_the_run(run: &PortRun) -> bool {
+    let journal = &run.journal;
+    let line = &run.line;
+    let opens = is_done_at(journal, 0) && is_done_at(journal, 1);
+    let reads = gives_at(journal, 2, b"hi\n") && is_done_at(journal, 3);
+    let all_came = line.arrived == 3 && line.sent == 3;
+    opens && reads && all_came && line.fifo_lost == 0 && line.overruns.len() == 0
+}
+
+/// Whether nothing was counted, raised or sent, and the generation went up twice.
+fn is_the_end(end: &PortEnd) -> bool {
+    let nothing = end.signals.len() == 0 && end.wire.len() == 0;
+    nothing && end.counts == Counts::default() && end.generation == 2
 }
 
 #[test]
@@ -131,17 +165,6 @@ fn three_bytes_are_read_in_the_phase_after_they_came(rt: HostRuntime) -> Result<
     ) else {
         unreachable!()
     };
-    assert!(rt; is_done(&run.journal, 0));
-    assert!(rt; is_done(&run.journal, 1));
-    assert!(rt; is_got(&run.journal, 2, b"hi\n"));
-    assert!(rt; is_done(&run.journal, 3));
-    assert_eq!(rt; run.line.arrived, 3);
-    assert_eq!(rt; run.line.fifo_lost, 0);
-    assert_eq!(rt; run.line.sent, 3);
-    assert_eq!(rt; run.line.overruns.len(), 0);
-    assert_eq!(rt; end.counts, Counts::default());
-    assert_eq!(rt; end.signals.len(), 0);
-    assert_eq!(rt; end.generation, 2);
-    assert_eq!(rt; end.wire.len(), 0);
+    assert!(rt; is_the_run(run) && is_the_end(end));
     Ok(())
 }
