@@ -1,9 +1,13 @@
 -- A character in a number of 16 bits: the byte below, the flag above.
-use Rattle.std.specs.Prelude.{ℕ, zero, suc, ◌%◌, ◌/◌, map}
+use Rattle.std.specs.Prelude.{ℕ, zero, suc, ◌%◌, ◌/◌, List, map}
 use Rattle.tty_base.specs.declared.characters.Flag.{Flag}
 use Rattle.tty_base.specs.declared.characters.Flag.TheVariants.{Normal, Break, Parity, Frame, Overrun}
 use Rattle.tty_base.specs.declared.characters.Flagged.{Flagged}
 use Rattle.word_ring.specs.Ends.{PutterState, TakerState, NoteState}
+
+-- these bytes, each with this flag
+abbrev pub with_flag : Flag → (bytes : List ℕ) → List Flagged
+with_flag flag bytes = map (λ byte. record { byte = byte; flag = flag }) bytes
 
 -- the flag with a number; every further number has the last flag
 abbrev pub flag_of_number : ℕ → Flag

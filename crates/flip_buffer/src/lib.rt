@@ -10,6 +10,7 @@ mod output;
 mod packed;
 mod passing;
 mod peeking;
+mod putting;
 
 pub use input::{FlipIn, FlipNote};
 pub use new::flip;

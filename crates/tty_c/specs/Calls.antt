@@ -20,7 +20,8 @@ use Rattle.tty_terminal.specs.Meeting.{drops_of}
 use Rattle.flow_control.specs.Counting.{count_after}
 use Rattle.tty_device.specs.Kept.{flushed_of, dropped_of}
 use Rattle.tty_device.specs.Devices.{DeviceState, outcome_for, after_call, Drops, DropsWhere, with_taken_of, after_hang_up, is_stuck, FlushesWhere, wire_of, taken_count, at_front, without_wire_front, first_signal, without_first_signal}
-use Rattle.tty_device.specs.Lines.{LineState, with_flag, IsFull}
+use Rattle.flip_buffer.specs.Packed.{with_flag}
+use Rattle.tty_device.specs.Lines.{LineState, IsFull}
 use Rattle.tty_c.specs.declared.told.Told.{Told}
 use Rattle.tty_c.specs.declared.told.Told.TheVariants as told
 use Rattle.tty_c.specs.declared.ports.Port.{Port}

@@ -1,8 +1,7 @@
 -- The end of a flip buffer that puts characters in, and the account of both ends.
-use Rattle.std.specs.Prelude.{◌≡◌, ℕ, ◌+◌, ◌≤◌, ◌^◌, min, max, List, [], ◌++◌, length, map, replicate}
+use Rattle.std.specs.Prelude.{◌≡◌, ℕ, ◌+◌, ◌≤◌, ◌^◌, min, max, List, [], ◌++◌, length, replicate}
 use Rattle.std.proofs.Common.{◌⊎◌}
 use Rattle.atomic_table.specs.Seated.{TableId}
-use Rattle.tty_base.specs.declared.characters.Flag.{Flag}
 use Rattle.tty_base.specs.declared.characters.Flagged.{Flagged}
 use Rattle.word_ring.specs.Ends.{PutterState}
 use Rattle.tty_terminal.specs.Terminals.{opening}
@@ -32,10 +31,6 @@ fresh_device ring callers capacity =
 
 abbrev pub fresh_line : TableId → (capacity : ℕ) → LineState
 fresh_line ring capacity = record { ring = ring; capacity = capacity; sent = []; pushed = []; overruns = 0; known = 0 }
-
--- these bytes, each with this flag
-abbrev pub with_flag : Flag → (bytes : List ℕ) → List Flagged
-with_flag flag bytes = map (λ byte. record { byte = byte; flag = flag }) bytes
 
 -- why no more is put: as many stand in the buffer, as far as it is known, as it holds; or 2^63 were put
 abbrev pub IsFull : (sent : List Flagged) → (known capacity : ℕ) → Type 0

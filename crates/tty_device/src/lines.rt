@@ -1,12 +1,14 @@
 //! The end that puts characters in.
 
-ghost use Rattle.std.specs.Prelude.{◌≡◌, ◌+◌, ◌-◌, ◌≤◌, ◌<◌, [], ◌∷◌, ◌++◌, true, false, length, take};
+ghost use Rattle.std.specs.Prelude.{◌≡◌, ◌+◌, ◌-◌, ◌≤◌, ◌<◌, ◌^◌, [], ◌++◌, length, take};
+ghost use Rattle.std.proofs.Common.{◌⊎◌};
 ghost use Rattle.flow_control.specs.Counting.{count_after};
-ghost use Rattle.tty_device.specs.Lines.{LineState, with_flag, IsFull, Puts};
+ghost use Rattle.flip_buffer.specs.Packed.{with_flag};
+ghost use Rattle.tty_device.specs.Lines.{LineState, IsFull, Puts};
 
 use flip_buffer::FlipIn;
 use std::marker::Model;
-use tty_base::{Flag, Flagged, Moves, Put};
+use tty_base::{Flag, Moves, Put};
 
 /// How many characters can be put, ever: 100 years at three billion a second.
 const MOST_SENT: u64 = 9223372036854775808;
@@ -89,15 +91,33 @@ impl Line {
     }
 }
 
-/// Puts a character, where there is room and fewer than 2^63 were put.
-fn put_one(input: &mut FlipIn, c: Flagged) -> bool
-    ensures put { result ≡ true → Puts input.old input.new (c ∷ []) }
-    ensures refused { result ≡ false → Puts input.old input.new [] × IsFull input.new.sent input.new.floor input.old.capacity }
+/// For how many more characters there is room, by the head that this call loads.
+fn room_for_more(input: &mut FlipIn) -> u64
+    ensures puts { Puts input.old input.new [] }
+    ensures room { length input.new.sent + result ≤ input.new.floor + input.new.capacity }
+    ensures small { result ≡ 0 ⊎ length input.new.sent + result ≤ 2 ^ 63 }
+    ensures full { result ≡ 0 → IsFull input.new.sent input.new.floor input.new.capacity }
 {
     if input.sent() >= MOST_SENT {
-        return false;
+        return 0;
     }
-    input.put(c).is_ok()
+    let waiting = input.waiting();
+    let free = input.capacity() as u64 - waiting;
+    free.min(MOST_SENT - input.sent())
+}
+
+/// Puts the first of these bytes for which there is room, by the head that this call loads, and answers how many.
+fn put_run(input: &mut FlipIn, bytes: &[u8], flag: Flag) -> usize
+    ensures within { result ≤ length bytes.now }
+    ensures puts { Puts input.old input.new (with_flag flag (take result bytes.now)) }
+    ensures full { result ≡ 0 → 0 < length bytes.now → IsFull input.new.sent input.new.floor input.old.capacity }
+{
+    let room = room_for_more(input);
+    let count = room.min(bytes.len() as u64) as usize;
+    if count > 0 {
+        input.put_run(&bytes[..count], flag);
+    }
+    count
 }
 
 /// Puts bytes up to the first that is refused, and answers how many.
@@ -106,14 +126,13 @@ fn put_some(input: &mut FlipIn, bytes: &[u8], flag: Flag) -> usize
     ensures puts { Puts input.old input.new (with_flag flag (take result bytes.now)) }
     ensures full { result < length bytes.now → IsFull input.new.sent input.new.floor input.old.capacity }
 {
-    for i in 0..bytes.len() {
-        let c = Flagged {
-            byte: bytes[i],
-            flag,
-        };
-        if !put_one(input, c) {
-            return i;
+    let mut done = 0;
+    while done < bytes.len() {
+        let count = put_run(input, &bytes[done..], flag);
+        if count == 0 {
+            return done;
         }
+        done += count;
     }
-    bytes.len()
+    done
 }
