@@ -22,7 +22,7 @@
    - a handle is zero before its first call, as in `jw_port port = {0};`, and nobody but these calls writes its fields;
    - it is not copied while it owns something: a copy is of use only where the original is used no more;
    - one call at a time for a handle; the jw_line of a port may be used on another thread than the port, at the same
-     time;
+     time; jw_port_account has both, and is given the port and the line that one jw_port_new made;
    - bytes and places that are passed are there for their whole length, and not null, also for a length of 0; no two
      arguments overlap;
    - one allocator serves all calls; none comes from a signal handler, or from the child of a fork of a program with
@@ -251,6 +251,16 @@ int64_t jw_port_take_signal(jw_port *port);
 int64_t jw_port_received(jw_port *port);
 int64_t jw_port_dropped(jw_port *port);
 int64_t jw_port_waiting(jw_port *port);
+
+/* The same of both ends at once, where neither is in a call on another thread: the line pushes all that it put, so that
+   received, dropped and waiting are sent in all, and those that were taken are the first of those that were put.
+   Answers 0. */
+typedef struct jw_account {
+    uint64_t sent;     /* were put */
+    uint64_t overruns; /* were refused: the buffer was full */
+    uint64_t received, dropped, waiting;
+} jw_account;
+int64_t jw_port_account(jw_port *port, jw_line *line, jw_account *account);
 
 /* Puts bytes, each with the same flag, up to the first for which there is no room, and answers how many. The others
    are overruns: they are counted, and gone. */

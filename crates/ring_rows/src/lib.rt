@@ -8,3 +8,5 @@ mod cells;
 mod characters;
 #[cfg(test)]
 mod numbers;
+#[cfg(test)]
+mod runs;

@@ -1,5 +1,5 @@
 -- What the calls of a port answer a program in C, and what they leave.
-use Rattle.std.specs.Prelude.{◌≡◌, ◌≢◌, ◌-◌, ◌<◌, ◌≤◌, ℕ, ℤ, pos, negsuc, min, take, length, ◌==◌, Option, None, Some, List, [], ◌∷◌, ◌++◌, if◌then◌else◌}
+use Rattle.std.specs.Prelude.{◌≡◌, ◌≢◌, ◌+◌, ◌-◌, ◌<◌, ◌≤◌, ℕ, ℤ, pos, negsuc, min, max, take, length, ◌==◌, Option, None, Some, List, [], ◌∷◌, ◌++◌, if◌then◌else◌}
 use Rattle.tty_base.specs.declared.characters.Flag.{Flag}
 use Rattle.tty_base.specs.declared.counters.Counts.{Counts}
 use Rattle.tty_base.specs.declared.counters.Errno.{Errno}
@@ -18,7 +18,8 @@ use Rattle.tty_calls.specs.Plain.{PlainCall, sets_modes, PlainAnswer, done, coun
 use Rattle.tty_terminal.specs.Outcomes.{Outcome, unknown, waits as must_wait, takes, gives}
 use Rattle.tty_terminal.specs.Meeting.{drops_of}
 use Rattle.flow_control.specs.Counting.{count_after}
-use Rattle.tty_device.specs.Kept.{flushed_of, dropped_of}
+use mathlib.Core.List.{IsPrefix}
+use Rattle.tty_device.specs.Kept.{chars_of, flushed_of, dropped_of}
 use Rattle.tty_device.specs.Devices.{DeviceState, outcome_for, after_call, Drops, DropsWhere, with_taken_of, after_hang_up, is_stuck, FlushesWhere, wire_of, taken_count, at_front, without_wire_front, first_signal, without_first_signal}
 use Rattle.flip_buffer.specs.Packed.{with_flag}
 use Rattle.tty_device.specs.Lines.{LineState, IsFull}
@@ -26,6 +27,7 @@ use Rattle.tty_c.specs.declared.told.Told.{Told}
 use Rattle.tty_c.specs.declared.told.Told.TheVariants as told
 use Rattle.tty_c.specs.declared.ports.Port.{Port}
 use Rattle.tty_c.specs.declared.lines.Line.{Line}
+use Rattle.tty_c.specs.declared.account_exports.Account.{Account}
 use Rattle.tty_c.specs.Answers.{no_memory, no_terminal, waits, no_flag, of_truth, signal_number}
 
 -- the port, and the end, that a handle owns
@@ -233,3 +235,29 @@ pub record TellsWaiting (old new : LineState) (result : ℤ) : Type 0 where
   pub answer : result ≡ as_answer (length old.sent - new.known)
   pub left : new ≡ record old { known = new.known }
   pub known : old.known ≤ new.known
+
+-- ---- both ends
+
+-- a port and an end that were made together, where there are both
+abbrev pub AreOne : Option DeviceState → Option LineState → Type 0
+AreOne port end = (d : DeviceState) (l : LineState) → port ≡ Some d → end ≡ Some l → l.ring ≡ d.ring
+
+-- the account of both ends, of which the line pushes all that it put: each character was received, dropped, or waits
+pub record Meets (d d' : DeviceState) (l l' : LineState) (told : Account) : Type 0 where
+  pub sent : told.sent ≡ length l.sent
+  pub overruns : told.overruns ≡ l.overruns
+  pub received : told.received ≡ flushed_count d
+  pub dropped : told.dropped ≡ dropped_count d
+  pub waiting : told.received + told.dropped + told.waiting ≡ length l.sent
+  pub begins : IsPrefix (chars_of d.taken) l.sent
+  pub port : d' ≡ record d { shown = max d.shown (length l.sent) }
+  pub line : l' ≡ record l { pushed = l.sent; known = l'.known }
+  pub known : length d.taken ≤ l'.known
+  pub rises : l.known ≤ l'.known
+
+-- without one of them nothing is told, and nothing changes
+abbrev pub MeetsWhere : (port port' : Option DeviceState) → (end end' : Option LineState) → (told told' : Account) → (result : ℤ) → Type 0
+MeetsWhere None port' end end' told told' result = (result ≡ no_terminal) × (port' ≡ None) × (end' ≡ end) × (told' ≡ told)
+MeetsWhere (Some d) port' None end' told told' result = (result ≡ no_terminal) × (port' ≡ Some d) × (end' ≡ None) × (told' ≡ told)
+MeetsWhere (Some d) port' (Some l) end' told told' result =
+    (result ≡ pos 0) × ((d' : DeviceState) × (l' : LineState) × (port' ≡ Some d') × (end' ≡ Some l') × Meets d d' l l' told')

@@ -1,6 +1,7 @@
 //! The terminal of `tty_embed` and the port of `tty_device` for programs in C, which see handles of two plain fields.
 #![tactic(auto)]
 
+mod account_exports;
 mod answers;
 mod calls;
 mod device_exports;
@@ -16,6 +17,7 @@ mod uart_exports;
 mod uarts;
 mod values;
 
+pub use account_exports::Account;
 pub use answers::{MADE, NO_FLAG, NO_MEMORY, NO_TERMINAL, WAITS};
 pub use handle::Handle;
 pub use lines::{Line, LineSlot};

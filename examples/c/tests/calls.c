@@ -72,6 +72,7 @@ static void goes(jw_port *port, const char *wanted) {
 static void no_port(void) {
     jw_port port = {0};
     jw_line line = {0};
+    jw_account account = {.sent = 7};
     uint8_t place[8];
     IS(jw_port_open(&port, 0, 0, O_RDWR, false), JW_NO_TERMINAL);
     IS(jw_port_close(&port, 0, 0), JW_NO_TERMINAL);
@@ -86,6 +87,8 @@ static void no_port(void) {
     IS(jw_port_received(&port), JW_NO_TERMINAL);
     IS(jw_port_dropped(&port), JW_NO_TERMINAL);
     IS(jw_port_waiting(&port), JW_NO_TERMINAL);
+    IS(jw_port_account(&port, &line, &account), JW_NO_TERMINAL);
+    IS((int64_t)account.sent, 7);
     IS(jw_line_put(&line, place, 0, JW_NORMAL), JW_NO_TERMINAL);
     IS(jw_line_push(&line), JW_NO_TERMINAL);
     IS(jw_line_sent(&line), JW_NO_TERMINAL);
@@ -222,6 +225,25 @@ static void hangups(jw_port *port) {
     IS(jw_port_close(port, 0, 3), 0);
 }
 
+/* What was put and not pushed is pushed, and told; without one of the two nothing is. */
+static void account_of_both(jw_port *port, jw_line *line) {
+    jw_account account, before;
+    jw_port none = {0};
+    jw_line no_line = {0};
+    IS(jw_port_account(port, line, &before), 0);
+    IS(jw_line_put(line, bytes_of("xyz"), 3, JW_NORMAL), 3);
+    IS(jw_port_waiting(port), 0);
+    IS(jw_port_account(port, line, &account), 0);
+    IS((int64_t)(account.sent - before.sent), 3);
+    IS((int64_t)account.waiting, 3);
+    IS(jw_port_account(&none, line, &account), JW_NO_TERMINAL);
+    IS(jw_port_account(port, &no_line, &account), JW_NO_TERMINAL);
+    IS((int64_t)account.waiting, 3);
+    look_at_account(port, line);
+    IS(jw_port_hang_up(port), 0);
+    look_at_account(port, line);
+}
+
 static void overruns(jw_port *port, jw_line *line) {
     static const uint8_t many[100];
     int64_t before = jw_line_sent(line);
@@ -249,6 +271,7 @@ static void a_port(void) {
     flags_and_counts(&port, &line);
     time_and_packets(&port, &line);
     hangups(&port);
+    account_of_both(&port, &line);
     overruns(&port, &line);
     IS(jw_line_free(&line), 0);
     IS(jw_port_new(&port, &line, 2, 10), JW_MADE); /* its port is there */

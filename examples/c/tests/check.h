@@ -32,11 +32,18 @@ static inline void set_all(jw_port *port, size_t caller, uint8_t h, const char *
     }
 }
 
-/* Each character that was put and pushed is received, dropped or waiting; for a moment at which nobody puts or
-   takes. */
+/* Each character that was put and pushed is received, dropped or waiting, as each end says by itself and as both say
+   together; for a moment at which nobody puts or takes. */
 static inline void look_at_account(jw_port *port, jw_line *line) {
+    jw_account account;
     IS(jw_port_received(port) + jw_port_dropped(port) + jw_port_waiting(port), jw_line_sent(line));
     IS(jw_line_waiting(line), jw_port_waiting(port));
+    IS(jw_port_account(port, line, &account), 0);
+    IS((int64_t)account.sent, jw_line_sent(line));
+    IS((int64_t)account.overruns, jw_line_overruns(line));
+    IS((int64_t)account.received, jw_port_received(port));
+    IS((int64_t)account.dropped, jw_port_dropped(port));
+    IS((int64_t)account.waiting, jw_port_waiting(port));
 }
 
 #endif
