@@ -110,7 +110,7 @@ static void free_port(jw_port *port, jw_line *line) {
 
 /* Hands over what was pushed, and reads what is there. */
 static size_t read_port(jw_port *port) {
-    while (jw_port_receive(port, 64) == 64)
+    while (jw_port_receive(port, 256) == 256)
         continue;
     int64_t got = jw_port_read(port, 0, 0, place, sizeof place);
     check(got > 0 || got == -EAGAIN, "jw_port_read");

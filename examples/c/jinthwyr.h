@@ -232,7 +232,7 @@ int64_t jw_port_cancel(jw_port *port, size_t caller);
 
 /* ---- a port and its line ---- */
 
-/* Hands characters that were pushed over to the line discipline, `most` at most and 64 at most, as long as it
+/* Hands characters that were pushed over to the line discipline, `most` at most and 256 at most, as long as it
    accepts and the port is open. Answers how many. */
 int64_t jw_port_receive(jw_port *port, size_t most);
 

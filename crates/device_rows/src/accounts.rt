@@ -94,7 +94,7 @@ const HANGUP: &[Step<'static>] = &[
     Step::Feeds(8, 0),
 ];
 
-/// What finds the flip buffer full is an overrun; one flush takes 64 at most.
+/// What finds the flip buffer full is an overrun; a flush takes as many as it is told.
 const FULL: &[Step<'static>] = &[
     Step::Calls(0, OPEN, Wanted::Done),
     Step::Puts(&[0x7a; 70], Flag::Normal, 64),

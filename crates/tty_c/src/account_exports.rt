@@ -1,6 +1,5 @@
 //! The account of a port and its line, which a program in C asks for where it has both at hand.
 
-ghost use Rattle.std.specs.Prelude.{◌≡◌};
 ghost use Rattle.tty_c.specs.Calls.{device_in, end_in, AreOne, MeetsWhere};
 
 use crate::answers::NO_TERMINAL;

@@ -135,7 +135,7 @@ fn receive(device: &mut Device, most: usize) -> i64
     }
 }
 
-/// Hands characters of the flip buffer over to the line discipline, `most` at most and 64 at most. Answers how many.
+/// Hands characters of the flip buffer over to the line discipline, `most` at most and 256 at most. Answers how many.
 #[tactic(auto, using(crate::proofs::Handling::on_made, crate::proofs::Handling::on_none))]
 #[unsafe(no_mangle)]
 pub extern "C" fn jw_port_receive(alloc: Global, port: &mut Port, most: usize) -> i64

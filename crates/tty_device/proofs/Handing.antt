@@ -36,7 +36,7 @@ module _ (t u : Terminal) (f g : TakerState Flagged) (cs : List Flagged) (most n
   pub flushed_counted : (xs ys : List Taken) (count : ℕ) → count ≡ length (dropped_of xs) → ys ≡ xs ++ map flushed cs → count ≡ length (dropped_of ys)
   flushed_counted xs ys count so_far is = so_far ∙ (sym (count_flushed xs cs) ∙ ap (λ (z : List Taken). length (dropped_of z)) (sym is))
 
-  pub flushes_from : (d v : DeviceState) (asked : ℕ) → t ≡ d.terminal → d.shown ≡ f.floor → length d.taken ≡ length f.taken → most ≡ min asked 64
+  pub flushes_from : (d v : DeviceState) (asked : ℕ) → t ≡ d.terminal → d.shown ≡ f.floor → length d.taken ≡ length f.taken → most ≡ min asked 256
       → v ≡ record d { terminal = u; taken = d.taken ++ map flushed cs; shown = g.floor } → Flushes d v asked n
   flushes_from d v asked same shown taken few is =
       let looked : f.floor ≤ g.floor = h.looked in

@@ -3,3 +3,4 @@ pub mod Handing
 pub mod Keeping
 pub mod Noting
 pub mod Settling
+pub mod Putting

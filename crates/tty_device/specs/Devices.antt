@@ -103,17 +103,17 @@ after_hang_up d = record d { terminal = kept (after_hangup d.terminal) }
 abbrev pub is_stuck : DeviceState → Bool
 is_stuck d = (live_count d.terminal == 0) || not (accepts d.terminal)
 
--- The discipline receives what one look shows, from the oldest on, at most 64 and at most so many, as long as it
+-- The discipline receives what one look shows, from the oldest on, at most 256 and at most so many, as long as it
 -- accepts.
 pub record Flushes (old new : DeviceState) (most count : ℕ) : Type 0 where
   pub chars : List Flagged
   pub tail : ℕ
   pub counted : count ≡ length chars
   pub looked : old.shown ≤ tail
-  pub few : length chars ≤ min (min most 64) (tail - length old.taken)
+  pub few : length chars ≤ min (min most 256) (tail - length old.taken)
   pub accepted : AcceptsAll old.terminal chars
   pub left : new ≡ record old { terminal = kept (after_characters old.terminal chars); taken = old.taken ++ map flushed chars; shown = tail }
-  pub all : length chars < min (min most 64) (tail - length old.taken) → accepts new.terminal ≡ false
+  pub all : length chars < min (min most 256) (tail - length old.taken) → accepts new.terminal ≡ false
 
 -- where nothing can be flushed nothing changes
 abbrev pub FlushesWhere : Bool → DeviceState → DeviceState → (most count : ℕ) → Type 0

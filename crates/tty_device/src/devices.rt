@@ -5,7 +5,8 @@ ghost use Rattle.tty_calls.specs.Plain.{call_of, handle_of};
 ghost use Rattle.ldisc_switch.specs.Disciplines.{column_in};
 ghost use Rattle.tty_terminal.specs.Meeting.{Meets, drops_of, room_for_characters};
 ghost use Rattle.tty_terminal.specs.Calls.{outcome};
-ghost use Rattle.tty_terminal.specs.Steps.{left_by};
+ghost use Rattle.tty_terminal.specs.Steps.{left_by, with_caller};
+ghost use Rattle.tty_terminal.specs.Terminals.{idle_caller};
 ghost use Rattle.tty_device.specs.Askers.{state_of};
 ghost use Rattle.tty_device.specs.Acts.{settled, verbs_after, DropsOut, HandsOver};
 ghost use Rattle.tty_device.specs.Kept.{chars_of, dropped_of};
@@ -29,7 +30,7 @@ use tty_terminal::{CallerState, Met, ROOM_FOR_CALL, Terminal};
 const MOST_HANDLES: u8 = 32;
 
 /// How many characters one flush takes at most.
-const MOST_FLUSHED: usize = 64;
+const MOST_FLUSHED: usize = 256;
 
 /// The fewest and the most characters that a flip buffer holds.
 const SMALLEST_BUFFER: usize = 64;
@@ -172,7 +173,8 @@ impl Device {
         self.terminal.live() == 0 || !self.terminal.accepts()
     }
 
-    /// Hands characters over to the discipline, `most` at most and 64 at most, as long as it accepts. Answers how many.
+    /// Hands characters over to the discipline, `most` at most and 256 at most, as long as it accepts. Answers how
+    /// many.
     pub fn flush(&mut self, most: usize) -> Result<usize, NoMemory>
         ensures flushes { IfOk result (λ count. FlushesWhere (is_stuck self.old) self.old self.new most count) }
         ensures err { OnErr result (self.new ≡ self.old) }
@@ -265,6 +267,16 @@ fn waiting(terminal: &Terminal, asker: &Asker, h: u8) -> CallerState
     }
 }
 
+/// A caller makes no call. Mostly none of it was under way, and there is nothing to change.
+fn rest(terminal: &mut Terminal, caller: usize)
+    requires known { caller < length terminal.old.terminal.callers }
+    ensures { terminal.new ≡ record terminal.old { terminal = with_caller terminal.old.terminal caller idle_caller } }
+{
+    if terminal.standing(caller) != IDLE {
+        terminal.stand(caller, IDLE);
+    }
+}
+
 /// Notes of a caller whether its call is over, or waits.
 fn settle(
     terminal: &mut Terminal,
@@ -285,7 +297,7 @@ fn settle(
             terminal.stand(caller, state);
             verbs.set(caller, verb_of(call));
         }
-        _ => terminal.stand(caller, IDLE),
+        _ => rest(terminal, caller),
     }
     terminal.forget();
 }
@@ -308,7 +320,7 @@ fn drop_shown(flip: &mut FlipOut, taken: &mut TakenChars, count: &mut u64, chars
 
 /// Hands over what one look shows, in room that was reserved.
 fn hand_over(terminal: &mut Terminal, flip: &mut FlipOut, chars: &mut Chars, most: usize) -> usize
-    requires few { most ≤ 64 }
+    requires few { most ≤ 256 }
     requires empty { chars.old.items ≡ [] }
     requires spare { most ≤ chars.old.spare }
     requires wire { room_for_characters terminal.old.terminal most ≤ terminal.old.wire_room }

@@ -1,14 +1,13 @@
 //! The end that puts characters in.
 
 ghost use Rattle.std.specs.Prelude.{◌≡◌, ◌+◌, ◌-◌, ◌≤◌, ◌<◌, ◌^◌, [], ◌++◌, length, take};
-ghost use Rattle.std.proofs.Common.{◌⊎◌};
 ghost use Rattle.flow_control.specs.Counting.{count_after};
 ghost use Rattle.flip_buffer.specs.Packed.{with_flag};
 ghost use Rattle.tty_device.specs.Lines.{LineState, IsFull, Puts};
 
 use flip_buffer::FlipIn;
 use std::marker::Model;
-use tty_base::{Flag, Moves, Put};
+use tty_base::{Flag, Moves, Put, rest_of};
 
 /// How many characters can be put, ever: 100 years at three billion a second.
 const MOST_SENT: u64 = 9223372036854775808;
@@ -95,15 +94,12 @@ impl Line {
 fn room_for_more(input: &mut FlipIn) -> u64
     ensures puts { Puts input.old input.new [] }
     ensures room { length input.new.sent + result ≤ input.new.floor + input.new.capacity }
-    ensures small { result ≡ 0 ⊎ length input.new.sent + result ≤ 2 ^ 63 }
+    ensures small { 0 < result → length input.new.sent + result ≤ 2 ^ 63 }
     ensures full { result ≡ 0 → IsFull input.new.sent input.new.floor input.new.capacity }
 {
-    if input.sent() >= MOST_SENT {
-        return 0;
-    }
     let waiting = input.waiting();
     let free = input.capacity() as u64 - waiting;
-    free.min(MOST_SENT - input.sent())
+    free.min(MOST_SENT.saturating_sub(input.sent()))
 }
 
 /// Puts the first of these bytes for which there is room, by the head that this call loads, and answers how many.
@@ -128,7 +124,7 @@ fn put_some(input: &mut FlipIn, bytes: &[u8], flag: Flag) -> usize
 {
     let mut done = 0;
     while done < bytes.len() {
-        let count = put_run(input, &bytes[done..], flag);
+        let count = put_run(input, rest_of(bytes, done), flag);
         if count == 0 {
             return done;
         }

@@ -73,7 +73,7 @@ static void look_at(const uint8_t *bytes, int64_t count, int64_t *read) {
 /* Hands over and reads; answers whether there was anything. */
 static bool take(jw_port *port, bool is_whole, int64_t *read) {
     static uint8_t place[4096];
-    int64_t took = jw_port_receive(port, 64);
+    int64_t took = jw_port_receive(port, 256);
     int64_t got = jw_port_read(port, 0, 3, place, sizeof place);
     IS(took < 0 || (got < 0 && got != -EAGAIN && got != -EIO), 0);
     if (is_whole && got > 0)
