@@ -1,5 +1,5 @@
 -- A port and its line meet.
-use Rattle.std.proofs.Common.{◌≡◌, ℤ, pos, Option, None, Some, sym, ap, subst, ◌∙◌}
+use Rattle.std.proofs.Common.{◌≡◌, ℤ, pos, Option, None, Some, subst}
 use Rattle.tty_device.specs.Devices.{DeviceState}
 use Rattle.tty_device.specs.Lines.{LineState}
 use Rattle.tty_c.specs.declared.account_exports.Account.{Account}

@@ -9,6 +9,7 @@ use crate::{lines, ports};
 use std::alloc::Global;
 
 /// Where the characters are that were put: received, dropped or waiting; and how many were refused.
+#[derive(Drop)]
 #[repr(C)]
 pub struct Account {
     pub sent: u64,

@@ -1,5 +1,5 @@
 -- Characters that are put one run after another.
-use Rattle.std.proofs.Common.{◌≡◌, ◌≤◌, ◌+◌, ◌++◌, ◌∙◌, ℕ, List, take, drop, length, sym, ap, subst, arith, append_assoc}
+use Rattle.std.proofs.Common.{◌≡◌, ◌≤◌, ◌+◌, ◌++◌, ◌∙◌, ℕ, List, take, drop, sym, ap, arith, append_assoc}
 use Rattle.std.proofs.Math.Seq.{take-add}
 use mathlib.Core.List.{map-append}
 use Rattle.tty_base.specs.declared.characters.Flag.{Flag}
