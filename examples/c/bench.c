@@ -1,11 +1,13 @@
-/* bench: how many bytes a second N_TTY by itself, a port and a pseudoterminal receive and hand to a reader, in one run.
+/* bench [TURNS]: how many bytes a second N_TTY by itself, a port and a pseudoterminal receive and hand to a reader, in
+   one run.
 
    Each row is for one set of modes. Lines of 64 bytes come in pieces of 2,048, and what was echoed is taken away after
    each piece. `write` is output of a program, with output processing. Of `raw, two threads` one thread is the line, and
    the other reads. A round trip is a line of 64 bytes that one thread sends and another reads and writes back; the two
-   wake each other by semaphores, and those at the pseudoterminal by what the kernel does. All are played in turns, and
-   each number is the best of all turns, which other programs disturb least. Beside the time that passed stands the
-   processor time of this program; of a pseudoterminal, a worker of the kernel does a part that it lacks. */
+   wake each other by semaphores, and those at the pseudoterminal by what the kernel does. All are played in turns, 60
+   unless told, and each number is the best of all turns, which other programs disturb least. Beside the time that
+   passed stands the processor time of this program; of a pseudoterminal, a worker of the kernel does a part that it
+   lacks. */
 #define _GNU_SOURCE
 #include "jinthwyr.h"
 
@@ -20,7 +22,9 @@
 #include <time.h>
 #include <unistd.h>
 
-enum { PIECE = 2048, TOTAL = 256 * 1024, TURNS = 60, ROUNDS = 1000, MESSAGE = 64 };
+enum { PIECE = 2048, TOTAL = 256 * 1024, ROUNDS = 1000, MESSAGE = 64 };
+
+static int turns = 60;
 
 static uint8_t text[PIECE], place[2 * PIECE];
 
@@ -349,7 +353,7 @@ static void print(const char *name, struct rate tty, struct rate port, struct ra
 
 static void print_input(const char *name, const char *const *words, bool is_canonical, bool echoes) {
     struct rate tty = {0}, port = {0}, kernel = {0};
-    for (int turn = 0; turn < TURNS; turn++) {
+    for (int turn = 0; turn < turns; turn++) {
         keep_best(&tty, library_input(words));
         keep_best(&port, port_input(words));
         keep_best(&kernel, kernel_input(is_canonical, echoes));
@@ -359,7 +363,7 @@ static void print_input(const char *name, const char *const *words, bool is_cano
 
 static void print_output(const char *name) {
     struct rate tty = {0}, port = {0}, kernel = {0};
-    for (int turn = 0; turn < TURNS; turn++) {
+    for (int turn = 0; turn < turns; turn++) {
         keep_best(&tty, library_output());
         keep_best(&port, port_output());
         keep_best(&kernel, kernel_output());
@@ -369,7 +373,7 @@ static void print_output(const char *name) {
 
 static void print_threads(const char *name, const char *const *words) {
     struct rate port = {0}, kernel = {0};
-    for (int turn = 0; turn < TURNS; turn++) {
+    for (int turn = 0; turn < turns; turn++) {
         keep_best(&port, port_threads(words));
         keep_best(&kernel, kernel_threads());
     }
@@ -378,16 +382,18 @@ static void print_threads(const char *name, const char *const *words) {
 
 static void print_trips(const char *name, const char *const *words) {
     struct rate port = {0}, kernel = {0};
-    for (int turn = 0; turn < TURNS; turn++) {
+    for (int turn = 0; turn < turns; turn++) {
         keep_best(&port, port_trips(words));
         keep_best(&kernel, kernel_trips());
     }
     print(name, (struct rate){0}, port, kernel);
 }
 
-int main(void) {
+int main(int argc, char **argv) {
     static const char *const raw[] = {"raw", NULL}, *const quiet[] = {"-echo", NULL}, *const sane[] = {NULL};
     static const char columns[] = "     N_TTY      port    kernel     N_TTY      port    kernel";
+    if (argc > 1)
+        turns = atoi(argv[1]);
     for (size_t i = 0; i < PIECE; i++)
         text[i] = i % 64 == 63 ? '\n' : (uint8_t)('a' + i % 26);
     printf("million bytes a second, of the time that passed, and of this program's processor time\n");
