@@ -1,10 +1,10 @@
 //! The answers of a journal by caller and step, and its sums, from one walk over it.
 
-ghost use Rattle.std.specs.Prelude.{◌≡◌, ℕ, IfOk, IfSome, IsSome};
+ghost use Rattle.std.specs.Prelude.{◌≡◌, ℕ, IfOk, OnOk, IfSome, IsSome};
 ghost use Rattle.std.specs.Option.{option_map};
 ghost use Rattle.tty_calls.specs.Plain.{answer_lent, entry_of, event_of};
 ghost use Rattle.session_print.specs.Report.{answer_in, answer_by, answer_of_event};
-ghost use Rattle.session_print.specs.Printing.{noted_answer, entry_answer, sums_of};
+ghost use Rattle.session_print.specs.Printing.{noted_answer, answer_at, place_in, entry_answer, sums_of};
 
 use super::places::{Places, Turn, entry_at};
 use super::sums::Sums;
@@ -44,14 +44,31 @@ pub(crate) fn walk(alloc: Global, journal: &Journal) -> Result<Walked<'_>, NoMem
     ensures answers { IfOk result (λ walked. (c step : ℕ) → noted_answer walked.answers c step ≡ answer_in journal.now.items c step) }
     ensures sums { IfOk result (λ walked. walked.sums ≡ sums_of journal.now.items) }
 {
-    if journal.len() > u32::MAX as usize {
-        return Err(NoMemory);
-    }
     let mut places = Places::new(alloc);
     let mut sums = Sums {
         flushed: 0,
         dropped: 0,
     };
+    note_all(alloc, journal, &mut places, &mut sums)?;
+    let answers = Answers { journal, places };
+    Ok(Walked { answers, sums })
+}
+
+/// Notes the answers of a journal among no places, and adds its sums to none.
+fn note_all(
+    alloc: Global,
+    journal: &Journal,
+    places: &mut Places,
+    sums: &mut Sums,
+) -> Result<(), NoMemory>
+    requires places { (c step : ℕ) → place_in places.old c step ≡ 0 }
+    requires sums { sums.old ≡ record { flushed = 0; dropped = 0 } }
+    ensures answers { OnOk result ((c step : ℕ) → answer_at journal.now.items (place_in places.new c step) ≡ answer_in journal.now.items c step) }
+    ensures sums { OnOk result (sums.new ≡ sums_of journal.now.items) }
+{
+    if journal.len() > u32::MAX as usize {
+        return Err(NoMemory);
+    }
     for index in 0..journal.len() {
         let entry = journal.at(index);
         sums.add(&entry.event)?;
@@ -59,8 +76,7 @@ pub(crate) fn walk(alloc: Global, journal: &Journal) -> Result<Walked<'_>, NoMem
             places.note(alloc, turn, index as u32 + 1)?;
         }
     }
-    let answers = Answers { journal, places };
-    Ok(Walked { answers, sums })
+    Ok(())
 }
 
 /// The turn that an entry answers.

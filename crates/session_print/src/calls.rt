@@ -1,8 +1,8 @@
 //! The lines of a report that tell the calls of a port, each with its answer.
 
-ghost use Rattle.std.specs.Prelude.{◌≡◌, ◌++◌, ◌+◌, ◌<◌, ◌^◌, Some, IfOk, OnOk, flat_map, length, string_bytes};
+ghost use Rattle.std.specs.Prelude.{◌≡◌, ◌++◌, ◌+◌, ◌<◌, ◌^◌, Some, IfOk, OnOk, flat_map, length, map, replicate, string_bytes};
 ghost use Rattle.tty_calls.specs.Plain.{call_of, answer_lent};
-ghost use Rattle.tty_calls.specs.Sessions.{script_of, number_in, session_of};
+ghost use Rattle.tty_calls.specs.Sessions.{script_of, phase_of, number_in, scripts_over, session_of};
 ghost use Rattle.session_print.specs.Report.{calls_text, told_line, told_from};
 ghost use Rattle.session_print.specs.Printing.{sums_on, call_head, call_rest, tens, noted_answer, scripts_for, told_script, steps_then, told_scripts, steps_after};
 
@@ -13,7 +13,7 @@ use super::sums::Sums;
 use super::words::{put_answer, verb_of};
 use std::alloc::{AllocError, Global};
 use tty_base::NoMemory;
-use tty_calls::{AnswerRef, Call, Calls, Names, PortRun, Script, Session};
+use tty_calls::{AnswerRef, Call, Calls, Names, Phase, PortRun, Script, Session};
 
 /// Adds a line for each call of a port that its journal answers, script by script, and gives the sums of
 /// the journal.
@@ -34,10 +34,9 @@ pub(crate) fn put_calls(
         names,
         answers,
     };
-    let mut steps = vec![in alloc; 0usize; teller.names.len()]?;
-    for phase in session.phases.as_slice() {
-        teller.put_scripts(text, &mut steps, phase.callers.as_slice())?;
-    }
+    let told = teller.put_phases(alloc, text, session.phases.as_slice());
+    drop(teller);
+    told?;
     Ok(sums)
 }
 
@@ -50,6 +49,18 @@ struct Teller<'a> {
 }
 
 impl Teller<'_> {
+    /// Adds the lines of the port's scripts in all phases.
+    fn put_phases(&self, alloc: Global, text: &mut String, phases: &[Phase]) -> Result<(), NoMemory>
+        ensures { OnOk result (string_bytes text.new ≡ string_bytes text.old
+            ++ flat_map (told_line self.now.port (noted_answer self.now.answers)) (told_scripts self.now.names (replicate (length self.now.names) 0) (scripts_over self.now.port (map phase_of phases.now)))) }
+    {
+        let mut steps = vec![in alloc; 0usize; self.names.len()]?;
+        for phase in phases {
+            self.put_scripts(text, &mut steps, phase.callers.as_slice())?;
+        }
+        Ok(())
+    }
+
     /// Adds the lines of the port's scripts among these. `steps` has each caller's next step.
     fn put_scripts(
         &self,

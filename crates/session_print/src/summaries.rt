@@ -1,13 +1,13 @@
 //! The summary of a session: how many calls, characters, bytes that were read, and generations there are over all
 //! ports.
 
-ghost use Rattle.std.specs.Prelude.{◌≡◌, IfOk, map, sum_by, length};
+ghost use Rattle.std.specs.Prelude.{◌≡◌, ◌++◌, IfOk, OnOk, map, sum_by, length, string_bytes};
 ghost use Rattle.tty_calls.specs.Limits.{call_count};
 ghost use Rattle.tty_calls.specs.Plain.{answer_lent, event_of};
 ghost use Rattle.tty_calls.specs.Sessions.{script_of, phase_of, session_of};
 ghost use Rattle.session_print.specs.Ends.{end_of};
 ghost use Rattle.session_print.specs.Lines.{flushed_count};
-ghost use Rattle.session_print.specs.Summary.{summary_text, all_arrived, all_flushed, all_got, all_generations, got_count, got_in as got_by_event, got_by as got_by_answer};
+ghost use Rattle.session_print.specs.Summary.{summary_text, summary_front, summary_rest, all_arrived, all_flushed, all_got, all_generations, got_count, got_in as got_by_event, got_by as got_by_answer};
 
 use super::sums::flushed_in;
 use std::alloc::Global;
@@ -26,16 +26,36 @@ pub fn summary(
 ) -> Result<Bytes, NoMemory>
     ensures { IfOk result (λ text. text.items ≡ summary_text number (session_of session.now) runs.now (map end_of ends.now)) }
 {
+    let mut text = String::new(alloc);
+    put_front(&mut text, number, session, runs)?;
+    put_rest(&mut text, runs, ends)?;
+    Ok(Bytes::from_vec(text.into_bytes()))
+}
+
+fn put_front(
+    text: &mut String,
+    number: u32,
+    session: &Session,
+    runs: &[PortRun],
+) -> Result<(), NoMemory>
+    ensures { OnOk result (string_bytes text.new ≡ string_bytes text.old ++ summary_front number (session_of session.now) runs.now) }
+{
     let calls = calls_in(session.phases.as_slice())?;
     let arrived = arrived_on(runs)?;
+    write!(text, "gen {number}\ncalls {calls}\narrived {arrived}")?;
+    Ok(())
+}
+
+fn put_rest(text: &mut String, runs: &[PortRun], ends: &[PortEnd]) -> Result<(), NoMemory>
+    ensures { OnOk result (string_bytes text.new ≡ string_bytes text.old ++ summary_rest runs.now (map end_of ends.now)) }
+{
     let Handed { flushed, got } = handed_on(runs)?;
     let generations = generations_of(ends)?;
-    let mut text = String::new(alloc);
     write!(
         text,
-        "gen {number}\ncalls {calls}\narrived {arrived}\ntaken {flushed}\nbytes {got}\ngenerations {generations}\ndone\n"
+        "\ntaken {flushed}\nbytes {got}\ngenerations {generations}\ndone\n"
     )?;
-    Ok(Bytes::from_vec(text.into_bytes()))
+    Ok(())
 }
 
 fn calls_in(phases: &[Phase]) -> Result<u64, NoMemory>

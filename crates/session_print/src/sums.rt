@@ -1,6 +1,6 @@
 //! How many characters a journal flushes, and how many were dropped.
 
-ghost use Rattle.std.specs.Prelude.{◌≡◌, ◌+◌, IfOk, OnOk, length};
+ghost use Rattle.std.specs.Prelude.{◌≡◌, ◌+◌, OnOk, length};
 ghost use Rattle.tty_calls.specs.Plain.{event_of};
 ghost use Rattle.session_print.specs.Lines.{flushed_in as flushed_by, dropped_in as dropped_by};
 
@@ -24,12 +24,11 @@ impl Sums {
         ensures dropped { OnOk result (self.new.dropped ≡ self.old.dropped + dropped_by (event_of event.now)) }
     {
         match event {
-            Event::Answer { dropped, .. } => self.dropped = with_more(self.dropped, dropped)?,
-            Event::Flush(characters) => self.flushed = with_more(self.flushed, characters)?,
-            Event::Hangup(dropped) => self.dropped = with_more(self.dropped, dropped)?,
-            _ => {}
+            Event::Answer { dropped, .. } => add_to(&mut self.dropped, dropped),
+            Event::Flush(characters) => add_to(&mut self.flushed, characters),
+            Event::Hangup(dropped) => add_to(&mut self.dropped, dropped),
+            _ => Ok(()),
         }
-        Ok(())
     }
 }
 
@@ -44,10 +43,11 @@ pub(crate) fn flushed_in(event: &Event) -> u64
     }
 }
 
-/// A sum with so many characters more.
+/// Adds how many characters there are to a sum.
 #[inline(always)]
-fn with_more(sum: u64, characters: &[Flagged]) -> Result<u64, NoMemory>
-    ensures { IfOk result (λ more. more ≡ sum + length characters.now) }
+fn add_to(sum: &mut u64, characters: &[Flagged]) -> Result<(), NoMemory>
+    ensures { OnOk result (sum.new ≡ sum.old + length characters.now) }
 {
-    sum.checked_add(characters.len() as u64).ok_or(NoMemory)
+    *sum = sum.checked_add(characters.len() as u64).ok_or(NoMemory)?;
+    Ok(())
 }
