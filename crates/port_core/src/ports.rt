@@ -86,13 +86,15 @@ impl Port {
         ensures { IfOk result (λ p. p ≡ record { terminal = opening (sum callers.now) flip.capacity; journal = []; kept = []; counts = callers.now; limit = limit; starved = false; flip = flip }) }
     {
         let count = total(callers);
+        let waiting = slots_for(alloc, count)?;
+        let counts = callers.to_vec(alloc)?;
         Ok(Port {
             alloc,
             terminal: Terminal::new(alloc, count, flip.capacity() as u32)?,
             journal: Journal::new(alloc),
             kept: AskedCalls::new(),
-            waiting: slots_for(alloc, count)?,
-            counts: callers.to_vec(alloc)?,
+            waiting,
+            counts,
             limit,
             starved: false,
             flip,
