@@ -4,7 +4,7 @@ use crate::processes::JobSignal;
 use tty_base::Errno;
 
 /// What a call is answered without the port.
-#[derive(Clone, Copy, Debug, PartialEq, Eq)]
+#[derive(Clone, Copy, PartialEq, Eq)]
 pub enum JobAnswer {
     /// The call did what it is for.
     Done,
@@ -19,7 +19,7 @@ pub enum JobAnswer {
 }
 
 /// Where a signal goes.
-#[derive(Clone, Copy, Debug, PartialEq, Eq)]
+#[derive(Clone, Copy, PartialEq, Eq)]
 pub enum Target {
     /// A process group, by its number.
     Group(u16),

@@ -8,7 +8,7 @@ use std::collections::HashMap;
 use tty_base::NoMemory;
 
 /// How often each number was counted.
-#[derive(Debug, Drop)]
+#[derive(Drop)]
 pub(crate) struct Census {
     counts: HashMap<u32, u16>,
 }

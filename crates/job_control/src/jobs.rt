@@ -16,7 +16,7 @@ use std::marker::Model;
 use tty_base::NoMemory;
 
 /// The session that holds a port: the place of its leader, its number, and the group that is in the foreground.
-#[derive(Clone, Copy, Debug)]
+#[derive(Clone, Copy)]
 pub(crate) struct Holder {
     pub(crate) leader: u16,
     pub(crate) session: u16,
@@ -24,7 +24,7 @@ pub(crate) struct Holder {
 }
 
 /// Job control of a port. Processes are named by their places in the list that `new` is given; only `new` takes memory.
-#[derive(Debug, Drop)]
+#[derive(Drop)]
 pub struct Jobs {
     procs: Vec<Proc>,
     exited: Vec<bool>,

@@ -3,7 +3,7 @@
 use arrayvec::ArrayString;
 
 /// A process of a port (credentials(7)).
-#[derive(Clone, Copy, Debug)]
+#[derive(Clone, Copy)]
 pub struct Proc {
     pub name: ArrayString<16>,
     /// The number of its session.
@@ -21,7 +21,7 @@ pub struct Proc {
 }
 
 /// A signal of job control (signal(7)).
-#[derive(Clone, Copy, Debug, PartialEq, Eq)]
+#[derive(Clone, Copy, PartialEq, Eq)]
 pub enum JobSignal {
     Int,
     Quit,
@@ -33,7 +33,7 @@ pub enum JobSignal {
 }
 
 /// What a process is about to do with a port.
-#[derive(Clone, Copy, Debug, PartialEq, Eq)]
+#[derive(Clone, Copy, PartialEq, Eq)]
 pub enum JobAct {
     Read,
     Write,
@@ -42,7 +42,7 @@ pub enum JobAct {
 }
 
 /// What is said of an act before it is tried.
-#[derive(Clone, Copy, Debug, PartialEq, Eq)]
+#[derive(Clone, Copy, PartialEq, Eq)]
 pub enum Judged {
     /// It goes on.
     Pass,
@@ -53,7 +53,7 @@ pub enum Judged {
 }
 
 /// Why a call of job control is refused (errno(3)).
-#[derive(Clone, Copy, Debug, PartialEq, Eq)]
+#[derive(Clone, Copy, PartialEq, Eq)]
 pub enum JobRefusal {
     EPERM,
     ENOTTY,
