@@ -19,6 +19,13 @@ range_step i n lt =
     let e : n - i ≡ suc (n - (i + 1)) = omega arith in
     rw e refl
 
+-- at the end of a range nothing is left to count
+pub counted_over : (f : ℕ → Bool) (i n count total : ℕ) → n ≤ i → count + count_by f (range_with_len i (n - i)) ≡ total → count ≡ total
+counted_over f i n count total over told =
+    let none : n - i ≡ 0 = omega (arith, over) in
+    let rest : count_by f (range_with_len i (n - i)) ≡ 0 = ap (λ m. count_by f (range_with_len i m)) none in
+    omega (arith, told, rest)
+
 -- some pass exactly where the count is not 0
 some_head : (b rest : Bool) (n : ℕ) → rest ≡ not (n == 0) → (b || rest) ≡ not ((one_if b + n) == 0)
 some_head true rest n e = grind (arith, nat_tests)

@@ -1,6 +1,6 @@
 use Rattle.std.proofs.Common.{◌∙◌, sym, ap, length}
 use Rattle.job_control.specs.Keeping.{counted, lives_under, living_count}
-use Rattle.job_control.proofs.Counting.{counted_few}
+use Rattle.job_control.proofs.Counting.{counted_few, counted_over}
 use Rattle.job_control.proofs.Ties.{life_counted, no_life_counted, groups_more}
 use Rattle.job_control.proofs.roster.living_in.Goals as goal
 use Rattle.job_control.proofs.roster.living_in.Goals.{then-not-has_exited+in_ok-add, else-not-has_exited}
@@ -26,3 +26,8 @@ loop-place-preserved c = (
       ],
   groups_more c.args.procs.now c.loop-place.place c.key_of-key.ensures.fits c.loop-place.invariant.1,
 )
+
+pub returns-clause-counts : goal.returns-clause-counts
+returns-clause-counts c = λ key.
+    counted_over (lives_under c.args.procs.now c.args.exited.now key) c.loop-place.place (length c.args.procs.now) (counted c.loop-place.living key) (living_count c.args.procs.now c.args.exited.now key)
+    c.loop-place-test.false (c.loop-place.invariant.0 key)

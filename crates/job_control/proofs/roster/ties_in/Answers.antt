@@ -1,7 +1,7 @@
 use Rattle.std.proofs.Common.{◌∙◌, sym, ap, length}
 use Rattle.job_control.specs.Roster.{ties_group}
 use Rattle.job_control.specs.Keeping.{counted, ties_count}
-use Rattle.job_control.proofs.Counting.{counted_few}
+use Rattle.job_control.proofs.Counting.{counted_few, counted_over}
 use Rattle.job_control.proofs.Ties.{tie_counted, no_tie_counted}
 use Rattle.job_control.proofs.roster.ties_in.Goals as goal
 use Rattle.job_control.proofs.roster.ties_in.Goals.{then-is_tied+in_ok-add, else-is_tied}
@@ -24,3 +24,8 @@ loop-place-preserved c = λ group.
           (ties_count c.args.procs.now c.args.exited.now group)
           c.loop-place-test.true (sym c.is_tied.ensures ∙ w.if-is_tied.false) (ap (λ ties. counted ties group) w.ties-is) (c.loop-place.invariant group)
     ]
+
+pub returns : goal.returns
+returns c = λ group.
+    counted_over (ties_group c.args.procs.now c.args.exited.now group) c.loop-place.place (length c.args.procs.now) (counted c.loop-place.ties group) (ties_count c.args.procs.now c.args.exited.now group)
+    c.loop-place-test.false (c.loop-place.invariant group)
