@@ -25,6 +25,10 @@ use Rattle.check_text.specs.Fields.{Read, Front, in_front, or_else, ◌>>=◌}
 abbrev pub all_errnos : List Errno
 all_errnos = EBADF ∷ EEXIST ∷ EBUSY ∷ EAGAIN ∷ EIO ∷ EINVAL ∷ ENOTTY ∷ EMSGSIZE ∷ []
 
+-- those behind the fourth
+abbrev pub later_errnos : List Errno
+later_errnos = EIO ∷ EINVAL ∷ ENOTTY ∷ EMSGSIZE ∷ []
+
 abbrev pub errno_of : List ℕ → Option Errno
 errno_of word = choice_of errno_name all_errnos word
 

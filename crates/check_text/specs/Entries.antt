@@ -53,6 +53,10 @@ call_kinds = event.Answer ∷ event.Part ∷ event.Wait ∷ []
 abbrev pub other_kinds : List EventKind
 other_kinds = event.Flush ∷ event.Tick ∷ event.LineEnd ∷ event.ClockEnd ∷ event.CallerEnd ∷ event.PhaseEnd ∷ event.Hangup ∷ []
 
+-- the last of these
+abbrev pub last_kinds : List EventKind
+last_kinds = event.CallerEnd ∷ event.PhaseEnd ∷ event.Hangup ∷ []
+
 abbrev pub kind_of : List ℕ → Option EventKind
 kind_of word = option_or (choice_of kind_text call_kinds word) (choice_of kind_text other_kinds word)
 
@@ -78,6 +82,13 @@ ends_in_number event words = number_in words >>= λ n. at_end (event n.value) n.
 abbrev pub with_dropped : PlainAnswer → List (List ℕ) → Read PlainEvent
 with_dropped answer [] = Ok (answered answer [])
 with_dropped answer (word ∷ words) = if bytes_eq word (codes "drop") then ends_in_chars (answered answer) words else Err Word
+
+-- an event that no word follows
+abbrev pub bare_by : EventKind → PlainEvent
+bare_by event.Tick = ticked
+bare_by event.ClockEnd = clock_ended
+bare_by event.CallerEnd = caller_ended
+bare_by kind = phase_ended
 
 abbrev pub event_by : PlainCallers → Who → ℕ → EventKind → List (List ℕ) → Read PlainEvent
 event_by callers who step event.Answer words = call_of_entry callers who step >>= λ kind. answer_in kind words >>= λ answer. with_dropped answer.value answer.rest

@@ -4,8 +4,10 @@ ghost use Rattle.std.specs.Prelude.{◌≡◌, ◌+◌, ◌*◌, ◌<◌, ◌==�
 ghost use Rattle.std.specs.List.{after_first};
 ghost use Rattle.tty_calls.specs.Plain.{answer_of};
 ghost use Rattle.text_lines.specs.Lines.{words_of};
+ghost use Rattle.text_lines.specs.Values.{choice_of};
+ghost use Rattle.session_print.specs.Words.{errno_name};
 ghost use Rattle.check_text.specs.Fields.{in_front};
-ghost use Rattle.check_text.specs.Answers.{errno_of as errno_named, named_answer as answer_named, small_at as small_number, no_flags as cleared_modes, modes_from as modes_by_words, count_of as count_by_digits, count_at as count_by_place, counts_in as counts_by_words, answer_by, answer_meaning as meant_answer, words_after as words_past, answer_in as read_answer};
+ghost use Rattle.check_text.specs.Answers.{errno_of as errno_named, named_answer as answer_named, small_at as small_number, no_flags as cleared_modes, modes_from as modes_by_words, count_of as count_by_digits, count_at as count_by_place, counts_in as counts_by_words, answer_by, answer_meaning as meant_answer, answer_as, later_errnos, words_after as words_past, answer_in as read_answer};
 ghost use Rattle.check_text.specs.Building.{count_with};
 ghost use Rattle.check_text.specs.Results.{ReadsAs};
 
@@ -30,11 +32,16 @@ pub(crate) fn answer_in(
     ensures { ReadsAs (λ parts. in_front (words_of parts.1.now) (answer_of parts.0)) result (read_answer kind (words_of words.now)) }
 {
     let answer = answer_meaning(alloc, kind, words)?;
-    let text = answer_text(alloc, &answer)?;
-    match words_after(text.as_slice(), words) {
-        Some(rest) => Ok((answer, rest)),
-        None => Err(LineFault::Wrong(Reason::Word)),
-    }
+    let rest = after_answer(alloc, &answer, words)?;
+    Ok((answer, rest))
+}
+
+/// What follows the words of an answer, where these are the first words.
+fn after_answer<'a>(alloc: Global, answer: &Answer, words: &'a [u8]) -> Result<&'a [u8], LineFault>
+    ensures { ReadsAs (λ rest. in_front (words_of rest.now) (answer_of answer.now)) result (answer_as (answer_of answer.now) (words_of words.now)) }
+{
+    let text = answer_text(alloc, answer)?;
+    words_after(text.as_slice(), words).ok_or(LineFault::Wrong(Reason::Word))
 }
 
 /// What follows the words of a text, where these are the first words.
@@ -87,7 +94,15 @@ fn errno_of(word: &[u8]) -> Option<Errno>
         Some(Errno::EBUSY)
     } else if word == b"EAGAIN".as_slice() {
         Some(Errno::EAGAIN)
-    } else if word == b"EIO".as_slice() {
+    } else {
+        later_errno_of(word)
+    }
+}
+
+fn later_errno_of(word: &[u8]) -> Option<Errno>
+    ensures { result ≡ choice_of errno_name later_errnos word.now }
+{
+    if word == b"EIO".as_slice() {
         Some(Errno::EIO)
     } else if word == b"EINVAL".as_slice() {
         Some(Errno::EINVAL)

@@ -1,11 +1,12 @@
 //! What each line after a session writes: an entry, a heading, an overrun, the numbers of a port's line, or one
 //! fixed word.
 
-ghost use Rattle.std.specs.Prelude.{◌≡◌, Ok, Err, MatchResult};
-ghost use Rattle.tty_calls.specs.Plain.{answer_of, flushed, hung_up, parted, waited, line_ended, PlainEvent};
+ghost use Rattle.std.specs.Prelude.{◌≡◌, List, Ok, Err, MatchResult};
+ghost use Rattle.tty_base.specs.declared.characters.Flagged.{Flagged};
+ghost use Rattle.tty_calls.specs.Plain.{answer_of, flushed, hung_up, parted, waited, line_ended, answered, PlainAnswer, PlainEvent};
 ghost use Rattle.text_lines.specs.Lines.{words_of};
 ghost use Rattle.check_text.specs.Fields.{in_front, at_end};
-ghost use Rattle.check_text.specs.Entries.{ends_in_number, maker_of as maker_named, who_of as who_named, who_in as read_who, call_of_entry as call_in_entry, chars_in as read_chars, ends_in_chars, with_dropped as read_dropped, event_by as read_event_by, event_in as read_event, entry_in as read_entry, fixed_in as read_fixed, heading_in as read_heading, overrun_in as read_overrun, numbers_in as read_numbers};
+ghost use Rattle.check_text.specs.Entries.{ends_in_number, maker_of as maker_named, who_of as who_named, who_in as read_who, call_of_entry as call_in_entry, chars_in as read_chars, ends_in_chars, with_dropped as read_dropped, bare_by, event_by as read_event_by, event_in as read_event, entry_in as read_entry, fixed_in as read_fixed, heading_in as read_heading, overrun_in as read_overrun, numbers_in as read_numbers};
 ghost use Rattle.check_text.specs.Results.{ReadsAs};
 ghost use Rattle.check_text.specs.Views.{callers_of, entry_with, event_with};
 
@@ -122,23 +123,24 @@ fn event_by(
         EventKind::Flush => flush_event(words, characters),
         EventKind::Hangup => hangup_event(words, characters),
         EventKind::LineEnd => Ok(ReadEvent::LineEnd(sent_in(words)?)),
-        EventKind::Tick => {
-            no_more(words)?;
-            Ok(ReadEvent::Tick)
-        }
-        EventKind::ClockEnd => {
-            no_more(words)?;
-            Ok(ReadEvent::ClockEnd)
-        }
-        EventKind::CallerEnd => {
-            no_more(words)?;
-            Ok(ReadEvent::CallerEnd)
-        }
-        EventKind::PhaseEnd => {
-            no_more(words)?;
-            Ok(ReadEvent::PhaseEnd)
-        }
+        EventKind::Tick => bare_event(EventKind::Tick, words),
+        EventKind::ClockEnd => bare_event(EventKind::ClockEnd, words),
+        EventKind::CallerEnd => bare_event(EventKind::CallerEnd, words),
+        EventKind::PhaseEnd => bare_event(EventKind::PhaseEnd, words),
     }
+}
+
+/// An event that no word follows.
+fn bare_event(kind: EventKind, words: &[u8]) -> Result<ReadEvent, LineFault>
+    ensures { (chars : List Flagged) → ReadsAs (event_with chars) result (at_end (bare_by kind) (words_of words.now)) }
+{
+    no_more(words)?;
+    Ok(match kind {
+        EventKind::Tick => ReadEvent::Tick,
+        EventKind::ClockEnd => ReadEvent::ClockEnd,
+        EventKind::CallerEnd => ReadEvent::CallerEnd,
+        _ => ReadEvent::PhaseEnd,
+    })
 }
 
 /// The kind of the call that an entry speaks of: its maker is a caller, whose script has the step.
@@ -170,18 +172,25 @@ fn answer_event(
 fn with_dropped(answer: Answer, words: &[u8], dropped: &mut Chars) -> Result<ReadEvent, LineFault>
     ensures { ReadsAs (event_with dropped.new.items) result (read_dropped (answer_of answer) (words_of words.now)) }
 {
+    dropped_in(words, dropped)?;
+    Ok(ReadEvent::Answer(answer))
+}
+
+/// The characters that were dropped beside an answer.
+fn dropped_in(words: &[u8], dropped: &mut Chars) -> Result<(), LineFault>
+    ensures { (answer : PlainAnswer) → ReadsAs (λ _. answered answer dropped.new.items) result (read_dropped answer (words_of words.now)) }
+{
     match split_word(words) {
         None => {
             dropped.truncate(0);
-            Ok(ReadEvent::Answer(answer))
+            Ok(())
         }
         Some((word, rest)) => {
             if word != b"drop".as_slice() {
                 return Err(LineFault::Wrong(Reason::Word));
             }
             let rest = characters_in(rest, dropped)?;
-            no_more(rest)?;
-            Ok(ReadEvent::Answer(answer))
+            Ok(no_more(rest)?)
         }
     }
 }
@@ -271,7 +280,7 @@ pub(crate) fn overrun_in(words: &[u8]) -> Result<Overrun, Reason>
 }
 
 /// What the line of a port did, without its overruns.
-#[derive(Clone, Copy, PartialEq, Eq)]
+#[derive(Clone, Copy)]
 pub(crate) struct LineNumbers {
     pub(crate) arrived: u32,
     pub(crate) lost: u32,

@@ -4,7 +4,7 @@ use session_text::Reason;
 use tty_base::NoMemory as Memory;
 
 /// Why a line was not read.
-#[derive(Clone, Copy, PartialEq, Eq)]
+#[derive(Clone, Copy)]
 pub(crate) enum LineFault {
     /// The line is wrong.
     Wrong(Reason),

@@ -1,6 +1,6 @@
 //! The reader of journals: which line is due, and the runs of the ports as far as they were read.
 
-ghost use Rattle.std.specs.Prelude.{◌≡◌, [], ◌∷◌, ◌++◌, IfOk, OnOk, map, slice_get};
+ghost use Rattle.std.specs.Prelude.{◌≡◌, ◌-◌, [], ◌∷◌, ◌++◌, Ok, IfOk, OnOk, map, slice_get};
 ghost use Rattle.std.specs.List.{range_with_len};
 ghost use Rattle.tty_calls.specs.Sessions.{session_of};
 ghost use Rattle.text_lines.specs.Lines.{words_of};
@@ -23,7 +23,7 @@ use tty_base::{Buffer, Chars, LineReport, NoMemory, Overruns};
 use tty_calls::{Journal, PortRun, Session};
 
 /// Which line is due.
-#[derive(Clone, Copy, PartialEq, Eq)]
+#[derive(Clone, Copy)]
 pub(crate) enum Due {
     Journals,
     /// The heading of a port's journal.
@@ -100,31 +100,48 @@ impl Journals {
     fn read_words(&mut self, alloc: Global, words: &[u8]) -> Result<(), LineFault>
         ensures { ReadsAs (λ _. journals_of self.new) result (line_by (journals_of self.old) self.old.due (words_of words.now)) }
     {
-        let port = self.runs.len();
         match self.due {
-            Due::Journals => {
-                fixed_in(b"journals".as_slice(), words)?;
-                self.due = run_due(self.callers.len(), port);
-                Ok(())
-            }
-            Due::Journal => {
-                self.due = entries_due(heading_in(b"journal".as_slice(), port, words)?);
-                Ok(())
-            }
+            Due::Journals => self.read_start(words),
+            Due::Journal => self.read_journal_heading(words),
             Due::Entry(left) => self.read_entry(alloc, left, words),
-            Due::Overruns => {
-                self.due = overruns_due(heading_in(b"overruns".as_slice(), port, words)?);
-                Ok(())
-            }
+            Due::Overruns => self.read_overruns_heading(words),
             Due::Overrun(left) => self.read_overrun(left, words),
             Due::Numbers => self.read_numbers(alloc, words),
-            Due::Done => {
-                fixed_in(b"done".as_slice(), words)?;
-                self.due = Due::Over;
-                Ok(())
-            }
+            Due::Done => self.read_end(words),
             Due::Over => Err(LineFault::Wrong(Reason::Order)),
         }
+    }
+
+    fn read_start(&mut self, words: &[u8]) -> Result<(), LineFault>
+        ensures { ReadsAs (λ _. journals_of self.new) result (line_by (journals_of self.old) Due.Journals (words_of words.now)) }
+    {
+        fixed_in(b"journals".as_slice(), words)?;
+        self.due = run_due(self.callers.len(), self.runs.len());
+        Ok(())
+    }
+
+    fn read_journal_heading(&mut self, words: &[u8]) -> Result<(), LineFault>
+        ensures { ReadsAs (λ _. journals_of self.new) result (line_by (journals_of self.old) Due.Journal (words_of words.now)) }
+    {
+        let count = heading_in(b"journal".as_slice(), self.runs.len(), words)?;
+        self.due = entries_due(count);
+        Ok(())
+    }
+
+    fn read_overruns_heading(&mut self, words: &[u8]) -> Result<(), LineFault>
+        ensures { ReadsAs (λ _. journals_of self.new) result (line_by (journals_of self.old) Due.Overruns (words_of words.now)) }
+    {
+        let count = heading_in(b"overruns".as_slice(), self.runs.len(), words)?;
+        self.due = overruns_due(count);
+        Ok(())
+    }
+
+    fn read_end(&mut self, words: &[u8]) -> Result<(), LineFault>
+        ensures { ReadsAs (λ _. journals_of self.new) result (line_by (journals_of self.old) Due.Done (words_of words.now)) }
+    {
+        fixed_in(b"done".as_slice(), words)?;
+        self.due = Due::Over;
+        Ok(())
     }
 
     fn read_entry(&mut self, alloc: Global, left: u32, words: &[u8]) -> Result<(), LineFault>
@@ -132,6 +149,13 @@ impl Journals {
     {
         let callers = self.callers.as_slice();
         let entry = entry_due(alloc, callers, self.runs.len(), words, &mut self.characters)?;
+        self.take_entry(&entry, left)
+    }
+
+    /// Adds an entry, whose characters are those that were read last.
+    fn take_entry(&mut self, entry: &ReadEntry, left: u32) -> Result<(), LineFault>
+        ensures { ReadsAs (λ _. journals_of self.new) result (Ok (record (journals_of self.old) { due = due_entries (left - 1); entries = (journals_of self.old).entries ++ entry_with self.old.characters.items entry.now ∷ [] })) }
+    {
         add_entry(&mut self.entries, &entry.lent(self.characters.as_slice()))?;
         self.due = entries_due(left.saturating_sub(1));
         Ok(())
@@ -165,9 +189,9 @@ impl Journals {
         Ok(())
     }
 
-    /// The runs, where the text ends before the line with this number.
-    pub(crate) fn finish(self, number: u32) -> Result<Vec<PortRun>, TextFault>
-        ensures { Gives (λ runs. map run_of runs.items) result (runs_at_end (journals_of self) number) }
+    /// Takes the runs out, where the text ends before the line with this number.
+    pub(crate) fn finish(&mut self, number: u32) -> Result<Vec<PortRun>, TextFault>
+        ensures { Gives (λ runs. map run_of runs.items) result (runs_at_end (journals_of self.old) number) }
     {
         if !is_over(self.due) {
             return Err(TextFault::Bad(BadLine {
@@ -175,7 +199,8 @@ impl Journals {
                 reason: Reason::Order,
             }));
         }
-        Ok(self.runs)
+        let alloc = *self.runs.allocator();
+        Ok(mem::replace(&mut self.runs, Vec::new(alloc)))
     }
 }
 

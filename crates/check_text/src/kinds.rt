@@ -3,13 +3,13 @@
 ghost use Rattle.std.specs.Prelude.{◌≡◌};
 ghost use Rattle.tty_calls.specs.Plain.{call_of};
 ghost use Rattle.check_text.specs.Callers.{answer_kind as kind_of_call};
-ghost use Rattle.check_text.specs.Entries.{kind_of, kind_text, call_kinds, other_kinds};
+ghost use Rattle.check_text.specs.Entries.{kind_of, kind_text, call_kinds, last_kinds, other_kinds};
 ghost use Rattle.text_lines.specs.Values.{choice_of};
 
 use tty_calls::Call;
 
 /// What a call is answered, where it is neither refused nor told that nothing can come any more.
-#[derive(Clone, Copy, PartialEq, Eq)]
+#[derive(Clone, Copy)]
 pub(crate) enum AnswerKind {
     Done,
     Count,
@@ -35,7 +35,7 @@ pub(crate) fn answer_kind(call: &Call) -> AnswerKind
 }
 
 /// What an entry says.
-#[derive(Clone, Copy, PartialEq, Eq)]
+#[derive(Clone, Copy)]
 pub(crate) enum EventKind {
     Answer,
     Part,
@@ -85,7 +85,15 @@ fn other_kind_of(word: &[u8]) -> Option<EventKind>
         Some(EventKind::LineEnd)
     } else if word == b"clock_end".as_slice() {
         Some(EventKind::ClockEnd)
-    } else if word == b"caller_end".as_slice() {
+    } else {
+        last_kind_of(word)
+    }
+}
+
+fn last_kind_of(word: &[u8]) -> Option<EventKind>
+    ensures { result ≡ choice_of kind_text last_kinds word.now }
+{
+    if word == b"caller_end".as_slice() {
         Some(EventKind::CallerEnd)
     } else if word == b"phase_end".as_slice() {
         Some(EventKind::PhaseEnd)

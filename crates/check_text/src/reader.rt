@@ -8,7 +8,7 @@ ghost use Rattle.check_text.specs.Grammar.{Spells};
 ghost use Rattle.check_text.specs.Journals.{first_journals, runs_from};
 ghost use Rattle.check_text.specs.Reading.{check_in, refusal};
 ghost use Rattle.check_text.specs.Runs.{run_of};
-ghost use Rattle.check_text.specs.Views.{check_of};
+ghost use Rattle.check_text.specs.Views.{check_of, journals_of};
 
 use super::journals::Journals;
 use session_text::{BadLine, TextFault, parse_front};
@@ -47,6 +47,18 @@ fn read_journals(
     ensures { Gives (λ runs. map run_of runs.items) result (runs_from (first_journals (session_of session.now)) first (lines_in text.now)) }
 {
     let mut journals = Journals::new(alloc, session)?;
+    read_lines(alloc, &mut journals, first, text)
+}
+
+/// The runs that are read by the end of these lines.
+fn read_lines(
+    alloc: Global,
+    journals: &mut Journals,
+    first: u32,
+    text: &[u8],
+) -> Result<Vec<PortRun>, TextFault>
+    ensures { Gives (λ runs. map run_of runs.items) result (runs_from (journals_of journals.old) first (lines_in text.now)) }
+{
     let mut rest = text;
     let mut number = first;
     while let Some((line, after)) = split_line(rest) {
