@@ -12,7 +12,7 @@ use session_text::Reason;
 use text_lines::FirstTwo;
 
 /// A call of modem lines (ioctl_tty(2), modem control), by its handle.
-#[derive(Clone, Copy, PartialEq, Eq)]
+#[derive(Clone, Copy)]
 pub enum OwnCall {
     /// Asks for the lines that are up (TIOCMGET).
     Mget { h: u8 },
@@ -33,7 +33,7 @@ pub enum OwnCall {
 }
 
 /// What a line says.
-#[derive(Clone, Copy, PartialEq, Eq)]
+#[derive(Clone, Copy)]
 pub enum ModemItem {
     /// The modem block of a port begins.
     Block { port: u8 },

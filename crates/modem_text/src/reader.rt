@@ -26,7 +26,7 @@ use tty_modes::is_same;
 const CALLERS: usize = 15;
 
 /// Which block is open.
-#[derive(Clone, Copy, PartialEq, Eq)]
+#[derive(Clone, Copy)]
 pub(crate) enum Block {
     Caller,
     /// The modem block of this port.

@@ -7,7 +7,7 @@ use tty_base::Buffer;
 use tty_calls::Session;
 
 /// An item of a port's modem block: the modem gives a line this level.
-#[derive(Clone, Copy, PartialEq, Eq)]
+#[derive(Clone, Copy)]
 pub struct PinItem {
     pub port: u8,
     pub pin: Pin,

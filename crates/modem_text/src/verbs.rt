@@ -6,7 +6,7 @@ ghost use Rattle.modem_text.specs.Verbs.{verb_of};
 use tty_modes::is_same;
 
 /// The first word of a line that only a session with modem lines has.
-#[derive(Clone, Copy, PartialEq, Eq)]
+#[derive(Clone, Copy)]
 pub enum ModemVerb {
     /// Begins the modem block of a port.
     Modem,
