@@ -5,4 +5,4 @@ mod laws;
 mod lines;
 
 pub use laws::worked_lines_are_told;
-pub use lines::{put_answer, put_signal};
+pub use lines::{answer_text, put_answer, put_signal};

@@ -1,11 +1,12 @@
 //! The lines that tell of job control: each call that was answered without the port, and each signal.
 
-ghost use Rattle.std.specs.Prelude.{◌≡◌, ◌++◌, OnOk, string_bytes};
+ghost use Rattle.std.specs.Prelude.{◌≡◌, ◌++◌, IfOk, OnOk, string_bytes};
 ghost use Rattle.session_print.specs.Words.{errno_name};
-ghost use Rattle.job_print.specs.Lines.{answer_line, answer_text, name_at, signal_line, signal_text, target_text};
+ghost use Rattle.job_print.specs.Lines.{answer_line, answer_text as text_of_answer, name_at, signal_line, signal_text, target_text};
 
 use job_control::{JobAnswer, JobSignal, Proc, Target};
-use tty_base::{Errno, NoMemory};
+use std::alloc::Global;
+use tty_base::{Bytes, Errno, NoMemory};
 
 /// Adds the line of a call that was answered without the port: by this caller of the port, and so many of its calls
 /// before it.
@@ -40,8 +41,17 @@ pub fn put_signal(
     Ok(text.push_str("\n")?)
 }
 
+/// What a call was answered without the port, as a report has it.
+pub fn answer_text(alloc: Global, answer: JobAnswer) -> Result<Bytes, NoMemory>
+    ensures { IfOk result (λ text. text.items ≡ text_of_answer answer) }
+{
+    let mut text = String::new(alloc);
+    add_answer(&mut text, answer)?;
+    Ok(Bytes::from_vec(text.into_bytes()))
+}
+
 fn add_answer(text: &mut String, answer: JobAnswer) -> Result<(), NoMemory>
-    ensures { OnOk result (string_bytes text.new ≡ string_bytes text.old ++ answer_text answer) }
+    ensures { OnOk result (string_bytes text.new ≡ string_bytes text.old ++ text_of_answer answer) }
 {
     match answer {
         JobAnswer::Done => Ok(text.push_str("ok")?),
