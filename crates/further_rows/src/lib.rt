@@ -10,4 +10,6 @@ mod pins;
 #[cfg(test)]
 mod processes;
 #[cfg(test)]
+mod reports;
+#[cfg(test)]
 mod texts;

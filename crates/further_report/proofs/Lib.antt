@@ -1,0 +1,10 @@
+pub mod Lines
+pub mod Pieces
+pub mod Standing
+pub mod Noting
+pub mod Naming
+pub mod Without
+pub mod Ranges
+pub mod Beside
+pub mod Ported
+pub mod Sent
