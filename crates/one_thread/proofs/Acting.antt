@@ -104,7 +104,7 @@ pub record Turns (s : Scene) (scripts : List Script) (roles : List Role) (v : Po
   pub is : slice_get roles place ≡ Some r
   pub turn_is : IsTurn (is_of_consoles s.session) v (role_numbers roles) stand.going (turn.Call place)
 
-turns_may : (s : Scene) (scripts : List Script) (roles : List Role) (v : PortValue) (stand : Stand) (place : ℕ) (r : Role) → Turns s scripts roles v stand place r → MayAct s v r.number
+pub turns_may : (s : Scene) (scripts : List Script) (roles : List Role) (v : PortValue) (stand : Stand) (place : ℕ) (r : Role) → Turns s scripts roles v stand place r → MayAct s v r.number
 turns_may s scripts roles v stand place r h = may_act s scripts roles v stand place r h.plays h.is h.turn_is
 
 -- where the caller of this role stands after its own entry, and any other
@@ -173,7 +173,7 @@ kept_then : (v w : PortValue) (c : ℕ) (call : PlainCall) (flip : TakerState Fl
 kept_then v w c call flip e appends d n h =
     subst (λ (ks : List PlainKept). IsKept ks d n) (sym (ap (λ (x : PortValue). x.kept) appends.appended)) (kept_still (has_begun (caller_at v.terminal c)) v.kept c (caller_at v.terminal c).next call d n h)
 
-own_kept_then : (v w : PortValue) (c : ℕ) (call : PlainCall) (flip : TakerState Flagged) (e : PlainEntry) → Appends (with_call v c (caller_at v.terminal c).next call) w flip e
+pub own_kept_then : (v w : PortValue) (c : ℕ) (call : PlainCall) (flip : TakerState Flagged) (e : PlainEntry) → Appends (with_call v c (caller_at v.terminal c).next call) w flip e
     → ((standing_at v c).begun ≡ true → IsKept v.kept c (standing_at v c).next) → IsKept w.kept c (standing_at v c).next
 own_kept_then v w c call flip e appends h =
     subst (λ (ks : List PlainKept). IsKept ks c (caller_at v.terminal c).next) (sym (ap (λ (x : PortValue). x.kept) appends.appended)) (kept_own (has_begun (caller_at v.terminal c)) v.kept c (caller_at v.terminal c).next call h)

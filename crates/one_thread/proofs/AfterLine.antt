@@ -30,6 +30,7 @@ use Rattle.port_core.specs.Ports.{PortValue, IsPort, call_in, Denies, phase_entr
 use Rattle.one_thread.specs.Order.{IsInTurn, can_go_on, is_waiting, must_wait, is_of_consoles}
 use Rattle.one_thread.specs.Roles.{Scene, calls_in, role_in, AreRolesOf}
 use Rattle.one_thread.specs.Stages.{place_of, IsOfScene, AreAtFirst, BeginsRun, IsAfterLine, EndsAfterLine, StopsAfterLine}
+use Rattle.one_thread.specs.Acts.{Playing}
 use Rattle.one_thread.specs.Turns.{role_numbers, IsTurn, standing_at, standing_at_rest, IsAtRest, IsInRole, IsAbsent, HasCallers, next_run, HasRuns, Plays, PlaysOn}
 use Rattle.one_thread.specs.declared.roles.Role.{Role}
 use Rattle.one_thread.specs.declared.after_line.Stand.{Stand}
@@ -41,18 +42,6 @@ use Rattle.one_thread.proofs.Calling.{role_of, role_number, enough}
 use Rattle.one_thread.proofs.Starting.{no_steps, at_rest}
 use Rattle.journal_check.proofs.NameLemmas.{first_next}
 use Rattle.journal_check.proofs.Truths.{all_four}
-
--- the player, since the line's end
-pub record Playing (s : Scene) (scripts : List Script) (roles : List Role) (start v : PortValue) (ticks : ℕ) (stand : Stand) : Type 0 where
-  pub plays : Plays s scripts roles v stand
-  pub part : List PlainEntry
-  pub added : v.journal ≡ start.journal ++ part
-  pub leads : Leads (call_at s.port s.session) (counts_on s.port s.session) start.terminal part v.terminal
-  pub inside : session_events_in part ≡ []
-  pub phase : v.terminal.phase ≡ start.terminal.phase
-  pub sent : v.terminal.sent ≡ start.terminal.sent
-  pub tick : v.terminal.tick + stand.ticks ≡ start.terminal.tick + ticks
-  pub ring : v.flip.ring ≡ start.flip.ring
 
 -- ---- the beginning
 

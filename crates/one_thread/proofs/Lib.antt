@@ -7,6 +7,7 @@ pub mod Kept
 pub mod Calling
 pub mod Acting
 pub mod Ready
+pub mod Trying
 pub mod Starting
 pub mod AfterLine
 pub mod OrderRows

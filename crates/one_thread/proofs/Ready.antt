@@ -13,9 +13,11 @@ use Rattle.port_core.specs.Attempts.{PlainTried, IsReady, Attempts}
 use Rattle.port_core.specs.Ports.{PortValue, Appends, end_entry}
 use Rattle.one_thread.specs.Order.{is_of_consoles}
 use Rattle.one_thread.specs.Roles.{Scene, calls_in}
+use Rattle.one_thread.specs.Acts.{InTurn, PlaysTurn, InCall, PlaysCall, InLast, EndsCalls, PlaysLast}
 use Rattle.one_thread.specs.Turns.{role_numbers, IsTurn, standing_at, IsNextCall, next_run, Plays, PlaysOn, going_after}
 use Rattle.one_thread.specs.declared.roles.Role.{Role}
 use Rattle.one_thread.specs.declared.after_line.Stand.{Stand}
+use Rattle.one_thread.specs.declared.after_line.Turn.{Turn}
 use Rattle.one_thread.specs.declared.after_line.Turn.TheVariants as turn
 use Rattle.one_thread.proofs.Entries.{kept_is}
 use Rattle.one_thread.proofs.Calling.{role_of, may_act, called}
@@ -71,11 +73,11 @@ ready_for s scripts roles v stand place r call h =
       generation = λ none some. may.generation (ap (λ (o : Option ℕ). is_some o) none) some;
     }
 
-calls_of_next : (s : Scene) (scripts : List Script) (roles : List Role) (v : PortValue) (stand : Stand) (place : ℕ) (call : PlainCall) → Plays s scripts roles v stand → IsTurn (is_of_consoles s.session) v (role_numbers roles) stand.going (turn.Call place)
+pub calls_of_next : (s : Scene) (scripts : List Script) (roles : List Role) (v : PortValue) (stand : Stand) (place : ℕ) (call : PlainCall) → Plays s scripts roles v stand → IsTurn (is_of_consoles s.session) v (role_numbers roles) stand.going (turn.Call place)
     → (n : IsNextCall scripts roles v place call) → Calls s scripts roles v stand place n.role call
 calls_of_next s scripts roles v stand place call plays is n = record { turns = record { plays = plays; is = n.at_place; turn_is = is }; next = n.next }
 
-got_role : (scripts : List Script) (roles : List Role) (v : PortValue) (place : ℕ) (call : PlainCall) (d : Role) → (n : IsNextCall scripts roles v place call) → n.role ≡ get_or roles place d
+pub got_role : (scripts : List Script) (roles : List Role) (v : PortValue) (place : ℕ) (call : PlainCall) (d : Role) → (n : IsNextCall scripts roles v place call) → n.role ≡ get_or roles place d
 got_role scripts roles v place call d n = sym (get_or_from_slice_get roles place n.role d n.at_place)
 
 pub number_known : (s : Scene) (scripts : List Script) (roles : List Role) (v : PortValue) (stand : Stand) (place : ℕ) (call : PlainCall) (d : Role) → Plays s scripts roles v stand
@@ -153,3 +155,83 @@ pub end_at : (s : Scene) (scripts : List Script) (roles : List Role) (v w : Port
     → Appends v w v.flip (end_entry v r.number) → rested ≡ record { run = next_run stand.run stand.part; part = 0; ticks = stand.ticks; going = None } → PlaysOn s scripts roles v w stand rested
 end_at s scripts roles v w stand place r rested h none appends rest =
     subst (λ (x : Stand). PlaysOn s scripts roles v w stand x) (sym rest) (ended_more s scripts roles v w stand place r h none.between none.all appends)
+
+-- ---- whatever scene is played
+
+turns_in : (roles : List Role) (v : PortValue) (stand : Stand) (place : ℕ) (h : InLast roles v stand place) → Turns h.in_turn.scene h.in_turn.scripts roles v stand place h.none.role
+turns_in roles v stand place h = record { plays = h.in_turn.plays; is = h.none.at_place; turn_is = h.in_turn.is_turn }
+
+last_role : (roles : List Role) (v : PortValue) (stand : Stand) (place : ℕ) (d : Role) (h : InLast roles v stand place) → h.none.role ≡ get_or roles place d
+last_role roles v stand place d h = sym (get_or_from_slice_get roles place h.none.role d h.none.at_place)
+
+pub known_at : (roles : List Role) (v : PortValue) (stand : Stand) (place : ℕ) (d : Role) → InLast roles v stand place → (get_or roles place d).number < sum v.counts
+known_at roles v stand place d h =
+    subst (λ (r : Role). r.number < sum v.counts) (last_role roles v stand place d h)
+    (role_known h.in_turn.scene h.in_turn.scripts roles v stand place h.none.role h.in_turn.plays h.none.at_place)
+
+pub last_at : (roles : List Role) (v : PortValue) (stand : Stand) (place : ℕ) (d : Role) (h : InLast roles v stand place) → HasNone h.in_turn.scene h.in_turn.scripts v (get_or roles place d)
+last_at roles v stand place d h =
+    let r = h.none.role in
+    subst (λ (x : Role). HasNone h.in_turn.scene h.in_turn.scripts v x) (last_role roles v stand place d h)
+    (has_none h.in_turn.scene h.in_turn.scripts roles v stand place r (caller_at v.terminal r.number) (turns_in roles v stand place h) refl h.none.none)
+
+pub ends_at : (roles : List Role) (v w : PortValue) (stand : Stand) (place : ℕ) (d : Role) (rested : Stand) (h : InLast roles v stand place) → Appends v w v.flip (end_entry v (get_or roles place d).number)
+    → rested ≡ record { run = next_run stand.run stand.part; part = 0; ticks = stand.ticks; going = None } → PlaysOn h.in_turn.scene h.in_turn.scripts roles v w stand rested
+ends_at roles v w stand place d rested h appends rest =
+    let s = h.in_turn.scene in
+    let scripts = h.in_turn.scripts in
+    end_at s scripts roles v w stand place (get_or roles place d) rested (turns_at s scripts roles v stand place d h.in_turn.plays h.in_turn.is_turn) (last_at roles v stand place d h) appends rest
+
+pub ended_at : (roles : List Role) (v w : PortValue) (stand : Stand) (place : ℕ) (d : Role) → InLast roles v stand place → Appends v w v.flip (end_entry v (get_or roles place d).number) → EndsCalls roles v w place
+ended_at roles v w stand place d h appends =
+    record { role = h.none.role; at_place = h.none.at_place; appends = subst (λ (r : Role). Appends v w v.flip (end_entry v r.number)) (sym (last_role roles v stand place d h)) appends }
+
+-- the next call of the caller whose turn it is, and that it has none left
+pub in_call : (s : Scene) (scripts : List Script) (roles : List Role) (v : PortValue) (stand : Stand) (place : ℕ) (d : Role) (state : CallerState) (call : PlainCall) → Plays s scripts roles v stand
+    → IsTurn (is_of_consoles s.session) v (role_numbers roles) stand.going (turn.Call place) → state ≡ caller_at v.terminal (get_or roles place d).number
+    → slice_get (calls_in (slice_get scripts (get_or roles place d).place)) (state.next - (get_or roles place d).first) ≡ Some call → InCall roles v stand place call
+in_call s scripts roles v stand place d state call plays is at next =
+    record {
+      in_turn = record { scene = s; scripts = scripts; plays = plays; is_turn = is };
+      next = next_call_is s scripts roles v stand place (get_or roles place d) state call (turns_at s scripts roles v stand place d plays is) at next;
+    }
+
+pub in_last : (s : Scene) (scripts : List Script) (roles : List Role) (v : PortValue) (stand : Stand) (place : ℕ) (d : Role) (state : CallerState) → Plays s scripts roles v stand
+    → IsTurn (is_of_consoles s.session) v (role_numbers roles) stand.going (turn.Call place) → state ≡ caller_at v.terminal (get_or roles place d).number
+    → slice_get (calls_in (slice_get scripts (get_or roles place d).place)) (state.next - (get_or roles place d).first) ≡ None → InLast roles v stand place
+in_last s scripts roles v stand place d state plays is at none =
+    let r = get_or roles place d in
+    record {
+      in_turn = record { scene = s; scripts = scripts; plays = plays; is_turn = is };
+      none = record {
+        role = r;
+        at_place = (turns_at s scripts roles v stand place d plays is).is;
+        none = subst (λ (x : CallerState). slice_get (calls_in (slice_get scripts r.place)) (x.next - r.first) ≡ None) at none;
+      };
+    }
+
+pub in_this_turn : (s : Scene) (scripts : List Script) (roles : List Role) (v : PortValue) (stand : Stand) (next this : Turn) → Plays s scripts roles v stand
+    → IsTurn (is_of_consoles s.session) v (role_numbers roles) stand.going next → next ≡ this → InTurn roles v stand this
+in_this_turn s scripts roles v stand next this plays is same =
+    record { scene = s; scripts = scripts; plays = plays; is_turn = subst (λ (n : Turn). IsTurn (is_of_consoles s.session) v (role_numbers roles) stand.going n) same is }
+
+-- ---- the scene that is played plays on
+
+pub turn_played : (s : Scene) (scripts : List Script) (roles : List Role) (v w : PortValue) (stand now : Stand) (next this : Turn) → Plays s scripts roles v stand
+    → IsTurn (is_of_consoles s.session) v (role_numbers roles) stand.going next → next ≡ this → PlaysTurn roles v w stand now this → PlaysOn s scripts roles v w stand now
+unfolding in_this_turn
+turn_played s scripts roles v w stand now next this plays is same h = h.each (in_this_turn s scripts roles v stand next this plays is same)
+
+pub call_played : (s : Scene) (scripts : List Script) (roles : List Role) (v w : PortValue) (stand now : Stand) (place : ℕ) (d : Role) (state : CallerState) (call : PlainCall) → Plays s scripts roles v stand
+    → IsTurn (is_of_consoles s.session) v (role_numbers roles) stand.going (turn.Call place) → state ≡ caller_at v.terminal (get_or roles place d).number
+    → slice_get (calls_in (slice_get scripts (get_or roles place d).place)) (state.next - (get_or roles place d).first) ≡ Some call
+    → PlaysCall roles v w stand now place call → PlaysOn s scripts roles v w stand now
+unfolding in_call
+call_played s scripts roles v w stand now place d state call plays is at next h = h.each (in_call s scripts roles v stand place d state call plays is at next)
+
+pub last_played : (s : Scene) (scripts : List Script) (roles : List Role) (v w : PortValue) (stand now : Stand) (place : ℕ) (d : Role) (state : CallerState) → Plays s scripts roles v stand
+    → IsTurn (is_of_consoles s.session) v (role_numbers roles) stand.going (turn.Call place) → state ≡ caller_at v.terminal (get_or roles place d).number
+    → slice_get (calls_in (slice_get scripts (get_or roles place d).place)) (state.next - (get_or roles place d).first) ≡ None
+    → PlaysLast roles v w stand now place → PlaysOn s scripts roles v w stand now
+unfolding in_last
+last_played s scripts roles v w stand now place d state plays is at none h = h.each (in_last s scripts roles v stand place d state plays is at none)

@@ -1,3 +1,4 @@
+pub mod Acts
 pub mod Casting
 pub mod LineInside
 pub mod Lines

@@ -10,7 +10,8 @@ ghost use Rattle.journal_check.specs.Legal.{phase_at};
 ghost use Rattle.one_thread.specs.Order.{can_go_on, is_of_consoles, is_waiting};
 ghost use Rattle.one_thread.specs.Roles.{Scene, calls_in, role_in, AreRolesOf};
 ghost use Rattle.one_thread.specs.Stages.{IsAfterLine, EndsAfterLine, StopsAfterLine};
-ghost use Rattle.one_thread.specs.Turns.{role_numbers, IsFirst, IsTurn, IsNextCall, Plays, PlaysOn, next_run, going_after};
+ghost use Rattle.one_thread.specs.Turns.{role_numbers, IsFirst, IsTurn, Plays, PlaysOn, next_run, going_after};
+ghost use Rattle.one_thread.specs.Acts.{AddsEntry, InTurn, PlaysTurn, InCall, TriesCall, PlaysCall, InLast, EndsCalls, PlaysLast, PlaysEnd};
 ghost use Rattle.one_thread.specs.declared.after_line.Turn.TheVariants as turn;
 
 use crate::roles::Role;
@@ -24,17 +25,17 @@ const PIECE: u32 = 64;
 /// Where the player stands: the next piece of a flush run, the ticks that are left, and the place of
 /// the caller whose write goes on.
 #[derive(Clone, Copy)]
-pub(crate) struct Stand {
-    run: u32,
-    part: u32,
-    ticks: u32,
-    going: Option<usize>,
+pub struct Stand {
+    pub run: u32,
+    pub part: u32,
+    pub ticks: u32,
+    pub going: Option<usize>,
 }
 
 /// What is done next: a piece of a flush run, a call of the caller at a place, a tick or the end of the
 /// clock, or the end of the phase.
 #[derive(Clone, Copy)]
-pub(crate) enum Turn {
+pub enum Turn {
     Flush,
     Call(usize),
     Pass,
@@ -77,7 +78,7 @@ fn first_to_wait(port: &Port, roles: &[Role]) -> Option<usize>
 
 /// Whose turn it is.
 #[inline(always)]
-fn turn_of(port: &Port, roles: &[Role], going: Option<usize>, clock_first: bool) -> Turn
+pub fn turn_of(port: &Port, roles: &[Role], going: Option<usize>, clock_first: bool) -> Turn
     requires known { All (λ r. r.number < sum port.now.counts) roles.now }
     requires place { (i : ℕ) → going ≡ Some i → i < length roles.now }
     ensures { IsTurn clock_first port.now (role_numbers roles.now) going result }
@@ -131,12 +132,11 @@ fn rest(stand: Stand) -> Stand
 }
 
 /// The next piece of a flush run, of as many characters as can be.
-fn flush(port: &mut Port, roles: &[Role], scripts: &[Script], stand: Stand) -> Result<Stand, Denied>
-    ghost scene: { Scene }
-    requires plays { Plays scene scripts.now roles.now port.old stand }
-    requires turn { IsTurn (is_of_consoles scene.session) port.old (role_numbers roles.now) stand.going turn.Flush }
+pub fn flush(port: &mut Port, roles: &[Role], stand: Stand) -> Result<Stand, Denied>
+    requires { InTurn roles.now port.old stand turn.Flush }
     ensures open { OnOk result (IsOpen port.old) }
-    ensures ok { IfOk result (λ now. PlaysOn scene scripts.now roles.now port.old port.new stand now) }
+    ensures adds { OnOk result (AddsEntry port.old port.new) }
+    ensures ok { IfOk result (λ now. PlaysTurn roles.now port.old port.new stand now turn.Flush) }
     ensures err { IfErr result (λ d. Denies d port.old port.new) }
 {
     let _journal = port.journal();
@@ -150,12 +150,11 @@ fn flush(port: &mut Port, roles: &[Role], scripts: &[Script], stand: Stand) -> R
 }
 
 /// A tick, or the end of the clock where none is left.
-fn pass(port: &mut Port, roles: &[Role], scripts: &[Script], stand: Stand) -> Result<Stand, Denied>
-    ghost scene: { Scene }
-    requires plays { Plays scene scripts.now roles.now port.old stand }
-    requires turn { IsTurn (is_of_consoles scene.session) port.old (role_numbers roles.now) stand.going turn.Pass }
+pub fn pass(port: &mut Port, roles: &[Role], stand: Stand) -> Result<Stand, Denied>
+    requires { InTurn roles.now port.old stand turn.Pass }
     ensures open { OnOk result (IsOpen port.old) }
-    ensures ok { IfOk result (λ now. PlaysOn scene scripts.now roles.now port.old port.new stand now) }
+    ensures adds { OnOk result (AddsEntry port.old port.new) }
+    ensures ok { IfOk result (λ now. PlaysTurn roles.now port.old port.new stand now turn.Pass) }
     ensures err { IfErr result (λ d. Denies d port.old port.new) }
 {
     if stand.ticks == 0 {
@@ -170,8 +169,8 @@ fn pass(port: &mut Port, roles: &[Role], scripts: &[Script], stand: Stand) -> Re
 }
 
 /// The place of a caller whose write goes on after an attempt.
-fn goes_on_at(place: usize, tried: Tried) -> Option<usize>
-    ensures { result ≡ going_after place (tried_of tried) }
+fn goes_on_at(place: usize, tried: &Tried) -> Option<usize>
+    ensures { result ≡ going_after place (tried_of tried.now) }
 {
     match tried {
         Tried::Part => Some(place),
@@ -180,30 +179,65 @@ fn goes_on_at(place: usize, tried: Tried) -> Option<usize>
     }
 }
 
-/// A caller tries its next call.
-fn try_call(
+/// A caller tries its next call. It gives what that came to, beside where the player stands then.
+#[inline(always)]
+pub fn try_call(
     port: &mut Port,
     roles: &[Role],
-    scripts: &[Script],
     place: usize,
     call: &Call,
     stand: Stand,
-) -> Result<Stand, Denied>
-    ghost scene: { Scene }
-    requires plays { Plays scene scripts.now roles.now port.old stand }
-    requires turn { IsTurn (is_of_consoles scene.session) port.old (role_numbers roles.now) stand.going (turn.Call place) }
-    requires call { IsNextCall scripts.now roles.now port.old place (call_of call.now) }
+) -> Result<(Tried, Stand), Denied>
+    requires { InCall roles.now port.old stand place (call_of call.now) }
     ensures open { OnOk result (IsOpen port.old) }
-    ensures ok { IfOk result (λ now. PlaysOn scene scripts.now roles.now port.old port.new stand now) }
+    ensures tried { IfOk result (λ made. TriesCall roles.now port.old port.new place (call_of call.now) (tried_of made.0)) }
+    ensures ok { IfOk result (λ made. PlaysCall roles.now port.old port.new stand made.1 place (call_of call.now)) }
     ensures err { IfErr result (λ d. Denies d port.old port.new) }
 {
     let caller = roles[place].number;
     let step = port.caller(caller).next;
     let tried = port.attempt(caller, step, call)?;
-    Ok(Stand {
-        going: goes_on_at(place, tried),
+    let now = Stand {
+        going: goes_on_at(place, &tried),
         ..rest(stand)
-    })
+    };
+    Ok((tried, now))
+}
+
+/// A caller's calls of the phase are over.
+pub fn end_calls(
+    port: &mut Port,
+    roles: &[Role],
+    place: usize,
+    stand: Stand,
+) -> Result<Stand, Denied>
+    requires { InLast roles.now port.old stand place }
+    ensures open { OnOk result (IsOpen port.old) }
+    ensures ended { OnOk result (EndsCalls roles.now port.old port.new place) }
+    ensures ok { IfOk result (λ now. PlaysLast roles.now port.old port.new stand now place) }
+    ensures err { IfErr result (λ d. Denies d port.old port.new) }
+{
+    port.caller_end(roles[place].number)?;
+    Ok(rest(stand))
+}
+
+/// The phase is over. It gives the number of the next flush run.
+pub fn end_phase(
+    port: &mut Port,
+    putter: &mut FlipIn,
+    roles: &[Role],
+    stand: Stand,
+) -> Result<u32, Denied>
+    requires turn { InTurn roles.now port.old stand turn.End }
+    requires ring { putter.old.ring ≡ port.old.flip.ring }
+    ensures open { OnOk result (IsOpen port.old) }
+    ensures adds { OnOk result (AddsEntry port.old port.new) }
+    ensures ok { IfOk result (λ next. PlaysEnd roles.now port.old port.new putter.old putter.new stand next) }
+    ensures err { IfErr result (λ d. Denies d port.old port.new) }
+    ensures putter { OnErr result (putter.new ≡ putter.old) }
+{
+    port.phase_end(putter)?;
+    Ok(rest(stand).run)
 }
 
 /// The call of a caller goes on, or its calls of the phase are over.
@@ -224,11 +258,11 @@ fn go_on(
     let role = &roles[place];
     let step = port.caller(role.number).next;
     match next_call(role, scripts, step) {
-        Some(call) => try_call(port, roles, scripts, place, &call, stand),
-        None => {
-            port.caller_end(role.number)?;
-            Ok(rest(stand))
+        Some(call) => {
+            let (_tried, now) = try_call(port, roles, place, &call, stand)?;
+            Ok(now)
         }
+        None => end_calls(port, roles, place, stand),
     }
 }
 
@@ -249,9 +283,9 @@ fn play_turn(
     ensures err { IfErr result (λ d. Denies d port.old port.new) }
 {
     match next {
-        Turn::Flush => flush(port, roles, scripts, stand),
+        Turn::Flush => flush(port, roles, stand),
         Turn::Call(place) => go_on(port, roles, scripts, place, stand),
-        Turn::Pass => pass(port, roles, scripts, stand),
+        Turn::Pass => pass(port, roles, stand),
         Turn::End => unreachable!(),
     }
 }
@@ -289,6 +323,5 @@ pub(crate) fn play_after_line(
         stand = play_turn(port, roles, scripts, next, stand)?;
         next = turn_of(port, roles, stand.going, clock_first);
     }
-    port.phase_end(putter)?;
-    Ok(rest(stand).run)
+    end_phase(port, putter, roles, stand)
 }

@@ -8,11 +8,8 @@ ghost use Rattle.word_ring.specs.Ends.{NothingWaits};
 ghost use Rattle.uart_line.specs.GoodSteps.{good_steps};
 ghost use Rattle.uart_line.specs.WholeWindow.{IsOpen};
 ghost use Rattle.uart_line.specs.Received.{closed_script};
-ghost use Rattle.tty_calls.specs.Sessions.{line_on};
-ghost use Rattle.journal_check.specs.Legal.{phase_at};
-ghost use Rattle.one_thread.specs.Roles.{Scene};
 ghost use Rattle.one_thread.specs.Stages.{BeginsRun};
-ghost use Rattle.one_thread.specs.Lines.{IsAtPhase, PlaysLine, StopsLine};
+ghost use Rattle.one_thread.specs.Acts.{BeginsLine, PlaysItsLine, StopsItsLine};
 ghost use Rattle.one_thread.specs.LineInside.{StandsBefore, PlaysSteps, StopsSteps, FlushesSince, DeniesCut, FlushesCut, run_after};
 
 use flip_buffer::FlipIn;
@@ -27,21 +24,17 @@ use uart_regs::TIMEOUT;
 const PIECE: u64 = 64;
 
 /// Plays the line of a phase: its steps, the two that close it, and its end.
-pub(crate) fn play_line(
+pub fn play_line(
     port: &mut Port,
     putter: &mut FlipIn,
     line: &mut Line,
     steps: &LineSteps,
     run: u32,
 ) -> Result<u32, Denied>
-    ghost scene: { Scene }
-    requires begins { IsAtPhase scene port.old.terminal.phase port.old putter.old line.old run }
-    requires within { port.old.terminal.phase < length scene.session.phases }
-    requires steps { steps.now.items ≡ line_on scene.port (phase_at scene.session port.old.terminal.phase) }
+    requires begins { BeginsLine steps.now.items port.old putter.old line.old run }
     requires good { All (λ step. IsTrue (is_step step)) steps.now.items }
-    requires room { line.old.report.arrived + arrival_count steps.now.items ≤ line.old.most }
-    ensures ok { IfOk result (λ next. PlaysLine scene port.old.terminal.phase port.old port.new putter.new line.old line.new next) }
-    ensures err { IfErr result (λ d. StopsLine d scene port.old.terminal.phase port.old port.new putter.new line.new) }
+    ensures ok { IfOk result (λ next. PlaysItsLine steps.now.items port.old port.new putter.old putter.new line.old line.new run next) }
+    ensures err { IfErr result (λ d. StopsItsLine d steps.now.items port.old port.new putter.old putter.new line.old line.new run) }
 {
     port.numbers_tell();
     port.meet(putter);

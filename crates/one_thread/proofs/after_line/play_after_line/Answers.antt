@@ -1,11 +1,15 @@
-use Rattle.std.proofs.Common.{Bool, None, ◌∙◌, sym, subst}
+use Rattle.std.proofs.Common.{◌≡◌, Bool, None, ◌∙◌, sym, subst}
 use Rattle.std.proofs.lemmas.Bool.{false≢true}
-use Rattle.std.proofs.lemmas.Result.{err_from_is_err_and}
+use Rattle.std.proofs.lemmas.Result.{err_from_is_err_and, IfOk-weaker, IfErr-weaker}
+use Rattle.port_core.specs.Ports.{Denies}
 use Rattle.one_thread.specs.Order.{is_of_consoles}
 use Rattle.one_thread.specs.Turns.{role_numbers, IsTurn}
+use Rattle.one_thread.specs.Stages.{EndsAfterLine, StopsAfterLine}
+use Rattle.one_thread.specs.Acts.{PlaysEnd}
 use Rattle.one_thread.specs.declared.after_line.Turn.{Turn}
 use Rattle.one_thread.specs.declared.after_line.Turn.TheVariants as turn
-use Rattle.one_thread.proofs.AfterLine.{begins, goes_on_playing, all_known, nothing_left, may_end_of, ends_of, stops_of}
+use Rattle.one_thread.proofs.Ready.{in_this_turn}
+use Rattle.one_thread.proofs.AfterLine.{begins, goes_on_playing, all_known, stops_of}
 use Rattle.one_thread.proofs.after_line.play_after_line.Goals.{in-End, in_default}
 use Rattle.one_thread.proofs.after_line.play_after_line.Goals as goal
 
@@ -42,29 +46,37 @@ loop-next-preserved g c =
       turn = subst (λ (b : Bool). IsTurn b c.play_turn.new.port (role_numbers c.args.roles.now) c.in_ok-stand.stand.going c.turn_of-next-in-loop-next.result) c.requires.1.1.1.1 c.turn_of-next-in-loop-next.ensures;
     }
 
-pub phase_end-requires-clause-may : goal.phase_end-requires-clause-may
-phase_end-requires-clause-may g c =
+pub end_phase-requires-clause-turn : goal.end_phase-requires-clause-turn
+end_phase-requires-clause-turn g c =
     let playing = c.loop-next.invariant.playing in
-    let at_end : IsTurn (is_of_consoles g.scene.session) c.loop-next.port (role_numbers c.args.roles.now) c.loop-next.stand.going turn.End =
+    let at_end : c.loop-next.next ≡ turn.End =
     elim c.match-matches.branch [
-      | in-End w ↦ subst (λ (n : Turn). IsTurn (is_of_consoles g.scene.session) c.loop-next.port (role_numbers c.args.roles.now) c.loop-next.stand.going n) w.in-End.is c.loop-next.invariant.turn
+      | in-End w ↦ w.in-End.is
       | in_default w ↦ absurd (false≢true (sym w.matches-is ∙ c.if-not-matches.false))
     ] in
-    may_end_of g.scene c.args.scripts.now c.args.roles.now c.loop-next.port c.loop-next.stand playing.plays (nothing_left (is_of_consoles g.scene.session) c.loop-next.port c.args.roles.now c.loop-next.stand.going at_end)
-
-pub returns-in_err-phase_end-clause-err : goal.returns-in_err-phase_end-clause-err
-returns-in_err-phase_end-clause-err g c =
-    let p = err_from_is_err_and c.from_residual-in_err-phase_end.result c.from_residual-in_err-phase_end.ensures.1 in
-    rw (p.1, p.2)
-    (stops_of g.scene c.args.scripts.now c.args.roles.now c.args.port.now c.loop-next.port c.phase_end.new.self c.args.ticks c.loop-next.stand _ c.loop-next.invariant.playing c.in_err-phase_end.ensures.err c.requires.1.1.0)
+    in_this_turn g.scene c.args.scripts.now c.args.roles.now c.loop-next.port c.loop-next.stand c.loop-next.next turn.End playing.plays c.loop-next.invariant.turn at_end
 
 pub returns-clause-ok : goal.returns-clause-ok
 returns-clause-ok g c =
     let playing = c.loop-next.invariant.playing in
-    let at_end : IsTurn (is_of_consoles g.scene.session) c.loop-next.port (role_numbers c.args.roles.now) c.loop-next.stand.going turn.End =
+    let at_end : c.loop-next.next ≡ turn.End =
     elim c.match-matches.branch [
-      | in-End w ↦ subst (λ (n : Turn). IsTurn (is_of_consoles g.scene.session) c.loop-next.port (role_numbers c.args.roles.now) c.loop-next.stand.going n) w.in-End.is c.loop-next.invariant.turn
+      | in-End w ↦ w.in-End.is
       | in_default w ↦ absurd (false≢true (sym w.matches-is ∙ c.if-not-matches.false))
     ] in
-    ends_of g.scene c.args.scripts.now c.args.roles.now c.args.port.now c.loop-next.port c.phase_end.new.self c.args.putter.now c.phase_end.new.putter c.args.ticks c.loop-next.stand c.rest.result playing at_end c.in_ok-phase_end.ensures.ok
-    c.requires.1.1.0 c.rest.ensures
+    IfOk-weaker c.end_phase.result (λ next. PlaysEnd c.args.roles.now c.loop-next.port c.end_phase.new.port c.args.putter.now c.end_phase.new.putter c.loop-next.stand next)
+    (λ next. EndsAfterLine g.scene c.args.port.now c.end_phase.new.port c.args.putter.now c.end_phase.new.putter next)
+    (λ next ends. ends.each c.args.port.now (record {
+      scene = g.scene;
+      scripts = c.args.scripts.now;
+      ticks = c.args.ticks;
+      playing = playing;
+      is_turn = subst (λ (n : Turn). IsTurn (is_of_consoles g.scene.session) c.loop-next.port (role_numbers c.args.roles.now) c.loop-next.stand.going n) at_end c.loop-next.invariant.turn;
+      ticks_are = c.requires.1.1.0;
+    })) c.end_phase.ensures.ok
+
+pub returns-clause-err : goal.returns-clause-err
+returns-clause-err g c =
+    IfErr-weaker c.end_phase.result (λ d. Denies d c.loop-next.port c.end_phase.new.port) (λ d. StopsAfterLine g.scene c.args.port.now c.end_phase.new.port d)
+    (λ d denies. stops_of g.scene c.args.scripts.now c.args.roles.now c.args.port.now c.loop-next.port c.end_phase.new.port c.args.ticks c.loop-next.stand d c.loop-next.invariant.playing denies c.requires.1.1.0)
+    c.end_phase.ensures.err

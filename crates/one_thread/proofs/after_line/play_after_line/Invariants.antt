@@ -1,7 +1,7 @@
 use Rattle.std.proofs.Common.{◌-◌, length}
 use Rattle.one_thread.specs.Order.{is_of_consoles}
 use Rattle.one_thread.specs.Turns.{role_numbers, IsTurn}
-use Rattle.one_thread.proofs.AfterLine.{Playing}
+use Rattle.one_thread.specs.Acts.{Playing}
 use Rattle.one_thread.proofs.after_line.play_after_line.Given as goal
 
 abbrev pub ghost-play_turn : goal.ghost-play_turn

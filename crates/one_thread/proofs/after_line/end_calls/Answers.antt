@@ -1,0 +1,18 @@
+use Rattle.one_thread.proofs.Ready.{last_at, ends_at, ended_at, known_at}
+use Rattle.one_thread.proofs.after_line.end_calls.Goals as goal
+
+pub caller_end-requires-clause-known : goal.caller_end-requires-clause-known
+caller_end-requires-clause-known c = known_at c.args.roles.now c.args.port.now c.args.stand c.args.place _ c.requires
+
+pub caller_end-requires-clause-not_over : goal.caller_end-requires-clause-not_over
+caller_end-requires-clause-not_over c = (last_at c.args.roles.now c.args.port.now c.args.stand c.args.place _ c.requires).not_over
+
+pub caller_end-requires-clause-between : goal.caller_end-requires-clause-between
+caller_end-requires-clause-between c = (last_at c.args.roles.now c.args.port.now c.args.stand c.args.place _ c.requires).between
+
+pub returns-clause-ended : goal.returns-clause-ended
+returns-clause-ended c = ended_at c.args.roles.now c.args.port.now c.caller_end.new.self c.args.stand c.args.place _ c.requires c.in_ok-caller_end.ensures.ok
+
+pub returns-clause-ok : goal.returns-clause-ok
+returns-clause-ok c =
+    record { each = λ h. ends_at c.args.roles.now c.args.port.now c.caller_end.new.self c.args.stand c.args.place _ c.rest.result h c.in_ok-caller_end.ensures.ok c.rest.ensures }

@@ -1,0 +1,129 @@
+-- What each act of the player needs, and what it comes to, whatever scene is played: so it serves also where the
+-- session is known only at its end.
+use Rattle.std.specs.Prelude.{◌≡◌, ◌<◌, ◌+◌, ◌-◌, ℕ, List, [], ◌∷◌, ◌++◌, IsTrue, None, Some, length, slice_get}
+use Rattle.tty_base.specs.declared.lines.LineStep.{LineStep}
+use Rattle.word_ring.specs.Ends.{PutterState}
+use Rattle.tty_base.specs.declared.characters.Flagged.{Flagged}
+use Rattle.uart_line.specs.LineState.{LineState}
+use Rattle.tty_calls.specs.declared.answers.Denied.{Denied}
+use Rattle.tty_calls.specs.declared.journals.Who.TheVariants.{Caller}
+use Rattle.tty_calls.specs.declared.sessions.Script.{Script}
+use Rattle.tty_calls.specs.Plain.{PlainCall, PlainEntry}
+use Rattle.tty_calls.specs.Sessions.{line_on, ticks_on, call_at, counts_on}
+use Rattle.tty_terminal.specs.Terminals.{caller_at}
+use Rattle.tty_terminal.specs.Runs.{Leads, Grows, is_of_call}
+use Rattle.journal_check.specs.Legal.{phase_at, session_events_in}
+use Rattle.port_core.specs.Attempts.{PlainTried, Attempts}
+use Rattle.port_core.specs.Ports.{PortValue, call_in, Appends, end_entry}
+use Rattle.one_thread.specs.Order.{is_of_consoles}
+use Rattle.one_thread.specs.Roles.{Scene, calls_in}
+use Rattle.one_thread.specs.Stages.{EndsAfterLine}
+use Rattle.one_thread.specs.Lines.{IsAtPhase, PlaysLine, StopsLine}
+use Rattle.one_thread.specs.Turns.{role_numbers, standing_at, IsTurn, IsNextCall, Plays, PlaysOn}
+use Rattle.one_thread.specs.declared.roles.Role.{Role}
+use Rattle.one_thread.specs.declared.after_line.Stand.{Stand}
+use Rattle.one_thread.specs.declared.after_line.Turn.{Turn}
+use Rattle.one_thread.specs.declared.after_line.Turn.TheVariants as turn
+
+-- ---- the line of a phase
+
+-- a scene in whose phase this line begins
+pub record BeginsLine (steps : List LineStep) (v : PortValue) (putter : PutterState Flagged) (line : LineState) (run : ℕ) : Type 0 where
+  pub scene : Scene
+  pub begins : IsAtPhase scene v.terminal.phase v putter line run
+  pub within : v.terminal.phase < length scene.session.phases
+  pub steps_are : steps ≡ line_on scene.port (phase_at scene.session v.terminal.phase)
+
+pub record PlaysItsLine (steps : List LineStep) (old new : PortValue) (putter now : PutterState Flagged) (line played : LineState) (run next : ℕ) : Type 0 where
+  pub each : (h : BeginsLine steps old putter line run) → PlaysLine h.scene old.terminal.phase old new now line played next
+
+pub record StopsItsLine (d : Denied) (steps : List LineStep) (old new : PortValue) (putter now : PutterState Flagged) (line played : LineState) (run : ℕ) : Type 0 where
+  pub each : (h : BeginsLine steps old putter line run) → StopsLine d h.scene old.terminal.phase old new now played
+
+-- ---- a turn after it
+
+-- one entry more, and no call
+pub record AddsEntry (old new : PortValue) : Type 0 where
+  pub entry : PlainEntry
+  pub added : new.journal ≡ old.journal ++ entry ∷ []
+  pub kept : new.kept ≡ old.kept
+
+-- a scene that is played, with the scripts of the phase, in which it is this turn
+pub record InTurn (roles : List Role) (v : PortValue) (stand : Stand) (next : Turn) : Type 0 where
+  pub scene : Scene
+  pub scripts : List Script
+  pub plays : Plays scene scripts roles v stand
+  pub is_turn : IsTurn (is_of_consoles scene.session) v (role_numbers roles) stand.going next
+
+pub record PlaysTurn (roles : List Role) (old new : PortValue) (before now : Stand) (next : Turn) : Type 0 where
+  pub each : (h : InTurn roles old before next) → PlaysOn h.scene h.scripts roles old new before now
+
+-- .. where this is the next call of the caller at a place, whose turn it is
+pub record InCall (roles : List Role) (v : PortValue) (stand : Stand) (place : ℕ) (call : PlainCall) : Type 0 where
+  pub in_turn : InTurn roles v stand (turn.Call place)
+  pub next : IsNextCall in_turn.scripts roles v place call
+
+-- a call of a caller's next step makes an entry of it, and is kept
+pub record MakesCall (old new : PortValue) (c : ℕ) (call : PlainCall) : Type 0 where
+  pub entry : PlainEntry
+  pub added : new.journal ≡ old.journal ++ entry ∷ []
+  pub who : entry.who ≡ Caller c
+  pub step : entry.step ≡ (caller_at old.terminal c).next
+  pub of_call : IsTrue (is_of_call entry.event)
+  pub kept : call_in new.kept c (caller_at old.terminal c).next ≡ Some call
+  pub grows : Grows (call_in old.kept) (call_in new.kept)
+
+-- what its attempt came to
+pub record TriesCall (roles : List Role) (old new : PortValue) (place : ℕ) (call : PlainCall) (tried : PlainTried) : Type 0 where
+  pub role : Role
+  pub at_place : slice_get roles place ≡ Some role
+  pub attempts : Attempts old new role.number (caller_at old.terminal role.number).next call tried
+  pub makes : MakesCall old new role.number call
+
+pub record PlaysCall (roles : List Role) (old new : PortValue) (before now : Stand) (place : ℕ) (call : PlainCall) : Type 0 where
+  pub each : (h : InCall roles old before place call) → PlaysOn h.in_turn.scene h.in_turn.scripts roles old new before now
+
+-- .. where the caller at a place, whose turn it is, has no call left
+pub record HasNoCall (scripts : List Script) (roles : List Role) (v : PortValue) (place : ℕ) : Type 0 where
+  pub role : Role
+  pub at_place : slice_get roles place ≡ Some role
+  pub none : slice_get (calls_in (slice_get scripts role.place)) ((standing_at v role.number).next - role.first) ≡ None
+
+-- its calls of the phase are over
+pub record EndsCalls (roles : List Role) (old new : PortValue) (place : ℕ) : Type 0 where
+  pub role : Role
+  pub at_place : slice_get roles place ≡ Some role
+  pub appends : Appends old new old.flip (end_entry old role.number)
+
+pub record InLast (roles : List Role) (v : PortValue) (stand : Stand) (place : ℕ) : Type 0 where
+  pub in_turn : InTurn roles v stand (turn.Call place)
+  pub none : HasNoCall in_turn.scripts roles v place
+
+pub record PlaysLast (roles : List Role) (old new : PortValue) (before now : Stand) (place : ℕ) : Type 0 where
+  pub each : (h : InLast roles old before place) → PlaysOn h.in_turn.scene h.in_turn.scripts roles old new before now
+
+-- ---- the end of the phase
+
+-- the player, since the line's end
+pub record Playing (s : Scene) (scripts : List Script) (roles : List Role) (start v : PortValue) (ticks : ℕ) (stand : Stand) : Type 0 where
+  pub plays : Plays s scripts roles v stand
+  pub part : List PlainEntry
+  pub added : v.journal ≡ start.journal ++ part
+  pub leads : Leads (call_at s.port s.session) (counts_on s.port s.session) start.terminal part v.terminal
+  pub inside : session_events_in part ≡ []
+  pub phase : v.terminal.phase ≡ start.terminal.phase
+  pub sent : v.terminal.sent ≡ start.terminal.sent
+  pub tick : v.terminal.tick + stand.ticks ≡ start.terminal.tick + ticks
+  pub ring : v.flip.ring ≡ start.flip.ring
+
+-- a scene that was played since the line's end, and has nothing left
+pub record InEnd (roles : List Role) (start v : PortValue) (stand : Stand) : Type 0 where
+  pub scene : Scene
+  pub scripts : List Script
+  pub ticks : ℕ
+  pub playing : Playing scene scripts roles start v ticks stand
+  pub is_turn : IsTurn (is_of_consoles scene.session) v (role_numbers roles) stand.going turn.End
+  pub ticks_are : ticks ≡ ticks_on scene.port (phase_at scene.session start.terminal.phase)
+
+pub record PlaysEnd (roles : List Role) (old new : PortValue) (putter now : PutterState Flagged) (stand : Stand) (run : ℕ) : Type 0 where
+  pub each : (start : PortValue) (h : InEnd roles start old stand) → EndsAfterLine h.scene start new putter now run
