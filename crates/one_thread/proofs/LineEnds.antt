@@ -67,6 +67,7 @@ module _ (s : Scene) (v : PortValue) (putter met : PutterState Flagged) (line : 
     leads = refl;
     inside = refl;
     no_end = refl;
+    kept = refl;
     tick = refl;
     sent = omega (arith, a.sent);
     ring = refl;
@@ -290,6 +291,7 @@ module _ (b : LineStart) (v w : PortValue) (putter now : PutterState Flagged) (l
         leads = subst (λ (u : Terminal). Leads (call_at p session) (counts_on p session) b.port.terminal (i.in_line.flushes ++ end ∷ []) u) (sym terminal_end) leads;
         inside = i.in_line.inside;
         no_end = i.in_line.no_end;
+        kept = ap (λ (y : PortValue). y.kept) x.appends.appended ∙ i.in_line.kept;
         ends = ap (λ (xs : List Flagged). line_ended (length xs)) (sym sent);
         tick = ap (λ (t : Terminal). t.tick) terminal_end ∙ i.in_line.tick;
         sent = ap (λ (t : Terminal). t.sent) terminal_end ∙ ap length (sym sent);

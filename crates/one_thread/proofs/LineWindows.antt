@@ -136,6 +136,7 @@ module _ (b : LineStart) (v : PortValue) (putter : PutterState Flagged) (line : 
       leads = i.in_line.leads;
       inside = i.in_line.inside;
       no_end = i.in_line.no_end;
+      kept = i.in_line.kept;
       tick = i.in_line.tick;
       sent = i.in_line.sent;
       ring = i.in_line.ring;

@@ -51,6 +51,7 @@ pub record IsInLine (b : LineStart) (v : PortValue) (putter : PutterState Flagge
   pub leads : Leads (call_at b.scene.port b.scene.session) (counts_on b.scene.port b.scene.session) b.port.terminal flushes v.terminal
   pub inside : session_events_in flushes ≡ []
   pub no_end : line_ends_in flushes ≡ []
+  pub kept : v.kept ≡ b.port.kept
   pub tick : v.terminal.tick ≡ b.port.terminal.tick
   pub sent : v.terminal.sent ≤ length putter.sent
   pub ring : v.flip.ring ≡ b.port.flip.ring

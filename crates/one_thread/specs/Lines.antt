@@ -60,6 +60,7 @@ pub record PlaysLine (s : Scene) (k : ℕ) (old new : PortValue) (now : PutterSt
   pub leads : Leads (call_at s.port s.session) (counts_on s.port s.session) old.terminal (flushes ++ last ∷ []) new.terminal
   pub inside : session_events_in flushes ≡ []
   pub no_end : line_ends_in flushes ≡ []
+  pub kept : new.kept ≡ old.kept
   pub ends : last.event ≡ line_ended (length now.sent)
   pub tick : new.terminal.tick ≡ old.terminal.tick
   pub sent : new.terminal.sent ≡ length now.sent
