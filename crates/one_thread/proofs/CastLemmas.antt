@@ -1,8 +1,10 @@
 -- One more script of a phase.
-use Rattle.std.proofs.Common.{◌≡◌, ◌≢◌, ℕ, zero, suc, ◌+◌, ◌<◌, ◌≤◌, Bool, true, false, ◌==◌, cond, List, [], ◌∷◌, ◌++◌, Some, length, take, drop, map, refl, sym, ◌∙◌, ap, subst, arith, length-append}
+use Rattle.std.proofs.Common.{◌≡◌, ◌≢◌, ℕ, zero, suc, ◌+◌, ◌<◌, ◌≤◌, Bool, true, false, ◌==◌, cond, List, [], ◌∷◌, ◌++◌, Some, length, take, drop, map, refl, sym, ◌∙◌, ap, subst, arith, length-append, get_or}
 use Rattle.std.specs.Prelude.{slice_get, slice_index_or, All}
 use Rattle.std.proofs.lemmas.Bool.{eq-eqb, ne_eqb}
-use Rattle.std.proofs.lemmas.List.{take_more, take-append-drop, map-append, append-nil, length-map}
+use Rattle.std.proofs.lemmas.Option.{same_Some}
+use Rattle.std.proofs.Math.ListN.{get_or-map}
+use Rattle.std.proofs.lemmas.List.{take_more, take_all, take-append-drop, map-append, append-nil, length-map}
 use Rattle.std.proofs.lemmas.List.Elements.{All-head, All-tail, filter-append}
 use Rattle.tty_calls.specs.declared.sessions.Script.{Script}
 use Rattle.tty_calls.specs.declared.sessions.Phase.{Phase}
@@ -11,7 +13,7 @@ use Rattle.tty_calls.specs.Limits.{IsPhaseWithin, IsWithinLimits}
 use Rattle.tty_calls.specs.Sessions.{PlainScript, PlainPhase, script_of, phase_of, session_of, scripts_on, number_in}
 use Rattle.one_thread.specs.declared.roles.Role.{Role}
 use Rattle.one_thread.specs.Roles.{PlainRole, role_in, calls_in}
-use Rattle.one_thread.specs.Casting.{number_or, role_for, own_scripts, cast_of, scripts_in, scripts_at}
+use Rattle.one_thread.specs.Casting.{caller_in, HaveSameCallers, number_or, role_for, own_scripts, cast_of, scripts_in, scripts_at}
 use Rattle.one_thread.proofs.NameLemmas.{get_at}
 
 is_equal : (a b : ℕ) → a ≡ b → (a == b) ≡ true
@@ -143,3 +145,37 @@ phase_in session k phases d limits within same =
 
 pub line_count : (ports : ℕ) (phase : Phase) → IsPhaseWithin ports (phase_of phase) → length phase.lines.items ≡ ports
 line_count ports phase h = sym (length-map phase.lines.items (λ steps. steps.items)) ∙ h.lines
+
+-- ---- other scripts of the same callers
+
+pub same_count : (others scripts : List Script) → HaveSameCallers others scripts → length others ≡ length scripts
+same_count others scripts same = sym (length-map others caller_in) ∙ (ap (λ (xs : List PlainScript). length xs) same ∙ length-map scripts caller_in)
+
+caller_at_place : (others scripts : List Script) (i : ℕ) (s : Script) → HaveSameCallers others scripts → i < length scripts → s ≡ slice_index_or scripts i s → caller_in (slice_index_or others i s) ≡ caller_in s
+caller_at_place others scripts i s same within is =
+    sym (get_or-map caller_in others i s) ∙ (ap (λ (xs : List PlainScript). get_or xs i (caller_in s)) same ∙ get_or-map caller_in scripts i s) ∙ ap caller_in (sym is)
+
+there : (others : List Script) (i : ℕ) (s : Script) → i < length others → slice_index_or others i s ≡ slice_index_or others i (slice_index_or others i s)
+there others i s within = same_Some (slice_index_or others i s) (slice_index_or others i (slice_index_or others i s)) (sym (get_at others i s within) ∙ get_at others i (slice_index_or others i s) within)
+
+pub others_yes : (names : List (List ℕ)) (steps : List ℕ) (port : ℕ) (others scripts : List Script) (i : ℕ) (s : Script) (roles : List Role) (r : Role) → HaveSameCallers others scripts → i < length scripts → s ≡ slice_index_or scripts i s
+    → s.port ≡ port → number_in names s.name.bytes ≡ Some r.number → r.first ≡ slice_index_or steps r.number 0 → r.place ≡ i
+    → map (role_in others) roles ≡ cast_of names steps port (map script_of (take i others)) → map (role_in others) (roles ++ r ∷ []) ≡ cast_of names steps port (map script_of (take (i + 1) others))
+others_yes names steps port others scripts i s roles r same within is own number first place so_far =
+    let t : Script = slice_index_or others i s in
+    let caller = caller_at_place others scripts i s same within is in
+    let inside : i < length others = omega (arith, same_count others scripts same, within) in
+    cast_yes names steps port others i t roles r inside (there others i s inside) (ap (λ (x : PlainScript). x.port) caller ∙ own) (ap (λ (x : PlainScript). number_in names x.name) caller ∙ number) first place so_far
+
+pub others_no : (names : List (List ℕ)) (steps : List ℕ) (port : ℕ) (others scripts : List Script) (i : ℕ) (s : Script) (roles : List Role) → HaveSameCallers others scripts → i < length scripts → s ≡ slice_index_or scripts i s → s.port ≢ port
+    → map (role_in others) roles ≡ cast_of names steps port (map script_of (take i others)) → map (role_in others) roles ≡ cast_of names steps port (map script_of (take (i + 1) others))
+others_no names steps port others scripts i s roles same within is other so_far =
+    let t : Script = slice_index_or others i s in
+    let caller = caller_at_place others scripts i s same within is in
+    let inside : i < length others = omega (arith, same_count others scripts same, within) in
+    cast_no names steps port others i t roles inside (there others i s inside) (λ e. other (sym (ap (λ (x : PlainScript). x.port) caller) ∙ e)) so_far
+
+pub others_all : (names : List (List ℕ)) (steps : List ℕ) (port : ℕ) (others scripts : List Script) (i : ℕ) (roles : List Role) → HaveSameCallers others scripts → length scripts ≤ i
+    → map (role_in others) roles ≡ cast_of names steps port (map script_of (take i others)) → map (role_in others) roles ≡ cast_of names steps port (map script_of others)
+others_all names steps port others scripts i roles same all so_far =
+    so_far ∙ ap (λ (xs : List Script). cast_of names steps port (map script_of xs)) (take_all i others (omega (arith, same_count others scripts same, all)))

@@ -1,5 +1,5 @@
--- How the roles of a phase are found: for private functions alone.
-use Rattle.std.specs.Prelude.{◌==◌, ◌+◌, ℕ, List, [], ◌∷◌, Option, None, Some, All, IsSome, length, map, filter, slice_get, slice_index_or, slice_set}
+-- How the roles of a phase are found.
+use Rattle.std.specs.Prelude.{◌≡◌, ◌==◌, ◌+◌, ℕ, List, [], ◌∷◌, Option, None, Some, All, IsSome, length, map, filter, slice_get, slice_index_or, slice_set}
 use Rattle.tty_calls.specs.declared.sessions.Script.{Script}
 use Rattle.tty_calls.specs.declared.sessions.Phase.{Phase}
 use Rattle.tty_calls.specs.declared.sessions.Session.{Session}
@@ -17,6 +17,13 @@ scripts_at session k = scripts_in (slice_get session.phases.items k)
 abbrev pub number_or : Option ℕ → ℕ
 number_or None = 0
 number_or (Some n) = n
+
+-- a script but for its calls, and scripts of the same callers, in order
+abbrev pub caller_in : Script → PlainScript
+caller_in s = record { port = s.port; name = s.name.bytes; calls = [] }
+
+abbrev pub HaveSameCallers : List Script → List Script → Type 0
+HaveSameCallers others scripts = map caller_in others ≡ map caller_in scripts
 
 -- the role of a script, where its name has a number
 abbrev pub role_for : List (List ℕ) → List ℕ → PlainScript → PlainRole

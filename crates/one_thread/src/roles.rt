@@ -1,10 +1,11 @@
 //! Who calls in a phase, and at which step each caller stands.
 
-ghost use Rattle.std.specs.Prelude.{◌≡◌, ◌+◌, ◌*◌, ◌<◌, ◌≤◌, ◌^◌, Some, IfOk, All, length, map, slice_get, slice_index, slice_set};
+ghost use Rattle.std.specs.Prelude.{◌≡◌, ◌+◌, ◌*◌, ◌<◌, ◌≤◌, ◌^◌, List, Some, IfOk, All, length, map, slice_get, slice_index, slice_set};
+ghost use Rattle.tty_calls.specs.declared.sessions.Script.{Script};
 ghost use Rattle.tty_calls.specs.Limits.{IsWithinLimits};
 ghost use Rattle.tty_calls.specs.Sessions.{session_of, counts_on, number_in, phase_of, script_of, scripts_on};
 ghost use Rattle.one_thread.specs.Roles.{scene_of, names_in, role_in, calls_in, AreRolesOf, AreFirstSteps};
-ghost use Rattle.one_thread.specs.Casting.{scripts_at, cast_of, steps_after, IsNumbered, AreNumbered};
+ghost use Rattle.one_thread.specs.Casting.{scripts_at, cast_of, steps_after, HaveSameCallers, IsNumbered, AreNumbered};
 
 use std::alloc::Global;
 use tty_base::NoMemory;
@@ -64,8 +65,8 @@ pub fn roles_of(
     cast(alloc, scripts, port, names, steps)
 }
 
-/// The roles of a port's scripts.
-fn cast(
+/// The roles of a port's scripts: by their callers alone, so that they are those of any scripts of these callers.
+pub fn cast(
     alloc: Global,
     scripts: &[Script],
     port: usize,
@@ -75,7 +76,7 @@ fn cast(
     requires numbered { AreNumbered names.now port (map script_of scripts.now) }
     requires few { length names.now < 65536 }
     requires steps { length steps.now ≡ length names.now }
-    ensures { IfOk result (λ roles. map (role_in scripts.now) roles.items ≡ cast_of names.now steps.now port (map script_of scripts.now)) }
+    ensures { IfOk result (λ roles. (others : List Script) → HaveSameCallers others scripts.now → map (role_in others) roles.items ≡ cast_of names.now steps.now port (map script_of others)) }
 {
     let mut roles = Vec::new(alloc);
     for (place, script) in scripts.iter().enumerate() {

@@ -1,8 +1,9 @@
-use Rattle.std.proofs.Common.{◌≡◌, take, map}
+use Rattle.std.proofs.Common.{◌≡◌, List, take, map}
+use Rattle.tty_calls.specs.declared.sessions.Script.{Script}
 use Rattle.tty_calls.specs.Sessions.{script_of}
 use Rattle.one_thread.specs.Roles.{role_in}
-use Rattle.one_thread.specs.Casting.{cast_of}
+use Rattle.one_thread.specs.Casting.{HaveSameCallers, cast_of}
 use Rattle.one_thread.proofs.roles.cast.Given as goal
 
 abbrev pub invariant-loop-place : goal.invariant-loop-place
-invariant-loop-place l = map (role_in l.scripts) l.roles.items ≡ cast_of l.names l.steps l.port (map script_of (take l.place l.scripts))
+invariant-loop-place l = (others : List Script) → HaveSameCallers others l.scripts → map (role_in others) l.roles.items ≡ cast_of l.names l.steps l.port (map script_of (take l.place others))
