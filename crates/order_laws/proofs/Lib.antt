@@ -5,3 +5,6 @@ pub mod Shapes
 pub mod Waits
 pub mod Growing
 pub mod Adding
+pub mod Agreeing
+pub mod InEach
+pub mod Opening

@@ -60,7 +60,7 @@ phases_same p session later shape =
 abbrev nothing : PlainPhase
 nothing = record { lines = []; ticks = []; callers = [] }
 
-at_phase : {X : Type 0} (f : PlainPhase → X) (session later : PlainSession) (k : ℕ) → map f later.phases ≡ map f session.phases → f (phase_at later k) ≡ f (phase_at session k)
+pub at_phase : {X : Type 0} (f : PlainPhase → X) (session later : PlainSession) (k : ℕ) → map f later.phases ≡ map f session.phases → f (phase_at later k) ≡ f (phase_at session k)
 at_phase f session later k same =
     sym (get_or-map f later.phases k nothing) ∙ (ap (λ xs. get_or xs k (f nothing)) same ∙ get_or-map f session.phases k nothing)
 

@@ -1,2 +1,3 @@
 pub mod Lost
 pub mod Growth
+pub mod Agreed
