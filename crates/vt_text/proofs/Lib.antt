@@ -1,2 +1,3 @@
+mod Joined
 pub mod Operators
 pub mod Limits

@@ -40,9 +40,10 @@ after_session_item r n word arguments =
 abbrev pub is_header : List ℕ → List (List ℕ) → Bool
 is_header word arguments = (bytes_eq word (codes "vt-session") && length arguments == 1) && bytes_eq (word_at arguments 0) (codes "1")
 
-abbrev pub after_header : PlainVtReading → ℕ → List ℕ → List (List ℕ) → Result PlainVtReading BadLine
-after_header r n word arguments =
-    if is_header word arguments then after_session_item r n (codes "tty-session") arguments else bad n header
+-- the header begins the reading
+abbrev pub after_header : ℕ → List ℕ → List (List ℕ) → Result PlainVtReading BadLine
+after_header n word arguments =
+    if is_header word arguments then after_session_item first_vt_reading n (codes "tty-session") arguments else bad n header
 
 -- a call spends one of those that may still come
 abbrev pub spend : ℕ → PlainVtReading → Result PlainVtReading BadLine
@@ -73,7 +74,7 @@ after_verb r n word arguments (Some Call) = after_call r n word arguments
 
 abbrev pub after_item : PlainVtReading → ℕ → List ℕ → List (List ℕ) → Result PlainVtReading BadLine
 after_item r n word arguments =
-    if is_start r.session.stand.place then after_header r n word arguments else after_verb r n word arguments (verb_of word)
+    if is_start r.session.stand.place then after_header n word arguments else after_verb r n word arguments (verb_of word)
 
 abbrev pub after_line : PlainVtReading → ℕ → List (List ℕ) → Result PlainVtReading BadLine
 after_line r n [] = Ok r

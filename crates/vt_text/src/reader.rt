@@ -94,6 +94,7 @@ impl VtReader {
         }
     }
 
+    /// Reads the header, which begins the reading.
     fn read_header(
         &mut self,
         alloc: Global,
@@ -101,11 +102,12 @@ impl VtReader {
         word: &[u8],
         arguments: &FirstTwo,
     ) -> Result<(), TextFault>
-        ensures { Gives (λ _. vt_reading_of self.new) result (after_header (vt_reading_of self.old) number word.now arguments.now) }
+        ensures { Gives (λ _. vt_reading_of self.new) result (after_header number word.now arguments.now) }
     {
         if !is_header(word, arguments) {
             return Err(bad(number, Reason::Header));
         }
+        *self = VtReader::new(alloc);
         self.read_by_session(alloc, number, b"tty-session".as_slice(), arguments)
     }
 
