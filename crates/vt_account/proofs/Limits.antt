@@ -109,7 +109,8 @@ few_arrive p ports keys consoles phase = elim (either_side p ports) [
       subst (λ (l : List LineStep). arrival_count l ≤ length keys) (sym line) (omega arith)
 ]
 
-few_characters : (p ports : ℕ) (consoles : List ℕ) (keyboards : List PlainVtPhase) (phases : List PlainPhase) → length phases ≡ length keyboards
+-- no more characters arrive on a console than there are keys
+pub few_characters : (p ports : ℕ) (consoles : List ℕ) (keyboards : List PlainVtPhase) (phases : List PlainPhase) → length phases ≡ length keyboards
     → character_count p (keyed_phases ports consoles keyboards phases) ≤ length (all_keys keyboards)
 few_characters p ports consoles [] [] e = omega arith
 few_characters p ports consoles [] (phase ∷ phases) e = absurd (omega (arith, e))

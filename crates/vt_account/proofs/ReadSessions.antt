@@ -34,7 +34,7 @@ operators_all (p ∷ phases) =
 few_names : (phases : List PlainVtPhase) → length (operator_names phases) ≤ operator_count phases
 few_names phases = omega (arith, names_from (flat_map (λ (p : PlainVtPhase). p.operators) phases) [], operators_all phases)
 
-all_counted : (phases : List PlainVtPhase) → length (all_keys phases) ≡ key_count phases
+pub all_counted : (phases : List PlainVtPhase) → length (all_keys phases) ≡ key_count phases
 all_counted [] = refl
 all_counted (p ∷ phases) = omega (arith, length-append p.keys (all_keys phases), all_counted phases, sum_by-cons (λ (x : PlainVtPhase). length x.keys) p phases)
 

@@ -10,7 +10,7 @@ use Rattle.vt_account.specs.Keyed.{IsWhole, consoles_in, keyed, keyed_phases}
 use Rattle.vt_report.specs.Report.{behind_callers, report_text}
 
 -- the scripts stay
-same_scripts : (p ports : ℕ) (consoles : List ℕ) (keyboards : List PlainVtPhase) (phases : List PlainPhase) → length phases ≡ length keyboards
+pub same_scripts : (p ports : ℕ) (consoles : List ℕ) (keyboards : List PlainVtPhase) (phases : List PlainPhase) → length phases ≡ length keyboards
     → scripts_over p (keyed_phases ports consoles keyboards phases) ≡ scripts_over p phases
 same_scripts p ports consoles [] phases e = refl
 same_scripts p ports consoles (keyboard ∷ keyboards) [] e = refl
