@@ -22,7 +22,8 @@ use Rattle.tty_one.specs.declared.words.Command.TheVariants.{Check}
 use Rattle.tty_one.specs.declared.works.Ending.{Ending}
 use Rattle.tty_one.specs.declared.works.Ending.TheVariants.{Done, BadSession, BadWords, ReadFault, TooLong, NotLegal}
 use Rattle.tty_one.specs.Endings.{status_of, IsOfSource, IsShort}
-use Rattle.tty_one.specs.Outcome.{IsAllOf, IsJudged, IsRefused, CompletesCheck}
+use Rattle.tty_one.specs.Reported.{Returned, nothing, IsAllOf}
+use Rattle.tty_one.specs.Outcome.{IsJudged, IsRefused, CompletesCheck}
 use Rattle.tty_one.specs.Works.{IsJudgedText, IsWork}
 use Rattle.tty_one.proofs.Refused.{line_from}
 
@@ -84,20 +85,23 @@ judged_from left text verdict whole h =
     record { read = h.read; session = h.session; runs = h.runs; whole = subst (IsAllOf left) (sym h.whole) whole; spelled = h.spelled; fits = h.fits }
 
 -- the text is all that the source had left
-pub judged_works : (faults now : ℕ) (left rest : Option (List ℕ)) (text : List ℕ) (e : Ending) (runs : List PortRun) → runs ≡ [] → IsAllOf left text → IsShort left rest → IsJudgedText text e
-    → IsWork Check left e runs × IsOfSource e faults now left rest
-judged_works faults now left rest text (Done report) runs none whole short h =
-    (record { judged = judged_from left text Legal whole h.judged; no_runs = none; told = h.told }, short)
-judged_works faults now left rest text (BadSession line) runs none whole short h = ((none, line_from refusal_of_runs left text line.items whole h), short)
-judged_works faults now left rest text BadWords runs none whole short h = absurd h
-judged_works faults now left rest text ReadFault runs none whole short h = absurd h
-judged_works faults now left rest text TooLong runs none whole short h = absurd h
-judged_works faults now left rest text (NotLegal line) runs none whole short h = (
-  record {
-    verdict = h.verdict;
-    told = record { judged = judged_from left text h.verdict whole h.told.judged; no_runs = none; told = h.told.told };
-    illegal = h.illegal;
-  },
+pub judged_works : (faults now : ℕ) (left rest : Option (List ℕ)) (text : List ℕ) (e : Ending) → IsAllOf left text → IsShort left rest → IsJudgedText text e
+    → IsWork Check left e nothing × IsOfSource e faults now left rest
+judged_works faults now left rest text (Done report) whole short h =
+    (record { judged = judged_from left text Legal whole h.judged; no_runs = refl; told = h.told }, short)
+judged_works faults now left rest text (BadSession line) whole short h = ((refl, line_from refusal_of_runs left text line.items whole h), short)
+judged_works faults now left rest text BadWords whole short h = absurd h
+judged_works faults now left rest text ReadFault whole short h = absurd h
+judged_works faults now left rest text TooLong whole short h = absurd h
+judged_works faults now left rest text (NotLegal line) whole short h = (
+  (
+    refl,
+    record {
+      verdict = h.verdict;
+      told = record { judged = judged_from left text h.verdict whole h.told.judged; no_runs = refl; told = h.told.told };
+      illegal = h.illegal;
+    },
+  ),
   short,
 )
 
@@ -127,29 +131,29 @@ none_illegal : (bytes : List ℕ) (session : PlainSession) (runs : List PortRun)
 none_illegal bytes session runs verdict illegal h spells legal =
     illegal (one_verdict h.session h.runs verdict Legal h.fits (legal_alike bytes session h.session runs h.runs spells (spelled_in bytes verdict h) legal))
 
-pub completes_check : (bytes : List ℕ) (faults faults' : ℕ) (rest : Option (List ℕ)) (runs : List PortRun) (e : Ending) (status : ℕ) → (status ≡ status_of e) ⊎ (status ≡ 4)
-    → IsOfSource e faults faults' (Some bytes) rest → IsWork Check (Some bytes) e runs → (IsOfSource TooLong faults faults' (Some bytes) rest → ⊥) → (Rose faults faults' → ⊥) → CompletesCheck bytes status
-completes_check bytes faults faults' rest runs e status (inr four) of work short sound =
+pub completes_check : (bytes : List ℕ) (faults faults' : ℕ) (rest : Option (List ℕ)) (back : Returned) (e : Ending) (status : ℕ) → (status ≡ status_of e) ⊎ (status ≡ 4)
+    → IsOfSource e faults faults' (Some bytes) rest → IsWork Check (Some bytes) e back → (IsOfSource TooLong faults faults' (Some bytes) rest → ⊥) → (Rose faults faults' → ⊥) → CompletesCheck bytes status
+completes_check bytes faults faults' rest back e status (inr four) of work short sound =
     record { legal = λ session found spells legal. inr (inl four); illegal = λ session found spells illegal. inr (inl four); refused = λ bad wrong. inr (inl four) }
-completes_check bytes faults faults' rest runs (Done report) status (inl is) of work short sound =
+completes_check bytes faults faults' rest back (Done report) status (inl is) of work short sound =
     record {
       legal = λ session found spells legal. inl is;
       illegal = λ session found spells illegal. absurd (illegal (legal_alike bytes work.judged.session session work.judged.runs found (spelled_in bytes Legal work.judged) spells work.judged.fits));
       refused = λ bad wrong. absurd (not_both bytes work.judged.session (map run_of work.judged.runs) bad (spelled_in bytes Legal work.judged) wrong);
     }
-completes_check bytes faults faults' rest runs (BadSession line) status (inl is) of work short sound =
+completes_check bytes faults faults' rest back (BadSession line) status (inl is) of work short sound =
     let wrong = refused_in bytes work.1.bad work.1.refused in
     record {
       legal = λ session found spells legal. absurd (not_both bytes session (map run_of found) work.1.bad spells wrong);
       illegal = λ session found spells illegal. absurd (not_both bytes session (map run_of found) work.1.bad spells wrong);
       refused = λ bad _. inl is;
     }
-completes_check bytes faults faults' rest runs BadWords status (inl is) of work short sound = absurd of
-completes_check bytes faults faults' rest runs ReadFault status (inl is) of work short sound = absurd (sound of.0)
-completes_check bytes faults faults' rest runs TooLong status (inl is) of work short sound = absurd (short of)
-completes_check bytes faults faults' rest runs (NotLegal line) status (inl is) of work short sound =
+completes_check bytes faults faults' rest back BadWords status (inl is) of work short sound = absurd of
+completes_check bytes faults faults' rest back ReadFault status (inl is) of work short sound = absurd (sound of.0)
+completes_check bytes faults faults' rest back TooLong status (inl is) of work short sound = absurd (short of)
+completes_check bytes faults faults' rest back (NotLegal line) status (inl is) of work short sound =
     record {
-      legal = λ session found spells legal. absurd (none_illegal bytes session found work.verdict work.illegal work.told.judged spells legal);
+      legal = λ session found spells legal. absurd (none_illegal bytes session found work.1.verdict work.1.illegal work.1.told.judged spells legal);
       illegal = λ session found spells illegal. inl is;
-      refused = λ bad wrong. absurd (not_both bytes work.told.judged.session (map run_of work.told.judged.runs) bad (spelled_in bytes work.verdict work.told.judged) wrong);
+      refused = λ bad wrong. absurd (not_both bytes work.1.told.judged.session (map run_of work.1.told.judged.runs) bad (spelled_in bytes work.1.verdict work.1.told.judged) wrong);
     }

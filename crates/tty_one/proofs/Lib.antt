@@ -1,4 +1,7 @@
 mod Answered
+mod ConsolesPlayed
+mod ConsolesReport
+mod ConsolesRoom
 mod Judged
 mod Numbered
 mod OneReport

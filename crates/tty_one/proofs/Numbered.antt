@@ -16,7 +16,7 @@ use Rattle.tty_one.specs.declared.works.Ending.{Ending}
 use Rattle.tty_one.specs.declared.works.Ending.TheVariants.{Done, BadSession, BadWords, ReadFault, TooLong, NotLegal}
 use Rattle.tty_one.specs.declared.playing.Telling.TheVariants.{Summary}
 use Rattle.tty_one.specs.declared.words.Command.TheVariants.{Gen}
-use Rattle.tty_one.specs.Outcome.{IsOrdered}
+use Rattle.tty_one.specs.Reported.{IsOrdered}
 use Rattle.tty_one.specs.Works.{IsSessionWork, CanEnd, IsNeverFull}
 
 -- the bytes that scripts write

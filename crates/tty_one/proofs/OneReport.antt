@@ -21,14 +21,15 @@ use Rattle.order_laws.proofs.OneRun.{one_run}
 use Rattle.tty_one.specs.declared.playing.Telling.{Telling}
 use Rattle.tty_one.specs.declared.playing.Telling.TheVariants.{Report, Summary}
 use Rattle.tty_one.specs.declared.words.Command.{Command}
-use Rattle.tty_one.specs.declared.words.Command.TheVariants.{Run, RunOne, Gen, Check}
+use Rattle.tty_one.specs.declared.words.Command.TheVariants.{Run, RunOne, Gen, Check, VtOne}
 use Rattle.tty_one.specs.Endings.{Ask, AskRunOne, AreRunOne, AreGen, AskGen}
-use Rattle.tty_one.specs.Outcome.{end_at, IsOrdered, IsWhole, text_by, IsReported, IsPlayedText, WasGiven, IsToldBy, IsDone, GaveTheSame}
-use Rattle.tty_one.proofs.Outcomes.{not_gen_and_one, not_gen_and_run, not_check_and_gen, not_check_and_one, not_run_and_one}
+use Rattle.tty_one.specs.Reported.{Returned, end_at, IsOrdered, IsWhole, text_by, IsToldAs, IsReported}
+use Rattle.tty_one.specs.Outcome.{IsPlayedText, WasGiven, IsToldBy, IsDone, GaveTheSame}
+use Rattle.tty_one.proofs.Outcomes.{not_gen_and_one, not_gen_and_run, not_check_and_gen, not_check_and_one, not_run_and_one, not_vt_and_one, not_vt_and_gen}
 
 -- ---- runs that are the same
 
-abbrev AreSame : List PortRun → List PortRun → Type 0
+abbrev pub AreSame : List PortRun → List PortRun → Type 0
 AreSame [] [] = Unit {0}
 AreSame [] (run ∷ runs) = ⊥
 AreSame (run ∷ runs) [] = ⊥
@@ -57,7 +58,7 @@ same_journal session p run other h = ap (λ (r : PortRun). journal_on p session 
 same_calls : (session : PlainSession) (p : ℕ) (run other : PortRun) → IsSameRun run other → calls_text p session run ≡ calls_text p session other
 same_calls session p run other h = ap (λ (r : PortRun). calls_text p session r) (same_plain run other h)
 
-all_calls : (session : PlainSession) (p : ℕ) (runs others : List PortRun) → AreSame runs others → calls_from p session runs ≡ calls_from p session others
+pub all_calls : (session : PlainSession) (p : ℕ) (runs others : List PortRun) → AreSame runs others → calls_from p session runs ≡ calls_from p session others
 all_calls session p [] [] h = refl
 all_calls session p [] (other ∷ others) h = absurd h
 all_calls session p (run ∷ runs) [] h = absurd h
@@ -128,10 +129,15 @@ all_one W one (run ∷ runs) (other ∷ others) (end ∷ ends) (last ∷ lasts) 
     (record { count = omega (arith, k.count); each = λ p. k.each (suc p) }) in
     ((here.0, rest.0), λ i. here.1 i ∷ rest.1 i)
 
-pub one_report : (telling : Telling) (session : PlainSession) (runs others : List PortRun) (text other : List ℕ) → IsReported IsOrdered telling session runs text → IsReported IsOrdered telling session others other → text ≡ other
-one_report telling session runs others text other h k =
+-- two texts that tell the same runs alike are the same
+pub one_told : (text_of : List PortRun → List PlainEnd → List ℕ) → ((runs others : List PortRun) (ends : List PlainEnd) → AreSame runs others → text_of runs ends ≡ text_of others ends)
+    → (session : PlainSession) (runs others : List PortRun) (text other : List ℕ) → IsToldAs IsOrdered text_of session runs text → IsToldAs IsOrdered text_of session others other → text ≡ other
+one_told text_of alike session runs others text other h k =
     let all = all_one (IsRunAt session) (one_at session) runs others h.ends k.ends (h.runs_of_all ∙ sym k.runs_of_all) (record { count = h.ends_of_all ∙ sym h.runs_of_all; each = h.each }) (record { count = k.ends_of_all ∙ sym k.runs_of_all; each = k.each }) in
-    h.told ∙ (same_text telling session runs others h.ends all.0 ∙ (ap (λ (ends : List PlainEnd). text_by telling session others ends) all.1 ∙ sym k.told))
+    h.told ∙ (alike runs others h.ends all.0 ∙ (ap (text_of others) all.1 ∙ sym k.told))
+
+pub one_report : (telling : Telling) (session : PlainSession) (runs others : List PortRun) (text other : List ℕ) → IsReported IsOrdered telling session runs text → IsReported IsOrdered telling session others other → text ≡ other
+one_report telling session runs others text other h k = one_told (text_by telling session) (same_text telling session) session runs others text other h k
 
 -- of one text that was read
 pub one_text : (telling : Telling) (bytes : List ℕ) (runs others : List PortRun) (text other : List ℕ) → IsPlayedText (Some bytes) (λ session. IsReported IsOrdered telling session runs text)
@@ -144,7 +150,7 @@ one_text telling bytes runs others text other h k =
 
 -- ---- two calls
 
-both_gave : (before before' text text' : List ℕ) (now now' : Option (List ℕ)) → text ≡ text' → WasGiven (Some before) now text → WasGiven (Some before') now' text' → GaveTheSame before before' now now'
+pub both_gave : (before before' text text' : List ℕ) (now now' : Option (List ℕ)) → text ≡ text' → WasGiven (Some before) now text → WasGiven (Some before') now' text' → GaveTheSame before before' now now'
 both_gave before before' text text' now now' same h k = (text, h, k ∙ ap (λ (t : List ℕ). Some (before' ++ t)) (sym same))
 
 same_journals : (words : List (List ℕ)) (journals others : Bool) → AskRunOne journals words → AskRunOne others words → journals ≡ others
@@ -161,31 +167,33 @@ same_number words number other h k =
     h.2.value ∙ (ap number_of digits ∙ sym k.2.value)
 
 -- the session that was read was told on one thread
-run_told : (words : List (List ℕ)) (bytes : List ℕ) (journals : Bool) (command : Command) (runs : List PortRun) (text : List ℕ) → AskRunOne journals words → Ask command words → IsToldBy command (Some bytes) runs text
-    → IsPlayedText (Some bytes) (λ session. IsReported IsOrdered (Report journals) session runs text)
-run_told words bytes journals (Run threads) runs text one asked told = absurd (not_run_and_one words threads journals asked one)
-run_told words bytes journals (RunOne others) runs text one asked told =
-    subst (λ (b : Bool). IsPlayedText (Some bytes) (λ session. IsReported IsOrdered (Report b) session runs text)) (same_journals words others journals asked one) told
-run_told words bytes journals (Gen number) runs text one asked told = absurd (not_gen_and_one words journals (number, asked) one)
-run_told words bytes journals Check runs text one asked told = absurd (not_check_and_one words journals asked one)
+run_told : (words : List (List ℕ)) (bytes : List ℕ) (journals : Bool) (command : Command) (back : Returned) (text : List ℕ) → AskRunOne journals words → Ask command words → IsToldBy command (Some bytes) back text
+    → IsPlayedText (Some bytes) (λ session. IsReported IsOrdered (Report journals) session back.runs text)
+run_told words bytes journals (Run threads) back text one asked told = absurd (not_run_and_one words threads journals asked one)
+run_told words bytes journals (RunOne others) back text one asked told =
+    subst (λ (b : Bool). IsPlayedText (Some bytes) (λ session. IsReported IsOrdered (Report b) session back.runs text)) (same_journals words others journals asked one) told
+run_told words bytes journals (Gen number) back text one asked told = absurd (not_gen_and_one words journals (number, asked) one)
+run_told words bytes journals Check back text one asked told = absurd (not_check_and_one words journals asked one)
+run_told words bytes journals VtOne back text one asked told = absurd (not_vt_and_one words journals asked one)
 
-pub runs_tell_the_same : (words : List (List ℕ)) (bytes before before' : List ℕ) (now now' : Option (List ℕ)) (runs others : List PortRun) → AreRunOne words
-    → IsDone words (Some bytes) (Some before) now runs → IsDone words (Some bytes) (Some before') now' others → GaveTheSame before before' now now'
-runs_tell_the_same words bytes before before' now now' runs others one h k =
-    let first = run_told words bytes one.0 h.command runs h.text one.1 h.asked h.done in
-    let second = run_told words bytes one.0 k.command others k.text one.1 k.asked k.done in
-    both_gave before before' h.text k.text now now' (one_text (Report one.0) bytes runs others h.text k.text first second) h.given k.given
+pub runs_tell_the_same : (words : List (List ℕ)) (bytes before before' : List ℕ) (now now' : Option (List ℕ)) (back other : Returned) → AreRunOne words
+    → IsDone words (Some bytes) (Some before) now back → IsDone words (Some bytes) (Some before') now' other → GaveTheSame before before' now now'
+runs_tell_the_same words bytes before before' now now' back other one h k =
+    let first = run_told words bytes one.0 h.command back h.text one.1 h.asked h.done in
+    let second = run_told words bytes one.0 k.command other k.text one.1 k.asked k.done in
+    both_gave before before' h.text k.text now now' (one_text (Report one.0) bytes back.runs other.runs h.text k.text first second) h.given k.given
 
-gen_told : (words : List (List ℕ)) (left : Option (List ℕ)) (number : ℕ) (command : Command) (runs : List PortRun) (text : List ℕ) → AskGen number words → Ask command words → IsToldBy command left runs text
-    → IsReported IsOrdered (Summary number) (generated_session number) runs text
-gen_told words left number (Run threads) runs text gen asked told = absurd (not_gen_and_run words threads (number, gen) asked)
-gen_told words left number (RunOne journals) runs text gen asked told = absurd (not_gen_and_one words journals (number, gen) asked)
-gen_told words left number (Gen other) runs text gen asked told = subst (λ (n : ℕ). IsReported IsOrdered (Summary n) (generated_session n) runs text) (same_number words other number asked gen) told
-gen_told words left number Check runs text gen asked told = absurd (not_check_and_gen words (number, gen) asked)
+gen_told : (words : List (List ℕ)) (left : Option (List ℕ)) (number : ℕ) (command : Command) (back : Returned) (text : List ℕ) → AskGen number words → Ask command words → IsToldBy command left back text
+    → IsReported IsOrdered (Summary number) (generated_session number) back.runs text
+gen_told words left number (Run threads) back text gen asked told = absurd (not_gen_and_run words threads (number, gen) asked)
+gen_told words left number (RunOne journals) back text gen asked told = absurd (not_gen_and_one words journals (number, gen) asked)
+gen_told words left number (Gen other) back text gen asked told = subst (λ (n : ℕ). IsReported IsOrdered (Summary n) (generated_session n) back.runs text) (same_number words other number asked gen) told
+gen_told words left number Check back text gen asked told = absurd (not_check_and_gen words (number, gen) asked)
+gen_told words left number VtOne back text gen asked told = absurd (not_vt_and_gen words asked (number, gen))
 
-pub numbers_tell_the_same : (words : List (List ℕ)) (left left' : Option (List ℕ)) (before before' : List ℕ) (now now' : Option (List ℕ)) (runs others : List PortRun) → AreGen words
-    → IsDone words left (Some before) now runs → IsDone words left' (Some before') now' others → GaveTheSame before before' now now'
-numbers_tell_the_same words left left' before before' now now' runs others gen h k =
-    let first = gen_told words left gen.0 h.command runs h.text gen.1 h.asked h.done in
-    let second = gen_told words left' gen.0 k.command others k.text gen.1 k.asked k.done in
-    both_gave before before' h.text k.text now now' (one_report (Summary gen.0) (generated_session gen.0) runs others h.text k.text first second) h.given k.given
+pub numbers_tell_the_same : (words : List (List ℕ)) (left left' : Option (List ℕ)) (before before' : List ℕ) (now now' : Option (List ℕ)) (back other : Returned) → AreGen words
+    → IsDone words left (Some before) now back → IsDone words left' (Some before') now' other → GaveTheSame before before' now now'
+numbers_tell_the_same words left left' before before' now now' back other gen h k =
+    let first = gen_told words left gen.0 h.command back h.text gen.1 h.asked h.done in
+    let second = gen_told words left' gen.0 k.command other k.text gen.1 k.asked k.done in
+    both_gave before before' h.text k.text now now' (one_report (Summary gen.0) (generated_session gen.0) back.runs other.runs h.text k.text first second) h.given k.given

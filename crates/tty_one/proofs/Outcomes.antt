@@ -8,20 +8,39 @@ use Rattle.session_text.specs.declared.faults.BadLine.{BadLine}
 use Rattle.session_text.specs.Refusals.{refusal}
 use Rattle.session_text.specs.Grammar.{Spells}
 use Rattle.session_text.proofs.Spelled.{spelled_fault}
+use Rattle.vt_text.specs.Sessions.{PlainVtSession}
 use Rattle.tty_one.specs.declared.words.Command.{Command}
-use Rattle.tty_one.specs.declared.words.Command.TheVariants.{Run, RunOne, Gen, Check}
+use Rattle.tty_one.specs.declared.words.Command.TheVariants.{Run, RunOne, Gen, Check, VtOne}
 use Rattle.tty_one.specs.declared.playing.Telling.{Telling}
 use Rattle.tty_one.specs.declared.playing.Telling.TheVariants.{Report}
+use Rattle.tty_one.specs.declared.works.Ran.{Ran}
+use Rattle.tty_one.specs.declared.works.Work.{Work}
 use Rattle.tty_one.specs.declared.works.Ending.{Ending}
 use Rattle.tty_one.specs.declared.works.Ending.TheVariants.{Done, BadSession, BadWords, ReadFault, TooLong, NotLegal}
-use Rattle.tty_one.specs.Endings.{Ask, AskRun, AskRunOne, AskCheck, AskOneToRead, IsOfOne, AreKnown, AreOfOne, AreRun, AreRunOne, AreGen, line_of, status_of, text_of, bad_session_line, IsOfSource, IsTold}
-use Rattle.tty_one.specs.Outcome.{IsOrdered, IsInAnyOrder, IsPlayedText, IsRefused, IsReported, IsStatusOr, Completes, CompletesCheck, WasGiven, WasGivenFront, IsDone, IsToldRefused, IsToldIllegal, IsBroken, breaks_fault, breaks_long, breaks_refusal, breaks_text, breaks_verdict}
-use Rattle.tty_one.specs.Works.{IsWork, CanEnd, ReadsNothing}
+use Rattle.tty_one.specs.Endings.{Ask, AskRun, AskRunOne, AskCheck, AskVtOne, AskOneToRead, IsStatusOr, IsOfOne, AreKnown, AreOfOne, AreRun, AreRunOne, AreGen, line_of, status_of, text_of, bad_session_line, IsOfSource, IsTold}
+use Rattle.tty_one.specs.Reported.{Returned, returned, nothing, IsOrdered, IsInAnyOrder, IsReported}
+use Rattle.tty_one.specs.Consoles.{SpellsConsoles, fault_in, consoles_refusal, IsToldOfConsoles, CompletesConsoles}
+use Rattle.tty_one.specs.Outcome.{IsPlayedText, IsRefused, Completes, CompletesCheck, WasGiven, WasGivenFront, IsDone, IsToldRefused, IsToldIllegal, IsBroken, breaks_fault, breaks_long, breaks_refusal, breaks_text, breaks_verdict}
+use Rattle.tty_one.specs.Works.{brought, IsWork, HasEntries, CanEnd, ReadsNothing}
 use Rattle.tty_one.proofs.Judged.{completes_check}
 
--- the runs of the work are those that are returned
-pub work_with : (command : Command) (left : Option (List ℕ)) (e : Ending) (told runs : Contents PortRun) → told ≡ runs → IsWork command left e runs.items → IsWork command left e told.items
-work_with command left e told runs same done = subst (λ (rs : Contents PortRun). IsWork command left e rs.items) (sym same) done
+-- what the work brought is what is returned
+pub work_with : (command : Command) (left : Option (List ℕ)) (e : Ending) (ran : Ran) (work : Work) → ran.runs ≡ work.runs → ran.vt ≡ work.vt
+    → IsWork command left e (brought work) → IsWork command left e (returned ran)
+work_with command left e ran work runs entries done =
+    let same : brought work ≡ returned ran = λ i. record { runs = (sym runs i).items; entries = (sym entries i).items } in
+    subst (IsWork command left e) same done
+
+-- work that ended without a run returns nothing
+pub nothing_told : (ran : Ran) (work : Work) (e : Ending) → ran.runs ≡ work.runs → ran.vt ≡ work.vt → work ≡ record { ending = e; runs = record { items = []; spare = 0 }; vt = record { items = []; spare = 0 } }
+    → returned ran ≡ nothing
+nothing_told ran work e runs entries same = λ i. record { runs = (runs_are i).items; entries = (entries_are i).items }
+  where
+    runs_are : ran.runs ≡ record { items = []; spare = 0 }
+    runs_are = runs ∙ ap (λ (w : Work). w.runs) same
+
+    entries_are : ran.vt ≡ record { items = []; spare = 0 }
+    entries_are = entries ∙ ap (λ (w : Work). w.vt) same
 
 -- ---- which words ask for what
 
@@ -64,6 +83,27 @@ not_check_and_run words true check run = let same : 2 ≡ 1 = ap length (sym run
 option_differs : codes "--journal" ≡ codes "--one" → ⊥
 option_differs h = let third : 106 ≡ 111 = ap (λ word. get_or word 2 0) h in omega (arith, third)
 
+-- the words of consoles begin with another
+vt_differs : (words rest others : List (List ℕ)) (w : List ℕ) → words ≡ codes "vt" ∷ rest → words ≡ w ∷ others → (get_or w 0 0 ≡ 118 → ⊥) → ⊥
+vt_differs words rest others w vt run differs =
+    let first : codes "vt" ≡ w = same_heads (codes "vt") w rest others (sym vt ∙ run) in
+    differs (ap (λ word. get_or word 0 0) (sym first))
+
+pub not_vt_and_one : (words : List (List ℕ)) (journals : Bool) → AskVtOne words → AskRunOne journals words → ⊥
+not_vt_and_one words false vt run = vt_differs words _ _ (codes "run") vt run (λ e. omega (arith, e))
+not_vt_and_one words true vt (inl run) = vt_differs words _ _ (codes "run") vt run (λ e. omega (arith, e))
+not_vt_and_one words true vt (inr run) = vt_differs words _ _ (codes "run") vt run (λ e. omega (arith, e))
+
+pub not_vt_and_run : (words : List (List ℕ)) (journals : Bool) → AskVtOne words → AskRun journals words → ⊥
+not_vt_and_run words false vt run = vt_differs words _ _ (codes "run") vt run (λ e. omega (arith, e))
+not_vt_and_run words true vt run = vt_differs words _ _ (codes "run") vt run (λ e. omega (arith, e))
+
+pub not_vt_and_gen : (words : List (List ℕ)) → AskVtOne words → AreGen words → ⊥
+not_vt_and_gen words vt gen = vt_differs words _ _ (codes "gen") vt gen.1.1 (λ e. omega (arith, e))
+
+pub not_vt_and_check : (words : List (List ℕ)) → AskVtOne words → AskCheck words → ⊥
+not_vt_and_check words vt check = vt_differs words _ _ (codes "check") vt check (λ e. omega (arith, e))
+
 pub not_run_and_one : (words : List (List ℕ)) (journals others : Bool) → AskRun journals words → AskRunOne others words → ⊥
 not_run_and_one words false false run one = let same : 1 ≡ 2 = ap length (sym run ∙ one) in omega (arith, same)
 not_run_and_one words false true run (inl one) = let same : 1 ≡ 3 = ap length (sym run ∙ one) in omega (arith, same)
@@ -78,38 +118,44 @@ run_is_not_one words run (Run journals, of_one, asked) = of_one
 run_is_not_one words run (RunOne journals, of_one, asked) = not_run_and_one words run.0 journals run.1 asked
 run_is_not_one words run (Gen number, of_one, asked) = not_gen_and_run words run.0 (number, asked) run.1
 run_is_not_one words run (Check, of_one, asked) = not_check_and_run words run.0 asked run.1
+run_is_not_one words run (VtOne, of_one, asked) = not_vt_and_run words run.0 asked run.1
 
 pub one_if_not_run : (words : List (List ℕ)) → (AreRun words → ⊥) → AreKnown words → AreOfOne words
 one_if_not_run words no_run (Run journals, asked) = absurd (no_run (journals, asked))
 one_if_not_run words no_run (RunOne journals, asked) = (RunOne journals, tt, asked)
 one_if_not_run words no_run (Gen number, asked) = (Gen number, tt, asked)
 one_if_not_run words no_run (Check, asked) = (Check, tt, asked)
+one_if_not_run words no_run (VtOne, asked) = (VtOne, tt, asked)
 
 pub reads_nothing : (command : Command) (words : List (List ℕ)) → Ask command words → AreGen words → ReadsNothing command
 reads_nothing (Run journals) words asked gen = absurd (not_gen_and_run words journals gen asked)
 reads_nothing (RunOne journals) words asked gen = absurd (not_gen_and_one words journals gen asked)
 reads_nothing (Gen number) words asked gen = tt
 reads_nothing Check words asked gen = absurd (not_check_and_gen words gen asked)
+reads_nothing VtOne words asked gen = absurd (not_vt_and_gen words asked gen)
 
 -- a command that ends for want of what it reads does read
 read_fault_reads : (command : Command) → CanEnd command ReadFault → ReadsNothing command → ⊥
-read_fault_reads (Run journals) can nothing = nothing
-read_fault_reads (RunOne journals) can nothing = nothing
-read_fault_reads (Gen number) can nothing = can
-read_fault_reads Check can nothing = nothing
+read_fault_reads (Run journals) can none = none
+read_fault_reads (RunOne journals) can none = none
+read_fault_reads (Gen number) can none = can
+read_fault_reads Check can none = none
+read_fault_reads VtOne can none = none
 
 long_reads : (command : Command) → CanEnd command TooLong → ReadsNothing command → ⊥
-long_reads (Run journals) can nothing = nothing
-long_reads (RunOne journals) can nothing = nothing
-long_reads (Gen number) can nothing = can
-long_reads Check can nothing = nothing
+long_reads (Run journals) can none = none
+long_reads (RunOne journals) can none = none
+long_reads (Gen number) can none = can
+long_reads Check can none = none
+long_reads VtOne can none = none
 
 -- the words of a command that reads ask for a text to be read
 pub one_reads : (command : Command) (words : List (List ℕ)) → IsOfOne command → Ask command words → (ReadsNothing command → ⊥) → AskOneToRead words
 one_reads (Run journals) words of_one asked some = absurd of_one
 one_reads (RunOne journals) words of_one asked some = inl (journals, asked)
 one_reads (Gen number) words of_one asked some = absurd (some tt)
-one_reads Check words of_one asked some = inr asked
+one_reads Check words of_one asked some = inr (inl asked)
+one_reads VtOne words of_one asked some = inr (inr asked)
 
 -- ---- what was told
 
@@ -118,23 +164,24 @@ given_as : (before now : Option (List ℕ)) (text other : List ℕ) → text ≡
 given_as before now text other same h = subst (λ (t : List ℕ). WasGivenFront before now t) same h
 
 -- a verdict that was not given whole
-broken_verdict : (Known Reading : Type 0) (words : List (List ℕ)) (command : Command) (faults faults' : ℕ) (left rest before now : Option (List ℕ)) (runs : List PortRun) (line : Contents ℕ)
-    → Ask command words → IsWork command left (NotLegal line) runs → WasGivenFront before now line.items → IsBroken Known Reading words faults faults' left rest before now runs
-broken_verdict Known Reading words (Run journals) faults faults' left rest before now runs line asked work front = absurd work
-broken_verdict Known Reading words (RunOne journals) faults faults' left rest before now runs line asked work front = absurd work
-broken_verdict Known Reading words (Gen number) faults faults' left rest before now runs line asked work front = absurd work
-broken_verdict Known Reading words Check faults faults' left rest before now runs line asked work front = breaks_verdict work.verdict line.items asked work.told work.illegal front
+broken_verdict : (Known Reading : Type 0) (words : List (List ℕ)) (command : Command) (faults faults' : ℕ) (left rest before now : Option (List ℕ)) (back : Returned) (line : Contents ℕ)
+    → Ask command words → IsWork command left (NotLegal line) back → WasGivenFront before now line.items → IsBroken Known Reading words faults faults' left rest before now back
+broken_verdict Known Reading words (Run journals) faults faults' left rest before now back line asked work front = absurd work.1
+broken_verdict Known Reading words (RunOne journals) faults faults' left rest before now back line asked work front = absurd work.1
+broken_verdict Known Reading words (Gen number) faults faults' left rest before now back line asked work front = absurd work.1
+broken_verdict Known Reading words Check faults faults' left rest before now back line asked work front = breaks_verdict work.1.verdict line.items asked work.1.told work.1.illegal front
+broken_verdict Known Reading words VtOne faults faults' left rest before now back line asked work front = absurd work.1
 
 -- a text that was not given whole
-pub broken : (Known Reading : Type 0) (words : List (List ℕ)) (command : Command) (faults faults' : ℕ) (left rest before now : Option (List ℕ)) (runs : List PortRun) (e : Ending)
-    → Ask command words → CanEnd command e → ((ReadsNothing command → ⊥) → Reading) → IsOfSource e faults faults' left rest → IsWork command left e runs → WasGivenFront before now (text_of e) → IsBroken Known Reading words faults faults' left rest before now runs
-broken Known Reading words command faults faults' left rest before now runs (Done report) asked can reads of work front = breaks_text command report.items asked work front
-broken Known Reading words command faults faults' left rest before now runs (BadSession line) asked can reads of work front =
+pub broken : (Known Reading : Type 0) (words : List (List ℕ)) (command : Command) (faults faults' : ℕ) (left rest before now : Option (List ℕ)) (back : Returned) (e : Ending)
+    → Ask command words → CanEnd command e → ((ReadsNothing command → ⊥) → Reading) → IsOfSource e faults faults' left rest → IsWork command left e back → WasGivenFront before now (text_of e) → IsBroken Known Reading words faults faults' left rest before now back
+broken Known Reading words command faults faults' left rest before now back (Done report) asked can reads of work front = breaks_text command report.items asked work front
+broken Known Reading words command faults faults' left rest before now back (BadSession line) asked can reads of work front =
     breaks_refusal command work.1.bad asked work.1.refused work.0 (given_as before now line.items (bad_session_line work.1.bad) work.1.told front)
-broken Known Reading words command faults faults' left rest before now runs BadWords asked can reads of work front = absurd of
-broken Known Reading words command faults faults' left rest before now runs ReadFault asked can reads of work front = breaks_fault (reads (read_fault_reads command can)) of.0 work front
-broken Known Reading words command faults faults' left rest before now runs TooLong asked can reads of work front = breaks_long (reads (long_reads command can)) of work front
-broken Known Reading words command faults faults' left rest before now runs (NotLegal line) asked can reads of work front = broken_verdict Known Reading words command faults faults' left rest before now runs line asked work front
+broken Known Reading words command faults faults' left rest before now back BadWords asked can reads of work front = absurd of
+broken Known Reading words command faults faults' left rest before now back ReadFault asked can reads of work front = breaks_fault (reads (read_fault_reads command can)) of.0 work front
+broken Known Reading words command faults faults' left rest before now back TooLong asked can reads of work front = breaks_long (reads (long_reads command can)) of work front
+broken Known Reading words command faults faults' left rest before now back (NotLegal line) asked can reads of work front = broken_verdict Known Reading words command faults faults' left rest before now back line asked work front
 
 -- a status that is not that of a write fault is that of the ending
 status_is : (status n : ℕ) → (status ≡ n) ⊎ (status ≡ 4) → (status ≡ 4 → ⊥) → status ≡ n
@@ -142,57 +189,58 @@ status_is status n (inl is) other = is
 status_is status n (inr four) other = absurd (other four)
 
 -- a session that was played
-done_at : (words : List (List ℕ)) (command : Command) (left before now : Option (List ℕ)) (runs : List PortRun) (e : Ending) → Ask command words → IsWork command left e runs → WasGiven before now (text_of e) → status_of e ≡ 0 → IsDone words left before now runs
-done_at words command left before now runs (Done report) asked work given is = record { command = command; text = report.items; asked = asked; done = work; given = given }
-done_at words command left before now runs (BadSession line) asked work given is = absurd (omega (arith, is))
-done_at words command left before now runs BadWords asked work given is = absurd (omega (arith, is))
-done_at words command left before now runs ReadFault asked work given is = absurd (omega (arith, is))
-done_at words command left before now runs TooLong asked work given is = absurd (omega (arith, is))
-done_at words command left before now runs (NotLegal line) asked work given is = absurd (omega (arith, is))
+done_at : (words : List (List ℕ)) (command : Command) (left before now : Option (List ℕ)) (back : Returned) (e : Ending) → Ask command words → IsWork command left e back → WasGiven before now (text_of e) → status_of e ≡ 0 → IsDone words left before now back
+done_at words command left before now back (Done report) asked work given is = record { command = command; text = report.items; asked = asked; done = work; given = given }
+done_at words command left before now back (BadSession line) asked work given is = absurd (omega (arith, is))
+done_at words command left before now back BadWords asked work given is = absurd (omega (arith, is))
+done_at words command left before now back ReadFault asked work given is = absurd (omega (arith, is))
+done_at words command left before now back TooLong asked work given is = absurd (omega (arith, is))
+done_at words command left before now back (NotLegal line) asked work given is = absurd (omega (arith, is))
 
-pub done_by : (words : List (List ℕ)) (command : Command) (left before now : Option (List ℕ)) (runs : List PortRun) (e : Ending) (status : ℕ)
-    → Ask command words → IsWork command left e runs → (status ≡ status_of e) ⊎ (status ≡ 4) → ((status ≡ 4 → ⊥) → WasGiven before now (text_of e)) → status ≡ 0 → IsDone words left before now runs
-done_by words command left before now runs e status asked work is given zero_is =
+pub done_by : (words : List (List ℕ)) (command : Command) (left before now : Option (List ℕ)) (back : Returned) (e : Ending) (status : ℕ)
+    → Ask command words → IsWork command left e back → (status ≡ status_of e) ⊎ (status ≡ 4) → ((status ≡ 4 → ⊥) → WasGiven before now (text_of e)) → status ≡ 0 → IsDone words left before now back
+done_by words command left before now back e status asked work is given zero_is =
     let other : status ≡ 4 → ⊥ = λ four. omega (arith, zero_is, four) in
-    done_at words command left before now runs e asked work (given other) (sym (status_is status (status_of e) is other) ∙ zero_is)
+    done_at words command left before now back e asked work (given other) (sym (status_is status (status_of e) is other) ∙ zero_is)
 
 -- a text that was refused
-refused_at : (words : List (List ℕ)) (command : Command) (left before now : Option (List ℕ)) (runs : List PortRun) (e : Ending) → Ask command words → IsWork command left e runs → WasGiven before now (text_of e) → status_of e ≡ 1 → IsToldRefused words left before now
-refused_at words command left before now runs (BadSession line) asked work given is =
+refused_at : (words : List (List ℕ)) (command : Command) (left before now : Option (List ℕ)) (back : Returned) (e : Ending) → Ask command words → IsWork command left e back → WasGiven before now (text_of e) → status_of e ≡ 1 → IsToldRefused words left before now
+refused_at words command left before now back (BadSession line) asked work given is =
     record { command = command; bad = work.1.bad; asked = asked; refused = work.1.refused; given = subst (λ (t : List ℕ). WasGiven before now t) work.1.told given }
-refused_at words command left before now runs (Done report) asked work given is = absurd (omega (arith, is))
-refused_at words command left before now runs BadWords asked work given is = absurd (omega (arith, is))
-refused_at words command left before now runs ReadFault asked work given is = absurd (omega (arith, is))
-refused_at words command left before now runs TooLong asked work given is = absurd (omega (arith, is))
-refused_at words command left before now runs (NotLegal line) asked work given is = absurd (omega (arith, is))
+refused_at words command left before now back (Done report) asked work given is = absurd (omega (arith, is))
+refused_at words command left before now back BadWords asked work given is = absurd (omega (arith, is))
+refused_at words command left before now back ReadFault asked work given is = absurd (omega (arith, is))
+refused_at words command left before now back TooLong asked work given is = absurd (omega (arith, is))
+refused_at words command left before now back (NotLegal line) asked work given is = absurd (omega (arith, is))
 
-pub refused_by : (words : List (List ℕ)) (command : Command) (left before now : Option (List ℕ)) (runs : List PortRun) (e : Ending) (status : ℕ)
-    → Ask command words → IsWork command left e runs → (status ≡ status_of e) ⊎ (status ≡ 4) → ((status ≡ 4 → ⊥) → WasGiven before now (text_of e)) → status ≡ 1 → IsToldRefused words left before now
-refused_by words command left before now runs e status asked work is given one_is =
+pub refused_by : (words : List (List ℕ)) (command : Command) (left before now : Option (List ℕ)) (back : Returned) (e : Ending) (status : ℕ)
+    → Ask command words → IsWork command left e back → (status ≡ status_of e) ⊎ (status ≡ 4) → ((status ≡ 4 → ⊥) → WasGiven before now (text_of e)) → status ≡ 1 → IsToldRefused words left before now
+refused_by words command left before now back e status asked work is given one_is =
     let other : status ≡ 4 → ⊥ = λ four. omega (arith, one_is, four) in
-    refused_at words command left before now runs e asked work (given other) (sym (status_is status (status_of e) is other) ∙ one_is)
+    refused_at words command left before now back e asked work (given other) (sym (status_is status (status_of e) is other) ∙ one_is)
 
 -- runs that are not all legal
-illegal_line : (words : List (List ℕ)) (command : Command) (left before now : Option (List ℕ)) (runs : List PortRun) (line : Contents ℕ) → Ask command words → IsWork command left (NotLegal line) runs → WasGiven before now line.items → IsToldIllegal words left before now
-illegal_line words (Run journals) left before now runs line asked work given = absurd work
-illegal_line words (RunOne journals) left before now runs line asked work given = absurd work
-illegal_line words (Gen number) left before now runs line asked work given = absurd work
-illegal_line words Check left before now runs line asked work given =
-    record { verdict = work.verdict; asked = asked; judged = work.told.judged; illegal = work.illegal; given = subst (λ (t : List ℕ). WasGiven before now t) work.told.told given }
+illegal_line : (words : List (List ℕ)) (command : Command) (left before now : Option (List ℕ)) (back : Returned) (line : Contents ℕ) → Ask command words → IsWork command left (NotLegal line) back → WasGiven before now line.items → IsToldIllegal words left before now
+illegal_line words (Run journals) left before now back line asked work given = absurd work.1
+illegal_line words (RunOne journals) left before now back line asked work given = absurd work.1
+illegal_line words (Gen number) left before now back line asked work given = absurd work.1
+illegal_line words Check left before now back line asked work given =
+    record { verdict = work.1.verdict; asked = asked; judged = work.1.told.judged; illegal = work.1.illegal; given = subst (λ (t : List ℕ). WasGiven before now t) work.1.told.told given }
+illegal_line words VtOne left before now back line asked work given = absurd work.1
 
-illegal_at : (words : List (List ℕ)) (command : Command) (left before now : Option (List ℕ)) (runs : List PortRun) (e : Ending) → Ask command words → IsWork command left e runs → WasGiven before now (text_of e) → status_of e ≡ 7 → IsToldIllegal words left before now
-illegal_at words command left before now runs (NotLegal line) asked work given is = illegal_line words command left before now runs line asked work given
-illegal_at words command left before now runs (Done report) asked work given is = absurd (omega (arith, is))
-illegal_at words command left before now runs (BadSession line) asked work given is = absurd (omega (arith, is))
-illegal_at words command left before now runs BadWords asked work given is = absurd (omega (arith, is))
-illegal_at words command left before now runs ReadFault asked work given is = absurd (omega (arith, is))
-illegal_at words command left before now runs TooLong asked work given is = absurd (omega (arith, is))
+illegal_at : (words : List (List ℕ)) (command : Command) (left before now : Option (List ℕ)) (back : Returned) (e : Ending) → Ask command words → IsWork command left e back → WasGiven before now (text_of e) → status_of e ≡ 7 → IsToldIllegal words left before now
+illegal_at words command left before now back (NotLegal line) asked work given is = illegal_line words command left before now back line asked work given
+illegal_at words command left before now back (Done report) asked work given is = absurd (omega (arith, is))
+illegal_at words command left before now back (BadSession line) asked work given is = absurd (omega (arith, is))
+illegal_at words command left before now back BadWords asked work given is = absurd (omega (arith, is))
+illegal_at words command left before now back ReadFault asked work given is = absurd (omega (arith, is))
+illegal_at words command left before now back TooLong asked work given is = absurd (omega (arith, is))
 
-pub illegal_by : (words : List (List ℕ)) (command : Command) (left before now : Option (List ℕ)) (runs : List PortRun) (e : Ending) (status : ℕ)
-    → Ask command words → IsWork command left e runs → (status ≡ status_of e) ⊎ (status ≡ 4) → ((status ≡ 4 → ⊥) → WasGiven before now (text_of e)) → status ≡ 7 → IsToldIllegal words left before now
-illegal_by words command left before now runs e status asked work is given seven =
+pub illegal_by : (words : List (List ℕ)) (command : Command) (left before now : Option (List ℕ)) (back : Returned) (e : Ending) (status : ℕ)
+    → Ask command words → IsWork command left e back → (status ≡ status_of e) ⊎ (status ≡ 4) → ((status ≡ 4 → ⊥) → WasGiven before now (text_of e)) → status ≡ 7 → IsToldIllegal words left before now
+illegal_by words command left before now back e status asked work is given seven =
     let other : status ≡ 4 → ⊥ = λ four. omega (arith, seven, four) in
-    illegal_at words command left before now runs e asked work (given other) (sym (status_is status (status_of e) is other) ∙ seven)
+    illegal_at words command left before now back e asked work (given other) (sym (status_is status (status_of e) is other) ∙ seven)
 
 -- a status other than 0, 1 and 7 tells its line
 line_at : (e : Ending) → (status_of e ≡ 0 → ⊥) → (status_of e ≡ 1 → ⊥) → (status_of e ≡ 7 → ⊥) → text_of e ≡ line_of (status_of e)
@@ -264,14 +312,14 @@ too_short bytes rest h took short =
 
 -- of a command that plays a session that it reads
 module _ (InOrder : ℕ → PlainSession → PortRun → Type 0) (telling : Telling) where
-  spelled_by : (bytes text : List ℕ) (runs : List PortRun) (h : IsPlayedText (Some bytes) (λ session. IsReported InOrder telling session runs text)) → Spells bytes h.session
-  spelled_by bytes text runs h = spelled_in bytes (λ session. IsReported InOrder telling session runs text) h
+  spelled_by : (bytes text : List ℕ) (back : Returned) (h : IsPlayedText (Some bytes) (λ session. IsReported InOrder telling session back.runs text)) → Spells bytes h.session
+  spelled_by bytes text back h = spelled_in bytes (λ session. IsReported InOrder telling session back.runs text) h
 
-  plays_so : (bytes : List ℕ) (runs : List PortRun) (text : List ℕ) (status : ℕ) → status ≡ 0 → IsPlayedText (Some bytes) (λ session. IsReported InOrder telling session runs text) → Completes bytes status
-  plays_so bytes runs text status is h =
+  plays_so : (bytes : List ℕ) (back : Returned) (text : List ℕ) (status : ℕ) → status ≡ 0 → IsPlayedText (Some bytes) (λ session. IsReported InOrder telling session back.runs text) → Completes bytes status
+  plays_so bytes back text status is h =
       record {
         played = λ session spells. inl is;
-        refused = λ bad wrong. absurd (not_both bytes h.session bad (spelled_by bytes text runs h) wrong);
+        refused = λ bad wrong. absurd (not_both bytes h.session bad (spelled_by bytes text back h) wrong);
       }
 
 refuses_so : (bytes : List ℕ) (bad : BadLine) (status : ℕ) → status ≡ 1 → IsRefused refusal (Some bytes) bad → Completes bytes status
@@ -281,53 +329,104 @@ refuses_so bytes bad status is h =
       refused = λ other wrong. inl is;
     }
 
-completes_one : (journals : Bool) (bytes : List ℕ) (faults faults' : ℕ) (rest : Option (List ℕ)) (runs : List PortRun) (e : Ending) (status : ℕ) → status ≡ status_of e
-    → IsOfSource e faults faults' (Some bytes) rest → IsWork (RunOne journals) (Some bytes) e runs → LeavesRest bytes rest → length bytes ≤ 4194304 → (Rose faults faults' → ⊥) → Completes bytes status
-completes_one journals bytes faults faults' rest runs (Done report) status is of work left short sound = plays_so IsOrdered (Report journals) bytes runs report.items status is work
-completes_one journals bytes faults faults' rest runs (BadSession line) status is of work left short sound = refuses_so bytes work.1.bad status is work.1.refused
-completes_one journals bytes faults faults' rest runs BadWords status is of work left short sound = absurd of
-completes_one journals bytes faults faults' rest runs ReadFault status is of work left short sound = absurd (sound of.0)
-completes_one journals bytes faults faults' rest runs TooLong status is of work left short sound = absurd (too_short bytes rest left of short)
-completes_one journals bytes faults faults' rest runs (NotLegal line) status is of work left short sound = absurd work
+completes_one : (journals : Bool) (bytes : List ℕ) (faults faults' : ℕ) (rest : Option (List ℕ)) (back : Returned) (e : Ending) (status : ℕ) → status ≡ status_of e
+    → IsOfSource e faults faults' (Some bytes) rest → IsWork (RunOne journals) (Some bytes) e back → LeavesRest bytes rest → length bytes ≤ 4194304 → (Rose faults faults' → ⊥) → Completes bytes status
+completes_one journals bytes faults faults' rest back (Done report) status is of work left short sound = plays_so IsOrdered (Report journals) bytes back report.items status is work
+completes_one journals bytes faults faults' rest back (BadSession line) status is of work left short sound = refuses_so bytes work.1.bad status is work.1.refused
+completes_one journals bytes faults faults' rest back BadWords status is of work left short sound = absurd of
+completes_one journals bytes faults faults' rest back ReadFault status is of work left short sound = absurd (sound of.0)
+completes_one journals bytes faults faults' rest back TooLong status is of work left short sound = absurd (too_short bytes rest left of short)
+completes_one journals bytes faults faults' rest back (NotLegal line) status is of work left short sound = absurd work.1
 
-completes_run : (journals : Bool) (bytes : List ℕ) (faults faults' : ℕ) (rest : Option (List ℕ)) (runs : List PortRun) (e : Ending) (status : ℕ) → status ≡ status_of e
-    → IsOfSource e faults faults' (Some bytes) rest → IsWork (Run journals) (Some bytes) e runs → LeavesRest bytes rest → length bytes ≤ 4194304 → (Rose faults faults' → ⊥) → Completes bytes status
-completes_run journals bytes faults faults' rest runs (Done report) status is of work left short sound = plays_so IsInAnyOrder (Report journals) bytes runs report.items status is work
-completes_run journals bytes faults faults' rest runs (BadSession line) status is of work left short sound = refuses_so bytes work.1.bad status is work.1.refused
-completes_run journals bytes faults faults' rest runs BadWords status is of work left short sound = absurd of
-completes_run journals bytes faults faults' rest runs ReadFault status is of work left short sound = absurd (sound of.0)
-completes_run journals bytes faults faults' rest runs TooLong status is of work left short sound = absurd (too_short bytes rest left of short)
-completes_run journals bytes faults faults' rest runs (NotLegal line) status is of work left short sound = absurd work
+completes_run : (journals : Bool) (bytes : List ℕ) (faults faults' : ℕ) (rest : Option (List ℕ)) (back : Returned) (e : Ending) (status : ℕ) → status ≡ status_of e
+    → IsOfSource e faults faults' (Some bytes) rest → IsWork (Run journals) (Some bytes) e back → LeavesRest bytes rest → length bytes ≤ 4194304 → (Rose faults faults' → ⊥) → Completes bytes status
+completes_run journals bytes faults faults' rest back (Done report) status is of work left short sound = plays_so IsInAnyOrder (Report journals) bytes back report.items status is work
+completes_run journals bytes faults faults' rest back (BadSession line) status is of work left short sound = refuses_so bytes work.1.bad status is work.1.refused
+completes_run journals bytes faults faults' rest back BadWords status is of work left short sound = absurd of
+completes_run journals bytes faults faults' rest back ReadFault status is of work left short sound = absurd (sound of.0)
+completes_run journals bytes faults faults' rest back TooLong status is of work left short sound = absurd (too_short bytes rest left of short)
+completes_run journals bytes faults faults' rest back (NotLegal line) status is of work left short sound = absurd work.1
 
 -- a text could not be given
 not_told : (bytes : List ℕ) (status : ℕ) → status ≡ 4 → Completes bytes status
 not_told bytes status four = record { played = λ session spells. inr (inl four); refused = λ bad wrong. inr (inl four) }
 
-pub completes : (words : List (List ℕ)) (command : Command) (left rest : Option (List ℕ)) (faults faults' : ℕ) (runs : List PortRun) (e : Ending) (status : ℕ) → Ask command words → (status ≡ status_of e) ⊎ (status ≡ 4)
-    → IsOfSource e faults faults' left rest → IsWork command left e runs → IfSome left (λ bytes. LeavesRest bytes rest)
+pub completes : (words : List (List ℕ)) (command : Command) (left rest : Option (List ℕ)) (faults faults' : ℕ) (back : Returned) (e : Ending) (status : ℕ) → Ask command words → (status ≡ status_of e) ⊎ (status ≡ 4)
+    → IsOfSource e faults faults' left rest → IsWork command left e back → IfSome left (λ bytes. LeavesRest bytes rest)
     → IfSome left (λ bytes. AreRunOne words → length bytes ≤ 4194304 → (Rose faults faults' → ⊥) → Completes bytes status)
-completes words command None rest faults faults' runs e status asked is of done left = left
-completes words command (Some bytes) rest faults faults' runs e status asked (inr four) of done left = λ known short sound. not_told bytes status four
-completes words (Run journals) (Some bytes) rest faults faults' runs e status asked (inl is) of done left = λ run. absurd (not_run_and_one words journals run.0 asked run.1)
-completes words (RunOne journals) (Some bytes) rest faults faults' runs e status asked (inl is) of done left = λ known short sound. completes_one journals bytes faults faults' rest runs e status is of done left short sound
-completes words (Gen number) (Some bytes) rest faults faults' runs e status asked (inl is) of done left = λ run. absurd (not_gen_and_one words run.0 (number, asked) run.1)
-completes words Check (Some bytes) rest faults faults' runs e status asked (inl is) of done left = λ run. absurd (not_check_and_one words run.0 asked run.1)
+completes words command None rest faults faults' back e status asked is of done left = left
+completes words command (Some bytes) rest faults faults' back e status asked (inr four) of done left = λ known short sound. not_told bytes status four
+completes words (Run journals) (Some bytes) rest faults faults' back e status asked (inl is) of done left = λ run. absurd (not_run_and_one words journals run.0 asked run.1)
+completes words (RunOne journals) (Some bytes) rest faults faults' back e status asked (inl is) of done left = λ known short sound. completes_one journals bytes faults faults' rest back e status is of done left short sound
+completes words (Gen number) (Some bytes) rest faults faults' back e status asked (inl is) of done left = λ run. absurd (not_gen_and_one words run.0 (number, asked) run.1)
+completes words Check (Some bytes) rest faults faults' back e status asked (inl is) of done left = λ run. absurd (not_check_and_one words run.0 asked run.1)
+completes words VtOne (Some bytes) rest faults faults' back e status asked (inl is) of done left = λ run. absurd (not_vt_and_one words run.0 asked run.1)
 
-pub completes_on_threads : (journals : Bool) (left rest : Option (List ℕ)) (faults faults' : ℕ) (runs : List PortRun) (e : Ending) (status : ℕ) → (status ≡ status_of e) ⊎ (status ≡ 4)
-    → IsOfSource e faults faults' left rest → IsWork (Run journals) left e runs → IfSome left (λ bytes. LeavesRest bytes rest)
+pub completes_on_threads : (journals : Bool) (left rest : Option (List ℕ)) (faults faults' : ℕ) (back : Returned) (e : Ending) (status : ℕ) → (status ≡ status_of e) ⊎ (status ≡ 4)
+    → IsOfSource e faults faults' left rest → IsWork (Run journals) left e back → IfSome left (λ bytes. LeavesRest bytes rest)
     → IfSome left (λ bytes. length bytes ≤ 4194304 → (Rose faults faults' → ⊥) → Completes bytes status)
-completes_on_threads journals None rest faults faults' runs e status is of done left = left
-completes_on_threads journals (Some bytes) rest faults faults' runs e status (inr four) of done left = λ short sound. not_told bytes status four
-completes_on_threads journals (Some bytes) rest faults faults' runs e status (inl is) of done left = λ short sound. completes_run journals bytes faults faults' rest runs e status is of done left short sound
+completes_on_threads journals None rest faults faults' back e status is of done left = left
+completes_on_threads journals (Some bytes) rest faults faults' back e status (inr four) of done left = λ short sound. not_told bytes status four
+completes_on_threads journals (Some bytes) rest faults faults' back e status (inl is) of done left = λ short sound. completes_run journals bytes faults faults' rest back e status is of done left short sound
 
-pub judged : (words : List (List ℕ)) (command : Command) (left rest : Option (List ℕ)) (faults faults' : ℕ) (runs : List PortRun) (e : Ending) (status : ℕ) → Ask command words → (status ≡ status_of e) ⊎ (status ≡ 4)
-    → IsOfSource e faults faults' left rest → IsWork command left e runs → IfSome left (λ bytes. LeavesRest bytes rest)
+pub judged : (words : List (List ℕ)) (command : Command) (left rest : Option (List ℕ)) (faults faults' : ℕ) (back : Returned) (e : Ending) (status : ℕ) → Ask command words → (status ≡ status_of e) ⊎ (status ≡ 4)
+    → IsOfSource e faults faults' left rest → IsWork command left e back → IfSome left (λ bytes. LeavesRest bytes rest)
     → IfSome left (λ bytes. AskCheck words → length bytes ≤ 4194304 → (Rose faults faults' → ⊥) → CompletesCheck bytes status)
-judged words command None rest faults faults' runs e status asked is of done left = left
-judged words (Run journals) (Some bytes) rest faults faults' runs e status asked is of done left = λ check. absurd (not_check_and_run words journals check asked)
-judged words (RunOne journals) (Some bytes) rest faults faults' runs e status asked is of done left = λ check. absurd (not_check_and_one words journals check asked)
-judged words (Gen number) (Some bytes) rest faults faults' runs e status asked is of done left = λ check. absurd (not_check_and_gen words (number, asked) check)
-judged words Check (Some bytes) rest faults faults' runs e status asked is of done left = λ check short sound. completes_check bytes faults faults' rest runs e status is of done (λ took. too_short bytes rest left took short) sound
+judged words command None rest faults faults' back e status asked is of done left = left
+judged words (Run journals) (Some bytes) rest faults faults' back e status asked is of done left = λ check. absurd (not_check_and_run words journals check asked)
+judged words (RunOne journals) (Some bytes) rest faults faults' back e status asked is of done left = λ check. absurd (not_check_and_one words journals check asked)
+judged words (Gen number) (Some bytes) rest faults faults' back e status asked is of done left = λ check. absurd (not_check_and_gen words (number, asked) check)
+judged words Check (Some bytes) rest faults faults' back e status asked is of done left = λ check short sound. completes_check bytes faults faults' rest back e status is of done (λ took. too_short bytes rest left took short) sound
+judged words VtOne (Some bytes) rest faults faults' back e status asked is of done left = λ check. absurd (not_vt_and_check words asked check)
+
+-- ---- what a text of consoles comes to
+
+none_some : (bad : BadLine) → None ≡ Some bad → ⊥
+none_some bad h = cc
+
+consoles_spelled : (bytes text : List ℕ) (back : Returned) (h : IsToldOfConsoles (Some bytes) back text) → SpellsConsoles bytes h.session
+consoles_spelled bytes text back h = subst (λ (read : List ℕ). SpellsConsoles read h.session) h.whole h.spelled
+
+consoles_not_both : (bytes : List ℕ) (session : PlainVtSession) (bad : BadLine) → SpellsConsoles bytes session → consoles_refusal bytes ≡ Some bad → ⊥
+consoles_not_both bytes session bad spells refused = none_some bad (sym (ap fault_in spells) ∙ refused)
+
+consoles_complete : (bytes : List ℕ) (faults faults' : ℕ) (rest : Option (List ℕ)) (back : Returned) (e : Ending) (status : ℕ) → status ≡ status_of e
+    → IsOfSource e faults faults' (Some bytes) rest → IsWork VtOne (Some bytes) e back → LeavesRest bytes rest → length bytes ≤ 4194304 → (Rose faults faults' → ⊥) → CompletesConsoles bytes status
+consoles_complete bytes faults faults' rest back (Done report) status is of work left short sound =
+    record {
+      played = λ session spells. inl is;
+      refused = λ bad wrong. absurd (consoles_not_both bytes work.session bad (consoles_spelled bytes report.items back work) wrong);
+    }
+consoles_complete bytes faults faults' rest back (BadSession line) status is of work left short sound =
+    let wrong : consoles_refusal bytes ≡ Some work.1.bad = subst (λ (text : List ℕ). consoles_refusal text ≡ Some work.1.bad) work.1.refused.whole work.1.refused.refused in
+    record {
+      played = λ session spells. absurd (consoles_not_both bytes session work.1.bad spells wrong);
+      refused = λ bad _. inl is;
+    }
+consoles_complete bytes faults faults' rest back BadWords status is of work left short sound = absurd of
+consoles_complete bytes faults faults' rest back ReadFault status is of work left short sound = absurd (sound of.0)
+consoles_complete bytes faults faults' rest back TooLong status is of work left short sound = absurd (too_short bytes rest left of short)
+consoles_complete bytes faults faults' rest back (NotLegal line) status is of work left short sound = absurd work.1
+
+pub completes_consoles : (words : List (List ℕ)) (command : Command) (left rest : Option (List ℕ)) (faults faults' : ℕ) (back : Returned) (e : Ending) (status : ℕ) → Ask command words → (status ≡ status_of e) ⊎ (status ≡ 4)
+    → IsOfSource e faults faults' left rest → IsWork command left e back → IfSome left (λ bytes. LeavesRest bytes rest)
+    → IfSome left (λ bytes. AskVtOne words → length bytes ≤ 4194304 → (Rose faults faults' → ⊥) → CompletesConsoles bytes status)
+completes_consoles words command None rest faults faults' back e status asked is of done left = left
+completes_consoles words command (Some bytes) rest faults faults' back e status asked (inr four) of done left = λ vt short sound. record {
+  played = λ session spells. inr (inl four);
+  refused = λ bad wrong. inr (inl four);
+}
+completes_consoles words (Run journals) (Some bytes) rest faults faults' back e status asked (inl is) of done left = λ vt. absurd (not_vt_and_run words journals vt asked)
+completes_consoles words (RunOne journals) (Some bytes) rest faults faults' back e status asked (inl is) of done left = λ vt. absurd (not_vt_and_one words journals vt asked)
+completes_consoles words (Gen number) (Some bytes) rest faults faults' back e status asked (inl is) of done left = λ vt. absurd (not_vt_and_gen words vt (number, asked))
+completes_consoles words Check (Some bytes) rest faults faults' back e status asked (inl is) of done left = λ vt. absurd (not_vt_and_check words vt asked)
+completes_consoles words VtOne (Some bytes) rest faults faults' back e status asked (inl is) of done left = λ vt short sound. consoles_complete bytes faults faults' rest back e status is of done left short sound
+
+-- words that ask for no consoles
+pub not_consoles : (words : List (List ℕ)) (left : Option (List ℕ)) (status : ℕ) (faults faults' : ℕ) → (AskVtOne words → ⊥)
+    → IfSome left (λ bytes. AskVtOne words → length bytes ≤ 4194304 → (Rose faults faults' → ⊥) → CompletesConsoles bytes status)
+not_consoles words None status faults faults' other = tt
+not_consoles words (Some bytes) status faults faults' other = λ vt. absurd (other vt)
 
 -- ---- what the session of a number comes to
 
@@ -345,21 +444,45 @@ made words (Run journals) e status asked is can = λ gen. absurd (not_gen_and_ru
 made words (RunOne journals) e status asked is can = λ gen. absurd (not_gen_and_one words journals gen asked)
 made words (Gen number) e status asked is can = λ gen. made_so number e status is can
 made words Check e status asked is can = λ gen. absurd (not_check_and_gen words gen asked)
+made words VtOne e status asked is can = λ gen. absurd (not_vt_and_gen words asked gen)
 
 -- journals that were judged are not returned
-none_at : (left : Option (List ℕ)) (runs : List PortRun) (e : Ending) → IsWork Check left e runs → runs ≡ []
-none_at left runs (Done report) done = done.no_runs
-none_at left runs (BadSession line) done = done.0
-none_at left runs BadWords done = done
-none_at left runs ReadFault done = done
-none_at left runs TooLong done = done
-none_at left runs (NotLegal line) done = done.told.no_runs
+none_at : (left : Option (List ℕ)) (back : Returned) (e : Ending) → IsWork Check left e back → back.runs ≡ []
+none_at left back (Done report) done = done.no_runs
+none_at left back (BadSession line) done = ap (λ (b : Returned). b.runs) done.0
+none_at left back BadWords done = ap (λ (b : Returned). b.runs) done
+none_at left back ReadFault done = ap (λ (b : Returned). b.runs) done
+none_at left back TooLong done = ap (λ (b : Returned). b.runs) done
+none_at left back (NotLegal line) done = done.1.told.no_runs
 
-pub none_judged : (words : List (List ℕ)) (command : Command) (left : Option (List ℕ)) (runs : List PortRun) (e : Ending) → Ask command words → IsWork command left e runs → AskCheck words → runs ≡ []
-none_judged words (Run journals) left runs e asked done = λ check. absurd (not_check_and_run words journals check asked)
-none_judged words (RunOne journals) left runs e asked done = λ check. absurd (not_check_and_one words journals check asked)
-none_judged words (Gen number) left runs e asked done = λ check. absurd (not_check_and_gen words (number, asked) check)
-none_judged words Check left runs e asked done = λ check. none_at left runs e done
+pub none_judged : (words : List (List ℕ)) (command : Command) (left : Option (List ℕ)) (back : Returned) (e : Ending) → Ask command words → IsWork command left e back → AskCheck words → back.runs ≡ []
+none_judged words (Run journals) left back e asked done = λ check. absurd (not_check_and_run words journals check asked)
+none_judged words (RunOne journals) left back e asked done = λ check. absurd (not_check_and_one words journals check asked)
+none_judged words (Gen number) left back e asked done = λ check. absurd (not_check_and_gen words (number, asked) check)
+none_judged words Check left back e asked done = λ check. none_at left back e done
+none_judged words VtOne left back e asked done = λ check. absurd (not_vt_and_check words asked check)
+
+-- only consoles have entries
+pub no_entries : (words : List (List ℕ)) (command : Command) (back : Returned) → Ask command words → HasEntries command back → (AskVtOne words → ⊥) → back.entries ≡ []
+no_entries words (Run journals) back asked none other = none
+no_entries words (RunOne journals) back asked none other = none
+no_entries words (Gen number) back asked none other = none
+no_entries words Check back asked none other = none
+no_entries words VtOne back asked none other = absurd (other asked)
+
+-- nothing is returned beside a status other than 0 and 4
+nothing_at : (command : Command) (left : Option (List ℕ)) (back : Returned) (e : Ending) → IsWork command left e back → (status_of e ≡ 0 → ⊥) → back ≡ nothing
+nothing_at command left back (Done report) done some = absurd (some refl)
+nothing_at command left back (BadSession line) done some = done.0
+nothing_at command left back BadWords done some = done
+nothing_at command left back ReadFault done some = done
+nothing_at command left back TooLong done some = done
+nothing_at command left back (NotLegal line) done some = done.0
+
+pub nothing_by : (command : Command) (left : Option (List ℕ)) (back : Returned) (e : Ending) (status : ℕ) → IsWork command left e back → (status ≡ status_of e) ⊎ (status ≡ 4)
+    → (status ≡ 0 → ⊥) → (status ≡ 4 → ⊥) → back ≡ nothing
+nothing_by command left back e status done is not_done not_four =
+    nothing_at command left back e done (λ zero_is. not_done (status_is status (status_of e) is not_four ∙ zero_is))
 
 -- other words ask for nothing
 pub unasked : (words : List (List ℕ)) (left : Option (List ℕ)) (status : ℕ) (faults faults' : ℕ) → (AreOfOne words → ⊥) → IfSome left (λ bytes. AreRunOne words → length bytes ≤ 4194304 → (Rose faults faults' → ⊥) → Completes bytes status)
@@ -372,3 +495,6 @@ unmade words status other gen = absurd (other (Gen gen.0, tt, gen.1))
 pub unjudged : (words : List (List ℕ)) (left : Option (List ℕ)) (status : ℕ) (faults faults' : ℕ) → (AreOfOne words → ⊥) → IfSome left (λ bytes. AskCheck words → length bytes ≤ 4194304 → (Rose faults faults' → ⊥) → CompletesCheck bytes status)
 unjudged words None status faults faults' other = tt
 unjudged words (Some bytes) status faults faults' other = λ check. absurd (other (Check, tt, check))
+
+pub not_one_vt : (words : List (List ℕ)) → (AreOfOne words → ⊥) → AskVtOne words → ⊥
+not_one_vt words other vt = other (VtOne, tt, vt)

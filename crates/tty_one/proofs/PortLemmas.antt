@@ -15,7 +15,7 @@ use Rattle.tty_one.specs.declared.playing.Telling.{Telling}
 use Rattle.tty_one.specs.declared.works.Work.{Work}
 use Rattle.tty_one.specs.declared.works.Ending.{Ending}
 use Rattle.tty_one.specs.declared.works.Ending.TheVariants.{Done, BadSession, BadWords, ReadFault, TooLong, NotLegal}
-use Rattle.tty_one.specs.Outcome.{end_at, IsWhole}
+use Rattle.tty_one.specs.Reported.{end_at, IsWhole}
 use Rattle.tty_one.specs.Works.{IsEndingOf, IsSessionWork, IsNeverFull}
 
 -- what is left of a terminal, as a report says it
@@ -58,7 +58,7 @@ module _ (InOrder : ℕ → PlainSession → PortRun → Type 0) where
   whole_from : (p : ℕ) (s : PlainSession) (run : PortRun) (end : PortEnd) → IsPlayedOn p s run end → length run.journal.items < 4194304 → InOrder p s run → IsWhole InOrder p s run (end_of end)
   whole_from p s run end h room ordered = record { terminal = h.terminal; at_end = end_is p s run end h; legal = h.legal (λ full. omega (arith, full, room)); in_order = ordered; room = room }
 
-  each_whole : (session : PlainSession) (runs : List PortRun) (ends : List PortEnd) → IsNeverFull session → ArePlayed session runs ends → AreOrdered InOrder session runs
+  pub each_whole : (session : PlainSession) (runs : List PortRun) (ends : List PortEnd) → IsNeverFull session → ArePlayed session runs ends → AreOrdered InOrder session runs
       → (p : ℕ) (run : PortRun) (plain : PlainEnd) → slice_get runs p ≡ Some run → slice_get (map end_of ends) p ≡ Some plain → IsWhole InOrder p session run plain
   each_whole session runs ends room played ordered p run plain is at =
       let found = end_found ends p plain at in

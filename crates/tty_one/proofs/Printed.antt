@@ -13,11 +13,12 @@ use Rattle.journal_check.proofs.VerdictLemmas.{one_verdict}
 use Rattle.read_back.proofs.Runs.{are_read_back}
 use Rattle.tty_one.specs.declared.playing.Telling.TheVariants.{Report}
 use Rattle.tty_one.specs.declared.words.Command.{Command}
-use Rattle.tty_one.specs.declared.words.Command.TheVariants.{Run, RunOne, Gen, Check}
+use Rattle.tty_one.specs.declared.words.Command.TheVariants.{Run, RunOne, Gen, Check, VtOne}
 use Rattle.tty_one.specs.Endings.{Ask, AskJournals}
-use Rattle.tty_one.specs.Outcome.{IsOrdered, IsInAnyOrder, IsReported, IsPlayedText, IsToldBy, IsDone, with_journals, IsReadBack, GaveJournals}
+use Rattle.tty_one.specs.Reported.{Returned, IsOrdered, IsInAnyOrder, IsReported}
+use Rattle.tty_one.specs.Outcome.{IsPlayedText, IsToldBy, IsDone, with_journals, IsReadBack, GaveJournals}
 use Rattle.tty_one.proofs.Judged.{spelled_in, legal_alike}
-use Rattle.tty_one.proofs.Outcomes.{not_gen_and_run, not_gen_and_one, not_check_and_run, not_check_and_one, not_run_and_one}
+use Rattle.tty_one.proofs.Outcomes.{not_gen_and_run, not_gen_and_one, not_check_and_run, not_check_and_one, not_run_and_one, not_vt_and_run, not_vt_and_one}
 use Rattle.tty_one.proofs.PortLemmas.{there_too}
 
 pub reported_back : (InOrder : ℕ → PlainSession → PortRun → Type 0) → (text : List ℕ) (session : PlainSession) (runs : List PortRun) (report : List ℕ) → Spells text session → IsReported InOrder (Report true) session runs report
@@ -64,20 +65,22 @@ played_back InOrder bytes runs text h =
 not_two : (words : List (List ℕ)) (one other : List (List ℕ)) → words ≡ one → words ≡ other → length one < length other → ⊥
 not_two words one other h k less = (let same : length one ≡ length other = ap (λ (ws : List (List ℕ)). length ws) (sym h ∙ k) in omega (arith, same, less))
 
-told_back : (words : List (List ℕ)) (bytes : List ℕ) (command : Command) (runs : List PortRun) (text : List ℕ) → AskJournals words → Ask command words → IsToldBy command (Some bytes) runs text → IsTold bytes runs text
-told_back words bytes (Run true) runs text journals asked told = played_back IsInAnyOrder bytes runs text told
-told_back words bytes (Run false) runs text (inl h) asked told = absurd (not_two words (codes "run" ∷ []) (codes "run" ∷ codes "--journal" ∷ []) asked h (omega arith))
-told_back words bytes (Run false) runs text (inr h) asked told = absurd (not_run_and_one words false true asked h)
-told_back words bytes (RunOne true) runs text journals asked told = played_back IsOrdered bytes runs text told
-told_back words bytes (RunOne false) runs text (inl h) asked told = absurd (not_run_and_one words true false h asked)
-told_back words bytes (RunOne false) runs text (inr (inl h)) asked told = absurd (not_two words (codes "run" ∷ codes "--one" ∷ []) (codes "run" ∷ codes "--one" ∷ codes "--journal" ∷ []) asked h (omega arith))
-told_back words bytes (RunOne false) runs text (inr (inr h)) asked told = absurd (not_two words (codes "run" ∷ codes "--one" ∷ []) (codes "run" ∷ codes "--journal" ∷ codes "--one" ∷ []) asked h (omega arith))
-told_back words bytes (Gen number) runs text (inl h) asked told = absurd (not_gen_and_run words true (number, asked) h)
-told_back words bytes (Gen number) runs text (inr h) asked told = absurd (not_gen_and_one words true (number, asked) h)
-told_back words bytes Check runs text (inl h) asked told = absurd (not_check_and_run words true asked h)
-told_back words bytes Check runs text (inr h) asked told = absurd (not_check_and_one words true asked h)
+told_back : (words : List (List ℕ)) (bytes : List ℕ) (command : Command) (back : Returned) (text : List ℕ) → AskJournals words → Ask command words → IsToldBy command (Some bytes) back text → IsTold bytes back.runs text
+told_back words bytes (Run true) back text journals asked told = played_back IsInAnyOrder bytes back.runs text told
+told_back words bytes (Run false) back text (inl h) asked told = absurd (not_two words (codes "run" ∷ []) (codes "run" ∷ codes "--journal" ∷ []) asked h (omega arith))
+told_back words bytes (Run false) back text (inr h) asked told = absurd (not_run_and_one words false true asked h)
+told_back words bytes (RunOne true) back text journals asked told = played_back IsOrdered bytes back.runs text told
+told_back words bytes (RunOne false) back text (inl h) asked told = absurd (not_run_and_one words true false h asked)
+told_back words bytes (RunOne false) back text (inr (inl h)) asked told = absurd (not_two words (codes "run" ∷ codes "--one" ∷ []) (codes "run" ∷ codes "--one" ∷ codes "--journal" ∷ []) asked h (omega arith))
+told_back words bytes (RunOne false) back text (inr (inr h)) asked told = absurd (not_two words (codes "run" ∷ codes "--one" ∷ []) (codes "run" ∷ codes "--journal" ∷ codes "--one" ∷ []) asked h (omega arith))
+told_back words bytes (Gen number) back text (inl h) asked told = absurd (not_gen_and_run words true (number, asked) h)
+told_back words bytes (Gen number) back text (inr h) asked told = absurd (not_gen_and_one words true (number, asked) h)
+told_back words bytes Check back text (inl h) asked told = absurd (not_check_and_run words true asked h)
+told_back words bytes Check back text (inr h) asked told = absurd (not_check_and_one words true asked h)
+told_back words bytes VtOne back text (inl h) asked told = absurd (not_vt_and_run words true asked h)
+told_back words bytes VtOne back text (inr h) asked told = absurd (not_vt_and_one words true asked h)
 
-pub gave_journals : (words : List (List ℕ)) (bytes before : List ℕ) (now : Option (List ℕ)) (runs : List PortRun) → AskJournals words → IsDone words (Some bytes) (Some before) now runs → GaveJournals bytes before now runs
-gave_journals words bytes before now runs journals h =
-    let told = told_back words bytes h.command runs h.text journals h.asked h.done in
+pub gave_journals : (words : List (List ℕ)) (bytes before : List ℕ) (now : Option (List ℕ)) (back : Returned) → AskJournals words → IsDone words (Some bytes) (Some before) now back → GaveJournals bytes before now back.runs
+gave_journals words bytes before now back journals h =
+    let told = told_back words bytes h.command back h.text journals h.asked h.done in
     record { session = told.session; report = h.text; spelled = told.spelled; given = h.given; read_back = told.read_back }

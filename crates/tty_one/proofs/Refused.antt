@@ -1,9 +1,8 @@
 -- What was read, and how work ends for want of it.
-use Rattle.std.proofs.Common.{◌≡◌, ◌≤◌, ℕ, List, [], Option, Some, Result, Ok, Err, length, sym, subst}
+use Rattle.std.proofs.Common.{◌≡◌, ◌≤◌, ℕ, List, [], Option, Some, Result, Ok, Err, length, refl, sym, subst}
 use Rattle.std.specs.Prelude.{IfOk, OnErr}
 use Rattle.tty_base.specs.Contents.{Contents}
 use Rattle.tty_base.specs.declared.buffers.NoMemory.{NoMemory}
-use Rattle.tty_calls.specs.declared.journals.PortRun.{PortRun}
 use Rattle.tty_calls.specs.declared.sessions.Session.{Session}
 use Rattle.tty_calls.specs.Sessions.{session_of}
 use Rattle.tty_calls.specs.Limits.{IsWithinLimits}
@@ -17,9 +16,10 @@ use Rattle.tty_one.specs.declared.works.Work.{Work}
 use Rattle.tty_one.specs.declared.works.Ending.{Ending}
 use Rattle.tty_one.specs.declared.works.Ending.TheVariants.{Done, BadSession, BadWords, ReadFault, TooLong, NotLegal}
 use Rattle.tty_one.specs.Endings.{IsOfSource, IsShort}
-use Rattle.tty_one.specs.Outcome.{IsAllOf, refusal_by}
+use Rattle.tty_one.specs.Reported.{nothing, IsAllOf}
+use Rattle.tty_one.specs.Outcome.{refusal_by}
 use Rattle.tty_one.proofs.Roomy.{never_full_here}
-use Rattle.tty_one.specs.Works.{IsLineOf, IsUnread, IsTextRead, IsSessionRead, IsSessionIn, IsRefusal, IsWork, IsNeverFull, IsShortText}
+use Rattle.tty_one.specs.Works.{brought, IsLineOf, IsUnread, IsTextRead, IsSessionRead, IsSessionIn, IsRefusal, IsWork, IsNeverFull, IsShortText}
 
 -- the text that was read
 module _ (first_wrong : List ℕ → Option BadLine) (faults now : ℕ) (left rest : Option (List ℕ)) (reading : Reading (Contents ℕ)) where
@@ -67,19 +67,19 @@ session_read faults now left rest text (Ok (Ended ending)) whole short few h = r
 session_read faults now left rest text (Err e) whole short few h = h
 
 -- how the work of a command ends for want of what it reads
-pub unread_works : (command : Command) (left : Option (List ℕ)) (e : Ending) (runs : List PortRun) → runs ≡ [] → IsUnread (refusal_by command) left e → IsWork command left e runs
-unread_works command left (Done report) runs none h = absurd h
-unread_works command left (BadSession line) runs none h = (none, h)
-unread_works command left BadWords runs none h = absurd h
-unread_works command left ReadFault runs none h = none
-unread_works command left TooLong runs none h = none
-unread_works command left (NotLegal line) runs none h = absurd h
+pub unread_works : (command : Command) (left : Option (List ℕ)) (e : Ending) → IsUnread (refusal_by command) left e → IsWork command left e nothing
+unread_works command left (Done report) h = absurd h
+unread_works command left (BadSession line) h = (refl, h)
+unread_works command left BadWords h = absurd h
+unread_works command left ReadFault h = refl
+unread_works command left TooLong h = refl
+unread_works command left (NotLegal line) h = absurd h
 
 -- work that ended without a run
-pub ended_works : (command : Command) (faults now : ℕ) (left rest : Option (List ℕ)) (e : Ending) (work : Work) → work ≡ record { ending = e; runs = record { items = []; spare = 0 } } → IsWork command left e [] → IsOfSource e faults now left rest
-    → IsWork command left work.ending work.runs.items × IsOfSource work.ending faults now left rest
+pub ended_works : (command : Command) (faults now : ℕ) (left rest : Option (List ℕ)) (e : Ending) (work : Work) → work ≡ record { ending = e; runs = record { items = []; spare = 0 }; vt = record { items = []; spare = 0 } }
+    → IsWork command left e nothing → IsOfSource e faults now left rest → IsWork command left work.ending (brought work) × IsOfSource work.ending faults now left rest
 ended_works command faults now left rest e work same done of =
-    subst (λ (w : Work). IsWork command left w.ending w.runs.items × IsOfSource w.ending faults now left rest) (sym same) (done, of)
+    subst (λ (w : Work). IsWork command left w.ending (brought w) × IsOfSource w.ending faults now left rest) (sym same) (done, of)
 
 -- a session that was read keeps the limits of every session, and no journal of it is ever full
 pub read_within : (faults now : ℕ) (left rest : Option (List ℕ)) (reading : Reading Session) (session : Session) → reading ≡ Of session → IsSessionRead reading faults now left rest

@@ -9,7 +9,8 @@ use Rattle.session_print.specs.Laws.{IsLineOf, TellsEachCall}
 use Rattle.session_print.specs.Report.{Told, told_on, calls_text, calls_from}
 use Rattle.journal_check.specs.Legal.{IsLegal}
 use Rattle.tty_one.specs.declared.playing.Telling.TheVariants.{Report}
-use Rattle.tty_one.specs.Outcome.{IsOnlyLineOf, AreLinesOf, IsReported, TellsEachOnce, after_calls}
+use Rattle.tty_one.specs.Reported.{IsReported}
+use Rattle.tty_one.specs.Outcome.{IsOnlyLineOf, AreLinesOf, TellsEachOnce, after_calls}
 use Rattle.tty_one.proofs.Answered.{answered_once}
 use Rattle.tty_one.proofs.PortLemmas.{there_too}
 

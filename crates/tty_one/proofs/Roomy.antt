@@ -40,7 +40,7 @@ calls_handed : (calls : List PlainCall) → sum_by written_count calls ≤ sum_b
 calls_handed [] = omega arith
 calls_handed (call ∷ calls) = omega (arith, sum_by-cons written_count call calls, sum_by-cons byte_count call calls, handed call, calls_handed calls)
 
-scripts_handed : (scripts : List PlainScript) → sum_by (λ script. sum_by written_count script.calls) scripts ≤ sum_by (λ script. sum_by byte_count script.calls) scripts
+pub scripts_handed : (scripts : List PlainScript) → sum_by (λ script. sum_by written_count script.calls) scripts ≤ sum_by (λ script. sum_by byte_count script.calls) scripts
 scripts_handed [] = omega arith
 scripts_handed (script ∷ scripts) =
     let written = sum_by-cons (λ (s : PlainScript). sum_by written_count s.calls) script scripts in

@@ -10,7 +10,7 @@ use Rattle.session_print.specs.Lines.{newline}
 use Rattle.journal_check.specs.declared.verdicts.Verdict.{Verdict}
 use Rattle.journal_check.specs.declared.verdicts.Verdict.TheVariants.{Legal, Wrong, Account}
 use Rattle.tty_one.specs.declared.words.Command.{Command}
-use Rattle.tty_one.specs.declared.words.Command.TheVariants.{Run, RunOne, Gen, Check}
+use Rattle.tty_one.specs.declared.words.Command.TheVariants.{Run, RunOne, Gen, Check, VtOne}
 use Rattle.tty_one.specs.declared.works.Ending.{Ending}
 use Rattle.tty_one.specs.declared.works.Ending.TheVariants.{Done, BadSession, BadWords, ReadFault, TooLong, NotLegal}
 
@@ -39,11 +39,16 @@ AskGen number words = (digits : List ℕ) × (words ≡ codes "gen" ∷ digits �
 abbrev pub AskCheck : List (List ℕ) → Type 0
 AskCheck words = words ≡ codes "check" ∷ []
 
+-- the words that ask for a session of consoles to be read and played on one thread
+abbrev pub AskVtOne : List (List ℕ) → Type 0
+AskVtOne words = words ≡ codes "vt" ∷ codes "--one" ∷ []
+
 abbrev pub Ask : Command → List (List ℕ) → Type 0
 Ask (Run journals) words = AskRun journals words
 Ask (RunOne journals) words = AskRunOne journals words
 Ask (Gen number) words = AskGen number words
 Ask Check words = AskCheck words
+Ask VtOne words = AskVtOne words
 
 -- the commands that need no thread
 abbrev pub IsOfOne : Command → Type 0
@@ -51,6 +56,7 @@ IsOfOne (Run journals) = ⊥
 IsOfOne (RunOne journals) = Unit {0}
 IsOfOne (Gen number) = Unit {0}
 IsOfOne Check = Unit {0}
+IsOfOne VtOne = Unit {0}
 
 -- words of the program; those that need no thread; those that ask for a session to be read and played, on threads and
 -- on one; those that ask for the session of a number
@@ -75,7 +81,7 @@ AskJournals words = AskRun true words ⊎ AskRunOne true words
 
 -- words that ask for a text to be read: without threads, and with them
 abbrev pub AskOneToRead : List (List ℕ) → Type 0
-AskOneToRead words = AreRunOne words ⊎ AskCheck words
+AskOneToRead words = AreRunOne words ⊎ (AskCheck words ⊎ AskVtOne words)
 
 abbrev pub AskToRead : List (List ℕ) → Type 0
 AskToRead words = AreRun words ⊎ AskOneToRead words
@@ -113,6 +119,10 @@ IsStatus status = status ≤ 7
 -- the bytes of a list of texts
 abbrev pub texts_of : List (Bor (List ℕ)) → List (List ℕ)
 texts_of words = map (λ word. word.now) words
+
+-- the status, unless the text could not be given or memory was wanting
+abbrev pub IsStatusOr : ℕ → ℕ → Type 0
+IsStatusOr wanted status = (status ≡ wanted) ⊎ ((status ≡ 4) ⊎ (status ≡ 5))
 
 -- given is before, and then some bytes
 abbrev pub Adds : List ℕ → Option (List ℕ) → Type 0

@@ -1,3 +1,5 @@
 pub mod Endings
+pub mod Reported
+pub mod Consoles
 pub mod Outcome
 pub mod Works

@@ -1,74 +1,32 @@
 -- What a call of the program came to: what was read, the runs, and the text that was given.
-use Rattle.std.specs.Prelude.{◌<◌, ◌≡◌, ◌≢◌, ◌⊎◌, ℕ, List, [], ◌∷◌, ◌++◌, Bool, if◌then◌else◌, codes, Option, None, Some, length, map, flat_map, option_to_list, slice_get, IfSome}
+use Rattle.std.specs.Prelude.{◌≡◌, ◌≢◌, ℕ, List, [], ◌∷◌, ◌++◌, Bool, if◌then◌else◌, codes, Option, None, Some, length, map, flat_map, option_to_list, slice_get, IfSome}
 use Rattle.std.specs.List.{concat, AllZip}
 use Rattle.tty_base.specs.Outside.{Rose, TookCount, GivesFront}
 use Rattle.tty_calls.specs.declared.journals.PortRun.{PortRun}
 use Rattle.tty_calls.specs.Plain.{PlainAnswer, PlainEntry}
 use Rattle.tty_calls.specs.Sessions.{PlainSession}
-use Rattle.tty_terminal.specs.Terminals.{Terminal}
 use Rattle.session_text.specs.declared.faults.BadLine.{BadLine}
 use Rattle.session_text.specs.Refusals.{refusal}
 use Rattle.session_text.specs.Grammar.{Spells}
 use Rattle.session_print.specs.Ends.{PlainEnd}
-use Rattle.session_print.specs.Report.{Told, told_on, answer_by, answer_in, calls_from, ports_from, play_text}
+use Rattle.session_print.specs.Report.{Told, told_on, answer_by, answer_in, calls_from, ports_from}
 use Rattle.session_print.specs.Lines.{newline}
 use Rattle.session_print.specs.Journals.{journals_text}
 use Rattle.session_print.specs.Laws.{IsLineOf}
-use Rattle.session_print.specs.Summary.{summary_text}
 use Rattle.session_gen.specs.Generated.{generated_session}
 use Rattle.check_text.specs.Grammar.{Spells as SpellsRuns}
 use Rattle.check_text.specs.Printed.{text_after}
 use Rattle.check_text.specs.Reading.{refusal as refusal_of_runs}
 use Rattle.check_text.specs.Runs.{run_of}
-use Rattle.journal_check.specs.Legal.{IsLegal}
 use Rattle.journal_check.specs.Verdicts.{AreLegal, Fits}
 use Rattle.journal_check.specs.declared.verdicts.Verdict.{Verdict}
 use Rattle.journal_check.specs.declared.verdicts.Verdict.TheVariants.{Legal}
-use Rattle.one_thread.specs.Order.{IsInOneOrder}
 use Rattle.tty_one.specs.declared.words.Command.{Command}
-use Rattle.tty_one.specs.declared.words.Command.TheVariants.{Run, RunOne, Gen, Check}
-use Rattle.tty_one.specs.declared.playing.Telling.{Telling}
+use Rattle.tty_one.specs.declared.words.Command.TheVariants.{Run, RunOne, Gen, Check, VtOne}
 use Rattle.tty_one.specs.declared.playing.Telling.TheVariants.{Report, Summary}
-use Rattle.tty_one.specs.Endings.{Ask, line_of, bad_session_line, verdict_line}
-
--- what a report says of the end of a terminal
-abbrev pub end_at : Terminal → PlainEnd
-end_at t = record { counts = t.tally.counts; signals = t.tally.signals.items; generation = t.generation; wire = t.output.wire }
-
--- the run of a port is in the order of one thread
-abbrev pub IsOrdered : ℕ → PlainSession → PortRun → Type 0
-IsOrdered p session run = IsInOneOrder p session run.journal.items run.line.overruns.items
-
--- on threads the entries of different makers are in no order of their own
-abbrev pub IsInAnyOrder : ℕ → PlainSession → PortRun → Type 0
-IsInAnyOrder p session run = Unit {0}
-
--- The run of a port is legal and in order, this is the end of the terminal to which it leads, and its journal did not
--- reach the limit.
-pub record IsWhole (InOrder : ℕ → PlainSession → PortRun → Type 0) (p : ℕ) (session : PlainSession) (run : PortRun) (end : PlainEnd) : Type 0 where
-  pub terminal : Terminal
-  pub at_end : end ≡ end_at terminal
-  pub legal : IsLegal p session run terminal
-  pub in_order : InOrder p session run
-  pub room : length run.journal.items < 4194304
-
--- what is told of a session that was played, of the runs of its ports, and of their ends
-abbrev pub text_by : Telling → PlainSession → List PortRun → List PlainEnd → List ℕ
-text_by (Report journals) session runs ends = play_text journals session runs ends
-text_by (Summary number) session runs ends = summary_text number session runs ends
-
--- The runs are those of the session's ports, one of each, each of them whole. The text is what is told of the
--- session, of these runs, and of their ends.
-pub record IsReported (InOrder : ℕ → PlainSession → PortRun → Type 0) (telling : Telling) (session : PlainSession) (runs : List PortRun) (text : List ℕ) : Type 0 where
-  pub ends : List PlainEnd
-  pub runs_of_all : length runs ≡ session.ports
-  pub ends_of_all : length ends ≡ session.ports
-  pub each : (p : ℕ) (run : PortRun) (end : PlainEnd) → slice_get runs p ≡ Some run → slice_get ends p ≡ Some end → IsWhole InOrder p session run end
-  pub told : text ≡ text_by telling session runs ends
-
--- a text that was read is all that the source had left, where it tells
-abbrev pub IsAllOf : Option (List ℕ) → List ℕ → Type 0
-IsAllOf left read = IfSome left (λ bytes. read ≡ bytes)
+use Rattle.tty_one.specs.Endings.{Ask, line_of, bad_session_line, verdict_line, IsStatusOr}
+use Rattle.tty_one.specs.Reported.{Returned, nothing, IsOrdered, IsInAnyOrder, IsReported, IsAllOf}
+use Rattle.tty_one.specs.Consoles.{IsToldOfConsoles, consoles_refusal}
 
 -- A session was read and played: the text that was read spells it.
 pub record IsPlayedText (left : Option (List ℕ)) (EndsBy : PlainSession → Type 0) : Type 0 where
@@ -96,11 +54,12 @@ pub record IsToldVerdict (left : Option (List ℕ)) (verdict : Verdict) (runs : 
 
 -- What a command asks for was done, and the text tells it: the session that was read, or the one of the number, was
 -- played; or each run that was read is legal.
-abbrev pub IsToldBy : Command → Option (List ℕ) → List PortRun → List ℕ → Type 0
-IsToldBy (Run journals) left runs text = IsPlayedText left (λ session. IsReported IsInAnyOrder (Report journals) session runs text)
-IsToldBy (RunOne journals) left runs text = IsPlayedText left (λ session. IsReported IsOrdered (Report journals) session runs text)
-IsToldBy (Gen number) left runs text = IsReported IsOrdered (Summary number) (generated_session number) runs text
-IsToldBy Check left runs text = IsToldVerdict left Legal runs text
+abbrev pub IsToldBy : Command → Option (List ℕ) → Returned → List ℕ → Type 0
+IsToldBy (Run journals) left back text = IsPlayedText left (λ session. IsReported IsInAnyOrder (Report journals) session back.runs text)
+IsToldBy (RunOne journals) left back text = IsPlayedText left (λ session. IsReported IsOrdered (Report journals) session back.runs text)
+IsToldBy (Gen number) left back text = IsReported IsOrdered (Summary number) (generated_session number) back.runs text
+IsToldBy Check left back text = IsToldVerdict left Legal back.runs text
+IsToldBy VtOne left back text = IsToldOfConsoles left back text
 
 -- the first wrong line of a text, by the grammar of what a command reads
 abbrev pub refusal_by : Command → List ℕ → Option BadLine
@@ -108,6 +67,7 @@ refusal_by (Run journals) text = refusal text
 refusal_by (RunOne journals) text = refusal text
 refusal_by (Gen number) text = None
 refusal_by Check text = refusal_of_runs text
+refusal_by VtOne text = consoles_refusal text
 
 -- The text that was read is not in its grammar, and this is its first wrong line.
 pub record IsRefused (first_wrong : List ℕ → Option BadLine) (left : Option (List ℕ)) (bad : BadLine) : Type 0 where
@@ -143,27 +103,23 @@ pub record IsToldIllegal (words : List (List ℕ)) (left before now : Option (Li
   pub given : WasGiven before now (verdict_line verdict)
 
 -- What the words ask for was done and told.
-pub record IsDone (words : List (List ℕ)) (left before now : Option (List ℕ)) (runs : List PortRun) : Type 0 where
+pub record IsDone (words : List (List ℕ)) (left before now : Option (List ℕ)) (back : Returned) : Type 0 where
   pub command : Command
   pub text : List ℕ
   pub asked : Ask command words
-  pub done : IsToldBy command left runs text
+  pub done : IsToldBy command left back text
   pub given : WasGiven before now text
 
 -- A text could not be given whole: the line for other words; the line of a fault of the source, or of a text that is
 -- too long, where the words ask for a text to be read; the line of a text that was refused; what was to be told of
 -- what was done; or the line of runs that are not all legal.
-pub data IsBroken (Known Reading : Type 0) (words : List (List ℕ)) (faults faults' : ℕ) (left rest before now : Option (List ℕ)) (runs : List PortRun) : Type 0 where
-  breaks_words : (Known → ⊥) → runs ≡ [] → WasGivenFront before now (line_of 2) → IsBroken Known Reading words faults faults' left rest before now runs
-  breaks_fault : Reading → Rose faults faults' → runs ≡ [] → WasGivenFront before now (line_of 3) → IsBroken Known Reading words faults faults' left rest before now runs
-  breaks_long : Reading → IfSome left (λ bytes. TookCount 4194305 bytes rest) → runs ≡ [] → WasGivenFront before now (line_of 6) → IsBroken Known Reading words faults faults' left rest before now runs
-  breaks_refusal : (command : Command) (bad : BadLine) → Ask command words → IsRefused (refusal_by command) left bad → runs ≡ [] → WasGivenFront before now (bad_session_line bad) → IsBroken Known Reading words faults faults' left rest before now runs
-  breaks_text : (command : Command) (text : List ℕ) → Ask command words → IsToldBy command left runs text → WasGivenFront before now text → IsBroken Known Reading words faults faults' left rest before now runs
-  breaks_verdict : (verdict : Verdict) (text : List ℕ) → Ask Check words → IsToldVerdict left verdict runs text → verdict ≢ Legal → WasGivenFront before now text → IsBroken Known Reading words faults faults' left rest before now runs
-
--- the status, unless the text could not be given or memory was wanting
-abbrev pub IsStatusOr : ℕ → ℕ → Type 0
-IsStatusOr wanted status = (status ≡ wanted) ⊎ ((status ≡ 4) ⊎ (status ≡ 5))
+pub data IsBroken (Known Reading : Type 0) (words : List (List ℕ)) (faults faults' : ℕ) (left rest before now : Option (List ℕ)) (back : Returned) : Type 0 where
+  breaks_words : (Known → ⊥) → back ≡ nothing → WasGivenFront before now (line_of 2) → IsBroken Known Reading words faults faults' left rest before now back
+  breaks_fault : Reading → Rose faults faults' → back ≡ nothing → WasGivenFront before now (line_of 3) → IsBroken Known Reading words faults faults' left rest before now back
+  breaks_long : Reading → IfSome left (λ bytes. TookCount 4194305 bytes rest) → back ≡ nothing → WasGivenFront before now (line_of 6) → IsBroken Known Reading words faults faults' left rest before now back
+  breaks_refusal : (command : Command) (bad : BadLine) → Ask command words → IsRefused (refusal_by command) left bad → back ≡ nothing → WasGivenFront before now (bad_session_line bad) → IsBroken Known Reading words faults faults' left rest before now back
+  breaks_text : (command : Command) (text : List ℕ) → Ask command words → IsToldBy command left back text → WasGivenFront before now text → IsBroken Known Reading words faults faults' left rest before now back
+  breaks_verdict : (verdict : Verdict) (text : List ℕ) → Ask Check words → IsToldVerdict left verdict back.runs text → verdict ≢ Legal → WasGivenFront before now text → IsBroken Known Reading words faults faults' left rest before now back
 
 -- A text that spells a session is played, and one that is refused is told as that.
 pub record Completes (bytes : List ℕ) (status : ℕ) : Type 0 where

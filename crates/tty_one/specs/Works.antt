@@ -14,15 +14,27 @@ use Rattle.journal_check.specs.Short.{IsCutShort}
 use Rattle.journal_check.specs.declared.verdicts.Verdict.{Verdict}
 use Rattle.journal_check.specs.declared.verdicts.Verdict.TheVariants.{Legal}
 use Rattle.one_thread.specs.declared.playing.Played.{Played}
+use Rattle.vt_text.specs.Sessions.{PlainVtSession}
+use Rattle.vt_account.specs.InOrder.{entries_in_order}
+use Rattle.vt_account.specs.Keyed.{IsWithinKeys, keyed}
+use Rattle.vt_report.specs.Report.{report_text}
+use Rattle.vt_one.specs.declared.playing.VtPlayed.{VtPlayed}
 use Rattle.tty_one.specs.declared.words.Command.{Command}
-use Rattle.tty_one.specs.declared.words.Command.TheVariants.{Run, RunOne, Gen, Check}
+use Rattle.tty_one.specs.declared.words.Command.TheVariants.{Run, RunOne, Gen, Check, VtOne}
 use Rattle.tty_one.specs.declared.playing.Telling.{Telling}
 use Rattle.tty_one.specs.declared.reading.Reading.{Reading}
 use Rattle.tty_one.specs.declared.reading.Reading.TheVariants.{Of, Ended}
+use Rattle.tty_one.specs.declared.works.Work.{Work}
 use Rattle.tty_one.specs.declared.works.Ending.{Ending}
 use Rattle.tty_one.specs.declared.works.Ending.TheVariants.{Done, BadSession, BadWords, ReadFault, TooLong, NotLegal}
 use Rattle.tty_one.specs.Endings.{bad_session_line, verdict_line, IsShort, IsOfSource}
-use Rattle.tty_one.specs.Outcome.{text_by, IsReported, IsAllOf, IsToldVerdict, IsToldBy, IsRefused, refusal_by}
+use Rattle.tty_one.specs.Reported.{Returned, nothing, text_by, IsReported, IsAllOf}
+use Rattle.tty_one.specs.Consoles.{AreConsolesPlayed, IsToldOfConsoles, consoles_refusal}
+use Rattle.tty_one.specs.Outcome.{IsToldVerdict, IsToldBy, IsRefused, refusal_by}
+
+-- what comes of work beside its ending
+abbrev pub brought : Work → Returned
+brought work = record { runs = work.runs.items; entries = work.vt.items }
 
 -- ---- reading
 
@@ -127,6 +139,42 @@ IsJudgedText text ReadFault = ⊥
 IsJudgedText text TooLong = ⊥
 IsJudgedText text (NotLegal line) = IsIllegal (Some text) [] line.items
 
+-- ---- consoles
+
+-- what playing a session of consoles needs
+pub record CanBePlayed (session : PlainVtSession) : Type 0 where
+  pub within : IsWithinKeys session
+  pub room : length (entries_in_order session) ≤ 4194304
+  pub never_full : IsNeverFull (keyed session (entries_in_order session))
+
+-- of a session of consoles
+abbrev pub IsConsolesWork : PlainVtSession → Ending → Returned → Type 0
+IsConsolesWork session (Done text) back = AreConsolesPlayed session back text.items
+IsConsolesWork session (BadSession line) back = ⊥
+IsConsolesWork session BadWords back = ⊥
+IsConsolesWork session ReadFault back = ⊥
+IsConsolesWork session TooLong back = ⊥
+IsConsolesWork session (NotLegal line) back = ⊥
+
+-- of consoles that were played
+abbrev pub IsReportOf : PlainVtSession → VtPlayed → Ending → Type 0
+IsReportOf session played (Done text) =
+    text.items ≡ report_text session played.board.entries played.consoles.runs.items (map end_of played.consoles.ends.items)
+IsReportOf session played (BadSession line) = ⊥
+IsReportOf session played BadWords = ⊥
+IsReportOf session played ReadFault = ⊥
+IsReportOf session played TooLong = ⊥
+IsReportOf session played (NotLegal line) = ⊥
+
+-- of a text of consoles
+abbrev pub IsConsolesText : List ℕ → Ending → Returned → Type 0
+IsConsolesText text (Done report) back = IsToldOfConsoles (Some text) back report.items
+IsConsolesText text (BadSession line) back = (back ≡ nothing) × IsLineOf consoles_refusal (Some text) line.items
+IsConsolesText text BadWords back = ⊥
+IsConsolesText text ReadFault back = ⊥
+IsConsolesText text TooLong back = ⊥
+IsConsolesText text (NotLegal line) back = ⊥
+
 -- ---- a command
 
 -- only journals that were read can be found not legal
@@ -135,15 +183,24 @@ IsIllegalBy (Run journals) left runs line = ⊥
 IsIllegalBy (RunOne journals) left runs line = ⊥
 IsIllegalBy (Gen number) left runs line = ⊥
 IsIllegalBy Check left runs line = IsIllegal left runs line
+IsIllegalBy VtOne left runs line = ⊥
 
 -- of a command, where a source had all this left
-abbrev pub IsWork : Command → Option (List ℕ) → Ending → List PortRun → Type 0
-IsWork command left (Done report) runs = IsToldBy command left runs report.items
-IsWork command left (BadSession line) runs = (runs ≡ []) × IsLineOf (refusal_by command) left line.items
-IsWork command left BadWords runs = runs ≡ []
-IsWork command left ReadFault runs = runs ≡ []
-IsWork command left TooLong runs = runs ≡ []
-IsWork command left (NotLegal line) runs = IsIllegalBy command left runs line.items
+abbrev pub IsWork : Command → Option (List ℕ) → Ending → Returned → Type 0
+IsWork command left (Done report) back = IsToldBy command left back report.items
+IsWork command left (BadSession line) back = (back ≡ nothing) × IsLineOf (refusal_by command) left line.items
+IsWork command left BadWords back = back ≡ nothing
+IsWork command left ReadFault back = back ≡ nothing
+IsWork command left TooLong back = back ≡ nothing
+IsWork command left (NotLegal line) back = (back ≡ nothing) × IsIllegalBy command left back.runs line.items
+
+-- only consoles have a board
+abbrev pub HasEntries : Command → Returned → Type 0
+HasEntries (Run journals) back = back.entries ≡ []
+HasEntries (RunOne journals) back = back.entries ≡ []
+HasEntries (Gen number) back = back.entries ≡ []
+HasEntries Check back = back.entries ≡ []
+HasEntries VtOne back = Unit {0}
 
 -- only a command that reads can be refused what it reads
 abbrev pub CanEnd : Command → Ending → Type 0
@@ -156,6 +213,7 @@ CanEnd (Gen number) ReadFault = ⊥
 CanEnd (Gen number) TooLong = ⊥
 CanEnd (Gen number) (NotLegal line) = ⊥
 CanEnd Check ending = Unit {0}
+CanEnd VtOne ending = Unit {0}
 
 -- a command that reads nothing
 abbrev pub ReadsNothing : Command → Type 0
@@ -163,3 +221,4 @@ ReadsNothing (Run journals) = ⊥
 ReadsNothing (RunOne journals) = ⊥
 ReadsNothing (Gen number) = Unit {0}
 ReadsNothing Check = ⊥
+ReadsNothing VtOne = ⊥

@@ -4,7 +4,7 @@ ghost use Rattle.std.specs.Prelude.{◌≡◌, ◌≤◌, [], IfOk, IfSome, OnEr
 ghost use Rattle.tty_base.specs.Outside.{LeavesRest};
 ghost use Rattle.tty_one.specs.Endings.{verdict_line, IsShort, IsOfSource};
 ghost use Rattle.tty_one.specs.declared.words.Command.TheVariants.{Check};
-ghost use Rattle.tty_one.specs.Works.{IsWork, IsJudgedText, IsVerdictEnding};
+ghost use Rattle.tty_one.specs.Works.{brought, IsWork, IsJudgedText, IsVerdictEnding};
 
 use crate::reading::{Reading, read_text, refusal_line};
 use crate::works::{Ending, Work};
@@ -17,8 +17,9 @@ use tty_base::{Bytes, NoMemory, Source};
 /// Reads a session with its journals, and judges these.
 pub(crate) fn run_check<S: Source>(alloc: Global, source: &mut S) -> Result<Work, NoMemory>
     ensures from { IfOk result (λ work. IsOfSource work.ending (S.faults source.old) (S.faults source.new) (S.left source.old) (S.left source.new)) }
-    ensures work { IfOk result (λ work. IsWork Check (S.left source.old) work.ending work.runs.items) }
+    ensures work { IfOk result (λ work. IsWork Check (S.left source.old) work.ending (brought work)) }
     ensures none { IfOk result (λ work. work.runs.items ≡ []) }
+    ensures no_entries { IfOk result (λ work. work.vt.items ≡ []) }
     ensures short { OnErr result (IsShort (S.left source.old) (S.left source.new)) }
     ensures rest { IfSome (S.left source.old) (λ bytes. LeavesRest bytes (S.left source.new)) }
 {

@@ -11,8 +11,13 @@ ghost use Rattle.journal_check.specs.Legal.{IsLegal};
 ghost use Rattle.journal_check.specs.Short.{IsCutShort};
 ghost use Rattle.tty_one.specs.declared.playing.Telling.{Telling};
 ghost use Rattle.tty_one.specs.declared.playing.Telling.TheVariants.{Report};
-ghost use Rattle.tty_one.specs.Endings.{AreRunOne, AreGen, AskJournals};
-ghost use Rattle.tty_one.specs.Outcome.{IsAnsweredOnce, IsReported, IsOrdered, IsInAnyOrder, IsDone, GaveTheSame, TellsEachOnce, IsReadBack, GaveJournals};
+ghost use Rattle.vt_consoles.specs.declared.entries.VtEntry.{VtEntry};
+ghost use Rattle.vt_text.specs.Sessions.{PlainVtSession};
+ghost use Rattle.vt_account.specs.Keyed.{keyed};
+ghost use Rattle.tty_one.specs.Endings.{AreRunOne, AreGen, AskJournals, AskVtOne};
+ghost use Rattle.tty_one.specs.Reported.{Returned, IsReported, IsOrdered, IsInAnyOrder};
+ghost use Rattle.tty_one.specs.Consoles.{AreConsolesPlayed, SpellsConsoles};
+ghost use Rattle.tty_one.specs.Outcome.{IsAnsweredOnce, IsDone, GaveTheSame, TellsEachOnce, IsReadBack, GaveJournals};
 
 use session_print::each_call_has_its_line;
 
@@ -35,10 +40,10 @@ pub fn each_call_has_one_line()
 pub fn a_session_has_one_report()
     ensures report { (telling : Telling) (session : PlainSession) (runs others : List PortRun) (text other : List ℕ)
         → IsReported IsOrdered telling session runs text → IsReported IsOrdered telling session others other → text ≡ other }
-    ensures read { (words : List (List ℕ)) (bytes before before' : List ℕ) (now now' : Option (List ℕ)) (runs others : List PortRun) → AreRunOne words
-        → IsDone words (Some bytes) (Some before) now runs → IsDone words (Some bytes) (Some before') now' others → GaveTheSame before before' now now' }
-    ensures made { (words : List (List ℕ)) (left left' : Option (List ℕ)) (before before' : List ℕ) (now now' : Option (List ℕ)) (runs others : List PortRun) → AreGen words
-        → IsDone words left (Some before) now runs → IsDone words left' (Some before') now' others → GaveTheSame before before' now now' }
+    ensures read { (words : List (List ℕ)) (bytes before before' : List ℕ) (now now' : Option (List ℕ)) (back other : Returned) → AreRunOne words
+        → IsDone words (Some bytes) (Some before) now back → IsDone words (Some bytes) (Some before') now' other → GaveTheSame before before' now now' }
+    ensures made { (words : List (List ℕ)) (left left' : Option (List ℕ)) (before before' : List ℕ) (now now' : Option (List ℕ)) (back other : Returned) → AreGen words
+        → IsDone words left (Some before) now back → IsDone words left' (Some before') now' other → GaveTheSame before before' now now' }
 {}
 
 /// A law: no journal is ever full. A run of a session that a text of at most 4,194,304 bytes spells, as far
@@ -46,6 +51,22 @@ pub fn a_session_has_one_report()
 pub fn no_journal_is_ever_full()
     ensures { (text : List ℕ) (session : PlainSession) (p : ℕ) (run : PortRun) (t : Terminal) → Spells text session → length text ≤ 4194304
         → IsCutShort p session run t → length run.journal.items < 4194304 }
+{}
+
+/// A law: no journal of a console is ever full. A run of a console of a session that a text of at most 4,194,304 bytes
+/// spells, as far as it went, has fewer entries than that, whatever the entries of the board.
+pub fn no_journal_of_a_console_is_ever_full()
+    ensures { (text : List ℕ) (session : PlainVtSession) (entries : List VtEntry) (p : ℕ) (run : PortRun) (t : Terminal) → SpellsConsoles text session
+        → length text ≤ 4194304 → IsCutShort p (keyed session entries) run t → length run.journal.items < 4194304 }
+{}
+
+/// A law: a session of consoles has one report on one thread. So two calls of `tty_one` that ended with 0 gave the same
+/// bytes by `vt --one` where they read the same text.
+pub fn consoles_have_one_report()
+    ensures report { (session : PlainVtSession) (back other : Returned) (text told : List ℕ) → AreConsolesPlayed session back text → AreConsolesPlayed session other told
+        → text ≡ told }
+    ensures read { (words : List (List ℕ)) (bytes before before' : List ℕ) (now now' : Option (List ℕ)) (back other : Returned) → AskVtOne words
+        → IsDone words (Some bytes) (Some before) now back → IsDone words (Some bytes) (Some before') now' other → GaveTheSame before before' now now' }
 {}
 
 /// A law: journals that are printed are legal. What `run --journal` tells of a session, from the line
@@ -57,6 +78,6 @@ pub fn printed_journals_are_legal()
         → IsReported IsInAnyOrder (Report true) session runs report → IsReadBack text session runs report }
     ensures in_one_order { (text : List ℕ) (session : PlainSession) (runs : List PortRun) (report : List ℕ) → Spells text session
         → IsReported IsOrdered (Report true) session runs report → IsReadBack text session runs report }
-    ensures given { (words : List (List ℕ)) (bytes before : List ℕ) (now : Option (List ℕ)) (runs : List PortRun) → AskJournals words
-        → IsDone words (Some bytes) (Some before) now runs → GaveJournals bytes before now runs }
+    ensures given { (words : List (List ℕ)) (bytes before : List ℕ) (now : Option (List ℕ)) (back : Returned) → AskJournals words
+        → IsDone words (Some bytes) (Some before) now back → GaveJournals bytes before now back.runs }
 {}

@@ -1,19 +1,19 @@
 //! Sessions that are played on one thread, and what is told of them.
 
-ghost use Rattle.std.specs.Prelude.{◌≡◌, IfOk, IfSome, OnErr, map};
+ghost use Rattle.std.specs.Prelude.{◌≡◌, [], IfOk, IfSome, OnErr, map};
 ghost use Rattle.tty_base.specs.Outside.{LeavesRest};
 ghost use Rattle.tty_calls.specs.Limits.{IsWithinLimits};
 ghost use Rattle.tty_calls.specs.Sessions.{session_of};
 ghost use Rattle.session_gen.specs.Generated.{generated_session};
 ghost use Rattle.session_print.specs.Ends.{end_of};
 ghost use Rattle.tty_one.specs.Endings.{IsShort, IsOfSource};
-ghost use Rattle.tty_one.specs.Outcome.{IsOrdered, text_by as text_of_telling};
+ghost use Rattle.tty_one.specs.Reported.{IsOrdered, text_by as text_of_telling};
 ghost use Rattle.tty_one.specs.declared.playing.Telling.TheVariants.{Summary};
 ghost use Rattle.tty_one.specs.declared.words.Command.TheVariants.{RunOne, Gen};
-ghost use Rattle.tty_one.specs.Works.{IsWork, IsSessionWork, IsEndingOf, CanEnd, IsNeverFull};
+ghost use Rattle.tty_one.specs.Works.{brought, IsWork, IsSessionWork, IsEndingOf, CanEnd, IsNeverFull};
 
 use crate::reading::{Reading, read_session};
-use crate::works::{Ending, Work};
+use crate::works::{Ending, VtEntries, Work};
 use one_thread::{Played, play};
 use session_gen::make;
 use session_print::{play_text, summary};
@@ -37,7 +37,8 @@ pub(crate) fn run_one<S: Source>(
     journals: bool,
 ) -> Result<Work, NoMemory>
     ensures from { IfOk result (λ work. IsOfSource work.ending (S.faults source.old) (S.faults source.new) (S.left source.old) (S.left source.new)) }
-    ensures work { IfOk result (λ work. IsWork (RunOne journals) (S.left source.old) work.ending work.runs.items) }
+    ensures work { IfOk result (λ work. IsWork (RunOne journals) (S.left source.old) work.ending (brought work)) }
+    ensures no_entries { IfOk result (λ work. work.vt.items ≡ []) }
     ensures short { OnErr result (IsShort (S.left source.old) (S.left source.new)) }
     ensures rest { IfSome (S.left source.old) (λ bytes. LeavesRest bytes (S.left source.new)) }
 {
@@ -52,6 +53,7 @@ pub(crate) fn run_one<S: Source>(
 pub(crate) fn run_number(alloc: Global, number: u32) -> Result<Work, NoMemory>
     ensures played { IfOk result (λ work. IsSessionWork IsOrdered (Summary number) (generated_session number) work.ending work.runs.items) }
     ensures can { IfOk result (λ work. CanEnd (Gen number) work.ending) }
+    ensures no_entries { IfOk result (λ work. work.vt.items ≡ []) }
 {
     let session = make(alloc, number)?;
     run_session(alloc, Bytes::new(alloc), &session, Telling::Summary(number))
@@ -65,7 +67,8 @@ fn run_session(
     telling: Telling,
 ) -> Result<Work, NoMemory>
     requires { IsWithinLimits (session_of session.now) × IsNeverFull (session_of session.now) }
-    ensures { IfOk result (λ work. IsSessionWork IsOrdered telling (session_of session.now) work.ending work.runs.items) }
+    ensures played { IfOk result (λ work. IsSessionWork IsOrdered telling (session_of session.now) work.ending work.runs.items) }
+    ensures no_entries { IfOk result (λ work. work.vt.items ≡ []) }
 {
     let played = play(alloc, session)?;
     work_of(alloc, used, session, played, telling)
@@ -82,11 +85,16 @@ pub fn work_of(
 ) -> Result<Work, NoMemory>
     ensures ending { IfOk result (λ work. IsEndingOf telling (session_of session.now) played work.ending) }
     ensures runs { IfOk result (λ work. work.runs ≡ played.runs) }
+    ensures no_entries { IfOk result (λ work. work.vt.items ≡ []) }
 {
     let text = text_by(alloc, used, session, &played, telling)?;
     let Played { runs, ends: _ } = played;
     let ending = Ending::Done(text);
-    Ok(Work { ending, runs })
+    Ok(Work {
+        ending,
+        runs,
+        vt: VtEntries::new(alloc),
+    })
 }
 
 fn text_by(

@@ -2,14 +2,17 @@
 
 ghost use Rattle.std.specs.Prelude.{◌≡◌, ◌⊎◌, ◌≢◌, ◌≤◌, [], IfSome, IfOk, OnErr, length};
 ghost use Rattle.tty_base.specs.Outside.{Rose, TookCount, LeavesRest};
-ghost use Rattle.tty_one.specs.Endings.{AreOfOne, IsOfOne, AreRunOne, AreGen, AskCheck, AskOneToRead, IsStatus, IsShort, IsOfSource, IsTold, texts_of};
-ghost use Rattle.tty_one.specs.Outcome.{IsDone, IsToldRefused, IsToldIllegal, IsBroken, IsStatusOr, Completes, CompletesCheck};
-ghost use Rattle.tty_one.specs.Works.{IsWork, CanEnd, ReadsNothing};
+ghost use Rattle.tty_one.specs.Endings.{AreOfOne, IsOfOne, AreRunOne, AreGen, AskCheck, AskVtOne, AskOneToRead, IsStatus, IsStatusOr, IsShort, IsOfSource, IsTold, texts_of};
+ghost use Rattle.tty_one.specs.Reported.{nothing, returned};
+ghost use Rattle.tty_one.specs.Consoles.{CompletesConsoles};
+ghost use Rattle.tty_one.specs.Outcome.{IsDone, IsToldRefused, IsToldIllegal, IsBroken, Completes, CompletesCheck};
+ghost use Rattle.tty_one.specs.Works.{brought, IsWork, HasEntries, CanEnd, ReadsNothing};
 
+use crate::consoles::run_vt;
 use crate::judging::run_check;
 use crate::playing::{run_number, run_one};
 use crate::words::{Command, command_of};
-use crate::works::{Ending, Ran, Runs, Work};
+use crate::works::{Ending, Ran, Runs, VtEntries, Work};
 use std::alloc::Global;
 use tty_base::{NoMemory, Sink, Source};
 
@@ -20,8 +23,8 @@ use tty_base::{NoMemory, Sink, Source};
 /// or that the journals are legal; else the line of the status.
 ///
 /// The words are `run --one`, and with journals `run --one --journal` or `run --journal --one`; `gen` with a
-/// number up to 4,294,967,295, whose session is played and nothing read; and `check`. The words that ask
-/// for threads are other words here.
+/// number up to 4,294,967,295, whose session is played and nothing read; `check`; and `vt --one`, by which a session of
+/// consoles is read and played. The words that ask for threads are other words here.
 pub fn tty_one<S: Source, K: Sink>(
     alloc: Global,
     words: &[&str],
@@ -29,7 +32,7 @@ pub fn tty_one<S: Source, K: Sink>(
     sink: &mut K,
 ) -> Ran
     // 2 comes exactly for other words, unless its line could not be given, and nothing is read.
-    ensures other_words { (AreOfOne (texts_of words.now) → ⊥) → ((result.status ≡ 2) ⊎ (result.status ≡ 4)) × (source.new ≡ source.old) × (result.runs.items ≡ []) }
+    ensures other_words { (AreOfOne (texts_of words.now) → ⊥) → ((result.status ≡ 2) ⊎ (result.status ≡ 4)) × (source.new ≡ source.old) × (returned result ≡ nothing) }
     ensures known_words { AreOfOne (texts_of words.now) → result.status ≢ 2 }
     ensures read_fault { result.status ≡ 3 → Rose (S.faults source.old) (S.faults source.new) }
     ensures write_fault { result.status ≡ 4 → Rose (K.faults sink.old) (K.faults sink.new) }
@@ -41,17 +44,19 @@ pub fn tty_one<S: Source, K: Sink>(
     ensures statuses { IsStatus result.status }
     // 0: the session is the one that the text spells that was read, or the one of the number; each run is
     // legal and in the order of one thread, and the sink was given the text of that session and these
-    // runs, or their summary. Or the runs that the text spells are all legal, and it was given that.
-    ensures done { result.status ≡ 0 → IsDone (texts_of words.now) (S.left source.old) (K.given sink.old) (K.given sink.new) result.runs.items }
+    // runs, or their summary. Or the runs that the text spells are all legal, and it was given that. Or the text
+    // spells a session of consoles, and each of them and their board was played likewise.
+    ensures done { result.status ≡ 0 → IsDone (texts_of words.now) (S.left source.old) (K.given sink.old) (K.given sink.new) (returned result) }
     // 1: the text that was read is not in its grammar, and the sink was given its first wrong line.
     ensures bad_session { result.status ≡ 1 → IsToldRefused (texts_of words.now) (S.left source.old) (K.given sink.old) (K.given sink.new) }
     // 7: the runs that the text spells are not all legal, and the sink was given the verdict that fits them.
     ensures not_legal { result.status ≡ 7 → IsToldIllegal (texts_of words.now) (S.left source.old) (K.given sink.old) (K.given sink.new) }
     // 4: what was to be given is the text of the status that there would have been; that of 3 or of 6 stands
     // only where the words ask for a text to be read.
-    ensures broken { result.status ≡ 4 → IsBroken (AreOfOne (texts_of words.now)) (AskOneToRead (texts_of words.now)) (texts_of words.now) (S.faults source.old) (S.faults source.new) (S.left source.old) (S.left source.new) (K.given sink.old) (K.given sink.new) result.runs.items }
-    ensures no_runs { result.status ≢ 0 → result.status ≢ 4 → result.runs.items ≡ [] }
+    ensures broken { result.status ≡ 4 → IsBroken (AreOfOne (texts_of words.now)) (AskOneToRead (texts_of words.now)) (texts_of words.now) (S.faults source.old) (S.faults source.new) (S.left source.old) (S.left source.new) (K.given sink.old) (K.given sink.new) (returned result) }
+    ensures no_runs { result.status ≢ 0 → result.status ≢ 4 → returned result ≡ nothing }
     ensures none_judged { AskCheck (texts_of words.now) → result.runs.items ≡ [] }
+    ensures no_entries { (AskVtOne (texts_of words.now) → ⊥) → result.vt.items ≡ [] }
     // The source has left an end of what it had left.
     ensures rest { IfSome (S.left source.old) (λ bytes. LeavesRest bytes (S.left source.new)) }
     // Where a session is to be read and reading did not fail, a text that spells a session is played, and
@@ -65,6 +70,9 @@ pub fn tty_one<S: Source, K: Sink>(
     // Likewise journals are judged: 0 exactly where every run is legal, else 7.
     ensures judged { IfSome (S.left source.old) (λ bytes. AskCheck (texts_of words.now) → length bytes ≤ 4194304
         → (Rose (S.faults source.old) (S.faults source.new) → ⊥) → CompletesCheck bytes result.status) }
+    // Likewise a text that spells a session of consoles is played, and one that spells none is refused.
+    ensures consoles { IfSome (S.left source.old) (λ bytes. AskVtOne (texts_of words.now) → length bytes ≤ 4194304
+        → (Rose (S.faults source.old) (S.faults source.new) → ⊥) → CompletesConsoles bytes result.status) }
 {
     let Some(command) = command_of(words) else {
         return Work::ended(alloc, Ending::BadWords).tell(sink);
@@ -74,6 +82,7 @@ pub fn tty_one<S: Source, K: Sink>(
         Err(NoMemory) => Ran {
             status: 5,
             runs: Runs::new(alloc),
+            vt: VtEntries::new(alloc),
         },
     }
 }
@@ -82,7 +91,8 @@ pub fn tty_one<S: Source, K: Sink>(
 fn work_on<S: Source>(alloc: Global, source: &mut S, command: Command) -> Result<Work, NoMemory>
     requires { IsOfOne command }
     ensures from { IfOk result (λ work. IsOfSource work.ending (S.faults source.old) (S.faults source.new) (S.left source.old) (S.left source.new)) }
-    ensures work { IfOk result (λ work. IsWork command (S.left source.old) work.ending work.runs.items) }
+    ensures work { IfOk result (λ work. IsWork command (S.left source.old) work.ending (brought work)) }
+    ensures entries { IfOk result (λ work. HasEntries command (brought work)) }
     ensures can { IfOk result (λ work. CanEnd command work.ending) }
     ensures short { OnErr result (IsShort (S.left source.old) (S.left source.new)) }
     ensures rest { IfSome (S.left source.old) (λ bytes. LeavesRest bytes (S.left source.new)) }
@@ -93,5 +103,6 @@ fn work_on<S: Source>(alloc: Global, source: &mut S, command: Command) -> Result
         Command::RunOne { journals } => run_one(alloc, source, journals),
         Command::Gen(number) => run_number(alloc, number),
         Command::Check => run_check(alloc, source),
+        Command::VtOne => run_vt(alloc, source),
     }
 }

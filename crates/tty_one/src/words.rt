@@ -18,6 +18,8 @@ pub enum Command {
     Gen(u32),
     /// A session is read with its journals, and these are judged.
     Check,
+    /// A session of consoles is read and played on one thread, and told.
+    VtOne,
 }
 
 /// The command of the words, if it is one that needs no thread.
@@ -27,6 +29,9 @@ pub(crate) fn command_of(words: &[&str]) -> Option<Command>
 {
     if are(words, &["check"]) {
         return Some(Command::Check);
+    }
+    if are(words, &["vt", "--one"]) {
+        return Some(Command::VtOne);
     }
     if let Some(journals) = journals_on_one(words) {
         return Some(Command::RunOne { journals });

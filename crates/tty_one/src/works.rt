@@ -7,15 +7,21 @@ ghost use Rattle.tty_one.specs.Endings.{status_of, text_of};
 use std::alloc::Global;
 use tty_base::{Buffer, Bytes, Sink, write_all};
 use tty_calls::PortRun;
+use vt_consoles::VtEntry;
 
-/// The runs of a session's ports.
+/// The runs of a session's ports, or of its consoles.
 pub type Runs = Buffer<PortRun>;
 
-/// What a call of the program came to: its exit status, and the runs of the ports.
+/// The entries of a board.
+pub type VtEntries = Buffer<VtEntry>;
+
+/// What a call of the program came to: its exit status, the runs of the ports or consoles, and the entries of the
+/// consoles' board.
 #[derive(Drop)]
 pub struct Ran {
     pub status: u8,
     pub runs: Runs,
+    pub vt: VtEntries,
 }
 
 /// How the work ended, before it was told.
@@ -32,39 +38,47 @@ pub enum Ending {
     NotLegal(Bytes),
 }
 
-/// What was done: how it ended, and the runs.
+/// What was done: how it ended, the runs, and the entries of the consoles' board.
 #[derive(Drop)]
 pub struct Work {
     pub ending: Ending,
     pub runs: Runs,
+    pub vt: VtEntries,
 }
 
 impl Work {
     /// Work that ended without a run.
     pub fn ended(alloc: Global, ending: Ending) -> Work
-        ensures { result ≡ record { ending = ending; runs = record { items = []; spare = 0 } } }
+        ensures { result ≡ record { ending = ending; runs = record { items = []; spare = 0 }; vt = record { items = []; spare = 0 } } }
     {
         Work {
             ending,
             runs: Runs::new(alloc),
+            vt: VtEntries::new(alloc),
         }
     }
 
     /// Gives the text of the ending to the sink.
     pub fn tell<K: Sink>(self, sink: &mut K) -> Ran
         ensures runs { result.runs ≡ self.runs }
+        ensures vt { result.vt ≡ self.vt }
         ensures status { (result.status ≡ status_of self.ending) ⊎ (result.status ≡ 4) }
         ensures fault { result.status ≡ 4 → Rose (K.faults sink.old) (K.faults sink.new) }
         ensures whole { result.status ≢ 4 → IfSome (K.given sink.old) (λ before. K.given sink.new ≡ Some (before ++ text_of self.ending)) }
         ensures front { IfSome (K.given sink.old) (λ before. GivesFront before (text_of self.ending) (K.given sink.new)) }
     {
-        let Work { ending, runs } = self;
+        let Work { ending, runs, vt } = self;
         match write_all(sink, ending.text()) {
             Ok(()) => Ran {
                 status: ending.status(),
                 runs,
+                vt,
             },
-            Err(_) => Ran { status: 4, runs },
+            Err(_) => Ran {
+                status: 4,
+                runs,
+                vt,
+            },
         }
     }
 }

@@ -1,4 +1,4 @@
-use Rattle.tty_one.specs.Outcome.{IsInAnyOrder, IsOrdered}
+use Rattle.tty_one.specs.Reported.{IsInAnyOrder, IsOrdered}
 use Rattle.tty_one.proofs.Answered.{answered_once}
 use Rattle.tty_one.proofs.ReportedLines.{each_once}
 use Rattle.tty_one.proofs.laws.each_call_has_one_line.Goals as goal

@@ -1,4 +1,4 @@
-use Rattle.tty_one.specs.Outcome.{IsInAnyOrder, IsOrdered}
+use Rattle.tty_one.specs.Reported.{IsInAnyOrder, IsOrdered}
 use Rattle.tty_one.proofs.Printed.{reported_back, gave_journals}
 use Rattle.tty_one.proofs.laws.printed_journals_are_legal.Goals as goal
 

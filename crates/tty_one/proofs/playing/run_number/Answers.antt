@@ -4,7 +4,7 @@ use Rattle.tty_calls.specs.Sessions.{PlainSession}
 use Rattle.tty_calls.specs.Limits.{IsWithinLimits}
 use Rattle.session_gen.proofs.Within.{generated_within}
 use Rattle.tty_one.specs.declared.playing.Telling.TheVariants.{Summary}
-use Rattle.tty_one.specs.Outcome.{IsOrdered}
+use Rattle.tty_one.specs.Reported.{IsOrdered}
 use Rattle.tty_one.specs.Works.{IsSessionWork, IsNeverFull}
 use Rattle.tty_one.proofs.Numbered.{number_ends, number_room}
 use Rattle.tty_one.proofs.playing.run_number.Goals as goal
@@ -15,5 +15,5 @@ run_session-requires c =
 
 pub returns : goal.returns
 returns c =
-    let played = subst (λ (session : PlainSession). IfOk c.run_session.result (λ work. IsSessionWork IsOrdered (Summary c.args.number) session work.ending work.runs.items)) c.in_ok-session.ensures.session c.run_session.ensures in
-    record { played = played; can = number_ends c.args.number c.run_session.result played }
+    let played = subst (λ (session : PlainSession). IfOk c.run_session.result (λ work. IsSessionWork IsOrdered (Summary c.args.number) session work.ending work.runs.items)) c.in_ok-session.ensures.session c.run_session.ensures.played in
+    record { played = played; can = number_ends c.args.number c.run_session.result played; no_entries = c.run_session.ensures.no_entries }

@@ -8,7 +8,7 @@ use Rattle.session_print.specs.Ends.{end_of}
 use Rattle.session_print.specs.Summary.{summary_text}
 use Rattle.tty_one.specs.declared.playing.Telling.{Telling}
 use Rattle.tty_one.specs.declared.playing.Telling.TheVariants.{Summary}
-use Rattle.tty_one.specs.Outcome.{text_by}
+use Rattle.tty_one.specs.Reported.{text_by}
 use Rattle.tty_one.proofs.playing.text_by.Goals as goal
 
 -- the summary of these runs and ends is what is told of the session of a number

@@ -1,0 +1,74 @@
+//! Sessions of consoles that are read and played on one thread, and what is told of them.
+
+ghost use Rattle.std.specs.Prelude.{◌≡◌, ◌≤◌, IfOk, IfSome, OnErr, length};
+ghost use Rattle.tty_base.specs.Outside.{LeavesRest};
+ghost use Rattle.vt_text.specs.Sessions.{vt_session_of};
+ghost use Rattle.tty_one.specs.declared.words.Command.TheVariants.{VtOne};
+ghost use Rattle.tty_one.specs.Endings.{IsShort, IsOfSource};
+ghost use Rattle.tty_one.specs.Works.{brought, CanBePlayed, IsConsolesText, IsConsolesWork, IsReportOf, IsWork};
+
+use crate::reading::{Reading, read_text, refusal_line};
+use crate::works::{Ending, VtEntries, Work};
+use one_thread::Played;
+use session_text::TextFault;
+use std::alloc::Global;
+use tty_base::{NoMemory, Source};
+use tty_calls::Denied;
+use vt_one::{VtPlayed, play_vt};
+use vt_report::{a_played_session_has_the_same_report, vt_report};
+use vt_text::{VtSession, parse_vt};
+
+/// Reads a session of consoles, plays it on one thread and makes its report.
+pub(crate) fn run_vt<S: Source>(alloc: Global, source: &mut S) -> Result<Work, NoMemory>
+    ensures from { IfOk result (λ work. IsOfSource work.ending (S.faults source.old) (S.faults source.new) (S.left source.old) (S.left source.new)) }
+    ensures work { IfOk result (λ work. IsWork VtOne (S.left source.old) work.ending (brought work)) }
+    ensures short { OnErr result (IsShort (S.left source.old) (S.left source.new)) }
+    ensures rest { IfSome (S.left source.old) (λ bytes. LeavesRest bytes (S.left source.new)) }
+{
+    match read_text(alloc, source)? {
+        Reading::Of(text) => work_on_text(alloc, text.as_slice()),
+        Reading::Ended(ending) => Ok(Work::ended(alloc, ending)),
+    }
+}
+
+/// What comes of a text of consoles.
+fn work_on_text(alloc: Global, text: &[u8]) -> Result<Work, NoMemory>
+    requires { length text.now ≤ 4194304 }
+    ensures { IfOk result (λ work. IsConsolesText text.now work.ending (brought work)) }
+{
+    match parse_vt(alloc, text) {
+        Ok(mut session) => run_session(alloc, &mut session),
+        Err(TextFault::Bad(bad)) => {
+            let line = refusal_line(alloc, bad)?;
+            Ok(Work::ended(alloc, Ending::BadSession(line)))
+        }
+        Err(TextFault::NoMemory) => Err(NoMemory),
+    }
+}
+
+/// Plays a session of consoles on one thread and makes its report.
+fn run_session(alloc: Global, session: &mut VtSession) -> Result<Work, NoMemory>
+    requires { CanBePlayed (vt_session_of session.old) }
+    ensures { IfOk result (λ work. IsConsolesWork (vt_session_of session.old) work.ending (brought work)) }
+{
+    a_played_session_has_the_same_report();
+    match play_vt(alloc, session) {
+        Ok(played) => work_of(alloc, session, played),
+        Err(Denied::NoMemory) => Err(NoMemory),
+        Err(Denied::Full) => unreachable!(),
+    }
+}
+
+/// The work on a session of consoles that was played: its report, with the runs and the entries.
+fn work_of(alloc: Global, session: &VtSession, played: VtPlayed) -> Result<Work, NoMemory>
+    ensures ending { IfOk result (λ work. IsReportOf (vt_session_of session.now) played work.ending) }
+    ensures brought { IfOk result (λ work. brought work ≡ record { runs = played.consoles.runs.items; entries = played.board.entries }) }
+{
+    let VtPlayed { board, consoles } = played;
+    let Played { runs, ends } = consoles;
+    let entries = board.entries();
+    let text = vt_report(alloc, session, entries, runs.as_slice(), ends.as_slice())?;
+    let vt = VtEntries::from_vec(Vec::from_slice(alloc, entries)?);
+    let ending = Ending::Done(text);
+    Ok(Work { ending, runs, vt })
+}
