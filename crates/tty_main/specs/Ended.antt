@@ -1,9 +1,10 @@
 -- How the program ends: what `tty_run` promises of its status, said of the exit status.
 use Rattle.std.specs.Prelude.{◌≡◌, ◌≢◌, ◌⊎◌, ◌≤◌, ℕ, List, [], Option, IfSome, length, map, drop, string_bytes, String}
 use Rattle.tty_base.specs.Outside.{Rose, TookCount, LeavesRest}
-use Rattle.tty_calls.specs.declared.journals.PortRun.{PortRun}
-use Rattle.tty_one.specs.Endings.{AreKnown, AreRun, AreRunOne, AreGen, AskCheck, AskToRead, IsStatus, IsTold}
-use Rattle.tty_one.specs.Outcome.{IsDone, IsToldRefused, IsToldIllegal, IsBroken, IsStatusOr, Completes, CompletesCheck}
+use Rattle.tty_one.specs.Endings.{AreKnown, AreRun, AreRunOne, AreGen, AskCheck, AskVtOne, AskToRead, IsStatus, IsStatusOr, IsTold}
+use Rattle.tty_one.specs.Reported.{Returned, nothing}
+use Rattle.tty_one.specs.Consoles.{CompletesConsoles}
+use Rattle.tty_one.specs.Outcome.{IsDone, IsToldRefused, IsToldIllegal, IsBroken, Completes, CompletesCheck}
 use Rattle.tty_run.specs.Headline.{IsPlayedOnThreads}
 
 -- the words among the arguments of a program, whose name comes first
@@ -15,12 +16,12 @@ abbrev pub IsStarved : Type 0 → Type 0 → ℕ → Type 0
 IsStarved Unread Untold status = (status ≡ 5) × Unread × Untold
 
 -- The call of these words ended with this status: by the faults of the source and of the sink, before and now, and by
--- what the source has left and what the sink was given, before and now, where they tell. The runs are those that the
--- call returned.
+-- what the source has left and what the sink was given, before and now, where they tell; and by what the call returned
+-- beside its status.
 pub record IsEnded (Unread : Type 0) (words : List (List ℕ)) (faults faults' misses misses' : ℕ) (left rest before now : Option (List ℕ)) (status : ℕ) : Type 0 where
-  pub runs : List PortRun
-  pub headline : AreRun words → status ≡ 0 → IsPlayedOnThreads words left before now runs
-  pub other_words : (AreKnown words → ⊥) → ((status ≡ 2) ⊎ (status ≡ 4)) × Unread × (runs ≡ [])
+  pub back : Returned
+  pub headline : AreRun words → status ≡ 0 → IsPlayedOnThreads words left before now back.runs
+  pub other_words : (AreKnown words → ⊥) → ((status ≡ 2) ⊎ (status ≡ 4)) × Unread × (back ≡ nothing)
   pub known_words : AreKnown words → status ≢ 2
   pub read_fault : status ≡ 3 → Rose faults faults'
   pub write_fault : status ≡ 4 → Rose misses misses'
@@ -28,14 +29,16 @@ pub record IsEnded (Unread : Type 0) (words : List (List ℕ)) (faults faults' m
   pub long : IfSome left (λ bytes. TookCount 4194305 bytes rest → (status ≡ 6) ⊎ (status ≡ 4))
   pub told : IfSome before (λ bytes. IsTold status bytes now)
   pub statuses : IsStatus status
-  pub done : status ≡ 0 → IsDone words left before now runs
+  pub done : status ≡ 0 → IsDone words left before now back
   pub bad_session : status ≡ 1 → IsToldRefused words left before now
   pub not_legal : status ≡ 7 → IsToldIllegal words left before now
-  pub broken : status ≡ 4 → IsBroken (AreKnown words) (AskToRead words) words faults faults' left rest before now runs
-  pub no_runs : status ≢ 0 → status ≢ 4 → runs ≡ []
-  pub none_judged : AskCheck words → runs ≡ []
+  pub broken : status ≡ 4 → IsBroken (AreKnown words) (AskToRead words) words faults faults' left rest before now back
+  pub no_runs : status ≢ 0 → status ≢ 4 → back ≡ nothing
+  pub none_judged : AskCheck words → back.runs ≡ []
+  pub no_entries : (AskVtOne words → ⊥) → back.entries ≡ []
   pub rest_left : IfSome left (λ bytes. LeavesRest bytes rest)
   pub complete : IfSome left (λ bytes. AreRun words ⊎ AreRunOne words → length bytes ≤ 4194304 → (Rose faults faults' → ⊥) → Completes bytes status)
   pub made : AreGen words → IsStatusOr 0 status
   pub unread : AreGen words → Unread
   pub judged : IfSome left (λ bytes. AskCheck words → length bytes ≤ 4194304 → (Rose faults faults' → ⊥) → CompletesCheck bytes status)
+  pub consoles : IfSome left (λ bytes. AskVtOne words → length bytes ≤ 4194304 → (Rose faults faults' → ⊥) → CompletesConsoles bytes status)

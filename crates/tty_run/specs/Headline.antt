@@ -3,7 +3,8 @@ use Rattle.std.specs.Prelude.{ℕ, List, Bool, Option}
 use Rattle.tty_calls.specs.declared.journals.PortRun.{PortRun}
 use Rattle.tty_one.specs.declared.playing.Telling.TheVariants.{Report}
 use Rattle.tty_one.specs.Endings.{AskRun}
-use Rattle.tty_one.specs.Outcome.{IsInAnyOrder, IsReported, IsPlayedText, WasGiven}
+use Rattle.tty_one.specs.Reported.{IsInAnyOrder, IsReported}
+use Rattle.tty_one.specs.Outcome.{IsPlayedText, WasGiven}
 
 -- The text that was read spells a session; each of its ports has one returned run, which is legal and leads to the
 -- end that is reported; and the sink was given the text of that session, of these runs and of their ends, with the

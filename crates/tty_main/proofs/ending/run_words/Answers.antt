@@ -1,6 +1,7 @@
 use Rattle.std.proofs.Common.{◌≡◌, ℕ, sym, subst}
 use Rattle.std.specs.Process.{exit_status}
 use Rattle.tty_one.specs.Endings.{texts_of}
+use Rattle.tty_one.specs.Reported.{returned}
 use Rattle.tty_main.specs.Ended.{IsEnded}
 use Rattle.tty_main.proofs.ending.run_words.Goals as goal
 
@@ -14,7 +15,7 @@ returns g c =
     (g.S.Source.faults from) (g.S.Source.faults new.source) (g.K.Sink.faults to) (g.K.Sink.faults new.sink)
     (g.S.Source.left from) (g.S.Source.left new.source) (g.K.Sink.given to) (g.K.Sink.given new.sink) status) (sym c.from.ensures) (
     record {
-      runs = c.tty_run-status.result.runs.items;
+      back = returned c.tty_run-status.result;
       headline = called.headline;
       other_words = called.other_words;
       known_words = called.known_words;
@@ -30,10 +31,12 @@ returns g c =
       broken = called.broken;
       no_runs = called.no_runs;
       none_judged = called.none_judged;
+      no_entries = called.no_entries;
       rest_left = called.rest;
       complete = called.complete;
       made = called.made;
       unread = called.unread;
       judged = called.judged;
+      consoles = called.consoles;
     }
     )
