@@ -10,6 +10,9 @@ use tty_rows::{told_of, told_on_threads, with_journals};
 /// alone, or a caller who waits for the line.
 const ALIKE: [&str; 5] = ["login", "mode_words", "output", "overruns", "unread_line"];
 
+/// The examples that are sessions of consoles.
+const CONSOLES: [&str; 1] = ["two_consoles"];
+
 /// What is wrong with an example; nothing, where it is told as its files say, and its journals are legal.
 pub(crate) fn fault_of<R: Threads + Wait + Sync>(
     rt: &R,
@@ -17,6 +20,9 @@ pub(crate) fn fault_of<R: Threads + Wait + Sync>(
     example: &Example,
 ) -> Result<Option<&'static str>, AllocError> {
     let report = example.report.as_slice();
+    if CONSOLES.contains(&example.name.as_str()) {
+        return fault_on_consoles(alloc, example);
+    }
     let told = told_of(alloc, &["run", "--one"], text_of(alloc, example)?)?;
     if told.text.as_slice() != report {
         return Ok(Some("another report"));
@@ -39,6 +45,15 @@ pub(crate) fn fault_of<R: Threads + Wait + Sync>(
     let told = told_on_threads(rt, alloc, &["run", "--journal"], text_of(alloc, example)?)?;
     if !is_legal(alloc, example, told.text.as_slice())? {
         return Ok(Some("not legal on threads"));
+    }
+    Ok(None)
+}
+
+/// What is wrong with an example of consoles: nothing, where it is told as its file says.
+fn fault_on_consoles(alloc: Global, example: &Example) -> Result<Option<&'static str>, AllocError> {
+    let told = told_of(alloc, &["vt", "--one"], text_of(alloc, example)?)?;
+    if told.text.as_slice() != example.report.as_slice() {
+        return Ok(Some("another report"));
     }
     Ok(None)
 }

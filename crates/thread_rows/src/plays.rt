@@ -47,7 +47,7 @@ pub(crate) fn played<R: Threads + Wait + Sync, G: Gate + Sync>(
     let Ok(mut sink) = MemSink::new(alloc, PIECE, ROOM, Vec::new(alloc)) else {
         return Err(AllocError);
     };
-    let Ran { status, runs } = tty_run(rt, alloc, words, &mut source, &mut sink, gate);
+    let Ran { status, runs, .. } = tty_run(rt, alloc, words, &mut source, &mut sink, gate);
     let text = sink.given().to_vec(alloc)?;
     Ok(Outcome { status, text, runs })
 }

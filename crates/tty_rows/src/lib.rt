@@ -4,6 +4,8 @@
 #[cfg(test)]
 mod altered;
 #[cfg(test)]
+mod consoles;
+#[cfg(test)]
 mod editing;
 #[cfg(test)]
 mod exchanged;

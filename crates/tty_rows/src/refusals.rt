@@ -45,6 +45,7 @@ fn other_words_are_bad(rt: HostRuntime) -> Result<(), Fail> {
     let alloc = rt.alloc();
     are_bad(&rt, alloc, &[])?;
     are_bad(&rt, alloc, &["run", "--two"])?;
+    are_bad(&rt, alloc, &["vt"])?;
     are_bad(&rt, alloc, &["run", "--one", "--one"])?;
     are_bad(&rt, alloc, &["run", "--journal", "--journal"])?;
     are_bad(&rt, alloc, &["gen"])?;
