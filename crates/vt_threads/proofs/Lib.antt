@@ -1,0 +1,6 @@
+pub mod SeatLemmas
+pub mod KeySteps
+pub mod KeyLemmas
+pub mod PhaseParts
+pub mod KeyedPhases
+pub mod Pressing

@@ -1,0 +1,39 @@
+//! What follows from the definitions alone.
+
+ghost use Rattle.std.specs.Prelude.{◌≡◌, ◌+◌, ◌<◌, ℕ, List, [], ◌∷◌, ◌++◌, Some, drop, length, slice_get, take};
+ghost use Rattle.tty_calls.specs.Sessions.{line_on};
+ghost use Rattle.journal_check.specs.Legal.{phase_at};
+ghost use Rattle.vt_consoles.specs.declared.entries.VtEntry.{VtEntry};
+ghost use Rattle.vt_consoles.specs.Boards.{BoardState, IsBoard};
+ghost use Rattle.vt_text.specs.Sessions.{PlainVtPhase, PlainVtSession};
+ghost use Rattle.vt_account.specs.Seats.{operator_names};
+ghost use Rattle.vt_account.specs.Account.{IsAccount, IsPartOf};
+ghost use Rattle.vt_account.specs.Keyed.{IsWhole, all_keys, consoles_in, key_line, keyed, keys_to};
+ghost use Rattle.vt_threads.specs.Phases.{PhaseMade, AddsPart, HasPartsUpTo};
+
+/// A law: where each seat of a board made what a phase has for it, and nobody else made an entry, the board has the
+/// entries of that phase more, in whatever order the seats made them.
+pub fn seats_make_their_phase()
+    ensures { (session : PlainVtSession) (phase : PlainVtPhase) (first : ℕ) (went : List ℕ) (a b : BoardState)
+        → a.consoles ≡ session.calls.ports → PhaseMade (operator_names session.phases) phase first went a b
+        → AddsPart session phase first went a b }
+{}
+
+/// A law: the parts of a session's phases, one behind the other, make its account.
+pub fn parts_make_an_account()
+    ensures none { (session : PlainVtSession) → HasPartsUpTo session 0 0 [] }
+    ensures more { (session : PlainVtSession) (k first : ℕ) (phase : PlainVtPhase) (entries part : List VtEntry)
+        → drop k session.phases ≡ phase ∷ drop (k + 1) session.phases → HasPartsUpTo session k first entries
+        → IsPartOf session phase first part → HasPartsUpTo session (k + 1) (first + length phase.keys) (entries ++ part) }
+    ensures all { (session : PlainVtSession) (first : ℕ) (b : BoardState)
+        → IsBoard b → b.consoles ≡ session.calls.ports → HasPartsUpTo session (length session.phases) first b.entries
+        → IsAccount session b.entries }
+{}
+
+/// A law: on a console's line of a phase come the keys that the phase's entries name for it, whatever entries follow.
+pub fn keys_come_in_their_phase()
+    ensures { (session : PlainVtSession) (p k : ℕ) (phase : PlainVtPhase) (entries part more : List VtEntry) (went : List ℕ)
+        → IsWhole session → p < session.calls.ports → slice_get session.phases k ≡ Some phase → consoles_in part ≡ went
+        → length went ≡ length phase.keys → length (consoles_in entries) ≡ length (all_keys (take k session.phases))
+        → line_on p (phase_at (keyed session (entries ++ (part ++ more))) k) ≡ key_line (keys_to p phase.keys went) }
+{}
