@@ -4,13 +4,13 @@ use Rattle.std.specs.List.Sorted.{IsNonDecreasing}
 use Rattle.tty_base.specs.declared.characters.Flagged.{Flagged}
 use Rattle.tty_base.specs.declared.lines.Full.{Full}
 use Rattle.tty_base.specs.declared.lines.LineStep.{LineStep}
-use Rattle.tty_base.specs.declared.lines.LineStep.TheVariants.{Rx}
+use Rattle.tty_base.specs.declared.lines.LineStep.TheVariants.{Rx, Trigger}
 use Rattle.tty_base.specs.declared.lines.Overrun.{Overrun}
 use Rattle.tty_base.specs.Lines.{arrival_count}
 use Rattle.word_ring.specs.Ends.{PutterState}
 use Rattle.uart_line.specs.LineState.{LineState, HasDone}
 use Rattle.uart_line.specs.Offered.{HandsOver}
-use Rattle.uart_line.specs.Received.{is_masked, trigger_of, received_list, waiting_list}
+use Rattle.uart_line.specs.Received.{is_masked, trigger_of, received_list, waiting_list, closed_script}
 use Rattle.uart_line.specs.GoodSteps.{good_steps}
 use Rattle.vt_consoles.specs.Keys.{key_character, GoesTo}
 use Rattle.vt_consoles.specs.declared.entries.VtEvent.TheVariants.{Key}
@@ -123,3 +123,39 @@ pub record PressesKeys (n first : ℕ) (keys : List ℕ) (old new : BoardSeat) (
 abbrev pub PressesFirst : (n first : ℕ) → List ℕ → (old new : BoardSeat) → (lines noted : List LineState) → (ends now : List (PutterState Flagged)) → Type 0
 PressesFirst n first keys old new lines noted ends now =
     (count : ℕ) × (count ≤ length keys) × PressesKeys n first (take count keys) old new lines noted ends now
+
+-- ---- all consoles, one after the other
+
+-- the lines and putters below this place have changed so, and those from it on are as they were
+pub record ChangesUpTo (P : LineState → LineState → PutterState Flagged → PutterState Flagged → Type 0) (i : ℕ) (lines noted : List LineState) (ends now : List (PutterState Flagged)) : Type 0 where
+  pub lines_of : length noted ≡ length lines
+  pub ends_of : length now ≡ length ends
+  pub done : (p : ℕ) (l m : LineState) (e f : PutterState Flagged) → p < i → slice_get lines p ≡ Some l → slice_get noted p ≡ Some m → slice_get ends p ≡ Some e → slice_get now p ≡ Some f → P l m e f
+  pub lines_left : (p : ℕ) → i ≤ p → slice_get noted p ≡ slice_get lines p
+  pub ends_left : (p : ℕ) → i ≤ p → slice_get now p ≡ slice_get ends p
+
+-- each line and putter has changed so
+pub record ChangesAll (P : LineState → LineState → PutterState Flagged → PutterState Flagged → Type 0) (lines noted : List LineState) (ends now : List (PutterState Flagged)) : Type 0 where
+  pub lines_of : length noted ≡ length lines
+  pub ends_of : length now ≡ length ends
+  pub each : (p : ℕ) (l m : LineState) (e f : PutterState Flagged) → slice_get lines p ≡ Some l → slice_get noted p ≡ Some m → slice_get ends p ≡ Some e → slice_get now p ≡ Some f → P l m e f
+
+-- one of them has changed so, and the others are as they were
+pub record ChangesAt (P : LineState → LineState → PutterState Flagged → PutterState Flagged → Type 0) (i : ℕ) (lines noted : List LineState) (ends now : List (PutterState Flagged)) : Type 0 where
+  pub line : LineState
+  pub line_now : LineState
+  pub end : PutterState Flagged
+  pub end_now : PutterState Flagged
+  pub line_was : line ≡ slice_index_or lines i line
+  pub line_is : noted ≡ slice_set lines i line_now
+  pub end_was : end ≡ slice_index_or ends i end
+  pub end_is : now ≡ slice_set ends i end_now
+  pub changes : P line line_now end end_now
+
+-- what the beginning of a phase's keys does to a line, and their end
+pub record BeginsKeys (l m : LineState) (e f : PutterState Flagged) : Type 0 where
+  pub can : (n : ℕ) → l.report.arrived + n ≤ l.most → CanTakeKeys n m f
+  pub does : DoesSteps (Trigger 1 ∷ []) l m e f
+
+abbrev pub EndsKeys : LineState → LineState → PutterState Flagged → PutterState Flagged → Type 0
+EndsKeys l m e f = DoesSteps (closed_script []) l m e f

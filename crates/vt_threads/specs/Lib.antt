@@ -1,3 +1,4 @@
 pub mod Operating
 pub mod Phases
+pub mod Closing
 pub mod Keying

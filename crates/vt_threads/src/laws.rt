@@ -1,6 +1,12 @@
 //! What follows from the definitions alone.
 
 ghost use Rattle.std.specs.Prelude.{◌≡◌, ◌+◌, ◌<◌, ℕ, List, [], ◌∷◌, ◌++◌, Some, drop, length, slice_get, take};
+ghost use Rattle.tty_base.specs.declared.characters.Flagged.{Flagged};
+ghost use Rattle.tty_base.specs.declared.lines.LineStep.TheVariants.{Trigger};
+ghost use Rattle.uart_line.specs.GoodSteps.{good_steps};
+ghost use Rattle.uart_line.specs.LineState.{LineState};
+ghost use Rattle.uart_line.specs.Received.{closed_script};
+ghost use Rattle.word_ring.specs.Ends.{PutterState};
 ghost use Rattle.tty_calls.specs.Sessions.{line_on};
 ghost use Rattle.journal_check.specs.Legal.{phase_at};
 ghost use Rattle.vt_consoles.specs.declared.entries.VtEntry.{VtEntry};
@@ -9,6 +15,7 @@ ghost use Rattle.vt_text.specs.Sessions.{PlainVtPhase, PlainVtSession};
 ghost use Rattle.vt_account.specs.Seats.{operator_names};
 ghost use Rattle.vt_account.specs.Account.{IsAccount, IsPartOf};
 ghost use Rattle.vt_account.specs.Keyed.{IsWhole, all_keys, consoles_in, key_line, keyed, keys_to};
+ghost use Rattle.vt_threads.specs.Keying.{DoesSteps};
 ghost use Rattle.vt_threads.specs.Phases.{PhaseMade, AddsPart, HasPartsUpTo};
 
 /// A law: where each seat of a board made what a phase has for it, and nobody else made an entry, the board has the
@@ -36,4 +43,11 @@ pub fn keys_come_in_their_phase()
         → IsWhole session → p < session.calls.ports → slice_get session.phases k ≡ Some phase → consoles_in part ≡ went
         → length went ≡ length phase.keys → length (consoles_in entries) ≡ length (all_keys (take k session.phases))
         → line_on p (phase_at (keyed session (entries ++ (part ++ more))) k) ≡ key_line (keys_to p phase.keys went) }
+{}
+
+/// A law: a line that began its keys, took them and ended them did the line of these keys, closed as any line is.
+pub fn keys_are_a_line()
+    ensures { (keys : List ℕ) (l m k j : LineState) (e f g h : PutterState Flagged)
+        → DoesSteps (Trigger 1 ∷ []) l m e f → DoesSteps (good_steps keys) m k f g → DoesSteps (closed_script []) k j g h
+        → DoesSteps (closed_script (key_line keys)) l j e h }
 {}

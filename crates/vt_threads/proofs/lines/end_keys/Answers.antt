@@ -3,14 +3,12 @@ use Rattle.vt_threads.proofs.lines.end_keys.Goals as goal
 
 pub returns : goal.returns
 returns c = record {
-  does = record {
-    done = c.run.ensures.done;
-    hands_over = c.run.ensures.hands_over;
-    ring = c.names_tell_rings.ensures _ _ c.run.ensures.name;
-    capacity = c.run.ensures.capacity;
-    most = c.run.ensures.room;
-    arrived = omega (arith, c.run.ensures.arrived);
-    room = c.run.ensures.put;
-    rise = c.run.ensures.rise;
-  };
+  done = c.run.ensures.done;
+  hands_over = c.run.ensures.hands_over;
+  ring = c.names_tell_rings.ensures _ _ c.run.ensures.name;
+  capacity = c.run.ensures.capacity;
+  most = c.run.ensures.room;
+  arrived = omega (arith, c.run.ensures.arrived);
+  room = c.run.ensures.put;
+  rise = c.run.ensures.rise;
 }
