@@ -1,8 +1,8 @@
 -- What is told of a source or a sink, over a further piece.
-use Rattle.std.proofs.Common.{◌≡◌, ℕ, List, [], Option, Some, None, ◌++◌, ◌+◌, ◌≤◌, take, drop, length, IfSome, sym, ◌∙◌, ap, arith, append_assoc, length-append, length-drop, length-take, append-nil, subst}
-use Rattle.std.proofs.Math.Seq.{take-add}
+use Rattle.std.proofs.Common.{◌≡◌, ◌↔◌, Result, Ok, Err, ℕ, List, [], Option, Some, None, ◌++◌, ◌+◌, ◌≤◌, take, drop, length, IfSome, sym, ◌∙◌, ap, arith, append_assoc, length-append, length-drop, length-take, append-nil, subst}
+use Rattle.std.proofs.Math.Seq.{take-add, drop-length}
 use Rattle.std.proofs.lemmas.List.{drop-drop, length-take-le, take-append-le, take-append-drop}
-use Rattle.tty_base.specs.Outside.{Gives}
+use Rattle.tty_base.specs.Outside.{Gives, LeavesRest, TookCount}
 
 -- a sink that was given a front of the bytes and then some of the others
 pub written_more : (first before after : Option (List ℕ)) (bytes piece : List ℕ) (at k : ℕ) → piece ≡ drop at bytes → IfSome first (λ b. before ≡ Some (b ++ take at bytes)) → IfSome before (λ b. after ≡ Some (b ++ take k piece)) → IfSome first (λ b. after ≡ Some (b ++ take (at + k) bytes))
@@ -50,3 +50,20 @@ read_whole (Some bytes) before after text buffer k none h end gives =
     let left : Gives k (drop n bytes) buffer after = subst (λ (o : Option (List ℕ)). IfSome o (λ rest. Gives k rest buffer after)) h.rest gives in
     let all : take n bytes ++ [] ≡ bytes = ap (λ xs. take n bytes ++ xs) (sym over) ∙ take-append-drop n bytes in
     (h.front ∙ sym (append-nil (take n bytes)) ∙ all, left.2 ∙ ap Some (ap (λ m. drop m (drop n bytes)) none ∙ over))
+
+-- what was read whole leaves the end of it, and is no text that is too long
+pub rest_of_all : (first after : Option (List ℕ)) (text : List ℕ) → IfSome first (λ bytes. (text ≡ bytes) × (after ≡ Some [])) → IfSome first (λ bytes. LeavesRest bytes after)
+rest_of_all None after text all = tt
+rest_of_all (Some bytes) after text all = (length bytes, omega arith, all.1 ∙ ap Some (sym (drop-length bytes)))
+
+pub no_more_than : {P : Type 0} (first after : Option (List ℕ)) (text : List ℕ) (limit : ℕ) → (P → ⊥) → length text ≤ limit → IfSome first (λ bytes. (text ≡ bytes) × (after ≡ Some [])) → IfSome first (λ bytes. P ↔ TookCount (limit + 1) bytes after)
+no_more_than None after text limit never short all = tt
+no_more_than (Some bytes) after text limit never short all = (
+  λ p. absurd (never p),
+  λ took.
+      let left : length bytes ≡ 0 + (limit + 1) = subst (λ (o : Option (List ℕ)). TookCount (limit + 1) bytes o) all.1 took in
+      absurd (omega (arith, left, short, ap (λ (xs : List ℕ). length xs) all.0)),
+)
+
+pub Ok≢Err : {A E : Type 0} (a : A) (e : E) → Ok a ≡ Err e → ⊥
+Ok≢Err a e is = absurd (cc)

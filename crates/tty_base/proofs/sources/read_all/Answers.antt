@@ -1,5 +1,6 @@
 use Rattle.std.proofs.Common.{rules, arith, ◌≡◌, ◌≤◌, ◌++◌, length, take, drop, ap, ◌∙◌, sym, subst, ℕ, List, IfSome}
-use Rattle.tty_base.proofs.Told.{IsReadOf, read_front, read_whole, length_more}
+use Rattle.tty_base.specs.declared.sources.TakeFault.TheVariants.{TooLong}
+use Rattle.tty_base.proofs.Told.{IsReadOf, read_front, read_whole, length_more, rest_of_all, no_more_than, Ok≢Err}
 use Rattle.tty_base.proofs.sources.read_all.Goals as goal
 
 pub loop-most-preserved : goal.loop-most-preserved
@@ -21,3 +22,11 @@ returns-then-count-eq0-clause-whole g c =
     let none : c.in_ok-count.count ≡ 0 = search rules in
     let read = subst (λ (xs : List ℕ). IfSome (left c.args.source.now) (λ bytes. IsReadOf xs bytes (left c.loop-most.source))) (sym c.in_ok-reserve.ensures.items) c.loop-most.invariant.read in
     read_whole (left c.args.source.now) (left c.loop-most.source) (left c.read.new.self) c.reserve.new.self.items c.read.new.buf c.in_ok-count.count none read (c.in_ok-count.ensures.end none (search rules)) c.in_ok-count.ensures.gives
+
+pub returns-then-count-eq0-clause-too_long : goal.returns-then-count-eq0-clause-too_long
+returns-then-count-eq0-clause-too_long g c =
+    let fits : length c.reserve.new.self.items ≤ c.args.limit = omega (arith, ap (λ (xs : List ℕ). length xs) c.in_ok-reserve.ensures.items, c.loop-most.invariant.short) in
+    no_more_than (g.S.Source.left c.args.source.now) (g.S.Source.left c.read.new.self) c.reserve.new.self.items c.args.limit (Ok≢Err c.reserve.new.self TooLong) fits (returns-then-count-eq0-clause-whole g c)
+
+pub returns-then-count-eq0-clause-rest : goal.returns-then-count-eq0-clause-rest
+returns-then-count-eq0-clause-rest g c = rest_of_all (g.S.Source.left c.args.source.now) (g.S.Source.left c.read.new.self) c.reserve.new.self.items (returns-then-count-eq0-clause-whole g c)
