@@ -9,7 +9,7 @@ use session_text::Reason;
 use text_lines::FirstTwo;
 
 /// A call of job control (ioctl_tty(2), termios(3), exit(2)).
-#[derive(Clone, Copy, PartialEq, Eq)]
+#[derive(Clone, Copy)]
 pub enum OwnCall {
     /// Makes the port the controlling terminal (TIOCSCTTY).
     Sctty { h: u8 },

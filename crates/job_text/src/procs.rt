@@ -155,7 +155,7 @@ fn found(place: Option<usize>) -> Result<Option<u16>, Reason>
 }
 
 /// What a process's line says behind its parent.
-#[derive(Clone, Copy, PartialEq, Eq)]
+#[derive(Clone, Copy)]
 pub(crate) struct Flags {
     leader: bool,
     nottin: bool,

@@ -27,14 +27,14 @@ use tty_base::{Buffer, NoMemory};
 const PROCS: usize = 1_024;
 
 /// A process, by its port and its place among those of the port.
-#[derive(Clone, Copy, PartialEq, Eq)]
+#[derive(Clone, Copy)]
 pub(crate) struct Process {
     port: u64,
     place: usize,
 }
 
 /// Which block is open.
-#[derive(Clone, Copy, PartialEq, Eq)]
+#[derive(Clone, Copy)]
 pub(crate) enum Block {
     /// That of a process.
     Caller(Process),

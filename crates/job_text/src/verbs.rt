@@ -6,7 +6,7 @@ ghost use Rattle.job_text.specs.Verbs.{verb_of};
 use tty_modes::is_same;
 
 /// The first word of a line that only a session of processes has.
-#[derive(Clone, Copy, PartialEq, Eq)]
+#[derive(Clone, Copy)]
 pub(crate) enum JobVerb {
     /// Says that a process is there.
     Proc,
