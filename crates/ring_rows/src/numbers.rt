@@ -226,7 +226,7 @@ fn passes_eight(putter: &mut Putter, taker: &mut Taker, first: u8) -> bool
         first + 6,
         first + 7,
     ];
-    taker.pass(putter, bytes);
+    taker.pass(putter, &bytes);
     true
 }
 

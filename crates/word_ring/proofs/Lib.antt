@@ -9,3 +9,4 @@ pub mod Released
 pub mod Seats
 pub mod Standing
 pub mod Taking
+pub mod Weightless

@@ -28,6 +28,29 @@ place_next n group lt =
     let is : (group + 1) % m ≡ group % m + 1 = ap (λ (k : ℕ). k % m) (sym on) ∙ (turn ∙ last) in
     omega arith
 
+-- a group so much further stands so much further, or round
+pub place_on : (n group d : ℕ) → place n group + d < n / 4 + 4 → place n (group + d) ≡ place n group + d
+place_on n group d lt =
+    let m = n / 4 + 2 in
+    let parts = div-add-mod' group m in
+    let on : group % m + d + group / m * m ≡ group + d = omega arith in
+    let turn = add-mul-mod_self_right (group % m + d) (group / m) m in
+    let last : (group % m + d) % m ≡ group % m + d = mod-eq_of_lt (omega arith) in
+    let is : (group + d) % m ≡ group % m + d = ap (λ (k : ℕ). k % m) (sym on) ∙ (turn ∙ last) in
+    omega arith
+
+pub place_on_round : (n group d : ℕ) → d ≤ n / 4 + 2 → n / 4 + 4 ≤ place n group + d → place n (group + d) ≡ place n group + d - (n / 4 + 2)
+place_on_round n group d few ge =
+    let m = n / 4 + 2 in
+    let r = group % m + d - m in
+    let parts = div-add-mod' group m in
+    let below = place_below n group in
+    let on : r + (group / m + 1) * m ≡ group + d = omega (arith, add-mul (group / m) 1 m) in
+    let turn = add-mul-mod_self_right r (group / m + 1) m in
+    let last : r % m ≡ r = mod-eq_of_lt (omega arith) in
+    let is : (group + d) % m ≡ r = ap (λ (k : ℕ). k % m) (sym on) ∙ (turn ∙ last) in
+    omega arith
+
 pub place_round : (n group : ℕ) → n / 4 + 3 ≤ place n group → place n (group + 1) ≡ 2
 place_round n group ge =
     let m = n / 4 + 2 in

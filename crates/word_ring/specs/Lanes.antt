@@ -1,5 +1,5 @@
 -- Four numbers of 16 bits in one word of 64.
-use Rattle.std.specs.Prelude.{ℕ, zero, suc, ◌-◌, ◌*◌, ◌/◌, ◌%◌, ◌^◌, List, [], ◌∷◌, ◌++◌, length, take}
+use Rattle.std.specs.Prelude.{◌≡◌, ℕ, zero, suc, ◌-◌, ◌*◌, ◌/◌, ◌%◌, ◌^◌, List, [], ◌∷◌, ◌++◌, length, take, drop}
 
 -- the number in a lane of a word
 unfoldable pub lane : ℕ → ℕ → ℕ
@@ -17,3 +17,7 @@ top_lanes word k = lanes (word / 65536 ^ (4 - k)) k
 -- the part of a list that fills whole words
 abbrev pub whole_words : List ℕ → List ℕ
 whole_words xs = take (length xs / 4 * 4) xs
+
+-- the word has in its last lanes the part of a list after its whole words
+abbrev pub HasLast : (word : ℕ) (xs : List ℕ) → Type 0
+HasLast word xs = top_lanes word (length xs % 4) ≡ drop (length xs / 4 * 4) xs

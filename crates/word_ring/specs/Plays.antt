@@ -59,10 +59,10 @@ with_taken_past v = record v {
 abbrev pub with_passed : View → List ℕ → View
 with_passed v xs = with_taken_past (with_put_past v xs)
 
--- what the slot that was taken last has
-abbrev pub held : List (ℕ × Slot) → Slot
+-- the numbers in the slot that was taken last
+abbrev pub held : List (ℕ × Slot) → List ℕ
 held [] = []
-held (x ∷ xs) = x.1
+held (x ∷ xs) = x.1.items
 
 abbrev pub TakesSlot : Step Slot → Mine → ℕ → Mine → Type 0
 TakesSlot s m n m' = (m'.0 ≡ record m.0 { holds = true }) × ((xs : Slot) × (m'.1 ≡ (0, xs) ∷ m.1))

@@ -5,6 +5,7 @@ use mathlib.Core.List.{IsPrefix}
 use mathlib.Core.Option.{some}
 use lib.ListN.{get_elem?}
 use Rattle.atomic_table.specs.Table.{State}
+use Rattle.word_ring.specs.declared.past.Past.{Past}
 use Rattle.word_ring.specs.declared.table.View.{View}
 use Rattle.word_ring.specs.Ends.{AreReleased, IsReleased}
 use Rattle.word_ring.specs.Lanes.{lane}
@@ -62,7 +63,7 @@ Stands n words head written = (i : ℕ) → head ≤ i → i < length written �
 
 -- what a table's slot has
 abbrev pub Slot : Type 0
-Slot = List ℕ
+Slot = Past
 
 pub record Ring (n : ℕ) (s : State Slot View) : Type 0 where
   pub story : Story

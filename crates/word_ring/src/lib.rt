@@ -3,14 +3,15 @@
 //!
 //! Four numbers share a word of 64 bits. The putter stores a word once for each four numbers and
 //! at a push, and the tail at a push; the taker loads a word once for each four numbers that it
-//! peeks, and stores the head once for all of them. Where both ends are at hand and nothing waits, eight
-//! numbers are passed from the one to the other, and the tail and the head are stored once for them.
+//! peeks, and stores the head once for all of them. Where both ends are at hand and nothing waits, a run of
+//! numbers is passed from the one to the other, and the tail and the head are stored once for them.
 #![tactic(auto)]
 
 mod fours;
 mod lanes;
 mod new;
 mod passing;
+mod past;
 mod putter;
 mod steps;
 mod table;

@@ -2,15 +2,13 @@
 ghost use Rattle.std.specs.Prelude.{◌≡◌, ◌<◌, ◌≤◌, false, [], IfOk};
 ghost use Rattle.word_ring.specs.Names.{NamesTellRings};
 
+use crate::past::Past;
 use crate::putter::Putter;
-use crate::table::{Apart, Board, HEAD, Slot, TakeSlot};
+use crate::table::{Apart, Board, HEAD, TakeSlot};
 use crate::taker::Taker;
 use std::alloc::Global;
 use std::sync::Arc;
 use tty_base::NoMemory;
-
-/// What stands in the slot at first.
-const NO_NUMBERS: Slot = [0; 8];
 
 /// The two ends of a new ring, which has room for `n` numbers.
 pub fn ring(alloc: Global, n: usize) -> Result<(Putter, Taker), NoMemory>
@@ -21,7 +19,7 @@ pub fn ring(alloc: Global, n: usize) -> Result<(Putter, Taker), NoMemory>
     let capacity = n as u64;
     let words = vec![in alloc; 0u64; n / 4 + 4]?;
     let mut slots = Vec::new(alloc);
-    slots.push(NO_NUMBERS)?;
+    slots.push(Past::none())?;
     let Ok((table, mut seat)) = Board::new(alloc, words.as_slice(), slots, &capacity) else {
         return Err(NoMemory);
     };

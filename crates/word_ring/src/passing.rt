@@ -1,13 +1,13 @@
 //! What goes from the one end straight to the other, where both are at hand and nothing waits: the head
 //! and the tail are stored, and no number is stored in a word.
-ghost use Rattle.std.specs.Prelude.{◌≡◌, ◌+◌, ◌≤◌, ◌<◌, ◌/◌, ◌^◌, ◌↔◌, length, drop, IsTrue};
+ghost use Rattle.std.specs.Prelude.{◌≡◌, ℕ, ◌+◌, ◌≤◌, ◌^◌, ◌↔◌, List, ◌++◌, length, IsTrue};
 ghost use Rattle.word_ring.specs.Ends.{NothingWaits, Passes};
-ghost use Rattle.word_ring.specs.Lanes.{lanes};
-ghost use Rattle.word_ring.specs.Rule.{place};
+ghost use Rattle.word_ring.specs.Lanes.{HasLast, lanes};
 
-use crate::lanes::word_of;
+use crate::lanes::{with_next, word_of};
+use crate::past::{Past, Run};
 use crate::putter::Putter;
-use crate::steps::place_of_next;
+use crate::steps::place_further;
 use crate::table::{Apart, Ended, HEAD, Left, PutPast, TAIL, TakePast};
 use crate::taker::Taker;
 
@@ -26,23 +26,23 @@ impl Taker {
     /// Takes these bytes as numbers from the putter, where nothing waits: as if each was put, all of them
     /// pushed and taken, and the head loaded. The tail and the head are stored once.
     #[inline(always)]
-    pub fn pass(&mut self, putter: &mut Putter, bytes: [u8; 8])
+    pub fn pass(&mut self, putter: &mut Putter, bytes: &[u8])
         requires ring { putter.old.ring ≡ self.old.ring }
         requires clear { NothingWaits putter.old self.old }
-        requires room { 8 ≤ self.old.capacity }
-        requires small { length putter.old.sent + 8 ≤ 2 ^ 63 }
-        ensures { Passes putter.old putter.new self.old self.new bytes }
+        requires room { length bytes.now ≤ self.old.capacity }
+        requires small { length putter.old.sent + length bytes.now ≤ 2 ^ 63 }
+        ensures { Passes putter.old putter.new self.old self.new bytes.now }
     {
-        let sent = putter.sent + 8;
+        let sent = putter.sent + bytes.len() as u64;
         let shared = &self.board.shared;
         let seat = shared.split_seat::<Left>(&mut putter.seat);
         shared.join_seat::<Ended>(&mut self.seat, seat);
-        shared.exchange(&mut self.seat, 0, bytes);
+        shared.exchange(&mut self.seat, 0, Past::of(&Run { bytes }));
         shared.store::<PutPast>(&mut self.seat, TAIL, sent);
         shared.store::<TakePast>(&mut self.seat, HEAD, sent);
         putter.seat = shared.split_seat::<Apart>(&mut self.seat);
-        putter.word = last_four(bytes);
-        putter.at = two_words_on(putter.capacity, putter.sent, putter.at);
+        putter.at = place_further(putter.capacity, putter.sent, sent, putter.at);
+        putter.word = word_after(putter.word, putter.sent, bytes);
         putter.sent = sent;
         putter.shown = sent;
         putter.head = sent;
@@ -53,22 +53,39 @@ impl Taker {
     }
 }
 
-/// A word with the last four of these numbers.
+/// The word that has in its last lanes the numbers since the last full word, where these come after so many
+/// of which it has those in another.
 #[inline(always)]
-fn last_four(bytes: [u8; 8]) -> u64
-    ensures { lanes result 4 ≡ drop 4 bytes }
+fn word_after(word: u64, sent: u64, bytes: &[u8]) -> u64
+    requires small { sent + length bytes.now ≤ 2 ^ 63 }
+    ensures { (front : List ℕ) → length front ≡ sent → HasLast word front → HasLast result (front ++ bytes.now) }
 {
-    let [_, _, _, _, a, b, c, d] = bytes;
+    match bytes.last_chunk::<4>() {
+        Some(last) => word_of_bytes(*last),
+        None => word_after_few(word, sent, bytes),
+    }
+}
+
+/// The word with these numbers, the first in its first lane.
+#[inline(always)]
+fn word_of_bytes(bytes: [u8; 4]) -> u64
+    ensures { lanes result 4 ≡ bytes }
+{
+    let [a, b, c, d] = bytes;
     word_of([u16::from(a), u16::from(b), u16::from(c), u16::from(d)])
 }
 
-/// The place of the word that has number `sent + 8`, where `at` is that of the word that has number `sent`.
-#[inline(always)]
-fn two_words_on(capacity: u64, sent: u64, at: usize) -> usize
-    requires { (capacity ≤ 65536) × (sent < 2 ^ 63) × (at ≡ place capacity (sent / 4)) }
-    ensures { result ≡ place capacity ((sent + 8) / 4) }
+/// That word, where they are few.
+#[inline(never)]
+fn word_after_few(word: u64, sent: u64, bytes: &[u8]) -> u64
+    requires small { sent + length bytes.now ≤ 2 ^ 63 }
+    ensures { (front : List ℕ) → length front ≡ sent → HasLast word front → HasLast result (front ++ bytes.now) }
 {
-    let next = sent / 4 * 4 + 4;
-    let at = place_of_next(capacity, next, at);
-    place_of_next(capacity, next + 4, at)
+    let count = (sent + bytes.len() as u64) % 4;
+    let first = bytes.len().saturating_sub(count as usize);
+    let mut word = word;
+    for at in first..bytes.len() {
+        word = with_next(word, u16::from(bytes[at]));
+    }
+    word
 }

@@ -22,6 +22,23 @@ pub(crate) fn place_of_next(capacity: u64, next: u64, at: usize) -> usize
     }
 }
 
+/// The place of the word that has number `next`, where the one at `at` has number `sent`, at most the capacity before.
+#[inline(always)]
+pub(crate) fn place_further(capacity: u64, sent: u64, next: u64, at: usize) -> usize
+    requires small { capacity ≤ 65536 }
+    requires order { (sent ≤ next) × (next ≤ sent + capacity) }
+    requires at { at ≡ place capacity (sent / 4) }
+    ensures { result ≡ place capacity (next / 4) }
+{
+    let words = (capacity / 4 + 2) as usize;
+    let further = at + (next / 4 - sent / 4) as usize;
+    if further < words + 2 {
+        further
+    } else {
+        further - words
+    }
+}
+
 /// The place of the word that has number `next`, where the number before it is in the word at `at`.
 pub(crate) fn place_after(capacity: u64, next: u64, at: usize) -> usize
     requires { (capacity ≤ 65536) × (0 < next) × (at ≡ place capacity ((next - 1) / 4)) }

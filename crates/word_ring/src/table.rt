@@ -4,6 +4,7 @@
 //! at hand stands in no word: its numbers go through the one slot, which the taker holds.
 ghost use Rattle.word_ring.specs.Plays.{TakesSlot, LoadsHead, StoresLanes, StoresTail, LoadsTail, LoadsLanes, StoresHead, Compares, PutsPast, TakesPast, blank_view, putter_of, taker_of, note_of, head_note_of, with_note, with_head_note, with_putter};
 
+use crate::past::Past;
 use atomic_table::{Join, Play, Seat, Shared, Split, Table, TableRule};
 use std::alloc::Global;
 
@@ -62,8 +63,7 @@ impl TableRule<Slot, View, u64> for Fifo {
     ghost first = { both_ends };
 }
 
-/// Eight numbers below 256.
-pub(crate) type Slot = [u8; 8];
+pub(crate) type Slot = Past;
 
 pub(crate) type Board = Table<Slot, View, u64, Fifo, Global>;
 
