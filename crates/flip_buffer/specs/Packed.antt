@@ -1,5 +1,5 @@
 -- A character in a number of 16 bits: the byte below, the flag above.
-use Rattle.std.specs.Prelude.{ℕ, zero, suc, ◌%◌, ◌/◌, List, map}
+use Rattle.std.specs.Prelude.{◌≡◌, ℕ, zero, suc, ◌+◌, ◌%◌, ◌/◌, ◌<◌, ◌≤◌, List, map}
 use Rattle.tty_base.specs.declared.characters.Flag.{Flag}
 use Rattle.tty_base.specs.declared.characters.Flag.TheVariants.{Normal, Break, Parity, Frame, Overrun}
 use Rattle.tty_base.specs.declared.characters.Flagged.{Flagged}
@@ -20,6 +20,11 @@ flag_of_number (suc (suc (suc (suc n)))) = Overrun
 -- the character that a number stands for
 abbrev pub char_of : ℕ → Flagged
 char_of n = record { byte = n % 256; flag = flag_of_number (n / 256) }
+
+-- added to a byte, this is the number of that byte with this flag
+pub record Marks (flag : Flag) (mark : ℕ) : Type 0 where
+  pub few : mark ≤ 1024
+  pub seen : (byte : ℕ) → byte < 256 → char_of (byte + mark) ≡ record { byte = byte; flag = flag }
 
 -- an end of the ring, its numbers seen as characters
 abbrev pub in_state : PutterState ℕ → PutterState Flagged

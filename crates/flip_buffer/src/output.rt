@@ -36,8 +36,10 @@ impl Moves for FlipOut {}
 
 impl FlipOut {
     /// How many characters the buffer has room for.
+    #[inline(always)]
     pub fn capacity(&self) -> usize
-        ensures { result ≡ self.now.capacity }
+        ensures count { result ≡ self.now.capacity }
+        ensures least { 64 ≤ self.now.capacity }
     {
         self.taker.capacity()
     }

@@ -2,7 +2,7 @@
 ghost use Rattle.std.specs.Prelude.{◌≡◌, ◌+◌, ◌-◌, ◌/◌, ◌%◌, ◌<◌, ◌≤◌, ◌++◌, map, length, IsTrue};
 ghost use Rattle.arrayvec.specs.ArrayVec.{array_vec_len};
 ghost use Rattle.word_ring.specs.Lanes.{lanes};
-ghost use Rattle.flip_buffer.specs.Packed.{char_of, flag_of_number};
+ghost use Rattle.flip_buffer.specs.Packed.{char_of, flag_of_number, Marks};
 
 use arrayvec::ArrayVec;
 use tty_base::{Chars, Flag, Flagged};
@@ -32,6 +32,14 @@ fn numbered_flag(number: u16) -> Flag
         3 => Flag::Frame,
         _ => Flag::Overrun,
     }
+}
+
+/// What is added to a byte that has this flag.
+#[inline(always)]
+pub(crate) fn mark_of(flag: Flag) -> u16
+    ensures { Marks flag result }
+{
+    256 * flag_number(flag)
 }
 
 /// The number that stands for a character.

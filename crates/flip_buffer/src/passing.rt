@@ -18,13 +18,13 @@ impl FlipOut {
     /// Takes the good characters of these bytes from the other end, where nothing waits: as if each was
     /// put, all of them pushed and taken, and the head loaded.
     #[inline(always)]
-    pub fn pass(&mut self, input: &mut FlipIn, bytes: &[u8; 8])
+    pub fn pass(&mut self, input: &mut FlipIn, bytes: &[u8])
         requires ring { input.old.ring ≡ self.old.ring }
         requires clear { NothingWaits input.old self.old }
-        requires small { length input.old.sent + 8 ≤ 2 ^ 63 }
-        ensures passes { Passes input.old input.new self.old self.new (good_characters bytes.now) }
-        ensures room { 64 ≤ self.old.capacity }
+        requires room { length bytes.now ≤ self.old.capacity }
+        requires small { length input.old.sent + length bytes.now ≤ 2 ^ 63 }
+        ensures { Passes input.old input.new self.old self.new (good_characters bytes.now) }
     {
-        self.taker.pass(&mut input.putter, *bytes);
+        self.taker.pass(&mut input.putter, bytes);
     }
 }

@@ -1,11 +1,11 @@
 //! Bytes that have one flag are put four at a time, and what is left one by one: each four leave what four times
 //! `put_known` would.
-ghost use Rattle.std.specs.Prelude.{◌≡◌, ◌+◌, ◌<◌, ◌≤◌, ◌^◌, [], ◌∷◌, ◌++◌, length, take};
-ghost use Rattle.flip_buffer.specs.Packed.{with_flag};
+ghost use Rattle.std.specs.Prelude.{◌≡◌, ◌+◌, ◌<◌, ◌≤◌, ◌^◌, [], ◌∷◌, ◌++◌, map, length, take};
+ghost use Rattle.flip_buffer.specs.Packed.{char_of, with_flag, Marks};
 
 use crate::input::FlipIn;
-use crate::packed::number_of;
-use tty_base::{Flag, Flagged};
+use crate::packed::mark_of;
+use tty_base::Flag;
 
 impl FlipIn {
     /// Puts bytes, each with this flag, for which there is room by the latest head that was loaded.
@@ -14,50 +14,59 @@ impl FlipIn {
         requires room { length self.old.sent + length bytes.now ≤ self.old.floor + self.old.capacity }
         ensures { self.new ≡ record self.old { sent = self.old.sent ++ with_flag flag bytes.now } }
     {
+        let mark = mark_of(flag);
         let whole = bytes.len() / 4;
         for k in 0..whole {
-            self.put_four(four_at(bytes, 4 * k, flag));
+            self.put_four(four_at(bytes, 4 * k, flag, mark));
         }
         for at in 4 * whole..bytes.len() {
-            self.put_known(one_at(bytes, at, flag));
+            self.put_one(one_at(bytes, at, flag, mark));
         }
     }
 
-    // Puts four characters for which there is room by the latest head that was loaded.
+    // Puts the characters that four numbers stand for, for which there is room by the latest head that was loaded.
     #[inline(always)]
-    fn put_four(&mut self, chars: [Flagged; 4])
+    fn put_four(&mut self, numbers: [u16; 4])
         requires small { length self.old.sent + 4 ≤ 2 ^ 63 }
         requires room { length self.old.sent + 4 ≤ self.old.floor + self.old.capacity }
-        ensures { self.new ≡ record self.old { sent = self.old.sent ++ chars } }
+        ensures { self.new ≡ record self.old { sent = self.old.sent ++ map char_of numbers } }
     {
-        let [a, b, c, d] = chars;
-        self.putter
-            .put_four([number_of(a), number_of(b), number_of(c), number_of(d)]);
+        self.putter.put_four(numbers);
+    }
+
+    // Puts the character that a number stands for, for which there is room by the latest head that was loaded.
+    #[inline(always)]
+    fn put_one(&mut self, number: u16)
+        requires small { length self.old.sent < 2 ^ 63 }
+        requires room { length self.old.sent < self.old.floor + self.old.capacity }
+        ensures { self.new ≡ record self.old { sent = self.old.sent ++ char_of number ∷ [] } }
+    {
+        self.putter.put_known(number);
     }
 }
 
-/// The four characters from the place `at` on.
+/// The numbers of the four characters from the place `at` on.
 #[inline(always)]
-fn four_at(bytes: &[u8], at: usize, flag: Flag) -> [Flagged; 4]
-    requires { at + 4 ≤ length bytes.now }
-    ensures { with_flag flag (take (at + 4) bytes.now) ≡ with_flag flag (take at bytes.now) ++ result }
+fn four_at(bytes: &[u8], at: usize, flag: Flag, mark: u16) -> [u16; 4]
+    requires within { at + 4 ≤ length bytes.now }
+    requires marks { Marks flag mark }
+    ensures { with_flag flag (take (at + 4) bytes.now) ≡ with_flag flag (take at bytes.now) ++ map char_of result }
 {
     [
-        one_at(bytes, at, flag),
-        one_at(bytes, at + 1, flag),
-        one_at(bytes, at + 2, flag),
-        one_at(bytes, at + 3, flag),
+        one_at(bytes, at, flag, mark),
+        one_at(bytes, at + 1, flag, mark),
+        one_at(bytes, at + 2, flag, mark),
+        one_at(bytes, at + 3, flag, mark),
     ]
 }
 
-/// The character at the place `at`.
+/// The number of the character at the place `at`.
 #[inline(always)]
-fn one_at(bytes: &[u8], at: usize, flag: Flag) -> Flagged
-    requires { at < length bytes.now }
-    ensures { with_flag flag (take (at + 1) bytes.now) ≡ with_flag flag (take at bytes.now) ++ result ∷ [] }
+fn one_at(bytes: &[u8], at: usize, flag: Flag, mark: u16) -> u16
+    requires within { at < length bytes.now }
+    requires marks { Marks flag mark }
+    ensures { with_flag flag (take (at + 1) bytes.now) ≡ with_flag flag (take at bytes.now) ++ char_of result ∷ [] }
 {
-    Flagged {
-        byte: bytes[at],
-        flag,
-    }
+    let _ = flag;
+    u16::from(bytes[at]) + mark
 }

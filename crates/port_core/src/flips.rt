@@ -164,6 +164,7 @@ pub(crate) fn take_given(flip: &mut FlipOut, putter: &mut FlipIn, bytes: &[u8; 8
     requires within { received ≤ 8 }
     ensures { TakesGiven flip.old flip.new putter.old putter.new (good_characters bytes.now) received }
 {
+    let _room = flip.capacity();
     if received == 8 {
         flip.pass(putter, bytes);
     } else {

@@ -231,6 +231,7 @@ fn passes_eight(input: &mut FlipIn, output: &mut FlipOut, bytes: &[u8; 8]) -> bo
     if input.sent() > 1000 || !output.nothing_waits(input) {
         return false;
     }
+    let _room = output.capacity();
     output.pass(input, bytes);
     true
 }
