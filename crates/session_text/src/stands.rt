@@ -27,7 +27,7 @@ const CALLERS: usize = 16;
 
 /// Which items may come next.
 #[derive(Clone, Copy)]
-pub(crate) enum Place {
+pub enum Place {
     /// Before the first item.
     Start,
     /// After the header.

@@ -8,7 +8,7 @@ use tty_modes::is_same;
 
 /// The first word of a line of a session.
 #[derive(Clone, Copy)]
-pub(crate) enum Verb {
+pub enum Verb {
     Session,
     Ports,
     Flip,
@@ -24,7 +24,7 @@ pub(crate) enum Verb {
 
 /// The first word of a line of a line block.
 #[derive(Clone, Copy)]
-pub(crate) enum LineVerb {
+pub enum LineVerb {
     Rx,
     Rxp,
     Rxf,
@@ -37,7 +37,7 @@ pub(crate) enum LineVerb {
 
 /// The first word of a call.
 #[derive(Clone, Copy)]
-pub(crate) enum CallVerb {
+pub enum CallVerb {
     Open,
     Close,
     Read,
