@@ -68,6 +68,10 @@ changes_at_once t s (hangs_up h) e = live_at_once t (handle_for t s h) _ (given_
 changes_at_once t s (sends_packet h bytes) e = absurd (false≢true e)
 changes_at_once t s (takes_packet h) e = absurd (false≢true e)
 
+-- none of these waits
+pub changes_waits_not : (t : Terminal) (s : CallerState) (call : PlainCall) → MustWait (outcome t s call) → changes call ≡ true → ⊥
+changes_waits_not t s call must e = (changes_at_once t s call e).wait must
+
 found_call : (v : PortValue) (c step : ℕ) (call : PlainCall) → IsPort v → IsReady v c step call → call_in (kept_with (has_begun (caller_at v.terminal c)) v.kept c step call) c (caller_at v.terminal c).next ≡ Some call
 found_call v c step call p ready = subst (λ n. call_in (kept_with (has_begun (caller_at v.terminal c)) v.kept c step call) c n ≡ Some call) ready.next (known_call v c step call p ready)
 
