@@ -1,8 +1,9 @@
 -- Unread input as its bytes and the lengths of its complete pieces.
 use Rattle.std.specs.Prelude.{◌≡◌, ℕ, ◌+◌, ◌-◌, ◌≤◌, ◌==◌, List, [], ◌∷◌, ◌++◌, length, map, take, drop, if◌then◌else◌}
+use Rattle.tty_base.specs.Sizes.{MOST_UNREAD, MOST_ENDS}
 use Rattle.line_store.specs.Unread.{Item, Byte, End}
 
--- a queue's items are 4096 at most, behind 4096 at most that were taken
+-- a queue's items are 4,096 at most, behind 4,096 at most that were taken; it serves the bytes and the ends alike
 pub record IsQueue (len capacity start : ℕ) : Type 0 where
   pub taken : start ≤ 4096
   pub within : start ≤ len
@@ -27,5 +28,5 @@ after_front count (n ∷ lengths) = if count == n then lengths else (n - count) 
 -- a store counts the bytes after the last end
 pub record IsStore (lengths bytes : List ℕ) (unended : ℕ) : Type 0 where
   pub counted : total lengths + unended ≡ length bytes
-  pub few_bytes : length bytes ≤ 4096
-  pub few_pieces : length lengths ≤ 4096
+  pub few_bytes : length bytes ≤ MOST_UNREAD
+  pub few_pieces : length lengths ≤ MOST_ENDS

@@ -1,5 +1,6 @@
 -- Unread input: bytes, and the ends of its pieces.
 use Rattle.std.specs.Prelude.{◌≡◌, ℕ, suc, min, List, [], ◌∷◌, ◌++◌, length, take, drop, if◌then◌else◌, nat_le}
+use Rattle.tty_base.specs.Sizes.{MOST_READ}
 
 -- a byte, or the end of the piece before it
 pub data Item : Type 0 where
@@ -30,7 +31,7 @@ EndsInByte items = (front : List Item) × (b : ℕ) × (items ≡ front ++ Byte 
 
 -- how many bytes a read that asks for n gets at most
 abbrev pub read_size : ℕ → ℕ
-read_size n = min n 4096
+read_size n = min n MOST_READ
 
 -- what a read of at most so many bytes gives of the first piece
 abbrev pub line_of : (most : ℕ) → List Item → List ℕ

@@ -9,7 +9,7 @@ use std::alloc::Global;
 use std::marker::Model;
 use tty_base::{Flagged, NoMemory};
 
-/// How many items a queue holds at most.
+/// How many items a queue holds at most, of bytes and of ends alike.
 const MOST: usize = 4096;
 
 /// How many items have room in its memory: those that it holds, and before them as many that were taken.

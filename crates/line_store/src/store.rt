@@ -2,6 +2,7 @@
 
 ghost use Rattle.std.specs.Prelude.{◌≡◌, ◌+◌, ◌-◌, ◌<◌, ◌≤◌, ◌↔◌, IfOk, [], ◌∷◌, ◌++◌, length, map, take, drop, slice_index};
 ghost use Rattle.std.specs.List.{AllByRecursion};
+ghost use Rattle.tty_base.specs.Sizes.{MOST_UNREAD, MOST_ENDS};
 ghost use Rattle.line_store.specs.Good.{IsGood, bytes_in};
 ghost use Rattle.line_store.specs.Unread.{Byte, End, bytes_of, end_count, first_piece, read_size, line_of, after_line};
 ghost use Rattle.line_store.specs.Pieces.{after_front};
@@ -9,10 +10,8 @@ ghost use Rattle.line_store.specs.Pieces.{after_front};
 use super::queue::Queue;
 use std::alloc::Global;
 use std::marker::Model;
+use tty_base::sizes::MOST_READ;
 use tty_base::{Bytes, Flagged, NoMemory, front_of};
-
-/// How many bytes a read gets at most.
-const MOST: usize = 4096;
 
 /// Unread input: at most 4,096 bytes, in pieces, and at most 4,096 ends of pieces. A piece is ended
 /// by its delimiter, the last byte, or by an EOF mark. Contracts see the list of bytes and ends.
@@ -50,7 +49,7 @@ impl Store {
     /// Stores a byte.
     #[inline(always)]
     pub fn push(&mut self, b: u8)
-        requires { length (bytes_of self.old) < 4096 }
+        requires { length (bytes_of self.old) < MOST_UNREAD }
         ensures { self.new ≡ self.old ++ Byte b ∷ [] }
     {
         self.bytes.push(b);
@@ -59,7 +58,7 @@ impl Store {
 
     /// Stores bytes.
     pub fn append(&mut self, bytes: &[u8])
-        requires { length (bytes_of self.old) + length bytes.now ≤ 4096 }
+        requires { length (bytes_of self.old) + length bytes.now ≤ MOST_UNREAD }
         ensures { self.new ≡ self.old ++ map Byte bytes.now }
     {
         self.bytes.append(bytes);
@@ -69,7 +68,7 @@ impl Store {
     /// Stores the bytes of the good characters at the front. Answers how many.
     #[inline(always)]
     pub fn append_good(&mut self, chars: &[Flagged]) -> usize
-        requires { length (bytes_of self.old) + length chars.now ≤ 4096 }
+        requires { length (bytes_of self.old) + length chars.now ≤ MOST_UNREAD }
         ensures within { result ≤ length chars.now }
         ensures good { AllByRecursion IsGood (take result chars.now) }
         ensures stored { self.new ≡ self.old ++ map Byte (bytes_in (take result chars.now)) }
@@ -81,7 +80,7 @@ impl Store {
 
     /// Ends the last piece: by its last byte, the delimiter, or with an EOF mark.
     pub fn end_line(&mut self)
-        requires { end_count self.old < 4096 }
+        requires { end_count self.old < MOST_ENDS }
         ensures { self.new ≡ self.old ++ End ∷ [] }
     {
         self.lengths.push(self.unended as u16);
@@ -92,7 +91,7 @@ impl Store {
     pub fn line_len(&self, n: u32) -> u32
         ensures { result ≡ length (line_of (read_size n) self.now) }
     {
-        (n as usize).min(MOST).min(self.first_len()) as u32
+        (n as usize).min(MOST_READ).min(self.first_len()) as u32
     }
 
     /// Takes at most `n` bytes of the first piece, and at most 4,096, adds them to `out`, and answers
@@ -107,7 +106,7 @@ impl Store {
         } }
         ensures left { self.new ≡ after_line (read_size n) self.old }
     {
-        let count = (n as usize).min(MOST).min(self.first_len());
+        let count = (n as usize).min(MOST_READ).min(self.first_len());
         move_front(&mut self.bytes, count, out);
         shorten_first(&mut self.lengths, count);
         count as u32
@@ -117,7 +116,7 @@ impl Store {
     pub fn raw_len(&self, n: u32) -> u32
         ensures { result ≡ length (take (read_size n) (bytes_of self.now)) }
     {
-        (n as usize).min(MOST).min(self.bytes.len()) as u32
+        (n as usize).min(MOST_READ).min(self.bytes.len()) as u32
     }
 
     /// Takes at most `n` bytes and at most 4,096 of a store without ends, adds them to `out`, and
@@ -132,7 +131,7 @@ impl Store {
         } }
         ensures left { self.new ≡ drop (read_size n) self.old }
     {
-        let count = (n as usize).min(MOST).min(self.bytes.len());
+        let count = (n as usize).min(MOST_READ).min(self.bytes.len());
         move_front(&mut self.bytes, count, out);
         self.unended -= count;
         count as u32
@@ -158,7 +157,7 @@ impl Store {
     /// How many bytes are unread.
     pub fn len(&self) -> usize
         ensures len { result ≡ length (bytes_of self.now) }
-        ensures most { result ≤ 4096 }
+        ensures most { result ≤ MOST_UNREAD }
     {
         self.bytes.len()
     }
@@ -166,7 +165,7 @@ impl Store {
     /// How many ends stand: how many pieces are complete.
     pub fn lines(&self) -> usize
         ensures lines { result ≡ end_count self.now }
-        ensures most { result ≤ 4096 }
+        ensures most { result ≤ MOST_ENDS }
     {
         self.lengths.len()
     }
