@@ -1,6 +1,7 @@
 -- The edited line.
 use Rattle.std.specs.Prelude.{ℕ, suc, ◌+◌, ◌-◌, min, Bool, true, false, List, [], ◌++◌, length, take, fold, if◌then◌else◌, nat_le, nat_lt}
 use Rattle.std.specs.List.{suffix_len}
+use Rattle.tty_base.specs.Sizes.{MOST_LINE}
 use Rattle.tty_modes.specs.Utf8.{is_continuation}
 use Rattle.n_tty_edit.specs.Bytes.{is_word, is_of}
 use Rattle.n_tty_edit.specs.declared.bytes.Class.TheVariants.{Other}
@@ -28,9 +29,9 @@ word_start line =
     let word_end = length line - suffix_len (is_of Other) line in
     word_end - suffix_len is_word (take word_end line)
 
--- the line after one more change; at most 4095 bytes stand in it
+-- the line after one more change; at most so many bytes stand in it
 abbrev pub after_change : List ℕ → Change → List ℕ
-after_change line (AddBytes bytes) = if nat_le (length line + length bytes) 4095 then line ++ bytes else line
+after_change line (AddBytes bytes) = if nat_le (length line + length bytes) MOST_LINE then line ++ bytes else line
 after_change line (EraseLast utf8) = take (length line - erase_size utf8 line) line
 after_change line EraseWord = take (word_start line) line
 after_change line Clear = []

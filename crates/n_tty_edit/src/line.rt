@@ -2,6 +2,7 @@
 
 ghost use Rattle.std.specs.Prelude.{◌≡◌, ◌+◌, ◌-◌, ◌<◌, ◌≤◌, ◌↔◌, IsTrue, IfOk, List, [], ◌∷◌, ◌++◌, length, take, slice_index, vec_len, vec_capacity};
 ghost use Rattle.std.specs.List.{AllByRecursion};
+ghost use Rattle.tty_base.specs.Sizes.{MOST_LINE};
 ghost use Rattle.n_tty_edit.specs.Typed.{IsTyped, bytes_in};
 ghost use Rattle.tty_modes.specs.Settings.{has_flag};
 ghost use Rattle.n_tty_edit.specs.Line.{Change, AddBytes, EraseLast, EraseWord, Clear, after_change, edited_line, word_start, erase_size};
@@ -12,12 +13,10 @@ use crate::widths::width_at;
 use char_lanes::push_run;
 use std::alloc::Global;
 use std::marker::Model;
+use tty_base::sizes::MOST_LINE;
 use tty_base::{Flagged, NoMemory};
 use tty_modes::Modes;
 use tty_modes::places::IUTF8;
-
-/// How many bytes the line has at most.
-const MOST: usize = 4095;
 
 /// What ERASE removed.
 #[derive(Clone, Copy, Debug, PartialEq, Eq)]
@@ -38,12 +37,13 @@ pub struct Edit {
 
 impl Model for Edit {
     ghost use Rattle.std.specs.Prelude.{◌≤◌, List, ℕ, vec_len, vec_capacity};
+    ghost use Rattle.tty_base.specs.Sizes.{MOST_LINE};
 
     ghost Value = { List ℕ };
 
     ghost view = { λ e. e.bytes.items };
 
-    ghost invariant = { λ e. (vec_len e.bytes ≤ 4095) × (4095 ≤ vec_capacity e.bytes) };
+    ghost invariant = { λ e. (vec_len e.bytes ≤ MOST_LINE) × (MOST_LINE ≤ vec_capacity e.bytes) };
 }
 
 impl Edit {
@@ -51,17 +51,17 @@ impl Edit {
     pub fn new(alloc: Global) -> Result<Edit, NoMemory>
         ensures { IfOk result (λ line. line ≡ []) }
     {
-        let bytes = Vec::with_capacity(alloc, MOST)?;
+        let bytes = Vec::with_capacity(alloc, MOST_LINE)?;
         Ok(Edit { bytes })
     }
 
     /// Adds a byte. A line of 4,095 bytes stays as it is.
     #[inline(always)]
     pub fn add(&mut self, b: u8) -> bool
-        ensures room { IsTrue result ↔ (length self.old < 4095) }
+        ensures room { IsTrue result ↔ (length self.old < MOST_LINE) }
         ensures line { self.new ≡ after_change self.old (AddBytes (b ∷ [])) }
     {
-        let free = self.bytes.len() < MOST;
+        let free = self.bytes.len() < MOST_LINE;
         if free {
             self.bytes.push_reserved(b);
         }
@@ -71,7 +71,7 @@ impl Edit {
     /// Adds the good characters from blank to tilde at the front of some for which the line has room. Answers how many.
     #[inline(always)]
     pub fn append_typed(&mut self, chars: &[Flagged]) -> usize
-        requires { length self.old + length chars.now ≤ 4095 }
+        requires { length self.old + length chars.now ≤ MOST_LINE }
         ensures within { result ≤ length chars.now }
         ensures typed { AllByRecursion IsTyped (take result chars.now) }
         ensures line { self.new ≡ self.old ++ bytes_in (take result chars.now) }
@@ -151,7 +151,7 @@ impl Edit {
     /// The bytes of the line.
     pub fn bytes(&self) -> &[u8]
         ensures bytes { result.now ≡ self.now }
-        ensures most { length self.now ≤ 4095 }
+        ensures most { length self.now ≤ MOST_LINE }
     {
         &self.bytes
     }

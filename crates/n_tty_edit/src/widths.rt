@@ -1,6 +1,7 @@
 //! How many columns a byte takes on the screen, a TAB by what stands before it.
 
 ghost use Rattle.std.specs.Prelude.{◌≡◌, ◌<◌, ◌≤◌, ◌-◌, ◌%◌, length, take, slice_index};
+ghost use Rattle.tty_base.specs.Sizes.{MOST_LINE};
 ghost use Rattle.n_tty_edit.specs.Width.{plain_width, width_since_tab, width_of};
 
 use crate::bytes::Class;
@@ -27,7 +28,7 @@ fn plain_width(b: u8, modes: &Modes) -> usize
 
 /// The width of a TAB after a line.
 fn tab_width(before: &[u8], start: usize, modes: &Modes) -> usize
-    requires { length before.now ≤ 4095 }
+    requires { length before.now ≤ MOST_LINE }
     ensures width { result ≡ 8 - width_since_tab modes.now start before.now % 8 }
     ensures most { result ≤ 8 }
 {
@@ -44,7 +45,7 @@ fn tab_width(before: &[u8], start: usize, modes: &Modes) -> usize
 /// The width of the byte at a place of a line.
 pub fn width_at(line: &[u8], i: usize, start: usize, modes: &Modes) -> usize
     requires within { i < length line.now }
-    requires short { length line.now ≤ 4095 }
+    requires short { length line.now ≤ MOST_LINE }
     ensures width { result ≡ width_of modes.now start (take i line.now) (slice_index line.now i) }
     ensures most { result ≤ 8 }
 {
