@@ -1,5 +1,6 @@
 -- The output side of a port: the wire, held output, and what halts it.
 use Rattle.std.specs.Prelude.{◌≡◌, ℕ, ◌+◌, ◌-◌, Bool, false, ◌||◌, not, nat_le, List, [], ◌++◌, length, drop, if◌then◌else◌}
+use Rattle.tty_base.specs.Sizes.{MOST_HELD}
 
 -- the bytes on the wire, and the room that is reserved for more; the bytes that are held, in order; whether output is
 -- halted by STOP and by TCOOFF; and whether it is noted that STOP was sent for ixoff
@@ -21,7 +22,7 @@ is_halted output = output.stopped || output.off
 
 -- how many more bytes can be held
 abbrev pub room_of : Output → ℕ
-room_of output = 4096 - length output.held
+room_of output = MOST_HELD - length output.held
 
 -- without a halt bytes always go out; with one they must fit in what can be held
 abbrev pub has_room : Output → List ℕ → Bool

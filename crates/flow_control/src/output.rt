@@ -1,14 +1,13 @@
 //! The wire, held output, and what halts it.
 
 ghost use Rattle.std.specs.Prelude.{◌≡◌, ◌≤◌, ◌<◌, ◌+◌, ◌-◌, [], ◌∷◌, ◌++◌, length, take, false, true, IfOk, OnOk, OnErr, if◌then◌else◌, vec_len, vec_capacity};
+ghost use Rattle.tty_base.specs.Sizes.{MOST_HELD};
 ghost use Rattle.flow_control.specs.Output.{after_reset, after_start, after_tco_on, with_held_sent, has_room, idle_output, is_halted, on_wire, after_release, room_of, after_try, without_front};
 
 use std::alloc::Global;
 use std::marker::Model;
+use tty_base::sizes::MOST_HELD;
 use tty_base::{Bytes, Moves, NoMemory};
-
-/// How many bytes can be held while output is halted.
-const HELD_BYTES: usize = 4096;
 
 /// What a port sends: the wire, which is all that went out and was not taken, and behind it up to 4,096 bytes that
 /// wait while output is halted. Two halts can stand, that of STOP and that of TCOOFF (tcflow(3)); the one that goes
@@ -27,6 +26,7 @@ pub struct Wire {
 
 impl Model for Wire {
     ghost use Rattle.std.specs.Prelude.{◌≡◌, ◌≤◌, false, [], vec_len, vec_capacity};
+    ghost use Rattle.tty_base.specs.Sizes.{MOST_HELD};
     ghost use Rattle.flow_control.specs.Output.{Output};
 
     ghost Value = { Output };
@@ -34,8 +34,8 @@ impl Model for Wire {
     ghost view = { λ w. record { wire = w.wire.items; spare = w.wire.spare; held = w.held.items; stopped = w.stopped; off = w.off; noted = w.noted } };
 
     ghost invariant = { λ w. record {
-      bounded : vec_len w.held ≤ 4096;
-      reserved : 4096 ≤ vec_capacity w.held;
+      bounded : vec_len w.held ≤ MOST_HELD;
+      reserved : MOST_HELD ≤ vec_capacity w.held;
       only_halted : w.stopped ≡ false → w.off ≡ false → w.held.items ≡ [];
     } };
 }
@@ -49,7 +49,7 @@ impl Wire {
     {
         Ok(Wire {
             wire: Bytes::new(alloc),
-            held: Vec::with_capacity(alloc, HELD_BYTES)?,
+            held: Vec::with_capacity(alloc, MOST_HELD)?,
             stopped: false,
             off: false,
             noted: false,
@@ -199,13 +199,13 @@ impl Wire {
     pub fn room(&self) -> usize
         ensures { result ≡ room_of self.now }
     {
-        HELD_BYTES - self.held.len()
+        MOST_HELD - self.held.len()
     }
 
     /// How many bytes are held.
     pub fn held(&self) -> usize
         ensures count { result ≡ length self.now.held }
-        ensures bounded { result ≤ 4096 }
+        ensures bounded { result ≤ MOST_HELD }
     {
         self.held.len()
     }
