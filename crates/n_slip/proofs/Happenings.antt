@@ -18,7 +18,8 @@ characters_of-append (character c ∷ events) more = ap (λ (cs : List Flagged).
 characters_of-append (packet_take ∷ events) more = characters_of-append events more
 characters_of-append (flush ∷ events) more = characters_of-append events more
 
-packets_after-append : (list : List Flagged) (waiting : List (List ℕ)) (events more : List Happening) → packets_after list waiting (events ++ more) ≡ packets_after (list ++ characters_of events) (packets_after list waiting events) more
+packets_after-append : (list : List Flagged) (waiting : List (List ℕ)) (events more : List Happening)
+    → packets_after list waiting (events ++ more) ≡ packets_after (list ++ characters_of events) (packets_after list waiting events) more
 packets_after-append list waiting [] more = ap (λ (cs : List Flagged). packets_after cs waiting more) (sym (append-nil list))
 packets_after-append list waiting (character c ∷ events) more =
     let after = with_packets waiting (outcomes_at list c) in
@@ -33,7 +34,8 @@ with_packets-answer Empty waiting packet = refl
 with_packets-answer Packet waiting packet = refl
 with_packets-answer Bad waiting packet = refl
 
-with_packets-fed : (piece : BegunPiece) (c : Flagged) (waiting : List (List ℕ)) → with_packets waiting (outcomes_by_answer (answer_to piece c) (cond (is_end c) (packet_in piece) [])) ≡ packets_after_answer (answer_to piece c) waiting (packet_in piece)
+with_packets-fed : (piece : BegunPiece) (c : Flagged) (waiting : List (List ℕ))
+    → with_packets waiting (outcomes_by_answer (answer_to piece c) (cond (is_end c) (packet_in piece) [])) ≡ packets_after_answer (answer_to piece c) waiting (packet_in piece)
 with_packets-fed piece c waiting =
     elim (cases_Bool (is_end c)) [
       | inl e ↦ rw e (with_packets-answer (answer_to_end piece) waiting (packet_in piece))
@@ -41,7 +43,8 @@ with_packets-fed piece c waiting =
     ]
 
 -- what a character ended is what the decoder told
-pub outcomes_at-answer : (list : List Flagged) (c : Flagged) (piece : BegunPiece) → piece ≡ piece_of (rest_of list) → outcomes_at list c ≡ outcomes_by_answer (answer_to piece c) (cond (is_end c) (packet_in piece) [])
+pub outcomes_at-answer : (list : List Flagged) (c : Flagged) (piece : BegunPiece) → piece ≡ piece_of (rest_of list)
+    → outcomes_at list c ≡ outcomes_by_answer (answer_to piece c) (cond (is_end c) (packet_in piece) [])
 outcomes_at-answer list c piece h =
     ap (λ (os : List Outcome). drop (length (outcomes list)) os) (outcomes_more list c (record { piece = piece; packet = [] }) h)
     ∙ drop-append_seam (outcomes list) (outcomes_by_answer (answer_to piece c) (cond (is_end c) (packet_in piece) []))

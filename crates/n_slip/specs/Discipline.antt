@@ -26,7 +26,7 @@ most_waiting = 64
 abbrev pub first_packet : Slip → List ℕ
 first_packet slip = slice_index_or slip.packets 0 []
 
--- a packet waits where fewer than 64 do, and else is dropped
+-- a packet waits where fewer do than can, and else is dropped
 abbrev pub with_packet : List (List ℕ) → List ℕ → List (List ℕ)
 with_packet waiting packet = if nat_lt (length waiting) most_waiting then waiting ++ packet ∷ [] else waiting
 

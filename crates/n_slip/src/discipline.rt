@@ -1,11 +1,12 @@
 //! N_SLIP: characters of the line become packets that wait, and packets are sent.
 
 ghost use Rattle.std.specs.Prelude.{◌≡◌, ◌+◌, ◌-◌, ◌<◌, ◌≤◌, [], ◌∷◌, ◌++◌, List, length, map, take, drop, nat_le, IfOk, if◌then◌else◌};
+ghost use Rattle.slip_frames.specs.Slip.{max_packet};
 ghost use Rattle.flow_control.specs.Output.{room_of, after_send};
 ghost use Rattle.tty_base.specs.declared.counters.Counts.{Counts};
 ghost use Rattle.flow_control.specs.Counting.{with_count};
 ghost use Rattle.flow_control.specs.declared.tally.Counter.TheVariants.{PacketOut};
-ghost use Rattle.n_slip.specs.Discipline.{fresh_slip, first_packet, after_character, after_characters, counts_with_flag, counts_after_character, counts_after_characters};
+ghost use Rattle.n_slip.specs.Discipline.{most_waiting, fresh_slip, first_packet, after_character, after_characters, counts_with_flag, counts_after_character, counts_after_characters};
 ghost use Rattle.n_slip.specs.History.{Happening, HasSeen, character, packet_take, flush};
 
 use crate::queue::{MOST, Queue};
@@ -13,7 +14,7 @@ use flow_control::{Counter, Tally, Wire};
 use slip_frames::{Decoder, Fed};
 use std::alloc::Global;
 use std::marker::Model;
-use tty_base::{Bytes, Flag, Flagged, NoMemory};
+use tty_base::{Bytes, Flag, Flagged, NoMemory, rest_of};
 
 /// N_SLIP on a port: it receives packets, of which at most 64 wait to be taken, and sends packets. It takes all its
 /// memory in `new`.
@@ -70,7 +71,7 @@ impl NSlip {
     /// How many packets wait.
     pub fn waiting(&self) -> usize
         ensures len { result ≡ length self.now.packets }
-        ensures few { result ≤ 64 }
+        ensures few { result ≤ most_waiting }
     {
         self.queue.len()
     }
@@ -78,7 +79,7 @@ impl NSlip {
     /// The length of the first packet that waits, or 0 where none does.
     pub fn first_len(&self) -> usize
         ensures first { result ≡ length (first_packet self.now) }
-        ensures short { result ≤ 1006 }
+        ensures short { result ≤ max_packet }
     {
         self.queue.first_len()
     }
@@ -179,12 +180,4 @@ fn count_flag(flag: Flag, tally: &mut Tally)
         Flag::Frame => tally.count(Counter::Frame, 1),
         Flag::Overrun => tally.count(Counter::Mark, 1),
     }
-}
-
-/// The characters after so many.
-fn rest_of(chars: &[Flagged], count: usize) -> &[Flagged]
-    requires { count ≤ length chars.now }
-    ensures { result.now ≡ drop count chars.now }
-{
-    &chars[count..]
 }

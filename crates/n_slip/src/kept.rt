@@ -6,7 +6,7 @@ use super::queue::MOST;
 use slip_frames::MAX_PACKET;
 use std::alloc::Global;
 use std::marker::Model;
-use tty_base::{Bytes, NoMemory};
+use tty_base::{Bytes, NoMemory, front_of};
 
 /// How many bytes are kept at most.
 const MOST_BYTES: usize = MOST * MAX_PACKET;
@@ -43,7 +43,7 @@ impl Kept {
 
     /// Adds bytes at the end.
     pub fn append(&mut self, bytes: &[u8])
-        requires { length self.old + length bytes.now ≤ 64384 }
+        requires { length self.old + length bytes.now ≤ MOST_BYTES }
         ensures { self.new ≡ self.old ++ bytes.now }
     {
         match self.items.extend_from_slice(bytes) {
@@ -90,14 +90,6 @@ impl Kept {
             self.start = 0;
         }
     }
-}
-
-/// The first bytes, so many.
-fn front_of(bytes: &[u8], count: usize) -> &[u8]
-    requires { count ≤ length bytes.now }
-    ensures { result.now ≡ take count bytes.now }
-{
-    &bytes[..count]
 }
 
 /// Moves the bytes that are left to the front of their memory.

@@ -1,6 +1,8 @@
 //! The packets that wait: their bytes and their lengths.
 
 ghost use Rattle.std.specs.Prelude.{◌≡◌, ◌+◌, ◌-◌, ◌*◌, ◌<◌, ◌≤◌, [], ◌∷◌, ◌++◌, length, take, drop, IfOk, slice_index_or};
+ghost use Rattle.slip_frames.specs.Slip.{max_packet};
+ghost use Rattle.n_slip.specs.Discipline.{most_waiting};
 
 use crate::kept::Kept;
 use std::alloc::Global;
@@ -43,7 +45,7 @@ impl Queue {
 
     pub fn len(&self) -> usize
         ensures len { result ≡ length self.now }
-        ensures few { result ≤ 64 }
+        ensures few { result ≤ most_waiting }
     {
         self.lengths.len()
     }
@@ -51,7 +53,7 @@ impl Queue {
     /// The length of the oldest packet, or 0 where none waits.
     pub fn first_len(&self) -> usize
         ensures first { result ≡ length (slice_index_or self.now 0 []) }
-        ensures short { result ≤ 1006 }
+        ensures short { result ≤ max_packet }
     {
         match self.lengths.front() {
             Some(n) => *n as usize,
@@ -60,8 +62,8 @@ impl Queue {
     }
 
     pub fn push(&mut self, packet: &[u8])
-        requires free { length self.old < 64 }
-        requires short { length packet.now ≤ 1006 }
+        requires free { length self.old < most_waiting }
+        requires short { length packet.now ≤ max_packet }
         ensures { self.new ≡ self.old ++ packet.now ∷ [] }
     {
         self.bytes.append(packet);
