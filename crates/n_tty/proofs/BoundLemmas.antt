@@ -1,6 +1,8 @@
 -- How far a call moves the column at most, how much room it spends, and that it sets no tick but now: what a caller
 -- of many needs.
-use Rattle.std.proofs.Common.{◌≡◌, ap, ℕ, ◌+◌, ◌*◌, ◌-◌, ◌%◌, ◌^◌, ◌≤◌, Bool, true, false, if◌then◌else◌, not, ◌&&◌, ◌||◌, ◌==◌, nat_le, nat_lt, bit_xor, Option, None, Some, List, [], ◌∷◌, ◌++◌, length, replicate, take, drop, sym, subst, refl, inl, inr, arith, length-append, length-drop}
+use Rattle.std.proofs.Common.{◌≡◌, ap, ℕ, ◌+◌, ◌*◌, ◌-◌, ◌%◌, ◌^◌, ◌≤◌, Bool, true, false, if◌then◌else◌, not, ◌&&◌}
+use Rattle.std.proofs.Common.{◌||◌, ◌==◌, nat_le, nat_lt, bit_xor, Option, None, Some, List, [], ◌∷◌, ◌++◌, length}
+use Rattle.std.proofs.Common.{replicate, take, drop, sym, subst, refl, inl, inr, arith, length-append, length-drop}
 use Rattle.std.proofs.lemmas.Bool.{cond_both}
 use Rattle.std.proofs.lemmas.List.{length-replicate, length-take, take-append-drop}
 use Rattle.tty_base.specs.declared.characters.Flag.{Flag}
@@ -8,7 +10,10 @@ use Rattle.tty_base.specs.declared.characters.Flag.TheVariants as flag
 use Rattle.tty_base.specs.declared.counters.Signal.{Signal}
 use Rattle.tty_base.specs.declared.counters.Signal.TheVariants.{Int}
 use Rattle.tty_modes.specs.Settings.{Settings, has_flag, character}
-use Rattle.tty_modes.specs.declared.places.TheConstants.{ICANON, NOFLSH, PARMRK, IXANY, IUTF8, VERASE, VKILL, IXON, VSTART, VSTOP, IGNBRK, BRKINT, INPCK, IGNPAR, ISTRIP, ECHO, ECHOE, ECHOK, ECHONL, ECHOCTL, OPOST, TAB3, ONLCR, ONOCR, OCRNL}
+use Rattle.tty_modes.specs.declared.places.TheConstants.{ICANON, NOFLSH, PARMRK, IXANY, IUTF8, VERASE, VKILL, IXON}
+use Rattle.tty_modes.specs.declared.places.TheConstants.{VSTART, VSTOP, IGNBRK, BRKINT, INPCK, IGNPAR, ISTRIP, ECHO}
+use Rattle.tty_modes.specs.declared.places.TheConstants.{ECHOE, ECHOK, ECHONL, ECHOCTL, OPOST, TAB3, ONLCR, ONOCR}
+use Rattle.tty_modes.specs.declared.places.TheConstants.{OCRNL}
 use Rattle.n_tty_edit.specs.declared.line.Gone.{Gone}
 use Rattle.n_tty_edit.specs.Line.{AddBytes, EraseLast, EraseWord, Clear, after_change, erase_size, word_start}
 use Rattle.n_tty_edit.specs.Width.{width_of, gone_of}
@@ -32,7 +37,9 @@ use Rattle.n_tty.specs.Editing.{with_line, echo_of_gone, echo_of_word_erase, ech
 use Rattle.n_tty.specs.Flow.{after_signal}
 use Rattle.n_tty.specs.Spending.{pending_count}
 use Rattle.n_tty.specs.Writing.{piece_size, piece_text, after_write}
-use Rattle.n_tty.specs.Receiving.{with_one_more, with_quoted, stripped_byte, ordinary_bytes, after_resume, after_resume_where, after_ordinary, after_role, after_mapped, after_unsteered, after_unquoted, after_good, after_break, after_bad, after_flagged}
+use Rattle.n_tty.specs.Receiving.{with_one_more, with_quoted, stripped_byte, ordinary_bytes, after_resume}
+use Rattle.n_tty.specs.Receiving.{after_resume_where, after_ordinary, after_role, after_mapped, after_unsteered}
+use Rattle.n_tty.specs.Receiving.{after_unquoted, after_good, after_break, after_bad, after_flagged}
 use Rattle.n_tty.proofs.ErasedLemmas.{OfBytes, OnlyRubs-rubbed_out, OnlyRubs-echo_of_gone, all_posted_bytes-rubs, width_in, gone-width-le, length-echo-le, length-blanked}
 use Rattle.n_tty.proofs.PostingLemmas.{column_past_text-le}
 use Rattle.n_tty.proofs.WritingLemmas.{all_posted_bytes-append, fitting_count-le}

@@ -1,5 +1,7 @@
 -- The echo of a byte that is shown.
-use Rattle.std.proofs.Common.{◌≡◌, ℕ, ◌+◌, ◌≤◌, Bool, true, false, cond, not, ◌&&◌, ◌||◌, ◌==◌, nat_le, nat_lt, bit_xor, List, [], ◌∷◌, ap, sym, ◌∙◌, refl, inl, inr, arith, append-nil, ne_eqb, le-ltb, le-leb}
+use Rattle.std.proofs.Common.{◌≡◌, ℕ, ◌+◌, ◌≤◌, Bool, true, false, cond, not, ◌&&◌, ◌||◌, ◌==◌, nat_le, nat_lt}
+use Rattle.std.proofs.Common.{bit_xor, List, [], ◌∷◌, ap, sym, ◌∙◌, refl, inl, inr, arith, append-nil, ne_eqb, le-ltb}
+use Rattle.std.proofs.Common.{le-leb}
 use Rattle.std.proofs.lemmas.Bool.{cases_Bool}
 use Rattle.tty_modes.specs.Settings.{Settings, has_flag}
 use Rattle.tty_modes.specs.declared.places.TheConstants.{ECHO, ECHOCTL, IUTF8}

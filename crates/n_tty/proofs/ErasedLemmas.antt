@@ -1,5 +1,7 @@
 -- What is erased, and its echo.
-use Rattle.std.proofs.Common.{◌≡◌, ℕ, zero, suc, ◌+◌, ◌*◌, ◌-◌, ◌%◌, ◌≤◌, ◌<◌, cond, not, Option, Some, None, ◌⊎◌, List, [], ◌∷◌, ◌++◌, length, replicate, take, drop, get_or, ap, sym, subst, ◌∙◌, refl, inl, inr, arith, eqb, append-nil, append_assoc}
+use Rattle.std.proofs.Common.{◌≡◌, ℕ, zero, suc, ◌+◌, ◌*◌, ◌-◌, ◌%◌, ◌≤◌, ◌<◌, cond, not, Option, Some, None, ◌⊎◌}
+use Rattle.std.proofs.Common.{List, [], ◌∷◌, ◌++◌, length, replicate, take, drop, get_or, ap, sym, subst, ◌∙◌, refl}
+use Rattle.std.proofs.Common.{inl, inr, arith, eqb, append-nil, append_assoc}
 use Rattle.std.proofs.lemmas.Bool.{cases_Bool, cond_both, cond-false}
 use Rattle.std.proofs.lemmas.Bool.Decides.{nat_tests}
 use Rattle.std.proofs.lemmas.List.{drop_more, take_more, length-replicate, drop-append-le, take-take, take-append-drop, length-take}

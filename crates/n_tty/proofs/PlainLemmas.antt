@@ -3,7 +3,9 @@ use Rattle.std.proofs.Common.{◌≡◌, ℕ, ◌%◌, Bool, true, false, cond, 
 use Rattle.std.proofs.lemmas.Bool.{and_parts, cases_Bool, cond-true, cond-false, eqb-true, not-true}
 use Rattle.tty_base.specs.declared.counters.Signal.TheVariants.{Int, Quit, Susp}
 use Rattle.tty_modes.specs.Settings.{Settings, has_flag, character}
-use Rattle.tty_modes.specs.declared.places.TheConstants.{ISTRIP, IXON, IXANY, IXOFF, ISIG, INLCR, IGNCR, ICRNL, ICANON, PARMRK, ECHO, IEXTEN, VSTART, VSTOP, VINTR, VQUIT, VSUSP, VERASE, VKILL, VWERASE, VLNEXT, VEOF, VEOL, VEOL2}
+use Rattle.tty_modes.specs.declared.places.TheConstants.{ISTRIP, IXON, IXANY, IXOFF, ISIG, INLCR, IGNCR, ICRNL}
+use Rattle.tty_modes.specs.declared.places.TheConstants.{ICANON, PARMRK, ECHO, IEXTEN, VSTART, VSTOP, VINTR, VQUIT}
+use Rattle.tty_modes.specs.declared.places.TheConstants.{VSUSP, VERASE, VKILL, VWERASE, VLNEXT, VEOF, VEOL, VEOL2}
 use Rattle.n_tty.specs.declared.roles.Role.TheVariants.{Ordinary}
 use Rattle.n_tty.specs.States.{OnPort, unread_count, has_piece}
 use Rattle.n_tty.specs.Storing.{after_store, with_plain_bytes}

@@ -1,5 +1,7 @@
 -- Texts that are posted one after the other.
-use Rattle.std.proofs.Common.{◌≡◌, ℕ, ◌+◌, ◌-◌, ◌*◌, ◌≤◌, Bool, true, false, cond, List, [], ◌∷◌, ◌++◌, length, ap, sym, ◌∙◌, refl, inl, inr, arith, length-append, append-nil, append_assoc, not, ◌||◌, nat_le, ◌<◌, get_or, drop}
+use Rattle.std.proofs.Common.{◌≡◌, ℕ, ◌+◌, ◌-◌, ◌*◌, ◌≤◌, Bool, true, false, cond, List, [], ◌∷◌, ◌++◌, length, ap}
+use Rattle.std.proofs.Common.{sym, ◌∙◌, refl, inl, inr, arith, length-append, append-nil, append_assoc, not, ◌||◌}
+use Rattle.std.proofs.Common.{nat_le, ◌<◌, get_or, drop}
 use Rattle.std.proofs.lemmas.Bool.{cases_Bool, cond-true, cond-false, leb-true, le-leb}
 use Rattle.flow_control.specs.Counting.{with_count}
 use Rattle.flow_control.specs.declared.tally.Counter.TheVariants.{Echo}

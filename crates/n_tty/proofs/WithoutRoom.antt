@@ -27,7 +27,10 @@ use Rattle.n_tty.specs.Posting.{column_past_text, all_posted_bytes, posted_echo,
 use Rattle.n_tty.specs.Editing.{with_line, echo_of_word_erase, echo_of_kill, echo_of_erase}
 use Rattle.n_tty.specs.Flow.{after_signal, must_stop, may_start, with_stop_sent, with_start_sent, after_ixoff_rule}
 use Rattle.n_tty.specs.Writing.{fitting_count, piece_size, piece_text, after_write}
-use Rattle.n_tty.specs.Receiving.{with_one_more, with_quoted, stripped_byte, ordinary_bytes, after_resume, after_resume_where, after_ordinary, after_role, after_mapped, after_unsteered, after_unquoted, after_good, after_break, after_bad, after_flagged, with_ixoff_rule, after_character}
+use Rattle.n_tty.specs.Receiving.{with_one_more, with_quoted, stripped_byte, ordinary_bytes, after_resume}
+use Rattle.n_tty.specs.Receiving.{after_resume_where, after_ordinary, after_role, after_mapped, after_unsteered}
+use Rattle.n_tty.specs.Receiving.{after_unquoted, after_good, after_break, after_bad, after_flagged, with_ixoff_rule}
+use Rattle.n_tty.specs.Receiving.{after_character}
 
 -- where it makes none to either branch
 port_if : (b : Bool) (x y x' y' : OnPort) → port_without_room x ≡ x' → port_without_room y ≡ y'

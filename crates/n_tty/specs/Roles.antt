@@ -3,7 +3,9 @@ use Rattle.std.specs.Prelude.{◌≡◌, ◌≢◌, ◌≤◌, ℕ, Bool, false,
 use Rattle.tty_base.specs.declared.counters.Signal.{Signal}
 use Rattle.tty_base.specs.declared.counters.Signal.TheVariants.{Int, Quit, Susp}
 use Rattle.tty_modes.specs.Settings.{Settings, has_flag, character}
-use Rattle.tty_modes.specs.declared.places.TheConstants.{ISTRIP, IXON, IXANY, ISIG, ICANON, ECHO, PARMRK, IEXTEN, INLCR, IGNCR, ICRNL, VINTR, VQUIT, VSUSP, VERASE, VKILL, VWERASE, VLNEXT, VEOF, VEOL, VEOL2}
+use Rattle.tty_modes.specs.declared.places.TheConstants.{ISTRIP, IXON, IXANY, ISIG, ICANON, ECHO, PARMRK, IEXTEN}
+use Rattle.tty_modes.specs.declared.places.TheConstants.{INLCR, IGNCR, ICRNL, VINTR, VQUIT, VSUSP, VERASE, VKILL}
+use Rattle.tty_modes.specs.declared.places.TheConstants.{VWERASE, VLNEXT, VEOF, VEOL, VEOL2}
 use Rattle.n_tty.specs.declared.roles.Role.{Role}
 use Rattle.n_tty.specs.declared.roles.Role.TheVariants.{Erase, Kill, WordErase, Quote, Newline, Eof, Delimiter, Ordinary}
 

@@ -1,5 +1,6 @@
 -- The line discipline N_TTY, with the port's side that it works on.
 use Rattle.std.specs.Prelude.{◌≡◌, ℕ, ◌+◌, Bool, true, false, not, ◌&&◌, ◌||◌, nat_le, nat_lt, List, [], ◌∷◌, length, if◌then◌else◌}
+use Rattle.tty_base.specs.Sizes.{MOST_ENDS, MOST_TO_ACCEPT, MOST_TO_ACCEPT_MARKED}
 use Rattle.tty_modes.specs.Settings.{Settings, has_flag}
 use Rattle.tty_modes.specs.declared.places.TheConstants.{ICANON, PARMRK}
 use Rattle.line_store.specs.Unread.{Item, Byte, End, bytes_of, end_count}
@@ -43,13 +44,13 @@ has_piece tty = nat_lt 0 (end_count tty.items)
 
 -- with how many unread bytes a character is accepted in any case: with parmrk it may take three
 abbrev pub most_unread : Settings → ℕ
-most_unread modes = if has_flag modes PARMRK then 4092 else 4094
+most_unread modes = if has_flag modes PARMRK then MOST_TO_ACCEPT_MARKED else MOST_TO_ACCEPT
 
 -- A character is accepted while there is room. In canonical mode it is also accepted where no piece is complete, so
 -- that the line can be ended.
 abbrev pub is_accepting : Settings → NTtyState → Bool
 is_accepting modes tty =
-    nat_lt (end_count tty.items) 4096
+    nat_lt (end_count tty.items) MOST_ENDS
     && (nat_le (unread_count tty) (most_unread modes) || (has_flag modes ICANON && not (has_piece tty)))
 
 -- each byte has an end after it

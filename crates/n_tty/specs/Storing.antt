@@ -1,5 +1,6 @@
 -- Storing input: bytes, the ends of pieces, and what drops both.
 use Rattle.std.specs.Prelude.{ℕ, ◌+◌, false, nat_le, List, [], ◌∷◌, ◌++◌, length, map, if◌then◌else◌}
+use Rattle.tty_base.specs.Sizes.{MOST_LINE}
 use Rattle.tty_modes.specs.Settings.{Settings, has_flag}
 use Rattle.tty_modes.specs.declared.places.TheConstants.{ICANON, PARMRK}
 use Rattle.line_store.specs.Unread.{Item, Byte, End, bytes_of}
@@ -27,12 +28,12 @@ abbrev pub most_stored : Settings → ℕ
 most_stored modes = if has_flag modes PARMRK then 3 else 1
 
 -- Storing the bytes of one character. In canonical mode they join the edited line, or are cut together where the line
--- would have more than 4095 bytes.
+-- would be too long.
 abbrev pub after_store : Settings → (now : ℕ) → List ℕ → OnPort → OnPort
 after_store modes now bytes port =
     if has_flag modes ICANON
     then (
-    if nat_le (length port.tty.edit + length bytes) 4095
+    if nat_le (length port.tty.edit + length bytes) MOST_LINE
     then record port { tty = with_line_bytes now bytes port.tty }
     else record port { tally = record port.tally { counts = with_count port.tally.counts Cut 1 } }
     )

@@ -1,5 +1,6 @@
 -- What must hold for a character to be stored, and for it to be taken.
-use Rattle.std.specs.Prelude.{◌≡◌, ◌+◌, ◌≤◌, ◌<◌, ◌^◌, true}
+use Rattle.std.specs.Prelude.{◌≡◌, ◌+◌, ◌≤◌, ◌<◌, true}
+use Rattle.tty_base.specs.Sizes.{COUNT_END}
 use Rattle.tty_modes.specs.Settings.{Settings}
 use Rattle.flow_control.specs.Output.{Output}
 use Rattle.flow_control.specs.declared.tally.Tally.{Tally}
@@ -18,4 +19,4 @@ pub record MayTake (modes : Settings) (tty : NTtyState) (output : Output) (tally
   pub fits : FitsModes modes tty
   pub room : pending_count tty output + 40 ≤ output.spare
   pub signal : 0 < tally.signals.spare
-  pub column : tty.column < 2 ^ 62
+  pub column : tty.column < COUNT_END

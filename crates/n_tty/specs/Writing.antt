@@ -1,5 +1,6 @@
 -- A piece of a write.
 use Rattle.std.specs.Prelude.{ℕ, suc, List, [], ◌∷◌, take, if◌then◌else◌}
+use Rattle.tty_base.specs.Sizes.{PIECE}
 use Rattle.tty_modes.specs.Settings.{Settings}
 use Rattle.opost_out.specs.Posted.{posted_bytes}
 use Rattle.flow_control.specs.Output.{Output, has_room, after_send}
@@ -15,9 +16,9 @@ fitting_count modes column output (byte ∷ bytes) =
     then suc (fitting_count modes (column_past_text modes column text) (after_send output text) bytes)
     else 0
 
--- how many bytes one piece of a write takes: at most 64
+-- how many bytes one piece of a write takes
 abbrev pub piece_size : Settings → NTtyState → Output → List ℕ → ℕ
-piece_size modes tty output bytes = fitting_count modes tty.column output (take 64 bytes)
+piece_size modes tty output bytes = fitting_count modes tty.column output (take PIECE bytes)
 
 -- what is posted of it
 abbrev pub piece_text : Settings → NTtyState → Output → List ℕ → List ℕ

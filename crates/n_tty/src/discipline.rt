@@ -1,6 +1,7 @@
 //! N_TTY as a value: what it receives, what a read takes and a write posts, and what new modes and a flush do to it.
 
 ghost use Rattle.std.specs.Prelude.{◌≡◌, ◌+◌, ◌-◌, ◌*◌, ◌%◌, ◌<◌, ◌≤◌, ◌^◌, IfOk, true, not, ◌&&◌, ◌||◌, ◌++◌, length, take, nat_le, nat_lt, if◌then◌else◌};
+ghost use Rattle.tty_base.specs.Sizes.{COUNT_END, MOST_HELD, MOST_UNREAD};
 ghost use Rattle.tty_modes.specs.Settings.{has_flag};
 ghost use Rattle.tty_modes.specs.declared.places.TheConstants.{ICANON};
 ghost use Rattle.line_store.specs.Unread.{end_count};
@@ -19,22 +20,16 @@ mod running;
 
 use crate::flow::apply_ixoff_rule;
 use crate::posting::{fits_any, post_fitting};
-use crate::storing::MOST_LINE;
 use flow_control::{Tally, Wire};
 use line_store::Store;
 use n_tty_edit::Edit;
 use opost_out::Out;
 use std::alloc::Global;
 use std::marker::Model;
+use tty_base::sizes::{MOST_ENDS, MOST_LINE, MOST_TO_ACCEPT, MOST_TO_ACCEPT_MARKED, PIECE};
 use tty_base::{Bytes, Flagged, Moves, NoMemory};
 use tty_modes::Modes;
 use tty_modes::places::{ICANON, PARMRK, VMIN, VTIME};
-
-/// How many ends of pieces stand at most.
-const MOST_ENDS: usize = 4096;
-
-/// How many bytes one piece of a write takes at most.
-const MOST_WRITTEN: usize = 64;
 
 /// How much room on the wire one character takes at most, beyond what is pending: its echo as it is posted, what
 /// taking it off the screen again can post, and STOP or START.
@@ -54,6 +49,7 @@ pub struct NTty {
 
 impl Model for NTty {
     ghost use Rattle.std.specs.Prelude.{◌≤◌, ◌+◌, length};
+    ghost use Rattle.tty_base.specs.Sizes.{MOST_UNREAD, MOST_LINE};
     ghost use Rattle.line_store.specs.Unread.{bytes_of};
     ghost use Rattle.n_tty.specs.States.{NTtyState};
 
@@ -61,7 +57,7 @@ impl Model for NTty {
 
     ghost view = { λ t. record { items = t.store; edit = t.edit; start = t.start; quoted = t.quoted; last = t.last; column = t.out } };
 
-    ghost invariant = { λ t. record { within : length (bytes_of t.store) + length t.edit ≤ 4096; line : length t.edit ≤ 4095 } };
+    ghost invariant = { λ t. record { within : length (bytes_of t.store) + length t.edit ≤ MOST_UNREAD; line : length t.edit ≤ MOST_LINE } };
 }
 
 impl Moves for NTty {}
@@ -86,7 +82,8 @@ impl NTty {
     pub fn accepts(&self, modes: &Modes) -> bool
         ensures { result ≡ is_accepting modes.now self.now }
     {
-        self.store.lines() < MOST_ENDS && (self.unread() <= 4092 || self.has_room(modes))
+        self.store.lines() < MOST_ENDS
+            && (self.unread() <= MOST_TO_ACCEPT_MARKED || self.has_room(modes))
     }
 
     /// Whether there is room for the bytes of one more character, or in canonical mode no piece is complete.
@@ -95,7 +92,11 @@ impl NTty {
         ensures { result ≡ (nat_le (unread_count self.now) (most_unread modes.now)
             || (has_flag modes.now ICANON && not (has_piece self.now))) }
     {
-        let most = if modes.has(PARMRK) { 4092 } else { 4094 };
+        let most = if modes.has(PARMRK) {
+            MOST_TO_ACCEPT_MARKED
+        } else {
+            MOST_TO_ACCEPT
+        };
         self.unread() <= most || modes.has(ICANON) && self.store.lines() == 0
     }
 
@@ -114,7 +115,7 @@ impl NTty {
         requires fitting { FitsModes modes.now self.old }
         requires room { pending_count self.old wire.old + CHARACTER_ROOM ≤ wire.old.spare }
         requires signal { 0 < tally.old.signals.spare }
-        requires column { self.old.column < 2 ^ 62 }
+        requires column { self.old.column < COUNT_END }
         ensures after { on_port self.new wire.new tally.new
             ≡ after_character modes.now now c (on_port self.old wire.old tally.old) }
         ensures fits { FitsModes modes.now self.new }
@@ -187,21 +188,21 @@ impl NTty {
     pub fn write_piece(&mut self, bytes: &[u8], modes: &Modes, wire: &mut Wire) -> usize
         requires fitting { FitsModes modes.now self.old }
         requires room { 512 ≤ wire.old.spare }
-        requires column { self.old.column < 2 ^ 62 }
+        requires column { self.old.column < COUNT_END }
         ensures count { result ≡ piece_size modes.now self.old wire.old bytes.now }
         ensures wire { wire.new ≡ after_send wire.old (piece_text modes.now self.old wire.old bytes.now) }
         ensures after { self.new ≡ after_write modes.now wire.old bytes.now self.old }
         ensures fits { FitsModes modes.now self.new }
-        ensures few { result ≤ 64 }
+        ensures few { result ≤ PIECE }
         ensures spent { wire.old.spare ≤ wire.new.spare + 512 }
-        ensures moved { self.new.column ≤ self.old.column + 4096 }
+        ensures moved { self.new.column ≤ self.old.column + 64 * PIECE }
     {
         post_fitting(&mut self.out, piece_of(bytes), modes, wire)
     }
 
     /// Whether a piece of a write takes any of these bytes: the first, where its posted bytes fit.
     pub fn can_write(&self, bytes: &[u8], modes: &Modes, wire: &Wire) -> bool
-        requires { self.now.column < 2 ^ 62 }
+        requires { self.now.column < COUNT_END }
         ensures { result ≡ nat_lt 0 (piece_size modes.now self.now wire.now bytes.now) }
     {
         fits_any(&self.out, piece_of(bytes), modes, wire)
@@ -243,7 +244,7 @@ impl NTty {
     /// How many bytes are unread.
     pub fn unread(&self) -> usize
         ensures count { result ≡ unread_count self.now }
-        ensures most { result ≤ 4096 }
+        ensures most { result ≤ MOST_UNREAD }
     {
         self.store.len() + self.edit.bytes().len()
     }
@@ -251,7 +252,7 @@ impl NTty {
     /// How many bytes can still go to the wire for what is held, and for what erasing the edited line shows.
     pub fn pending(&self, wire: &Wire) -> usize
         ensures count { result ≡ pending_count self.now wire.now }
-        ensures most { result ≤ 36856 }
+        ensures most { result ≤ MOST_HELD + 8 * MOST_LINE }
     {
         wire.held() + 8 * self.edit.bytes().len()
     }
@@ -291,7 +292,7 @@ fn modes_leave(old: &Modes, new: &Modes) -> bool
 
 /// The bytes that one piece of a write takes at most.
 fn piece_of(bytes: &[u8]) -> &[u8]
-    ensures { result.now ≡ take 64 bytes.now }
+    ensures { result.now ≡ take PIECE bytes.now }
 {
-    &bytes[..bytes.len().min(MOST_WRITTEN)]
+    &bytes[..bytes.len().min(PIECE)]
 }

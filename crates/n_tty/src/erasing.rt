@@ -1,6 +1,7 @@
 //! The echo of bytes that WERASE and KILL erase.
 
 ghost use Rattle.std.specs.Prelude.{◌≡◌, ◌*◌, ◌<◌, ◌≤◌, ◌^◌, ◌⊎◌, true, length, take, drop};
+ghost use Rattle.tty_base.specs.Sizes.{COUNT_END, MOST_LINE};
 ghost use Rattle.flow_control.specs.Output.{has_room, after_send, after_try};
 ghost use Rattle.n_tty.specs.Editing.{echo_of_gone};
 ghost use Rattle.n_tty.specs.Posting.{column_past_text, column_after_try, all_posted_bytes, tally_after_try};
@@ -17,7 +18,7 @@ fn erased_len(edit: &Edit, kind: EraseKind, from: usize, start: usize, modes: &M
     requires from { from ≤ length edit.now }
     requires kind { (kind ≡ EraseKind.Word) ⊎ (kind ≡ EraseKind.Kill) }
     ensures len { result ≡ length (echo_of_gone modes.now kind start (take from edit.now) (drop from edit.now)) }
-    ensures most { result ≤ 32760 }
+    ensures most { result ≤ 8 * MOST_LINE }
 {
     let line = edit.bytes();
     let mut count = 0;
@@ -45,7 +46,7 @@ fn post_erased(
 )
     requires from { from ≤ length edit.now }
     requires kind { (kind ≡ EraseKind.Word) ⊎ (kind ≡ EraseKind.Kill) }
-    requires column { out.old < 2 ^ 62 }
+    requires column { out.old < COUNT_END }
     requires spare { 8 * length edit.now ≤ wire.old.spare }
     requires room { has_room wire.old (echo_of_gone modes.now kind start (take from edit.now) (drop from edit.now)) ≡ true }
     ensures column { out.new ≡ column_past_text modes.now out.old
@@ -79,7 +80,7 @@ pub fn echo_erased(
 )
     requires from { from ≤ length edit.now }
     requires kind { (kind ≡ EraseKind.Word) ⊎ (kind ≡ EraseKind.Kill) }
-    requires column { out.old < 2 ^ 62 }
+    requires column { out.old < COUNT_END }
     requires spare { 8 * length edit.now ≤ wire.old.spare }
     ensures column { out.new ≡ column_after_try modes.now wire.old out.old
         (all_posted_bytes modes.now out.old (echo_of_gone modes.now kind start (take from edit.now) (drop from edit.now))) }

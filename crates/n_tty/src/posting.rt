@@ -1,6 +1,7 @@
 //! Posting bytes: output processing at the column, and echo that is posted whole or dropped whole.
 
 ghost use Rattle.std.specs.Prelude.{◌≡◌, ◌+◌, ◌*◌, ◌<◌, ◌≤◌, ◌^◌, ℕ, List, [], ◌∷◌, true, length, if◌then◌else◌, nat_lt, slice_index, take, drop};
+ghost use Rattle.tty_base.specs.Sizes.{COUNT_END, PIECE};
 ghost use Rattle.opost_out.specs.Posted.{posted_bytes};
 ghost use Rattle.flow_control.specs.Output.{has_room, after_send, after_try};
 ghost use Rattle.n_tty.specs.Posting.{column_past_text, column_after_try, all_posted_bytes, tally_after_try};
@@ -9,12 +10,13 @@ ghost use Rattle.n_tty.specs.Writing.{fitting_count};
 use char_lanes::bytes_between;
 use flow_control::{Counter, Tally, Wire};
 use opost_out::Out;
+use tty_base::{front_of, rest_of};
 use tty_modes::Modes;
 
 /// Posts bytes that fit.
 pub fn post(out: &mut Out, bytes: &[u8], modes: &Modes, wire: &mut Wire)
-    requires column { out.old < 2 ^ 62 + 2 ^ 32 }
-    requires short { length bytes.now ≤ 64 }
+    requires column { out.old < COUNT_END + 2 ^ 32 }
+    requires short { length bytes.now ≤ PIECE }
     requires spare { length (all_posted_bytes modes.now out.old bytes.now) ≤ wire.old.spare }
     requires room { has_room wire.old (all_posted_bytes modes.now out.old bytes.now) ≡ true }
     ensures column { out.new ≡ column_past_text modes.now out.old (all_posted_bytes modes.now out.old bytes.now) }
@@ -28,8 +30,8 @@ pub fn post(out: &mut Out, bytes: &[u8], modes: &Modes, wire: &mut Wire)
 
 /// Posts bytes up to the first whose posted bytes do not fit in what can be held under a halt. Answers how many.
 pub fn post_fitting(out: &mut Out, bytes: &[u8], modes: &Modes, wire: &mut Wire) -> usize
-    requires column { out.old < 2 ^ 62 + 2 ^ 32 }
-    requires short { length bytes.now ≤ 64 }
+    requires column { out.old < COUNT_END + 2 ^ 32 }
+    requires short { length bytes.now ≤ PIECE }
     requires spare { 512 ≤ wire.old.spare }
     ensures count { result ≡ fitting_count modes.now out.old wire.old bytes.now }
     ensures column { out.new ≡ column_past_text modes.now out.old (all_posted_bytes modes.now out.old (take result bytes.now)) }
@@ -46,28 +48,12 @@ pub fn post_fitting(out: &mut Out, bytes: &[u8], modes: &Modes, wire: &mut Wire)
     count
 }
 
-/// The bytes after so many.
-pub fn rest_of(bytes: &[u8], count: usize) -> &[u8]
-    requires { count ≤ length bytes.now }
-    ensures { result.now ≡ drop count bytes.now }
-{
-    &bytes[count..]
-}
-
-/// The first bytes, so many.
-fn front_of(bytes: &[u8], count: usize) -> &[u8]
-    requires { count ≤ length bytes.now }
-    ensures { result.now ≡ take count bytes.now }
-{
-    &bytes[..count]
-}
-
 /// Posts the bytes from blank to tilde at the front, where all of them fit, or else the first byte, where
 /// that fits. Answers how many it posted.
 fn post_run(out: &mut Out, bytes: &[u8], modes: &Modes, wire: &mut Wire) -> usize
-    requires column { out.old < 2 ^ 62 + 2 ^ 33 }
+    requires column { out.old < COUNT_END + 2 ^ 33 }
     requires some { 0 < length bytes.now }
-    requires short { length bytes.now ≤ 64 }
+    requires short { length bytes.now ≤ PIECE }
     requires spare { 8 * length bytes.now ≤ wire.old.spare }
     ensures within { result ≤ length bytes.now }
     ensures none { result ≡ 0 → fitting_count modes.now out.old wire.old bytes.now ≡ 0 }
@@ -105,7 +91,7 @@ fn plain_len(bytes: &[u8]) -> usize
 
 /// Whether the first of some bytes fits with what is posted for it.
 pub fn fits_any(out: &Out, bytes: &[u8], modes: &Modes, wire: &Wire) -> bool
-    requires { out.now < 2 ^ 62 + 2 ^ 32 }
+    requires { out.now < COUNT_END + 2 ^ 32 }
     ensures { result ≡ nat_lt 0 (fitting_count modes.now out.now wire.now bytes.now) }
 {
     let [byte, ..] = bytes else {
@@ -120,8 +106,8 @@ pub fn fits_any(out: &Out, bytes: &[u8], modes: &Modes, wire: &Wire) -> bool
 
 /// How many bytes are posted for some.
 pub fn text_len(out: &Out, bytes: &[u8], modes: &Modes) -> usize
-    requires column { out.now < 2 ^ 62 + 2 ^ 32 }
-    requires short { length bytes.now ≤ 64 }
+    requires column { out.now < COUNT_END + 2 ^ 32 }
+    requires short { length bytes.now ≤ PIECE }
     ensures len { result ≡ length (all_posted_bytes modes.now out.now bytes.now) }
     ensures most { result ≤ 8 * length bytes.now }
 {
@@ -142,7 +128,7 @@ pub fn has_room(count: usize, wire: &Wire) -> bool
 
 /// Posts an echo whole, or where it does not fit drops it whole and counts its bytes.
 pub fn echo_bytes(out: &mut Out, echo: &[u8], modes: &Modes, wire: &mut Wire, tally: &mut Tally)
-    requires column { out.old < 2 ^ 62 + 2 ^ 32 }
+    requires column { out.old < COUNT_END + 2 ^ 32 }
     requires short { length echo.now ≤ 24 }
     requires spare { length (all_posted_bytes modes.now out.old echo.now) ≤ wire.old.spare }
     ensures column { out.new ≡ column_after_try modes.now wire.old out.old (all_posted_bytes modes.now out.old echo.now) }
@@ -160,7 +146,7 @@ pub fn echo_bytes(out: &mut Out, echo: &[u8], modes: &Modes, wire: &mut Wire, ta
 /// Posts the echo of a printed byte, which is that byte under all modes, or where it does not fit counts it.
 #[inline(always)]
 pub fn echo_printed(out: &mut Out, byte: u8, wire: &mut Wire, tally: &mut Tally)
-    requires column { out.old < 2 ^ 62 + 2 ^ 32 }
+    requires column { out.old < COUNT_END + 2 ^ 32 }
     requires spare { 0 < wire.old.spare }
     ensures column { out.new ≡ (if has_room wire.old (byte ∷ []) then out.old + 1 else out.old) }
     ensures wire { wire.new ≡ after_try wire.old (byte ∷ []) }

@@ -1,14 +1,12 @@
 //! Storing bytes, in the edited line and as unread input.
 
 ghost use Rattle.std.specs.Prelude.{◌≡◌, ◌+◌, ◌<◌, ◌≤◌, [], ◌∷◌, ◌++◌, length, map};
+ghost use Rattle.tty_base.specs.Sizes.{MOST_ENDS, MOST_LINE, MOST_UNREAD};
 ghost use Rattle.line_store.specs.Unread.{Byte, End, bytes_of, end_count};
 ghost use Rattle.n_tty.specs.Storing.{start_of};
 
 use line_store::Store;
 use n_tty_edit::Edit;
-
-/// How many bytes the edited line has at most.
-pub const MOST_LINE: usize = 4095;
 
 /// The column in which a line began: that of now, while it is empty.
 pub fn start_of(edit: &Edit, start: usize, column: u64) -> usize
@@ -23,7 +21,7 @@ pub fn start_of(edit: &Edit, start: usize, column: u64) -> usize
 
 /// Adds bytes to the line, which has room for them.
 pub fn add_all(edit: &mut Edit, bytes: &[u8])
-    requires { length edit.old + length bytes.now ≤ 4095 }
+    requires { length edit.old + length bytes.now ≤ MOST_LINE }
     ensures { edit.new ≡ edit.old ++ bytes.now }
 {
     if let [byte] = bytes {
@@ -37,8 +35,8 @@ pub fn add_all(edit: &mut Edit, bytes: &[u8])
 
 /// The line becomes a piece that ends with its delimiter.
 pub fn end_with(store: &mut Store, edit: &mut Edit, delimiter: u8)
-    requires room { length (bytes_of store.old) + length edit.old < 4096 }
-    requires ends { end_count store.old < 4096 }
+    requires room { length (bytes_of store.old) + length edit.old < MOST_UNREAD }
+    requires ends { end_count store.old < MOST_ENDS }
     ensures store { store.new ≡ store.old ++ (map Byte edit.old ++ Byte delimiter ∷ End ∷ []) }
     ensures edit { edit.new ≡ [] }
 {
@@ -50,8 +48,8 @@ pub fn end_with(store: &mut Store, edit: &mut Edit, delimiter: u8)
 
 /// The line becomes a piece that ends with an EOF mark.
 pub fn end_with_eof(store: &mut Store, edit: &mut Edit)
-    requires room { length (bytes_of store.old) + length edit.old ≤ 4096 }
-    requires ends { end_count store.old < 4096 }
+    requires room { length (bytes_of store.old) + length edit.old ≤ MOST_UNREAD }
+    requires ends { end_count store.old < MOST_ENDS }
     ensures store { store.new ≡ store.old ++ (map Byte edit.old ++ End ∷ []) }
     ensures edit { edit.new ≡ [] }
 {

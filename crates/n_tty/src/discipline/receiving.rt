@@ -1,6 +1,7 @@
 //! Taking a character: what each step of the rules does.
 
 ghost use Rattle.std.specs.Prelude.{◌≡◌, ◌+◌, ◌-◌, ◌*◌, ◌%◌, ◌<◌, ◌≤◌, ◌^◌, true, not, ◌&&◌, [], ◌∷◌, length, take};
+ghost use Rattle.tty_base.specs.Sizes.{COUNT_END};
 ghost use Rattle.tty_modes.specs.Settings.{has_flag};
 ghost use Rattle.tty_modes.specs.declared.places.TheConstants.{ICANON};
 ghost use Rattle.flow_control.specs.Output.{Output};
@@ -17,10 +18,11 @@ use super::NTty;
 use crate::erasing::echo_erased;
 use crate::posting::{echo_bytes, echo_printed};
 use crate::roles::{Role, is_character, is_plain, mapped_byte, role_of, signal_of};
-use crate::storing::{MOST_LINE, add_all, end_with, end_with_eof, start_of};
+use crate::storing::{add_all, end_with, end_with_eof, start_of};
 use echo_out::{EchoEvent, EraseKind, echo};
 use flow_control::{Counter, Tally, Wire};
 use n_tty_edit::is_printed;
+use tty_base::sizes::MOST_LINE;
 use tty_base::{Flag, Flagged, Signal};
 use tty_modes::Modes;
 use tty_modes::places::{
@@ -162,7 +164,7 @@ impl NTty {
     )
         requires room { length wire.old.held + 24 ≤ wire.old.spare }
         requires signal { 0 < tally.old.signals.spare }
-        requires column { self.old.column < 2 ^ 62 }
+        requires column { self.old.column < COUNT_END }
         ensures after { on_port self.new wire.new tally.new
             ≡ after_signal_character modes.now signal b (on_port self.old wire.old tally.old) }
     {
@@ -247,7 +249,7 @@ impl NTty {
     /// ERASE, with its echo.
     fn erase(&mut self, modes: &Modes, wire: &mut Wire, tally: &mut Tally)
         requires room { 24 ≤ wire.old.spare }
-        requires column { self.old.column < 2 ^ 62 }
+        requires column { self.old.column < COUNT_END }
         ensures after { on_port self.new wire.new tally.new
             ≡ after_erase modes.now (on_port self.old wire.old tally.old) }
     {
@@ -264,7 +266,7 @@ impl NTty {
     /// WERASE, with its echo.
     fn erase_word(&mut self, modes: &Modes, wire: &mut Wire, tally: &mut Tally)
         requires room { 8 * length self.old.edit + 24 ≤ wire.old.spare }
-        requires column { self.old.column < 2 ^ 62 }
+        requires column { self.old.column < COUNT_END }
         ensures after { on_port self.new wire.new tally.new
             ≡ after_word_erase modes.now (on_port self.old wire.old tally.old) }
     {
@@ -285,7 +287,7 @@ impl NTty {
     /// KILL, with its echo: of each byte, or of itself.
     fn kill(&mut self, modes: &Modes, wire: &mut Wire, tally: &mut Tally)
         requires room { 8 * length self.old.edit + 24 ≤ wire.old.spare }
-        requires column { self.old.column < 2 ^ 62 }
+        requires column { self.old.column < COUNT_END }
         ensures after { on_port self.new wire.new tally.new
             ≡ after_kill modes.now (on_port self.old wire.old tally.old) }
     {
@@ -369,7 +371,7 @@ impl NTty {
     #[inline(always)]
     fn echo_shown(&mut self, b: u8, modes: &Modes, wire: &mut Wire, tally: &mut Tally)
         requires room { 24 ≤ wire.old.spare }
-        requires column { self.old.column < 2 ^ 62 }
+        requires column { self.old.column < COUNT_END }
         ensures after { on_port self.new wire.new tally.new
             ≡ with_echo modes.now (EchoEvent.Plain b) (on_port self.old wire.old tally.old) }
     {
@@ -387,7 +389,7 @@ impl NTty {
     fn echo(&mut self, event: EchoEvent, modes: &Modes, wire: &mut Wire, tally: &mut Tally)
         requires event { FitsEcho event }
         requires room { 24 ≤ wire.old.spare }
-        requires column { self.old.column < 2 ^ 62 }
+        requires column { self.old.column < COUNT_END }
         ensures after { on_port self.new wire.new tally.new
             ≡ with_echo modes.now event (on_port self.old wire.old tally.old) }
     {

@@ -1,7 +1,8 @@
 //! Receiving runs of characters at once.
 
-ghost use Rattle.std.specs.Prelude.{◌≡◌, ◌+◌, ◌*◌, ◌<◌, ◌≤◌, ◌^◌, false, length, take, drop};
+ghost use Rattle.std.specs.Prelude.{◌≡◌, ◌+◌, ◌*◌, ◌<◌, ◌≤◌, ◌^◌, false, length, take};
 ghost use Rattle.std.specs.List.{AllByRecursion};
+ghost use Rattle.tty_base.specs.Sizes.{COUNT_END};
 ghost use Rattle.flow_control.specs.Output.{Output, is_halted};
 ghost use Rattle.flow_control.specs.declared.tally.Tally.{Tally};
 ghost use Rattle.n_tty.specs.States.{on_port, is_accepting, unread_count, FitsModes};
@@ -10,20 +11,17 @@ ghost use Rattle.n_tty.specs.Runs.{after_characters, AcceptsAll, after_stored, a
 ghost use Rattle.line_store.specs.Good.{IsGood, bytes_in};
 ghost use Rattle.n_tty_edit.specs.Typed.{IsTyped};
 
-use super::{CHARACTER_ROOM, MOST_ENDS, NTty};
-use crate::posting::rest_of as bytes_after;
+use super::{CHARACTER_ROOM, NTty};
 use crate::roles::{are_joined, are_typed, is_raw};
 use crate::storing::start_of;
 use flow_control::{Tally, Wire};
-use tty_base::Flagged;
+use tty_base::sizes::{MOST_ENDS, MOST_TO_ACCEPT_MARKED, PIECE};
+use tty_base::{Flagged, front_of, rest_of};
 use tty_modes::Modes;
 use tty_modes::places::IXOFF;
 
-/// How many characters a run has at most.
-const MOST_RUN: usize = 64;
-
 /// With fewer unread bytes a character is accepted under all modes.
-const FEW: usize = 4093;
+const FEW: usize = MOST_TO_ACCEPT_MARKED + 1;
 
 impl NTty {
     /// Receives characters from the front, each at this tick and with the rule for ixoff after it, up to the first
@@ -39,7 +37,7 @@ impl NTty {
         requires fitting { FitsModes modes.now self.old }
         requires room { pending_count self.old wire.old + CHARACTER_ROOM * length chars.now ≤ wire.old.spare }
         requires signals { length chars.now ≤ tally.old.signals.spare }
-        requires column { self.old.column + 2 ^ 22 * length chars.now < 2 ^ 62 }
+        requires column { self.old.column + 2 ^ 22 * length chars.now < COUNT_END }
         ensures within { result ≤ length chars.now }
         ensures after { on_port self.new wire.new tally.new
             ≡ after_characters modes.now now (take result chars.now) (on_port self.old wire.old tally.old) }
@@ -77,7 +75,7 @@ impl NTty {
         requires fitting { FitsModes modes.now self.old }
         requires room { pending_count self.old wire.old + CHARACTER_ROOM * length chars.now ≤ wire.old.spare }
         requires signals { length chars.now ≤ tally.old.signals.spare }
-        requires column { self.old.column < 2 ^ 62 }
+        requires column { self.old.column < COUNT_END }
         ensures within { result ≤ length chars.now }
         ensures after { on_port self.new wire.new tally.new
             ≡ after_characters modes.now now (take result chars.now) (on_port self.old wire.old tally.old) }
@@ -106,7 +104,7 @@ impl NTty {
     fn receive_run(&mut self, chars: &[Flagged], now: u64, modes: &Modes, wire: &mut Wire) -> usize
         requires fitting { FitsModes modes.now self.old }
         requires room { pending_count self.old wire.old + CHARACTER_ROOM * length chars.now ≤ wire.old.spare }
-        requires column { self.old.column < 2 ^ 62 }
+        requires column { self.old.column < COUNT_END }
         ensures within { result ≤ length chars.now }
         ensures after { (tally : Tally) → on_port self.new wire.new tally
             ≡ after_characters modes.now now (take result chars.now) (on_port self.old wire.old tally) }
@@ -124,7 +122,7 @@ impl NTty {
         if self.quoted || modes.has(IXOFF) || wire.noted() {
             return 0;
         }
-        let chars = front_of(chars, chars.len().min(MOST_RUN).min(FEW - unread));
+        let chars = front_of(chars, chars.len().min(PIECE).min(FEW - unread));
         if is_raw(modes) {
             self.store_run(chars, now)
         } else if are_typed(modes) && !wire.halted() {
@@ -138,8 +136,8 @@ impl NTty {
 
     /// Stores the good characters at the front. Answers how many.
     fn store_run(&mut self, chars: &[Flagged], now: u64) -> usize
-        requires short { length chars.now ≤ 64 }
-        requires room { unread_count self.old + length chars.now ≤ 4093 }
+        requires short { length chars.now ≤ PIECE }
+        requires room { unread_count self.old + length chars.now ≤ FEW }
         ensures within { result ≤ length chars.now }
         ensures good { AllByRecursion IsGood (take result chars.now) }
         ensures after { (output : Output) (tally : Tally) → on_port self.new output tally ≡ after_stored now (bytes_in (take result chars.now)) (on_port self.old output tally) }
@@ -157,8 +155,8 @@ impl NTty {
     /// Adds the good characters from blank to tilde at the front to the edited line. Answers how many.
     #[inline(never)]
     fn join_run(&mut self, chars: &[Flagged], now: u64) -> usize
-        requires short { length chars.now ≤ 64 }
-        requires room { unread_count self.old + length chars.now ≤ 4093 }
+        requires short { length chars.now ≤ PIECE }
+        requires room { unread_count self.old + length chars.now ≤ FEW }
         ensures within { result ≤ length chars.now }
         ensures typed { AllByRecursion IsTyped (take result chars.now) }
         ensures after { (output : Output) (tally : Tally) → on_port self.new output tally ≡ after_joined now (bytes_in (take result chars.now)) (on_port self.old output tally) }
@@ -178,11 +176,11 @@ impl NTty {
     /// Adds the good characters from blank to tilde at the front to the edited line, and echoes them. Answers how many.
     #[inline(always)]
     fn type_run(&mut self, chars: &[Flagged], now: u64, wire: &mut Wire) -> usize
-        requires short { length chars.now ≤ 64 }
-        requires room { unread_count self.old + length chars.now ≤ 4093 }
+        requires short { length chars.now ≤ PIECE }
+        requires room { unread_count self.old + length chars.now ≤ FEW }
         requires flows { is_halted wire.old ≡ false }
         requires spare { length chars.now ≤ wire.old.spare }
-        requires column { self.old.column < 2 ^ 62 }
+        requires column { self.old.column < COUNT_END }
         ensures within { result ≤ length chars.now }
         ensures typed { AllByRecursion IsTyped (take result chars.now) }
         ensures after { (tally : Tally) → on_port self.new wire.new tally ≡ after_typed now (bytes_in (take result chars.now)) (on_port self.old wire.old tally) }
@@ -198,25 +196,9 @@ impl NTty {
         if count > 0 {
             self.start = start;
             self.last = now;
-            let _sent = wire.send(bytes_after(self.edit.bytes(), begun));
+            let _sent = wire.send(rest_of(self.edit.bytes(), begun));
             self.out.pass(count);
         }
         count
     }
-}
-
-/// The first characters, so many.
-fn front_of(chars: &[Flagged], count: usize) -> &[Flagged]
-    requires { count ≤ length chars.now }
-    ensures { result.now ≡ take count chars.now }
-{
-    &chars[..count]
-}
-
-/// The characters after so many.
-fn rest_of(chars: &[Flagged], count: usize) -> &[Flagged]
-    requires { count ≤ length chars.now }
-    ensures { result.now ≡ drop count chars.now }
-{
-    &chars[count..]
 }
