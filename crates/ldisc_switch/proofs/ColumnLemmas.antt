@@ -29,7 +29,8 @@ no_text text column h = more_text text [] column column h refl
 heard_column : (tty : NTtyState) (conditions : Conditions) (c : Flagged) → (after_character conditions.modes conditions.tick c (on_port tty conditions.output conditions.tally)).tty.column ≡ column_after tty.column (posted_text_under conditions.modes (character_echo conditions c tty))
 heard_column tty conditions c = (taken_tells conditions.modes conditions.tick c.flag c.byte tty conditions.output conditions.tally new_tally new_tally refl).column_is
 
-one_of_four : (v w : Bool) (tty plain ended : NTtyState) → plain.column ≡ tty.column → ended.column ≡ tty.column → (if v then (if w then tty else plain) else (if w then ended else tty)).column ≡ tty.column
+one_of_four : (v w : Bool) (tty plain ended : NTtyState) → plain.column ≡ tty.column → ended.column ≡ tty.column
+    → (if v then (if w then tty else plain) else (if w then ended else tty)).column ≡ tty.column
 one_of_four true true tty plain ended same_plain same_ended = refl
 one_of_four true false tty plain ended same_plain same_ended = same_plain
 one_of_four false true tty plain ended same_plain same_ended = same_ended

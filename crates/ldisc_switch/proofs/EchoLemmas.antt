@@ -16,7 +16,9 @@ use Rattle.ldisc_switch.specs.Posted.{kept_echo}
 pub record Tells (modes : Settings) (column : ℕ) (real under on_idle : OnPort) : Type 0 where
   pub column_is : real.tty.column ≡ column_after column (posted_text_under modes (kept_echo under on_idle))
 
-pub either : (b : Bool) {modes : Settings} {column : ℕ} {real under on_idle real' under' on_idle' : OnPort} → Tells modes column real under on_idle → Tells modes column real' under' on_idle' → Tells modes column (if b then real else real') (if b then under else under') (if b then on_idle else on_idle')
+pub either : (b : Bool) {modes : Settings} {column : ℕ} {real under on_idle real' under' on_idle' : OnPort}
+    → Tells modes column real under on_idle → Tells modes column real' under' on_idle'
+    → Tells modes column (if b then real else real') (if b then under else under') (if b then on_idle else on_idle')
 either true h h' = h
 either false h h' = h'
 
@@ -49,7 +51,9 @@ posts false modes column text tally zero full =
     rw (ne_eqb (min (tally.counts.echo + length text) 18446744073709551615) 0 (not_zero tally.counts.echo (length text) (full refl))) refl
 
 -- where an echo is posted last
-pub echo_tells : (modes : Settings) (echo : List ℕ) (tty : NTtyState) (output : Output) (tally under on_idle : Tally) → under.counts.echo ≡ 0 → Tells modes tty.column (after_echo modes echo (on_port tty output tally)) (after_echo modes echo (on_port tty output under)) (after_echo modes echo (on_port tty idle_output on_idle))
+pub echo_tells : (modes : Settings) (echo : List ℕ) (tty : NTtyState) (output : Output) (tally under on_idle : Tally)
+    → under.counts.echo ≡ 0
+    → Tells modes tty.column (after_echo modes echo (on_port tty output tally)) (after_echo modes echo (on_port tty output under)) (after_echo modes echo (on_port tty idle_output on_idle))
 echo_tells modes echo tty output tally under on_idle zero =
     let text : List ℕ = all_posted_bytes modes tty.column echo in
     record { column_is = posts (has_room output text) modes tty.column text under zero (text_of_full output text) }

@@ -1,6 +1,7 @@
 -- Worked rows of what happens to a discipline.
 use Rattle.std.specs.Prelude.{ℕ, true, List, map, replicate}
 use Rattle.tty_base.specs.declared.characters.Flag.TheVariants.{Normal}
+use Rattle.tty_base.specs.Sizes.{MOST_HELD}
 use Rattle.tty_modes.specs.Settings.{Settings}
 use Rattle.flow_control.specs.Output.{Output, idle_output}
 use Rattle.ldisc_switch.specs.Happenings.{Conditions, Happening, character}
@@ -16,4 +17,4 @@ all_characters conditions bytes = map (λ byte. character conditions (record { b
 
 -- output that STOP halted, with all held that can be
 abbrev pub full_output : Output
-full_output = record idle_output { held = replicate 4096 0x78; stopped = true }
+full_output = record idle_output { held = replicate MOST_HELD 0x78; stopped = true }

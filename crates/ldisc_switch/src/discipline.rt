@@ -1,6 +1,7 @@
 //! A line discipline of either kind, with what both can do.
 
 ghost use Rattle.std.specs.Prelude.{◌≡◌, ◌+◌, ◌*◌, ◌^◌, ◌<◌, ◌≤◌, List, length, take, [], ◌∷◌, ◌++◌, IfOk, ℕ, true, false};
+ghost use Rattle.tty_base.specs.Sizes.{COUNT_END, MOST_HELD, MOST_LINE, MOST_UNREAD};
 ghost use Rattle.tty_modes.specs.Settings.{Settings};
 ghost use Rattle.flow_control.specs.declared.tally.Tally.{Tally};
 ghost use Rattle.ldisc_switch.specs.Disciplines.{kind_of, fresh_of, accepts_of, unread_of, Fits, column_in, last_in, pending_count_of, after_ixoff_rule_of, disc_on_port, after_character_of, after_characters_of, AcceptsAllOf};
@@ -63,7 +64,7 @@ impl Disc {
     /// How many bytes are unread; under N_SLIP none is.
     pub fn unread(&self) -> usize
         ensures count { result ≡ unread_of self.now }
-        ensures most { result ≤ 4096 }
+        ensures most { result ≤ MOST_UNREAD }
     {
         match self {
             Disc::Tty(tty) => tty.unread(),
@@ -75,7 +76,7 @@ impl Disc {
     /// `CHARACTER_ROOM` for each character, the room that characters need.
     pub fn pending(&self, wire: &Wire) -> usize
         ensures count { result ≡ pending_count_of self.now wire.now }
-        ensures most { result ≤ 36856 }
+        ensures most { result ≤ MOST_HELD + 8 * MOST_LINE }
     {
         match self {
             Disc::Tty(tty) => tty.pending(wire),
@@ -97,7 +98,7 @@ impl Disc {
         requires fitting { Fits modes.now self.old }
         requires room { pending_count_of self.old wire.old + CHARACTER_ROOM ≤ wire.old.spare }
         requires signal { 0 < tally.old.signals.spare }
-        requires column { column_in self.old < 2 ^ 62 }
+        requires column { column_in self.old < COUNT_END }
         ensures after { disc_on_port self.new wire.new tally.new ≡ after_character_of modes.now now c self.old wire.old tally.old }
         ensures happened { (kind : Kind) (events : List Happening) → HasHappened self.old kind events →
             let conditions : Conditions = record { modes = modes.now; tick = now; output = wire.old; tally = tally.old } in
@@ -133,7 +134,7 @@ impl Disc {
         requires fitting { Fits modes.now self.old }
         requires room { pending_count_of self.old wire.old + CHARACTER_ROOM * length chars.now ≤ wire.old.spare }
         requires signals { length chars.now ≤ tally.old.signals.spare }
-        requires column { column_in self.old + 2 ^ 22 * length chars.now < 2 ^ 62 }
+        requires column { column_in self.old + 2 ^ 22 * length chars.now < COUNT_END }
         ensures within { result ≤ length chars.now }
         ensures after { disc_on_port self.new wire.new tally.new
             ≡ after_characters_of modes.now now (take result chars.now) (disc_on_port self.old wire.old tally.old) }
