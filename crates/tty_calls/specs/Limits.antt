@@ -1,34 +1,19 @@
 -- What a session asks at most: the limits that every session keeps that a text spells.
 use Rattle.std.specs.Prelude.{◌≡◌, ℕ, ◌<◌, ◌≤◌, IsTrue, List, All, length, map, sum_by}
+use Rattle.tty_base.specs.Sizes.{LEAST_FLIP, MOST_ARRIVALS, MOST_ASKED, MOST_FLIP, MOST_STEPS, MOST_TICKS}
 use Rattle.tty_base.specs.Lines.{arrival_count, is_step}
-use Rattle.tty_calls.specs.Plain.{PlainCall, opens, closes, reads, writes, gets_modes, sets_modes, gets_disc, sets_disc, flushes, steers, counts_input, counts_output, excludes, admits, drains, gets_counts, hangs_up, sends_packet, takes_packet, handle_of}
+use Rattle.tty_calls.specs.Plain.{PlainCall, writes, sends_packet, handle_of}
 use Rattle.tty_calls.specs.Sessions.{PlainScript, PlainPhase, PlainSession, line_on, ticks_on, scripts_on, names_of}
 
 -- how many bytes a call hands over
 abbrev pub byte_count : PlainCall → ℕ
-byte_count (opens h access nonblock) = 0
-byte_count (closes h) = 0
-byte_count (reads h n) = 0
 byte_count (writes h bytes) = length bytes
-byte_count (gets_modes h) = 0
-byte_count (sets_modes h when words) = 0
-byte_count (gets_disc h) = 0
-byte_count (sets_disc h n) = 0
-byte_count (flushes h queue) = 0
-byte_count (steers h act) = 0
-byte_count (counts_input h) = 0
-byte_count (counts_output h) = 0
-byte_count (excludes h) = 0
-byte_count (admits h) = 0
-byte_count (drains h) = 0
-byte_count (gets_counts h) = 0
-byte_count (hangs_up h) = 0
 byte_count (sends_packet h bytes) = length bytes
-byte_count (takes_packet h) = 0
+byte_count call = 0
 
 pub record IsCallWithin (call : PlainCall) : Type 0 where
   pub handle : handle_of call < 32
-  pub bytes : byte_count call ≤ 65536
+  pub bytes : byte_count call ≤ MOST_ASKED
 
 pub record IsScriptWithin (ports : ℕ) (script : PlainScript) : Type 0 where
   pub port : script.port < ports
@@ -57,10 +42,10 @@ pub record IsWithinLimits (session : PlainSession) : Type 0 where
   pub some_ports : 0 < session.ports
   pub few_ports : session.ports ≤ 8
   pub flips : length session.flips ≡ session.ports
-  pub some_flip : All (λ n. 64 ≤ n) session.flips
-  pub few_flip : All (λ n. n ≤ 65536) session.flips
+  pub some_flip : All (λ n. LEAST_FLIP ≤ n) session.flips
+  pub few_flip : All (λ n. n ≤ MOST_FLIP) session.flips
   pub few_phases : length session.phases ≤ 64
   pub phases : All (IsPhaseWithin session.ports) session.phases
-  pub few_calls : call_count session.phases ≤ 65536
-  pub few_characters : (p : ℕ) → character_count p session.phases ≤ 262144
-  pub few_ticks : (p : ℕ) → tick_count p session.phases ≤ 65536
+  pub few_calls : call_count session.phases ≤ MOST_STEPS
+  pub few_characters : (p : ℕ) → character_count p session.phases ≤ MOST_ARRIVALS
+  pub few_ticks : (p : ℕ) → tick_count p session.phases ≤ MOST_TICKS
