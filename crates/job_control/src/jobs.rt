@@ -2,7 +2,7 @@
 
 ghost use Rattle.std.specs.Prelude.{◌≡◌, ◌==◌, ◌<◌, ◌≤◌, ℕ, false, true, length, map, slice_get, slice_index, slice_index_or, slice_set, replicate, EachIndex, IfOk};
 ghost use Rattle.std.specs.Option.{option_map_or};
-ghost use Rattle.job_control.specs.Roster.{has_living};
+ghost use Rattle.job_control.specs.Roster.{group_at, has_living};
 ghost use Rattle.job_control.specs.Control.{first_jobs, controls, in_background, leads_holder, ignores_ttin, ignores_ttou, is_orphan, change_judged, judged, done_unless, sctty_refusal, after_sctty, no_terminal, let_go, after_notty, foreground_of, gpgrp_answer, spgrp_refusal, after_spgrp, after_exit, leader_of};
 
 use super::census::Census;
@@ -213,8 +213,8 @@ impl Jobs {
         }
     }
 
-    // Whether the port is the controlling terminal of a process.
-    fn controls(&self, proc: u16) -> bool
+    /// Whether the port is the controlling terminal of a process.
+    pub fn controls(&self, proc: u16) -> bool
         ensures { result ≡ controls self.now proc }
     {
         match self.holder {
@@ -224,6 +224,13 @@ impl Jobs {
                     && !self.has_given_up(proc)
             }
         }
+    }
+
+    /// The group of a process.
+    pub fn group(&self, proc: u16) -> u16
+        ensures { result ≡ group_at self.now.procs proc }
+    {
+        group_of(self.procs.as_slice(), proc)
     }
 
     fn is_background(&self, proc: u16) -> bool
@@ -245,8 +252,8 @@ impl Jobs {
         has_mark(self.given_up_at.as_slice(), self.taken, proc)
     }
 
-    // Whether a process leads the session that holds the port.
-    fn leads(&self, proc: u16) -> bool
+    /// Whether a process leads the session that holds the port.
+    pub fn leads(&self, proc: u16) -> bool
         ensures { result ≡ leads_holder self.now proc }
     {
         match self.holder {

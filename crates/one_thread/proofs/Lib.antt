@@ -18,6 +18,7 @@ pub mod LineCuts
 pub mod LineEnds
 pub mod LineLoop
 pub mod LineWindows
+pub mod LineFlushes
 pub mod NameLemmas
 pub mod RoleLemmas
 pub mod CastLemmas

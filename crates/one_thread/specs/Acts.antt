@@ -1,6 +1,6 @@
 -- What each act of the player needs, and what it comes to, whatever scene is played: so it serves also where the
 -- session is known only at its end.
-use Rattle.std.specs.Prelude.{◌≡◌, ◌<◌, ◌+◌, ◌-◌, ℕ, List, [], ◌∷◌, ◌++◌, IsTrue, None, Some, length, slice_get}
+use Rattle.std.specs.Prelude.{◌≡◌, ◌<◌, ◌≤◌, ◌+◌, ◌-◌, ℕ, List, [], ◌∷◌, ◌++◌, IsTrue, All, None, Some, length, slice_get}
 use Rattle.tty_base.specs.declared.lines.LineStep.{LineStep}
 use Rattle.word_ring.specs.Ends.{PutterState}
 use Rattle.tty_base.specs.declared.characters.Flagged.{Flagged}
@@ -11,7 +11,7 @@ use Rattle.tty_calls.specs.declared.sessions.Script.{Script}
 use Rattle.tty_calls.specs.Plain.{PlainCall, PlainEntry}
 use Rattle.tty_calls.specs.Sessions.{line_on, ticks_on, call_at, counts_on}
 use Rattle.tty_terminal.specs.Terminals.{caller_at}
-use Rattle.tty_terminal.specs.Runs.{Leads, Grows, is_of_call}
+use Rattle.tty_terminal.specs.Runs.{Leads, Grows, is_flush, is_of_call}
 use Rattle.journal_check.specs.Legal.{phase_at, session_events_in}
 use Rattle.port_core.specs.Attempts.{PlainTried, Attempts}
 use Rattle.port_core.specs.Ports.{PortValue, call_in, Appends, end_entry}
@@ -39,6 +39,18 @@ pub record PlaysItsLine (steps : List LineStep) (old new : PortValue) (putter no
 
 pub record StopsItsLine (d : Denied) (steps : List LineStep) (old new : PortValue) (putter now : PutterState Flagged) (line played : LineState) (run : ℕ) : Type 0 where
   pub each : (h : BeginsLine steps old putter line run) → StopsLine d h.scene old.terminal.phase old new now played
+
+-- by steps of it: one flush more at most, and no call
+pub record FlushesOnce (old new : PortValue) : Type 0 where
+  pub part : List PlainEntry
+  pub added : new.journal ≡ old.journal ++ part
+  pub few : length part ≤ 1
+  pub flushes : All (λ e. IsTrue (is_flush e.event)) part
+  -- where nothing was flushed, the terminal is as before
+  pub stays : part ≡ [] → new.terminal ≡ old.terminal
+  pub kept : new.kept ≡ old.kept
+  pub counts : new.counts ≡ old.counts
+  pub capacity : new.flip.capacity ≡ old.flip.capacity
 
 -- ---- a turn after it
 

@@ -10,7 +10,7 @@ mod roles;
 mod rows;
 
 pub use after_line::{Stand, Turn, end_calls, end_phase, flush, pass, try_call, turn_of};
-pub use line::play_line;
+pub use line::{Passed, play_line, play_step, play_window};
 pub use phases::{Station, scripts_of, steps_of, ticks_of};
 pub use playing::{Played, play};
 pub use ports::{JOURNAL_LIMIT, hang_up, open_port, stop};

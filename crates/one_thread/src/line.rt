@@ -9,7 +9,7 @@ ghost use Rattle.uart_line.specs.GoodSteps.{good_steps};
 ghost use Rattle.uart_line.specs.WholeWindow.{IsOpen};
 ghost use Rattle.uart_line.specs.Received.{closed_script};
 ghost use Rattle.one_thread.specs.Stages.{BeginsRun};
-ghost use Rattle.one_thread.specs.Acts.{BeginsLine, PlaysItsLine, StopsItsLine};
+ghost use Rattle.one_thread.specs.Acts.{BeginsLine, PlaysItsLine, StopsItsLine, FlushesOnce};
 ghost use Rattle.one_thread.specs.LineInside.{StandsBefore, PlaysSteps, StopsSteps, FlushesSince, DeniesCut, FlushesCut, run_after};
 
 use flip_buffer::FlipIn;
@@ -143,16 +143,16 @@ fn play_flagged(
 
 /// What the next steps of a line came to.
 #[derive(Clone, Copy)]
-struct Passed {
+pub struct Passed {
     /// How many steps that were.
-    steps: usize,
+    pub steps: usize,
     /// The number of the next flush run.
-    run: u32,
+    pub run: u32,
 }
 
-/// The first of these good characters, or a whole window of them, and a flush of what was put.
+/// Plays the first of these good characters, or a whole window of them, and a flush of what was put.
 #[inline(always)]
-fn play_window(
+pub fn play_window(
     port: &mut Port,
     putter: &mut FlipIn,
     line: &mut Line,
@@ -168,6 +168,7 @@ fn play_window(
     ensures some { IfOk result (λ passed. 0 < passed.steps) }
     ensures within { IfOk result (λ passed. passed.steps ≤ length bytes.now) }
     ensures ok { IfOk result (λ passed. PlaysSteps (take passed.steps (good_steps bytes.now)) port.old port.new putter.old putter.new line.old line.new run passed.run) }
+    ensures flushes { FlushesOnce port.old port.new }
     ensures err { IfErr result (λ d. StopsSteps d (good_steps bytes.now) port.old port.new putter.old putter.new line.old line.new run) }
 {
     match window_to_give(port, putter, line, bytes) {
@@ -214,6 +215,7 @@ fn give_window(
     requires run { BeginsRun run port.old }
     ensures steps { IfOk result (λ passed. passed.steps ≡ 8) }
     ensures ok { IfOk result (λ passed. PlaysSteps (good_steps window.now) port.old port.new putter.old putter.new line.old line.new run passed.run) }
+    ensures flushes { FlushesOnce port.old port.new }
     ensures err { IfErr result (λ d. StopsSteps d (good_steps window.now) port.old port.new putter.old putter.new line.old line.new run) }
 {
     port.numbers_tell();
@@ -243,6 +245,7 @@ fn play_first(
     ensures some { IfOk result (λ passed. 0 < passed.steps) }
     ensures within { IfOk result (λ passed. passed.steps ≤ length bytes.now) }
     ensures ok { IfOk result (λ passed. PlaysSteps (take passed.steps (good_steps bytes.now)) port.old port.new putter.old putter.new line.old line.new run passed.run) }
+    ensures flushes { FlushesOnce port.old port.new }
     ensures err { IfErr result (λ d. StopsSteps d (good_steps bytes.now) port.old port.new putter.old putter.new line.old line.new run) }
 {
     let step = LineStep::Rx(Flagged::good(bytes[0]));
@@ -253,9 +256,9 @@ fn play_first(
     })
 }
 
-/// A step of the line, and a flush of what it has put.
+/// Plays a step of the line, and a flush of what it has put. Answers the number of the next flush run.
 #[inline(never)]
-fn play_step(
+pub fn play_step(
     port: &mut Port,
     putter: &mut FlipIn,
     line: &mut Line,
@@ -268,6 +271,7 @@ fn play_step(
     requires ring { putter.old.ring ≡ port.old.flip.ring }
     requires run { BeginsRun run port.old }
     ensures ok { IfOk result (λ next. PlaysSteps (step ∷ []) port.old port.new putter.old putter.new line.old line.new run next) }
+    ensures flushes { FlushesOnce port.old port.new }
     ensures err { IfErr result (λ d. StopsSteps d (step ∷ []) port.old port.new putter.old putter.new line.old line.new run) }
 {
     let before = putter.sent();

@@ -5,6 +5,7 @@ use Rattle.word_ring.specs.Ends.{PutterState}
 use Rattle.tty_base.specs.declared.characters.Flagged.{Flagged}
 use Rattle.uart_line.specs.LineState.{LineState}
 use Rattle.tty_calls.specs.declared.sessions.Script.{Script}
+use Rattle.tty_calls.specs.Limits.{IsWithinLimits}
 use Rattle.tty_calls.specs.Sessions.{ticks_on, call_at}
 use Rattle.tty_terminal.specs.Runs.{Grows}
 use Rattle.journal_check.specs.Legal.{AreInPhases, phase_at}
@@ -23,11 +24,13 @@ pub record Agrees (s : Scene) (v : PortValue) : Type 0 where
   pub known : Grows (call_in v.kept) (call_at s.port s.session)
   pub in_phases : AreInPhases s.port s.session 0 v.journal
 
--- a scene like another one: the same port, and its session is the same on it, but for the calls of its callers
+-- a scene like another one: the same port, and its session is the same on it, but for the calls of its callers, and
+-- keeps the limits
 pub record IsLike (first s : Scene) : Type 0 where
   pub port : s.port ≡ first.port
   pub shape : HasShape first.port first.session s.session
   pub ticks : map (ticks_on first.port) s.session.phases ≡ map (ticks_on first.port) first.session.phases
+  pub limits : IsWithinLimits s.session
 
 -- Each scene like this one that agrees with the port was played up to the phase that begins.
 pub record IsBeforeEach (first : Scene) (v : PortValue) (putter : PutterState Flagged) (line : LineState) (run : ℕ) : Type 0 where

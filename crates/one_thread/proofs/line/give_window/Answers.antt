@@ -1,5 +1,7 @@
 use Rattle.std.proofs.Common.{arith}
 use Rattle.std.proofs.lemmas.Result.{err_from_is_err_and}
+use Rattle.tty_base.specs.Characters.{good_characters}
+use Rattle.one_thread.proofs.LineFlushes.{given_once, given_denied}
 use Rattle.one_thread.proofs.LineWindows.{AcceptsWindow, window_given, window_denied}
 use Rattle.one_thread.proofs.line.give_window.Goals as goal
 
@@ -21,3 +23,13 @@ returns-clause-ok c =
     let w = c.flush_given.new in
     rw c.run_after.ensures (window_given c.args.port.now c.args.putter.now c.args.line.now c.accept_window.new.self c.args.window.now c.args.run accepts c.requires.put
     w.self w.putter c.in_ok-flushed.flushed c.journal-journal.ensures.port c.numbers_tell.ensures.taken (omega arith) c.in_ok-flushed.ensures.ok)
+
+pub returns-in_err-flushed-clause-flushes : goal.returns-in_err-flushed-clause-flushes
+returns-in_err-flushed-clause-flushes c =
+    let w = c.flush_given.new in
+    given_denied c.in_err-flushed.field-0.0 c.args.port.now w.self c.args.putter.now w.putter (good_characters c.args.window.now) c.in_err-flushed.ensures.err
+
+pub returns-clause-flushes : goal.returns-clause-flushes
+returns-clause-flushes c =
+    let w = c.flush_given.new in
+    given_once c.args.port.now w.self c.args.putter.now w.putter c.args.run (good_characters c.args.window.now) c.in_ok-flushed.flushed c.in_ok-flushed.ensures.ok

@@ -4,6 +4,7 @@ use Rattle.tty_base.specs.declared.lines.LineStep.{LineStep}
 use Rattle.uart_line.specs.LineState.{HasDone}
 use Rattle.one_thread.specs.LineInside.{FlushesSince, DeniesCut, PlaysSteps, StopsSteps}
 use Rattle.one_thread.proofs.LineSteps.{StepsTo}
+use Rattle.one_thread.proofs.LineFlushes.{since_once}
 use Rattle.one_thread.proofs.LineWindows.{step_plays, step_stops}
 use Rattle.one_thread.proofs.line.play_step.Goals as goal
 
@@ -30,3 +31,8 @@ returns-clause-err c =
     (λ d. StopsSteps d (c.args.step ∷ []) c.args.port.now w.port c.args.putter.now w.putter c.args.line.now c.step.new.self c.args.run)
     (λ d h. step_stops c.args.port.now c.args.putter.now c.step.new.put c.args.line.now c.step.new.self c.args.step c.args.run st d w.port w.putter h)
     c.flush_since.ensures.err
+
+pub returns-clause-flushes : goal.returns-clause-flushes
+returns-clause-flushes c =
+    let w = c.flush_since.new in
+    since_once c.sent-before.result c.args.port.now w.port c.step.new.put w.putter c.args.run c.flush_since.result c.flush_since.ensures.ok c.flush_since.ensures.err
