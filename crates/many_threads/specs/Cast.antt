@@ -1,4 +1,4 @@
--- How the roles of a phase are seated by the numbers of their callers: for private functions alone.
+-- How the roles of a phase are seated by the numbers of their callers.
 use Rattle.std.specs.Prelude.{List, [], ◌∷◌, Option, Some, slice_set}
 use Rattle.one_thread.specs.declared.roles.Role.{Role}
 

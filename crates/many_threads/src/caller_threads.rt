@@ -19,9 +19,9 @@ use tty_port::{Gate, Seat};
 /// What comes of the callers of a phase: their seats in their order, and whether one of them found the
 /// journal full.
 #[derive(Drop)]
-pub(crate) struct CallersBack {
-    pub(crate) seats: Vec<Seat>,
-    pub(crate) full: bool,
+pub struct CallersBack {
+    pub seats: Vec<Seat>,
+    pub full: bool,
 }
 
 /// The calls of the script at a place; none where no script stands.

@@ -8,7 +8,7 @@ use std::alloc::Global;
 use tty_base::NoMemory;
 
 /// How many callers there are in all phases. One of several phases counts in each.
-pub(crate) fn caller_count(counts: &[u8]) -> usize
+pub fn caller_count(counts: &[u8]) -> usize
     requires { length counts.now ≤ 64 }
     ensures { result ≡ sum counts.now }
 {
@@ -16,7 +16,7 @@ pub(crate) fn caller_count(counts: &[u8]) -> usize
 }
 
 /// The cast of these roles, where there are so many callers.
-pub(crate) fn seat_roles(
+pub fn seat_roles(
     alloc: Global,
     roles: &[Role],
     callers: usize,

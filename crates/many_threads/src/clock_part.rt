@@ -33,7 +33,7 @@ fn make_ticks<R: Wait>(
 }
 
 /// Plays a clock: so many ticks, and then its end.
-pub(crate) fn play_clock<R: Wait>(
+pub fn play_clock<R: Wait>(
     rt: &R,
     shared: &SharedPort,
     seat: &mut Seat,

@@ -27,50 +27,50 @@ use tty_port::{Gate, Seat, SharedPort};
 
 /// The line of a phase, and the steps that it does.
 #[derive(Drop)]
-pub(crate) struct LineOfCrew<'s> {
-    pub(crate) receiver: Receiver,
-    pub(crate) steps: &'s LineSteps,
-    pub(crate) phase: u32,
+pub struct LineOfCrew<'s> {
+    pub receiver: Receiver,
+    pub steps: &'s LineSteps,
+    pub phase: u32,
 }
 
 /// The clock, and how many ticks it makes.
 #[derive(Drop)]
-pub(crate) struct ClockOfCrew {
-    pub(crate) seat: Seat,
-    pub(crate) ticks: u32,
+pub struct ClockOfCrew {
+    pub seat: Seat,
+    pub ticks: u32,
 }
 
 /// The flusher, and the number of its first flush run.
 #[derive(Drop)]
-pub(crate) struct FlusherOfCrew {
-    pub(crate) seat: Seat,
-    pub(crate) run: u32,
+pub struct FlusherOfCrew {
+    pub seat: Seat,
+    pub run: u32,
 }
 
 /// The callers in their order, each with its role, where it has one.
 #[derive(Drop)]
-pub(crate) struct CallersOfCrew<'s> {
-    pub(crate) seats: Vec<Seat>,
-    pub(crate) cast: &'s [Option<Role>],
-    pub(crate) scripts: &'s [Script],
+pub struct CallersOfCrew<'s> {
+    pub seats: Vec<Seat>,
+    pub cast: &'s [Option<Role>],
+    pub scripts: &'s [Script],
 }
 
 /// Who has a thread in a phase, each with its seat and its part.
 #[derive(Drop)]
-pub(crate) struct Crew<'s> {
-    pub(crate) line: LineOfCrew<'s>,
-    pub(crate) clock: ClockOfCrew,
-    pub(crate) flusher: FlusherOfCrew,
-    pub(crate) callers: CallersOfCrew<'s>,
+pub struct Crew<'s> {
+    pub line: LineOfCrew<'s>,
+    pub clock: ClockOfCrew,
+    pub flusher: FlusherOfCrew,
+    pub callers: CallersOfCrew<'s>,
 }
 
 /// What the threads of a phase bring back.
 #[derive(Drop)]
-pub(crate) struct CrewBack {
-    pub(crate) line: LineBack,
-    pub(crate) clock: SeatBack,
-    pub(crate) flusher: FlusherBack,
-    pub(crate) callers: CallersBack,
+pub struct CrewBack {
+    pub line: LineBack,
+    pub clock: SeatBack,
+    pub flusher: FlusherBack,
+    pub callers: CallersBack,
 }
 
 /// The flusher's thread, beside those of the callers.
@@ -209,5 +209,39 @@ pub(crate) fn run_crew<R: Threads + Wait + Sync, G: Gate + Sync>(
             requires { CanRun site.shared.now crew × (site.no_calls.now.items ≡ []) }
             ensures { IfOk result (CrewComes site.entry.shared.now crew.entry) }
         { run_all(scope, rt, alloc, gate, site, crew) },
+    )
+}
+
+/// Runs the flusher's thread and the callers' threads of a phase side by side, where others play its line and its
+/// clock. None acts before `start` is open, which it is told once these threads are made.
+pub fn run_beside<R: Threads + Wait + Sync, G: Gate + Sync>(
+    rt: &R,
+    alloc: Global,
+    gate: &G,
+    shared: &SharedPort,
+    start: &Start,
+    flusher: FlusherOfCrew,
+    callers: CallersOfCrew<'_>,
+) -> Result<(FlusherBack, CallersBack), NoMemory>
+    requires flusher { CanPlayFlusher shared.now flusher.run flusher.seat }
+    requires callers { CanPlayCallers shared.now callers }
+    ensures flusher { IfOk result (λ r. FlusherComes shared.now flusher.run flusher.seat r.0) }
+    ensures callers { IfOk result (λ r. CallersCome shared.now (cast_of callers.entry) r.1) }
+{
+    let no_calls = Calls::new(alloc);
+    let site = Site {
+        shared,
+        start,
+        no_calls: &no_calls,
+    };
+    thread::scope(
+        thread::scope_env(),
+        rt,
+        move |scope| -> Result<(FlusherBack, CallersBack), NoMemory>
+            requires { CanPlayFlusher site.shared.now flusher.run flusher.seat × CanPlayCallers site.shared.now callers
+                × (site.no_calls.now.items ≡ []) }
+            ensures { IfOk result (λ r. FlusherComes site.entry.shared.now flusher.run flusher.seat r.0
+                × CallersCome site.entry.shared.now (cast_of callers.entry) r.1) }
+        { flush_and_call(scope, rt, gate, site, flusher, callers) },
     )
 }

@@ -3,13 +3,13 @@
 //! the phase ends.
 #![tactic(auto)]
 
-mod beside;
 mod caller_part;
 mod caller_threads;
 mod cast;
 mod clock_part;
 mod crew;
 mod flusher_part;
+mod keeping;
 mod line_part;
 mod ports;
 mod seats;
@@ -19,4 +19,16 @@ mod start_signal;
 mod thread_bodies;
 mod thread_making;
 
+pub use caller_threads::CallersBack;
+pub use cast::{caller_count, seat_roles};
+pub use clock_part::play_clock;
+pub use crew::{CallersOfCrew, ClockOfCrew, Crew, CrewBack, FlusherOfCrew, LineOfCrew, run_beside};
+pub use keeping::beside;
+pub use line_part::Receiver;
+pub use seats::Seats;
 pub use session::play;
+pub use shared_phase::{
+    PhaseBack, PhaseEnd, PhaseWork, crew_of, end_phase, share, take_together, unshare,
+};
+pub use start_signal::Start;
+pub use thread_bodies::{FlusherBack, LineBack, SeatBack, tick_all};

@@ -43,10 +43,10 @@ fn send<R: Wait>(
 
 /// The line of a port in a phase: its seat, the line, and the end of the flip buffer that it puts to.
 #[derive(Drop)]
-pub(crate) struct Receiver {
-    pub(crate) seat: Seat,
-    pub(crate) line: Line,
-    pub(crate) putter: FlipIn,
+pub struct Receiver {
+    pub seat: Seat,
+    pub line: Line,
+    pub putter: FlipIn,
 }
 
 /// Plays a line: these steps and the two that close them, whose characters go to the putter, and then

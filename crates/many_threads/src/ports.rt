@@ -12,8 +12,8 @@ ghost use Rattle.many_threads.specs.PhaseStarts.{CanPlayPhase};
 ghost use Rattle.many_threads.specs.PhaseEnds.{PhaseComes};
 ghost use Rattle.many_threads.specs.InPlay.{IsBeforePhase, IsInPlay, AreInPlay, CanEnd};
 
-use crate::beside::beside;
 use crate::cast::{caller_count, seat_roles};
+use crate::keeping::beside;
 use crate::shared_phase::{PhaseEnd, PhaseWork, play_shared};
 use one_thread::{
     Role, Station, counts_of, hang_up, move_on, open_port, roles_of, scripts_of, steps_of, stop,

@@ -10,12 +10,12 @@ use tty_port::{Seat, SharedPort};
 
 /// The seats of a shared port: those of its callers in their order, and the other four.
 #[derive(Drop)]
-pub(crate) struct Seats {
-    pub(crate) callers: Vec<Seat>,
-    pub(crate) flusher: Seat,
-    pub(crate) line: Seat,
-    pub(crate) clock: Seat,
-    pub(crate) session: Seat,
+pub struct Seats {
+    pub callers: Vec<Seat>,
+    pub flusher: Seat,
+    pub line: Seat,
+    pub clock: Seat,
+    pub session: Seat,
 }
 
 /// Takes out the seat with the highest number.

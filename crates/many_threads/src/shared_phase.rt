@@ -9,11 +9,11 @@ ghost use Rattle.many_threads.specs.Seats.{AreDealt};
 ghost use Rattle.many_threads.specs.PhaseStarts.{CanPlayPhase};
 ghost use Rattle.many_threads.specs.PhaseEnds.{AreBack, IsShared, IsClosed, IsNextTold, end_of, AreTaken, ThreadsCome, ThreadsLeave, EndsOrStops, PhaseComes};
 
-use crate::beside::beside;
 use crate::caller_threads::is_full;
 use crate::crew::{
     CallersOfCrew, ClockOfCrew, Crew, CrewBack, FlusherOfCrew, LineOfCrew, run_crew,
 };
+use crate::keeping::beside;
 use crate::line_part::Receiver;
 use crate::seats::{Seats, deal, gather};
 use flip_buffer::FlipIn;
@@ -31,18 +31,18 @@ use uart_line::Line;
 /// What a phase asks of a port: the steps of its line, the ticks of its clock, and the roles of its callers
 /// from these scripts; beside it the phase's own number, and that of the next flush run.
 #[derive(Clone, Copy)]
-pub(crate) struct PhaseWork<'s> {
-    pub(crate) phase: u32,
-    pub(crate) run: u32,
-    pub(crate) steps: &'s LineSteps,
-    pub(crate) ticks: u32,
-    pub(crate) cast: &'s [Option<Role>],
-    pub(crate) scripts: &'s [Script],
+pub struct PhaseWork<'s> {
+    pub phase: u32,
+    pub run: u32,
+    pub steps: &'s LineSteps,
+    pub ticks: u32,
+    pub cast: &'s [Option<Role>],
+    pub scripts: &'s [Script],
 }
 
 /// What a phase came to: its end, with the number of the next flush run, or a full journal.
 #[derive(Clone, Copy)]
-pub(crate) enum PhaseEnd {
+pub enum PhaseEnd {
     Over(u32),
     Full,
 }
@@ -50,15 +50,15 @@ pub(crate) enum PhaseEnd {
 /// What the threads of a phase leave: all seats of the port, its line with the putting end, and whether
 /// the phase may end.
 #[derive(Drop)]
-pub(crate) struct PhaseBack {
-    pub(crate) seats: Seats,
-    pub(crate) line: Line,
-    pub(crate) putter: FlipIn,
-    pub(crate) end: PhaseEnd,
+pub struct PhaseBack {
+    pub seats: Seats,
+    pub line: Line,
+    pub putter: FlipIn,
+    pub end: PhaseEnd,
 }
 
 /// Shares a port of so many callers, and deals out its seats.
-fn share(alloc: Global, port: Port, callers: usize) -> Result<(SharedPort, Seats), NoMemory>
+pub fn share(alloc: Global, port: Port, callers: usize) -> Result<(SharedPort, Seats), NoMemory>
     requires { callers ≤ 4092 }
     ensures { IfOk result (λ r. IsShared callers port r.0 r.1) }
 {
@@ -69,7 +69,7 @@ fn share(alloc: Global, port: Port, callers: usize) -> Result<(SharedPort, Seats
 }
 
 /// Ends the sharing, with all seats.
-fn unshare(shared: SharedPort, seats: Seats) -> Result<Port, NoMemory>
+pub fn unshare(shared: SharedPort, seats: Seats) -> Result<Port, NoMemory>
     requires { AreBack shared seats }
     ensures { IfOk result (λ port. IsClosed shared seats port) }
 {
@@ -99,7 +99,7 @@ fn end_of(next: Option<u32>, full: bool) -> PhaseEnd
 }
 
 /// Takes together what the threads brought back. Memory that was wanting on one of them is wanting.
-fn take_together(back: CrewBack, session: Seat) -> Result<PhaseBack, NoMemory>
+pub fn take_together(back: CrewBack, session: Seat) -> Result<PhaseBack, NoMemory>
     ensures { IfOk result (AreTaken back session) }
 {
     let CrewBack {
@@ -146,7 +146,12 @@ fn play_together<R: Threads + Wait + Sync, G: Gate + Sync>(
 
 /// The crew of a phase: each with its seat and its part of the work, and the line with its putter. The seat of
 /// the session is left.
-fn crew_of<'s>(seats: Seats, line: Line, putter: FlipIn, work: PhaseWork<'s>) -> (Crew<'s>, Seat)
+pub fn crew_of<'s>(
+    seats: Seats,
+    line: Line,
+    putter: FlipIn,
+    work: PhaseWork<'s>,
+) -> (Crew<'s>, Seat)
     ensures crew { result.0 ≡ crew_in seats line putter work.entry }
     ensures session { result.1 ≡ seats.session }
 {
@@ -218,7 +223,7 @@ fn play_threads<R: Threads + Wait + Sync, G: Gate + Sync>(
 }
 
 /// Ends a phase that may end.
-fn end_phase(port: &mut Port, putter: &mut FlipIn, next: u32) -> Result<PhaseEnd, NoMemory>
+pub fn end_phase(port: &mut Port, putter: &mut FlipIn, next: u32) -> Result<PhaseEnd, NoMemory>
     requires may { may_end port.old.counts port.old.terminal ≡ true }
     requires ring { putter.old.ring ≡ port.old.flip.ring }
     ensures { IfOk result (EndsOrStops port.old port.new putter.old putter.new next) }

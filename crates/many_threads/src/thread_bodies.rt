@@ -17,23 +17,23 @@ use tty_port::{Gate, Seat, SharedPort};
 
 /// What a caller's thread, or the clock's, brings back.
 #[derive(Drop)]
-pub(crate) struct SeatBack {
-    pub(crate) seat: Seat,
-    pub(crate) result: Result<(), Denied>,
+pub struct SeatBack {
+    pub seat: Seat,
+    pub result: Result<(), Denied>,
 }
 
 /// What the flusher's thread brings back: the number of the next flush run, where it was not denied.
 #[derive(Drop)]
-pub(crate) struct FlusherBack {
-    pub(crate) seat: Seat,
-    pub(crate) result: Result<u32, Denied>,
+pub struct FlusherBack {
+    pub seat: Seat,
+    pub result: Result<u32, Denied>,
 }
 
 /// What the line's thread brings back.
 #[derive(Drop)]
-pub(crate) struct LineBack {
-    pub(crate) receiver: Receiver,
-    pub(crate) result: Result<(), Denied>,
+pub struct LineBack {
+    pub receiver: Receiver,
+    pub result: Result<(), Denied>,
 }
 
 /// A caller's thread.
@@ -55,7 +55,7 @@ pub(crate) fn caller_thread<R: Wait, G: Gate>(
 }
 
 /// The clock's part of a phase.
-pub(crate) fn tick_all<R: Wait>(rt: &R, shared: &SharedPort, mut seat: Seat, ticks: u32) -> SeatBack
+pub fn tick_all<R: Wait>(rt: &R, shared: &SharedPort, mut seat: Seat, ticks: u32) -> SeatBack
     requires can { CanPlayClock shared.now seat }
     ensures { ClockComes shared.now ticks (list_seen seat) result }
 {
