@@ -13,7 +13,9 @@ use Rattle.tty_terminal.proofs.Grown.{answer_grown, part_grown, wait_grown}
 at_caller : (f g : ℕ → ℕ → Option PlainCall) (c step : ℕ) (event : PlainEvent) → is_of_call event ≡ true → AgreesAt f g (Caller c) step event → g c step ≡ f c step
 at_caller f g c step event of_call agrees = agrees c of_call (eq-eqb c c refl)
 
-event_agrees : (f g : ℕ → ℕ → Option PlainCall) (counts : List ℕ) (t : Terminal) (who : Who) (step part : ℕ) (event : PlainEvent) → AgreesAt f g who step event → IsAllowed f counts t who step part event → IsAllowed g counts t who step part event × (after_event g t who step part event ≡ after_event f t who step part event)
+event_agrees : (f g : ℕ → ℕ → Option PlainCall) (counts : List ℕ) (t : Terminal) (who : Who) (step part : ℕ) (event : PlainEvent)
+    → AgreesAt f g who step event → IsAllowed f counts t who step part event
+    → IsAllowed g counts t who step part event × (after_event g t who step part event ≡ after_event f t who step part event)
 event_agrees f g counts t (Caller c) step part (answered a dropped) agrees h =
     let e = at_caller f g c step (answered a dropped) refl agrees in
     (answer_grown f g counts t c step part a dropped e h, ap (λ (o : Option PlainCall). after_answer (with_dropped (left_by (outcome_of t (caller_at t c) o) t) (length dropped)) c) e)

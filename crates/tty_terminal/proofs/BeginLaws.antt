@@ -13,7 +13,11 @@ use Rattle.tty_calls.specs.declared.calls.Act.{Act}
 use Rattle.tty_calls.specs.declared.calls.Act.TheVariants as act
 use Rattle.tty_calls.specs.declared.journals.Who.{Who}
 use Rattle.tty_calls.specs.declared.journals.Who.TheVariants.{Caller, Flusher, Line, Clock, Session}
-use Rattle.tty_calls.specs.Plain.{PlainCall, opens, closes, reads, writes, gets_modes, sets_modes, gets_disc, sets_disc, flushes, steers, counts_input, counts_output, excludes, admits, drains, gets_counts, hangs_up, sends_packet, takes_packet, PlainEvent, answered, parted, waited, flushed, ticked, line_ended, clock_ended, caller_ended, phase_ended, hung_up, PlainEntry, refused}
+use Rattle.tty_calls.specs.Plain.{PlainCall, opens, closes, reads, writes, gets_modes, sets_modes, gets_disc}
+use Rattle.tty_calls.specs.Plain.{sets_disc, flushes, steers, counts_input, counts_output, excludes, admits, drains}
+use Rattle.tty_calls.specs.Plain.{gets_counts, hangs_up, sends_packet, takes_packet, PlainEvent, answered, parted}
+use Rattle.tty_calls.specs.Plain.{waited, flushed, ticked, line_ended, clock_ended, caller_ended, phase_ended}
+use Rattle.tty_calls.specs.Plain.{hung_up, PlainEntry, refused}
 use Rattle.tty_modes.specs.Settings.{Settings, character}
 use Rattle.tty_modes.specs.declared.places.TheConstants.{VSTART, VSTOP}
 use Rattle.flow_control.specs.Output.{on_wire, room_of}
@@ -169,7 +173,9 @@ receiving_none : (t : Terminal) (chars : List Flagged) → (after_characters t c
 receiving_none t [] = refl
 receiving_none t (c ∷ cs) = receiving_none (after_character t c) cs
 
-event_generation : (f : ℕ → ℕ → Option PlainCall) (counts : List ℕ) (t : Terminal) (who : Who) (step part : ℕ) (event : PlainEvent) → IsAllowed f counts t who step part event → (after_event f t who step part event).generation ≡ generation_after (begins_generation f t who step event) t.generation
+event_generation : (f : ℕ → ℕ → Option PlainCall) (counts : List ℕ) (t : Terminal) (who : Who) (step part : ℕ) (event : PlainEvent)
+    → IsAllowed f counts t who step part event
+    → (after_event f t who step part event).generation ≡ generation_after (begins_generation f t who step event) t.generation
 event_generation f counts t (Caller c) step part (answered a dropped) h = known_generation t (caller_at t c) (f c step)
 event_generation f counts t Flusher step part (answered a dropped) h = absurd h
 event_generation f counts t Line step part (answered a dropped) h = absurd h
@@ -198,7 +204,9 @@ event_generation f counts t who step part phase_ended h = refl
 event_generation f counts t who step part (hung_up dropped) h = refl
 
 -- an entry raises the generation by one where it begins one, and else leaves it
-pub step_generation : (f : ℕ → ℕ → Option PlainCall) (counts : List ℕ) (t : Terminal) (e : PlainEntry) → Allowed f counts t e → (after f t e).generation ≡ generation_after (begins_generation f t e.who e.step e.event) t.generation
+pub step_generation : (f : ℕ → ℕ → Option PlainCall) (counts : List ℕ) (t : Terminal) (e : PlainEntry)
+    → Allowed f counts t e
+    → (after f t e).generation ≡ generation_after (begins_generation f t e.who e.step e.event) t.generation
 step_generation f counts t e h = event_generation f counts t e.who e.step e.part e.event h.1
 
 -- ---- hangups

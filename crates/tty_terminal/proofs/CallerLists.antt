@@ -6,7 +6,9 @@ use Rattle.tty_terminal.specs.Terminals.{idle_caller, is_bound, has_begun, begun
 use Rattle.tty_terminal.specs.Generations.{bound_after_close, caller_after_close, bound_after_hangup, caller_after_hangup}
 
 -- one caller changes, and each other one stays
-pub set_relates : (R : CallerState → CallerState → Type 0) → ((s : CallerState) → R s s) → (cs : List CallerState) (c : ℕ) (s : CallerState) (d : ℕ) → R (get_or cs c idle_caller) s → R (get_or cs d idle_caller) (get_or (set cs c s) d idle_caller)
+pub set_relates : (R : CallerState → CallerState → Type 0) → ((s : CallerState) → R s s)
+    → (cs : List CallerState) (c : ℕ) (s : CallerState) (d : ℕ) → R (get_or cs c idle_caller) s
+    → R (get_or cs d idle_caller) (get_or (set cs c s) d idle_caller)
 set_relates R same [] c s d h = same idle_caller
 set_relates R same (x ∷ xs) zero s zero h = h
 set_relates R same (x ∷ xs) zero s (suc d) h = same (get_or xs d idle_caller)
@@ -14,7 +16,9 @@ set_relates R same (x ∷ xs) (suc c) s zero h = same x
 set_relates R same (x ∷ xs) (suc c) s (suc d) h = set_relates R same xs c s d h
 
 -- each caller changes
-pub map_relates : (R : CallerState → CallerState → Type 0) (g : CallerState → CallerState) → R idle_caller idle_caller → ((s : CallerState) → R s (g s)) → (cs : List CallerState) (d : ℕ) → R (get_or cs d idle_caller) (get_or (map g cs) d idle_caller)
+pub map_relates : (R : CallerState → CallerState → Type 0) (g : CallerState → CallerState) → R idle_caller idle_caller
+    → ((s : CallerState) → R s (g s)) → (cs : List CallerState) (d : ℕ)
+    → R (get_or cs d idle_caller) (get_or (map g cs) d idle_caller)
 map_relates R g idle each [] d = idle
 map_relates R g idle each (x ∷ xs) zero = each x
 map_relates R g idle each (x ∷ xs) (suc d) = map_relates R g idle each xs d

@@ -8,7 +8,10 @@ use Rattle.tty_calls.specs.declared.calls.Queue.{Queue}
 use Rattle.tty_calls.specs.declared.calls.Queue.TheVariants as queue
 use Rattle.tty_calls.specs.declared.journals.Who.{Who}
 use Rattle.tty_calls.specs.declared.journals.Who.TheVariants.{Caller, Flusher, Line, Clock, Session}
-use Rattle.tty_calls.specs.Plain.{PlainCall, opens, closes, reads, writes, gets_modes, sets_modes, gets_disc, sets_disc, flushes, steers, counts_input, counts_output, excludes, admits, drains, gets_counts, hangs_up, sends_packet, takes_packet, PlainAnswer, done, PlainEvent, answered, PlainEntry}
+use Rattle.tty_calls.specs.Plain.{PlainCall, opens, closes, reads, writes, gets_modes, sets_modes, gets_disc}
+use Rattle.tty_calls.specs.Plain.{sets_disc, flushes, steers, counts_input, counts_output, excludes, admits, drains}
+use Rattle.tty_calls.specs.Plain.{gets_counts, hangs_up, sends_packet, takes_packet, PlainAnswer, done, PlainEvent}
+use Rattle.tty_calls.specs.Plain.{answered, PlainEntry}
 use Rattle.tty_modes.specs.Settings.{Settings}
 use Rattle.handle_table.specs.declared.HandleState.{HandleState}
 use Rattle.handle_table.specs.Handles.{is_live}
@@ -93,19 +96,23 @@ dropping t may (takes taken left) a n answers drops some = absurd answers
 dropping t may (gives answer false left) a n answers drops some = absurd (omega arith)
 dropping t may (gives answer true left) a n answers drops some = refl
 
-call_purged : (t : Terminal) (s : CallerState) (may : Bool) (call : PlainCall) (a : PlainAnswer) (n : ℕ) → Answers may (outcome t s call) a → Drops t (outcome t s call) n → 0 < n → (is_purge call ≡ true) × (a ≡ done)
+call_purged : (t : Terminal) (s : CallerState) (may : Bool) (call : PlainCall) (a : PlainAnswer) (n : ℕ)
+    → Answers may (outcome t s call) a → Drops t (outcome t s call) n → 0 < n → (is_purge call ≡ true) × (a ≡ done)
 call_purged t s may call a n answers drops some =
     let dropped = dropping t may (outcome t s call) a n answers drops some in
     let is = outcome_done t s call dropped in
     (outcome_purge t s call dropped, subst (λ (o : Outcome). Answers may o a) is.1 answers)
 
-known_purged : (f : ℕ → ℕ → Option PlainCall) (t : Terminal) (c step : ℕ) (may : Bool) (o : Option PlainCall) (a : PlainAnswer) (n : ℕ) → f c step ≡ o → Answers may (outcome_of t (caller_at t c) o) a → Drops t (outcome_of t (caller_at t c) o) n → 0 < n → IsPurged f (Caller c) step a
+known_purged : (f : ℕ → ℕ → Option PlainCall) (t : Terminal) (c step : ℕ) (may : Bool) (o : Option PlainCall) (a : PlainAnswer) (n : ℕ)
+    → f c step ≡ o → Answers may (outcome_of t (caller_at t c) o) a → Drops t (outcome_of t (caller_at t c) o) n → 0 < n
+    → IsPurged f (Caller c) step a
 known_purged f t c step may None a n asked answers drops some = absurd answers
 known_purged f t c step may (Some call) a n asked answers drops some =
     let purged = call_purged t (caller_at t c) may call a n answers drops some in
     record { caller = c; call = call; by = refl; asked = asked; purge = purged.0; answer = purged.1 }
 
-answer_purged : (f : ℕ → ℕ → Option PlainCall) (counts : List ℕ) (t : Terminal) (who : Who) (step part : ℕ) (a : PlainAnswer) (dropped : List Flagged) → IsAllowed f counts t who step part (answered a dropped) → 0 < length dropped → IsPurged f who step a
+answer_purged : (f : ℕ → ℕ → Option PlainCall) (counts : List ℕ) (t : Terminal) (who : Who) (step part : ℕ) (a : PlainAnswer) (dropped : List Flagged)
+    → IsAllowed f counts t who step part (answered a dropped) → 0 < length dropped → IsPurged f who step a
 answer_purged f counts t (Caller c) step part a dropped h some =
     known_purged f t c step (is_some (caller_at t c).waits && quiet counts t) (f c step) a (length dropped) refl h.answer h.drops some
 answer_purged f counts t Flusher step part a dropped h some = absurd h
@@ -113,6 +120,7 @@ answer_purged f counts t Line step part a dropped h some = absurd h
 answer_purged f counts t Clock step part a dropped h some = absurd h
 answer_purged f counts t Session step part a dropped h some = absurd h
 
-pub entry_purged : (f : ℕ → ℕ → Option PlainCall) (counts : List ℕ) (t : Terminal) (e : PlainEntry) (a : PlainAnswer) (dropped : List Flagged) → Allowed f counts t e → e.event ≡ answered a dropped → 0 < length dropped → IsPurged f e.who e.step a
+pub entry_purged : (f : ℕ → ℕ → Option PlainCall) (counts : List ℕ) (t : Terminal) (e : PlainEntry) (a : PlainAnswer) (dropped : List Flagged)
+    → Allowed f counts t e → e.event ≡ answered a dropped → 0 < length dropped → IsPurged f e.who e.step a
 entry_purged f counts t e a dropped h is some =
     answer_purged f counts t e.who e.step e.part a dropped (subst (λ (event : PlainEvent). IsAllowed f counts t e.who e.step e.part event) is h.1) some

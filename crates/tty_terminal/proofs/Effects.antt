@@ -1,5 +1,7 @@
 -- What no call changes, whatever its outcome, and what a part of a call is.
-use Rattle.std.proofs.Common.{◌≡◌, ℕ, suc, ◌+◌, ◌-◌, ◌<◌, ◌≤◌, List, [], ◌∷◌, Bool, true, false, not, ◌&&◌, ◌==◌, Option, None, Some, is_some, if◌then◌else◌, nat_lt, length, take, drop, refl, sym, arith}
+use Rattle.std.proofs.Common.{◌≡◌, ℕ, suc, ◌+◌, ◌-◌, ◌<◌, ◌≤◌, List, [], ◌∷◌, Bool, true, false, not, ◌&&◌, ◌==◌}
+use Rattle.std.proofs.Common.{Option, None, Some, is_some, if◌then◌else◌, nat_lt, length, take, drop, refl, sym}
+use Rattle.std.proofs.Common.{arith}
 use Rattle.std.proofs.lemmas.List.{length-map, length-drop, length-take}
 use Rattle.std.proofs.lemmas.Bool.{eqb-true, false≢true}
 use Rattle.std.proofs.lemmas.Bool.Decides.{nat_tests}
@@ -26,7 +28,9 @@ use Rattle.tty_calls.specs.declared.calls.Queue.{Queue}
 use Rattle.tty_calls.specs.declared.calls.Queue.TheVariants as queue
 use Rattle.tty_calls.specs.declared.calls.Act.{Act}
 use Rattle.tty_calls.specs.declared.calls.Act.TheVariants as act
-use Rattle.tty_calls.specs.Plain.{PlainCall, opens, closes, reads, writes, gets_modes, sets_modes, gets_disc, sets_disc, flushes, steers, counts_input, counts_output, excludes, admits, drains, gets_counts, hangs_up, sends_packet, takes_packet, PlainAnswer, done}
+use Rattle.tty_calls.specs.Plain.{PlainCall, opens, closes, reads, writes, gets_modes, sets_modes, gets_disc}
+use Rattle.tty_calls.specs.Plain.{sets_disc, flushes, steers, counts_input, counts_output, excludes, admits, drains}
+use Rattle.tty_calls.specs.Plain.{gets_counts, hangs_up, sends_packet, takes_packet, PlainAnswer, done}
 use Rattle.tty_calls.specs.Limits.{byte_count}
 use Rattle.tty_terminal.specs.declared.callers.CallerState.{CallerState}
 use Rattle.tty_terminal.specs.Terminals.{Terminal, handle_at, handle_for, caller_at}
@@ -211,12 +215,17 @@ piece_most modes tty output bytes = omega (arith, fitting_most modes tty.column 
 abbrev OfNow : Terminal → CallerState → Type 0
 OfNow t s = nat_lt 0 s.parts ≡ true → s.generation ≡ t.generation
 
-takes_keeps : (t : Terminal) (s : CallerState) (total fit : ℕ) (after : Terminal) → IsSame t after → after.handles ≡ t.handles → OfNow t s → 1 ≤ fit → s.taken + fit < total → Keeps t s total (takes fit after)
+takes_keeps : (t : Terminal) (s : CallerState) (total fit : ℕ) (after : Terminal) → IsSame t after
+    → after.handles ≡ t.handles → OfNow t s → 1 ≤ fit → s.taken + fit < total → Keeps t s total (takes fit after)
 takes_keeps t s total fit after h handles own some more =
     record { left = same_leaves t after h; part = λ n e. record { some = omega (arith, e); more = omega (arith, e); own = own; generation = h.generation; handles = handles; callers = h.callers } }
 
 -- the tests of a part, as facts
-part_keeps : (t : Terminal) (s : CallerState) (total : ℕ) (nonblock : Bool) (left fit : ℕ) (after : Terminal) → IsSame t after → after.handles ≡ t.handles → OfNow t s → (all some : Bool) → (all ≡ false → some ≡ true → (1 ≤ fit) × (s.taken + fit < total)) → (rest : Outcome) → Keeps t s total rest → (whole : PlainAnswer) → Keeps t s total (if all then gives whole false after else if some then takes fit after else rest)
+part_keeps : (t : Terminal) (s : CallerState) (total : ℕ) (nonblock : Bool) (left fit : ℕ) (after : Terminal)
+    → IsSame t after → after.handles ≡ t.handles → OfNow t s → (all some : Bool)
+    → (all ≡ false → some ≡ true → (1 ≤ fit) × (s.taken + fit < total)) → (rest : Outcome) → Keeps t s total rest
+    → (whole : PlainAnswer)
+    → Keeps t s total (if all then gives whole false after else if some then takes fit after else rest)
 part_keeps t s total nonblock left fit after h handles own true some facts rest keeps whole = same t s total whole false after h
 part_keeps t s total nonblock left fit after h handles own false true facts rest keeps whole = let f = facts refl refl in takes_keeps t s total fit after h handles own f.0 f.1
 part_keeps t s total nonblock left fit after h handles own false false facts rest keeps whole = keeps
@@ -261,7 +270,8 @@ on_live_keeps : (t : Terminal) (s : CallerState) (total : ℕ) (handle : Option 
 on_live_keeps t s total None live h = told t s total _
 on_live_keeps t s total (Some handle) live h = either t s total handle.live _ _ h (told t s total _)
 
-on_access_keeps : (may : Access → Bool) (t : Terminal) (s : CallerState) (total : ℕ) (handle : Option HandleState) (live : Outcome) → Keeps t s total live → Keeps t s total (on_access may t handle live)
+on_access_keeps : (may : Access → Bool) (t : Terminal) (s : CallerState) (total : ℕ) (handle : Option HandleState) (live : Outcome)
+    → Keeps t s total live → Keeps t s total (on_access may t handle live)
 on_access_keeps may t s total None live h = told t s total _
 on_access_keeps may t s total (Some handle) live h = either t s total (may handle.access) _ _ (on_live_keeps t s total (Some handle) live h) (told t s total _)
 

@@ -6,7 +6,9 @@ use Rattle.tty_calls.specs.declared.journals.Who.TheVariants.{Caller, Flusher, L
 use Rattle.tty_calls.specs.Plain.{PlainCall, PlainAnswer, PlainEvent, answered, parted, waited, flushed, ticked, line_ended, clock_ended, caller_ended, phase_ended, hung_up, PlainEntry}
 use Rattle.tty_terminal.specs.Terminals.{Terminal, caller_at}
 use Rattle.tty_terminal.specs.Calls.{outcome_of}
-use Rattle.tty_terminal.specs.Steps.{Answers, Drops, MustWait, TakesPart, quiet, left_by, IsAnswer, IsPart, IsWait, ByCaller, by_caller, IsAllowed, after_event, Allowed, after, after_answer, with_dropped, after_part, after_wait, handle_number}
+use Rattle.tty_terminal.specs.Steps.{Answers, Drops, MustWait, TakesPart, quiet, left_by, IsAnswer, IsPart, IsWait}
+use Rattle.tty_terminal.specs.Steps.{ByCaller, by_caller, IsAllowed, after_event, Allowed, after, after_answer}
+use Rattle.tty_terminal.specs.Steps.{with_dropped, after_part, after_wait, handle_number}
 use Rattle.tty_terminal.specs.Runs.{Leads, Grows}
 
 -- a fact that fails where no call is known
@@ -14,7 +16,8 @@ same_call : (f g : ℕ → ℕ → Option PlainCall) (c step : ℕ) (P : Option 
 same_call f g c step P grows none None e h = absurd (none h)
 same_call f g c step P grows none (Some call) e h = grows c step call e ∙ sym e
 
-pub answer_grown : (f g : ℕ → ℕ → Option PlainCall) (counts : List ℕ) (t : Terminal) (c step part : ℕ) (a : PlainAnswer) (dropped : List Flagged) → g c step ≡ f c step → IsAnswer f counts t c step part a dropped → IsAnswer g counts t c step part a dropped
+pub answer_grown : (f g : ℕ → ℕ → Option PlainCall) (counts : List ℕ) (t : Terminal) (c step part : ℕ) (a : PlainAnswer) (dropped : List Flagged)
+    → g c step ≡ f c step → IsAnswer f counts t c step part a dropped → IsAnswer g counts t c step part a dropped
 answer_grown f g counts t c step part a dropped e h =
     record {
       next = h.next;
@@ -37,7 +40,9 @@ by_caller_grown Line t P Q x y each h = absurd h
 by_caller_grown Clock t P Q x y each h = absurd h
 by_caller_grown Session t P Q x y each h = absurd h
 
-event_grown : (f g : ℕ → ℕ → Option PlainCall) (counts : List ℕ) (t : Terminal) (who : Who) (step part : ℕ) (event : PlainEvent) → Grows f g → IsAllowed f counts t who step part event → IsAllowed g counts t who step part event × (after_event g t who step part event ≡ after_event f t who step part event)
+event_grown : (f g : ℕ → ℕ → Option PlainCall) (counts : List ℕ) (t : Terminal) (who : Who) (step part : ℕ) (event : PlainEvent)
+    → Grows f g → IsAllowed f counts t who step part event
+    → IsAllowed g counts t who step part event × (after_event g t who step part event ≡ after_event f t who step part event)
 event_grown f g counts t who step part (answered a dropped) grows h =
     let left : Option PlainCall → ℕ → Terminal = λ o c. after_answer (with_dropped (left_by (outcome_of t (caller_at t c) o) t) (length dropped)) c in
     by_caller_grown who t (λ c. IsAnswer f counts t c step part a dropped) (λ c. IsAnswer g counts t c step part a dropped) (λ c. left (f c step) c) (λ c. left (g c step) c)

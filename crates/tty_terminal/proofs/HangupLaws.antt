@@ -53,7 +53,9 @@ answered_nothing t c n output is =
 abbrev left_of : Terminal → (c n : ℕ) → Outcome → Terminal
 left_of t c n o = after_answer (with_dropped (left_by o t) n) c
 
-live_case : (t : Terminal) (c n : ℕ) (may live : Bool) → Answers may (if live then hangup_outcome t else refuses EIO t) done → HasNothing (left_of t c n (if live then hangup_outcome t else refuses EIO t))
+live_case : (t : Terminal) (c n : ℕ) (may live : Bool)
+    → Answers may (if live then hangup_outcome t else refuses EIO t) done
+    → HasNothing (left_of t c n (if live then hangup_outcome t else refuses EIO t))
 live_case t c n may true h = answered_nothing t c n _ (rests t.modes t.output)
 live_case t c n may false h = absurd (cc)
 
@@ -62,19 +64,23 @@ handle_case : (t : Terminal) (c n : ℕ) (may : Bool) (o : Option HandleState) �
 handle_case t c n may None h = absurd (cc)
 handle_case t c n may (Some handle) h = live_case t c n may handle.live h
 
-known_case : (t : Terminal) (c n h : ℕ) (may : Bool) (call : Option PlainCall) → call ≡ Some (hangs_up h) → Answers may (outcome_of t (caller_at t c) call) done → HasNothing (left_of t c n (outcome_of t (caller_at t c) call))
+known_case : (t : Terminal) (c n h : ℕ) (may : Bool) (call : Option PlainCall) → call ≡ Some (hangs_up h)
+    → Answers may (outcome_of t (caller_at t c) call) done
+    → HasNothing (left_of t c n (outcome_of t (caller_at t c) call))
 known_case t c n h may call is answers =
     subst (λ (o : Option PlainCall). HasNothing (left_of t c n (outcome_of t (caller_at t c) o))) (sym is)
     (handle_case t c n may (handle_for t (caller_at t c) h)
     (subst (λ (o : Option PlainCall). Answers may (outcome_of t (caller_at t c) o) done) is answers))
 
-answer_case : (f : ℕ → ℕ → Option PlainCall) (counts : List ℕ) (t : Terminal) (c step part h : ℕ) (dropped : List Flagged) → f c step ≡ Some (hangs_up h) → IsAllowed f counts t (Caller c) step part (answered done dropped)
+answer_case : (f : ℕ → ℕ → Option PlainCall) (counts : List ℕ) (t : Terminal) (c step part h : ℕ) (dropped : List Flagged)
+    → f c step ≡ Some (hangs_up h) → IsAllowed f counts t (Caller c) step part (answered done dropped)
     → HasNothing (after_event f t (Caller c) step part (answered done dropped))
 answer_case f counts t c step part h dropped is allowed =
     known_case t c (length dropped) h (is_some (caller_at t c).waits && quiet counts t) (f c step) is allowed.answer
 
 -- after a `vhangup` that was answered Done
-pub answer_leaves_nothing : (f : ℕ → ℕ → Option PlainCall) (counts : List ℕ) (t : Terminal) (e : PlainEntry) (c h : ℕ) (dropped : List Flagged) → Allowed f counts t e → e.who ≡ Caller c → f c e.step ≡ Some (hangs_up h) → e.event ≡ answered done dropped
+pub answer_leaves_nothing : (f : ℕ → ℕ → Option PlainCall) (counts : List ℕ) (t : Terminal) (e : PlainEntry) (c h : ℕ) (dropped : List Flagged)
+    → Allowed f counts t e → e.who ≡ Caller c → f c e.step ≡ Some (hangs_up h) → e.event ≡ answered done dropped
     → HasNothing (after f t e)
 answer_leaves_nothing f counts t e c h dropped allowed who call is =
     subst (λ (w : Who). HasNothing (after_event f t w e.step e.part e.event)) (sym who)

@@ -1,5 +1,7 @@
 -- A discipline is what has happened to it in its run, since it was installed.
-use Rattle.std.proofs.Common.{◌≡◌, ℕ, List, [], ◌∷◌, ◌++◌, Bool, true, false, not, ◌&&◌, ◌||◌, ◌==◌, Option, None, Some, is_some, if◌then◌else◌, nat_lt, length, drop, sum, append_assoc, refl, sym, ◌∙◌, ap, subst, arith}
+use Rattle.std.proofs.Common.{◌≡◌, ℕ, List, [], ◌∷◌, ◌++◌, Bool, true, false, not, ◌&&◌, ◌||◌, ◌==◌, Option, None}
+use Rattle.std.proofs.Common.{Some, is_some, if◌then◌else◌, nat_lt, length, drop, sum, append_assoc, refl, sym, ◌∙◌}
+use Rattle.std.proofs.Common.{ap, subst, arith}
 use Rattle.std.proofs.lemmas.List.Sums.{fold-append}
 use Rattle.tty_base.specs.declared.characters.Flagged.{Flagged}
 use Rattle.tty_base.specs.declared.counters.Errno.{Errno}
@@ -13,7 +15,11 @@ use Rattle.tty_calls.specs.declared.calls.Act.{Act}
 use Rattle.tty_calls.specs.declared.calls.Act.TheVariants as act
 use Rattle.tty_calls.specs.declared.journals.Who.{Who}
 use Rattle.tty_calls.specs.declared.journals.Who.TheVariants.{Caller, Flusher, Line, Clock, Session}
-use Rattle.tty_calls.specs.Plain.{PlainCall, opens, closes, reads, writes, gets_modes, sets_modes, gets_disc, sets_disc, flushes, steers, counts_input, counts_output, excludes, admits, drains, gets_counts, hangs_up, sends_packet, takes_packet, PlainEvent, answered, parted, waited, flushed, ticked, line_ended, clock_ended, caller_ended, phase_ended, hung_up, PlainEntry}
+use Rattle.tty_calls.specs.Plain.{PlainCall, opens, closes, reads, writes, gets_modes, sets_modes, gets_disc}
+use Rattle.tty_calls.specs.Plain.{sets_disc, flushes, steers, counts_input, counts_output, excludes, admits, drains}
+use Rattle.tty_calls.specs.Plain.{gets_counts, hangs_up, sends_packet, takes_packet, PlainEvent, answered, parted}
+use Rattle.tty_calls.specs.Plain.{waited, flushed, ticked, line_ended, clock_ended, caller_ended, phase_ended}
+use Rattle.tty_calls.specs.Plain.{hung_up, PlainEntry}
 use Rattle.tty_modes.specs.Settings.{Settings, character as control}
 use Rattle.tty_modes.specs.declared.places.TheConstants.{VSTART, VSTOP}
 use Rattle.tty_modes.specs.Word.{after_words}
@@ -52,7 +58,9 @@ use Rattle.tty_terminal.specs.Calls.{outcome, outcome_of}
 use Rattle.tty_terminal.specs.Steps.{left_by, TakesPart, IsAllowed, after_event, after}
 use Rattle.tty_terminal.specs.Runs.{Leads, IsRun}
 use Rattle.tty_terminal.specs.Begins.{is_last_close, is_change, call_begins, known_call_begins, begins_generation, generation_after}
-use Rattle.tty_terminal.specs.Happened.{by_live, by_access, read_by, reading_by, write_by, writing_by, modes_by, flush_by, take_by, happens_by_call, happens_by_known, happens_by_flush, happens_by, happened_after, happened_in}
+use Rattle.tty_terminal.specs.Happened.{by_live, by_access, read_by, reading_by, write_by, writing_by, modes_by}
+use Rattle.tty_terminal.specs.Happened.{flush_by, take_by, happens_by_call, happens_by_known, happens_by_flush}
+use Rattle.tty_terminal.specs.Happened.{happens_by, happened_after, happened_in}
 use Rattle.tty_terminal.specs.Heard.{character_of, characters_of, flushed_by, heard_after, heard_in, HasHeard}
 use Rattle.tty_terminal.proofs.Effects.{outcome_keeps}
 use Rattle.tty_terminal.proofs.BeginLaws.{known_generation}
@@ -244,7 +252,9 @@ part_begins : (f : ℕ → ℕ → Option PlainCall) (t : Terminal) (c step n : 
 part_begins f t c step n h =
     no_begin (known_call_begins t (caller_at t c) (f c step)) t.generation (left_by (outcome_of t (caller_at t c) (f c step)) t).generation ((outcome_keeps t (caller_at t c) (f c step)).part n h).generation (known_generation t (caller_at t c) (f c step))
 
-event_comes : (f : ℕ → ℕ → Option PlainCall) (counts : List ℕ) (t : Terminal) (who : Who) (step part : ℕ) (event : PlainEvent) → IsAllowed f counts t who step part event → DiscComes t.disc (begins_generation f t who step event) (happens_by f t who step event) (after_event f t who step part event).disc
+event_comes : (f : ℕ → ℕ → Option PlainCall) (counts : List ℕ) (t : Terminal) (who : Who) (step part : ℕ) (event : PlainEvent)
+    → IsAllowed f counts t who step part event
+    → DiscComes t.disc (begins_generation f t who step event) (happens_by f t who step event) (after_event f t who step part event).disc
 event_comes f counts t (Caller c) step part (answered a dropped) h = known_comes t (caller_at t c) (f c step)
 event_comes f counts t Flusher step part (answered a dropped) h = absurd h
 event_comes f counts t Line step part (answered a dropped) h = absurd h
@@ -285,7 +295,8 @@ one_entry d true happened now u h was = h
 one_entry d false happened now u h was =
     (was.0, h ∙ ap (λ (x : Disc). after_all x now) was.1 ∙ sym (fold-append after_one (fresh_of was.0) happened now))
 
-leads_happened : (f : ℕ → ℕ → Option PlainCall) (counts : List ℕ) (t : Terminal) (es : List PlainEntry) (u : Terminal) (happened : List Happening) → Leads f counts t es u → Happened t.disc happened → Happened u.disc (happened_in f t es happened)
+leads_happened : (f : ℕ → ℕ → Option PlainCall) (counts : List ℕ) (t : Terminal) (es : List PlainEntry) (u : Terminal) (happened : List Happening)
+    → Leads f counts t es u → Happened t.disc happened → Happened u.disc (happened_in f t es happened)
 leads_happened f counts t [] u happened h was = subst (λ (v : Terminal). Happened v.disc happened) (sym h) was
 leads_happened f counts t (e ∷ es) u happened h was =
     leads_happened f counts (after f t e) es u _ h.1
@@ -297,12 +308,16 @@ of_its_kind d events h =
     subst (λ (k : Kind). HasHappened d k events) (sym (ap kind_of h.1 ∙ kept_kind h.0 events)) h.1
 
 -- a discipline is the fold of what has happened to it since it was installed
-pub run_happened : (f : ℕ → ℕ → Option PlainCall) (counts : List ℕ) (capacity : ℕ) (es : List PlainEntry) (u : Terminal) → IsRun f counts capacity es u → HasHappened u.disc (kind_of u.disc) (happened_in f (opening (sum counts) capacity) es [])
+pub run_happened : (f : ℕ → ℕ → Option PlainCall) (counts : List ℕ) (capacity : ℕ) (es : List PlainEntry) (u : Terminal)
+    → IsRun f counts capacity es u
+    → HasHappened u.disc (kind_of u.disc) (happened_in f (opening (sum counts) capacity) es [])
 run_happened f counts capacity es u h =
     of_its_kind u.disc (happened_in f (opening (sum counts) capacity) es []) (leads_happened f counts (opening (sum counts) capacity) es u [] h (kind.Tty, refl))
 
 -- the same of a discipline whose kind is known
-run_kind : (f : ℕ → ℕ → Option PlainCall) (counts : List ℕ) (capacity : ℕ) (es : List PlainEntry) (u : Terminal) (d : Disc) → IsRun f counts capacity es u → u.disc ≡ d → HasHappened d (kind_of d) (happened_in f (opening (sum counts) capacity) es [])
+run_kind : (f : ℕ → ℕ → Option PlainCall) (counts : List ℕ) (capacity : ℕ) (es : List PlainEntry) (u : Terminal) (d : Disc)
+    → IsRun f counts capacity es u → u.disc ≡ d
+    → HasHappened d (kind_of d) (happened_in f (opening (sum counts) capacity) es [])
 run_kind f counts capacity es u d h is =
     subst (λ (x : Disc). HasHappened x (kind_of x) (happened_in f (opening (sum counts) capacity) es [])) is (run_happened f counts capacity es u h)
 
@@ -399,12 +414,14 @@ characters_both [] ys = refl
 characters_both (x ∷ xs) ys =
     ap (λ (cs : List Flagged). character_of x ++ cs) (characters_both xs ys) ∙ sym (append_assoc (character_of x) (characters_of xs) (characters_of ys))
 
-heard_one : (b : Bool) (event : PlainEvent) (happened now : List Happening) → characters_of now ≡ flushed_by event → characters_of (happened_after b happened now) ≡ heard_after b event (characters_of happened)
+heard_one : (b : Bool) (event : PlainEvent) (happened now : List Happening) → characters_of now ≡ flushed_by event
+    → characters_of (happened_after b happened now) ≡ heard_after b event (characters_of happened)
 heard_one true event happened now h = refl
 heard_one false event happened now h = characters_both happened now ∙ ap (λ (cs : List Flagged). characters_of happened ++ cs) h
 
 -- the characters among what has happened are those of the flushes
-pub happened_characters : (f : ℕ → ℕ → Option PlainCall) (t : Terminal) (es : List PlainEntry) (happened : List Happening) → characters_of (happened_in f t es happened) ≡ heard_in f t es (characters_of happened)
+pub happened_characters : (f : ℕ → ℕ → Option PlainCall) (t : Terminal) (es : List PlainEntry) (happened : List Happening)
+    → characters_of (happened_in f t es happened) ≡ heard_in f t es (characters_of happened)
 happened_characters f t [] happened = refl
 happened_characters f t (e ∷ es) happened =
     happened_characters f (after f t e) es _
@@ -412,7 +429,8 @@ happened_characters f t (e ∷ es) happened =
     (heard_one (begins_generation f t e.who e.step e.event) e.event happened (happens_by f t e.who e.step e.event) (event_characters f t e.who e.step e.event))
 
 -- the discipline has heard the characters of the flushes since it was installed, and no others
-pub run_heard : (f : ℕ → ℕ → Option PlainCall) (counts : List ℕ) (capacity : ℕ) (es : List PlainEntry) (u : Terminal) → IsRun f counts capacity es u → HasHeard u.disc (heard_in f (opening (sum counts) capacity) es [])
+pub run_heard : (f : ℕ → ℕ → Option PlainCall) (counts : List ℕ) (capacity : ℕ) (es : List PlainEntry) (u : Terminal)
+    → IsRun f counts capacity es u → HasHeard u.disc (heard_in f (opening (sum counts) capacity) es [])
 run_heard f counts capacity es u h =
     record {
       kind = kind_of u.disc;

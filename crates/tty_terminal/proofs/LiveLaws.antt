@@ -23,5 +23,6 @@ known_met : (t : Terminal) (n : ℕ) (kind : Option Kind) → is_some kind ≡ t
 known_met t n None e = absurd (false≢true e)
 known_met t n (Some kind) e = refl
 
-pub changed_met : (t : Terminal) (handle : HandleState) (n : ℕ) (kind : Option Kind) → not handle.live ≡ false → is_some kind ≡ true → Meets (on_live t (Some handle) (change_outcome t n kind)) (met.Gives Done)
+pub changed_met : (t : Terminal) (handle : HandleState) (n : ℕ) (kind : Option Kind) → not handle.live ≡ false
+    → is_some kind ≡ true → Meets (on_live t (Some handle) (change_outcome t n kind)) (met.Gives Done)
 changed_met t handle n kind live some = subst (λ (o : Outcome). Meets o (met.Gives Done)) (sym (lives t handle (change_outcome t n kind) live)) (known_met t n kind some)

@@ -21,7 +21,9 @@ receiving_marks : (t : Terminal) (chars : List Flagged) → marks_of (after_char
 receiving_marks t [] = refl
 receiving_marks t (c ∷ cs) = receiving_marks (after_character t c) cs
 
-event_marks : (f : ℕ → ℕ → Option PlainCall) (counts : List ℕ) (t : Terminal) (who : Who) (step part : ℕ) (event : PlainEvent) → IsAllowed f counts t who step part event → marks_of (after_event f t who step part event) ≡ marks_after event step part (marks_of t)
+event_marks : (f : ℕ → ℕ → Option PlainCall) (counts : List ℕ) (t : Terminal) (who : Who) (step part : ℕ) (event : PlainEvent)
+    → IsAllowed f counts t who step part event
+    → marks_of (after_event f t who step part event) ≡ marks_after event step part (marks_of t)
 event_marks f counts t (Caller c) step part (answered a dropped) h = leaves_marks t (left_by (outcome_of t (caller_at t c) (f c step)) t) (outcome_keeps t (caller_at t c) (f c step)).left
 event_marks f counts t Flusher step part (answered a dropped) h = absurd h
 event_marks f counts t Line step part (answered a dropped) h = absurd h
@@ -62,11 +64,13 @@ run_marks f counts capacity es u h = leads_marks f counts (opening (sum counts) 
 
 -- ---- who makes which entries
 
-of_call : (f : ℕ → ℕ → Option PlainCall) (callers c step : ℕ) (P : Option PlainCall → Type 0) → (P None → ⊥) → c < callers → (o : Option PlainCall) → f c step ≡ o → P o → IsOfCall f callers (Caller c) step
+of_call : (f : ℕ → ℕ → Option PlainCall) (callers c step : ℕ) (P : Option PlainCall → Type 0) → (P None → ⊥)
+    → c < callers → (o : Option PlainCall) → f c step ≡ o → P o → IsOfCall f callers (Caller c) step
 of_call f callers c step P none known None e h = absurd (none h)
 of_call f callers c step P none known (Some call) e h = record { caller = c; call = call; by_caller = refl; known = known; called = e }
 
-event_maker : (f : ℕ → ℕ → Option PlainCall) (counts : List ℕ) (t : Terminal) (who : Who) (step part : ℕ) (event : PlainEvent) → IsAllowed f counts t who step part event → IsByItsMaker f (length t.callers) who step event
+event_maker : (f : ℕ → ℕ → Option PlainCall) (counts : List ℕ) (t : Terminal) (who : Who) (step part : ℕ) (event : PlainEvent)
+    → IsAllowed f counts t who step part event → IsByItsMaker f (length t.callers) who step event
 event_maker f counts t (Caller c) step part (answered a dropped) h =
     of_call f (length t.callers) c step (λ (o : Option PlainCall). Answers (is_some (caller_at t c).waits && quiet counts t) (outcome_of t (caller_at t c) o) a) (λ n. n) h.next.known (f c step) refl h.answer
 event_maker f counts t Flusher step part (answered a dropped) h = absurd h

@@ -1,5 +1,7 @@
 -- Each flush run, and each call between its waits, stays in one generation as a run goes on.
-use Rattle.std.proofs.Common.{◌≡◌, ℕ, ◌+◌, ◌<◌, ◌≤◌, List, [], ◌∷◌, ◌++◌, Bool, true, false, IsTrue, ◌&&◌, ◌==◌, nat_lt, zero, suc, if◌then◌else◌, Option, None, Some, ◌⊎◌, inl, inr, length, set, get_or, get_or-set_same, MatchBool, refl, sym, ◌∙◌, ap, subst, arith}
+use Rattle.std.proofs.Common.{◌≡◌, ℕ, ◌+◌, ◌<◌, ◌≤◌, List, [], ◌∷◌, ◌++◌, Bool, true, false, IsTrue, ◌&&◌, ◌==◌}
+use Rattle.std.proofs.Common.{nat_lt, zero, suc, if◌then◌else◌, Option, None, Some, ◌⊎◌, inl, inr, length, set}
+use Rattle.std.proofs.Common.{get_or, get_or-set_same, MatchBool, refl, sym, ◌∙◌, ap, subst, arith}
 use Rattle.std.proofs.lemmas.Bool.{and_parts, or_cases, eqb-true, eq-eqb, false≢true}
 use Rattle.std.proofs.lemmas.Bool.Decides.{nat_tests}
 use Rattle.tty_terminal.specs.declared.callers.CallerState.{CallerState}
@@ -35,7 +37,9 @@ by_caller_at Clock c P h is = absurd h
 by_caller_at Session c P h is = absurd h
 
 -- an entry of a caller's call has the number of the caller's next step
-at_next : (f : ℕ → ℕ → Option PlainCall) (counts : List ℕ) (t : Terminal) (who : Who) (step part : ℕ) (event : PlainEvent) (c : ℕ) → IsAllowed f counts t who step part event → is_of_call event ≡ true → is_caller who c ≡ true → step ≡ (caller_at t c).next
+at_next : (f : ℕ → ℕ → Option PlainCall) (counts : List ℕ) (t : Terminal) (who : Who) (step part : ℕ) (event : PlainEvent) (c : ℕ)
+    → IsAllowed f counts t who step part event → is_of_call event ≡ true → is_caller who c ≡ true
+    → step ≡ (caller_at t c).next
 at_next f counts t who step part (answered a dropped) c h call is = (by_caller_at who c _ h is).next.at_step
 at_next f counts t who step part (parted taken) c h call is = (by_caller_at who c _ h is).next.at_step
 at_next f counts t who step part waited c h call is = (by_caller_at who c _ h is).next.at_step
@@ -54,7 +58,8 @@ three_parts true false z h = absurd (false≢true h)
 three_parts false y z h = absurd (false≢true h)
 
 -- a call that was answered has no more entries
-next_has : (f : ℕ → ℕ → Option PlainCall) (counts : List ℕ) (t : Terminal) (es : List PlainEntry) (u : Terminal) (c step generation : ℕ) → Leads f counts t es u → step < (caller_at t c).next → NextHas c step generation es
+next_has : (f : ℕ → ℕ → Option PlainCall) (counts : List ℕ) (t : Terminal) (es : List PlainEntry) (u : Terminal) (c step generation : ℕ)
+    → Leads f counts t es u → step < (caller_at t c).next → NextHas c step generation es
 next_has f counts t [] u c step generation h lt = tt
 next_has f counts t (e ∷ es) u c step generation h lt =
     match_unless (is_of_call e.event && is_caller e.who c && (e.step == step)) (e.generation ≡ generation) (NextHas c step generation es)
@@ -65,18 +70,22 @@ next_has f counts t (e ∷ es) u c step generation h lt =
     omega arith)
     (next_has f counts (after f t e) es u c step generation h.1 (let least = ((step_does f counts t e h.0).caller c).least in omega (arith, least)))
 
-answered_next : (t : Terminal) (s : CallerState) (total : ℕ) (o : Outcome) (c step n : ℕ) → Keeps t s total o → c < length t.callers → step ≡ (caller_at t c).next → step < (caller_at (after_answer (with_dropped (left_by o t) n) c) c).next
+answered_next : (t : Terminal) (s : CallerState) (total : ℕ) (o : Outcome) (c step n : ℕ) → Keeps t s total o
+    → c < length t.callers → step ≡ (caller_at t c).next
+    → step < (caller_at (after_answer (with_dropped (left_by o t) n) c) c).next
 answered_next t s total o c step n k known at =
     let l = k.left in
     let is : get_or (set (left_by o t).callers c (caller_after_answer (caller_at (left_by o t) c))) c idle_caller ≡ caller_after_answer (caller_at (left_by o t) c) =
     get_or-set_same (left_by o t).callers c (caller_after_answer (caller_at (left_by o t) c)) idle_caller (omega (arith, l.callers)) in
     rw is (omega (arith, (l.caller c).next))
 
-run_more : (run generation : ℕ) (es : List PlainEntry) (e : PlainEntry) → RunHas run generation es → (IsTrue (is_flush e.event && (e.step == run)) → e.generation ≡ generation) → RunHas run generation (es ++ e ∷ [])
+run_more : (run generation : ℕ) (es : List PlainEntry) (e : PlainEntry) → RunHas run generation es
+    → (IsTrue (is_flush e.event && (e.step == run)) → e.generation ≡ generation) → RunHas run generation (es ++ e ∷ [])
 run_more run generation [] e h last = (last, tt)
 run_more run generation (x ∷ es) e h last = (h.0, run_more run generation es e h.1 last)
 
-flush_follows : (f : ℕ → ℕ → Option PlainCall) (counts : List ℕ) (u : Terminal) (who : Who) (step part : ℕ) (event : PlainEvent) → IsAllowed f counts u who step part event → is_flush event ≡ true → IsTrue (follows u.flushed step part)
+flush_follows : (f : ℕ → ℕ → Option PlainCall) (counts : List ℕ) (u : Terminal) (who : Who) (step part : ℕ) (event : PlainEvent)
+    → IsAllowed f counts u who step part event → is_flush event ≡ true → IsTrue (follows u.flushed step part)
 flush_follows f counts u who step part (answered a dropped) h is = absurd (false≢true is)
 flush_follows f counts u who step part (parted taken) h is = absurd (false≢true is)
 flush_follows f counts u who step part waited h is = absurd (false≢true is)
@@ -98,7 +107,10 @@ later_or_first (Some p) run part h =
     ]
 
 -- the new entry is of the flush run of an earlier piece
-same_run : (f : ℕ → ℕ → Option PlainCall) (counts : List ℕ) (u : Terminal) (e : PlainEntry) (step generation : ℕ) → Allowed f counts u e → step < runs_of u.flushed → (IsTrue (is_flush e.event) → 0 < e.part → step ≡ e.step → generation ≡ e.generation) → IsTrue (is_flush e.event && (e.step == step)) → e.generation ≡ generation
+same_run : (f : ℕ → ℕ → Option PlainCall) (counts : List ℕ) (u : Terminal) (e : PlainEntry) (step generation : ℕ)
+    → Allowed f counts u e → step < runs_of u.flushed
+    → (IsTrue (is_flush e.event) → 0 < e.part → step ≡ e.step → generation ≡ e.generation)
+    → IsTrue (is_flush e.event && (e.step == step)) → e.generation ≡ generation
 same_run f counts u e step generation allowed later one is =
     let parts = and_parts (is_flush e.event) (e.step == step) is in
     let same : e.step ≡ step = eqb-true e.step step parts.1 in
@@ -114,7 +126,8 @@ record IsUnderWay (s : Standing) (step own : ℕ) : Type 0 where
   parts : 0 < s.parts
   generation : s.generation ≡ own
 
-own_under_way : (event : PlainEvent) (at : ℕ) (s : Standing) (step generation : ℕ) → is_of_call event ≡ false → IsUnderWay s step generation → IsUnderWay (standing_after_own event at s) step generation
+own_under_way : (event : PlainEvent) (at : ℕ) (s : Standing) (step generation : ℕ) → is_of_call event ≡ false
+    → IsUnderWay s step generation → IsUnderWay (standing_after_own event at s) step generation
 own_under_way (answered a dropped) at s step generation none h = absurd (false≢true (sym none))
 own_under_way (parted taken) at s step generation none h = absurd (false≢true (sym none))
 own_under_way waited at s step generation none h = absurd (false≢true (sym none))
@@ -142,7 +155,9 @@ not_both : (a b : Bool) → (a ≡ true → b ≡ true → ⊥) → b ≡ true �
 not_both true b h e = absurd (h refl e)
 not_both false b h e = refl
 
-still_under_way : (own : Bool) (event : PlainEvent) (at : ℕ) (s : Standing) (step generation : ℕ) → (is_of_call event ≡ true → own ≡ true → ⊥) → IsUnderWay s step generation → IsUnderWay (if own then standing_after_own event at s else standing_after_other event s) step generation
+still_under_way : (own : Bool) (event : PlainEvent) (at : ℕ) (s : Standing) (step generation : ℕ)
+    → (is_of_call event ≡ true → own ≡ true → ⊥) → IsUnderWay s step generation
+    → IsUnderWay (if own then standing_after_own event at s else standing_after_other event s) step generation
 still_under_way true event at s step generation none h = own_under_way event at s step generation (not_both (is_of_call event) true none refl) h
 still_under_way false event at s step generation none h = other_under_way event s step generation h
 
@@ -165,7 +180,10 @@ last_false true false x h a b y = false≢true b
 last_false false b x h a c y = false≢true a
 
 -- a part is followed, in its call, by an entry of its generation
-goes_on_to : (f : ℕ → ℕ → Option PlainCall) (counts : List ℕ) (v : Terminal) (es : List PlainEntry) (u : Terminal) (e : PlainEntry) (c step generation : ℕ) → Leads f counts v es u → Allowed f counts u e → GoesOnInGeneration u e → IsUnderWay (standing_of (caller_at v c)) step generation → NextHas c step generation es → NextHas c step generation (es ++ e ∷ [])
+goes_on_to : (f : ℕ → ℕ → Option PlainCall) (counts : List ℕ) (v : Terminal) (es : List PlainEntry) (u : Terminal) (e : PlainEntry) (c step generation : ℕ)
+    → Leads f counts v es u → Allowed f counts u e → GoesOnInGeneration u e
+    → IsUnderWay (standing_of (caller_at v c)) step generation → NextHas c step generation es
+    → NextHas c step generation (es ++ e ∷ [])
 goes_on_to f counts v [] u e c step generation h allowed goes way has =
     match_either (is_of_call e.event && is_caller e.who c && (e.step == step)) (e.generation ≡ generation) (Unit {0})
     (λ is.
@@ -196,7 +214,9 @@ one_entry f counts t c step part taken h = (refl, h)
 own_standing : (d : ℕ) (x y : Standing) → (if d == d then x else y) ≡ x
 own_standing d x y = ap (λ (b : Bool). if b then x else y) (eq-eqb d d refl)
 
-part_under_way : (f : ℕ → ℕ → Option PlainCall) (counts : List ℕ) (t : Terminal) (c step part generation taken : ℕ) → generation ≡ t.generation → IsPart f t c step part taken → IsUnderWay (standing_of (caller_at (after_event f t (Caller c) step part (parted taken)) c)) step generation
+part_under_way : (f : ℕ → ℕ → Option PlainCall) (counts : List ℕ) (t : Terminal) (c step part generation taken : ℕ)
+    → generation ≡ t.generation → IsPart f t c step part taken
+    → IsUnderWay (standing_of (caller_at (after_event f t (Caller c) step part (parted taken)) c)) step generation
 part_under_way f counts t c step part generation taken g h =
     let s = standing_of (caller_at t c) in
     let stands = step_stands f counts t (record { who = Caller c; step = step; part = part; generation = t.generation; event = parted taken }) (one_entry f counts t c step part taken h) c ∙ own_standing c (standing_after_own (parted taken) t.generation s) s in
@@ -208,7 +228,12 @@ part_under_way f counts t c step part generation taken g h =
       generation = part_generation (caller_at t c).parts (caller_at t c).generation t.generation ((outcome_keeps t (caller_at t c) (f c step)).part taken h.takes).own ((caller_at t c).parts == 0) refl ∙ sym g;
     })
 
-event_more : (f : ℕ → ℕ → Option PlainCall) (counts : List ℕ) (t : Terminal) (who : Who) (step part generation : ℕ) (event : PlainEvent) (es : List PlainEntry) (u : Terminal) (e : PlainEntry) → generation ≡ t.generation → IsAllowed f counts t who step part event → Leads f counts (after_event f t who step part event) es u → Allowed f counts u e → GoesOnInGeneration u e → GoesOn event who step generation es → (IsTrue (is_flush e.event) → 0 < e.part → IsTrue (is_flush event && (step == e.step)) → generation ≡ e.generation) → GoesOn event who step generation (es ++ e ∷ [])
+event_more : (f : ℕ → ℕ → Option PlainCall) (counts : List ℕ) (t : Terminal) (who : Who) (step part generation : ℕ) (event : PlainEvent) (es : List PlainEntry) (u : Terminal) (e : PlainEntry)
+    → generation ≡ t.generation → IsAllowed f counts t who step part event
+    → Leads f counts (after_event f t who step part event) es u → Allowed f counts u e → GoesOnInGeneration u e
+    → GoesOn event who step generation es
+    → (IsTrue (is_flush e.event) → 0 < e.part → IsTrue (is_flush event && (step == e.step)) → generation ≡ e.generation)
+    → GoesOn event who step generation (es ++ e ∷ [])
 event_more f counts t (Caller c) step part generation (answered a dropped) es u e g h leads allowed calls goes one =
     next_has f counts _ (es ++ e ∷ []) (after f u e) c step generation (leads_more f counts _ es u e leads allowed)
     (answered_next t (caller_at t c) (total_of (f c step)) (outcome_of t (caller_at t c) (f c step)) c step (length dropped) (outcome_keeps t (caller_at t c) (f c step)) h.next.known h.next.at_step)
@@ -254,12 +279,16 @@ last_goes caller_ended who step generation = tt
 last_goes phase_ended who step generation = tt
 last_goes (hung_up dropped) who step generation = tt
 
-one_from : (f : ℕ → ℕ → Option PlainCall) (counts : List ℕ) (t : Terminal) (es : List PlainEntry) (u : Terminal) (e : PlainEntry) → Leads f counts t es u → OneGeneration es → Allowed f counts u e → GoesOnInGeneration u e → (IsTrue (is_flush e.event) → 0 < e.part → RunHas e.step e.generation es) → OneGeneration (es ++ e ∷ [])
+one_from : (f : ℕ → ℕ → Option PlainCall) (counts : List ℕ) (t : Terminal) (es : List PlainEntry) (u : Terminal) (e : PlainEntry)
+    → Leads f counts t es u → OneGeneration es → Allowed f counts u e → GoesOnInGeneration u e
+    → (IsTrue (is_flush e.event) → 0 < e.part → RunHas e.step e.generation es) → OneGeneration (es ++ e ∷ [])
 one_from f counts t [] u e h one allowed calls flushes = (last_goes e.event e.who e.step e.generation, tt)
 one_from f counts t (x ∷ es) u e h one allowed calls flushes = (
   event_more f counts t x.who x.step x.part x.generation x.event es u e h.0.0 h.0.1 h.1 allowed calls one.0 (λ is lt. (flushes is lt).0),
   one_from f counts (after f t x) es u e h.1 one.1 allowed calls (λ is lt. (flushes is lt).1),
 )
 
-pub one_more : (f : ℕ → ℕ → Option PlainCall) (counts : List ℕ) (capacity : ℕ) (es : List PlainEntry) (u : Terminal) (e : PlainEntry) → IsRun f counts capacity es u → OneGeneration es → Allowed f counts u e → GoesOnInGeneration u e → (IsTrue (is_flush e.event) → 0 < e.part → RunHas e.step e.generation es) → OneGeneration (es ++ e ∷ [])
+pub one_more : (f : ℕ → ℕ → Option PlainCall) (counts : List ℕ) (capacity : ℕ) (es : List PlainEntry) (u : Terminal) (e : PlainEntry)
+    → IsRun f counts capacity es u → OneGeneration es → Allowed f counts u e → GoesOnInGeneration u e
+    → (IsTrue (is_flush e.event) → 0 < e.part → RunHas e.step e.generation es) → OneGeneration (es ++ e ∷ [])
 one_more f counts capacity es u e h one allowed calls flushes = one_from f counts _ es u e h one allowed calls flushes

@@ -9,7 +9,9 @@ use Rattle.tty_calls.specs.declared.calls.When.{When}
 use Rattle.tty_calls.specs.declared.calls.When.TheVariants as when
 use Rattle.tty_calls.specs.declared.calls.Queue.{Queue}
 use Rattle.tty_calls.specs.declared.calls.Queue.TheVariants as queue
-use Rattle.tty_calls.specs.Plain.{PlainCall, opens, closes, reads, writes, gets_modes, sets_modes, gets_disc, sets_disc, flushes, steers, counts_input, counts_output, excludes, admits, drains, gets_counts, hangs_up, sends_packet, takes_packet}
+use Rattle.tty_calls.specs.Plain.{PlainCall, opens, closes, reads, writes, gets_modes, sets_modes, gets_disc}
+use Rattle.tty_calls.specs.Plain.{sets_disc, flushes, steers, counts_input, counts_output, excludes, admits, drains}
+use Rattle.tty_calls.specs.Plain.{gets_counts, hangs_up, sends_packet, takes_packet}
 use Rattle.tty_modes.specs.Settings.{Settings}
 use Rattle.flow_control.specs.Output.{room_of}
 use Rattle.n_tty.specs.Reading.{is_readable}

@@ -37,7 +37,8 @@ accepted_without_room modes now (c ∷ cs) port all =
     (all.0, subst (AcceptsAllOf modes now cs) (after_character_of-room modes now c port.disc port.output port.tally) (accepted_without_room modes now cs next all.1))
 
 -- what the fields hold after a run, without room
-pub run_made : (t : Terminal) (cs : List Flagged) (output : Output) (tally : Tally) (d : Disc) (output' : Output) (tally' : Tally) → t.output ≡ without_room output → t.tally ≡ without_signal_room tally
+pub run_made : (t : Terminal) (cs : List Flagged) (output : Output) (tally : Tally) (d : Disc) (output' : Output) (tally' : Tally)
+    → t.output ≡ without_room output → t.tally ≡ without_signal_room tally
     → disc_on_port d output' tally' ≡ after_characters_of t.modes t.tick cs (disc_on_port t.disc output tally)
     → with_received t (disc_on_port d (without_room output') (without_signal_room tally')) (length cs) ≡ after_characters t cs
 run_made t cs output tally d output' tally' wire counts is =

@@ -25,7 +25,9 @@ through true x y e = absurd (false≢true (sym e))
 through false x y e = refl
 
 -- a write that nothing refuses goes by the discipline
-pub write_is : (t : Terminal) (s : CallerState) (bytes : List ℕ) (handle : HandleState) → may_write handle.access ≡ true → handle.live ≡ true → is_outlived t s ≡ false → writing_outcome t s bytes (Some handle) ≡ write_outcome t s handle.nonblock (drop s.taken bytes) t.disc
+pub write_is : (t : Terminal) (s : CallerState) (bytes : List ℕ) (handle : HandleState) → may_write handle.access ≡ true
+    → handle.live ≡ true → is_outlived t s ≡ false
+    → writing_outcome t s bytes (Some handle) ≡ write_outcome t s handle.nonblock (drop s.taken bytes) t.disc
 write_is t s bytes handle may live now =
     through (not (may_write handle.access)) _ _ (ap not may)
     ∙ (through (not handle.live) _ _ (ap not live) ∙ through (is_outlived t s) _ _ now)
@@ -40,7 +42,8 @@ pub none_of_some : (left fit : ℕ) → (left == 0) ≡ false → nat_lt 0 fit �
 none_of_some left fit some none = grind (arith, nat_tests)
 
 -- a blocking write of some bytes waits where none fits
-pub write_waits : (t : Terminal) (s : CallerState) (rest : List ℕ) (tty : NTtyState) → (length rest == 0) ≡ false → is_wait (write_outcome t s false rest (disc.Tty tty)) ≡ not (nat_lt 0 (piece_size t.modes tty t.output rest))
+pub write_waits : (t : Terminal) (s : CallerState) (rest : List ℕ) (tty : NTtyState) → (length rest == 0) ≡ false
+    → is_wait (write_outcome t s false rest (disc.Tty tty)) ≡ not (nat_lt 0 (piece_size t.modes tty t.output rest))
 write_waits t s rest tty some =
     let fit = piece_size t.modes tty t.output rest in
     parts_wait (fit == length rest) (nat_lt 0 fit) _ _ refl refl (λ none. none_of_some (length rest) fit some none)
@@ -53,7 +56,8 @@ empty_waits : (rest : List ℕ) (t : Terminal) (s : CallerState) (tty : NTtyStat
 empty_waits [] t s tty e = refl
 empty_waits (b ∷ rest) t s tty e = absurd (grind (arith, nat_tests))
 
-by_length : (t : Terminal) (s : CallerState) (rest : List ℕ) (tty : NTtyState) (b : Bool) → (length rest == 0) ≡ b → is_wait (write_outcome t s false rest (disc.Tty tty)) ≡ (not b && not (nat_lt 0 (piece_size t.modes tty t.output rest)))
+by_length : (t : Terminal) (s : CallerState) (rest : List ℕ) (tty : NTtyState) (b : Bool) → (length rest == 0) ≡ b
+    → is_wait (write_outcome t s false rest (disc.Tty tty)) ≡ (not b && not (nat_lt 0 (piece_size t.modes tty t.output rest)))
 by_length t s rest tty true e = empty_waits rest t s tty e
 by_length t s rest tty false e = write_waits t s rest tty e
 
@@ -67,6 +71,7 @@ blocking_waits t s rest (disc.Tty tty) = by_length t s rest tty (length rest == 
 blocking_waits t s rest (disc.Slip slip) = refused_waits (has_parts s) _ _ refl refl
 
 -- what is posted of a write is the same without room
-pub posted_made : (modes : Settings) (tty : NTtyState) (wire : Output) (rest : List ℕ) → without_room (after_send wire (piece_text modes tty wire rest)) ≡ after_send (without_room wire) (piece_text modes tty (without_room wire) rest)
+pub posted_made : (modes : Settings) (tty : NTtyState) (wire : Output) (rest : List ℕ)
+    → without_room (after_send wire (piece_text modes tty wire rest)) ≡ after_send (without_room wire) (piece_text modes tty (without_room wire) rest)
 posted_made modes tty wire rest =
     after_send-room (piece_text modes tty wire rest) wire ∙ ap (λ (text : List ℕ). after_send (without_room wire) text) (sym (piece_text-room modes tty wire rest))

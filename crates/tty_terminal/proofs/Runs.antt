@@ -11,7 +11,8 @@ use Rattle.tty_terminal.proofs.CallerLists.{all_idle}
 use Rattle.tty_terminal.proofs.StepLaws.{step_does, InLine, Within}
 
 -- a run goes on
-pub leads_more : (f : ℕ → ℕ → Option PlainCall) (counts : List ℕ) (t : Terminal) (es : List PlainEntry) (u : Terminal) (e : PlainEntry) → Leads f counts t es u → Allowed f counts u e → Leads f counts t (es ++ e ∷ []) (after f u e)
+pub leads_more : (f : ℕ → ℕ → Option PlainCall) (counts : List ℕ) (t : Terminal) (es : List PlainEntry) (u : Terminal) (e : PlainEntry)
+    → Leads f counts t es u → Allowed f counts u e → Leads f counts t (es ++ e ∷ []) (after f u e)
 leads_more f counts t [] u e h k = (subst (λ (v : Terminal). Allowed f counts v e) h k, ap (λ (v : Terminal). after f v e) h)
 leads_more f counts t (x ∷ es) u e h k = (h.0, leads_more f counts (after f t x) es u e h.1 k)
 

@@ -1,5 +1,7 @@
 -- Where each caller stands after an entry, and after a run.
-use Rattle.std.proofs.Common.{◌≡◌, ℕ, ◌+◌, ◌<◌, List, [], ◌∷◌, Bool, true, false, ◌==◌, Option, None, Some, is_some, if◌then◌else◌, length, set, get_or, get_or-set_same, get_or-set_other, sum, refl, sym, ◌∙◌, ap, subst, arith}
+use Rattle.std.proofs.Common.{◌≡◌, ℕ, ◌+◌, ◌<◌, List, [], ◌∷◌, Bool, true, false, ◌==◌, Option, None, Some, is_some}
+use Rattle.std.proofs.Common.{if◌then◌else◌, length, set, get_or, get_or-set_same, get_or-set_other, sum, refl, sym}
+use Rattle.std.proofs.Common.{◌∙◌, ap, subst, arith}
 use Rattle.std.proofs.lemmas.Bool.{eqb-true, eq-eqb, false≢true}
 use Rattle.tty_base.specs.declared.characters.Flagged.{Flagged}
 use Rattle.tty_calls.specs.declared.journals.Who.{Who}
@@ -37,16 +39,21 @@ set_elsewhere : (cs : List CallerState) (d : ℕ) (s : CallerState) (c : ℕ) �
 set_elsewhere cs d s c other = get_or-set_other cs d c s idle_caller (λ e. false≢true (sym other ∙ eq-eqb d c (sym e)))
 
 -- a caller's state is replaced: it stands as the new state does, and each other one as it did
-set_stands : (cs : List CallerState) (d : ℕ) (s : CallerState) (c : ℕ) (own other : Standing) → d < length cs → ((d == c) ≡ true → standing_of s ≡ own) → ((d == c) ≡ false → standing_of (get_or cs c idle_caller) ≡ other) → (b : Bool) → (d == c) ≡ b → standing_of (get_or (set cs d s) c idle_caller) ≡ (if b then own else other)
+set_stands : (cs : List CallerState) (d : ℕ) (s : CallerState) (c : ℕ) (own other : Standing) → d < length cs
+    → ((d == c) ≡ true → standing_of s ≡ own) → ((d == c) ≡ false → standing_of (get_or cs c idle_caller) ≡ other)
+    → (b : Bool) → (d == c) ≡ b → standing_of (get_or (set cs d s) c idle_caller) ≡ (if b then own else other)
 set_stands cs d s c own other lt at elsewhere true e =
     let same : d ≡ c = eqb-true d c e in
     ap standing_of (subst (λ (k : ℕ). get_or (set cs d s) k idle_caller ≡ s) same (set_at cs d s lt)) ∙ at e
 set_stands cs d s c own other lt at elsewhere false e = ap standing_of (set_elsewhere cs d s c e) ∙ elsewhere e
 
-by_number : (cs : List CallerState) (d : ℕ) (s : CallerState) (c : ℕ) (own other : Standing) → d < length cs → ((d == c) ≡ true → standing_of s ≡ own) → ((d == c) ≡ false → standing_of (get_or cs c idle_caller) ≡ other) → standing_of (get_or (set cs d s) c idle_caller) ≡ (if d == c then own else other)
+by_number : (cs : List CallerState) (d : ℕ) (s : CallerState) (c : ℕ) (own other : Standing) → d < length cs
+    → ((d == c) ≡ true → standing_of s ≡ own) → ((d == c) ≡ false → standing_of (get_or cs c idle_caller) ≡ other)
+    → standing_of (get_or (set cs d s) c idle_caller) ≡ (if d == c then own else other)
 by_number cs d s c own other lt at elsewhere = set_stands cs d s c own other lt at elsewhere (d == c) refl
 
-answer_stands : (s u : CallerState) → Stays s u → (a : PlainAnswer) (dropped : List Flagged) (generation : ℕ) → standing_of (caller_after_answer u) ≡ standing_after_own (answered a dropped) generation (standing_of s)
+answer_stands : (s u : CallerState) → Stays s u → (a : PlainAnswer) (dropped : List Flagged) (generation : ℕ)
+    → standing_of (caller_after_answer u) ≡ standing_after_own (answered a dropped) generation (standing_of s)
 answer_stands s u h a dropped generation =
     λ i. record { next = h.next i + 1; over = h.over i; waits = false; parts = 0; taken = 0; generation = 0; begun = false }
 
@@ -54,7 +61,8 @@ bound_true : (t : Terminal) (b : Option Bound) (h : ℕ) → is_bound (bound_at 
 bound_true t None h = refl
 bound_true t (Some b) h = refl
 
-part_stands : (t u : Terminal) (s v : CallerState) → Stays s v → (generation : ℕ) → u.generation ≡ generation → (h n : ℕ) → standing_of (caller_after_part u v h n) ≡ standing_after_own (parted n) generation (standing_of s)
+part_stands : (t u : Terminal) (s v : CallerState) → Stays s v → (generation : ℕ) → u.generation ≡ generation
+    → (h n : ℕ) → standing_of (caller_after_part u v h n) ≡ standing_after_own (parted n) generation (standing_of s)
 part_stands t u s v k generation e h n =
     λ i. record {
       next = k.next i;
@@ -107,7 +115,9 @@ parted_stands t o d h n generation same each g lt c =
     (λ e. subst (λ (k : ℕ). standing_of (caller_after_part (left_by o t) (caller_at (left_by o t) d) h n) ≡ standing_after_own (parted n) generation (standing_of (caller_at t k))) (eqb-true d c e) (part_stands t (left_by o t) (caller_at t d) (caller_at (left_by o t) d) (each d) generation g h n))
     (λ e. stays_stand (caller_at t c) (caller_at (left_by o t) c) (each c))
 
-event_stands : (f : ℕ → ℕ → Option PlainCall) (counts : List ℕ) (t : Terminal) (who : Who) (step part : ℕ) (event : PlainEvent) → IsAllowed f counts t who step part event → StandsAfter t (after_event f t who step part event) who t.generation event
+event_stands : (f : ℕ → ℕ → Option PlainCall) (counts : List ℕ) (t : Terminal) (who : Who) (step part : ℕ) (event : PlainEvent)
+    → IsAllowed f counts t who step part event
+    → StandsAfter t (after_event f t who step part event) who t.generation event
 event_stands f counts t (Caller d) step part (answered a dropped) h c =
     let k = outcome_keeps t (caller_at t d) (f d step) in
     answered_stands t (outcome_of t (caller_at t d) (f d step)) d a dropped t.generation k.left.callers k.left.caller h.next.known c
@@ -151,15 +161,19 @@ event_stands f counts t who step part (hung_up dropped) h c =
     ∙ same_stand (is_caller who c) (standing_of (caller_at t c))
 
 -- each caller stands after an entry as its own entries and the ends of phases tell
-pub step_stands : (f : ℕ → ℕ → Option PlainCall) (counts : List ℕ) (t : Terminal) (e : PlainEntry) → Allowed f counts t e → (c : ℕ) → standing_of (caller_at (after f t e) c) ≡ standing_after c e (standing_of (caller_at t c))
+pub step_stands : (f : ℕ → ℕ → Option PlainCall) (counts : List ℕ) (t : Terminal) (e : PlainEntry)
+    → Allowed f counts t e → (c : ℕ)
+    → standing_of (caller_at (after f t e) c) ≡ standing_after c e (standing_of (caller_at t c))
 step_stands f counts t e h c =
     subst (λ (g : ℕ). standing_of (caller_at (after f t e) c) ≡ (if is_caller e.who c then standing_after_own e.event g (standing_of (caller_at t c)) else standing_after_other e.event (standing_of (caller_at t c)))) (sym h.0) (event_stands f counts t e.who e.step e.part e.event h.1 c)
 
-pub leads_stands : (f : ℕ → ℕ → Option PlainCall) (counts : List ℕ) (t : Terminal) (es : List PlainEntry) (u : Terminal) → Leads f counts t es u → (c : ℕ) → standing_of (caller_at u c) ≡ standing_in c es (standing_of (caller_at t c))
+pub leads_stands : (f : ℕ → ℕ → Option PlainCall) (counts : List ℕ) (t : Terminal) (es : List PlainEntry) (u : Terminal)
+    → Leads f counts t es u → (c : ℕ) → standing_of (caller_at u c) ≡ standing_in c es (standing_of (caller_at t c))
 leads_stands f counts t [] u h c = ap (λ (v : Terminal). standing_of (caller_at v c)) h
 leads_stands f counts t (e ∷ es) u h c =
     leads_stands f counts (after f t e) es u h.1 c ∙ ap (λ (s : Standing). standing_in c es s) (step_stands f counts t e h.0 c)
 
-pub run_stands : (f : ℕ → ℕ → Option PlainCall) (counts : List ℕ) (capacity : ℕ) (es : List PlainEntry) (u : Terminal) → IsRun f counts capacity es u → (c : ℕ) → standing_of (caller_at u c) ≡ standing_in c es at_first
+pub run_stands : (f : ℕ → ℕ → Option PlainCall) (counts : List ℕ) (capacity : ℕ) (es : List PlainEntry) (u : Terminal)
+    → IsRun f counts capacity es u → (c : ℕ) → standing_of (caller_at u c) ≡ standing_in c es at_first
 run_stands f counts capacity es u h c =
     leads_stands f counts (opening (sum counts) capacity) es u h c ∙ ap (λ (s : CallerState). standing_in c es (standing_of s)) (all_idle (sum counts) c)

@@ -14,7 +14,11 @@ use Rattle.tty_terminal.specs.Receiving.{after_character, after_characters}
 use Rattle.tty_terminal.specs.Generations.{after_hangup, caller_after_hangup}
 use Rattle.tty_terminal.specs.Outcomes.{Outcome, unknown, waits, takes, gives}
 use Rattle.tty_terminal.specs.Calls.{outcome_of}
-use Rattle.tty_terminal.specs.Steps.{Drops, left_by, IsAnswer, IsPart, IsWait, IsFlush, IsCallerEnd, ByCaller, by_caller, IsAllowed, after_event, Allowed, after, with_dropped, with_caller, bound_at, caller_after_answer, after_answer, caller_after_wait, after_wait, caller_after_part, after_part, after_caller_end, caller_after_phase, handle_number, next_phase, follows}
+use Rattle.tty_terminal.specs.Steps.{Drops, left_by, IsAnswer, IsPart, IsWait, IsFlush, IsCallerEnd, ByCaller}
+use Rattle.tty_terminal.specs.Steps.{by_caller, IsAllowed, after_event, Allowed, after, with_dropped, with_caller}
+use Rattle.tty_terminal.specs.Steps.{bound_at, caller_after_answer, after_answer, caller_after_wait, after_wait}
+use Rattle.tty_terminal.specs.Steps.{caller_after_part, after_part, after_caller_end, caller_after_phase}
+use Rattle.tty_terminal.specs.Steps.{handle_number, next_phase, follows}
 use Rattle.tty_terminal.proofs.CallerLists.{set_relates, map_relates, Stays, hangup_stays, begun_most}
 use Rattle.tty_terminal.proofs.Effects.{Keeps, outcome_keeps, total_of}
 
@@ -87,7 +91,9 @@ drops_in_line t (takes taken left) n d over h = omega (arith, d)
 drops_in_line t (gives answer false left) n d over h = omega (arith, d)
 drops_in_line t (gives answer true left) n d over h = omega (arith, d.2 over)
 
-answered_does : (t : Terminal) (s : CallerState) (total : ℕ) (o : Outcome) (c : ℕ) (a : PlainAnswer) (dropped : List Flagged) → Keeps t s total o → Drops t o (length dropped) → Does t (after_answer (with_dropped (left_by o t) (length dropped)) c) (answered a dropped)
+answered_does : (t : Terminal) (s : CallerState) (total : ℕ) (o : Outcome) (c : ℕ) (a : PlainAnswer) (dropped : List Flagged)
+    → Keeps t s total o → Drops t o (length dropped)
+    → Does t (after_answer (with_dropped (left_by o t) (length dropped)) c) (answered a dropped)
 answered_does t s total o c a dropped k d =
     let l = k.left in
     record {
@@ -271,7 +277,8 @@ by_caller_does Line t P f event each h = absurd h
 by_caller_does Clock t P f event each h = absurd h
 by_caller_does Session t P f event each h = absurd h
 
-event_does : (f : ℕ → ℕ → Option PlainCall) (counts : List ℕ) (t : Terminal) (who : Who) (step part : ℕ) (event : PlainEvent) → IsAllowed f counts t who step part event → Does t (after_event f t who step part event) event
+event_does : (f : ℕ → ℕ → Option PlainCall) (counts : List ℕ) (t : Terminal) (who : Who) (step part : ℕ) (event : PlainEvent)
+    → IsAllowed f counts t who step part event → Does t (after_event f t who step part event) event
 event_does f counts t who step part (answered a dropped) h =
     by_caller_does who t (λ c. IsAnswer f counts t c step part a dropped) (λ c. after_answer (with_dropped (left_by (outcome_of t (caller_at t c) (f c step)) t) (length dropped)) c) (answered a dropped)
     (λ c k. answered_does t (caller_at t c) (total_of (f c step)) (outcome_of t (caller_at t c) (f c step)) c a dropped (outcome_keeps t (caller_at t c) (f c step)) k.drops) h

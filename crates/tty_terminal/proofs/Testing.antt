@@ -281,7 +281,9 @@ tick_shown t who step part h =
     let a = all_shown (tick_tests t who step part) h in
     (clock_shown who a.0, record { phase = record { at_step = eqb-true _ _ a.1.0; at_part = eqb-true _ _ a.1.1.0 }; not_over = not_true _ a.1.1.1.0 })
 
-event_shown : (calls : ℕ → ℕ → Option PlainCall) (counts : List ℕ) (t : Terminal) (who : Who) (step part : ℕ) (event : PlainEvent) → passes calls counts t who step part event ≡ true → AnswersAt calls counts t who step event → IsAllowed calls counts t who step part event
+event_shown : (calls : ℕ → ℕ → Option PlainCall) (counts : List ℕ) (t : Terminal) (who : Who) (step part : ℕ) (event : PlainEvent)
+    → passes calls counts t who step part event ≡ true → AnswersAt calls counts t who step event
+    → IsAllowed calls counts t who step part event
 event_shown calls counts t who step part (answered a dropped) h answers =
     by_shown who (λ c. all_true (answer_tests calls t step part (length dropped) c))
     (λ c. Answers (is_some (caller_at t c).waits && quiet counts t) (outcome_of t (caller_at t c) (calls c step)) a)

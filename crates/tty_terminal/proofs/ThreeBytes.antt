@@ -5,7 +5,12 @@ use Rattle.tty_base.specs.declared.counters.Errno.TheVariants.{EBUSY, EIO}
 use Rattle.tty_calls.specs.Plain.{PlainAnswer, done, count_is, got, number_is, modes_are, counts_are, refused, idle, bytes_in}
 use Rattle.tty_terminal.specs.Terminals.{Terminal, opening}
 use Rattle.tty_terminal.specs.Runs.{IsRun}
-use Rattle.tty_terminal.specs.Rows.{three_bytes_calls, three_bytes_counts, three_bytes, with_other_bytes, with_old_generation, without_flush, without_new_generation, calls_from, LeadsFrom, half_line_calls, half_line, hangup_calls, hangup, stopped_terminal, stopped_calls, stopped_write, timed_calls, timed_read, one_tick, exclusive_calls, exclusive_use, filling, filling_calls, filled_read, idle_calls, idle_answer, idle_too_early, end_too_early}
+use Rattle.tty_terminal.specs.Rows.{three_bytes_calls, three_bytes_counts, three_bytes, with_other_bytes}
+use Rattle.tty_terminal.specs.Rows.{with_old_generation, without_flush, without_new_generation, calls_from, LeadsFrom}
+use Rattle.tty_terminal.specs.Rows.{half_line_calls, half_line, hangup_calls, hangup, stopped_terminal, stopped_calls}
+use Rattle.tty_terminal.specs.Rows.{stopped_write, timed_calls, timed_read, one_tick, exclusive_calls, exclusive_use}
+use Rattle.tty_terminal.specs.Rows.{filling, filling_calls, filled_read, idle_calls, idle_answer, idle_too_early}
+use Rattle.tty_terminal.specs.Rows.{end_too_early}
 use Rattle.read_rule.specs.Ready.{is_ready}
 use Rattle.tty_terminal.proofs.Testing.{end_of, passing_leads}
 

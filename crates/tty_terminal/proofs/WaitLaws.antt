@@ -54,10 +54,12 @@ first_begun = record { waits = λ e. e; parts = λ e. absurd (omega arith) }
 run_begun : (f : ℕ → ℕ → Option PlainCall) (counts : List ℕ) (capacity : ℕ) (es : List PlainEntry) (u : Terminal) → IsRun f counts capacity es u → (c : ℕ) → HasBegun (standing_of (caller_at u c))
 run_begun f counts capacity es u h c = subst HasBegun (sym (run_stands f counts capacity es u h c)) (all_begun c es at_first first_begun)
 
-pub run_waits : (f : ℕ → ℕ → Option PlainCall) (counts : List ℕ) (capacity : ℕ) (es : List PlainEntry) (u : Terminal) → IsRun f counts capacity es u → (c : ℕ) → is_some (caller_at u c).waits ≡ true → has_begun (caller_at u c) ≡ true
+pub run_waits : (f : ℕ → ℕ → Option PlainCall) (counts : List ℕ) (capacity : ℕ) (es : List PlainEntry) (u : Terminal)
+    → IsRun f counts capacity es u → (c : ℕ) → is_some (caller_at u c).waits ≡ true → has_begun (caller_at u c) ≡ true
 run_waits f counts capacity es u h c e = (run_begun f counts capacity es u h c).waits e
 
-pub run_parts : (f : ℕ → ℕ → Option PlainCall) (counts : List ℕ) (capacity : ℕ) (es : List PlainEntry) (u : Terminal) → IsRun f counts capacity es u → (c : ℕ) → 0 < (caller_at u c).parts → has_begun (caller_at u c) ≡ true
+pub run_parts : (f : ℕ → ℕ → Option PlainCall) (counts : List ℕ) (capacity : ℕ) (es : List PlainEntry) (u : Terminal)
+    → IsRun f counts capacity es u → (c : ℕ) → 0 < (caller_at u c).parts → has_begun (caller_at u c) ≡ true
 run_parts f counts capacity es u h c e = (run_begun f counts capacity es u h c).parts e
 
 pub part_some : (t : Terminal) (s : CallerState) (call : PlainCall) (n : ℕ) → TakesPart (outcome t s call) n → 1 ≤ n

@@ -2,7 +2,7 @@
 use Rattle.std.specs.Prelude.{ℕ, ◌+◌, ◌==◌, Bool, true, false, not, ◌&&◌, Option, None, Some}
 use Rattle.tty_calls.specs.declared.journals.Who.{Who}
 use Rattle.tty_calls.specs.declared.journals.Who.TheVariants.{Caller, Flusher, Line, Clock, Session}
-use Rattle.tty_calls.specs.Plain.{PlainCall, opens, closes, reads, writes, gets_modes, sets_modes, gets_disc, sets_disc, flushes, steers, counts_input, counts_output, excludes, admits, drains, gets_counts, hangs_up, sends_packet, takes_packet, PlainEvent, answered, parted, waited, flushed, ticked, line_ended, clock_ended, caller_ended, phase_ended, hung_up}
+use Rattle.tty_calls.specs.Plain.{PlainCall, closes, sets_disc, hangs_up, PlainEvent, answered, parted, waited, flushed, ticked, line_ended, clock_ended, caller_ended, phase_ended, hung_up}
 use Rattle.handle_table.specs.declared.HandleState.{HandleState}
 use Rattle.handle_table.specs.Handles.{is_live}
 use Rattle.ldisc_switch.specs.declared.kinds.Kind.{Kind}
@@ -22,25 +22,10 @@ is_change t number (Some new) = not (number_of t.disc == number)
 
 -- whether the answer to a call begins one
 abbrev pub call_begins : Terminal → CallerState → PlainCall → Bool
-call_begins t s (opens h access nonblock) = false
 call_begins t s (closes h) = is_last_close t (handle_at t h)
-call_begins t s (reads h n) = false
-call_begins t s (writes h bytes) = false
-call_begins t s (gets_modes h) = false
-call_begins t s (sets_modes h when words) = false
-call_begins t s (gets_disc h) = false
 call_begins t s (sets_disc h n) = is_live (handle_for t s h) && is_change t n (kind_of_number n)
-call_begins t s (flushes h queue) = false
-call_begins t s (steers h act) = false
-call_begins t s (counts_input h) = false
-call_begins t s (counts_output h) = false
-call_begins t s (excludes h) = false
-call_begins t s (admits h) = false
-call_begins t s (drains h) = false
-call_begins t s (gets_counts h) = false
 call_begins t s (hangs_up h) = is_live (handle_for t s h)
-call_begins t s (sends_packet h bytes) = false
-call_begins t s (takes_packet h) = false
+call_begins t s call = false
 
 abbrev pub known_call_begins : Terminal → CallerState → Option PlainCall → Bool
 known_call_begins t s None = false

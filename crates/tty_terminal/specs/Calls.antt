@@ -4,7 +4,9 @@ use Rattle.tty_modes.specs.Settings.{Settings}
 use Rattle.tty_modes.specs.Word.{after_words}
 use Rattle.n_tty.specs.Reading.{ready_count}
 use Rattle.n_slip.specs.Discipline.{first_packet}
-use Rattle.tty_calls.specs.Plain.{PlainCall, opens, closes, reads, writes, gets_modes, sets_modes, gets_disc, sets_disc, flushes, steers, counts_input, counts_output, excludes, admits, drains, gets_counts, hangs_up, sends_packet, takes_packet, number_is, modes_are, counts_are}
+use Rattle.tty_calls.specs.Plain.{PlainCall, opens, closes, reads, writes, gets_modes, sets_modes, gets_disc}
+use Rattle.tty_calls.specs.Plain.{sets_disc, flushes, steers, counts_input, counts_output, excludes, admits, drains}
+use Rattle.tty_calls.specs.Plain.{gets_counts, hangs_up, sends_packet, takes_packet, number_is, modes_are, counts_are}
 use Rattle.ldisc_switch.specs.declared.discipline.Disc.{Disc}
 use Rattle.ldisc_switch.specs.declared.discipline.Disc.TheVariants as disc
 use Rattle.ldisc_switch.specs.Disciplines.{kind_of_number}

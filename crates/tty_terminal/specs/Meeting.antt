@@ -1,8 +1,11 @@
 -- What the code answers of an outcome, and the room that it needs.
 use Rattle.std.specs.Prelude.{◌≡◌, ◌<◌, ◌≤◌, ◌==◌, ◌+◌, ◌-◌, ◌*◌, ◌^◌, min, ℕ, List, [], Option, None, Some, Bool, true, false, nat_lt, if◌then◌else◌, length, option_map}
+use Rattle.tty_base.specs.Sizes.{COUNT_END, MOST_HELD, PIECE}
 use Rattle.tty_base.specs.Contents.{Contents}
 use Rattle.tty_base.specs.declared.counters.Counts.{Counts}
-use Rattle.tty_calls.specs.Plain.{PlainCall, opens, closes, reads, writes, gets_modes, sets_modes, gets_disc, sets_disc, flushes, steers, counts_input, counts_output, excludes, admits, drains, gets_counts, hangs_up, sends_packet, takes_packet, handle_of, answer_of}
+use Rattle.tty_calls.specs.Plain.{PlainCall, opens, closes, reads, writes, gets_modes, sets_modes, gets_disc}
+use Rattle.tty_calls.specs.Plain.{sets_disc, flushes, steers, counts_input, counts_output, excludes, admits, drains}
+use Rattle.tty_calls.specs.Plain.{gets_counts, hangs_up, sends_packet, takes_packet, handle_of, answer_of}
 use Rattle.tty_calls.specs.Limits.{byte_count}
 use Rattle.n_tty.specs.Reading.{bytes_read}
 use Rattle.n_slip.specs.Discipline.{first_packet}
@@ -75,25 +78,9 @@ packet_room (disc.Slip slip) = length (first_packet slip)
 
 -- how many bytes the answer to a call gives at most
 abbrev pub room_for : Terminal → PlainCall → ℕ
-room_for t (opens h access nonblock) = 0
-room_for t (closes h) = 0
 room_for t (reads h n) = read_room t n t.disc
-room_for t (writes h bytes) = 0
-room_for t (gets_modes h) = 0
-room_for t (sets_modes h when words) = 0
-room_for t (gets_disc h) = 0
-room_for t (sets_disc h n) = 0
-room_for t (flushes h queue) = 0
-room_for t (steers h act) = 0
-room_for t (counts_input h) = 0
-room_for t (counts_output h) = 0
-room_for t (excludes h) = 0
-room_for t (admits h) = 0
-room_for t (drains h) = 0
-room_for t (gets_counts h) = 0
-room_for t (hangs_up h) = 0
-room_for t (sends_packet h bytes) = 0
 room_for t (takes_packet h) = packet_room t.disc
+room_for t call = 0
 
 -- the discipline that a close installs: a fresh one where it is the last
 abbrev pub close_kind : Terminal → Option HandleState → Option Kind
@@ -102,25 +89,10 @@ close_kind t (Some handle) = if is_last_live t handle then Some kind.Tty else No
 
 -- the kind of the fresh discipline that a call installs
 abbrev pub fresh_kind : Terminal → PlainCall → Option Kind
-fresh_kind t (opens h access nonblock) = None
 fresh_kind t (closes h) = close_kind t (handle_at t h)
-fresh_kind t (reads h n) = None
-fresh_kind t (writes h bytes) = None
-fresh_kind t (gets_modes h) = None
-fresh_kind t (sets_modes h when words) = None
-fresh_kind t (gets_disc h) = None
 fresh_kind t (sets_disc h n) = if number_of t.disc == n then None else kind_of_number n
-fresh_kind t (flushes h queue) = None
-fresh_kind t (steers h act) = None
-fresh_kind t (counts_input h) = None
-fresh_kind t (counts_output h) = None
-fresh_kind t (excludes h) = None
-fresh_kind t (admits h) = None
-fresh_kind t (drains h) = None
-fresh_kind t (gets_counts h) = None
 fresh_kind t (hangs_up h) = Some kind.Tty
-fresh_kind t (sends_packet h bytes) = None
-fresh_kind t (takes_packet h) = None
+fresh_kind t call = None
 
 -- a packet as it is spelled, unless it is too long
 abbrev pub spelled_unless_long : List ℕ → List ℕ
@@ -128,25 +100,8 @@ spelled_unless_long bytes = if nat_lt max_packet (length bytes) then [] else spe
 
 -- the packet that a call sends, as it is spelled, unless it is too long
 abbrev pub spelled_packet : PlainCall → List ℕ
-spelled_packet (opens h access nonblock) = []
-spelled_packet (closes h) = []
-spelled_packet (reads h n) = []
-spelled_packet (writes h bytes) = []
-spelled_packet (gets_modes h) = []
-spelled_packet (sets_modes h when words) = []
-spelled_packet (gets_disc h) = []
-spelled_packet (sets_disc h n) = []
-spelled_packet (flushes h queue) = []
-spelled_packet (steers h act) = []
-spelled_packet (counts_input h) = []
-spelled_packet (counts_output h) = []
-spelled_packet (excludes h) = []
-spelled_packet (admits h) = []
-spelled_packet (drains h) = []
-spelled_packet (gets_counts h) = []
-spelled_packet (hangs_up h) = []
 spelled_packet (sends_packet h bytes) = spelled_unless_long bytes
-spelled_packet (takes_packet h) = []
+spelled_packet call = []
 
 -- the calls in groups: opens, closes and transfers; modes and disciplines; output and exclusive use; the others
 abbrev pub group_of : PlainCall → ℕ
@@ -172,47 +127,14 @@ group_of (takes_packet h) = 3
 
 -- whether a call may give bytes
 abbrev pub gives_bytes : PlainCall → Bool
-gives_bytes (opens h access nonblock) = false
-gives_bytes (closes h) = false
 gives_bytes (reads h n) = true
-gives_bytes (writes h bytes) = false
-gives_bytes (gets_modes h) = false
-gives_bytes (sets_modes h when words) = false
-gives_bytes (gets_disc h) = false
-gives_bytes (sets_disc h n) = false
-gives_bytes (flushes h queue) = false
-gives_bytes (steers h act) = false
-gives_bytes (counts_input h) = false
-gives_bytes (counts_output h) = false
-gives_bytes (excludes h) = false
-gives_bytes (admits h) = false
-gives_bytes (drains h) = false
-gives_bytes (gets_counts h) = false
-gives_bytes (hangs_up h) = false
-gives_bytes (sends_packet h bytes) = false
 gives_bytes (takes_packet h) = true
+gives_bytes call = false
 
 -- the counts that a call tells
 abbrev pub counts_for : Terminal → PlainCall → Option Counts
-counts_for t (opens h access nonblock) = None
-counts_for t (closes h) = None
-counts_for t (reads h n) = None
-counts_for t (writes h bytes) = None
-counts_for t (gets_modes h) = None
-counts_for t (sets_modes h when words) = None
-counts_for t (gets_disc h) = None
-counts_for t (sets_disc h n) = None
-counts_for t (flushes h queue) = None
-counts_for t (steers h act) = None
-counts_for t (counts_input h) = None
-counts_for t (counts_output h) = None
-counts_for t (excludes h) = None
-counts_for t (admits h) = None
-counts_for t (drains h) = None
 counts_for t (gets_counts h) = Some t.tally.counts
-counts_for t (hangs_up h) = None
-counts_for t (sends_packet h bytes) = None
-counts_for t (takes_packet h) = None
+counts_for t call = None
 
 -- the room for bytes, the discipline, the counts and the packet that stand in a room
 abbrev pub holds_bytes : Room → Bool
@@ -260,9 +182,9 @@ pub record IsRoomFor (t : Terminal) (call : PlainCall) (made : Room) : Type 0 wh
   pub counts : counts_in made ≡ counts_for t call
   pub packet : packet_in made ≡ spelled_packet call
 
--- what a write has taken, with the 64 bytes that it can take at once, is a number of 32 bits
+-- what a write has taken, with the bytes that it can take at once, is a number of 32 bits
 abbrev pub IsCounted : CallerState → PlainCall → Type 0
-IsCounted s call = s.taken + min 64 (byte_count call - s.taken) < 2 ^ 32
+IsCounted s call = s.taken + min PIECE (byte_count call - s.taken) < 2 ^ 32
 
 -- what a call needs, where its caller stands so: a handle's number in the table, bytes that it can count, what was made
 -- for it, and room for whatever it may send
@@ -272,34 +194,23 @@ pub record CanAct (v : InRoom) (s : CallerState) (call : PlainCall) (made : Room
   pub few : v.terminal.generation < 2 ^ 31
   pub room : IsRoomFor v.terminal call made
   pub wire : ROOM_FOR_CALL ≤ v.wire_room
-  pub column : column_in v.terminal.disc < 2 ^ 62
+  pub column : column_in v.terminal.disc < COUNT_END
 
 -- a call met its outcome, without the rule for ixoff after it; and how much room on the wire, and how many columns,
--- it took
+-- it took; each byte of a piece moves the column by 64 at most
 pub record Acts (old new : InRoom) (s : CallerState) (call : PlainCall) (result : Met) : Type 0 where
   pub met : Meets (outcome old.terminal s call) result
   pub left : new.terminal ≡ left_before_rule (outcome old.terminal s call) old.terminal
-  pub wire : old.wire_room ≤ new.wire_room + 4096
-  pub column : column_in new.terminal.disc ≤ column_in old.terminal.disc + 4096
+  pub wire : old.wire_room ≤ new.wire_room + MOST_HELD
+  pub column : column_in new.terminal.disc ≤ column_in old.terminal.disc + 64 * PIECE
 
 -- whether a call needs anything beside the terminal
 abbrev pub needs_room : PlainCall → Bool
-needs_room (opens h access nonblock) = false
 needs_room (closes h) = true
 needs_room (reads h n) = true
-needs_room (writes h bytes) = false
-needs_room (gets_modes h) = false
-needs_room (sets_modes h when words) = false
-needs_room (gets_disc h) = false
 needs_room (sets_disc h n) = true
-needs_room (flushes h queue) = false
-needs_room (steers h act) = false
-needs_room (counts_input h) = false
-needs_room (counts_output h) = false
-needs_room (excludes h) = false
-needs_room (admits h) = false
-needs_room (drains h) = false
 needs_room (gets_counts h) = true
 needs_room (hangs_up h) = true
 needs_room (sends_packet h bytes) = true
 needs_room (takes_packet h) = true
+needs_room call = false

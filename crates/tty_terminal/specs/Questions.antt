@@ -9,7 +9,7 @@ use Rattle.tty_calls.specs.declared.calls.Queue.{Queue}
 use Rattle.tty_calls.specs.declared.calls.Queue.TheVariants as queue
 use Rattle.tty_calls.specs.declared.journals.Who.{Who}
 use Rattle.tty_calls.specs.declared.journals.Who.TheVariants.{Caller}
-use Rattle.tty_calls.specs.Plain.{PlainAnswer, done, PlainCall, opens, closes, reads, writes, gets_modes, sets_modes, gets_disc, sets_disc, flushes, steers, counts_input, counts_output, excludes, admits, drains, gets_counts, hangs_up, sends_packet, takes_packet}
+use Rattle.tty_calls.specs.Plain.{PlainAnswer, done, PlainCall, reads, writes, sets_modes, flushes, drains, hangs_up}
 use Rattle.handle_table.specs.declared.HandleState.{HandleState}
 use Rattle.handle_table.specs.Handles.{is_live}
 use Rattle.tty_terminal.specs.declared.callers.CallerState.{CallerState}
@@ -33,25 +33,11 @@ drains_first when.Drain = true
 drains_first when.Flush = true
 
 abbrev pub call_waits : Terminal → CallerState → PlainCall → Bool
-call_waits t s (opens h access nonblock) = false
-call_waits t s (closes h) = false
 call_waits t s (reads h n) = is_wait (reading_outcome t s n (handle_for t s h))
 call_waits t s (writes h bytes) = is_wait (writing_outcome t s bytes (handle_for t s h))
-call_waits t s (gets_modes h) = false
 call_waits t s (sets_modes h w words) = drains_first w && must_drain t (handle_for t s h)
-call_waits t s (gets_disc h) = false
-call_waits t s (sets_disc h n) = false
-call_waits t s (flushes h q) = false
-call_waits t s (steers h act) = false
-call_waits t s (counts_input h) = false
-call_waits t s (counts_output h) = false
-call_waits t s (excludes h) = false
-call_waits t s (admits h) = false
 call_waits t s (drains h) = must_drain t (handle_for t s h)
-call_waits t s (gets_counts h) = false
-call_waits t s (hangs_up h) = false
-call_waits t s (sends_packet h bytes) = false
-call_waits t s (takes_packet h) = false
+call_waits t s call = false
 
 abbrev pub drops_input : When → Bool
 drops_input when.Now = false
@@ -64,25 +50,10 @@ is_of_input queue.Output = false
 is_of_input queue.Both = true
 
 abbrev pub call_drops : Terminal → CallerState → PlainCall → Bool
-call_drops t s (opens h access nonblock) = false
-call_drops t s (closes h) = false
-call_drops t s (reads h n) = false
-call_drops t s (writes h bytes) = false
-call_drops t s (gets_modes h) = false
 call_drops t s (sets_modes h w words) = is_live (handle_for t s h) && (drops_input w && is_drained t)
-call_drops t s (gets_disc h) = false
-call_drops t s (sets_disc h n) = false
 call_drops t s (flushes h q) = is_live (handle_for t s h) && is_of_input q
-call_drops t s (steers h act) = false
-call_drops t s (counts_input h) = false
-call_drops t s (counts_output h) = false
-call_drops t s (excludes h) = false
-call_drops t s (admits h) = false
-call_drops t s (drains h) = false
-call_drops t s (gets_counts h) = false
 call_drops t s (hangs_up h) = is_live (handle_for t s h)
-call_drops t s (sends_packet h bytes) = false
-call_drops t s (takes_packet h) = false
+call_drops t s call = false
 
 -- the four calls that may drop: `flush in`, `flush both`, `modes flush` and `vhangup`
 abbrev pub is_purge : PlainCall → Bool

@@ -15,7 +15,10 @@ use Rattle.tty_calls.specs.declared.calls.Access.TheVariants.{Rw}
 use Rattle.tty_calls.specs.declared.calls.When.TheVariants.{Now}
 use Rattle.tty_calls.specs.declared.journals.Who.{Who}
 use Rattle.tty_calls.specs.declared.journals.Who.TheVariants.{Caller, Flusher, Line, Clock, Session}
-use Rattle.tty_calls.specs.Plain.{PlainCall, opens, closes, reads, writes, sets_modes, sets_disc, excludes, admits, hangs_up, PlainAnswer, done, count_is, got, idle, PlainEvent, answered, parted, waited, flushed, ticked, line_ended, clock_ended, caller_ended, phase_ended, hung_up, PlainEntry}
+use Rattle.tty_calls.specs.Plain.{PlainCall, opens, closes, reads, writes, sets_modes, sets_disc, excludes, admits}
+use Rattle.tty_calls.specs.Plain.{hangs_up, PlainAnswer, done, count_is, got, idle, PlainEvent, answered, parted}
+use Rattle.tty_calls.specs.Plain.{waited, flushed, ticked, line_ended, clock_ended, caller_ended, phase_ended}
+use Rattle.tty_calls.specs.Plain.{hung_up, PlainEntry}
 use Rattle.tty_terminal.specs.Terminals.{Terminal, opening}
 use Rattle.tty_terminal.specs.Runs.{Leads}
 

@@ -1,10 +1,15 @@
 -- The step of the terminal: when an entry may stand, and what it does. Calls are found by their
 -- caller and step; `counts` has the number of callers of each phase.
-use Rattle.std.specs.Prelude.{◌≡◌, ℕ, List, Bool, IsTrue, true, false, ◌&&◌, ◌||◌, not, Option, None, Some, is_some, ◌==◌, nat_le, ◌+◌, ◌-◌, ◌<◌, ◌≤◌, if◌then◌else◌, length, map, count_by, slice_index_or, slice_set}
+use Rattle.std.specs.Prelude.{◌≡◌, ℕ, List, Bool, IsTrue, true, false, ◌&&◌, ◌||◌, not, Option, None, Some, is_some}
+use Rattle.std.specs.Prelude.{◌==◌, nat_le, ◌+◌, ◌-◌, ◌<◌, ◌≤◌, if◌then◌else◌, length, map, count_by, slice_index_or}
+use Rattle.std.specs.Prelude.{slice_set}
+use Rattle.tty_base.specs.Sizes.{PIECE}
 use Rattle.tty_base.specs.declared.characters.Flagged.{Flagged}
 use Rattle.tty_calls.specs.declared.journals.Who.{Who}
 use Rattle.tty_calls.specs.declared.journals.Who.TheVariants.{Caller, Flusher, Line, Clock, Session}
-use Rattle.tty_calls.specs.Plain.{PlainCall, handle_of, PlainAnswer, idle, PlainEvent, answered, parted, waited, flushed, ticked, line_ended, clock_ended, caller_ended, phase_ended, hung_up, PlainEntry}
+use Rattle.tty_calls.specs.Plain.{PlainCall, handle_of, PlainAnswer, idle, PlainEvent, answered, parted, waited}
+use Rattle.tty_calls.specs.Plain.{flushed, ticked, line_ended, clock_ended, caller_ended, phase_ended, hung_up}
+use Rattle.tty_calls.specs.Plain.{PlainEntry}
 use Rattle.tty_terminal.specs.declared.callers.Bound.{Bound}
 use Rattle.tty_terminal.specs.declared.callers.CallerState.{CallerState}
 use Rattle.tty_terminal.specs.declared.callers.Piece.{Piece}
@@ -110,7 +115,7 @@ follows (Some p) run part = ((run == p.run) && (part == p.part + 1)) || ((run ==
 pub record IsFlush (t : Terminal) (run part : ℕ) (chars : List Flagged) : Type 0 where
   pub live : 0 < live_count t
   pub some : 0 < length chars
-  pub few : length chars ≤ 64
+  pub few : length chars ≤ PIECE
   pub accepted : AcceptsAll t chars
   pub numbered : IsTrue (follows t.flushed run part)
   -- after the line's end no more than what was sent

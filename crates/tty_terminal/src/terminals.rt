@@ -2,6 +2,7 @@
 //! of it.
 
 ghost use Rattle.std.specs.Prelude.{◌≡◌, ◌↔◌, ℕ, Some, true, false, ◌+◌, ◌*◌, ◌-◌, ◌≤◌, ◌<◌, ◌^◌, IsTrue, IfOk, OnOk, length, take, drop};
+ghost use Rattle.tty_base.specs.Sizes.{COUNT_END, MOST_FLIP, PIECE};
 ghost use Rattle.tty_calls.specs.Plain.{handle_of, call_of};
 ghost use Rattle.ldisc_switch.specs.Disciplines.{fresh_of, column_in};
 ghost use Rattle.ldisc_switch.specs.declared.kinds.Kind.{Kind};
@@ -122,7 +123,7 @@ impl Terminal {
         requires taken { self.old.terminal.taken + length chars.now < 2 ^ 63 }
         requires wire { room_for_characters self.old.terminal (length chars.now) ≤ self.old.wire_room }
         requires signals { length chars.now ≤ self.old.signal_room }
-        requires column { column_in self.old.terminal.disc + 2 ^ 22 * length chars.now < 2 ^ 62 }
+        requires column { column_in self.old.terminal.disc + 2 ^ 22 * length chars.now < COUNT_END }
         ensures within { result ≤ length chars.now }
         ensures received { self.new.terminal ≡ after_characters self.old.terminal (take result chars.now) }
         ensures accepted { AcceptsAll self.old.terminal (take result chars.now) }
@@ -142,7 +143,7 @@ impl Terminal {
 
     /// The room on the wire that so many characters need at most.
     pub fn room_for_characters(&self, count: usize) -> usize
-        requires { count ≤ 65536 }
+        requires { count ≤ MOST_FLIP }
         ensures { result ≡ room_for_characters self.now.terminal count }
     {
         self.disc.pending(&self.wire) + CHARACTER_ROOM * count
@@ -175,10 +176,10 @@ impl Terminal {
         requires few { self.old.terminal.generation < 2 ^ 31 }
         requires room { IsRoomFor self.old.terminal (call_of call.now) room }
         requires wire { ROOM_FOR_CALL ≤ self.old.wire_room }
-        requires column { column_in self.old.terminal.disc < 2 ^ 62 }
+        requires column { column_in self.old.terminal.disc < COUNT_END }
         ensures met { Meets (outcome self.old.terminal (caller_at self.old.terminal caller) (call_of call.now)) result }
         ensures left { self.new.terminal ≡ left_by (outcome self.old.terminal (caller_at self.old.terminal caller) (call_of call.now)) self.old.terminal }
-        ensures column { column_in self.new.terminal.disc ≤ column_in self.old.terminal.disc + 4096 }
+        ensures column { column_in self.new.terminal.disc ≤ column_in self.old.terminal.disc + 64 * PIECE }
     {
         let state = self.callers.get(caller as usize);
         self.meet_from(&state, call, room)
@@ -192,10 +193,10 @@ impl Terminal {
         requires few { self.old.terminal.generation < 2 ^ 31 }
         requires room { IsRoomFor self.old.terminal (call_of call.now) room }
         requires wire { ROOM_FOR_CALL ≤ self.old.wire_room }
-        requires column { column_in self.old.terminal.disc < 2 ^ 62 }
+        requires column { column_in self.old.terminal.disc < COUNT_END }
         ensures met { Meets (outcome self.old.terminal state.now (call_of call.now)) result }
         ensures left { self.new.terminal ≡ left_by (outcome self.old.terminal state.now (call_of call.now)) self.old.terminal }
-        ensures column { column_in self.new.terminal.disc ≤ column_in self.old.terminal.disc + 4096 }
+        ensures column { column_in self.new.terminal.disc ≤ column_in self.old.terminal.disc + 64 * PIECE }
     {
         let met = self.act(state, call, &mut room);
         if let Met::Gives(_) = &met {

@@ -1,6 +1,7 @@
 //! What each call does.
 
-ghost use Rattle.std.specs.Prelude.{◌≡◌, ℕ, List, [], ◌∷◌, Option, Some, None, Bool, true, false, ◌==◌, ◌+◌, ◌-◌, ◌≤◌, ◌<◌, ◌^◌, min, length, drop, option_map, box_value, if◌then◌else◌};
+ghost use Rattle.std.specs.Prelude.{◌≡◌, ℕ, List, [], ◌∷◌, Option, Some, None, Bool, true, false, ◌==◌, ◌+◌, ◌-◌, ◌*◌, ◌≤◌, ◌<◌, ◌^◌, min, length, drop, option_map, box_value, if◌then◌else◌};
+ghost use Rattle.tty_base.specs.Sizes.{COUNT_END, MOST_HELD, PIECE};
 ghost use Rattle.tty_calls.specs.Plain.{call_of, answer_of, counts_are};
 ghost use Rattle.tty_modes.specs.Word.{after_words};
 ghost use Rattle.flow_control.specs.Output.{on_wire};
@@ -98,18 +99,18 @@ impl Terminal {
     fn close(&mut self, h: u8, room: &mut Room) -> Met
         requires fresh { fresh_in room.old ≡ option_map fresh_of (close_kind self.old.terminal (handle_at self.old.terminal h)) }
         requires few { self.old.terminal.generation < 2 ^ 31 }
-        requires wire { 4096 ≤ self.old.wire_room }
+        requires wire { MOST_HELD ≤ self.old.wire_room }
         ensures met { Meets (closing_outcome self.old.terminal h (handle_at self.old.terminal h)) result }
         ensures left { self.new.terminal ≡ left_before_rule (closing_outcome self.old.terminal h (handle_at self.old.terminal h)) self.old.terminal }
-        ensures wire { self.old.wire_room ≤ self.new.wire_room + 4096 }
-        ensures column { column_in self.new.terminal.disc ≤ column_in self.old.terminal.disc + 4096 }
+        ensures wire { self.old.wire_room ≤ self.new.wire_room + MOST_HELD }
+        ensures column { column_in self.new.terminal.disc ≤ column_in self.old.terminal.disc + 64 * PIECE }
     {
         if !self.handles.remove(h) {
             return refuse(Errno::EBADF);
         }
         self.callers.close(h);
         if let Some(fresh) = room.take_fresh() {
-            let _held = self.wire.held();
+            let _held = self.wire.held(); // known: its bound
             install(&mut self.disc, fresh);
             self.wire.release();
             self.exclusive = false;
@@ -159,13 +160,13 @@ impl Terminal {
 
     #[inline(always)]
     fn write(&mut self, state: &CallerState, handle: Option<HandleState>, bytes: &[u8]) -> Met
-        requires short { state.now.taken + min 64 (length bytes.now - state.now.taken) < 2 ^ 32 }
+        requires short { state.now.taken + min PIECE (length bytes.now - state.now.taken) < 2 ^ 32 }
         requires wire { 512 ≤ self.old.wire_room }
-        requires column { column_in self.old.terminal.disc < 2 ^ 62 }
+        requires column { column_in self.old.terminal.disc < COUNT_END }
         ensures met { Meets (writing_outcome self.old.terminal state.now bytes.now handle) result }
         ensures left { self.new.terminal ≡ left_before_rule (writing_outcome self.old.terminal state.now bytes.now handle) self.old.terminal }
         ensures wire { self.old.wire_room ≤ self.new.wire_room + 512 }
-        ensures column { column_in self.new.terminal.disc ≤ column_in self.old.terminal.disc + 4096 }
+        ensures column { column_in self.new.terminal.disc ≤ column_in self.old.terminal.disc + 64 * PIECE }
     {
         let Some(handle) = handle else {
             return refuse_write(state, Errno::EBADF);
@@ -184,13 +185,13 @@ impl Terminal {
 
     /// Writes the bytes that are left of a write that nothing refuses, as far as they fit.
     fn write_rest(&mut self, state: &CallerState, nonblock: bool, rest: &[u8]) -> Met
-        requires short { state.now.taken + min 64 (length rest.now) < 2 ^ 32 }
+        requires short { state.now.taken + min PIECE (length rest.now) < 2 ^ 32 }
         requires wire { 512 ≤ self.old.wire_room }
-        requires column { column_in self.old.terminal.disc < 2 ^ 62 }
+        requires column { column_in self.old.terminal.disc < COUNT_END }
         ensures met { Meets (write_outcome self.old.terminal state.now nonblock rest.now self.old.terminal.disc) result }
         ensures left { self.new.terminal ≡ left_before_rule (write_outcome self.old.terminal state.now nonblock rest.now self.old.terminal.disc) self.old.terminal }
         ensures wire { self.old.wire_room ≤ self.new.wire_room + 512 }
-        ensures column { column_in self.new.terminal.disc ≤ column_in self.old.terminal.disc + 4096 }
+        ensures column { column_in self.new.terminal.disc ≤ column_in self.old.terminal.disc + 64 * PIECE }
     {
         match &mut self.disc {
             Disc::Slip(_) => refuse_write(state, Errno::EIO),
@@ -240,10 +241,10 @@ impl Terminal {
     }
 
     fn set_modes(&mut self, handle: Option<HandleState>, when: When, words: &[Word]) -> Met
-        requires wire { 4096 ≤ self.old.wire_room }
+        requires wire { MOST_HELD ≤ self.old.wire_room }
         ensures met { Meets (on_live self.old.terminal handle (modes_outcome self.old.terminal when (after_words self.old.terminal.modes words.now))) result }
         ensures left { self.new.terminal ≡ left_before_rule (on_live self.old.terminal handle (modes_outcome self.old.terminal when (after_words self.old.terminal.modes words.now))) self.old.terminal }
-        ensures wire { self.old.wire_room ≤ self.new.wire_room + 4096 }
+        ensures wire { self.old.wire_room ≤ self.new.wire_room + MOST_HELD }
         ensures column { column_in self.new.terminal.disc ≡ column_in self.old.terminal.disc }
     {
         let Some(handle) = handle else {
@@ -272,14 +273,14 @@ impl Terminal {
 
     /// Goes over to the modes that words make of those of now.
     fn change_modes(&mut self, words: &[Word])
-        requires wire { 4096 ≤ self.old.wire_room }
+        requires wire { MOST_HELD ≤ self.old.wire_room }
         ensures after { self.new.terminal ≡ with_modes self.old.terminal (after_words self.old.terminal.modes words.now) }
-        ensures wire { self.old.wire_room ≤ self.new.wire_room + 4096 }
+        ensures wire { self.old.wire_room ≤ self.new.wire_room + MOST_HELD }
         ensures column { column_in self.new.terminal.disc ≡ column_in self.old.terminal.disc }
     {
         let new = modes_after(&self.modes, words);
         recast(&mut self.disc, &self.modes, &new);
-        let _held = self.wire.held();
+        let _held = self.wire.held(); // known: its bound
         self.wire
             .start_where(self.modes.has(IXON) && !new.has(IXON));
         self.modes = new;
@@ -300,11 +301,11 @@ impl Terminal {
     fn set_disc(&mut self, handle: Option<HandleState>, number: u32, room: &mut Room) -> Met
         requires fresh { fresh_in room.old ≡ option_map fresh_of (if number_of self.old.terminal.disc == number then None else kind_of_number number) }
         requires few { self.old.terminal.generation < 2 ^ 31 }
-        requires wire { 4096 ≤ self.old.wire_room }
+        requires wire { MOST_HELD ≤ self.old.wire_room }
         ensures met { Meets (on_live self.old.terminal handle (change_outcome self.old.terminal number (kind_of_number number))) result }
         ensures left { self.new.terminal ≡ left_before_rule (on_live self.old.terminal handle (change_outcome self.old.terminal number (kind_of_number number))) self.old.terminal }
-        ensures wire { self.old.wire_room ≤ self.new.wire_room + 4096 }
-        ensures column { column_in self.new.terminal.disc ≤ column_in self.old.terminal.disc + 4096 }
+        ensures wire { self.old.wire_room ≤ self.new.wire_room + MOST_HELD }
+        ensures column { column_in self.new.terminal.disc ≤ column_in self.old.terminal.disc + 64 * PIECE }
     {
         let Some(handle) = handle else {
             return refuse(Errno::EBADF);
@@ -316,7 +317,7 @@ impl Terminal {
             return refuse(Errno::EINVAL);
         }
         if let Some(fresh) = room.take_fresh() {
-            let _held = self.wire.held();
+            let _held = self.wire.held(); // known: its bound
             install(&mut self.disc, fresh);
             self.wire.start();
             self.generation += 1;
@@ -369,10 +370,10 @@ impl Terminal {
     }
 
     fn steer(&mut self, handle: Option<HandleState>, act: Act) -> Met
-        requires wire { 4096 ≤ self.old.wire_room }
+        requires wire { MOST_HELD ≤ self.old.wire_room }
         ensures met { Meets (on_live self.old.terminal handle (does (after_act self.old.terminal act))) result }
         ensures left { self.new.terminal ≡ left_before_rule (on_live self.old.terminal handle (does (after_act self.old.terminal act))) self.old.terminal }
-        ensures wire { self.old.wire_room ≤ self.new.wire_room + 4096 }
+        ensures wire { self.old.wire_room ≤ self.new.wire_room + MOST_HELD }
         ensures disc { self.new.terminal.disc ≡ self.old.terminal.disc }
     {
         let Some(handle) = handle else {
@@ -381,7 +382,7 @@ impl Terminal {
         if !handle.live {
             return refuse(Errno::EIO);
         }
-        let _held = self.wire.held();
+        let _held = self.wire.held(); // known: its bound
         match act {
             Act::Ooff => self.wire.tco_off(),
             Act::Oon => self.wire.tco_on(),
@@ -425,10 +426,10 @@ impl Terminal {
 
     fn send_packet(&mut self, handle: Option<HandleState>, bytes: &[u8], encoded: &[u8]) -> Met
         requires encoded { encoded.now ≡ spelled_unless_long bytes.now }
-        requires wire { 4096 ≤ self.old.wire_room }
+        requires wire { MOST_HELD ≤ self.old.wire_room }
         ensures met { Meets (on_access may_write self.old.terminal handle (sending_outcome self.old.terminal bytes.now self.old.terminal.disc)) result }
         ensures left { self.new.terminal ≡ left_before_rule (on_access may_write self.old.terminal handle (sending_outcome self.old.terminal bytes.now self.old.terminal.disc)) self.old.terminal }
-        ensures wire { self.old.wire_room ≤ self.new.wire_room + 4096 }
+        ensures wire { self.old.wire_room ≤ self.new.wire_room + MOST_HELD }
         ensures disc { self.new.terminal.disc ≡ self.old.terminal.disc }
     {
         let Some(handle) = handle else {

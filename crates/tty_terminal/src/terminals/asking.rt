@@ -3,6 +3,7 @@
 //! waits in the flip buffer, and what it needs.
 
 ghost use Rattle.std.specs.Prelude.{◌≡◌, ◌↔◌, ℕ, [], true, ◌≤◌, ◌<◌, ◌^◌, IsTrue, IfOk, length};
+ghost use Rattle.tty_base.specs.Sizes.{COUNT_END};
 ghost use Rattle.tty_calls.specs.Plain.{handle_of, call_of};
 ghost use Rattle.ldisc_switch.specs.Disciplines.{column_in, fresh_of};
 ghost use Rattle.handle_table.specs.Handles.{is_live as is_live_handle};
@@ -217,7 +218,7 @@ impl Terminal {
         handle: Option<HandleState>,
         bytes: &[u8],
     ) -> bool
-        requires { column_in self.now.terminal.disc < 2 ^ 62 }
+        requires { column_in self.now.terminal.disc < COUNT_END }
         ensures { result ≡ is_wait (writing_outcome self.now.terminal state.now bytes.now handle) }
     {
         let Some(handle) = handle else {
@@ -234,7 +235,7 @@ impl Terminal {
 
     /// Whether a blocking write must wait of which these bytes are left.
     fn rest_must_wait(&self, rest: &[u8]) -> bool
-        requires { column_in self.now.terminal.disc < 2 ^ 62 }
+        requires { column_in self.now.terminal.disc < COUNT_END }
         ensures { result ≡ rest_waits self.now.terminal rest.now self.now.terminal.disc }
     {
         match &self.disc {
@@ -259,7 +260,7 @@ impl Terminal {
     pub fn must_wait(&self, caller: u16, call: &Call) -> bool
         requires known { caller < length self.now.terminal.callers }
         requires number { handle_of (call_of call.now) < 32 }
-        requires column { column_in self.now.terminal.disc < 2 ^ 62 }
+        requires column { column_in self.now.terminal.disc < COUNT_END }
         ensures value { result ≡ is_wait (outcome self.now.terminal (caller_at self.now.terminal caller) (call_of call.now)) }
         ensures fact { IsTrue result ↔ MustWait (outcome self.now.terminal (caller_at self.now.terminal caller) (call_of call.now)) }
     {
@@ -269,7 +270,7 @@ impl Terminal {
 
     #[inline(always)]
     fn waits_by_call(&self, state: &CallerState, call: &Call) -> bool
-        requires { column_in self.now.terminal.disc < 2 ^ 62 }
+        requires { column_in self.now.terminal.disc < COUNT_END }
         ensures { result ≡ call_waits self.now.terminal state.now (call_of call.now) }
     {
         match call {
