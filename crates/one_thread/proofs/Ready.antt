@@ -1,5 +1,5 @@
 -- What an attempt of a role's next call needs, and what it comes to.
-use Rattle.std.proofs.Common.{◌≡◌, ◌≤◌, ◌<◌, ℕ, ◌+◌, ◌-◌, zero, suc, List, [], ◌∷◌, false, Option, None, Some, is_some, length, get_or, refl, sym, ◌∙◌, ap, subst, arith}
+use Rattle.std.proofs.Common.{◌≡◌, ◌≤◌, ◌<◌, ℕ, ◌+◌, ◌-◌, zero, suc, List, [], ◌∷◌, Bool, false, Option, None, Some, is_some, length, get_or, refl, sym, ◌∙◌, ap, subst, arith}
 use Rattle.std.specs.Prelude.{slice_get, All, sum}
 use Rattle.std.proofs.lemmas.Option.{slice_get-get_or, get_or_from_slice_get, slice_get_within}
 use Rattle.std.proofs.lemmas.List.{length-map}
@@ -106,6 +106,9 @@ tried_at s scripts roles v w stand rested place call d state tried going plays i
     (subst (λ (o : Option ℕ). PlaysOn s scripts roles v w stand (record { run = next_run stand.run stand.part; part = 0; ticks = stand.ticks; going = o })) (sym goes) done)
 
 -- ---- the caller at a place
+
+pub is_place : (first : Bool) (v : PortValue) (roles : List Role) (going : Option ℕ) (place : ℕ) → IsTurn first v (role_numbers roles) going (turn.Call place) → place < length roles
+is_place first v roles going place is = let within = is.within in omega (arith, length-map roles (λ (r : Role). r.number))
 
 pub turns_at : (s : Scene) (scripts : List Script) (roles : List Role) (v : PortValue) (stand : Stand) (place : ℕ) (d : Role) → Plays s scripts roles v stand → IsTurn (is_of_consoles s.session) v (role_numbers roles) stand.going (turn.Call place)
     → Turns s scripts roles v stand place (get_or roles place d)

@@ -52,13 +52,15 @@ pub fn open_port(
     ensures { IfOk result (λ station. IsBeforePhase (scene_of number session.now) 0 station 0) }
 {
     let capacity = session.flips.as_slice()[number] as usize;
-    let (putter, taker) = flip(alloc, capacity)?;
     let counts = counts_of(alloc, session, number)?;
+    let steps = vec![in alloc; 0; names.len()]?;
+    let line = Line::new(alloc, room_on(session, number))?;
+    let (putter, taker) = flip(alloc, capacity)?;
     Ok(Station {
         port: Port::new(alloc, counts.as_slice(), JOURNAL_LIMIT, taker)?,
         putter,
-        line: Line::new(alloc, room_on(session, number))?,
-        steps: vec![in alloc; 0; names.len()]?,
+        line,
+        steps,
     })
 }
 
@@ -123,7 +125,10 @@ pub fn hang_up(
     match port.last_hangup(putter) {
         Ok(()) => Ok(left_of(port, line)),
         Err(Denied::Full) => Ok(left_of(port, line)),
-        Err(Denied::NoMemory) => Err(NoMemory),
+        Err(Denied::NoMemory) => {
+            drop(left_of(port, line));
+            Err(NoMemory)
+        }
     }
 }
 
@@ -143,6 +148,9 @@ pub(crate) fn play_port(
     match play_phases(alloc, session, number, &names, &mut station) {
         Ok(_) => hang_up(station.port, station.putter, station.line),
         Err(Denied::Full) => Ok(stop(station.port, station.putter, station.line)),
-        Err(Denied::NoMemory) => Err(NoMemory),
+        Err(Denied::NoMemory) => {
+            drop(left_of(station.port, station.line));
+            Err(NoMemory)
+        }
     }
 }

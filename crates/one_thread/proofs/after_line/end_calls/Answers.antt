@@ -1,5 +1,8 @@
-use Rattle.one_thread.proofs.Ready.{last_at, ends_at, ended_at, known_at}
+use Rattle.one_thread.proofs.Ready.{is_place, last_at, ends_at, ended_at, known_at}
 use Rattle.one_thread.proofs.after_line.end_calls.Goals as goal
+
+pub bounds-roles-place : goal.bounds-roles-place
+bounds-roles-place c = is_place _ c.args.port.now c.args.roles.now c.args.stand.going c.args.place c.requires.in_turn.is_turn
 
 pub caller_end-requires-clause-known : goal.caller_end-requires-clause-known
 caller_end-requires-clause-known c = known_at c.args.roles.now c.args.port.now c.args.stand c.args.place _ c.requires

@@ -2,8 +2,11 @@ use Rattle.std.proofs.lemmas.Result.{IfOk-weaker}
 use Rattle.tty_calls.specs.Plain.{call_of}
 use Rattle.one_thread.specs.Turns.{PlaysOn}
 use Rattle.one_thread.specs.Acts.{PlaysLast}
-use Rattle.one_thread.proofs.Ready.{role_known, turns_at, first_below, in_call, in_last, call_played, last_played}
+use Rattle.one_thread.proofs.Ready.{is_place, role_known, turns_at, first_below, in_call, in_last, call_played, last_played}
 use Rattle.one_thread.proofs.after_line.go_on.Goals as goal
+
+pub bounds-roles-place : goal.bounds-roles-place
+bounds-roles-place g c = is_place _ c.args.port.now c.args.roles.now c.args.stand.going c.args.place c.requires.1
 
 pub caller-step-requires : goal.caller-step-requires
 caller-step-requires g c =

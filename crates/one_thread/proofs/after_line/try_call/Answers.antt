@@ -1,8 +1,11 @@
 use Rattle.tty_calls.specs.Plain.{call_of}
 use Rattle.port_core.specs.Attempts.{tried_of}
-use Rattle.one_thread.proofs.Ready.{number_known, ready_at, tried_at}
+use Rattle.one_thread.proofs.Ready.{is_place, number_known, ready_at, tried_at}
 use Rattle.one_thread.proofs.Trying.{attempted}
 use Rattle.one_thread.proofs.after_line.try_call.Goals as goal
+
+pub bounds-roles-place : goal.bounds-roles-place
+bounds-roles-place c = is_place _ c.args.port.now c.args.roles.now c.args.stand.going c.args.place c.requires.in_turn.is_turn
 
 pub caller-step-requires : goal.caller-step-requires
 caller-step-requires c =
