@@ -1,5 +1,6 @@
 -- N_TTY on a port of its own, for a program that runs it for ever.
 use Rattle.std.specs.Prelude.{ℕ, suc, ◌%◌, ◌^◌, min, max, Bool, not, ◌&&◌, List, [], ◌∷◌, ◌++◌, length, map, take, drop, Option, None, Some, slice_get, if◌then◌else◌}
+use Rattle.tty_base.specs.Sizes.{MOST_READ, PIECE}
 use Rattle.tty_base.specs.declared.characters.Flag.TheVariants as flag
 use Rattle.tty_base.specs.declared.characters.Flagged.{Flagged}
 use Rattle.tty_base.specs.declared.counters.Signal.{Signal}
@@ -64,9 +65,9 @@ accepted_count modes tick [] port = 0
 accepted_count modes tick (c ∷ cs) port =
     if is_accepting modes port.tty then suc (accepted_count modes tick cs (after_character modes tick c port)) else 0
 
--- a call that is given bytes receives 64 at most
+-- a call that is given bytes receives a piece of them at most
 abbrev pub offered : (bytes : List ℕ) → List Flagged
-offered bytes = map good (take 64 bytes)
+offered bytes = map good (take PIECE bytes)
 
 -- good characters are received in one call
 abbrev pub after_receiving : Embedded → (bytes : List ℕ) → Embedded
@@ -81,9 +82,9 @@ after_advance t tick = record t { tick = max t.tick tick }
 
 -- ---- reading
 
--- no read gives more than 4096 bytes
+-- no read gives more bytes than this
 abbrev pub asked_count : (n : ℕ) → ℕ
-asked_count n = min n 4096
+asked_count n = min n MOST_READ
 
 -- a read of at most n bytes that has waited since some tick can be answered
 abbrev pub is_ready_for : Embedded → (nonblock : Bool) → (since n : ℕ) → Bool

@@ -5,14 +5,11 @@ ghost use Rattle.n_tty.specs.States.{on_port, FitsModes};
 ghost use Rattle.n_tty.specs.Spending.{pending_count};
 ghost use Rattle.tty_embed.specs.Embedded.{good, after_accepted, accepted_count};
 
-use crate::places::front_of;
 use flow_control::{Tally, Wire};
 use n_tty::{CHARACTER_ROOM, NTty};
-use tty_base::{Flag, Flagged};
+use tty_base::sizes::PIECE;
+use tty_base::{Flag, Flagged, front_of};
 use tty_modes::Modes;
-
-/// How many characters one call receives at most.
-pub const MOST_RECEIVED: usize = 64;
 
 /// Receives good characters, up to the first that is not accepted. Answers how many.
 pub fn receive_bytes(
@@ -23,7 +20,7 @@ pub fn receive_bytes(
     wire: &mut Wire,
     tally: &mut Tally,
 ) -> usize
-    requires few { length bytes.now ≤ 64 }
+    requires few { length bytes.now ≤ PIECE }
     requires fitting { FitsModes modes.now disc.old }
     requires room { pending_count disc.old wire.old + CHARACTER_ROOM * length bytes.now ≤ wire.old.spare }
     requires signals { length bytes.now ≤ tally.old.signals.spare }
@@ -37,7 +34,7 @@ pub fn receive_bytes(
     let mut place = [Flagged {
         byte: 0,
         flag: Flag::Normal,
-    }; MOST_RECEIVED];
+    }; PIECE];
     put_good(&mut place, bytes);
     disc.receive_all(front_of(&place, bytes.len()), now, modes, wire, tally)
 }

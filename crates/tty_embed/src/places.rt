@@ -1,6 +1,6 @@
 //! Lists of bytes and signals that are filled, told and emptied again.
 
-ghost use Rattle.std.specs.Prelude.{◌≡◌, ◌≤◌, [], ◌++◌, length, take, drop, OnOk, OnErr};
+ghost use Rattle.std.specs.Prelude.{◌≡◌, ◌≤◌, [], ◌++◌, length, drop, OnOk, OnErr};
 
 use std::alloc::Global;
 use std::mem::replace;
@@ -15,14 +15,6 @@ pub fn make_room<T: Drop>(list: &mut Buffer<T>, alloc: Global, count: usize) -> 
     items.clear();
     *list = Buffer::from_vec(items);
     list.reserve(count)
-}
-
-/// The first items, so many.
-pub fn front_of<T>(items: &[T], count: usize) -> &[T]
-    requires { count ≤ length items.now }
-    ensures { result.now ≡ take count items.now }
-{
-    &items[..count]
 }
 
 /// Puts bytes at the front of a place that has room for them.

@@ -1,23 +1,22 @@
 //! N_TTY for a program that runs it for ever: the calls.
 
 ghost use Rattle.std.specs.Prelude.{◌≡◌, ◌+◌, ◌≤◌, take, length, is_some, IfSome, IfOk, OnOk, OnErr};
+ghost use Rattle.tty_base.specs.Sizes.{MOST_UNREAD};
 ghost use Rattle.tty_modes.specs.Reading.{word_of};
 ghost use Rattle.n_tty.specs.States.{unread_count};
 ghost use Rattle.n_tty.specs.Writing.{piece_size};
 ghost use Rattle.tty_embed.specs.Embedded.{fresh, accepts, after_receipt, received_count, after_receiving, after_advance, is_ready_for, read_answer, place_after_read, after_reading, after_writing, after_setting, wire_of, taken_count, at_front, without_wire_front, first_signal, without_first_signal};
 
-use crate::pieces::{MOST_RECEIVED, receive_bytes};
-use crate::places::{front_of, make_room, put_front};
+use crate::pieces::receive_bytes;
+use crate::places::{make_room, put_front};
 use flow_control::{Signals, Tally, Wire};
 use n_tty::{CHARACTER_ROOM, NTty};
 use std::alloc::Global;
 use std::marker::Model;
-use tty_base::{Bytes, Flag, Flagged, NoMemory, Signal};
+use tty_base::sizes::{MOST_READ, PIECE};
+use tty_base::{Bytes, Flag, Flagged, NoMemory, Signal, front_of};
 use tty_modes::places::IXON;
 use tty_modes::{Modes, set_word_bytes};
-
-/// How many bytes one read gives at most.
-const MOST_READ: usize = 4096;
 
 /// How much room on the wire a piece of a write takes at most.
 const WRITE_ROOM: usize = 512;
@@ -90,11 +89,11 @@ impl Tty {
     /// Receives good characters, the first 64 at most, up to the first that is not accepted. Answers how many.
     pub fn receive_bytes(&mut self, bytes: &[u8]) -> Result<usize, NoMemory>
         ensures count { IfOk result (λ count. count ≡ received_count self.old bytes.now) }
-        ensures few { IfOk result (λ count. count ≤ 64) }
+        ensures few { IfOk result (λ count. count ≤ PIECE) }
         ensures after { OnOk result (self.new ≡ after_receiving self.old bytes.now) }
         ensures err { OnErr result (self.new ≡ self.old) }
     {
-        let bytes = front_of(bytes, MOST_RECEIVED.min(bytes.len()));
+        let bytes = front_of(bytes, PIECE.min(bytes.len()));
         let room = self.disc.pending(&self.wire) + CHARACTER_ROOM * bytes.len();
         self.wire.reserve(room)?;
         self.tally.reserve(bytes.len())?;
@@ -136,7 +135,7 @@ impl Tty {
         place: &mut [u8],
     ) -> Result<Option<usize>, NoMemory>
         ensures count { IfOk result (λ count. count ≡ read_answer self.old nonblock since (length place.old)) }
-        ensures few { IfOk result (λ count. IfSome count (λ n. n ≤ 4096)) }
+        ensures few { IfOk result (λ count. IfSome count (λ n. n ≤ MOST_READ)) }
         ensures place { OnOk result (place.new ≡ place_after_read self.old nonblock since place.old) }
         ensures after { OnOk result (self.new ≡ after_reading self.old nonblock since (length place.old)) }
         ensures err { OnErr result ((self.new ≡ self.old) × (place.new ≡ place.old)) }
@@ -156,7 +155,7 @@ impl Tty {
     /// Posts bytes of a write, 64 at most, up to the first that does not fit while output is halted. Answers how many.
     pub fn write(&mut self, bytes: &[u8]) -> Result<usize, NoMemory>
         ensures count { IfOk result (λ count. count ≡ piece_size self.old.modes self.old.port.tty self.old.port.output bytes.now) }
-        ensures few { IfOk result (λ count. count ≤ 64) }
+        ensures few { IfOk result (λ count. count ≤ PIECE) }
         ensures after { OnOk result (self.new ≡ after_writing self.old bytes.now) }
         ensures err { OnErr result (self.new ≡ self.old) }
     {
@@ -219,7 +218,7 @@ impl Tty {
 
     /// How many bytes are unread: those of complete pieces, plain ones, and those of the edited line.
     pub fn unread(&self) -> usize
-        ensures most { result ≤ 4096 }
+        ensures most { result ≤ MOST_UNREAD }
         ensures count { result ≡ unread_count self.now.port.tty }
     {
         self.disc.unread()
