@@ -1,6 +1,7 @@
 //! What follows from the definitions alone.
 
 ghost use Rattle.std.specs.Prelude.{◌≡◌, ℕ, ◌+◌, ◌*◌, ◌<◌, ◌≤◌, length};
+ghost use Rattle.tty_base.specs.Sizes.{MOST_ENTRIES};
 ghost use Rattle.tty_calls.specs.declared.journals.PortRun.{PortRun};
 ghost use Rattle.tty_calls.specs.Sessions.{PlainSession};
 ghost use Rattle.tty_calls.specs.Limits.{IsWithinLimits, character_count, tick_count};
@@ -20,7 +21,7 @@ pub fn a_journal_is_bounded()
     ensures by_its_session { (p : ℕ) (session : PlainSession) (run : PortRun) (t : Terminal) → IsWithinLimits session → IsCutShort p session run t
         → 16 * length run.journal.items ≤ 31 * byte_count_on p session.phases + 48 * call_count_on p session.phases + 32 * character_count p session.phases + 16 * tick_count p session.phases + 19504 }
     ensures never_full { (p : ℕ) (session : PlainSession) (run : PortRun) (t : Terminal) → IsWithinLimits session → IsCutShort p session run t
-        → 2 * byte_count_on p session.phases + 3 * call_count_on p session.phases + 2 * character_count p session.phases ≤ 4194304 → length run.journal.items < 4194304 }
+        → 2 * byte_count_on p session.phases + 3 * call_count_on p session.phases + 2 * character_count p session.phases ≤ MOST_ENTRIES → length run.journal.items < MOST_ENTRIES }
 {}
 
 /// A legal run is one of its session as far as it went, so that its journal is bounded too.
