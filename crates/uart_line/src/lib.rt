@@ -121,7 +121,7 @@ impl Line {
         // A run of the handler leaves no interrupt pending.
         ensures served { runs_handler self.new ≡ false }
     {
-        let _ = &self.most;
+        let _ = &self.most; // known: its bound
         self.advance(step, put);
     }
 
@@ -147,7 +147,7 @@ impl Line {
         ensures put { self.new.most ≤ P.numbers_left put.new + self.new.handed }
         ensures rise { IsNonDecreasing (P.heads put.old) → IsNonDecreasing (P.heads put.new) }
     {
-        let _ = &self.most;
+        let _ = &self.most; // known: its bound
         for step in steps {
             self.advance(*step, put);
         }
@@ -332,7 +332,7 @@ impl Line {
         ensures after { self.new ≡ record self.old { registers = after_turn self.old.registers self.old.registers.fifo } }
         ensures line { IsLine self.old }
     {
-        let _ = &self.window;
+        let _ = &self.window; // known: its bound
         self.uart.read_front()
     }
 }

@@ -61,7 +61,7 @@ impl Line {
         requires { self.old.handed + length self.old.registers.fifo + bit self.old.registers.overrun + count ≤ self.old.report.arrived }
         ensures { self.new ≡ record self.old { handed = self.old.handed + count; report = record self.old.report { sent = self.old.report.sent + count } } }
     {
-        let _ = &self.most;
+        let _ = &self.most; // known: its bound
         self.report.sent += count as u64;
         self.handed += count as u32;
     }

@@ -198,7 +198,7 @@ impl Uart {
         ensures after { self.new ≡ after_read self.old reg }
         ensures receiver { IsReceiver self.old }
     {
-        let _ = &self.fifo;
+        let _ = &self.fifo; // known: its bound
         match reg {
             Reg::R0 => self.read_offset_0(),
             Reg::R1 => self.read_offset_1(),
@@ -266,7 +266,7 @@ impl Uart {
         ensures value { result ≡ is_pending self.now }
         ensures receiver { IsReceiver self.now }
     {
-        let _ = &self.fifo;
+        let _ = &self.fifo; // known: its bound
         self.interrupt_code() != NO_INTERRUPT
     }
 
