@@ -1,4 +1,4 @@
-use Rattle.std.proofs.Common.{◌≡◌, ℕ, List, rules, ◌∙◌, subst}
+use Rattle.std.proofs.Common.{◌≡◌, ℕ, rules, List, ◌∙◌, subst}
 use Rattle.std.proofs.Common.{refl}
 use Rattle.tty_calls.specs.declared.journals.Who.TheVariants.{Caller}
 use Rattle.tty_calls.specs.Plain.{caller_ended}
@@ -21,7 +21,7 @@ caller_end-result-requires-clause-between g c =
     let n = c.args.caller in
     let old = c.args.seat.now in
     let v : KeptPort = c.value.result.now in
-    let same : v ≡ c.begin_turn-turn.result.0.value = first_of (cc, search rules) in
+    let same : v ≡ c.begin_turn-turn.result.0.value = c.value.ensures.value in
     let at = found_still name n old c.begin_turn-turn.result.0.value v c.requires.seat.number same c.begin_turn-turn.ensures.found in
     let b = between_kept name.callers _ c.args.caller _ (list_seen old) (history_of v) at.history.placed at.keeps c.requires.between in record { next = refl; not_over = b.not_over; not_begun = b.not_begun }
 
@@ -31,9 +31,9 @@ returns-clause-ok g c =
     let n = c.args.caller in
     let old = c.args.seat.now in
     let v : KeptPort = c.value.result.now in
-    let same : v ≡ c.begin_turn-turn.result.0.value = first_of (cc, search rules) in
+    let same : v ≡ c.begin_turn-turn.result.0.value = c.value.ensures.value in
     let at = found_still name n old c.begin_turn-turn.result.0.value v c.requires.seat.number same c.begin_turn-turn.ensures.found in
     let w : KeptPort = c.caller_end-result.new.self in
-    let seen : list_seen c.end_turn.new.seat ≡ history_of w = first_of (cc, search rules) in
+    let seen : list_seen c.end_turn.new.seat ≡ history_of w = search rules in
     let now = c.end_turn.ensures.same.number ∙ (c.begin_turn-turn.ensures.same.number ∙ c.requires.seat.number) in
     on_ok c.caller_end-result.result _ _ (λ h. makes_one (λ (before : List (Stamped EntryWithCall)). IsEntry c.args.caller (Caller c.args.caller) (standing_at c.args.caller (list_seen old)).next caller_ended) n old c.end_turn.new.seat (history_of v) (history_of w) (λ x is. is.seat) c.requires.seat.number now at.keeps (subst (λ (k : ℕ). Adds (IsEntry c.args.caller (Caller c.args.caller) k caller_ended) (history_of v) (history_of w)) (between_kept name.callers _ c.args.caller _ (list_seen old) (history_of v) at.history.placed at.keeps c.requires.between).next h) seen) c.caller_end-result.ensures.ok

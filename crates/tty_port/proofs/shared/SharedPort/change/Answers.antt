@@ -1,4 +1,4 @@
-use Rattle.std.proofs.Common.{◌≡◌, ℕ, ◌+◌, ◌==◌, Bool, true, not, if◌then◌else◌, rules, sym, ap, ◌∙◌, subst}
+use Rattle.std.proofs.Common.{◌≡◌, ℕ, ◌+◌, ◌==◌, Bool, true, not, if◌then◌else◌, sym, ap, ◌∙◌, subst}
 use Rattle.tty_calls.specs.Plain.{call_of, answer_of}
 use Rattle.port_core.specs.Attempts.{done_by, Raises}
 use Rattle.port_cell.specs.Entries.{generation_of}
@@ -21,7 +21,7 @@ attempt-tried-requires-clause-ready g c =
     let n = c.args.caller in
     let old = c.args.seat.now in
     let v : KeptPort = c.value-2.result.now in
-    let same : v ≡ c.begin_turn-turn.result.0.value = first_of (cc, search rules) in
+    let same : v ≡ c.begin_turn-turn.result.0.value = c.value-2.ensures.value ∙ c.value.ensures.value in
     let at = found_still name n old c.begin_turn-turn.result.0.value v c.requires.seat.number same c.begin_turn-turn.ensures.found in
     not_begun n c.args.step (call_of c.args.call.now) _ (history_of v) (between_kept name.callers _ n c.args.step (list_seen old) (history_of v) at.history.placed at.keeps c.requires.ready)
 
@@ -35,15 +35,15 @@ returns-in-Ok-Done-clause-ok g c =
     let w : KeptPort = c.attempt-tried.new.self in
     let call = call_of c.args.call.now in
     let a = answer_of c.in-Ok-Done.answer in
-    let same : v ≡ c.begin_turn-turn.result.0.value = first_of (cc, search rules) in
+    let same : v ≡ c.begin_turn-turn.result.0.value = c.value-2.ensures.value ∙ c.value.ensures.value in
     let at = found_still name n old c.begin_turn-turn.result.0.value v c.requires.seat.number same c.begin_turn-turn.ensures.found in
     let word : last_word new ≡ last_word old = c.settle.ensures.word.word ∙ c.begin_turn-turn.ensures.references.word in
     let generation : generation_of (history_of v) ≡ generation_in (last_word new) = sym (ap generation_in word ∙ alone (user_of old) (generation_in (last_word old)) _ c.requires.seat.uses c.begin_turn-turn.ensures.generation ∙ ap (λ (x : KeptPort). generation_of (history_of x)) (sym same)) in
-    let seen : list_seen new ≡ history_of w = first_of (cc, search rules) in
+    let seen : list_seen new ≡ history_of w = c.settle.ensures.list ∙ ap history_of c.value-3.ensures.value in
     let now = c.settle.ensures.same.number ∙ (c.begin_turn-turn.ensures.same.number ∙ c.requires.seat.number) in
     let h : Tries n c.args.step call (history_of v) (history_of w) (done_by a) = at_ok c.attempt-tried.result c.in-Ok-Done.field-0 _ _ c.in-Ok-Done.is c.in-Ok-Done.field-0-is c.attempt-tried.ensures.tried in
-    let before : c.generation-before.result ≡ generation_of (history_of v) = first_of (cc, search rules) in
-    let after : c.generation.result ≡ generation_of (history_of w) = first_of (cc, search rules) in
+    let before : c.generation-before.result ≡ generation_of (history_of v) = c.generation-before.ensures ∙ ap (λ (x : KeptPort). generation_of (history_of x)) (sym c.value-2.ensures.value) in
+    let after : c.generation.result ≡ generation_of (history_of w) = c.generation.ensures ∙ ap (λ (x : KeptPort). generation_of (history_of x)) c.value-3.ensures.value in
     let raises : Raises true (generation_of (history_of v)) (generation_of (history_of w)) = subst (λ (b : Bool). Raises b (generation_of (history_of v)) (generation_of (history_of w))) c.requires.may c.attempt-tried.ensures.generation in
     let raised : Raises true c.generation-before.result c.generation.result =
     subst (λ (k : ℕ). Raises true k c.generation.result) (sym before) (subst (λ (k : ℕ). Raises true (generation_of (history_of v)) k) (sym after) raises) in
@@ -63,10 +63,10 @@ returns-in-Ok-Done-clause-placed g c =
     let n = c.args.caller in
     let old = c.args.seat.now in
     let v : KeptPort = c.value-2.result.now in
-    let same : v ≡ c.begin_turn-turn.result.0.value = first_of (cc, search rules) in
+    let same : v ≡ c.begin_turn-turn.result.0.value = c.value-2.ensures.value ∙ c.value.ensures.value in
     let at = found_still name n old c.begin_turn-turn.result.0.value v c.requires.seat.number same c.begin_turn-turn.ensures.found in
     let w : KeptPort = c.attempt-tried.new.self in
-    let seen : list_seen c.settle.new.seat ≡ history_of w = first_of (cc, search rules) in
+    let seen : list_seen c.settle.new.seat ≡ history_of w = c.settle.ensures.list ∙ ap history_of c.value-3.ensures.value in
     placed_now name w c.settle.new.seat (c.attempt-tried.ensures.name ∙ at.named) c.attempt-tried.ensures.history seen
 
 pub returns-in-Err-clause-placed : goal.returns-in-Err-clause-placed
@@ -75,8 +75,8 @@ returns-in-Err-clause-placed g c =
     let n = c.args.caller in
     let old = c.args.seat.now in
     let v : KeptPort = c.value-2.result.now in
-    let same : v ≡ c.begin_turn-turn.result.0.value = first_of (cc, search rules) in
+    let same : v ≡ c.begin_turn-turn.result.0.value = c.value-2.ensures.value ∙ c.value.ensures.value in
     let at = found_still name n old c.begin_turn-turn.result.0.value v c.requires.seat.number same c.begin_turn-turn.ensures.found in
     let w : KeptPort = c.attempt-tried.new.self in
-    let seen : list_seen c.settle.new.seat ≡ history_of w = first_of (cc, search rules) in
+    let seen : list_seen c.settle.new.seat ≡ history_of w = c.settle.ensures.list ∙ ap history_of c.value-3.ensures.value in
     placed_now name w c.settle.new.seat (c.attempt-tried.ensures.name ∙ at.named) c.attempt-tried.ensures.history seen

@@ -1,4 +1,4 @@
-use Rattle.std.proofs.Common.{◌≡◌, ℕ, ◌+◌, List, rules, ◌∙◌}
+use Rattle.std.proofs.Common.{◌≡◌, ℕ, ◌+◌, List, ◌∙◌}
 use Rattle.tty_calls.specs.declared.journals.Who.TheVariants.{Clock}
 use Rattle.tty_calls.specs.Plain.{ticked}
 use Rattle.tty_port.specs.Seen.{marks_at}
@@ -20,7 +20,7 @@ tick-result-requires g c =
     let n = name.callers + 2 in
     let old = c.args.seat.now in
     let v : KeptPort = c.value.result.now in
-    let same : v ≡ c.begin_turn-turn.result.0.value = first_of (cc, search rules) in
+    let same : v ≡ c.begin_turn-turn.result.0.value = c.value.ensures.value in
     let at = found_still name n old c.begin_turn-turn.result.0.value v c.requires.seat.number same c.begin_turn-turn.ensures.found in
     clock_kept name.callers _ (list_seen old) (history_of v) at.history.placed at.keeps c.requires.not_over
 
@@ -30,9 +30,9 @@ returns-clause-ok g c =
     let n = name.callers + 2 in
     let old = c.args.seat.now in
     let v : KeptPort = c.value.result.now in
-    let same : v ≡ c.begin_turn-turn.result.0.value = first_of (cc, search rules) in
+    let same : v ≡ c.begin_turn-turn.result.0.value = c.value.ensures.value in
     let at = found_still name n old c.begin_turn-turn.result.0.value v c.requires.seat.number same c.begin_turn-turn.ensures.found in
     let w : KeptPort = c.tick-result.new.self in
-    let seen : list_seen c.end_turn.new.seat ≡ history_of w = first_of (cc, search rules) in
+    let seen : list_seen c.end_turn.new.seat ≡ history_of w = c.end_turn.ensures.list in
     let now = c.end_turn.ensures.same.number ∙ c.begin_turn-turn.ensures.same.number in
     on_ok c.tick-result.result _ _ (enters_one (λ (m : ℕ) (before : List (Stamped EntryWithCall)). IsEntry (m + 2) Clock (marks_at before).phase ticked) 2 (λ m before x is. is.seat) name old c.end_turn.new.seat v w at c.requires.seat.number now seen) c.tick-result.ensures.ok
