@@ -20,7 +20,7 @@ use Rattle.tty_terminal.specs.Meeting.{drops_of}
 use Rattle.flow_control.specs.Counting.{count_after}
 use mathlib.Core.List.{IsPrefix}
 use Rattle.tty_device.specs.Kept.{chars_of, flushed_of, dropped_of}
-use Rattle.tty_device.specs.Devices.{DeviceState, outcome_for, after_call, Drops, DropsWhere, with_taken_of, after_hang_up, is_stuck, FlushesWhere, wire_of, taken_count, at_front, without_wire_front, first_signal, without_first_signal}
+use Rattle.tty_device.specs.Devices.{DeviceState, outcome_for, after_call, Drops, DropsWhere, with_taken_of, after_hang_up, is_stuck, FlushesWhere, TakesInWhere, wire_of, taken_count, at_front, without_wire_front, first_signal, without_first_signal}
 use Rattle.flip_buffer.specs.Packed.{with_flag}
 use Rattle.tty_device.specs.Lines.{LineState, IsFull}
 use Rattle.tty_c.specs.declared.told.Told.{Told}
@@ -177,6 +177,20 @@ pub record Does {A : Type 0} (answer : A → ℤ) (after : A → A → A) (old n
 pub record Receives (most : ℕ) (old new : DeviceState) (result : ℤ) : Type 0 where
   pub flushes : result ≢ no_memory → (count : ℕ) × (result ≡ pos count) × FlushesWhere (is_stuck old) old new most count
   pub kept : result ≡ no_memory → new ≡ old
+
+-- how many bytes were put; a port that has no end of its own answers EINVAL
+abbrev pub put_number : Option ℕ → ℤ
+put_number None = no_flag
+put_number (Some count) = pos count
+
+-- bytes are put, each with this flag, into the end that the port has, and characters handed over
+pub record TakesIn (bytes : List ℕ) (flag : Flag) (old new : DeviceState) (result : ℤ) : Type 0 where
+  pub takes : result ≢ no_memory → (answer : Option ℕ) × (result ≡ put_number answer) × TakesInWhere old.line old new flag bytes answer
+  pub kept : result ≡ no_memory → new ≡ old
+
+abbrev pub TakesInFlagged : (bytes : List ℕ) → Option Flag → (old new : Option DeviceState) → (result : ℤ) → Type 0
+TakesInFlagged bytes None old new result = (result ≡ no_flag) × (new ≡ old)
+TakesInFlagged bytes (Some flag) old new result = OnHandle (TakesIn bytes flag) old new result
 
 -- a port is hung up
 pub record HangsUp (old new : DeviceState) (result : ℤ) : Type 0 where

@@ -3,10 +3,10 @@
 
 ghost use Rattle.std.specs.Prelude.{◌≡◌, ◌≢◌, ◌||◌, ◌≤◌, pos, length, true, Some, None, is_some, IfOk, if◌then◌else◌};
 ghost use Rattle.atomic_table.specs.Seated.{TableId};
-ghost use Rattle.tty_device.specs.Devices.{after_cancel, after_advance};
-ghost use Rattle.tty_device.specs.Lines.{buffer_size, fresh_device, fresh_line};
+ghost use Rattle.tty_device.specs.Devices.{fresh_device, fresh_whole, after_cancel, after_advance};
+ghost use Rattle.tty_device.specs.Lines.{buffer_size, fresh_line};
 ghost use Rattle.tty_c.specs.Answers.{no_memory, no_terminal, already_made, flag_of};
-ghost use Rattle.tty_c.specs.Calls.{device_in, end_in, OnHandle, Does, Receives, HangsUp, TakesSignal, TakesWire, place_after_wire, Tells, flushed_count, dropped_count, waiting_count, Puts, PutsWhere, as_answer, TellsWaiting};
+ghost use Rattle.tty_c.specs.Calls.{device_in, end_in, OnHandle, Does, Receives, TakesIn, TakesInFlagged, HangsUp, TakesSignal, TakesWire, place_after_wire, Tells, flushed_count, dropped_count, waiting_count, Puts, PutsWhere, as_answer, TellsWaiting};
 
 use crate::answers::{MADE, NO_FLAG, NO_MEMORY, NO_TERMINAL};
 use crate::lines::Line;
@@ -14,7 +14,7 @@ use crate::ports::Port;
 use crate::values::{flag_of, number_of};
 use crate::{lines, ports};
 use std::alloc::Global;
-use tty_base::NoMemory;
+use tty_base::{Flag, NoMemory};
 use tty_device::{Device, Line as LineEnd};
 
 /// A count of 64 bits as an answer.
@@ -65,6 +65,39 @@ pub extern "C" fn jw_port_new(
     };
     ports::put(port, device);
     lines::put(line, end);
+    0
+}
+
+/// A new port that has the end that puts characters in, in a box.
+fn whole(alloc: Global, callers: usize, capacity: usize) -> Result<Box<Device, Global>, NoMemory>
+    ensures { IfOk result (λ device. device.value ≡ fresh_whole device.value.ring callers (buffer_size capacity)) }
+{
+    Ok(Box::new(alloc, Device::whole(alloc, callers, capacity)?)?)
+}
+
+/// Makes a port for so many callers that has the end of its flip buffer that puts characters in, for a handle that has
+/// none. The buffer holds `capacity` characters, 64 at least and 65,536 at most.
+#[tactic(auto, using(crate::proofs::Making::new_whole))]
+#[unsafe(no_mangle)]
+pub extern "C" fn jw_port_new_whole(
+    alloc: Global,
+    port: &mut Port,
+    callers: usize,
+    capacity: usize,
+) -> i64
+    ensures made { result ≡ pos 0 → (ring : TableId) × (device_in port.new ≡ Some (fresh_whole ring callers (buffer_size capacity))) }
+    ensures kept { result ≢ pos 0 → device_in port.new ≡ device_in port.old }
+    ensures there { is_some (device_in port.old) ≡ true → result ≡ already_made }
+    ensures answer { result ≢ no_memory → result ≡ (if is_some (device_in port.old) then already_made else pos 0) }
+{
+    if let Some(device) = ports::taken(alloc, port) {
+        ports::put(port, device);
+        return MADE;
+    }
+    let Ok(device) = whole(alloc, callers, capacity) else {
+        return NO_MEMORY;
+    };
+    ports::put(port, device);
     0
 }
 
@@ -145,6 +178,35 @@ pub extern "C" fn jw_port_receive(alloc: Global, port: &mut Port, most: usize) -
         return NO_TERMINAL;
     };
     let answer = receive(&mut device, most);
+    ports::put(port, device);
+    answer
+}
+
+fn take_in(device: &mut Device, bytes: &[u8], flag: Flag) -> i64
+    ensures { TakesIn bytes.now flag device.old device.new result }
+{
+    match device.take_in(bytes, flag) {
+        Ok(Some(count)) => count as i64,
+        Ok(None) => NO_FLAG,
+        Err(NoMemory) => NO_MEMORY,
+    }
+}
+
+/// Puts bytes, each with the flag of this number, into the end that the port has, and hands 256 characters at most over
+/// to the line discipline: what `jw_line_put`, `jw_line_push` and `jw_port_receive` do in three calls. Answers how many
+/// were put. The others are overruns.
+#[tactic(auto, using(crate::proofs::Handling::on_made, crate::proofs::Handling::on_none))]
+#[unsafe(no_mangle)]
+pub extern "C" fn jw_port_take_in(alloc: Global, port: &mut Port, bytes: &[u8], flag: u8) -> i64
+    ensures { TakesInFlagged bytes.now (flag_of flag) (device_in port.old) (device_in port.new) result }
+{
+    let Some(flag) = flag_of(flag) else {
+        return NO_FLAG;
+    };
+    let Some(mut device) = ports::taken(alloc, port) else {
+        return NO_TERMINAL;
+    };
+    let answer = take_in(&mut device, bytes, flag);
     ports::put(port, device);
     answer
 }

@@ -4,3 +4,4 @@ pub mod Keeping
 pub mod Noting
 pub mod Settling
 pub mod Putting
+pub mod TakingIn

@@ -96,6 +96,6 @@ as_many_verbs verbs c call (met.Gives answer) = refl
 as_many_verbs verbs c call (met.Takes n) = refl
 
 -- a device with this terminal and these verbs is what a call leaves, beside what was taken and shown
-pub with_both_left : (d v w : DeviceState) (t : Terminal) (verbs : List Verb) → with_both d t verbs ≡ w → v.terminal ≡ t → v.verbs ≡ verbs → v.ring ≡ d.ring → v ≡ with_taken_of v w
-with_both_left d v w t verbs left terminal same ring =
-    (λ i. record { terminal = terminal i; verbs = same i; ring = ring i; taken = v.taken; shown = v.shown }) ∙ ap (with_taken_of v) left
+pub with_both_left : (d v w : DeviceState) (t : Terminal) (verbs : List Verb) → with_both d t verbs ≡ w → v.terminal ≡ t → v.verbs ≡ verbs → v.ring ≡ d.ring → v.line ≡ d.line → v ≡ with_taken_of v w
+with_both_left d v w t verbs left terminal same ring line =
+    (λ i. record { terminal = terminal i; verbs = same i; ring = ring i; taken = v.taken; shown = v.shown; line = line i }) ∙ ap (with_taken_of v) left

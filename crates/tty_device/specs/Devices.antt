@@ -1,12 +1,13 @@
 -- A port that runs for ever.
-use Rattle.std.specs.Prelude.{◌≡◌, ℕ, ◌+◌, ◌-◌, ◌<◌, ◌≤◌, ◌==◌, min, max, nat_lt, Bool, true, false, not, ◌&&◌, ◌||◌, List, ◌++◌, length, map, drop, Option, is_some, if◌then◌else◌, slice_get, slice_index_or, slice_set}
+use Rattle.std.specs.Prelude.{◌≡◌, ℕ, ◌+◌, ◌-◌, ◌<◌, ◌≤◌, ◌==◌, min, max, nat_lt, Bool, true, false, not, ◌&&◌, ◌||◌, List, [], ◌++◌, length, map, drop, replicate, Option, None, Some, is_some, if◌then◌else◌, slice_get, slice_index_or, slice_set}
 use Rattle.atomic_table.specs.Seated.{TableId}
+use Rattle.tty_base.specs.declared.characters.Flag.{Flag}
 use Rattle.tty_base.specs.declared.characters.Flagged.{Flagged}
 use Rattle.tty_base.specs.declared.counters.Errno.TheVariants.{EBADF, EINVAL}
 use Rattle.tty_base.specs.declared.counters.Signal.{Signal}
 use Rattle.tty_calls.specs.Plain.{PlainCall, handle_of}
 use Rattle.tty_terminal.specs.declared.callers.CallerState.{CallerState}
-use Rattle.tty_terminal.specs.Terminals.{Terminal, idle_caller, caller_at, live_count}
+use Rattle.tty_terminal.specs.Terminals.{Terminal, opening, idle_caller, caller_at, live_count}
 use Rattle.tty_terminal.specs.Receiving.{accepts, after_characters, AcceptsAll, after_ixoff}
 use Rattle.tty_terminal.specs.Generations.{after_hangup}
 use Rattle.tty_terminal.specs.Outcomes.{Outcome, unknown, waits, takes, gives, refuses}
@@ -17,6 +18,7 @@ use Rattle.tty_device.specs.declared.askers.Verb.{Verb}
 use Rattle.tty_device.specs.declared.askers.Verb.TheVariants as verb
 use Rattle.tty_device.specs.Askers.{state_of, verb_of, asker_for}
 use Rattle.tty_device.specs.Kept.{Taken, flushed, dropped}
+use Rattle.tty_device.specs.Lines.{LineState, fresh_line, PutsAndPushes}
 
 pub record DeviceState : Type 0 where
   -- the terminal, of which nothing that only grows is kept but the tick: generation, taken, sent and phase are 0
@@ -29,6 +31,16 @@ pub record DeviceState : Type 0 where
   pub taken : List Taken
   -- how many characters the latest look showed to be pushed, those that were taken among them
   pub shown : ℕ
+  -- the end that puts in, where the device has it
+  pub line : Option LineState
+
+-- at first: where the end that puts in is an object of its own, and where the device has it
+abbrev pub fresh_device : TableId → (callers capacity : ℕ) → DeviceState
+fresh_device ring callers capacity =
+    record { terminal = opening callers capacity; verbs = replicate callers verb.Never; ring = ring; taken = []; shown = 0; line = None }
+
+abbrev pub fresh_whole : TableId → (callers capacity : ℕ) → DeviceState
+fresh_whole ring callers capacity = record (fresh_device ring callers capacity) { line = Some (fresh_line ring capacity) }
 
 -- ---- calls
 
@@ -119,6 +131,22 @@ pub record Flushes (old new : DeviceState) (most count : ℕ) : Type 0 where
 abbrev pub FlushesWhere : Bool → DeviceState → DeviceState → (most count : ℕ) → Type 0
 FlushesWhere true old new most count = (count ≡ 0) × (new ≡ old)
 FlushesWhere false old new most count = Flushes old new most count
+
+-- ---- both ends at hand
+
+-- The end that the device has puts bytes and pushes, and then the device flushes 256 characters at most; its look
+-- shows all that was put.
+pub record TakesIn (old new : DeviceState) (line : LineState) (flag : Flag) (bytes : List ℕ) (count : ℕ) : Type 0 where
+  pub put : LineState
+  pub puts : PutsAndPushes line put flag bytes count
+  pub handed : ℕ
+  pub flushes : FlushesWhere (is_stuck old) (record old { line = Some put }) new 256 handed
+  pub seen : is_stuck old ≡ false → length put.sent ≤ new.shown
+
+-- a device that has no such end answers so, and changes nothing
+abbrev pub TakesInWhere : Option LineState → (old new : DeviceState) → Flag → (bytes : List ℕ) → (answer : Option ℕ) → Type 0
+TakesInWhere None old new flag bytes answer = (answer ≡ None) × (new ≡ old)
+TakesInWhere (Some line) old new flag bytes answer = (count : ℕ) × (answer ≡ Some count) × TakesIn old new line flag bytes count
 
 -- ---- the clock, and what went out
 

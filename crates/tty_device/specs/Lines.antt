@@ -1,12 +1,12 @@
--- The end of a flip buffer that puts characters in, and the account of both ends.
-use Rattle.std.specs.Prelude.{◌≡◌, ℕ, ◌+◌, ◌≤◌, ◌^◌, min, max, List, [], ◌++◌, length, replicate}
+-- The end of a flip buffer that puts characters in.
+use Rattle.std.specs.Prelude.{◌≡◌, ℕ, ◌+◌, ◌-◌, ◌<◌, ◌≤◌, ◌^◌, min, max, List, [], ◌++◌, length, take}
 use Rattle.std.proofs.Common.{◌⊎◌}
 use Rattle.atomic_table.specs.Seated.{TableId}
+use Rattle.tty_base.specs.declared.characters.Flag.{Flag}
 use Rattle.tty_base.specs.declared.characters.Flagged.{Flagged}
+use Rattle.flow_control.specs.Counting.{count_after}
 use Rattle.word_ring.specs.Ends.{PutterState}
-use Rattle.tty_terminal.specs.Terminals.{opening}
-use Rattle.tty_device.specs.declared.askers.Verb.TheVariants as verb
-use Rattle.tty_device.specs.Devices.{DeviceState}
+use Rattle.flip_buffer.specs.Packed.{with_flag}
 
 pub record LineState : Type 0 where
   -- its flip buffer, and how many characters it holds
@@ -25,16 +25,24 @@ abbrev pub buffer_size : ℕ → ℕ
 buffer_size n = max (min n 65536) 64
 
 -- at first
-abbrev pub fresh_device : TableId → (callers capacity : ℕ) → DeviceState
-fresh_device ring callers capacity =
-    record { terminal = opening callers capacity; verbs = replicate callers verb.Never; ring = ring; taken = []; shown = 0 }
-
 abbrev pub fresh_line : TableId → (capacity : ℕ) → LineState
 fresh_line ring capacity = record { ring = ring; capacity = capacity; sent = []; pushed = []; overruns = 0; known = 0 }
 
 -- why no more is put: as many stand in the buffer, as far as it is known, as it holds; or 2^63 were put
 abbrev pub IsFull : (sent : List Flagged) → (known capacity : ℕ) → Type 0
 IsFull sent known capacity = (length sent ≡ known + capacity) ⊎ (2 ^ 63 ≤ length sent)
+
+-- so many of these bytes are put, each with this flag, and the others are refused
+abbrev pub after_put : Flag → (bytes : List ℕ) → (count : ℕ) → LineState → LineState
+after_put flag bytes count l =
+    record l { sent = l.sent ++ with_flag flag (take count bytes); overruns = count_after l.overruns (length bytes - count) }
+
+-- Bytes are put, each with this flag, up to the first that there is no room for, and pushed.
+pub record PutsAndPushes (old new : LineState) (flag : Flag) (bytes : List ℕ) (count : ℕ) : Type 0 where
+  pub within : count ≤ length bytes
+  pub after : new ≡ record (after_put flag bytes count old) { pushed = new.sent; known = new.known }
+  pub known : old.known ≤ new.known
+  pub full : count < length bytes → IsFull new.sent new.known old.capacity
 
 -- the end before and after these were put: for private functions alone
 pub record Puts (old new : PutterState Flagged) (chars : List Flagged) : Type 0 where

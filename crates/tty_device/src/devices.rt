@@ -1,6 +1,6 @@
 //! The port itself.
 
-ghost use Rattle.std.specs.Prelude.{◌≡◌, ◌≤◌, ◌<◌, ◌^◌, [], length, take, IfOk, OnOk, OnErr};
+ghost use Rattle.std.specs.Prelude.{◌≡◌, ◌≤◌, ◌<◌, ◌^◌, [], length, take, IfSome, IfOk, OnOk, OnErr};
 ghost use Rattle.tty_calls.specs.Plain.{call_of, handle_of};
 ghost use Rattle.ldisc_switch.specs.Disciplines.{column_in};
 ghost use Rattle.tty_terminal.specs.Meeting.{Meets, drops_of, room_for_characters};
@@ -10,10 +10,11 @@ ghost use Rattle.tty_terminal.specs.Terminals.{idle_caller};
 ghost use Rattle.tty_device.specs.Askers.{state_of};
 ghost use Rattle.tty_device.specs.Acts.{settled, verbs_after, DropsOut, HandsOver};
 ghost use Rattle.tty_device.specs.Kept.{chars_of, dropped_of};
-ghost use Rattle.tty_device.specs.Devices.{DeviceState, caller_waiting, outcome_for, after_call, after_cancel, Drops, DropsWhere, with_taken_of, after_hang_up, is_stuck, FlushesWhere, after_advance, wire_of, taken_count, at_front, without_wire_front, first_signal, without_first_signal};
-ghost use Rattle.tty_device.specs.Lines.{buffer_size, fresh_device, fresh_line};
+ghost use Rattle.tty_device.specs.Devices.{DeviceState, fresh_device, fresh_whole, caller_waiting, outcome_for, after_call, after_cancel, Drops, DropsWhere, with_taken_of, after_hang_up, is_stuck, FlushesWhere, TakesInWhere, after_advance, wire_of, taken_count, at_front, without_wire_front, first_signal, without_first_signal};
+ghost use Rattle.tty_device.specs.Lines.{buffer_size, fresh_line};
 
 use crate::askers::{Asker, IDLE, Verbs, asker_for, verb_of};
+use crate::intake::{hand_in, put_and_push};
 use crate::lines::Line;
 use crate::places::{make_room, put_front};
 use crate::taken::{Fate, TakenChars};
@@ -22,7 +23,7 @@ use flow_control::Signals;
 use ldisc_switch::{Kind, fresh};
 use std::alloc::Global;
 use std::marker::Model;
-use tty_base::{Bytes, Chars, Errno, NoMemory, Signal};
+use tty_base::{Bytes, Chars, Errno, Flag, NoMemory, Signal};
 use tty_calls::{Answer, Call};
 use tty_terminal::{CallerState, Met, ROOM_FOR_CALL, Terminal};
 
@@ -30,7 +31,7 @@ use tty_terminal::{CallerState, Met, ROOM_FOR_CALL, Terminal};
 const MOST_HANDLES: u8 = 32;
 
 /// How many characters one flush takes at most.
-const MOST_FLUSHED: usize = 256;
+pub(crate) const MOST_FLUSHED: usize = 256;
 
 /// The fewest and the most characters that a flip buffer holds.
 const SMALLEST_BUFFER: usize = 64;
@@ -50,6 +51,8 @@ pub struct Device {
     pub(crate) flip: FlipOut,
     pub(crate) taken: TakenChars,
     pub(crate) dropped: u64,
+    /// The end that puts in, where the port has it: it is that of `flip`.
+    line: Option<Line>,
     alloc: Global,
     chars: Chars,
     bytes: Bytes,
@@ -83,12 +86,22 @@ impl Device {
             flip: output,
             taken: TakenChars::new(),
             dropped: 0,
+            line: None,
             alloc,
             chars: Chars::new(alloc),
             bytes: Bytes::new(alloc),
             signals: Signals::new(alloc),
         };
         Ok((device, Line::new(input)))
+    }
+
+    /// A closed port as of `new`, which has the end that puts characters in: `take_in` gives bytes to it.
+    pub fn whole(alloc: Global, callers: usize, capacity: usize) -> Result<Device, NoMemory>
+        ensures { IfOk result (λ device. device ≡ fresh_whole device.ring callers (buffer_size capacity)) }
+    {
+        let (mut device, line) = Device::new(alloc, callers, capacity)?;
+        device.line = Some(line);
+        Ok(device)
     }
 
     // ---- calls
@@ -190,6 +203,37 @@ impl Device {
         let count = hand_over(&mut self.terminal, &mut self.flip, &mut self.chars, most);
         self.taken.note(&self.chars, Fate { dropped: false });
         Ok(count)
+    }
+
+    /// Puts bytes, each with this flag, into the end that the port has, and flushes 256 characters at most, all in one:
+    /// where nothing waits, up to 256 good ones go past the flip buffer's memory. Answers how many were put, as
+    /// `Line::put` does; and `None`, changing nothing, where the port has no such end.
+    pub fn take_in(&mut self, bytes: &[u8], flag: Flag) -> Result<Option<usize>, NoMemory>
+        ensures takes { IfOk result (λ answer. TakesInWhere self.old.line self.old self.new flag bytes.now answer) }
+        ensures within { IfOk result (λ answer. IfSome answer (λ count. count ≤ length bytes.now)) }
+        ensures err { OnErr result (self.new ≡ self.old) }
+    {
+        let stuck = self.is_stuck();
+        let Some(line) = &mut self.line else {
+            return Ok(None);
+        };
+        if stuck {
+            return Ok(Some(put_and_push(line, bytes, flag)));
+        }
+        let room = self.terminal.room_for_characters(MOST_FLUSHED);
+        self.terminal.reserve(room, MOST_FLUSHED)?;
+        self.chars.truncate(0);
+        self.chars.reserve(MOST_FLUSHED)?;
+        let count = hand_in(
+            &mut self.terminal,
+            &mut self.flip,
+            line,
+            &mut self.chars,
+            bytes,
+            flag,
+        );
+        self.taken.note(&self.chars, Fate { dropped: false });
+        Ok(Some(count))
     }
 
     /// Sets the clock, which counts tenths of a second. A tick that is past changes nothing.
@@ -319,7 +363,12 @@ fn drop_shown(flip: &mut FlipOut, taken: &mut TakenChars, count: &mut u64, chars
 }
 
 /// Hands over what one look shows, in room that was reserved.
-fn hand_over(terminal: &mut Terminal, flip: &mut FlipOut, chars: &mut Chars, most: usize) -> usize
+pub(crate) fn hand_over(
+    terminal: &mut Terminal,
+    flip: &mut FlipOut,
+    chars: &mut Chars,
+    most: usize,
+) -> usize
     requires few { most ≤ 256 }
     requires empty { chars.old.items ≡ [] }
     requires spare { most ≤ chars.old.spare }

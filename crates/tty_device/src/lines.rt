@@ -10,7 +10,7 @@ use std::marker::Model;
 use tty_base::{Flag, Moves, Put, rest_of};
 
 /// How many characters can be put, ever: 100 years at three billion a second.
-const MOST_SENT: u64 = 9223372036854775808;
+pub(crate) const MOST_SENT: u64 = 9223372036854775808;
 
 /// The end of a port's flip buffer that puts characters in, with its count of overruns. It may be used on another
 /// thread than the port; each end knows of the other only what it loads.

@@ -12,6 +12,7 @@ use Rattle.tty_device.specs.Devices.{DeviceState, state_for, outcome_for, after_
 use Rattle.tty_device.specs.Inside.{device_of}
 use Rattle.tty_device.proofs.Handing.{dropped_noted, drops_from, drops_where, keeps_where}
 use Rattle.tty_device.proofs.Settling.{same_callers, settled_generation, settled_uncounted, settled_column, settled_callers, as_many_verbs, with_both, with_both_left, call_left, outcome_is}
+use Rattle.tty_device.proofs.TakingIn.{line_stays}
 use Rattle.tty_device.proofs.devices.Device.call.Goals as goal
 use Rattle.tty_device.proofs.devices.Device.call.Goals.{then-drops-2, else-drops-2}
 
@@ -49,6 +50,7 @@ invariant_of-self-then-drops-2 c =
       verbs = verbs ∙ (c.self.invariant.verbs ∙ sym (settled_callers t u caller asker call m is ∙ (met ∙ same)));
       taken = dropped_noted a.flip c.drop_shown.new.flip a.taken.items c.drop_shown.new.taken.items c.drop_shown.ensures.drops c.self.invariant.taken;
       dropped = c.drop_shown.ensures.counted;
+      line = line_stays _ _ _ c.drop_shown.ensures.drops.ring c.self.invariant.line;
     }
 
 pub invariant_of-self-else-drops-2 : goal.invariant_of-self-else-drops-2
@@ -71,6 +73,7 @@ invariant_of-self-else-drops-2 c =
       verbs = verbs ∙ (c.self.invariant.verbs ∙ sym (settled_callers t u caller asker call m is ∙ (met ∙ same)));
       taken = c.self.invariant.taken;
       dropped = c.self.invariant.dropped;
+      line = c.self.invariant.line;
     }
 
 pub returns-clause-after : goal.returns-clause-after
@@ -97,8 +100,10 @@ returns-clause-after c =
     (elim c.if-drops-2.branch [
       | then-drops-2 w ↦ with_both_left d v (after_call d caller call) u (verbs_after d.verbs caller call m) left
           (ap (λ (x : DeviceState). x.terminal) w.self-is ∙ terminal) (ap (λ (x : DeviceState). x.verbs) w.self-is ∙ after) (ap (λ (x : DeviceState). x.ring) w.self-is ∙ w.drop_shown.ensures.drops.ring)
+          (ap (λ (x : DeviceState). x.line) w.self-is)
       | else-drops-2 w ↦ with_both_left d v (after_call d caller call) u (verbs_after d.verbs caller call m) left
           (ap (λ (x : DeviceState). x.terminal) w.self-is ∙ terminal) (ap (λ (x : DeviceState). x.verbs) w.self-is ∙ after) (ap (λ (x : DeviceState). x.ring) w.self-is)
+          (ap (λ (x : DeviceState). x.line) w.self-is)
     ])
 
 pub returns-clause-drops : goal.returns-clause-drops

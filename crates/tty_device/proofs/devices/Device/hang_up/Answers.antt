@@ -5,6 +5,7 @@ use Rattle.tty_terminal.specs.Generations.{caller_after_hangup, after_hangup}
 use Rattle.tty_terminal.specs.Meeting.{InRoom}
 use Rattle.tty_terminal.specs.Kept.{kept}
 use Rattle.tty_device.proofs.Handing.{kept_column, dropped_noted}
+use Rattle.tty_device.proofs.TakingIn.{line_stays}
 use Rattle.tty_device.proofs.devices.Device.hang_up.Goals as goal
 
 pub invariant_of-self : goal.invariant_of-self
@@ -22,4 +23,5 @@ invariant_of-self c =
       verbs = c.self.invariant.verbs ∙ sym (ap (λ (x : Terminal). length x.callers) is ∙ (ap (λ (x : Terminal). length x.callers) hung ∙ length-map t.callers caller_after_hangup));
       taken = dropped_noted a.flip c.drop_shown.new.flip a.taken.items c.drop_shown.new.taken.items c.drop_shown.ensures.drops c.self.invariant.taken;
       dropped = c.drop_shown.ensures.counted;
+      line = line_stays _ _ _ c.drop_shown.ensures.drops.ring c.self.invariant.line;
     }
