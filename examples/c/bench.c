@@ -2,12 +2,13 @@
    one run.
 
    Each row is for one set of modes. Lines of 64 bytes come in pieces of 2,048, and what was echoed is taken away after
-   each piece. `write` is output of a program, with output processing. Of `raw, two threads` one thread is the line, and
-   the other reads. A round trip is a line of 64 bytes that one thread sends and another reads and writes back; the two
-   wake each other by semaphores, and those at the pseudoterminal by what the kernel does. All are played in turns, 60
-   unless told, and each number is the best of all turns, which other programs disturb least. Beside the time that
-   passed stands the processor time of this program; of a pseudoterminal, a worker of the kernel does a part that it
-   lacks. */
+   each piece. The port has its line, and takes 256 bytes in by a call; in `raw, two ends` they are put by a jw_line, on
+   the same thread. `write` is output of a program, with output processing. Of `raw, two threads` one thread is the
+   line, and the other reads. A round trip is a line of 64 bytes that one thread sends and another reads and writes
+   back; the two wake each other by semaphores, and those at the pseudoterminal by what the kernel does. All are played
+   in turns, 60 unless told, and each number is the best of all turns, which other programs disturb least. Beside the
+   time that passed stands the processor time of this program; of a pseudoterminal, a worker of the kernel does a part
+   that it lacks. */
 #define _GNU_SOURCE
 #include "jinthwyr.h"
 
@@ -22,7 +23,7 @@
 #include <time.h>
 #include <unistd.h>
 
-enum { PIECE = 2048, TOTAL = 256 * 1024, ROUNDS = 1000, MESSAGE = 64 };
+enum { PIECE = 2048, TAKEN = 256, HELD = 4096, TOTAL = 256 * 1024, ROUNDS = 1000, MESSAGE = 64 };
 
 static int turns = 60;
 
@@ -101,11 +102,15 @@ static struct rate library_output(void) {
 
 /* ---- a port ---- */
 
-static void open_port(jw_port *port, jw_line *line, const char *const *words) {
-    check(jw_port_new(port, line, 1, 4096) == 0, "jw_port_new");
+static void set_up(jw_port *port, const char *const *words) {
     check(jw_port_open(port, 0, 0, O_RDWR, true) == 0, "jw_port_open");
     for (; *words != NULL; words++)
         check(jw_port_set(port, 0, 0, TCSANOW, (const uint8_t *)*words, strlen(*words)) == 0, *words);
+}
+
+static void open_port(jw_port *port, jw_line *line, const char *const *words) {
+    check(jw_port_new(port, line, 1, HELD) == 0, "jw_port_new");
+    set_up(port, words);
 }
 
 static void free_port(jw_port *port, jw_line *line) {
@@ -121,7 +126,33 @@ static size_t read_port(jw_port *port) {
     return got > 0 ? (size_t)got : 0;
 }
 
+/* Takes a piece in, and reads it. */
+static void whole_piece(jw_port *port) {
+    for (size_t done = 0; done < PIECE; done += TAKEN)
+        check(jw_port_take_in(port, text + done, TAKEN, JW_NORMAL) == TAKEN, "jw_port_take_in");
+    for (size_t got = 0; got < PIECE;) {
+        int64_t count = jw_port_read(port, 0, 0, place, sizeof place);
+        check(count > 0 || (count == -EAGAIN && jw_port_receive(port, TAKEN) > 0), "jw_port_read");
+        got += count > 0 ? (size_t)count : 0;
+    }
+}
+
 static struct rate port_input(const char *const *words) {
+    jw_port port = {0};
+    check(jw_port_new_whole(&port, 1, HELD) == 0, "jw_port_new_whole");
+    set_up(&port, words);
+    struct rate start = now();
+    for (size_t total = 0; total < TOTAL; total += PIECE) {
+        whole_piece(&port);
+        while (jw_port_take_wire(&port, place, sizeof place) > 0)
+            continue;
+    }
+    struct rate rate = rate_since(start);
+    check(jw_port_free(&port) == 0, "jw_port_free");
+    return rate;
+}
+
+static struct rate port_ends(const char *const *words) {
     jw_port port = {0};
     jw_line line = {0};
     open_port(&port, &line, words);
@@ -159,7 +190,7 @@ static struct rate port_output(void) {
 
 static void *feed_line(void *line) {
     for (size_t total = 0; total < TOTAL;) {
-        size_t room = 4096 - (size_t)jw_line_waiting(line);
+        size_t room = HELD - (size_t)jw_line_waiting(line);
         size_t count = room < PIECE ? room : PIECE;
         total += (size_t)jw_line_put(line, text, count < TOTAL - total ? count : TOTAL - total, JW_NORMAL);
         jw_line_push(line);
@@ -361,6 +392,15 @@ static void print_input(const char *name, const char *const *words, bool is_cano
     print(name, tty, port, kernel);
 }
 
+static void print_ends(const char *name, const char *const *words) {
+    struct rate port = {0}, kernel = {0};
+    for (int turn = 0; turn < turns; turn++) {
+        keep_best(&port, port_ends(words));
+        keep_best(&kernel, kernel_input(false, false));
+    }
+    print(name, (struct rate){0}, port, kernel);
+}
+
 static void print_output(const char *name) {
     struct rate tty = {0}, port = {0}, kernel = {0};
     for (int turn = 0; turn < turns; turn++) {
@@ -402,6 +442,7 @@ int main(int argc, char **argv) {
     print_input("canonical", quiet, true, false);
     print_input("canonical, with echo", sane, true, true);
     print_output("write");
+    print_ends("raw, two ends", raw);
     print_threads("raw, two threads", raw);
     printf("thousand round trips a second\n");
     print_trips("raw, two threads", raw);

@@ -134,6 +134,10 @@ typedef struct jw_line {
    are put into. The buffer holds `capacity` characters, 64 at least and 65,536 at most. Answers 0. */
 int64_t jw_port_new(jw_port *port, jw_line *line, size_t callers, size_t capacity);
 
+/* Makes such a port that has its end itself: bytes come in by jw_port_take_in, and there is no jw_line. It is for a
+   program that has its line and the rest on one thread. Answers 0. */
+int64_t jw_port_new_whole(jw_port *port, size_t callers, size_t capacity);
+
 /* Frees a port, or an end, in any order. Answers 0. */
 int64_t jw_port_free(jw_port *port);
 int64_t jw_line_free(jw_line *line);
@@ -235,6 +239,12 @@ int64_t jw_port_cancel(jw_port *port, size_t caller);
 /* Hands characters that were pushed over to the line discipline, `most` at most and 256 at most, as long as it
    accepts and the port is open. Answers how many. */
 int64_t jw_port_receive(jw_port *port, size_t most);
+
+/* Of a port that jw_port_new_whole made: jw_line_put, jw_line_push and jw_port_receive with 256, in one call. Answers
+   how many bytes were put: the others are overruns. What was put and not handed over waits for the next call, or for
+   jw_port_receive. Up to 256 good bytes at a time go past the buffer's memory where nothing waits. -EINVAL (JW_NO_FLAG)
+   of a port that has no end of its own; JW_NO_MEMORY has put nothing. */
+int64_t jw_port_take_in(jw_port *port, const uint8_t *bytes, size_t len, uint8_t flag);
 
 /* Sets the clock to a tick, a tenth of a second, the unit of TIME. It does not go back. Answers 0. */
 int64_t jw_port_advance(jw_port *port, uint64_t tick);

@@ -9,4 +9,6 @@ mod answers;
 #[cfg(test)]
 mod calls;
 #[cfg(test)]
+mod intake;
+#[cfg(test)]
 mod ports;

@@ -246,3 +246,57 @@ fn eight_bytes_pass_between_two_rounds(rt: HostRuntime) -> Result<(), Fail> {
     assert_eq!(rt; (input.sent(), output.taken()), (10, 10));
     Ok(())
 }
+
+/// Passes a run of so many bytes, where nothing waits, and then a character the plain way.
+fn passes_run(input: &mut FlipIn, output: &mut FlipOut, count: usize) -> bool
+    requires ring { input.old.ring ≡ output.old.ring }
+    requires few { count ≤ 70 }
+    ensures { (input.new.ring ≡ input.old.ring) × (output.new.ring ≡ output.old.ring) }
+{
+    input.meet(output.note());
+    if input.sent() > 1000 || count > output.capacity() || !output.nothing_waits(input) {
+        return false;
+    }
+    let bytes = [b'r'; 70];
+    output.pass(input, &bytes[..count]);
+    passes_one(input, output, count)
+}
+
+/// Passes runs of 1, 3, 4, 7 and 64 bytes, and one that fills the buffer.
+fn passes_each(input: &mut FlipIn, output: &mut FlipOut) -> bool
+    requires { input.old.ring ≡ output.old.ring }
+    ensures { (input.new.ring ≡ input.old.ring) × (output.new.ring ≡ output.old.ring) }
+{
+    let has_few = passes_run(input, output, 1) && passes_run(input, output, 3);
+    let has_words = has_few && passes_run(input, output, 4) && passes_run(input, output, 7);
+    has_words && passes_run(input, output, 64) && passes_run(input, output, 70)
+}
+
+/// Puts and takes so many characters, three at most.
+fn passes_first(input: &mut FlipIn, output: &mut FlipOut, lead: usize) -> bool
+    ensures { (input.new.ring ≡ input.old.ring) × (output.new.ring ≡ output.old.ring) }
+{
+    let is_one = lead < 1 || passes_one(input, output, 1);
+    let are_two = is_one && (lead < 2 || passes_one(input, output, 2));
+    are_two && (lead < 3 || passes_one(input, output, 3))
+}
+
+/// Each run passes after so many characters, and once more where it begins elsewhere.
+fn pass_runs(alloc: Global, lead: usize) -> Result<bool, NoMemory>
+    requires { lead < 4 }
+{
+    let (mut input, mut output) = flip(alloc, 70)?;
+    let passes = passes_first(&mut input, &mut output, lead)
+        && passes_each(&mut input, &mut output)
+        && passes_each(&mut input, &mut output);
+    let all = lead as u64 + 310;
+    Ok(passes && input.sent() == all && output.taken() == all)
+}
+
+#[test]
+fn runs_pass_from_each_alignment(rt: HostRuntime) -> Result<(), Fail> {
+    for lead in 0..4 {
+        assert!(rt; pass_runs(rt.alloc(), lead)?);
+    }
+    Ok(())
+}

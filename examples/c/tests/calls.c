@@ -81,6 +81,7 @@ static void no_port(void) {
     IS(jw_port_cancel(&port, 0), JW_NO_TERMINAL);
     IS(jw_port_advance(&port, 1), JW_NO_TERMINAL);
     IS(jw_port_receive(&port, 64), JW_NO_TERMINAL);
+    IS(jw_port_take_in(&port, place, 0, JW_NORMAL), JW_NO_TERMINAL);
     IS(jw_port_hang_up(&port), JW_NO_TERMINAL);
     IS(jw_port_take_wire(&port, place, sizeof place), JW_NO_TERMINAL);
     IS(jw_port_take_signal(&port), JW_NO_TERMINAL);
@@ -264,6 +265,7 @@ static void a_port(void) {
     jw_line line = {0};
     IS(jw_port_new(&port, &line, 2, 10), 0);
     IS(jw_port_new(&port, &line, 2, 10), JW_MADE);
+    IS(jw_port_take_in(&port, bytes_of("a"), 1, JW_NORMAL), JW_NO_FLAG);
     opens(&port);
     reads_and_writes(&port, &line);
     modes(&port);
@@ -276,6 +278,77 @@ static void a_port(void) {
     IS(jw_line_free(&line), 0);
     IS(jw_port_new(&port, &line, 2, 10), JW_MADE); /* its port is there */
     IS(jw_port_free(&port), 0);
+}
+
+/* ---- a port that has its line ---- */
+
+/* Each character that came in was received, dropped, or waits. */
+static void has_account(jw_port *port, int64_t received, int64_t dropped, int64_t waiting) {
+    IS(jw_port_received(port), received);
+    IS(jw_port_dropped(port), dropped);
+    IS(jw_port_waiting(port), waiting);
+}
+
+static void takes_lines_in(jw_port *port) {
+    uint8_t place[64];
+    IS(jw_port_take_in(port, bytes_of("early\r"), 6, JW_NORMAL), 6); /* nobody has it open */
+    has_account(port, 0, 0, 6);
+    IS(jw_port_receive(port, 64), 0);
+    IS(jw_port_open(port, 0, 3, O_RDWR, true), 0);
+    IS(jw_port_take_in(port, bytes_of("ab\rc"), 4, JW_NORMAL), 4);
+    has_account(port, 10, 0, 0);
+    IS(jw_port_read(port, 0, 3, place, sizeof place), 6);
+    IS(memcmp(place, "early\n", 6), 0);
+    IS(jw_port_read(port, 0, 3, place, sizeof place), 3);
+    IS(memcmp(place, "ab\n", 3), 0);
+    goes(port, "early\r\nab\r\nc");
+    IS(jw_port_take_in(port, bytes_of("x"), 1, JW_PARITY), 1);
+    IS(jw_port_count(port, 0, 3, JW_PARITIES), 1);
+    IS(jw_port_take_in(port, bytes_of("x"), 1, 5), JW_NO_FLAG);
+    jw_port_take_wire(port, place, sizeof place);
+    IS(jw_port_take_in(port, bytes_of(""), 0, JW_NORMAL), 0);
+    IS(jw_port_take_in(port, bytes_of("\003"), 1, JW_NORMAL), 1);
+    IS(jw_port_take_signal(port), 2);
+    has_account(port, 12, 0, 0);
+    goes(port, "^C");
+}
+
+/* The discipline holds 4,095 bytes, and the flip buffer as many as it has room for: the others are overruns. */
+static void takes_in_until_full(jw_port *port) {
+    static uint8_t many[8192], place[8192];
+    int64_t before = jw_port_received(port);
+    for (size_t k = 0; k < sizeof many; k++)
+        many[k] = (uint8_t)(k % 251);
+    set_all(port, 0, 3, "raw");
+    int64_t taken = 0;
+    while (jw_port_waiting(port) == 0)
+        taken += jw_port_take_in(port, many + taken, 200, JW_NORMAL);
+    IS(jw_port_received(port) - before + jw_port_waiting(port), taken);
+    int64_t room = 1024 - jw_port_waiting(port);
+    IS(jw_port_take_in(port, many + taken, (size_t)room + 100, JW_NORMAL), room);
+    taken += room;
+    IS(jw_port_take_in(port, many, 100, JW_NORMAL), 0);
+    int64_t got = 0;
+    for (int64_t count; (count = jw_port_read(port, 0, 3, place + got, sizeof place - (size_t)got)) > 0; got += count)
+        while (jw_port_receive(port, 256) > 0)
+            continue;
+    IS(got, taken);
+    IS(memcmp(place, many, (size_t)taken), 0);
+    has_account(port, before + taken, 0, 0);
+    IS(jw_port_take_in(port, many, 256, JW_NORMAL), 256); /* and on it goes */
+    IS(jw_port_read(port, 0, 3, place, sizeof place), 256);
+    IS(memcmp(place, many, 256), 0);
+    has_account(port, before + taken + 256, 0, 0);
+}
+
+static void a_whole_port(void) {
+    jw_port port = {0};
+    IS(jw_port_new_whole(&port, 2, 1024), 0);
+    IS(jw_port_new_whole(&port, 2, 1024), JW_MADE);
+    takes_lines_in(&port);
+    takes_in_until_full(&port);
+    IS(jw_port_free(&port), 0);
+    IS(jw_port_free(&port), JW_NO_TERMINAL);
 }
 
 /* ---- the receive side of a 16550 ---- */
@@ -324,6 +397,7 @@ int main(void) {
     a_terminal();
     no_port();
     a_port();
+    a_whole_port();
     a_uart();
     return 0;
 }

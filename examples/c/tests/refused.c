@@ -173,6 +173,31 @@ static void play_port(void) {
     IS(jw_port_free(&port), 0);
 }
 
+static void play_whole_port(void) {
+    static uint8_t text[200], place[300];
+    jw_port port = {0};
+    int64_t count;
+    memset(text, 'x', sizeof text);
+    DOES(jw_port_new_whole(&port, 3, 4096), 0);
+    DOES(jw_port_take_in(&port, bytes_of("early"), 5, JW_NORMAL), 5);
+    DOES(jw_port_open(&port, 0, 3, O_RDWR, true), 0);
+    DOES(jw_port_take_in(&port, bytes_of("\177 line\r"), 7, JW_NORMAL), 7);
+    DOES(jw_port_take_in(&port, bytes_of("\003"), 1, JW_NORMAL), 1);
+    DOES(jw_port_set(&port, 0, 3, TCSANOW, bytes_of("raw"), 3), 0);
+    for (int k = 0; k < 24; k++)
+        DOES(jw_port_take_in(&port, text, sizeof text, JW_NORMAL), 200);
+    AGAIN(count, jw_port_read(&port, 0, 3, place, sizeof place));
+    see_bytes(place, count);
+    do {
+        AGAIN(count, jw_port_take_wire(&port, place, sizeof place));
+        see_bytes(place, count);
+    } while (count > 0);
+    DOES(jw_port_take_signal(&port), 2);
+    see(jw_port_received(&port));
+    see(jw_port_waiting(&port));
+    IS(jw_port_free(&port), 0);
+}
+
 static void play_tty(void) {
     static uint8_t place[4096];
     jw_tty tty = {0};
@@ -219,6 +244,7 @@ static void refuse_each(const char *name, void (*play)(void)) {
 int main(void) {
     refuse_each("N_TTY", play_tty);
     refuse_each("port", play_port);
+    refuse_each("port that has its line", play_whole_port);
     refuse_each("16550", play_uart);
     return 0;
 }
