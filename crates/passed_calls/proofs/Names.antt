@@ -13,7 +13,7 @@ abbrev pub on_port : ℕ → PlainScript → Bool
 on_port p s = s.port == p
 
 -- the names of scripts depend on their names alone
-fold_names : (names : List (List ℕ)) (scripts : List PlainScript) → fold (λ ns s. with_name ns s.name) names scripts ≡ fold with_name names (map name_of scripts)
+pub fold_names : (names : List (List ℕ)) (scripts : List PlainScript) → fold (λ ns s. with_name ns s.name) names scripts ≡ fold with_name names (map name_of scripts)
 fold_names names [] = refl
 fold_names names (s ∷ ss) = fold_names (with_name names s.name) ss
 

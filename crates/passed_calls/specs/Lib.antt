@@ -3,3 +3,4 @@ pub mod Derived
 pub mod Journals
 pub mod Logs
 pub mod Scripts
+pub mod Within

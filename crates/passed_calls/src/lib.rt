@@ -8,6 +8,8 @@ mod placed;
 ghost use Rattle.std.specs.Prelude.{◌≡◌, ℕ, List, Some, None, slice_get};
 ghost use Rattle.tty_calls.specs.Sessions.{scripts_over, names_of, calls_under, PlainSession, call_at};
 ghost use Rattle.passed_calls.specs.Blocks.{Block, blocks_on, names_on, number_on, steps_under};
+ghost use Rattle.tty_calls.specs.Limits.{IsWithinLimits};
+ghost use Rattle.passed_calls.specs.Within.{AreBlocksWithin, ArePassedWithin};
 ghost use Rattle.passed_calls.specs.Derived.{Passing, Passed, BlockPhase, AreInSteps, blocks_of, by_caller, all_calls, calls_for, passed_phases};
 
 pub use logs::Logged;
@@ -40,4 +42,12 @@ pub fn played_calls_are_those_passed()
         → slice_get (names_on p (blocks_of phases)) c ≡ Some name → number_on p (blocks_of phases) name ≡ c
         → AreInSteps 0 (steps_under name (blocks_on p (blocks_of phases))) (by_caller c (passed p))
         → call_at p session c step ≡ slice_get (all_calls (by_caller c (passed p))) step }
+{}
+
+/// A law: the session that was played keeps the limits of every session, where its blocks do with all their calls, and
+/// what was passed keeps those of calls.
+pub fn what_is_passed_keeps_the_limits()
+    ensures { (phases : List BlockPhase) (passed : Passed) (session : PlainSession)
+        → session.phases ≡ passed_phases passed phases
+        → AreBlocksWithin session.ports session.flips phases → ArePassedWithin passed → IsWithinLimits session }
 {}
