@@ -1,0 +1,4 @@
+pub mod Drafts
+pub mod Items
+pub mod Lines
+pub mod Spelled
