@@ -1,0 +1,4 @@
+pub mod Carriers
+pub mod Left
+pub mod Said
+pub mod Steps

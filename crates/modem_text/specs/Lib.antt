@@ -4,4 +4,6 @@ pub mod Rows
 pub mod Sessions
 pub mod Events
 pub mod Reading
+pub mod Left
+pub mod Within
 pub mod Views

@@ -14,7 +14,8 @@ mod verbs;
 
 pub use items::{ModemItem, OwnCall, item_of};
 pub use laws::{
-    a_worked_text_is_read, worked_lines_are_read, worked_texts_are_refused_at_their_lines,
+    a_worked_text_is_read, parsed_modem_sessions_are_within_limits, what_is_left_is_a_session,
+    worked_lines_are_read, worked_texts_are_refused_at_their_lines,
 };
 pub use logs::{ModemEvent, ModemLog};
 pub use reader::parse_modem;
