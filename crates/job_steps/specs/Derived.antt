@@ -3,13 +3,13 @@ use Rattle.std.specs.Prelude.{ℕ, ◌==◌, Option, Some, List, [], ◌∷◌, 
 use Rattle.tty_calls.specs.Plain.{PlainCall, hangs_up}
 use Rattle.tty_calls.specs.Sessions.{PlainSession}
 use Rattle.passed_calls.specs.Blocks.{names_on}
-use Rattle.passed_calls.specs.Scripts.{CallerScript, plain, block_of, numbered_call}
+use Rattle.passed_calls.specs.Scripts.{CallerScript, plain, numbered_call}
 use Rattle.passed_calls.specs.Derived.{Passing, BlockPhase, passed_phases}
 use Rattle.job_text.specs.Events.{JobEvent, own, passed, passed_down, sent, JobLog, events_on}
-use Rattle.job_text.specs.Sessions.{JobCall, JobsSession, blocks_in}
+use Rattle.job_text.specs.Sessions.{JobCall, JobsSession, block_phase_of, blocks_in}
 
 abbrev pub block_phases : JobsSession → List BlockPhase
-block_phases session = map (λ phase. record { lines = phase.lines; ticks = phase.ticks; blocks = map block_of phase.callers }) session.phases
+block_phases session = map block_phase_of session.phases
 
 abbrev pub scripts_over : ℕ → JobsSession → List (CallerScript JobCall)
 scripts_over p session = flat_map (λ phase. filter (λ s. s.port == p) phase.callers) session.phases

@@ -1,6 +1,5 @@
 -- The step of a port with job control: which event may be logged next, and what it does.
 use Rattle.std.specs.Prelude.{◌≡◌, ℕ, ◌+◌, ◌-◌, ◌==◌, ◌≤◌, ◌<◌, nat_le, Bool, true, false, not, ◌&&◌, IsTrue, Option, None, Some, Result, Ok, Err, is_none, unwrap_or, List, [], ◌∷◌, map, filter, length, position, replicate, slice_get, slice_index_or, slice_set, if◌then◌else◌}
-use Rattle.std.specs.Str.{bytes_eq}
 use Rattle.std.specs.Option.{option_to_list}
 use Rattle.tty_base.specs.declared.counters.Errno.TheVariants.{EBADF, EIO, ENOTTY}
 use Rattle.tty_base.specs.declared.counters.Signal.{Signal}
@@ -34,7 +33,7 @@ use Rattle.job_control.specs.declared.answers.Target.TheVariants as towards
 use Rattle.passed_calls.specs.Scripts.{plain, further}
 use Rattle.job_text.specs.declared.calls.OwnCall.TheVariants as call
 use Rattle.job_text.specs.Events.{JobEvent, own, passed, passed_down, sent, JobLog}
-use Rattle.job_text.specs.Sessions.{JobCall, JobsSession, blocks_in}
+use Rattle.job_text.specs.Sessions.{JobCall, JobsSession, blocks_in, proc_place}
 use Rattle.job_steps.specs.Derived.{job_call_at}
 
 -- ---- the state of a port beside its terminal
@@ -85,7 +84,7 @@ jobs_before port s at = jobs_among (s.now ∷ s.past) at (first_jobs (procs_of p
 -- the process of a caller
 abbrev pub proc_named : List Proc → Option (List ℕ) → Option ℕ
 proc_named procs None = None
-proc_named procs (Some name) = position (λ proc. bytes_eq proc.name.bytes name) procs
+proc_named procs (Some name) = proc_place procs name
 
 abbrev pub proc_of : Port → (caller : ℕ) → ℕ
 proc_of port c = unwrap_or (proc_named (procs_of port) (slice_get (names_of_port port) c)) (length (procs_of port))

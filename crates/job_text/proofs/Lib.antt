@@ -1,1 +1,3 @@
 pub mod Bare
+pub mod Left
+pub mod Steps

@@ -5,4 +5,6 @@ pub mod Reading
 pub mod Rows
 pub mod Sessions
 pub mod Events
+pub mod Left
+pub mod Within
 pub mod Views

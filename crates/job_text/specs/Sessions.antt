@@ -1,11 +1,13 @@
 -- Sessions whose callers are processes.
-use Rattle.std.specs.Prelude.{ℕ, ◌==◌, List, [], map, filter, flat_map}
+use Rattle.std.specs.Prelude.{ℕ, ◌==◌, Option, List, [], map, filter, flat_map, position}
+use Rattle.std.specs.Str.{bytes_eq}
 use Rattle.std.specs.List.{range_with_len}
 use Rattle.tty_base.specs.declared.lines.LineStep.{LineStep}
 use Rattle.tty_calls.specs.Sessions.{PlainPhase, PlainSession, session_of}
 use Rattle.job_control.specs.declared.processes.Proc.{Proc}
 use Rattle.passed_calls.specs.declared.placed.PlacedCall.{PlacedCall}
 use Rattle.passed_calls.specs.Blocks.{Block}
+use Rattle.passed_calls.specs.Derived.{BlockPhase}
 use Rattle.passed_calls.specs.Scripts.{AnyCall, CallerScript, block_of, mixed_scripts, phases_with}
 use Rattle.job_text.specs.declared.calls.OwnCall.{OwnCall}
 use Rattle.job_text.specs.declared.sessions.PortProc.{PortProc}
@@ -33,6 +35,14 @@ pub record JobsSession : Type 0 where
 -- the blocks of a session, which tell the callers' numbers
 abbrev pub blocks_in : JobsSession → List Block
 blocks_in session = flat_map (λ phase. map block_of phase.callers) session.phases
+
+-- a phase by its blocks
+abbrev pub block_phase_of : JobsPhase → BlockPhase
+block_phase_of phase = record { lines = phase.lines; ticks = phase.ticks; blocks = map block_of phase.callers }
+
+-- the place of a process among those of its port
+abbrev pub proc_place : List Proc → (name : List ℕ) → Option ℕ
+proc_place procs name = position (λ proc. bytes_eq proc.name.bytes name) procs
 
 -- ---- a session of ports, its processes, and what its phases have beside
 

@@ -13,7 +13,10 @@ mod sessions;
 mod verbs;
 
 pub use calls::OwnCall;
-pub use laws::{a_worked_text_is_read, worked_texts_are_refused_at_their_lines};
+pub use laws::{
+    a_worked_text_is_read, parsed_sessions_are_within_limits, what_is_left_is_a_session,
+    worked_texts_are_refused_at_their_lines,
+};
 pub use logs::{JobEvent, JobLog};
 pub use reader::parse_jobs;
 pub use sessions::{JobsPart, JobsSession, PortProc};
