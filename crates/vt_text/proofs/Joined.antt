@@ -4,6 +4,7 @@ use Rattle.std.specs.Prelude.{filter}
 use Rattle.std.specs.List.{slice_split, onto_first}
 use Rattle.text_lines.specs.Lines.{is_newline, is_blank, lines_of, has_bytes, words_of}
 use Rattle.session_text.specs.Refusals.{lines_in}
+use Rattle.vt_text.specs.Left.{tail_of, line_of, text_of}
 
 -- bytes none of which is such a one
 abbrev pub Free : (ℕ → Bool) → List ℕ → Type 0
@@ -28,18 +29,6 @@ AreLines [] = Unit {0}
 AreLines (ws ∷ lines) = AreWords ws × AreLines lines
 
 -- ---- words put into lines
-
-abbrev tail_of : List (List ℕ) → List ℕ
-tail_of [] = []
-tail_of (w ∷ ws) = 32 ∷ (w ++ tail_of ws)
-
-abbrev pub line_of : List (List ℕ) → List ℕ
-line_of [] = []
-line_of (w ∷ ws) = w ++ tail_of ws
-
-abbrev pub text_of : List (List (List ℕ)) → List ℕ
-text_of [] = []
-text_of (ws ∷ lines) = line_of ws ++ 10 ∷ text_of lines
 
 split_end : (w : List ℕ) → Free is_blank w → slice_split is_blank w ≡ w ∷ []
 split_end [] h = refl

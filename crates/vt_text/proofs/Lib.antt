@@ -1,3 +1,4 @@
 mod Joined
 pub mod Operators
 pub mod Limits
+pub mod Callers

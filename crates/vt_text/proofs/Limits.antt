@@ -23,13 +23,14 @@ use Rattle.session_text.proofs.PhaseCounts.{ended_no_phase, item_stays, phase_mo
 use Rattle.session_text.proofs.Spelled.{read_spells}
 use Rattle.session_text.proofs.TextAsks.{text_asks}
 use Rattle.session_text.proofs.Within.{length-bytes_of}
-use Rattle.vt_text.proofs.Joined.{IsWord, AreWords, AreLines, text_of, lines_again, text_words, cost, costs, text_long, first_longer, second_short, text_cost}
+use Rattle.vt_text.proofs.Joined.{IsWord, AreWords, AreLines, lines_again, text_words, cost, costs, text_long, first_longer, second_short, text_cost}
 use Rattle.vt_text.specs.declared.items.Block.{Block}
 use Rattle.vt_text.specs.declared.sessions.OpCall.{OpCall}
 use Rattle.vt_text.specs.declared.sessions.OpCall.TheVariants as op
 use Rattle.vt_text.specs.declared.verbs.VtVerb.{VtVerb}
 use Rattle.vt_text.specs.declared.verbs.VtVerb.TheVariants as vt
 use Rattle.vt_text.specs.Sessions.{PlainOperator, PlainVtPhase, PlainVtSession}
+use Rattle.vt_text.specs.Left.{text_of}
 use Rattle.vt_text.specs.Limits.{key_count, calls_of, op_call_count, operator_count, IsVtWithin}
 use Rattle.vt_text.specs.Verbs.{verb_text, item_verbs, verb_of}
 use Rattle.vt_text.specs.Items.{PlainVtReading, first_vt_reading, in_open_phase, is_caller, is_operator, byte_fault, fault_by, wrong_unless, once_fault, is_named, keys_fault, operator_fault, activate_fault, state_fault, with_op_call, with_keys, with_operator, with_call, with_phase_closed}
@@ -116,7 +117,7 @@ nothing_read r n x rest h = record { lines = [] ∷ h.lines; is = h.is; words = 
 goes_same : (n long : ℕ) (r : PlainVtReading) → 1 ≤ long → Goes n long r r
 goes_same n long r some = record { within = λ h. h; own = 1; reads = λ x rest h. nothing_read r.session n x rest h; grows = omega (arith, some) }
 
-ok_same : {X : Type 0} (a b : X) → (let r : Result X BadLine = Ok a in r) ≡ Ok b → a ≡ b
+pub ok_same : {X : Type 0} (a b : X) → (let r : Result X BadLine = Ok a in r) ≡ Ok b → a ≡ b
 ok_same a b h = cc
 
 -- ---- an item of the callers' session
@@ -154,15 +155,19 @@ record Fits (long : ℕ) (word : List ℕ) (arguments : List (List ℕ)) : Type 
   few : cost (word ∷ arguments) ≤ long
 
 -- words that are put in the place of others
-ports_word : IsWord (codes "ports")
+pub ports_word : IsWord (codes "ports")
 ports_word = record { some = refl; no_blank = (refl, (refl, (refl, (refl, (refl, tt))))); no_newline = (refl, (refl, (refl, (refl, (refl, tt))))) }
 
-header_word : IsWord (codes "tty-session")
+pub header_word : IsWord (codes "tty-session")
 header_word = record {
   some = refl;
   no_blank = (refl, (refl, (refl, (refl, (refl, (refl, (refl, (refl, (refl, (refl, (refl, tt)))))))))));
   no_newline = (refl, (refl, (refl, (refl, (refl, (refl, (refl, (refl, (refl, (refl, (refl, tt)))))))))));
 }
+
+pub unless_none : (n : ℕ) (fault : Option Reason) (k next : PlainVtReading) → unless n fault k ≡ Ok next → (fault ≡ None) × (k ≡ next)
+unless_none n None k next h = (refl, ok_same k next h)
+unless_none n (Some why) k next h = absurd (cc)
 
 -- of a line that is so long
 module _ (long : ℕ) where
@@ -300,10 +305,6 @@ module _ (long : ℕ) where
       (λ session good. let what = end_stays r.session n arguments session past good in (omega (arith, what.0), what.1)) h
 
   -- ---- items of the keyboard and of operators
-
-  unless_none : (n : ℕ) (fault : Option Reason) (k next : PlainVtReading) → unless n fault k ≡ Ok next → (fault ≡ None) × (k ≡ next)
-  unless_none n None k next h = (refl, ok_same k next h)
-  unless_none n (Some why) k next h = absurd (cc)
 
   -- the last test, where nothing is wrong
   last_fits : (at_place has_arguments : Bool) (argument late : Option Reason) → fault_by at_place has_arguments argument late ≡ None → late ≡ None

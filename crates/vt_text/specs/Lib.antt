@@ -5,3 +5,4 @@ pub mod Reading
 pub mod Views
 pub mod Rows
 pub mod Limits
+pub mod Left

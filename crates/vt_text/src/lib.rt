@@ -13,7 +13,7 @@ mod verbs;
 
 pub use laws::{
     a_worked_text_is_read, sessions_that_are_read_are_within_limits,
-    worked_texts_are_refused_at_their_lines,
+    what_is_left_is_the_callers_session, worked_texts_are_refused_at_their_lines,
 };
 pub use reader::parse_vt;
 pub use sessions::{OpCall, OpScript, VtPhase, VtSession};
