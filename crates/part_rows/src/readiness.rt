@@ -9,8 +9,5 @@ fn is_ready(unread: u32, now: u64) -> bool {
 
 #[test]
 fn three_bytes_or_half_a_second(rt: HostRuntime) {
-    assert_eq!(rt;
-        [is_ready(2, 16), is_ready(2, 17), is_ready(3, 12)],
-        [false, true, true]
-    );
+    assert!(rt; !is_ready(2, 16) && is_ready(2, 17) && is_ready(3, 12));
 }
