@@ -1,0 +1,11 @@
+use Rattle.std.proofs.Common.{take}
+use Rattle.line_steps.specs.Steps.{steps_in}
+use Rattle.one_thread.specs.LineInside.{PlaysSteps}
+use Rattle.job_one.specs.Along.{SendsAlong}
+use Rattle.job_one.proofs.line.play_steps.Given as goal
+
+abbrev pub invariant-loop-part : goal.invariant-loop-part
+invariant-loop-part l = record {
+  plays : PlaysSteps (steps_in (take l.part-index l.part-items)) l.fn.port l.port l.fn.putter l.putter l.fn.line l.line l.run l.next;
+  sends : SendsAlong l.fn.port l.port l.fn.desk l.desk;
+}

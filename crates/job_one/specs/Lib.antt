@@ -1,0 +1,14 @@
+pub mod Passed
+pub mod Filled
+pub mod Witness
+pub mod Later
+pub mod Played
+pub mod Latest
+pub mod Ordered
+pub mod Desk
+pub mod Playing
+pub mod Events
+pub mod Along
+pub mod Between
+pub mod Frames
+pub mod Controls

@@ -1,0 +1,101 @@
+-- What playing a session of processes comes to.
+use Rattle.std.specs.Prelude.{◌≡◌, ◌≢◌, ◌<◌, ◌+◌, ◌==◌, ℕ, List, [], ◌∷◌, ◌++◌, Bool, false, Some, if◌then◌else◌, length, flat_map, slice_get, sum, option_map, unwrap_or}
+use Rattle.std.specs.List.{range_with_len}
+use Rattle.tty_calls.specs.declared.answers.PortEnd.{PortEnd}
+use Rattle.tty_calls.specs.declared.journals.PortRun.{PortRun}
+use Rattle.tty_calls.specs.Plain.{PlainEntry}
+use Rattle.tty_calls.specs.Sessions.{PlainSession, call_at, counts_on}
+use Rattle.tty_terminal.specs.Terminals.{opening}
+use Rattle.tty_terminal.specs.Standing.{Standing, standing_in, at_first}
+use Rattle.journal_check.specs.Legal.{flip_on}
+use Rattle.one_thread.specs.Played.{IsPlayedOn, IsRunInOrder}
+use Rattle.passed_calls.specs.Blocks.{names_on}
+use Rattle.passed_calls.specs.Logs.{logged_on}
+use Rattle.passed_calls.specs.Derived.{Passing, passed_phases}
+use Rattle.job_text.specs.Events.{JobEvent, own, passed, passed_down, sent, JobLog, events_on}
+use Rattle.job_text.specs.Sessions.{JobsSession, blocks_in}
+use Rattle.job_steps.specs.Derived.{block_phases, job_call_at, plain_call, passings_on, derived}
+use Rattle.job_steps.specs.Steps.{Port, JobsState, first_state, next_of, names_of_port, Leads, IsJobsRun}
+use Rattle.job_steps.specs.Order.{AreEventsInTurn}
+use Rattle.job_one.specs.Passed.{steps_named}
+
+-- ---- the session that was played, also where a journal is full
+
+-- how many of a caller's calls were answered
+abbrev pub is_answer_to : ℕ → JobEvent → Bool
+is_answer_to c (own d step answer) = d == c
+is_answer_to c (passed d step answer) = d == c
+is_answer_to c (passed_down d h) = false
+is_answer_to c (sent signal target) = false
+
+abbrev pub answered_by : ℕ → List JobEvent → ℕ
+answered_by c events = sum (flat_map (λ e. if is_answer_to c e then 1 ∷ [] else []) events)
+
+-- the call of a caller that the port has begun and not answered
+abbrev pub begun_by : JobsSession → JobLog → (p c : ℕ) → Standing → List Passing
+begun_by session log p c q =
+    if q.begun
+    then record { caller = c; step = answered_by c (events_on p log); calls = plain_call (job_call_at p session c (answered_by c (events_on p log))) } ∷ []
+    else []
+
+abbrev pub begun_in : JobsSession → JobLog → (p : ℕ) → List PlainEntry → List Passing
+begun_in session log p journal =
+    flat_map (λ c. begun_by session log p c (standing_in c journal at_first)) (range_with_len 0 (length (names_on p (blocks_in session))))
+
+-- the entries of a port
+abbrev pub journal_on : List PortRun → ℕ → List PlainEntry
+journal_on runs p = unwrap_or (option_map (λ run. run.journal.items) (slice_get runs p)) []
+
+-- with the calls that the ports had begun and not answered, behind each caller's others
+abbrev pub derived_with : JobsSession → JobLog → List PortRun → PlainSession
+derived_with session log runs = record {
+  version = session.version;
+  ports = session.ports;
+  flips = session.flips;
+  phases = passed_phases (λ p. passings_on session log p ++ begun_in session log p (journal_on runs p)) (block_phases session);
+}
+
+-- ---- a port that was played
+
+-- a port of a session, in the session that was played
+abbrev pub port_in : JobsSession → PlainSession → ℕ → List PlainEntry → Port
+port_in session played p journal = record {
+  number = p;
+  session = session;
+  journal = record {
+    entries = journal;
+    calls = call_at p played;
+    opening = opening (sum (counts_on p played)) (flip_on p played);
+  };
+}
+
+-- its log is a run as far as it went, with each event in its turn
+pub record IsLogged (played : PlainSession) (port : Port) (log : JobLog) : Type 0 where
+  pub last : JobsState
+  pub leads : Leads port (first_state port) (logged_on port.number log) last
+  pub in_turn : AreEventsInTurn played port (first_state port) (logged_on port.number log)
+
+-- .. and the whole one, in which each call of each caller was answered
+pub record IsLoggedWhole (port : Port) (log : JobLog) : Type 0 where
+  pub run : IsJobsRun port log
+  pub answered : (c : ℕ) → c < length (names_of_port port)
+      → next_of run.last c ≡ steps_named port.number (blocks_in port.session) (slice_get (names_of_port port) c)
+
+-- its run is one of the session that was played, in the order of one thread, and legal unless its journal is full
+pub record IsJobPlayedOn (p : ℕ) (session : JobsSession) (played : PlainSession) (log : JobLog) (run : PortRun) (end : PortEnd) : Type 0 where
+  pub played_on : IsPlayedOn p played run end
+  pub in_order : IsRunInOrder p played run
+  pub logged : IsLogged played (port_in session played p run.journal.items) log
+  pub whole : length run.journal.items ≢ 4194304 → IsLoggedWhole (port_in session played p run.journal.items) log
+
+-- no journal is full
+abbrev pub AreNotFull : List PortRun → Type 0
+AreNotFull runs = (p : ℕ) (run : PortRun) → slice_get runs p ≡ Some run → length run.journal.items ≢ 4194304
+
+-- each port of a session of processes was played, and this is the session that they were played
+pub record AreJobsPlayed (session : JobsSession) (log : JobLog) (runs : List PortRun) (ends : List PortEnd) (played : PlainSession) : Type 0 where
+  pub runs_of_all : length runs ≡ session.ports
+  pub ends_of_all : length ends ≡ session.ports
+  pub is_played : played ≡ derived_with session log runs
+  pub is_derived : AreNotFull runs → played ≡ derived session log
+  pub each : (p : ℕ) (run : PortRun) (end : PortEnd) → slice_get runs p ≡ Some run → slice_get ends p ≡ Some end → IsJobPlayedOn p session played log run end

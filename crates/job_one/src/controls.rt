@@ -1,0 +1,125 @@
+//! The calls of job control: what each is answered, and what is due then.
+
+ghost use Rattle.std.specs.Prelude.{◌≡◌, ◌<◌, ℕ, Option, length};
+ghost use Rattle.tty_terminal.specs.Terminals.{handle_at};
+ghost use Rattle.job_control.specs.Control.{JobState, after_sctty, sctty_refusal, no_terminal, after_notty, gpgrp_answer, after_spgrp, spgrp_refusal, after_exit};
+ghost use Rattle.job_control.specs.declared.answers.JobAnswer.TheVariants as told;
+ghost use Rattle.job_steps.specs.Steps.{Outcome, done_or, number_or, refusal_answer, foreground_target, notty_due, through};
+ghost use Rattle.job_one.specs.Controls.{due_events, ended_due, told_by, refused_or};
+
+use job_control::{JobAnswer, JobRefusal, JobSignal, Jobs, Target};
+use port_core::Port;
+use tty_base::Errno;
+
+/// What is due behind a call.
+#[derive(Clone, Copy)]
+pub enum Due {
+    Nothing,
+    /// A signal to this target.
+    Signal(JobSignal, Target),
+    /// HUP and CONT to this target.
+    Left(Target),
+    /// HUP to this target, and a hangup through the least live handle.
+    Ended(Target),
+}
+
+fn refused(refusal: JobRefusal) -> JobAnswer
+    ensures { result ≡ refusal_answer refusal }
+{
+    match refusal {
+        JobRefusal::EPERM => JobAnswer::NotPermitted,
+        JobRefusal::ENOTTY => JobAnswer::Refused(Errno::ENOTTY),
+    }
+}
+
+fn told_as(tried: Result<(), JobRefusal>) -> JobAnswer
+    ensures { result ≡ told_by tried }
+{
+    match tried {
+        Ok(()) => JobAnswer::Done,
+        Err(refusal) => refused(refusal),
+    }
+}
+
+/// The group in the foreground, as a target.
+pub fn foreground(jobs: &Jobs) -> Target
+    ensures { result ≡ foreground_target jobs.now }
+{
+    match jobs.foreground() {
+        Some(group) => Target::Group(group),
+        None => Target::Nobody,
+    }
+}
+
+/// Why a call through a handle is refused: there is none, or it is dead.
+pub fn refusal_through(port: &Port, h: u8, dead: Errno) -> Option<JobAnswer>
+    ensures { (jobs : JobState) (outcome : Outcome) → through jobs (handle_at port.now.terminal h) (told.Refused dead) outcome ≡ refused_or jobs result outcome }
+{
+    match port.handle(h) {
+        None => Some(JobAnswer::Refused(Errno::EBADF)),
+        Some(handle) if !handle.live => Some(JobAnswer::Refused(dead)),
+        Some(_) => None,
+    }
+}
+
+/// A process makes the port its controlling terminal.
+pub fn sctty(jobs: &mut Jobs, proc: u16) -> JobAnswer
+    ensures answer { result ≡ done_or (sctty_refusal jobs.old proc) }
+    ensures left { jobs.new ≡ after_sctty jobs.old proc }
+{
+    told_as(jobs.sctty(proc))
+}
+
+/// A process gives up its controlling terminal.
+pub fn notty(jobs: &mut Jobs, proc: u16) -> (JobAnswer, Due)
+    requires { proc < length jobs.old.procs }
+    ensures answer { result.0 ≡ done_or (no_terminal jobs.old proc) }
+    ensures left { jobs.new ≡ after_notty jobs.old proc }
+    ensures due { (c : ℕ) (least : Option ℕ) → due_events result.1 c least ≡ notty_due jobs.old proc }
+{
+    let due = due_at_notty(jobs, proc);
+    (told_as(jobs.notty(proc)), due)
+}
+
+fn due_at_notty(jobs: &Jobs, proc: u16) -> Due
+    ensures { (c : ℕ) (least : Option ℕ) → due_events result c least ≡ notty_due jobs.now proc }
+{
+    if jobs.leads(proc) && jobs.controls(proc) {
+        Due::Left(foreground(jobs))
+    } else {
+        Due::Nothing
+    }
+}
+
+/// The group in the foreground, as a process is told it.
+pub fn gpgrp(jobs: &Jobs, proc: u16) -> JobAnswer
+    ensures { result ≡ number_or (gpgrp_answer jobs.now proc) }
+{
+    match jobs.gpgrp(proc) {
+        Ok(group) => JobAnswer::Number(u32::from(group)),
+        Err(refusal) => refused(refusal),
+    }
+}
+
+/// A process puts a group into the foreground, once the background check has let it go on.
+pub fn spgrp(jobs: &mut Jobs, proc: u16, group: u16) -> JobAnswer
+    ensures answer { result ≡ done_or (spgrp_refusal jobs.old proc group) }
+    ensures left { jobs.new ≡ after_spgrp jobs.old proc group }
+{
+    told_as(jobs.spgrp(proc, group))
+}
+
+/// A process ends.
+pub fn exit(jobs: &mut Jobs, proc: u16) -> Due
+    requires { proc < length jobs.old.procs }
+    ensures left { jobs.new ≡ after_exit jobs.old proc }
+    ensures due { (c : ℕ) (least : Option ℕ) → due_events result c least ≡ ended_due jobs.old proc c least }
+{
+    let due = if jobs.leads(proc) {
+        Due::Ended(foreground(jobs))
+    } else {
+        Due::Nothing
+    };
+    jobs.exit(proc);
+    due
+}

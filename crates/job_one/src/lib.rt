@@ -1,0 +1,38 @@
+//! A player of sessions of processes on one thread.
+#![tactic(auto)]
+
+mod acts;
+mod controls;
+mod desk_laws;
+mod desks;
+mod laws;
+mod line;
+mod logs;
+mod orders;
+mod players;
+mod turns;
+
+pub use acts::{
+    calls_are_played, calls_end, phases_begin_to_be_played, phases_end, turns_are_played,
+};
+pub use controls::{Due, exit, foreground, gpgrp, notty, refusal_through, sctty, spgrp};
+pub use desk_laws::{
+    calls_begin_by_their_entries, desks_follow_their_ports, desks_go_along_with_lines,
+    new_signals_are_sent_on, signals_come_of_flushes,
+};
+pub use desks::Desk;
+pub use laws::{
+    a_passing_more_agrees, a_port_opens_with_nothing_passed, callers_keep_their_steps,
+    callers_make_what_they_pass, roles_are_cast_for_each, sessions_of_blocks_have_one_shape,
+    what_is_passed_goes_on, what_is_passed_last_is_next, what_is_whole_is_derived,
+};
+pub use line::play_line;
+pub use logs::{
+    a_call_begins_at_its_first_entry, calls_have_gone_on, logs_grow, what_came_before_stays,
+};
+pub use orders::{events_come_in_turn, passings_follow_the_log};
+pub use players::{
+    phases_of_processes_are_played, players_answer_calls, players_hang_up_for_processes,
+    players_pass_calls_down, players_send_signals_on, players_take_their_turns,
+};
+pub use turns::{take_call, take_flush, take_stop};
