@@ -9,21 +9,21 @@ use Rattle.uart_line.specs.LineState.{LineState}
 use Rattle.word_ring.specs.Ends.{PutterState}
 use Rattle.vt_threads.specs.Keying.{ChangesUpTo, ChangesAt, ChangesAll}
 
-set_apart : {A : Type 0} (xs : List A) (i p : ℕ) (x : A) → p ≢ i → slice_get (slice_set xs i x) p ≡ slice_get xs p
+pub set_apart : {A : Type 0} (xs : List A) (i p : ℕ) (x : A) → p ≢ i → slice_get (slice_set xs i x) p ≡ slice_get xs p
 set_apart [] i p x ne = refl
 set_apart (y ∷ ys) zero zero x ne = absurd (ne refl)
 set_apart (y ∷ ys) zero (suc p) x ne = refl
 set_apart (y ∷ ys) (suc i) zero x ne = refl
 set_apart (y ∷ ys) (suc i) (suc p) x ne = set_apart ys i p x (λ e. ne (ap suc e))
 
-at_place : {A : Type 0} (xs ys : List A) (i : ℕ) (x y : A) → i < length xs → ys ≡ slice_set xs i x → slice_get ys i ≡ Some y → y ≡ x
+pub at_place : {A : Type 0} (xs ys : List A) (i : ℕ) (x y : A) → i < length xs → ys ≡ slice_set xs i x → slice_get ys i ≡ Some y → y ≡ x
 at_place {A} xs ys i x y lt is at = sym (get_or_from_slice_get (slice_set xs i x) i y x (subst (λ (l : List A). slice_get l i ≡ Some y) is at)) ∙ get_or-set_same xs i x x lt
 
-was_at : {A : Type 0} (xs : List A) (i : ℕ) (x y : A) → x ≡ slice_index_or xs i x → slice_get xs i ≡ Some y → y ≡ x
+pub was_at : {A : Type 0} (xs : List A) (i : ℕ) (x y : A) → x ≡ slice_index_or xs i x → slice_get xs i ≡ Some y → y ≡ x
 was_at xs i x y h k = sym (get_or_from_slice_get xs i y x k) ∙ sym h
 
 -- the one that stands at a place
-stands_at : {A : Type 0} (xs : List A) (i : ℕ) (x : A) → i < length xs → x ≡ slice_index_or xs i x → slice_get xs i ≡ Some x
+pub stands_at : {A : Type 0} (xs : List A) (i : ℕ) (x : A) → i < length xs → x ≡ slice_index_or xs i x → slice_get xs i ≡ Some x
 stands_at {A} xs i x lt h = slice_get-get_or xs i x lt ∙ ap (λ (y : A). Some y) (sym h)
 
 module _ (P : LineState → LineState → PutterState Flagged → PutterState Flagged → Type 0) where

@@ -7,9 +7,13 @@ ghost use Rattle.uart_line.specs.GoodSteps.{good_steps};
 ghost use Rattle.uart_line.specs.LineState.{LineState};
 ghost use Rattle.uart_line.specs.Received.{closed_script};
 ghost use Rattle.word_ring.specs.Ends.{PutterState};
-ghost use Rattle.tty_calls.specs.Sessions.{line_on};
+ghost use Rattle.tty_calls.specs.Sessions.{PlainSession, line_on};
 ghost use Rattle.journal_check.specs.Legal.{phase_at};
+ghost use Rattle.one_thread.specs.Roles.{PlainRole, AreFirstSteps, AreRolesOf};
+ghost use Rattle.port_cell.specs.declared.kept.Stamped.{Stamped};
+ghost use Rattle.port_cell.specs.Entries.{Each};
 ghost use Rattle.vt_consoles.specs.declared.entries.VtEntry.{VtEntry};
+ghost use Rattle.vt_consoles.specs.declared.entries.VtEvent.{VtEvent};
 ghost use Rattle.vt_consoles.specs.Boards.{BoardState, IsBoard};
 ghost use Rattle.vt_text.specs.Sessions.{PlainVtPhase, PlainVtSession};
 ghost use Rattle.vt_account.specs.Seats.{operator_names};
@@ -17,6 +21,8 @@ ghost use Rattle.vt_account.specs.Account.{IsAccount, IsPartOf};
 ghost use Rattle.vt_account.specs.Keyed.{IsWhole, all_keys, consoles_in, key_line, keyed, keys_to};
 ghost use Rattle.vt_threads.specs.Keying.{DoesSteps};
 ghost use Rattle.vt_threads.specs.Phases.{PhaseMade, AddsPart, HasPartsUpTo};
+ghost use Rattle.vt_threads.specs.Openings.{DifferInLines};
+ghost use Rattle.vt_threads.specs.Counting.{count_below};
 
 /// A law: where each seat of a board made what a phase has for it, and nobody else made an entry, the board has the
 /// entries of that phase more, in whatever order the seats made them.
@@ -50,4 +56,24 @@ pub fn keys_are_a_line()
     ensures { (keys : List ℕ) (l m k j : LineState) (e f g h : PutterState Flagged)
         → DoesSteps (Trigger 1 ∷ []) l m e f → DoesSteps (good_steps keys) m k f g → DoesSteps (closed_script []) k j g h
         → DoesSteps (closed_script (key_line keys)) l j e h }
+{}
+
+/// A law: the session that consoles play differs from the session's own in what comes on its lines alone, whatever
+/// entries the board has.
+pub fn keyed_sessions_differ_in_lines()
+    ensures { (session : PlainVtSession) (entries : List VtEntry) → IsWhole session → DifferInLines (keyed session entries) session.calls }
+{}
+
+/// A law: where sessions differ in their lines alone, the callers of a port have the same roles and the same first
+/// steps.
+pub fn callers_are_the_same()
+    ensures roles { (x y : PlainSession) (p k : ℕ) (rs : List PlainRole) → DifferInLines x y
+        → AreRolesOf (record { port = p; session = y }) k rs → AreRolesOf (record { port = p; session = x }) k rs }
+    ensures steps { (x y : PlainSession) (p k : ℕ) (steps : List ℕ) → DifferInLines x y
+        → AreFirstSteps (record { port = p; session = y }) k steps → AreFirstSteps (record { port = p; session = x }) k steps }
+{}
+
+/// A law: a history in which only seats below a number made entries has as many as these seats made, seat by seat.
+pub fn entries_are_counted_by_seat()
+    ensures { (n : ℕ) (xs : List (Stamped VtEvent)) → Each (λ k. k < n) xs → count_below n xs ≡ length xs }
 {}
