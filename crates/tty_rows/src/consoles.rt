@@ -5,9 +5,6 @@ use super::texts::written_out;
 use super::three_bytes::SESSION;
 use super::told::told_of;
 use std::alloc::{AllocError, Global};
-use std::test::Fail;
-
-const VT: [&str; 2] = ["vt", "--one"];
 
 /// Keys go to the console that is active, which an operator changes.
 const KEYS_FOLLOW: Row = Row {
@@ -75,21 +72,14 @@ done
 
 /// Whether this is told of a text, with this status.
 fn is_told(alloc: Global, text: &str, status: u8, told: &str) -> Result<bool, AllocError> {
-    let text = written_out(alloc, text)?;
-    let ended = told_of(alloc, &VT, text)?;
+    let ended = told_of(alloc, &["vt", "--one"], written_out(alloc, text)?)?;
     Ok(ended.status == status && ended.text.as_slice() == told.as_bytes())
 }
 
 #[test]
-fn sessions_of_consoles_are_told(rt: HostRuntime) -> Result<(), Fail> {
+fn sessions_of_consoles_are_told_and_one_of_ports_is_none(rt: HostRuntime) {
     for row in [KEYS_FOLLOW, ROWS_SCROLL] {
         assert!(rt; is_told(rt.alloc(), row.session, 0, row.report) == Ok(true));
     }
-    Ok(())
-}
-
-#[test]
-fn a_session_of_ports_is_none_of_consoles(rt: HostRuntime) -> Result<(), Fail> {
     assert!(rt; is_told(rt.alloc(), SESSION, 1, "bad session line 1: header\n") == Ok(true));
-    Ok(())
 }

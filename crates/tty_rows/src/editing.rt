@@ -1,7 +1,6 @@
 //! Canonical input: editing, echo, and ends of pieces.
 
-use super::rows::{Row, plays};
-use std::test::Fail;
+use super::rows::Row;
 
 /// ERASE takes a byte back, and CR ends the line as NL.
 const ERASE_AND_CARRIAGE_RETURN: Row = Row {
@@ -102,8 +101,4 @@ done
 ",
 };
 
-#[test]
-fn input_is_edited(rt: HostRuntime) -> Result<(), Fail> {
-    let rows = [ERASE_AND_CARRIAGE_RETURN, LONG_LINE_CUT, UTF8_ERASE];
-    plays(&rt, rt.alloc(), &["run", "--one"], &rows)
-}
+pub(crate) const ROWS: [Row; 3] = [ERASE_AND_CARRIAGE_RETURN, LONG_LINE_CUT, UTF8_ERASE];

@@ -1,10 +1,8 @@
 //! The journal of three bytes with one field of an entry altered, and with two entries exchanged.
 
 use super::three_bytes::{JOURNALS, SESSION};
-use super::told::{Told, told_of};
+use super::told::told_of;
 use std::alloc::{AllocError, Global};
-use std::process::Abort;
-use std::test::Fail;
 
 /// The lines of the journal before its first entry, and the number of entries.
 const BEFORE: usize = 2;
@@ -12,29 +10,28 @@ const BEFORE: usize = 2;
 const ENTRIES: usize = 14;
 
 /// Whose an entry may be said to be; one of them has no calls.
-const OTHERS: [&str; 6] = ["a", "b", "*flush", "*line", "*clock", "*session"];
+const OTHERS: &str = "a
+b
+*flush
+*line
+*clock
+*session";
 
 /// What may be said to have happened.
-const KINDS: [&str; 14] = [
-    "answer ok",
-    "answer idle",
-    "answer EIO",
-    "part 1",
-    "wait",
-    "flush -",
-    "flush n68",
-    "tick",
-    "line_end 0",
-    "line_end 3",
-    "clock_end",
-    "caller_end",
-    "phase_end",
-    "hangup -",
-];
-
-/// The entries that may change places: the ends of line, clock and caller of a phase are in no order, and a
-/// line may end before its characters are flushed and after they are read.
-const FREE: [(usize, usize); 6] = [(0, 1), (0, 4), (3, 4), (6, 7), (7, 8), (10, 11)];
+const KINDS: &str = "answer ok
+answer idle
+answer EIO
+part 1
+wait
+flush -
+flush n68
+tick
+line_end 0
+line_end 3
+clock_end
+caller_end
+phase_end
+hangup -";
 
 /// The fields of an entry.
 #[derive(Clone, Copy)]
@@ -71,80 +68,116 @@ fn next_of(digit: &str) -> &'static str {
     }
 }
 
-/// The text with this entry at a place.
-fn with_entry(alloc: Global, place: usize, entry: Fields) -> Result<Vec<u8>, AllocError> {
-    let mut text = String::new(alloc);
+/// Adds a line to a text.
+fn put_line(text: &mut String, line: &str) -> Result<(), AllocError> {
+    text.push_str(line)?;
+    text.push('\n')
+}
+
+fn put_entry(text: &mut String, entry: Fields) -> Result<(), AllocError> {
+    let Fields {
+        who,
+        step,
+        part,
+        generation,
+        kind,
+    } = entry;
+    write!(text, "{who} {step} {part} {generation} {kind}\n")
+}
+
+/// Adds the session and its journal, with this entry at a place.
+fn put_with_entry(text: &mut String, place: usize, entry: Fields) -> Result<(), AllocError> {
     text.push_str(SESSION)?;
     for (number, line) in JOURNALS.lines().enumerate() {
         if number == BEFORE.saturating_add(place) {
-            let Fields {
-                who,
-                step,
-                part,
-                generation,
-                kind,
-            } = entry;
-            write!(text, "{who} {step} {part} {generation} {kind}\n")?;
+            put_entry(text, entry)?;
         } else {
-            write!(text, "{line}\n")?;
+            put_line(text, line)?;
         }
     }
-    Ok(text.into_bytes())
+    Ok(())
 }
 
-/// A text with such an entry is refused, or not legal.
-fn is_not_legal(rt: &impl Abort, alloc: Global, place: usize, entry: Fields) -> Result<(), Fail> {
-    let Told { status, .. } = told_of(alloc, &["check"], with_entry(alloc, place, entry)?)?;
-    let Fields { who, kind, .. } = entry;
-    assert!(rt;
-        status == 1 || status == 7,
-        "entry {place} as {who} .. {kind}"
-    );
-    Ok(())
+/// With which status a text ends.
+fn status_of(alloc: Global, text: String) -> Result<u8, AllocError> {
+    let told = told_of(alloc, &["check"], text.into_bytes())?;
+    Ok(told.status)
+}
+
+/// Whether a text with such an entry is refused, or not legal.
+fn is_wrong(alloc: Global, place: usize, entry: Fields) -> Result<bool, AllocError> {
+    let mut text = String::new(alloc);
+    put_with_entry(&mut text, place, entry)?;
+    let status = status_of(alloc, text)?;
+    Ok(status == 1 || status == 7)
+}
+
+/// Whether an entry that another is said to have made, or of another kind, is wrong at a place.
+fn others_are_wrong(alloc: Global, place: usize, entry: Fields) -> Result<bool, AllocError> {
+    for who in OTHERS.lines() {
+        if who != entry.who && !is_wrong(alloc, place, Fields { who, ..entry })? {
+            return Ok(false);
+        }
+    }
+    for kind in KINDS.lines() {
+        if kind != entry.kind && !is_wrong(alloc, place, Fields { kind, ..entry })? {
+            return Ok(false);
+        }
+    }
+    Ok(true)
+}
+
+/// Whether an entry that has the next number in a field is wrong at a place.
+fn next_are_wrong(alloc: Global, place: usize, entry: Fields) -> Result<bool, AllocError> {
+    let step = next_of(entry.step);
+    let part = next_of(entry.part);
+    let generation = next_of(entry.generation);
+    let step = is_wrong(alloc, place, Fields { step, ..entry })?;
+    let part = is_wrong(alloc, place, Fields { part, ..entry })?;
+    let generation = Fields {
+        generation,
+        ..entry
+    };
+    Ok(step && part && is_wrong(alloc, place, generation)?)
+}
+
+/// Whether the entry in this line is wrong once a field is altered.
+fn is_wrong_altered(alloc: Global, place: usize, line: &str) -> Result<bool, AllocError> {
+    match fields_of(line) {
+        Some(entry) => {
+            Ok(others_are_wrong(alloc, place, entry)? && next_are_wrong(alloc, place, entry)?)
+        }
+        None => Ok(false),
+    }
 }
 
 #[test]
-fn each_altered_entry_is_not_legal(rt: HostRuntime) -> Result<(), Fail> {
-    let alloc = rt.alloc();
+fn each_altered_entry_is_not_legal(rt: HostRuntime) {
+    let mut entries = 0;
     for (place, line) in JOURNALS.lines().skip(BEFORE).take(ENTRIES).enumerate() {
-        let entry = fields_of(line).expect(&rt, "an entry has five fields");
-        for who in OTHERS {
-            if who != entry.who {
-                is_not_legal(&rt, alloc, place, Fields { who, ..entry })?;
-            }
-        }
-        for kind in KINDS {
-            if kind != entry.kind {
-                is_not_legal(&rt, alloc, place, Fields { kind, ..entry })?;
-            }
-        }
-        let step = next_of(entry.step);
-        is_not_legal(&rt, alloc, place, Fields { step, ..entry })?;
-        let part = next_of(entry.part);
-        is_not_legal(&rt, alloc, place, Fields { part, ..entry })?;
-        let generation = next_of(entry.generation);
-        is_not_legal(
-            &rt,
-            alloc,
-            place,
-            Fields {
-                generation,
-                ..entry
-            },
-        )?;
+        let wrong = is_wrong_altered(rt.alloc(), place, line);
+        assert!(rt; wrong == Ok(true), "at {line}");
+        entries = place;
     }
-    Ok(())
+    assert!(rt; entries == 13);
 }
 
-/// The text with two entries exchanged.
-fn with_exchange(alloc: Global, first: usize, second: usize) -> Result<Vec<u8>, AllocError> {
-    let mut lines: Vec<&str> = Vec::new(alloc);
-    for line in JOURNALS.lines() {
-        lines.push(line)?;
+/// Whether two entries may change places: the ends of line, clock and caller of a phase are in no order, and a line may
+/// end before its characters are flushed and after they are read.
+fn are_free(first: usize, second: usize) -> bool {
+    match (first, second) {
+        (0, 1) | (0, 4) | (3, 4) | (6, 7) | (7, 8) | (10, 11) => true,
+        _ => false,
     }
-    let first = BEFORE.saturating_add(first);
-    let second = BEFORE.saturating_add(second);
-    let mut text = String::new(alloc);
+}
+
+/// Adds the session and its journal, with two lines exchanged.
+fn put_with_exchange(
+    text: &mut String,
+    lines: &[&str],
+    first: usize,
+    second: usize,
+) -> Result<(), AllocError> {
     text.push_str(SESSION)?;
     for number in 0..lines.len() {
         let from = match number {
@@ -153,23 +186,45 @@ fn with_exchange(alloc: Global, first: usize, second: usize) -> Result<Vec<u8>, 
             _ => number,
         };
         if let Some(line) = lines.get(from) {
-            write!(text, "{line}\n")?;
-        }
-    }
-    Ok(text.into_bytes())
-}
-
-#[test]
-fn exchanged_entries_are_legal_where_they_are_free(rt: HostRuntime) -> Result<(), Fail> {
-    let alloc = rt.alloc();
-    for first in 0..ENTRIES {
-        for second in first + 1..ENTRIES {
-            let free = FREE.iter().any(|pair| *pair == (first, second));
-            let wanted = if free { 0 } else { 7 };
-            let text = with_exchange(alloc, first, second)?;
-            let Told { status, .. } = told_of(alloc, &["check"], text)?;
-            assert_eq!(rt; status, wanted, "entries {first} and {second}");
+            put_line(text, line)?;
         }
     }
     Ok(())
+}
+
+/// With which status the text with two entries exchanged ends.
+fn status_exchanged(
+    alloc: Global,
+    lines: &[&str],
+    first: usize,
+    second: usize,
+) -> Result<u8, AllocError> {
+    let mut text = String::new(alloc);
+    let (first, second) = (BEFORE.saturating_add(first), BEFORE.saturating_add(second));
+    put_with_exchange(&mut text, lines, first, second)?;
+    status_of(alloc, text)
+}
+
+/// The first two entries that are exchanged and judged otherwise than they are to be.
+fn first_other(alloc: Global, lines: &[&str]) -> Result<Option<(usize, usize)>, AllocError> {
+    for first in 0..ENTRIES {
+        for second in first + 1..ENTRIES {
+            let wanted = if are_free(first, second) { 0 } else { 7 };
+            if status_exchanged(alloc, lines, first, second)? != wanted {
+                return Ok(Some((first, second)));
+            }
+        }
+    }
+    Ok(None)
+}
+
+#[test]
+fn exchanged_entries_are_legal_where_they_are_free(rt: HostRuntime) {
+    let mut lines = Vec::new(rt.alloc());
+    for line in JOURNALS.lines() {
+        let _added = lines.push(line);
+    }
+    let (count, other) = (lines.len(), first_other(rt.alloc(), lines.as_slice()));
+    drop(lines);
+    assert!(rt; count == 19 && other == Ok(None));
 }

@@ -1,7 +1,6 @@
 //! Sessions that are told with their journals.
 
-use super::rows::{Row, plays};
-use std::test::Fail;
+use super::rows::Row;
 
 /// The overrun is shown at 4,096 characters of which none was taken.
 const ONE_OVERRUN: Row = Row {
@@ -65,9 +64,4 @@ done
 ",
 };
 
-#[test]
-fn journals_are_told_where_they_are_asked_for(rt: HostRuntime) -> Result<(), Fail> {
-    let rows = [ONE_OVERRUN, NOTHING_COMES];
-    plays(&rt, rt.alloc(), &["run", "--one", "--journal"], &rows)?;
-    plays(&rt, rt.alloc(), &["run", "--journal", "--one"], &rows)
-}
+pub(crate) const ROWS: [Row; 2] = [ONE_OVERRUN, NOTHING_COMES];

@@ -1,7 +1,6 @@
 //! Output processing, flow control and held output.
 
-use super::rows::{Row, plays};
-use std::test::Fail;
+use super::rows::Row;
 
 /// With opost TABs are blanks under tab3, and NL is CR NL under onlcr.
 pub(crate) const TABS_AND_NEWLINES: Row = Row {
@@ -219,15 +218,11 @@ done
 ",
 };
 
-#[test]
-fn output_is_processed_and_held(rt: HostRuntime) -> Result<(), Fail> {
-    let rows = [
-        TABS_AND_NEWLINES,
-        CARRIAGE_RETURNS,
-        UTF8_COLUMN,
-        HELD_OUTPUT,
-        STOP_IS_SENT,
-        SMALL_CALLS,
-    ];
-    plays(&rt, rt.alloc(), &["run", "--one"], &rows)
-}
+pub(crate) const ROWS: [Row; 6] = [
+    TABS_AND_NEWLINES,
+    CARRIAGE_RETURNS,
+    UTF8_COLUMN,
+    HELD_OUTPUT,
+    STOP_IS_SENT,
+    SMALL_CALLS,
+];

@@ -1,8 +1,7 @@
 //! What a line hands over, and what input modes make of it.
 
-use super::rows::{Row, plays};
+use super::rows::Row;
 use super::three_bytes::REPORT;
-use std::test::Fail;
 
 /// The line's phase ends before the caller's begins.
 pub(crate) const READ_A_PHASE_LATER: Row = Row {
@@ -303,16 +302,12 @@ done
 ",
 };
 
-#[test]
-fn a_line_is_received(rt: HostRuntime) -> Result<(), Fail> {
-    let rows = [
-        READ_A_PHASE_LATER,
-        EMPTY_SESSION,
-        LOST_IN_THE_FIFO,
-        RECEIVE_TIMEOUT,
-        BREAKS,
-        PARITY_ERRORS,
-        FLAGGED_UNDER_RAW,
-    ];
-    plays(&rt, rt.alloc(), &["run", "--one"], &rows)
-}
+pub(crate) const ROWS: [Row; 7] = [
+    READ_A_PHASE_LATER,
+    EMPTY_SESSION,
+    LOST_IN_THE_FIFO,
+    RECEIVE_TIMEOUT,
+    BREAKS,
+    PARITY_ERRORS,
+    FLAGGED_UNDER_RAW,
+];

@@ -1,12 +1,9 @@
 //! Words, texts, sources and sinks that end a call of the program early.
 
 use super::three_bytes::{REPORT, SESSION};
-use super::told::Told;
+use super::told::{Told, told_of, told_through};
 use std::alloc::{AllocError, Global};
-use std::process::Abort;
-use std::test::Fail;
 use tty_base::{Bytes, MemSink, MemSource};
-use tty_one::{Ran, tty_one};
 
 const ONE: [&str; 2] = ["run", "--one"];
 
@@ -17,7 +14,7 @@ const PIECE: usize = 8;
 const READS: u32 = 18;
 
 /// How often a sink is given a piece of the 284 bytes of the report.
-const WRITES: usize = 36;
+const WRITES: u32 = 36;
 
 /// How many bytes a sink takes in all: more than any text here has.
 const ROOM: usize = 65_536;
@@ -25,101 +22,126 @@ const ROOM: usize = 65_536;
 /// The longest text that is read.
 const LONGEST: usize = 4_194_304;
 
-fn source_of(alloc: Global, text: &[u8], fails: Vec<u32>) -> Result<MemSource, AllocError> {
-    let bytes = Bytes::from_vec(text.to_vec(alloc)?);
-    Ok(MemSource::new(bytes, PIECE, fails))
-}
+/// Words that are none of the program's.
+const OTHERS: [&[&str]; 9] = [
+    &[],
+    &["run", "--two"],
+    &["vt"],
+    &["run", "--one", "--one"],
+    &["run", "--journal", "--journal"],
+    &["gen"],
+    &["gen", "07"],
+    &["gen", "-1"],
+    &["gen", "4294967296"],
+];
 
-/// These words are told as bad words.
-fn are_bad(rt: &impl Abort, alloc: Global, words: &[&str]) -> Result<(), Fail> {
-    let mut source = source_of(alloc, SESSION.as_bytes(), Vec::new(alloc))?;
-    let mut sink = MemSink::new(alloc, PIECE, ROOM, Vec::new(alloc))?;
-    let Ran { status, .. } = tty_one(alloc, words, &mut source, &mut sink);
-    assert_eq!(rt; status, 2);
-    assert_eq!(rt; sink.given(), b"bad words\n".as_slice());
-    Ok(())
-}
-
-#[test]
-fn other_words_are_bad(rt: HostRuntime) -> Result<(), Fail> {
-    let alloc = rt.alloc();
-    are_bad(&rt, alloc, &[])?;
-    are_bad(&rt, alloc, &["run", "--two"])?;
-    are_bad(&rt, alloc, &["vt"])?;
-    are_bad(&rt, alloc, &["run", "--one", "--one"])?;
-    are_bad(&rt, alloc, &["run", "--journal", "--journal"])?;
-    are_bad(&rt, alloc, &["gen"])?;
-    are_bad(&rt, alloc, &["gen", "07"])?;
-    are_bad(&rt, alloc, &["gen", "-1"])?;
-    are_bad(&rt, alloc, &["gen", "4294967296"])
+/// Whether these words are told as bad words.
+fn are_bad(alloc: Global, words: &[&str]) -> Result<bool, AllocError> {
+    let told = told_of(alloc, words, SESSION.as_bytes().to_vec(alloc)?)?;
+    Ok(told.status == 2 && told.text.as_slice() == b"bad words\n".as_slice())
 }
 
 #[test]
-fn one_byte_more_than_the_longest_text_is_too_long(rt: HostRuntime) -> Result<(), Fail> {
-    let alloc = rt.alloc();
-    for (more, ended, told) in [
-        (0, 1, "bad session line 2: order\n"),
-        (1, 6, "session too long\n"),
-    ] {
-        let comment = vec![in alloc; b'#'; LONGEST + more]?;
-        let mut source = MemSource::new(Bytes::from_vec(comment), LONGEST, Vec::new(alloc));
-        let mut sink = MemSink::new(alloc, PIECE, ROOM, Vec::new(alloc))?;
-        let Ran { status, .. } = tty_one(alloc, &ONE, &mut source, &mut sink);
-        assert_eq!(rt; status, ended);
-        assert_eq!(rt; sink.given(), told.as_bytes());
+fn other_words_are_bad(rt: HostRuntime) {
+    for words in OTHERS {
+        assert!(rt; are_bad(rt.alloc(), words) == Ok(true), "{words:?}");
     }
-    Ok(())
 }
 
-/// What is told of three bytes where these reads and writes fail, and the sink has room for so many bytes.
-fn told_with(
+/// Whether a comment of so many bytes ends so.
+fn is_told_of_comment(
     alloc: Global,
-    reads: Vec<u32>,
-    writes: Vec<u32>,
-    room: usize,
-) -> Result<Told, AllocError> {
-    let mut source = source_of(alloc, SESSION.as_bytes(), reads)?;
-    let Ok(mut sink) = MemSink::new(alloc, PIECE, room, writes) else {
-        return Err(AllocError);
-    };
-    let Ran { status, .. } = tty_one(alloc, &ONE, &mut source, &mut sink);
-    let text = sink.given().to_vec(alloc)?;
-    Ok(Told { status, text })
+    length: usize,
+    status: u8,
+    told: &str,
+) -> Result<bool, AllocError> {
+    let ended = told_of(alloc, &ONE, vec![in alloc; b'#'; length]?)?;
+    Ok(ended.status == status && ended.text.as_slice() == told.as_bytes())
 }
 
 #[test]
-fn a_source_that_fails_is_told_at_each_read(rt: HostRuntime) -> Result<(), Fail> {
-    let alloc = rt.alloc();
-    for read in 0..=READS {
-        let fails = vec![in alloc; read]?;
-        let Told { status, text } = told_with(alloc, fails, Vec::new(alloc), ROOM)?;
-        // The last of these reads is not made.
-        let (ended, told) = if read < READS {
-            (3, "read fault\n")
-        } else {
-            (0, REPORT)
-        };
-        assert_eq!(rt; status, ended, "at read {read}");
-        assert_eq!(rt; text.as_slice(), told.as_bytes(), "at read {read}");
+fn one_byte_more_than_the_longest_text_is_too_long(rt: HostRuntime) {
+    let longest = is_told_of_comment(rt.alloc(), LONGEST, 1, "bad session line 2: order\n");
+    let longer = is_told_of_comment(rt.alloc(), LONGEST + 1, 6, "session too long\n");
+    assert!(rt; longest == Ok(true) && longer == Ok(true));
+}
+
+/// The session, of which these reads fail.
+fn source_of(alloc: Global, reads: Vec<u32>) -> Result<MemSource, AllocError> {
+    let text = SESSION.as_bytes().to_vec(alloc)?;
+    Ok(MemSource::new(Bytes::from_vec(text), PIECE, reads))
+}
+
+/// A sink that has room for so many bytes, of which these writes fail.
+fn sink_of(alloc: Global, writes: Vec<u32>, room: usize) -> Result<MemSink, AllocError> {
+    match MemSink::new(alloc, PIECE, room, writes) {
+        Ok(sink) => Ok(sink),
+        Err(_) => Err(AllocError),
     }
-    Ok(())
+}
+
+/// What is told of three bytes where such a read fails.
+fn told_behind_read(alloc: Global, read: u32) -> Result<Told, AllocError> {
+    let mut source = source_of(alloc, vec![in alloc; read]?)?;
+    let mut sink = sink_of(alloc, Vec::new(alloc), ROOM)?;
+    told_through(alloc, &ONE, &mut source, &mut sink)
+}
+
+/// Whether a source that fails at a read is told so. The last of these reads is not made.
+fn is_read_fault(alloc: Global, read: u32) -> Result<bool, AllocError> {
+    let told = told_behind_read(alloc, read)?;
+    let text = told.text.as_slice();
+    let is_fault = told.status == 3 && text == b"read fault\n".as_slice();
+    let is_whole = told.status == 0 && text == REPORT.as_bytes();
+    Ok(if read < READS { is_fault } else { is_whole })
 }
 
 #[test]
-fn a_sink_that_fails_has_the_front_of_the_report(rt: HostRuntime) -> Result<(), Fail> {
-    let alloc = rt.alloc();
+fn a_source_that_fails_is_told_at_each_read(rt: HostRuntime) {
+    for read in 0..=READS {
+        assert!(rt;
+            is_read_fault(rt.alloc(), read) == Ok(true),
+            "at read {read}"
+        );
+    }
+}
+
+/// What is told of three bytes where these writes fail, and the sink has room for so many bytes.
+fn told_within(alloc: Global, writes: Vec<u32>, room: usize) -> Result<Told, AllocError> {
+    let mut sink = sink_of(alloc, writes, room)?;
+    let mut source = source_of(alloc, Vec::new(alloc))?;
+    told_through(alloc, &ONE, &mut source, &mut sink)
+}
+
+/// Whether a write fault is told, and so many bytes of the report were given.
+fn has_front(told: &Told, length: usize) -> bool {
+    told.status == 4 && REPORT.as_bytes().get(..length) == Some(told.text.as_slice())
+}
+
+/// Whether a sink that fails at a write has the front of the report.
+fn has_front_at(alloc: Global, write: u32) -> Result<bool, AllocError> {
+    let told = told_within(alloc, vec![in alloc; write]?, ROOM)?;
+    Ok(has_front(&told, (write as usize).saturating_mul(PIECE)))
+}
+
+/// Whether a sink that has room for so many bytes has the front of the report.
+fn has_front_of(alloc: Global, room: usize) -> Result<bool, AllocError> {
+    let told = told_within(alloc, Vec::new(alloc), room)?;
+    Ok(has_front(&told, room))
+}
+
+#[test]
+fn a_sink_that_fails_has_the_front_of_the_report(rt: HostRuntime) {
     for write in 0..WRITES {
-        let fails = vec![in alloc; write as u32]?;
-        let Told { status, text } = told_with(alloc, Vec::new(alloc), fails, ROOM)?;
-        assert_eq!(rt; status, 4, "at write {write}");
-        let front = REPORT.as_bytes().get(..write * PIECE);
-        assert!(rt; front == Some(text.as_slice()), "at write {write}");
+        assert!(rt;
+            has_front_at(rt.alloc(), write) == Ok(true),
+            "at write {write}"
+        );
     }
     for room in 0..REPORT.len() {
-        let Told { status, text } = told_with(alloc, Vec::new(alloc), Vec::new(alloc), room)?;
-        assert_eq!(rt; status, 4, "with room for {room}");
-        let front = REPORT.as_bytes().get(..room);
-        assert!(rt; front == Some(text.as_slice()), "with room for {room}");
+        assert!(rt;
+            has_front_of(rt.alloc(), room) == Ok(true),
+            "with room for {room}"
+        );
     }
-    Ok(())
 }

@@ -1,7 +1,6 @@
 //! Changes of the discipline, N_SLIP, handles, hangups and exclusive use.
 
-use super::rows::{Row, plays};
-use std::test::Fail;
+use super::rows::Row;
 
 /// The installed kind changes nothing, and an unknown number is refused.
 pub(crate) const SAME_AND_UNKNOWN_DISCIPLINE: Row = Row {
@@ -63,8 +62,4 @@ done
 ",
 };
 
-#[test]
-fn disciplines_and_handles_change(rt: HostRuntime) -> Result<(), Fail> {
-    let rows = [SAME_AND_UNKNOWN_DISCIPLINE, LONGEST_PACKET];
-    plays(&rt, rt.alloc(), &["run", "--one"], &rows)
-}
+pub(crate) const ROWS: [Row; 2] = [SAME_AND_UNKNOWN_DISCIPLINE, LONGEST_PACKET];

@@ -2,24 +2,41 @@
 
 use std::alloc::{AllocError, Global};
 
-/// The text with its repeated bytes written out: in it `[61*4095]` stands for 4,095 times 61.
+/// The text with its repeated bytes written out: in it `[61*4095]` stands for 4,095 times 61, and `|` for a line feed.
 pub fn written_out(alloc: Global, text: &str) -> Result<Vec<u8>, AllocError> {
-    let mut whole = Vec::new(alloc);
-    let mut times = Vec::new(alloc);
-    let mut inside = false;
+    let mut writing = Writing {
+        whole: Vec::new(alloc),
+        times: Vec::new(alloc),
+        inside: false,
+    };
     for byte in text.bytes() {
-        match byte {
-            b'[' => inside = true,
-            b']' => {
-                put_times(&mut whole, times.as_slice())?;
-                times.clear();
-                inside = false;
-            }
-            _ if inside => times.push(byte)?,
-            _ => whole.push(byte)?,
-        }
+        writing.add(if byte == b'|' { b'\n' } else { byte })?;
     }
-    Ok(whole)
+    Ok(writing.whole)
+}
+
+/// What is written out so far, and what stands behind an open bracket.
+#[derive(Drop)]
+struct Writing {
+    whole: Vec<u8>,
+    times: Vec<u8>,
+    inside: bool,
+}
+
+impl Writing {
+    fn add(&mut self, byte: u8) -> Result<(), AllocError> {
+        match byte {
+            b'[' => self.inside = true,
+            b']' => {
+                put_times(&mut self.whole, self.times.as_slice())?;
+                self.times.clear();
+                self.inside = false;
+            }
+            _ if self.inside => self.times.push(byte)?,
+            _ => self.whole.push(byte)?,
+        }
+        Ok(())
+    }
 }
 
 /// Adds what `61*4095` stands for.

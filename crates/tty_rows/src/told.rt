@@ -23,11 +23,20 @@ pub struct Told {
 
 /// What is told of a text with these words, without threads.
 pub fn told_of(alloc: Global, words: &[&str], text: Vec<u8>) -> Result<Told, AllocError> {
-    let mut source = source_of(alloc, text);
     let mut sink = sink(alloc)?;
-    let status = tty_one(alloc, words, &mut source, &mut sink).status;
-    let text = sink.given().to_vec(alloc)?;
-    Ok(Told { status, text })
+    let mut source = source_of(alloc, text);
+    told_through(alloc, words, &mut source, &mut sink)
+}
+
+/// What is told of a source, through an empty sink.
+pub(crate) fn told_through(
+    alloc: Global,
+    words: &[&str],
+    source: &mut MemSource,
+    sink: &mut MemSink,
+) -> Result<Told, AllocError> {
+    let status = tty_one(alloc, words, source, sink).status;
+    given(alloc, status, sink)
 }
 
 /// What is told of a text with these words, on threads.
@@ -37,9 +46,14 @@ pub fn told_on_threads<R: Threads + Wait + Sync>(
     words: &[&str],
     text: Vec<u8>,
 ) -> Result<Told, AllocError> {
-    let mut source = source_of(alloc, text);
     let mut sink = sink(alloc)?;
+    let mut source = source_of(alloc, text);
     let status = tty_run(rt, alloc, words, &mut source, &mut sink, &OpenGate).status;
+    given(alloc, status, &sink)
+}
+
+/// A status, and the text that a sink was given.
+fn given(alloc: Global, status: u8, sink: &MemSink) -> Result<Told, AllocError> {
     let text = sink.given().to_vec(alloc)?;
     Ok(Told { status, text })
 }

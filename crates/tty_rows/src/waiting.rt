@@ -1,7 +1,6 @@
 //! Calls that wait: MIN and TIME, ticks, several callers, and waiting in vain.
 
-use super::rows::{Row, plays};
-use std::test::Fail;
+use super::rows::Row;
 
 /// On a blocking handle a read waits, here in vain; on the other it is to be tried again.
 pub(crate) const BLOCKING_AND_NOT: Row = Row {
@@ -136,14 +135,10 @@ done
 ",
 };
 
-#[test]
-fn calls_wait(rt: HostRuntime) -> Result<(), Fail> {
-    let rows = [
-        BLOCKING_AND_NOT,
-        NOTHING_COMES,
-        FIRST_OF_TWO_READERS,
-        MIN_0,
-        MORE_THAN_FITS,
-    ];
-    plays(&rt, rt.alloc(), &["run", "--one"], &rows)
-}
+pub(crate) const ROWS: [Row; 5] = [
+    BLOCKING_AND_NOT,
+    NOTHING_COMES,
+    FIRST_OF_TWO_READERS,
+    MIN_0,
+    MORE_THAN_FITS,
+];
