@@ -4,7 +4,7 @@ use super::tables::{CHECK, ONE};
 use std::alloc::{AllocError, Global};
 use std::process::Abort;
 use std::test::Fail;
-use tty_rows::{Told, told_of};
+use tty_rows::told_of;
 
 /// Three bytes are read, and the port is closed; and the journal of that.
 const SESSION: &[u8] =
@@ -13,104 +13,124 @@ const SESSION: &[u8] =
 const JOURNALS: &[u8] =
     b"journals\njournal 0 14\n*line 0 0 0 line_end 0\na 0 0 0 answer ok\na 1 0 0 answer ok\na 2 0 0 caller_end\n*clock 0 0 0 clock_end\n*session 0 0 0 phase_end\n*flush 0 0 0 flush n68n69n0a\n*line 1 0 0 line_end 3\na 2 0 0 answer 3 68690a\na 3 0 0 answer ok\na 4 0 1 caller_end\n*clock 1 0 1 clock_end\n*session 1 0 1 phase_end\n*session 2 0 1 hangup -\noverruns 0 0\nline 0 3 0 3\ndone\n";
 
-/// The first text, one byte, and the second text.
-fn joined(alloc: Global, first: &[u8], byte: u8, second: &[u8]) -> Result<Vec<u8>, AllocError> {
-    let mut text = first.to_vec(alloc)?;
-    text.push(byte)?;
-    text.extend_from_slice(second)?;
+/// These pieces in one text.
+fn joined(alloc: Global, pieces: &[&[u8]]) -> Result<Vec<u8>, AllocError> {
+    let mut text = Vec::new(alloc);
+    for piece in pieces {
+        text.extend_from_slice(piece)?;
+    }
     Ok(text)
 }
 
-/// With another byte at any place the text is refused at the line of that place.
+/// With which status a text ends that is made of these pieces.
+fn status_of(alloc: Global, words: &[&str], pieces: &[&[u8]]) -> Result<u8, AllocError> {
+    let told = told_of(alloc, words, joined(alloc, pieces)?)?;
+    Ok(told.status)
+}
+
+/// Whether a text is refused at this line.
+fn is_refused_at(
+    alloc: Global,
+    words: &[&str],
+    text: Vec<u8>,
+    line: u32,
+) -> Result<bool, AllocError> {
+    let told = told_of(alloc, words, text)?;
+    let wanted = format!(in alloc; "bad session line {line}: ")?;
+    Ok(told.status == 1 && told.text.starts_with(wanted.as_bytes()))
+}
+
+/// The text with another byte at a place.
+fn with_byte(alloc: Global, text: &[u8], place: usize, byte: u8) -> Result<Vec<u8>, AllocError> {
+    let mut changed = text.to_vec(alloc)?;
+    if let Some(old) = changed.get_mut(place) {
+        *old = byte;
+    }
+    Ok(changed)
+}
+
+/// Whether the text with another byte at a place is refused at this line.
 fn is_refused_with(
-    rt: &impl Abort,
     alloc: Global,
     words: &[&str],
     text: &[u8],
+    at: (usize, u32),
     byte: u8,
-) -> Result<(), Fail> {
+) -> Result<bool, AllocError> {
+    let (place, line) = at;
+    is_refused_at(alloc, words, with_byte(alloc, text, place, byte)?, line)
+}
+
+/// With another byte at any place the text is refused at the line of that place.
+fn are_refused_with(rt: &impl Abort, alloc: Global, words: &[&str], text: &[u8], byte: u8) {
     let mut line = 1u32;
-    for place in 0..text.len() {
-        let (before, rest) = text.split_at(place);
-        let [old, after @ ..] = rest else {
-            return Ok(());
-        };
-        let told = told_of(alloc, words, joined(alloc, before, byte, after)?)?;
-        assert_eq!(rt; told.status, 1, "with {byte} at {place}");
-        let wanted = format!(in alloc; "bad session line {line}: ")?;
-        assert!(rt;
-            told.text.starts_with(wanted.as_bytes()),
-            "with {byte} at {place}"
-        );
+    for (place, old) in text.iter().enumerate() {
+        let refused = is_refused_with(alloc, words, text, (place, line), byte);
+        assert!(rt; refused == Ok(true), "with {byte} at {place}");
         if *old == b'\n' {
             line = line.saturating_add(1);
         }
     }
-    Ok(())
 }
 
 #[test]
 fn no_text_has_a_byte_0_or_255(rt: HostRuntime) -> Result<(), Fail> {
-    let alloc = rt.alloc();
-    let mut checked = SESSION.to_vec(alloc)?;
-    checked.extend_from_slice(JOURNALS)?;
+    let checked = joined(rt.alloc(), &[SESSION, JOURNALS])?;
     for byte in [0, 255] {
-        is_refused_with(&rt, alloc, ONE, SESSION, byte)?;
-        is_refused_with(&rt, alloc, CHECK, checked.as_slice(), byte)?;
+        are_refused_with(&rt, rt.alloc(), ONE, SESSION, byte);
+        are_refused_with(&rt, rt.alloc(), CHECK, checked.as_slice(), byte);
     }
     Ok(())
 }
 
+/// The status of the session between two comments with this byte.
+fn status_between(alloc: Global, byte: u8) -> Result<u8, AllocError> {
+    let comment = [b'#', b' ', byte, b' ', b'#', b'\n'];
+    status_of(
+        alloc,
+        ONE,
+        &[comment.as_slice(), SESSION, comment.as_slice()],
+    )
+}
+
 #[test]
-fn but_a_comment_may_have_any_byte(rt: HostRuntime) -> Result<(), Fail> {
-    let alloc = rt.alloc();
+fn but_a_comment_may_have_any_byte(rt: HostRuntime) {
     for byte in 0..=255 {
-        if byte == b'\n' {
-            continue;
-        }
-        let comment = joined(alloc, b"# ", byte, b" #\n")?;
-        let mut text = comment.clone()?;
-        text.extend_from_slice(SESSION)?;
-        text.extend_from_slice(comment.as_slice())?;
-        let told = told_of(alloc, ONE, text)?;
-        assert_eq!(rt; told.status, 0, "with {byte}");
+        let status = status_between(rt.alloc(), byte);
+        assert!(rt; byte == b'\n' || status == Ok(0), "with {byte}");
     }
-    Ok(())
+}
+
+/// Whether a header whose words this byte parts is told as it is to be.
+fn is_told_with(alloc: Global, byte: u8) -> Result<bool, AllocError> {
+    let header = [b"tty-session".as_slice(), &[byte], b"1\nports 1\nend\n"];
+    let told = told_of(alloc, ONE, joined(alloc, &header)?)?;
+    let refusal = b"bad session line 1: header\n".as_slice();
+    let is_refused = told.status == 1 && told.text.as_slice() == refusal;
+    Ok(match byte {
+        b' ' | b'\t' | b'\r' => told.status == 0,
+        _ => is_refused,
+    })
 }
 
 #[test]
-fn blank_tab_and_cr_alone_part_words(rt: HostRuntime) -> Result<(), Fail> {
-    let alloc = rt.alloc();
+fn blank_tab_and_cr_alone_part_words(rt: HostRuntime) {
     for byte in 0..=255 {
-        let text = joined(alloc, b"tty-session", byte, b"1\nports 1\nend\n")?;
-        let Told { status, text } = told_of(alloc, ONE, text)?;
-        match byte {
-            b' ' | b'\t' | b'\r' => assert_eq!(rt; status, 0, "with {byte}"),
-            _ => {
-                assert_eq!(rt; status, 1, "with {byte}");
-                let wanted = b"bad session line 1: header\n".as_slice();
-                assert_eq!(rt; text.as_slice(), wanted, "with {byte}");
-            }
-        }
+        assert!(rt; is_told_with(rt.alloc(), byte) == Ok(true), "with {byte}");
     }
-    Ok(())
+}
+
+/// Behind a text another is refused at each length. Without its last line feed it is whole.
+fn are_refused_cut(rt: &impl Abort, alloc: Global, words: &[&str], before: &[u8], text: &[u8]) {
+    for length in 0..text.len().saturating_sub(1) {
+        let (front, _) = text.split_at(length);
+        let status = status_of(alloc, words, &[before, front]);
+        assert!(rt; status == Ok(1), "at {length}");
+    }
 }
 
 #[test]
-fn a_text_that_is_cut_is_refused(rt: HostRuntime) -> Result<(), Fail> {
-    let alloc = rt.alloc();
-    // Without the last line feed the text is whole.
-    for length in 0..SESSION.len().saturating_sub(1) {
-        let (front, _) = SESSION.split_at(length);
-        let told = told_of(alloc, ONE, front.to_vec(alloc)?)?;
-        assert_eq!(rt; told.status, 1, "at {length}");
-    }
-    for length in 0..JOURNALS.len().saturating_sub(1) {
-        let (front, _) = JOURNALS.split_at(length);
-        let mut text = SESSION.to_vec(alloc)?;
-        text.extend_from_slice(front)?;
-        let told = told_of(alloc, CHECK, text)?;
-        assert_eq!(rt; told.status, 1, "at {length}");
-    }
-    Ok(())
+fn a_text_that_is_cut_is_refused(rt: HostRuntime) {
+    are_refused_cut(&rt, rt.alloc(), ONE, b"", SESSION);
+    are_refused_cut(&rt, rt.alloc(), CHECK, SESSION, JOURNALS);
 }

@@ -1,110 +1,60 @@
 //! Long texts and long lines. `tools/hostile_texts` has them in full length.
 
-use super::tables::{CHECK, ONE, is_refused};
-use std::test::Fail;
+use super::tables::{CHECK, ONE, texts_are_refused};
+use std::alloc::{AllocError, Global};
 use tty_rows::{told_of, written_out};
 
-/// Long texts, each with its first wrong line and the reason.
-const LONG: [(&str, u32, &str); 16] = [
-    // Lines of one byte, of blanks, of words; line feeds; comments.
-    ("[a*65536]", 1, "header"),
-    ("[ *65536]", 2, "order"),
-    ("[a *65536]", 1, "header"),
-    ("[\n*65536]", 65_537, "order"),
-    ("#[#*65536]", 2, "order"),
-    ("[#\n*32768]", 32_769, "order"),
-    // Words, digits and names without end.
-    ("tty-session[ 1*32768]\n", 1, "header"),
-    ("tty-session [1*65536]\n", 1, "header"),
-    ("tty-session 1\nports [1*65536]\n", 2, "number"),
-    (
-        "tty-session 1\nports 1\nphase\ncaller [a*65536] 0\n",
-        4,
-        "word",
-    ),
-    (
-        "tty-session 1\nports 1\nphase\nline 0\nidle [1*65536]\n",
-        5,
-        "number",
-    ),
-    (
-        "tty-session 1\nports 1\nphase\nline 0\nrx 6[6*65536]\n",
-        5,
-        "hex",
-    ),
-    (
-        "tty-session 1\nports 1\nphase\ncaller a 0\nread 0 [0*65536]\n",
-        5,
-        "number",
-    ),
-    (
-        "tty-session 1\nports 1\nphase\ncaller a 0\nread[ 0*32768]\n",
-        5,
-        "word",
-    ),
-    (
-        "tty-session 1\nports 1\nphase\ncaller a 0\nmodes 0 now[ raw*16384]\n",
-        5,
-        "limit",
-    ),
-    (
-        "tty-session 1\nports 1\nphase\ncaller a 0\nmodes 0 now min=[0*65536]\n",
-        5,
-        "word",
-    ),
-];
+/// Long texts, each behind its first wrong line and the reason: lines of one byte, of blanks, of words; line feeds;
+/// comments; then words, digits and names without end.
+const LONG: &str = "\
+1 header [a*65536]
+2 order [ *65536]
+1 header [a *65536]
+65537 order [|*65536]
+2 order #[#*65536]
+32769 order [#|*32768]
+1 header tty-session[ 1*32768]|
+1 header tty-session [1*65536]|
+2 number tty-session 1|ports [1*65536]|
+4 word tty-session 1|ports 1|phase|caller [a*65536] 0|
+5 number tty-session 1|ports 1|phase|line 0|idle [1*65536]|
+5 hex tty-session 1|ports 1|phase|line 0|rx 6[6*65536]|
+5 number tty-session 1|ports 1|phase|caller a 0|read 0 [0*65536]|
+5 word tty-session 1|ports 1|phase|caller a 0|read[ 0*32768]|
+5 limit tty-session 1|ports 1|phase|caller a 0|modes 0 now[ raw*16384]|
+5 word tty-session 1|ports 1|phase|caller a 0|modes 0 now min=[0*65536]|
+";
 
 /// Long lines after a session, likewise.
-const LONG_JOURNALS: [(&str, u32, &str); 8] = [
-    ("journals[ 0*32768]\n", 7, "word"),
-    ("journals\njournal 0 [1*65536]\n", 8, "number"),
-    ("journals\njournal 0 1\n[a*65536] 0 0 0 wait\n", 9, "word"),
-    ("journals\njournal 0 1\na [0*65536] 0 0 wait\n", 9, "number"),
-    (
-        "journals\njournal 0 1\na 0 0 0 answer [1*65536]\n",
-        9,
-        "word",
-    ),
-    (
-        "journals\njournal 0 1\na 0 0 0 answer EIO[ EIO*16384]\n",
-        9,
-        "word",
-    ),
-    (
-        "journals\njournal 0 1\n*flush 0 0 0 flush n[61*32768]\n",
-        9,
-        "hex",
-    ),
-    (
-        "journals\njournal 0 0\noverruns 0 1\n1[ 1*32768]\n",
-        10,
-        "word",
-    ),
-];
+const LONG_JOURNALS: &str = "\
+7 word journals[ 0*32768]|
+8 number journals|journal 0 [1*65536]|
+9 word journals|journal 0 1|[a*65536] 0 0 0 wait|
+9 number journals|journal 0 1|a [0*65536] 0 0 wait|
+9 word journals|journal 0 1|a 0 0 0 answer [1*65536]|
+9 word journals|journal 0 1|a 0 0 0 answer EIO[ EIO*16384]|
+9 hex journals|journal 0 1|*flush 0 0 0 flush n[61*32768]|
+10 word journals|journal 0 0|overruns 0 1|1[ 1*32768]|
+";
 
-const SESSION: &str = "tty-session 1\nports 1\nphase\ncaller a 0\nread 0 1\nend\n";
+const SESSION: &str = "tty-session 1|ports 1|phase|caller a 0|read 0 1|end|";
 
 #[test]
-fn long_texts_are_refused(rt: HostRuntime) -> Result<(), Fail> {
-    let alloc = rt.alloc();
-    for (text, line, reason) in LONG {
-        is_refused(&rt, alloc, ONE, text, line, reason)?;
-        is_refused(&rt, alloc, CHECK, text, line, reason)?;
-    }
-    for (journals, line, reason) in LONG_JOURNALS {
-        let text = format!(in alloc; "{SESSION}{journals}")?;
-        is_refused(&rt, alloc, CHECK, text.as_str(), line, reason)?;
-    }
-    Ok(())
+fn long_texts_are_refused(rt: HostRuntime) {
+    texts_are_refused(&rt, rt.alloc(), ONE, "", LONG);
+    texts_are_refused(&rt, rt.alloc(), CHECK, "", LONG);
+    texts_are_refused(&rt, rt.alloc(), CHECK, SESSION, LONG_JOURNALS);
+}
+
+fn status_of(alloc: Global, text: &str) -> Result<u8, AllocError> {
+    let told = told_of(alloc, ONE, written_out(alloc, text)?)?;
+    Ok(told.status)
 }
 
 /// A session may have long comments, many blank lines, and blanks without end.
 #[test]
-fn long_texts_that_say_little_are_good(rt: HostRuntime) -> Result<(), Fail> {
-    let alloc = rt.alloc();
+fn long_texts_that_say_little_are_good(rt: HostRuntime) {
     let text =
-        "#[ a*32768]\n[\n*65536]tty-session[ *65536]1\n[#\n*32768]\tports 1[\t*65536]\nend[\r\n*32768]";
-    let told = told_of(alloc, ONE, written_out(alloc, text)?)?;
-    assert_eq!(rt; told.status, 0);
-    Ok(())
+        "#[ a*32768]|[|*65536]tty-session[ *65536]1|[#|*32768]\tports 1[\t*65536]|end[\r|*32768]";
+    assert!(rt; status_of(rt.alloc(), text) == Ok(0));
 }

@@ -1,698 +1,577 @@
 //! Sessions that are refused: each kind of wrong line, in each place.
 
-use super::tables::{CHECK, ONE, Table, are_refused, is_refused};
+use super::tables::{CHECK, ONE, are_refused, texts_are_refused};
 use std::test::Fail;
 
-/// The first item is the header.
-const FIRST: Table = Table {
-    before: "",
-    line: 1,
-    rows: &[
-        ("tty-session", "header"),
-        ("tty-session 0", "header"),
-        ("tty-session 3", "header"),
-        ("tty-session 01", "header"),
-        ("tty-session x", "header"),
-        ("tty-session 1 1", "header"),
-        ("tty-sessions 1", "header"),
-        ("TTY-SESSION 1", "header"),
-        ("ports 1", "header"),
-        ("end", "header"),
-        ("other", "header"),
-    ],
-};
-
-/// The second item is the number of ports.
-const SECOND: Table = Table {
-    before: "tty-session 1\n",
-    line: 2,
-    rows: &[
-        ("tty-session 1", "order"),
-        ("phase", "order"),
-        ("end", "order"),
-        ("line 0", "order"),
-        ("clock 0", "order"),
-        ("caller a 0", "order"),
-        ("rx 61", "order"),
-        ("rxp 61", "order"),
-        ("rxf 61", "order"),
-        ("break", "order"),
-        ("mask", "order"),
-        ("unmask", "order"),
-        ("idle 1", "order"),
-        ("trigger 1", "order"),
-        ("tick 1", "order"),
-        ("open 0 rw", "order"),
-        ("close 0", "order"),
-        ("read 0 1", "order"),
-        ("write 0 61", "order"),
-        ("getm 0", "order"),
-        ("modes 0 now raw", "order"),
-        ("getd 0", "order"),
-        ("setd 0 1", "order"),
-        ("flush 0 in", "order"),
-        ("xonc 0 ooff", "order"),
-        ("inq 0", "order"),
-        ("outq 0", "order"),
-        ("excl 0", "order"),
-        ("nxcl 0", "order"),
-        ("drain 0", "order"),
-        ("counts 0", "order"),
-        ("vhangup 0", "order"),
-        ("send 0 61", "order"),
-        ("take 0", "order"),
-        ("other", "word"),
-        ("port 1", "word"),
-        ("flip 0 64", "word"),
-        ("ports", "word"),
-        ("ports 1 1", "word"),
-        ("ports x", "number"),
-        ("ports -1", "number"),
-        ("ports +1", "number"),
-        ("ports 1x", "number"),
-        ("ports 01", "number"),
-        ("ports 10000000000", "number"),
-        ("ports 0", "limit"),
-        ("ports 9", "limit"),
-        ("ports 4294967296", "limit"),
-        ("ports 9999999999", "limit"),
-    ],
-};
-
-/// Blocks stand in a phase, and the place is tested before the words that follow.
-const BEFORE_A_PHASE: Table = Table {
-    before: "tty-session 1\nports 1\n",
-    line: 3,
-    rows: &[
-        ("tty-session 1", "order"),
-        ("tty-session 9", "order"),
-        ("ports 1", "order"),
-        ("ports", "order"),
-        ("line 0", "order"),
-        ("clock 0", "order"),
-        ("caller a 0", "order"),
-        ("line", "order"),
-        ("caller", "order"),
-        ("rx 61", "order"),
-        ("rxp 61", "order"),
-        ("rxf 61", "order"),
-        ("break", "order"),
-        ("mask", "order"),
-        ("unmask", "order"),
-        ("idle 1", "order"),
-        ("trigger 1", "order"),
-        ("tick 1", "order"),
-        ("open 0 rw", "order"),
-        ("close 0", "order"),
-        ("read 0 1", "order"),
-        ("write 0 61", "order"),
-        ("getm 0", "order"),
-        ("modes 0 now raw", "order"),
-        ("getd 0", "order"),
-        ("setd 0 1", "order"),
-        ("flush 0 in", "order"),
-        ("xonc 0 ooff", "order"),
-        ("inq 0", "order"),
-        ("outq 0", "order"),
-        ("excl 0", "order"),
-        ("nxcl 0", "order"),
-        ("drain 0", "order"),
-        ("counts 0", "order"),
-        ("vhangup 0", "order"),
-        ("send 0 61", "order"),
-        ("take 0", "order"),
-        ("read", "order"),
-        ("other", "word"),
-        ("phases", "word"),
-        ("flip 0 64", "word"),
-        ("phase 1", "word"),
-        ("end 1", "word"),
-    ],
-};
-
-/// What opens a block.
-const IN_A_PHASE: Table = Table {
-    before: "tty-session 1\nports 1\nphase\n",
-    line: 4,
-    rows: &[
-        ("tty-session 1", "order"),
-        ("ports 1", "order"),
-        ("rx 61", "order"),
-        ("rxp 61", "order"),
-        ("rxf 61", "order"),
-        ("break", "order"),
-        ("mask", "order"),
-        ("unmask", "order"),
-        ("idle 1", "order"),
-        ("trigger 1", "order"),
-        ("rx", "order"),
-        ("tick 1", "order"),
-        ("tick", "order"),
-        ("open 0 rw", "order"),
-        ("close 0", "order"),
-        ("read 0 1", "order"),
-        ("write 0 61", "order"),
-        ("getm 0", "order"),
-        ("modes 0 now raw", "order"),
-        ("getd 0", "order"),
-        ("setd 0 1", "order"),
-        ("flush 0 in", "order"),
-        ("xonc 0 ooff", "order"),
-        ("inq 0", "order"),
-        ("outq 0", "order"),
-        ("excl 0", "order"),
-        ("nxcl 0", "order"),
-        ("drain 0", "order"),
-        ("counts 0", "order"),
-        ("vhangup 0", "order"),
-        ("send 0 61", "order"),
-        ("take 0", "order"),
-        ("read 0", "order"),
-        ("read", "order"),
-        ("other", "word"),
-        ("flip 0 64", "word"),
-        ("phase 1", "word"),
-        ("end 1", "word"),
-        ("line", "word"),
-        ("line 0 0", "word"),
-        ("clock", "word"),
-        ("clock 0 0", "word"),
-        ("caller", "word"),
-        ("caller a", "word"),
-        ("caller a 0 0", "word"),
-        ("caller A 0", "word"),
-        ("caller 1a 0", "word"),
-        ("caller _a 0", "word"),
-        ("caller a-b 0", "word"),
-        ("caller a2345678901234567 0", "word"),
-        ("caller A x", "word"),
-        ("caller A 1", "word"),
-        ("line x", "number"),
-        ("line 00", "number"),
-        ("clock x", "number"),
-        ("clock -1", "number"),
-        ("caller a x", "number"),
-        ("caller a 00", "number"),
-        ("line 1", "limit"),
-        ("line 9999999999", "limit"),
-        ("clock 1", "limit"),
-        ("caller a 1", "limit"),
-    ],
-};
-
-/// A line block.
-const IN_A_LINE: Table = Table {
-    before: "tty-session 1\nports 1\nphase\nline 0\n",
-    line: 5,
-    rows: &[
-        ("tty-session 1", "order"),
-        ("ports 1", "order"),
-        ("line 0", "order"),
-        ("tick 1", "order"),
-        ("tick", "order"),
-        ("open 0 rw", "order"),
-        ("close 0", "order"),
-        ("read 0 1", "order"),
-        ("write 0 61", "order"),
-        ("getm 0", "order"),
-        ("modes 0 now raw", "order"),
-        ("getd 0", "order"),
-        ("setd 0 1", "order"),
-        ("flush 0 in", "order"),
-        ("xonc 0 ooff", "order"),
-        ("inq 0", "order"),
-        ("outq 0", "order"),
-        ("excl 0", "order"),
-        ("nxcl 0", "order"),
-        ("drain 0", "order"),
-        ("counts 0", "order"),
-        ("vhangup 0", "order"),
-        ("send 0 61", "order"),
-        ("take 0", "order"),
-        ("read 0", "order"),
-        ("read", "order"),
-        ("other", "word"),
-        ("line", "word"),
-        ("line 0 0", "word"),
-        ("rx", "word"),
-        ("rx 61 61", "word"),
-        ("rxp", "word"),
-        ("rxp 61 61", "word"),
-        ("rxf", "word"),
-        ("rxf 61 61", "word"),
-        ("break 0", "word"),
-        ("mask 0", "word"),
-        ("unmask 0", "word"),
-        ("idle", "word"),
-        ("idle 1 1", "word"),
-        ("trigger", "word"),
-        ("trigger 1 1", "word"),
-        ("line x", "number"),
-        ("idle x", "number"),
-        ("idle 01", "number"),
-        ("idle 10000000000", "number"),
-        ("trigger x", "number"),
-        ("trigger 01", "number"),
-        ("rx 6", "hex"),
-        ("rx 616", "hex"),
-        ("rx 6g", "hex"),
-        ("rx 0x61", "hex"),
-        ("rxp 6", "hex"),
-        ("rxp 616", "hex"),
-        ("rxp 6g", "hex"),
-        ("rxp 0x61", "hex"),
-        ("rxf 6", "hex"),
-        ("rxf 616", "hex"),
-        ("rxf 6g", "hex"),
-        ("rxf 0x61", "hex"),
-        ("line 1", "limit"),
-        ("idle 0", "limit"),
-        ("idle 1001", "limit"),
-        ("idle 4294967296", "limit"),
-        ("trigger 0", "limit"),
-        ("trigger 2", "limit"),
-        ("trigger 5", "limit"),
-        ("trigger 13", "limit"),
-        ("trigger 15", "limit"),
-    ],
-};
-
-/// A clock block.
-const IN_A_CLOCK: Table = Table {
-    before: "tty-session 1\nports 1\nphase\nclock 0\n",
-    line: 5,
-    rows: &[
-        ("tty-session 1", "order"),
-        ("ports 1", "order"),
-        ("clock 0", "order"),
-        ("rx 61", "order"),
-        ("rxp 61", "order"),
-        ("rxf 61", "order"),
-        ("break", "order"),
-        ("mask", "order"),
-        ("unmask", "order"),
-        ("idle 1", "order"),
-        ("trigger 1", "order"),
-        ("rx", "order"),
-        ("open 0 rw", "order"),
-        ("close 0", "order"),
-        ("read 0 1", "order"),
-        ("write 0 61", "order"),
-        ("getm 0", "order"),
-        ("modes 0 now raw", "order"),
-        ("getd 0", "order"),
-        ("setd 0 1", "order"),
-        ("flush 0 in", "order"),
-        ("xonc 0 ooff", "order"),
-        ("inq 0", "order"),
-        ("outq 0", "order"),
-        ("excl 0", "order"),
-        ("nxcl 0", "order"),
-        ("drain 0", "order"),
-        ("counts 0", "order"),
-        ("vhangup 0", "order"),
-        ("send 0 61", "order"),
-        ("take 0", "order"),
-        ("read", "order"),
-        ("other", "word"),
-        ("clock 0 0", "word"),
-        ("tick", "word"),
-        ("tick 1 1", "word"),
-        ("clock x", "number"),
-        ("tick x", "number"),
-        ("tick 01", "number"),
-        ("tick 10000000000", "number"),
-        ("clock 1", "limit"),
-        ("tick 0", "limit"),
-        ("tick 65537", "limit"),
-        ("tick 4294967296", "limit"),
-    ],
-};
-
-/// A caller's block.
-const IN_A_CALLER: Table = Table {
-    before: "tty-session 1\nports 1\nphase\ncaller a 0\n",
-    line: 5,
-    rows: &[
-        ("tty-session 1", "order"),
-        ("ports 1", "order"),
-        ("caller a 0", "order"),
-        ("tick 1", "order"),
-        ("tick", "order"),
-        ("rx 61", "order"),
-        ("rxp 61", "order"),
-        ("rxf 61", "order"),
-        ("break", "order"),
-        ("mask", "order"),
-        ("unmask", "order"),
-        ("idle 1", "order"),
-        ("trigger 1", "order"),
-        ("rx", "order"),
-        ("other", "word"),
-        ("caller a 0 0", "word"),
-        ("caller", "word"),
-        ("open", "word"),
-        ("open 0", "word"),
-        ("open 0 rw nonblock 0", "word"),
-        ("open 0 x y z", "word"),
-        ("open 0 wr", "word"),
-        ("open 0 RW", "word"),
-        ("open 0 rw block", "word"),
-        ("read", "word"),
-        ("read 0", "word"),
-        ("read 0 1 1", "word"),
-        ("write", "word"),
-        ("write 0", "word"),
-        ("write 0 61 61", "word"),
-        ("setd", "word"),
-        ("setd 0", "word"),
-        ("setd 0 1 1", "word"),
-        ("flush", "word"),
-        ("flush 0", "word"),
-        ("flush 0 in out", "word"),
-        ("flush 0 all", "word"),
-        ("xonc", "word"),
-        ("xonc 0", "word"),
-        ("xonc 0 ooff oon", "word"),
-        ("xonc 0 off", "word"),
-        ("send", "word"),
-        ("send 0", "word"),
-        ("send 0 61 61", "word"),
-        ("open x rw", "number"),
-        ("open 00 rw", "number"),
-        ("open x wr", "number"),
-        ("read x 1", "number"),
-        ("read 0 x", "number"),
-        ("read 0 01", "number"),
-        ("read 0 -1", "number"),
-        ("read 0 10000000000", "number"),
-        ("write x 61", "number"),
-        ("setd x 1", "number"),
-        ("setd 0 x", "number"),
-        ("setd 0 10000000000", "number"),
-        ("flush x in", "number"),
-        ("flush x all", "number"),
-        ("xonc x oon", "number"),
-        ("send x 61", "number"),
-        ("write 0 6", "hex"),
-        ("write 0 616", "hex"),
-        ("write 0 6g", "hex"),
-        ("write 0 [61*65537]6", "hex"),
-        ("send 0 6", "hex"),
-        ("send 0 0x41", "hex"),
-        ("open 32 rw", "limit"),
-        ("open 32 wr", "limit"),
-        ("read 32 1", "limit"),
-        ("read 32 x", "limit"),
-        ("read 0 0", "limit"),
-        ("read 0 65537", "limit"),
-        ("write 32 61", "limit"),
-        ("write 32 6", "limit"),
-        ("write 0 [61*65537]", "limit"),
-        ("setd 32 1", "limit"),
-        ("setd 0 4294967296", "limit"),
-        ("flush 32 in", "limit"),
-        ("xonc 32 oon", "limit"),
-        ("send 32 61", "limit"),
-        ("send 0 [61*65537]", "limit"),
-    ],
-};
-
-/// The words of a call that sets modes.
-const MODE_WORDS: Table = Table {
-    before: "tty-session 1\nports 1\nphase\ncaller a 0\n",
-    line: 5,
-    rows: &[
-        ("modes", "word"),
-        ("modes 0", "word"),
-        ("modes 0 now", "word"),
-        ("modes 0 later", "word"),
-        ("modes 0 later raw", "word"),
-        ("modes 0 now RAW", "word"),
-        ("modes 0 now raw other", "word"),
-        ("modes 0 now -raw", "word"),
-        ("modes 0 now -sane", "word"),
-        ("modes 0 now raw=1", "word"),
-        ("modes 0 now echo=1", "word"),
-        ("modes 0 now --echo", "word"),
-        ("modes 0 now -", "word"),
-        ("modes 0 now =", "word"),
-        ("modes 0 now min", "word"),
-        ("modes 0 now -min=1", "word"),
-        ("modes 0 now mim=1", "word"),
-        ("modes 0 now min=", "word"),
-        ("modes 0 now min=x", "word"),
-        ("modes 0 now min=01", "word"),
-        ("modes 0 now min=+1", "word"),
-        ("modes 0 now min=-1", "word"),
-        ("modes 0 now min=256", "word"),
-        ("modes 0 now min=10000000000", "word"),
-        ("modes 0 now min=1=1", "word"),
-        ("modes 0 now[ raw*64] other", "word"),
-        ("modes x now raw", "number"),
-        ("modes x later raw", "number"),
-        ("modes 32 now raw", "limit"),
-        ("modes 32 later x", "limit"),
-        ("modes 0 now[ raw*65]", "limit"),
-    ],
-};
+/// All that is refused before an end.
+const BEFORE_THE_END: &str = "\
+# The first item is the header.
+= 1
+header tty-session
+header tty-session 0
+header tty-session 3
+header tty-session 01
+header tty-session x
+header tty-session 1 1
+header tty-sessions 1
+header TTY-SESSION 1
+header ports 1
+header end
+header other
+# The second item is the number of ports.
+= 2 tty-session 1|
+order tty-session 1
+order phase
+order end
+order line 0
+order clock 0
+order caller a 0
+order rx 61
+order rxp 61
+order rxf 61
+order break
+order mask
+order unmask
+order idle 1
+order trigger 1
+order tick 1
+order open 0 rw
+order close 0
+order read 0 1
+order write 0 61
+order getm 0
+order modes 0 now raw
+order getd 0
+order setd 0 1
+order flush 0 in
+order xonc 0 ooff
+order inq 0
+order outq 0
+order excl 0
+order nxcl 0
+order drain 0
+order counts 0
+order vhangup 0
+order send 0 61
+order take 0
+word other
+word port 1
+word flip 0 64
+word ports
+word ports 1 1
+number ports x
+number ports -1
+number ports +1
+number ports 1x
+number ports 01
+number ports 10000000000
+limit ports 0
+limit ports 9
+limit ports 4294967296
+limit ports 9999999999
+# Blocks stand in a phase, and the place is tested before the words that follow.
+= 3 tty-session 1|ports 1|
+order tty-session 1
+order tty-session 9
+order ports 1
+order ports
+order line 0
+order clock 0
+order caller a 0
+order line
+order caller
+order rx 61
+order rxp 61
+order rxf 61
+order break
+order mask
+order unmask
+order idle 1
+order trigger 1
+order tick 1
+order open 0 rw
+order close 0
+order read 0 1
+order write 0 61
+order getm 0
+order modes 0 now raw
+order getd 0
+order setd 0 1
+order flush 0 in
+order xonc 0 ooff
+order inq 0
+order outq 0
+order excl 0
+order nxcl 0
+order drain 0
+order counts 0
+order vhangup 0
+order send 0 61
+order take 0
+order read
+word other
+word phases
+word flip 0 64
+word phase 1
+word end 1
+# What opens a block.
+= 4 tty-session 1|ports 1|phase|
+order tty-session 1
+order ports 1
+order rx 61
+order rxp 61
+order rxf 61
+order break
+order mask
+order unmask
+order idle 1
+order trigger 1
+order rx
+order tick 1
+order tick
+order open 0 rw
+order close 0
+order read 0 1
+order write 0 61
+order getm 0
+order modes 0 now raw
+order getd 0
+order setd 0 1
+order flush 0 in
+order xonc 0 ooff
+order inq 0
+order outq 0
+order excl 0
+order nxcl 0
+order drain 0
+order counts 0
+order vhangup 0
+order send 0 61
+order take 0
+order read 0
+order read
+word other
+word flip 0 64
+word phase 1
+word end 1
+word line
+word line 0 0
+word clock
+word clock 0 0
+word caller
+word caller a
+word caller a 0 0
+word caller A 0
+word caller 1a 0
+word caller _a 0
+word caller a-b 0
+word caller a2345678901234567 0
+word caller A x
+word caller A 1
+number line x
+number line 00
+number clock x
+number clock -1
+number caller a x
+number caller a 00
+limit line 1
+limit line 9999999999
+limit clock 1
+limit caller a 1
+# A line block.
+= 5 tty-session 1|ports 1|phase|line 0|
+order tty-session 1
+order ports 1
+order line 0
+order tick 1
+order tick
+order open 0 rw
+order close 0
+order read 0 1
+order write 0 61
+order getm 0
+order modes 0 now raw
+order getd 0
+order setd 0 1
+order flush 0 in
+order xonc 0 ooff
+order inq 0
+order outq 0
+order excl 0
+order nxcl 0
+order drain 0
+order counts 0
+order vhangup 0
+order send 0 61
+order take 0
+order read 0
+order read
+word other
+word line
+word line 0 0
+word rx
+word rx 61 61
+word rxp
+word rxp 61 61
+word rxf
+word rxf 61 61
+word break 0
+word mask 0
+word unmask 0
+word idle
+word idle 1 1
+word trigger
+word trigger 1 1
+number line x
+number idle x
+number idle 01
+number idle 10000000000
+number trigger x
+number trigger 01
+hex rx 6
+hex rx 616
+hex rx 6g
+hex rx 0x61
+hex rxp 6
+hex rxp 616
+hex rxp 6g
+hex rxp 0x61
+hex rxf 6
+hex rxf 616
+hex rxf 6g
+hex rxf 0x61
+limit line 1
+limit idle 0
+limit idle 1001
+limit idle 4294967296
+limit trigger 0
+limit trigger 2
+limit trigger 5
+limit trigger 13
+limit trigger 15
+# A clock block.
+= 5 tty-session 1|ports 1|phase|clock 0|
+order tty-session 1
+order ports 1
+order clock 0
+order rx 61
+order rxp 61
+order rxf 61
+order break
+order mask
+order unmask
+order idle 1
+order trigger 1
+order rx
+order open 0 rw
+order close 0
+order read 0 1
+order write 0 61
+order getm 0
+order modes 0 now raw
+order getd 0
+order setd 0 1
+order flush 0 in
+order xonc 0 ooff
+order inq 0
+order outq 0
+order excl 0
+order nxcl 0
+order drain 0
+order counts 0
+order vhangup 0
+order send 0 61
+order take 0
+order read
+word other
+word clock 0 0
+word tick
+word tick 1 1
+number clock x
+number tick x
+number tick 01
+number tick 10000000000
+limit clock 1
+limit tick 0
+limit tick 65537
+limit tick 4294967296
+# A caller's block.
+= 5 tty-session 1|ports 1|phase|caller a 0|
+order tty-session 1
+order ports 1
+order caller a 0
+order tick 1
+order tick
+order rx 61
+order rxp 61
+order rxf 61
+order break
+order mask
+order unmask
+order idle 1
+order trigger 1
+order rx
+word other
+word caller a 0 0
+word caller
+word open
+word open 0
+word open 0 rw nonblock 0
+word open 0 x y z
+word open 0 wr
+word open 0 RW
+word open 0 rw block
+word read
+word read 0
+word read 0 1 1
+word write
+word write 0
+word write 0 61 61
+word setd
+word setd 0
+word setd 0 1 1
+word flush
+word flush 0
+word flush 0 in out
+word flush 0 all
+word xonc
+word xonc 0
+word xonc 0 ooff oon
+word xonc 0 off
+word send
+word send 0
+word send 0 61 61
+number open x rw
+number open 00 rw
+number open x wr
+number read x 1
+number read 0 x
+number read 0 01
+number read 0 -1
+number read 0 10000000000
+number write x 61
+number setd x 1
+number setd 0 x
+number setd 0 10000000000
+number flush x in
+number flush x all
+number xonc x oon
+number send x 61
+hex write 0 6
+hex write 0 616
+hex write 0 6g
+hex write 0 [61*65537]6
+hex send 0 6
+hex send 0 0x41
+limit open 32 rw
+limit open 32 wr
+limit read 32 1
+limit read 32 x
+limit read 0 0
+limit read 0 65537
+limit write 32 61
+limit write 32 6
+limit write 0 [61*65537]
+limit setd 32 1
+limit setd 0 4294967296
+limit flush 32 in
+limit xonc 32 oon
+limit send 32 61
+limit send 0 [61*65537]
+# The words of a call that sets modes.
+= 5 tty-session 1|ports 1|phase|caller a 0|
+word modes
+word modes 0
+word modes 0 now
+word modes 0 later
+word modes 0 later raw
+word modes 0 now RAW
+word modes 0 now raw other
+word modes 0 now -raw
+word modes 0 now -sane
+word modes 0 now raw=1
+word modes 0 now echo=1
+word modes 0 now --echo
+word modes 0 now -
+word modes 0 now =
+word modes 0 now min
+word modes 0 now -min=1
+word modes 0 now mim=1
+word modes 0 now min=
+word modes 0 now min=x
+word modes 0 now min=01
+word modes 0 now min=+1
+word modes 0 now min=-1
+word modes 0 now min=256
+word modes 0 now min=10000000000
+word modes 0 now min=1=1
+word modes 0 now[ raw*64] other
+number modes x now raw
+number modes x later raw
+limit modes 32 now raw
+limit modes 32 later x
+limit modes 0 now[ raw*65]
+# In version 2 there are flip buffers, after the number of ports.
+= 2 tty-session 2|
+order flip 0 64
+order flip
+order tty-session 2
+# What a flip buffer may be.
+= 4 tty-session 2|ports 2|flip 1 64|
+word flip
+word flip 0
+word flip 0 64 64
+number flip x 64
+number flip 0 x
+number flip 0 064
+limit flip 2 64
+limit flip 2 x
+limit flip 0 63
+limit flip 0 65537
+limit flip 1 63
+order flip 1 64
+order flip 1 65
+# But none after a phase.
+= 4 tty-session 2|ports 2|phase|
+order flip 0 64
+order flip x
+";
 
 /// After the end nothing follows.
-const AFTER_THE_END: Table = Table {
-    before: "tty-session 1\nports 1\nphase\nend\n",
-    line: 5,
-    rows: &[
-        ("tty-session 1", "order"),
-        ("ports 1", "order"),
-        ("phase", "order"),
-        ("end", "order"),
-        ("line 0", "order"),
-        ("clock 0", "order"),
-        ("caller a 0", "order"),
-        ("rx 61", "order"),
-        ("rxp 61", "order"),
-        ("rxf 61", "order"),
-        ("break", "order"),
-        ("mask", "order"),
-        ("unmask", "order"),
-        ("idle 1", "order"),
-        ("trigger 1", "order"),
-        ("tick 1", "order"),
-        ("open 0 rw", "order"),
-        ("close 0", "order"),
-        ("read 0 1", "order"),
-        ("write 0 61", "order"),
-        ("getm 0", "order"),
-        ("modes 0 now raw", "order"),
-        ("getd 0", "order"),
-        ("setd 0 1", "order"),
-        ("flush 0 in", "order"),
-        ("xonc 0 ooff", "order"),
-        ("inq 0", "order"),
-        ("outq 0", "order"),
-        ("excl 0", "order"),
-        ("nxcl 0", "order"),
-        ("drain 0", "order"),
-        ("counts 0", "order"),
-        ("vhangup 0", "order"),
-        ("send 0 61", "order"),
-        ("take 0", "order"),
-        ("read", "order"),
-        ("end 1", "order"),
-        ("other", "word"),
-        ("flip 0 64", "word"),
-        ("journals", "word"),
-        ("journal 0 0", "word"),
-        ("done", "word"),
-    ],
-};
+const AFTER_THE_END: &str = "\
+= 5 tty-session 1|ports 1|phase|end|
+order tty-session 1
+order ports 1
+order phase
+order end
+order line 0
+order clock 0
+order caller a 0
+order rx 61
+order rxp 61
+order rxf 61
+order break
+order mask
+order unmask
+order idle 1
+order trigger 1
+order tick 1
+order open 0 rw
+order close 0
+order read 0 1
+order write 0 61
+order getm 0
+order modes 0 now raw
+order getd 0
+order setd 0 1
+order flush 0 in
+order xonc 0 ooff
+order inq 0
+order outq 0
+order excl 0
+order nxcl 0
+order drain 0
+order counts 0
+order vhangup 0
+order send 0 61
+order take 0
+order read
+order end 1
+word other
+word flip 0 64
+word journals
+word journal 0 0
+word done
+";
 
-/// In version 2 there are flip buffers, after the number of ports.
-const BEFORE_PORTS_OF_TWO: Table = Table {
-    before: "tty-session 2\n",
-    line: 2,
-    rows: &[
-        ("flip 0 64", "order"),
-        ("flip", "order"),
-        ("tty-session 2", "order"),
-    ],
-};
+/// Calls that have a handle alone.
+const BY_HANDLE: &str = "close
+getm
+getd
+inq
+outq
+excl
+nxcl
+drain
+counts
+vhangup
+take";
 
-/// What a flip buffer may be.
-const FLIP_BUFFERS: Table = Table {
-    before: "tty-session 2\nports 2\nflip 1 64\n",
-    line: 4,
-    rows: &[
-        ("flip", "word"),
-        ("flip 0", "word"),
-        ("flip 0 64 64", "word"),
-        ("flip x 64", "number"),
-        ("flip 0 x", "number"),
-        ("flip 0 064", "number"),
-        ("flip 2 64", "limit"),
-        ("flip 2 x", "limit"),
-        ("flip 0 63", "limit"),
-        ("flip 0 65537", "limit"),
-        ("flip 1 63", "limit"),
-        ("flip 1 64", "order"),
-        ("flip 1 65", "order"),
-    ],
-};
-
-/// But none after a phase.
-const AFTER_A_PHASE_OF_TWO: Table = Table {
-    before: "tty-session 2\nports 2\nphase\n",
-    line: 4,
-    rows: &[("flip 0 64", "order"), ("flip x", "order")],
-};
-
-/// Calls that have a handle alone, and what is wrong with what follows their name.
-const BY_HANDLE: [&str; 11] = [
-    "close", "getm", "getd", "inq", "outq", "excl", "nxcl", "drain", "counts", "vhangup", "take",
-];
-
-const HANDLES: [(&str, &str); 6] = [
-    ("", "word"),
-    (" 0 0", "word"),
-    (" x", "number"),
-    (" 00", "number"),
-    (" 32", "limit"),
-    (" 4294967296", "limit"),
-];
+/// What is wrong behind the name of such a call.
+const HANDLES: &str = "\
+= 5
+word |end
+word  0 0|end
+number  x|end
+number  00|end
+limit  32|end
+limit  4294967296|end
+";
 
 /// Texts without an end are wrong at the line after their last, if no line before is.
-const WITHOUT_END: [(&str, u32, &str); 18] = [
-    ("tty-session 1\nports 1\nphase\nline 0\nrx 686", 5, "hex"),
-    ("", 1, "order"),
-    ("\n", 2, "order"),
-    (" \t\r\n\n", 3, "order"),
-    ("# nothing", 2, "order"),
-    ("# nothing\n\n", 3, "order"),
-    ("tty-session 1", 2, "order"),
-    ("tty-session 1\n# nothing\n", 3, "order"),
-    ("tty-session 2\n", 2, "order"),
-    ("tty-session 1\nports 1\n", 3, "order"),
-    ("tty-session 1\nports 1\nphase\n", 4, "order"),
-    ("tty-session 1\nports 1\nphase", 4, "order"),
-    ("tty-session 1\nports 1\nphase\nline 0\n", 5, "order"),
-    ("tty-session 1\nports 1\nphase\nclock 0\n", 5, "order"),
-    ("tty-session 1\nports 1\nphase\ncaller a 0\n", 5, "order"),
-    (
-        "tty-session 1\nports 1\nphase\ncaller a 0\nopen 0 rw\n\n",
-        7,
-        "order",
-    ),
-    ("tty-session 1\nports 1\nphase\n #end\n", 5, "order"),
-    ("tty-session 2\nports 1\nflip 0 64\n", 4, "order"),
-];
+const WITHOUT_END: &str = "\
+5 hex tty-session 1|ports 1|phase|line 0|rx 686
+1 order
+2 order |
+3 order  \t\r||
+2 order # nothing
+3 order # nothing||
+2 order tty-session 1
+3 order tty-session 1|# nothing|
+2 order tty-session 2|
+3 order tty-session 1|ports 1|
+4 order tty-session 1|ports 1|phase|
+4 order tty-session 1|ports 1|phase
+5 order tty-session 1|ports 1|phase|line 0|
+5 order tty-session 1|ports 1|phase|clock 0|
+5 order tty-session 1|ports 1|phase|caller a 0|
+7 order tty-session 1|ports 1|phase|caller a 0|open 0 rw||
+5 order tty-session 1|ports 1|phase| #end|
+4 order tty-session 2|ports 1|flip 0 64|
+";
 
 /// Totals that are passed by one. Those of steps and characters are in `tools/hostile_texts`.
-const PASSED_TOTALS: [(&str, u32, &str); 4] = [
-    ("tty-session 1\nports 1\n[phase\n*65]", 67, "limit"),
-    (
-        "tty-session 1\nports 1\nphase\ncaller c0 0\ncaller c1 0\ncaller c2 0\ncaller c3 0\ncaller c4 0\ncaller c5 0\ncaller c6 0\ncaller c7 0\ncaller c8 0\ncaller c9 0\ncaller c10 0\ncaller c11 0\ncaller c12 0\ncaller c13 0\ncaller c14 0\ncaller c15 0\ncaller d 0\n",
-        20,
-        "limit",
-    ),
-    (
-        "tty-session 1\nports 1\nphase\nclock 0\ntick 65536\ntick 1\n",
-        6,
-        "limit",
-    ),
-    (
-        "tty-session 1\nports 1\nphase\nclock 0\ntick 65536\nphase\nclock 0\ntick 1\n",
-        8,
-        "limit",
-    ),
-];
+const PASSED_TOTALS: &str = "\
+67 limit tty-session 1|ports 1|[phase|*65]
+20 limit tty-session 1|ports 1|phase|caller c0 0|caller c1 0|caller c2 0|caller c3 0|caller c4 0|caller c5 0|caller c6 0|caller c7 0|caller c8 0|caller c9 0|caller c10 0|caller c11 0|caller c12 0|caller c13 0|caller c14 0|caller c15 0|caller d 0|
+6 limit tty-session 1|ports 1|phase|clock 0|tick 65536|tick 1|
+8 limit tty-session 1|ports 1|phase|clock 0|tick 65536|phase|clock 0|tick 1|
+";
 
 /// What stands twice is in the wrong place, once its words are good.
-const TWICE: [(&str, u32, &str); 6] = [
-    (
-        "tty-session 1\nports 1\nphase\nline 0\nclock 0\nline 0\n",
-        6,
-        "order",
-    ),
-    (
-        "tty-session 1\nports 1\nphase\nclock 0\nline 0\nclock 0\n",
-        6,
-        "order",
-    ),
-    (
-        "tty-session 1\nports 1\nphase\ncaller a 0\ncaller b 0\ncaller a 0\n",
-        6,
-        "order",
-    ),
-    (
-        "tty-session 1\nports 1\nphase\ncaller c0 0\ncaller c1 0\ncaller c2 0\ncaller c3 0\ncaller c4 0\ncaller c5 0\ncaller c6 0\ncaller c7 0\ncaller c8 0\ncaller c9 0\ncaller c10 0\ncaller c11 0\ncaller c12 0\ncaller c13 0\ncaller c14 0\ncaller c15 0\ncaller c3 0\n",
-        20,
-        "order",
-    ),
-    (
-        "tty-session 1\nports 1\nphase\ncaller a 0\nphase\ncaller a 0\nphase\ncaller a 0\ncaller a 0\n",
-        9,
-        "order",
-    ),
-    (
-        "tty-session 1\nports 2\nphase\nline 0\nline 1\nline 0\n",
-        6,
-        "order",
-    ),
-];
-
-/// All that is refused before an end.
-const BEFORE_THE_END: [Table; 11] = [
-    FIRST,
-    SECOND,
-    BEFORE_A_PHASE,
-    IN_A_PHASE,
-    IN_A_LINE,
-    IN_A_CLOCK,
-    IN_A_CALLER,
-    MODE_WORDS,
-    BEFORE_PORTS_OF_TWO,
-    FLIP_BUFFERS,
-    AFTER_A_PHASE_OF_TWO,
-];
+const TWICE: &str = "\
+6 order tty-session 1|ports 1|phase|line 0|clock 0|line 0|
+6 order tty-session 1|ports 1|phase|clock 0|line 0|clock 0|
+6 order tty-session 1|ports 1|phase|caller a 0|caller b 0|caller a 0|
+20 order tty-session 1|ports 1|phase|caller c0 0|caller c1 0|caller c2 0|caller c3 0|caller c4 0|caller c5 0|caller c6 0|caller c7 0|caller c8 0|caller c9 0|caller c10 0|caller c11 0|caller c12 0|caller c13 0|caller c14 0|caller c15 0|caller c3 0|
+9 order tty-session 1|ports 1|phase|caller a 0|phase|caller a 0|phase|caller a 0|caller a 0|
+6 order tty-session 1|ports 2|phase|line 0|line 1|line 0|
+";
 
 #[test]
-fn wrong_lines_are_refused(rt: HostRuntime) -> Result<(), Fail> {
-    let alloc = rt.alloc();
-    are_refused(&rt, alloc, ONE, "", &BEFORE_THE_END)?;
-    are_refused(&rt, alloc, ONE, "", &[AFTER_THE_END])
+fn wrong_lines_are_refused(rt: HostRuntime) {
+    are_refused(&rt, rt.alloc(), ONE, "", BEFORE_THE_END);
+    are_refused(&rt, rt.alloc(), ONE, "", AFTER_THE_END);
 }
 
 #[test]
-fn a_session_with_journals_is_refused_at_the_same_lines(rt: HostRuntime) -> Result<(), Fail> {
-    are_refused(&rt, rt.alloc(), CHECK, "", &BEFORE_THE_END)
+fn a_session_with_journals_is_refused_at_the_same_lines(rt: HostRuntime) {
+    are_refused(&rt, rt.alloc(), CHECK, "", BEFORE_THE_END);
+    texts_are_refused(&rt, rt.alloc(), CHECK, "", WITHOUT_END);
 }
 
 #[test]
 fn calls_by_handle_are_refused(rt: HostRuntime) -> Result<(), Fail> {
-    let alloc = rt.alloc();
-    for verb in BY_HANDLE {
-        for (handle, reason) in HANDLES {
-            let text = format!(in alloc;
-                "tty-session 1\nports 1\nphase\ncaller a 0\n{verb}{handle}\nend\n"
-            )?;
-            is_refused(&rt, alloc, ONE, text.as_str(), 5, reason)?;
-        }
+    for verb in BY_HANDLE.lines() {
+        let first = format!(in rt.alloc(); "tty-session 1|ports 1|phase|caller a 0|{verb}")?;
+        are_refused(&rt, rt.alloc(), ONE, first.as_str(), HANDLES);
     }
     Ok(())
 }
 
 #[test]
-fn texts_are_refused_at_their_lines(rt: HostRuntime) -> Result<(), Fail> {
-    let alloc = rt.alloc();
-    for (text, line, reason) in WITHOUT_END {
-        is_refused(&rt, alloc, ONE, text, line, reason)?;
-        is_refused(&rt, alloc, CHECK, text, line, reason)?;
-    }
-    for (text, line, reason) in TWICE {
-        is_refused(&rt, alloc, ONE, text, line, reason)?;
-    }
-    for (text, line, reason) in PASSED_TOTALS {
-        is_refused(&rt, alloc, ONE, text, line, reason)?;
-    }
-    Ok(())
+fn texts_are_refused_at_their_lines(rt: HostRuntime) {
+    texts_are_refused(&rt, rt.alloc(), ONE, "", WITHOUT_END);
+    texts_are_refused(&rt, rt.alloc(), ONE, "", TWICE);
+    texts_are_refused(&rt, rt.alloc(), ONE, "", PASSED_TOTALS);
 }

@@ -1,53 +1,95 @@
-//! Tables of refused lines, and how they are tried.
+//! Tables of refused texts, and how they are tried. A table is a text with a row in each line. In all texts
+//! `[61*4095]` stands for 4,095 times 61, and `|` for a line feed.
 
-use std::alloc::Global;
+use std::alloc::{AllocError, Global};
 use std::process::Abort;
-use std::test::Fail;
 use tty_rows::{told_of, written_out};
 
 pub(crate) const ONE: &[&str] = &["run", "--one"];
 
 pub(crate) const CHECK: &[&str] = &["check"];
 
-/// What stands before a line, the number of the line, and lines that are refused there, each with its
-/// reason. In all texts `[61*4095]` stands for 4,095 times 61.
-#[derive(Clone, Copy)]
-pub(crate) struct Table {
-    pub(crate) before: &'static str,
-    pub(crate) line: u32,
-    pub(crate) rows: &'static [(&'static str, &'static str)],
+/// The first word of a row, and what stands behind the blank after it.
+fn parted(row: &str) -> (&str, &str) {
+    match row.split_once(' ') {
+        Some(parts) => parts,
+        None => (row, ""),
+    }
 }
 
-/// The text is refused at this line for this reason.
-pub(crate) fn is_refused(
-    rt: &impl Abort,
+/// Whether a text is refused at this line for this reason.
+fn is_refused(
     alloc: Global,
     words: &[&str],
     text: &str,
-    line: u32,
+    line: &str,
     reason: &str,
-) -> Result<(), Fail> {
+) -> Result<bool, AllocError> {
     let told = told_of(alloc, words, written_out(alloc, text)?)?;
-    assert_eq!(rt; told.status, 1, "at {text}");
     let wanted = format!(in alloc; "bad session line {line}: {reason}\n")?;
-    assert_eq!(rt; told.text.as_slice(), wanted.as_bytes(), "at {text}");
-    Ok(())
+    Ok(told.status == 1 && told.text.as_slice() == wanted.as_bytes())
 }
 
-/// Each line of the tables is refused where it stands, after this text.
+/// Whether a line is refused that stands behind two texts.
+fn is_refused_behind(
+    alloc: Global,
+    words: &[&str],
+    before: (&str, &str),
+    text: &str,
+    line: &str,
+    reason: &str,
+) -> Result<bool, AllocError> {
+    let (first, second) = before;
+    let whole = format!(in alloc; "{first}{second}{text}\n")?;
+    is_refused(alloc, words, whole.as_str(), line, reason)
+}
+
+/// Each line of a table is refused behind the text `first`. A row `REASON LINE` has such a line; `= NUMBER TEXT` says
+/// which line of the whole the rows below are, and what stands between; and `#` begins a comment.
 pub(crate) fn are_refused(
     rt: &impl Abort,
     alloc: Global,
     words: &[&str],
     first: &str,
-    tables: &[Table],
-) -> Result<(), Fail> {
-    for table in tables {
-        for (line, reason) in table.rows {
-            let before = table.before;
-            let text = format!(in alloc; "{first}{before}{line}\n")?;
-            is_refused(rt, alloc, words, text.as_str(), table.line, reason)?;
+    table: &str,
+) {
+    let mut place = ("", "");
+    for row in table.lines() {
+        let (reason, text) = parted(row);
+        if reason == "=" {
+            place = parted(text);
+        } else if reason != "#" {
+            let refused = is_refused_behind(alloc, words, (first, place.1), text, place.0, reason);
+            assert!(rt; refused == Ok(true), "at {text}");
         }
     }
-    Ok(())
+}
+
+/// Each text of a table of rows `NUMBER REASON TEXT` is refused at the line of this number, behind the text `first`.
+pub(crate) fn texts_are_refused(
+    rt: &impl Abort,
+    alloc: Global,
+    words: &[&str],
+    first: &str,
+    table: &str,
+) {
+    for row in table.lines() {
+        let (line, rest) = parted(row);
+        let (reason, text) = parted(rest);
+        let refused = is_text_refused(alloc, words, (first, text), line, reason);
+        assert!(rt; refused == Ok(true), "at {text}");
+    }
+}
+
+/// Whether a text is refused that stands behind another.
+fn is_text_refused(
+    alloc: Global,
+    words: &[&str],
+    texts: (&str, &str),
+    line: &str,
+    reason: &str,
+) -> Result<bool, AllocError> {
+    let (first, second) = texts;
+    let whole = format!(in alloc; "{first}{second}")?;
+    is_refused(alloc, words, whole.as_str(), line, reason)
 }
