@@ -42,30 +42,16 @@ impl OneCaller {
         })
     }
 
-    /// Tries the caller's next call, unless a call of it has begun.
-    fn attempt(&mut self, call: &Call) -> Option<Result<Tried, Denied>> {
+    /// How the caller's next call goes, unless a call of it has begun.
+    fn goes(&mut self, call: &Call, wanted: Wanted) -> Went {
         let state = self.port.caller(0);
         if state.over || state.bound.is_some() || state.parts > 0 || !is_in_range(call) {
-            return None;
+            return Went::Otherwise;
         }
-        Some(self.port.attempt(0, state.next, call))
-    }
-
-    /// How the caller's next call goes, unless a call of it has begun.
-    fn goes(&mut self, call: &Call, wanted: Wanted) -> Option<Went> {
-        match self.attempt(call)? {
-            Ok(tried) => Some(went_by(&tried, wanted)),
-            Err(denied) => Some(Went::Denied(denied)),
-        }
-    }
-
-    /// Whether the caller's next call is refused memory, or else answered.
-    fn is_refused(&mut self, call: &Call) -> Option<bool> {
-        match self.attempt(call)? {
-            Ok(Tried::Done(_)) => Some(false),
-            Err(Denied::NoMemory) => Some(true),
-            _ => None,
-        }
+        let tried = self.port.attempt(0, state.next, call);
+        let went = went_by(&tried, wanted);
+        drop(tried);
+        went
     }
 
     fn entries(&self) -> usize {
@@ -169,20 +155,44 @@ fn is_answer(answer: &Answer, wanted: Wanted) -> bool {
 }
 
 /// How a call goes that is tried.
-#[derive(Clone, Copy, Debug, PartialEq, Eq)]
+#[derive(Clone, Copy)]
 enum Went {
     /// It is answered as wanted.
     Well,
-    /// It is refused memory, or the journal is full.
-    Denied(Denied),
+    /// It is refused memory.
+    Starved,
+    /// The journal is full.
+    Full,
     /// It is answered otherwise, or its answer is still to come.
     Otherwise,
 }
 
-fn went_by(tried: &Tried, wanted: Wanted) -> Went {
+fn went_by(tried: &Result<Tried, Denied>, wanted: Wanted) -> Went {
+    match tried {
+        Ok(tried) => answered_by(tried, wanted),
+        Err(Denied::NoMemory) => Went::Starved,
+        Err(Denied::Full) => Went::Full,
+    }
+}
+
+fn answered_by(tried: &Tried, wanted: Wanted) -> Went {
     match tried {
         Tried::Done(answer) if is_answer(answer, wanted) => Went::Well,
         _ => Went::Otherwise,
+    }
+}
+
+fn is_well(went: Went) -> bool {
+    match went {
+        Went::Well => true,
+        _ => false,
+    }
+}
+
+fn is_full(went: Went) -> bool {
+    match went {
+        Went::Full => true,
+        _ => false,
     }
 }
 
@@ -247,69 +257,83 @@ const ROWS: [(Call<'static>, Wanted); 22] = [
     (Call::Close { h: 0 }, Wanted::Done),
 ];
 
-#[test]
-fn a_full_journal_keeps_its_entries(rt: HostRuntime) -> Result<(), Fail> {
+/// Whether two calls are answered, and a third finds the journal full, which keeps its two entries.
+fn is_full_at_two(one: &mut OneCaller) -> bool {
     let open = Call::Open {
         h: 0,
         access: Access::Rw,
         nonblock: false,
     };
     let ask = Call::GetDisc { h: 0 };
+    let first = is_well(one.goes(&open, Wanted::Done));
+    let second = is_well(one.goes(&ask, Wanted::Number(0)));
+    let third = is_full(one.goes(&ask, Wanted::Number(0)));
+    first && second && third && one.entries() == 2
+}
+
+#[test]
+fn a_full_journal_keeps_its_entries(rt: HostRuntime) -> Result<(), Fail> {
     let mut one = OneCaller::new(rt.alloc(), 2)?;
-    assert!(rt; one.goes(&open, Wanted::Done) == Some(Went::Well));
-    assert!(rt; one.goes(&ask, Wanted::Number(0)) == Some(Went::Well));
-    let third = one.goes(&ask, Wanted::Number(0));
-    assert!(rt; third == Some(Went::Denied(Denied::Full)) && one.entries() == 2);
+    let is_full = is_full_at_two(&mut one);
+    drop(one);
+    assert!(rt; is_full);
     Ok(())
 }
 
-/// The first row whose call is not answered as wanted, with the other entry that each makes.
-fn first_other(one: &mut OneCaller) -> Option<usize> {
-    for (place, row) in ROWS.iter().enumerate() {
-        if one.goes(&row.0, row.1) != Some(Went::Well) || one.entries() != place.saturating_add(1) {
-            return Some(place);
+/// Whether a call is answered as wanted and makes one entry, or is refused memory and makes none; and none is answered
+/// once `refused` is set.
+fn is_kept(one: &mut OneCaller, call: &Call, wanted: Wanted, refused: &mut bool) -> bool {
+    let before = one.entries();
+    let went = one.goes(call, wanted);
+    let made = one.entries().checked_sub(before);
+    match went {
+        Went::Well => !*refused && made == Some(1),
+        Went::Starved => {
+            *refused = true;
+            made == Some(0)
+        }
+        _ => false,
+    }
+}
+
+/// How many calls are answered before one is refused memory, unless one goes otherwise.
+fn answered(one: &mut OneCaller) -> Option<usize> {
+    let mut refused = false;
+    let mut count = 0usize;
+    for row in ROWS {
+        if !is_kept(one, &row.0, row.1, &mut refused) {
+            return None;
+        }
+        if !refused {
+            count = count.saturating_add(1);
         }
     }
-    None
+    Some(count)
 }
 
 #[test]
 fn each_call_is_answered(rt: HostRuntime) -> Result<(), Fail> {
     let mut one = OneCaller::new(rt.alloc(), 64)?;
-    let other = first_other(&mut one);
-    assert_eq!(rt; other, None);
+    let answered = answered(&mut one);
+    drop(one);
+    assert!(rt; answered == Some(22));
     Ok(())
 }
 
-/// Whether a call makes one entry, or is refused memory and makes none; and none makes one once `refused` is set.
-fn is_kept(one: &mut OneCaller, call: &Call, refused: &mut bool) -> bool {
-    let before = one.entries();
-    let is_refused = one.is_refused(call);
-    let made = one.entries().checked_sub(before);
-    match is_refused {
-        Some(true) => {
-            *refused = true;
-            made == Some(0)
-        }
-        Some(false) => !*refused && made == Some(1),
+/// Whether all calls are answered, or each is refused memory from the first refusal on.
+fn is_told_from_then_on(one: &mut OneCaller) -> bool {
+    match answered(one) {
+        Some(count) => count == 22 || one.is_starved(),
         None => false,
     }
-}
-
-fn are_kept(one: &mut OneCaller) -> bool {
-    let mut refused = false;
-    for row in ROWS {
-        if !is_kept(one, &row.0, &mut refused) {
-            return false;
-        }
-    }
-    !refused || one.is_starved()
 }
 
 /// Nothing is refused where memory is ample: this is for a run in which an allocation fails.
 #[test]
 fn a_refusal_keeps_the_journal_and_is_told_from_then_on(rt: HostRuntime) -> Result<(), Fail> {
     let mut one = OneCaller::new(rt.alloc(), 64)?;
-    assert!(rt; are_kept(&mut one));
+    let is_told = is_told_from_then_on(&mut one);
+    drop(one);
+    assert!(rt; is_told);
     Ok(())
 }

@@ -62,6 +62,89 @@ fn last(shared: &SharedPort, seats: &mut Vec<Seat>) -> Seat
     seat
 }
 
+/// The seats of a port that two callers share.
+#[derive(Drop)]
+struct Seats {
+    first: Seat,
+    second: Seat,
+    flusher: Seat,
+    line: Seat,
+    clock: Seat,
+    session: Seat,
+}
+
+/// Takes all six seats apart.
+fn apart(shared: &SharedPort, mut all: Vec<Seat>) -> Seats
+    requires { AreHere shared.now [] 0 all.items × (length all.items ≡ 6) }
+    ensures first { IsHere shared.now 0 result.first × (list_seen result.first ≡ []) }
+    ensures second { IsHere shared.now 1 result.second × (list_seen result.second ≡ []) }
+    ensures flusher { IsHere shared.now 2 result.flusher × (list_seen result.flusher ≡ []) }
+    ensures line { IsHere shared.now 3 result.line × (list_seen result.line ≡ []) }
+    ensures clock { IsHere shared.now 4 result.clock × (list_seen result.clock ≡ []) }
+    ensures session { IsHere shared.now 5 result.session }
+{
+    let session = last(shared, &mut all);
+    let clock = last(shared, &mut all);
+    let line = last(shared, &mut all);
+    let flusher = last(shared, &mut all);
+    let second = last(shared, &mut all);
+    let first = last(shared, &mut all);
+    Seats {
+        first,
+        second,
+        flusher,
+        line,
+        clock,
+        session,
+    }
+}
+
+/// Makes a caller's next call; `None` where it is denied.
+fn make<R: Wait, G: Gate>(
+    rt: &R,
+    shared: &SharedPort,
+    seat: &mut Seat,
+    caller: u16,
+    step: u32,
+    call: &Call,
+    gate: &G,
+) -> Option<Answer>
+    requires seat { IsHere shared.now caller seat.old }
+    requires known { (caller < 2) × (sum (name_of_port shared.now).counts ≡ 2) }
+    requires number { handle_of (call_of call.now) < 32 }
+    requires bytes { byte_count (call_of call.now) < 2 ^ 32 }
+    requires between { IsBetween caller step (list_seen seat.old) }
+    ensures seat { IsHere shared.now caller seat.new }
+    ensures between { IfSome result (λ _. IsBetween caller (step + 1) (list_seen seat.new)) }
+{
+    shared.call(rt, seat, caller, step, call, gate).ok()
+}
+
+/// Likewise, where it is of no interest what the call is answered.
+fn makes<R: Wait, G: Gate>(
+    rt: &R,
+    shared: &SharedPort,
+    seat: &mut Seat,
+    caller: u16,
+    step: u32,
+    call: &Call,
+    gate: &G,
+) -> Option<()>
+    requires seat { IsHere shared.now caller seat.old }
+    requires known { (caller < 2) × (sum (name_of_port shared.now).counts ≡ 2) }
+    requires number { handle_of (call_of call.now) < 32 }
+    requires bytes { byte_count (call_of call.now) < 2 ^ 32 }
+    requires between { IsBetween caller step (list_seen seat.old) }
+    ensures seat { IsHere shared.now caller seat.new }
+    ensures between { IfSome result (λ _. IsBetween caller (step + 1) (list_seen seat.new)) }
+{
+    let Some(answer) = make(rt, shared, seat, caller, step, call, gate) else {
+        return None;
+    };
+    drop(answer);
+    Some(())
+}
+
 /// Opens a handle of the caller's own number, and then makes two calls in turn, 1,000 times in all.
 fn ask<'a, 'c, R: Wait>(
     rt: &R,
@@ -81,20 +164,14 @@ fn ask<'a, 'c, R: Wait>(
         access: Access::Rw,
         nonblock: false,
     };
-    if shared
-        .call(rt, &mut seat, caller, 0, &open, &OpenGate)
-        .is_err()
-    {
+    let Some(_opened) = makes(rt, shared, &mut seat, caller, 0, &open, &OpenGate) else {
         return seat;
-    }
+    };
     for step in 1..1001 {
         let call = if step % 2 == 0 { calls.0 } else { calls.1 };
-        if shared
-            .call(rt, &mut seat, caller, step, call, &OpenGate)
-            .is_err()
-        {
+        let Some(_made) = makes(rt, shared, &mut seat, caller, step, call, &OpenGate) else {
             return seat;
-        }
+        };
     }
     seat
 }
@@ -173,20 +250,25 @@ fn two_of_three<'a, 'c, R: Threads + Wait + Sync>(
 }
 
 /// Ends the sharing, with all six seats.
-fn end(
-    alloc: Global,
-    shared: SharedPort,
-    callers: (Seat, Seat),
-    flusher: Seat,
-    others: (Seat, Seat, Seat),
-) -> Result<Port, NoMemory>
+fn end(alloc: Global, shared: SharedPort, seats: Seats) -> Result<Port, NoMemory>
     requires callers { (name_of_port shared).callers ≡ 2 }
-    requires first { IsHere shared 0 callers.0 × IsHere shared 1 callers.1 }
-    requires flusher { IsHere shared 2 flusher }
-    requires others { IsHere shared 3 others.0 × IsHere shared 4 others.1 × IsHere shared 5 others.2 }
+    requires first { IsHere shared 0 seats.first × IsHere shared 1 seats.second }
+    requires flusher { IsHere shared 2 seats.flusher }
+    requires others { IsHere shared 3 seats.line × IsHere shared 4 seats.clock × IsHere shared 5 seats.session }
 {
-    let seats = vec![in alloc; callers.0, callers.1, flusher, others.0, others.1, others.2]?;
-    Ok(shared.close(seats))
+    let Seats {
+        first,
+        second,
+        flusher,
+        line,
+        clock,
+        session,
+    } = seats;
+    let Ok(all) = vec![in alloc; first, second, flusher, line, clock, session] else {
+        drop(shared);
+        return Err(NoMemory);
+    };
+    Ok(shared.close(all))
 }
 
 /// Plays on three threads.
@@ -199,15 +281,26 @@ fn play<'a, 'c, R: Threads + Wait + Sync>(
     requires numbers { (handle_of (call_of first.0.now) < 32) × (handle_of (call_of first.1.now) < 32) × (handle_of (call_of second.0.now) < 32) × (handle_of (call_of second.1.now) < 32) }
     requires bytes { (byte_count (call_of first.0.now) < 2 ^ 32) × (byte_count (call_of first.1.now) < 2 ^ 32) × (byte_count (call_of second.0.now) < 2 ^ 32) × (byte_count (call_of second.1.now) < 2 ^ 32) }
 {
-    let (_input, shared, mut seats) = share(alloc)?;
-    let session = last(&shared, &mut seats);
-    let clock = last(&shared, &mut seats);
-    let line = last(&shared, &mut seats);
-    let flusher = last(&shared, &mut seats);
-    let caller = last(&shared, &mut seats);
-    let other = last(&shared, &mut seats);
-    let (one, (two, flusher)) = three(rt, &shared, (other, caller, flusher), first, second);
-    end(alloc, shared, (one, two), flusher, (line, clock, session))
+    let (input, shared, all) = share(alloc)?;
+    let Seats {
+        first: one,
+        second: two,
+        flusher,
+        line,
+        clock,
+        session,
+    } = apart(&shared, all);
+    let (one, (two, flusher)) = three(rt, &shared, (one, two, flusher), first, second);
+    drop(input);
+    let seats = Seats {
+        first: one,
+        second: two,
+        flusher,
+        line,
+        clock,
+        session,
+    };
+    end(alloc, shared, seats)
 }
 
 fn is_answer(event: &Event) -> bool {
@@ -242,8 +335,9 @@ fn two_callers_beside_a_flusher(rt: HostRuntime) -> Result<(), Fail> {
     let first = (&Call::Inq { h: 0 }, &Call::Outq { h: 0 });
     let second = (&Call::Inq { h: 1 }, &Call::Outq { h: 1 });
     let port = play(&rt, rt.alloc(), first, second)?;
-    let journal = port.journal();
-    assert!(rt; are_answered(journal) && journal.len() == 2003);
+    let are_answered = are_answered(port.journal()) && port.journal().len() == 2003;
+    drop(port);
+    assert!(rt; are_answered);
     Ok(())
 }
 
@@ -259,33 +353,14 @@ fn changes_beside_writes(rt: HostRuntime) -> Result<(), Fail> {
         &Call::SetDisc { h: 0, number: 1 },
     );
     let port = play(&rt, rt.alloc(), first, (&write, &write))?;
-    assert!(rt; are_answered(port.journal()) && port.generation() == 1000);
+    let are_answered = are_answered(port.journal()) && port.generation() == 1000;
+    drop(port);
+    assert!(rt; are_answered);
     Ok(())
 }
 
-/// Makes a caller's next call; `None` where it is denied.
-fn make<R: Wait, G: Gate>(
-    rt: &R,
-    shared: &SharedPort,
-    seat: &mut Seat,
-    caller: u16,
-    step: u32,
-    call: &Call,
-    gate: &G,
-) -> Option<Answer>
-    requires seat { IsHere shared.now caller seat.old }
-    requires known { (caller < 2) × (sum (name_of_port shared.now).counts ≡ 2) }
-    requires number { handle_of (call_of call.now) < 32 }
-    requires bytes { byte_count (call_of call.now) < 2 ^ 32 }
-    requires between { IsBetween caller step (list_seen seat.old) }
-    ensures seat { IsHere shared.now caller seat.new }
-    ensures between { IfSome result (λ _. IsBetween caller (step + 1) (list_seen seat.new)) }
-{
-    shared.call(rt, seat, caller, step, call, gate).ok()
-}
-
 /// Opens the first handle for the first caller, which waits for nothing through it.
-fn open_first<R: Wait>(rt: &R, shared: &SharedPort, seat: &mut Seat) -> Option<Answer>
+fn open_first<R: Wait>(rt: &R, shared: &SharedPort, seat: &mut Seat) -> Option<()>
     requires seat { IsHere shared.now 0 seat.old × (list_seen seat.old ≡ []) }
     requires callers { sum (name_of_port shared.now).counts ≡ 2 }
     ensures seat { IsHere shared.now 0 seat.new }
@@ -296,18 +371,18 @@ fn open_first<R: Wait>(rt: &R, shared: &SharedPort, seat: &mut Seat) -> Option<A
         access: Access::Rw,
         nonblock: true,
     };
-    make(rt, shared, seat, 0, 0, &open, &OpenGate)
+    makes(rt, shared, seat, 0, 0, &open, &OpenGate)
 }
 
 /// Opens the port, makes it raw, and reads what a flush run handed over before the line's end. Tells
-/// how many characters that were, and what the read was answered.
+/// how many characters that were, and whether the read gave the one of `share`.
 fn read_early<R: Wait>(
     rt: &R,
     shared: &SharedPort,
     caller: &mut Seat,
     flusher: &mut Seat,
     raw: &Call,
-) -> Option<(u32, Answer)>
+) -> Option<(u32, bool)>
     requires caller { IsHere shared.now 0 caller.old × (list_seen caller.old ≡ []) }
     requires flusher { IsHere shared.now 2 flusher.old × (list_seen flusher.old ≡ []) }
     requires callers { ((name_of_port shared.now).callers ≡ 2) × (sum (name_of_port shared.now).counts ≡ 2) }
@@ -321,7 +396,7 @@ fn read_early<R: Wait>(
     let Some(_opened) = open_first(rt, shared, caller) else {
         return None;
     };
-    let Some(_changed) = make(rt, shared, caller, 0, 1, raw, &OpenGate) else {
+    let Some(_changed) = makes(rt, shared, caller, 0, 1, raw, &OpenGate) else {
         return None;
     };
     let Ok(count) = shared.flush_run(rt, flusher, 0) else {
@@ -331,7 +406,9 @@ fn read_early<R: Wait>(
     let Some(answer) = make(rt, shared, caller, 0, 2, &read, &OpenGate) else {
         return None;
     };
-    Some((count, answer))
+    let gave = gives(&answer, b"x");
+    drop(answer);
+    Some((count, gave))
 }
 
 /// Ends line and clock.
@@ -371,14 +448,14 @@ fn end_callers<R: Wait>(
 }
 
 /// What one thread found that used all seats of a port.
-#[derive(Drop)]
+#[derive(Clone, Copy)]
 struct Found {
     /// How many characters two flush runs handed over.
     handed: (u32, u32),
-    answer: Answer,
+    /// Whether the read gave the character.
+    gave: bool,
     /// Whether the phase might end before and after its callers' end.
     ended: (bool, bool),
-    port: Port,
 }
 
 /// The number of the flush run after the first, which handed over so many characters.
@@ -389,42 +466,54 @@ fn next_after(count: u32) -> u32
 }
 
 /// Plays a phase on one thread.
-fn play_alone<R: Wait>(rt: &R, alloc: Global) -> Option<Found> {
+fn phase<R: Wait>(
+    rt: &R,
+    shared: &SharedPort,
+    seats: &mut Seats,
+    putter: &mut FlipIn,
+) -> Option<Found>
+    requires first { IsHere shared.now 0 seats.old.first × (list_seen seats.old.first ≡ []) }
+    requires second { IsHere shared.now 1 seats.old.second × (list_seen seats.old.second ≡ []) }
+    requires flusher { IsHere shared.now 2 seats.old.flusher × (list_seen seats.old.flusher ≡ []) }
+    requires line { IsHere shared.now 3 seats.old.line × (list_seen seats.old.line ≡ []) }
+    requires clock { IsHere shared.now 4 seats.old.clock × (list_seen seats.old.clock ≡ []) }
+    requires session { IsHere shared.now 5 seats.old.session }
+    requires callers { ((name_of_port shared.now).callers ≡ 2) × (sum (name_of_port shared.now).counts ≡ 2) }
+    requires ring { putter.old.ring ≡ (name_of_port shared.now).ring }
+    ensures first { IsHere shared.now 0 seats.new.first × IsHere shared.now 1 seats.new.second }
+    ensures flusher { IsHere shared.now 2 seats.new.flusher }
+    ensures others { IsHere shared.now 3 seats.new.line × IsHere shared.now 4 seats.new.clock × IsHere shared.now 5 seats.new.session }
+{
     let raw = Call::SetModes {
         h: 0,
         when: When::Now,
         words: &[Word::Raw],
     };
-    let Ok((mut putter, shared, mut seats)) = share(alloc) else {
+    let Some((count, gave)) = read_early(rt, shared, &mut seats.first, &mut seats.flusher, &raw)
+    else {
         return None;
     };
-    let mut session = last(&shared, &mut seats);
-    let mut clock = last(&shared, &mut seats);
-    let mut line = last(&shared, &mut seats);
-    let mut flusher = last(&shared, &mut seats);
-    let mut second = last(&shared, &mut seats);
-    let mut first = last(&shared, &mut seats);
-    let Some((count, answer)) = read_early(rt, &shared, &mut first, &mut flusher, &raw) else {
-        return None;
-    };
-    end_line_and_clock(rt, &shared, &mut line, &mut putter, &mut clock).ok()?;
-    let early = shared.ended(rt, &mut session);
-    end_callers(rt, &shared, &mut first, &mut second).ok()?;
-    let rest = shared.flush_run(rt, &mut flusher, next_after(count)).ok()?;
-    let ended = shared.ended(rt, &mut session);
-    let port = end(
-        alloc,
-        shared,
-        (first, second),
-        flusher,
-        (line, clock, session),
-    );
+    end_line_and_clock(rt, shared, &mut seats.line, putter, &mut seats.clock).ok()?;
+    let early = shared.ended(rt, &mut seats.session);
+    end_callers(rt, shared, &mut seats.first, &mut seats.second).ok()?;
+    let rest = shared
+        .flush_run(rt, &mut seats.flusher, next_after(count))
+        .ok()?;
+    let ended = shared.ended(rt, &mut seats.session);
     Some(Found {
         handed: (count, rest),
-        answer,
+        gave,
         ended: (early, ended),
-        port: port.ok()?,
     })
+}
+
+/// Plays a phase on one thread, and ends the sharing.
+fn play_alone<R: Wait>(rt: &R, alloc: Global) -> Result<(Option<Found>, Port), NoMemory> {
+    let (mut putter, shared, all) = share(alloc)?;
+    let mut seats = apart(&shared, all);
+    let found = phase(rt, &shared, &mut seats, &mut putter);
+    drop(putter);
+    Ok((found, end(alloc, shared, seats)?))
 }
 
 /// Who made the entries of the phase, each with the step.
@@ -463,14 +552,19 @@ fn gives(answer: &Answer, wanted: &[u8]) -> bool {
 }
 
 /// Whether the first of two flush runs handed a character over, the read gave it, and the phase might end at its end.
-fn is_the_phase(found: &Found) -> bool {
-    found.handed == (1, 0) && gives(&found.answer, b"x") && found.ended == (false, true)
+fn is_the_phase(found: Option<Found>) -> bool {
+    match found {
+        Some(found) => found.handed == (1, 0) && found.gave && found.ended == (false, true),
+        None => false,
+    }
 }
 
 #[test]
 fn each_seat_makes_its_entries(rt: HostRuntime) -> Result<(), Fail> {
-    let found = play_alone(&rt, rt.alloc()).ok_or("denied")?;
-    assert!(rt; is_the_phase(&found) && are_made(found.port.journal()));
+    let (found, port) = play_alone(&rt, rt.alloc())?;
+    let are_made = is_the_phase(found) && are_made(port.journal());
+    drop(port);
+    assert!(rt; are_made);
     Ok(())
 }
 
@@ -506,7 +600,7 @@ impl Gate for BetweenParts {
     }
 }
 
-/// The first caller writes.
+/// The first caller opens the port and writes.
 fn write<R: Wait, G: Gate>(
     rt: &R,
     shared: &SharedPort,
@@ -514,13 +608,16 @@ fn write<R: Wait, G: Gate>(
     call: &Call,
     gate: &G,
 ) -> Seat
-    requires seat { IsHere shared.now 0 seat × IsBetween 0 1 (list_seen seat) }
+    requires seat { IsHere shared.now 0 seat × (list_seen seat ≡ []) }
     requires callers { sum (name_of_port shared.now).counts ≡ 2 }
     requires number { handle_of (call_of call.now) < 32 }
     requires bytes { byte_count (call_of call.now) < 2 ^ 32 }
     ensures { IsHere shared.now 0 result }
 {
-    let _answer = make(rt, shared, &mut seat, 0, 1, call, gate);
+    let Some(_opened) = open_first(rt, shared, &mut seat) else {
+        return seat;
+    };
+    let _made = makes(rt, shared, &mut seat, 0, 1, call, gate);
     seat
 }
 
@@ -531,11 +628,11 @@ fn read_and_ask<R: Wait, G: Gate>(rt: &R, shared: &SharedPort, mut seat: Seat, g
     ensures { IsHere shared.now 1 result }
 {
     let read = Call::Read { h: 0, n: 8 };
-    let Some(_read) = make(rt, shared, &mut seat, 1, 0, &read, gate) else {
+    let Some(_read) = makes(rt, shared, &mut seat, 1, 0, &read, gate) else {
         return seat;
     };
     let asked = Call::GetDisc { h: 0 };
-    let _answer = make(rt, shared, &mut seat, 1, 1, &asked, gate);
+    let _made = makes(rt, shared, &mut seat, 1, 1, &asked, gate);
     seat
 }
 
@@ -547,7 +644,7 @@ fn both<R: Threads + Wait + Sync>(
     call: &Call,
     gate: &BetweenParts,
 ) -> (Seat, Seat)
-    requires first { IsHere shared.now 0 seats.0 × IsBetween 0 1 (list_seen seats.0) }
+    requires first { IsHere shared.now 0 seats.0 × (list_seen seats.0 ≡ []) }
     requires second { IsHere shared.now 1 seats.1 × (list_seen seats.1 ≡ []) }
     requires callers { sum (name_of_port shared.now).counts ≡ 2 }
     requires number { handle_of (call_of call.now) < 32 }
@@ -559,7 +656,7 @@ fn both<R: Threads + Wait + Sync>(
     join(
         rt,
         move || -> Seat
-            requires { IsSync R.row × IsHere shared.now 0 one × IsBetween 0 1 (list_seen one) × (sum (name_of_port shared.now).counts ≡ 2) × (handle_of (call_of call.now) < 32) × (byte_count (call_of call.now) < 2 ^ 32) }
+            requires { IsSync R.row × IsHere shared.now 0 one × (list_seen one ≡ []) × (sum (name_of_port shared.now).counts ≡ 2) × (handle_of (call_of call.now) < 32) × (byte_count (call_of call.now) < 2 ^ 32) }
             ensures { IsHere shared.entry.now 0 result }
         { write(rt, shared, one, call, gate) },
         move || -> Seat
@@ -570,7 +667,11 @@ fn both<R: Threads + Wait + Sync>(
 }
 
 /// Plays both callers on threads, after the clock's first tick.
-fn play_between<R: Threads + Wait + Sync>(rt: &R, alloc: Global, call: &Call) -> Option<Port>
+fn play_between<R: Threads + Wait + Sync>(
+    rt: &R,
+    alloc: Global,
+    call: &Call,
+) -> Result<Port, NoMemory>
     requires number { handle_of (call_of call.now) < 32 }
     requires bytes { byte_count (call_of call.now) < 2 ^ 32 }
 {
@@ -578,21 +679,27 @@ fn play_between<R: Threads + Wait + Sync>(rt: &R, alloc: Global, call: &Call) ->
         parted: AtomicU64::new(0),
         came: AtomicU64::new(0),
     };
-    let Ok((_putter, shared, mut seats)) = share(alloc) else {
-        return None;
+    let (putter, shared, all) = share(alloc)?;
+    let Seats {
+        first,
+        second,
+        flusher,
+        line,
+        mut clock,
+        session,
+    } = apart(&shared, all);
+    let _ticked = shared.tick(rt, &mut clock);
+    let (first, second) = both(rt, &shared, (first, second), call, &gate);
+    drop(putter);
+    let seats = Seats {
+        first,
+        second,
+        flusher,
+        line,
+        clock,
+        session,
     };
-    let session = last(&shared, &mut seats);
-    let mut clock = last(&shared, &mut seats);
-    let line = last(&shared, &mut seats);
-    let flusher = last(&shared, &mut seats);
-    let second = last(&shared, &mut seats);
-    let mut first = last(&shared, &mut seats);
-    let Some(_opened) = open_first(rt, &shared, &mut first) else {
-        return None;
-    };
-    shared.tick(rt, &mut clock).ok()?;
-    let callers = both(rt, &shared, (first, second), call, &gate);
-    end(alloc, shared, callers, flusher, (line, clock, session)).ok()
+    end(alloc, shared, seats)
 }
 
 fn is_part(event: &Event, bytes: u32) -> bool {
@@ -633,7 +740,9 @@ fn a_read_is_answered_between_the_parts_of_a_write(rt: HostRuntime) -> Result<()
         h: 0,
         bytes: &bytes,
     };
-    let port = play_between(&rt, rt.alloc(), &write).ok_or("denied")?;
-    assert!(rt; is_answered_between(port.journal()));
+    let port = play_between(&rt, rt.alloc(), &write)?;
+    let is_answered = is_answered_between(port.journal());
+    drop(port);
+    assert!(rt; is_answered);
     Ok(())
 }
