@@ -54,7 +54,7 @@ fn each_event_by_the_flags(rt: HostRuntime) {
         (Word::Off(ECHO), EchoEvent::Newline, b""),
     ];
     for (word, event, want) in rows {
-        assert!(rt; echoes(&[word], event, want), "{event:?} {word:?}");
+        assert!(rt; echoes(&[word], event, want), "{event:?}");
     }
     let words = [Word::Raw, Word::On(ECHONL)];
     assert!(rt; echoes(&words, EchoEvent::Newline, b"\n"));

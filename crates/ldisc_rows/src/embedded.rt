@@ -2,171 +2,167 @@
 //! pieces.
 
 use std::alloc::Global;
-use std::test::Fail;
 use tty_base::{Flag, NoMemory, Signal};
 use tty_embed::Tty;
 
-/// A terminal, of which the tests know nothing but what its calls answer.
-#[derive(Drop)]
-struct Line {
-    tty: Tty,
+/// What is done to a terminal, and what is to come of it.
+#[derive(Clone, Copy)]
+enum Step {
+    /// These characters come one by one, and each is accepted.
+    Types(&'static [u8]),
+    /// Of these characters, which come in one call, so many are accepted.
+    Receives(&'static [u8], usize),
+    /// A read that began to wait at tick 0 gives these bytes.
+    Reads(&'static [u8]),
+    /// Such a read has to wait.
+    Waits,
+    /// So many bytes are unread.
+    Keeps(usize),
+    /// Of these bytes so many are written.
+    Writes(&'static [u8], usize),
+    /// These bytes went out, as far as a place of 8 bytes holds them.
+    Sends(&'static [u8]),
+    /// Whether this word sets a mode.
+    Sets(&'static [u8], bool),
+    /// The clock is set.
+    Ticks(u64),
+    /// This is the first signal that was raised.
+    Raises(Option<Signal>),
 }
 
-impl Line {
-    fn new(alloc: Global) -> Result<Line, NoMemory> {
-        Ok(Line {
-            tty: Tty::new(alloc)?,
-        })
-    }
+/// A line is edited, with its echo, and read once it is complete.
+const EDITED: &[Step] = &[
+    Step::Types(b"ab\x7fc"),
+    Step::Waits,
+    Step::Keeps(2),
+    Step::Types(b"\r"),
+    Step::Reads(b"ac\n"),
+    Step::Keeps(0),
+    Step::Sends(b"ab\x08 \x08c\r\n"),
+    Step::Sends(b""),
+];
 
-    fn receive(&mut self, byte: u8) -> Result<bool, NoMemory> {
-        self.tty.receive(byte, Flag::Normal)
-    }
+/// A line that comes in one call is edited, with its echo, as one that comes by single characters; raw bytes are kept as
+/// they are.
+const IN_ONE_CALL: &[Step] = &[
+    Step::Receives(b"ab\x7fc\r", 5),
+    Step::Reads(b"ac\n"),
+    Step::Sends(b"ab\x08 \x08c\r\n"),
+    Step::Sends(b""),
+    Step::Sets(b"raw", true),
+    Step::Receives(b"a\x03\x7f\r", 4),
+    Step::Reads(b"a\x03\x7f\r"),
+    Step::Receives(&[0x62; 100], 64),
+    Step::Keeps(64),
+];
 
-    fn receive_bytes(&mut self, bytes: &[u8]) -> Result<usize, NoMemory> {
-        self.tty.receive_bytes(bytes)
-    }
+/// A read out of canonical mode waits for MIN bytes, or for TIME after the last; and a word that is none is refused.
+const MIN_AND_TIME: &[Step] = &[
+    Step::Sets(b"raw", true),
+    Step::Sets(b"min=3", true),
+    Step::Sets(b"time=2", true),
+    Step::Types(b"ab"),
+    Step::Waits,
+    Step::Types(b"c\x03"),
+    Step::Reads(b"abc\x03"),
+    Step::Types(b"d"),
+    Step::Ticks(1),
+    Step::Waits,
+    Step::Ticks(2),
+    Step::Reads(b"d"),
+    Step::Sets(b"-raw", false),
+];
 
-    fn advance(&mut self, tick: u64) {
-        self.tty.advance(tick);
-    }
+/// INTR drops what was typed and raises a signal, which is told once.
+const INTERRUPTED: &[Step] = &[
+    Step::Types(b"ab\x03"),
+    Step::Keeps(0),
+    Step::Sends(b"ab^C"),
+    Step::Raises(Some(Signal::Int)),
+    Step::Raises(None),
+];
 
-    fn ready(&self) -> bool {
-        self.tty.ready(false, 0, 64)
-    }
+/// What STOP halts is held until START, and what went out is taken in pieces.
+const HELD: &[Step] = &[
+    Step::Writes(b"abc\ndef\tgh", 10),
+    Step::Types(b"\x13"),
+    Step::Writes(&[0x62; 100], 64),
+    Step::Sends(b"abc\r\ndef"),
+    Step::Sends(b"\tgh"),
+    Step::Sends(b""),
+    Step::Types(b"\x11"),
+    Step::Sends(b"bbbbbbbb"),
+];
 
-    fn read(&mut self, place: &mut [u8]) -> Result<Option<usize>, NoMemory> {
-        self.tty.read(false, 0, place)
-    }
-
-    fn write(&mut self, bytes: &[u8]) -> Result<usize, NoMemory> {
-        self.tty.write(bytes)
-    }
-
-    fn set(&mut self, word: &[u8]) -> Result<bool, NoMemory> {
-        self.tty.set(word)
-    }
-
-    fn take_wire(&mut self, place: &mut [u8]) -> Result<usize, NoMemory> {
-        self.tty.take_wire(place)
-    }
-
-    fn take_signal(&mut self) -> Result<Option<Signal>, NoMemory> {
-        self.tty.take_signal()
-    }
-
-    fn unread(&self) -> usize {
-        self.tty.unread()
-    }
-
-    /// Characters come. Answers whether all were accepted.
-    fn type_in(&mut self, bytes: &[u8]) -> Result<bool, NoMemory> {
-        for byte in bytes {
-            if !self.receive(*byte)? {
-                return Ok(false);
-            }
+fn types(tty: &mut Tty, bytes: &[u8]) -> Result<bool, NoMemory> {
+    for byte in bytes {
+        if !tty.receive(*byte, Flag::Normal)? {
+            return Ok(false);
         }
-        Ok(true)
     }
+    Ok(true)
+}
 
-    /// Whether a read that began to wait at tick 0 gives these bytes.
-    fn reads(&mut self, bytes: &[u8]) -> Result<bool, NoMemory> {
-        let mut place = [0; 64];
-        let is_ready = self.ready();
-        let count = self.read(&mut place)?;
-        Ok(is_ready && count == Some(bytes.len()) && place.starts_with(bytes))
+fn reads(tty: &mut Tty, bytes: &[u8]) -> Result<bool, NoMemory> {
+    let mut place = [0; 64];
+    let is_ready = tty.ready(false, 0, 64);
+    let count = tty.read(false, 0, &mut place)?;
+    Ok(is_ready && count == Some(bytes.len()) && place.starts_with(bytes))
+}
+
+fn waits(tty: &mut Tty) -> Result<bool, NoMemory> {
+    let mut place = [0; 64];
+    let is_ready = tty.ready(false, 0, 64);
+    Ok(tty.read(false, 0, &mut place)? == None && !is_ready)
+}
+
+fn sends(tty: &mut Tty, bytes: &[u8]) -> Result<bool, NoMemory> {
+    let mut place = [0; 8];
+    let count = tty.take_wire(&mut place)?;
+    Ok(count == bytes.len() && place.starts_with(bytes))
+}
+
+/// Whether a step goes as it is to go.
+fn follows(tty: &mut Tty, step: &Step) -> Result<bool, NoMemory> {
+    match step {
+        Step::Types(bytes) => types(tty, bytes),
+        Step::Reads(bytes) => reads(tty, bytes),
+        Step::Waits => waits(tty),
+        Step::Sends(bytes) => sends(tty, bytes),
+        Step::Receives(bytes, count) => Ok(tty.receive_bytes(bytes)? == *count),
+        Step::Writes(bytes, count) => Ok(tty.write(bytes)? == *count),
+        Step::Sets(word, is_set) => Ok(tty.set(word)? == *is_set),
+        Step::Raises(signal) => Ok(tty.take_signal()? == *signal),
+        Step::Keeps(count) => Ok(tty.unread() == *count),
+        Step::Ticks(tick) => {
+            tty.advance(*tick);
+            Ok(true)
+        }
     }
+}
 
-    /// Whether such a read has to wait.
-    fn waits(&mut self) -> Result<bool, NoMemory> {
-        let mut place = [0; 64];
-        Ok(!self.ready() && self.read(&mut place)? == None)
+/// Whether each step of a row goes as it is to go.
+fn follows_all(tty: &mut Tty, row: &[Step]) -> Result<bool, NoMemory> {
+    for step in row {
+        if !follows(tty, step)? {
+            return Ok(false);
+        }
     }
+    Ok(true)
+}
 
-    /// Whether these bytes went out, as far as a place of 8 bytes holds them.
-    fn sends(&mut self, bytes: &[u8]) -> Result<bool, NoMemory> {
-        let mut place = [0; 8];
-        let count = self.take_wire(&mut place)?;
-        Ok(count == bytes.len() && place.starts_with(bytes))
+fn goes(alloc: Global, row: &[Step]) -> Result<bool, NoMemory> {
+    let mut tty = Tty::new(alloc)?;
+    follows_all(&mut tty, row)
+}
+
+#[test]
+fn a_terminal_edits_waits_raises_signals_and_holds_output(rt: HostRuntime) {
+    for row in [EDITED, IN_ONE_CALL, MIN_AND_TIME, INTERRUPTED, HELD] {
+        assert!(rt;
+            goes(rt.alloc(), row) == Ok(true),
+            "a row of {} steps",
+            row.len()
+        );
     }
-}
-
-/// Whether a line is edited, with its echo, and read once it is complete.
-fn edits_a_line(line: &mut Line) -> Result<bool, NoMemory> {
-    let begins = line.type_in(b"ab\x7fc")? && line.waits()? && line.unread() == 2;
-    let ends = line.type_in(b"\r")? && line.reads(b"ac\n")? && line.unread() == 0;
-    Ok(begins && ends && line.sends(b"ab\x08 \x08c\r\n")? && line.sends(b"")?)
-}
-
-/// Whether a line that comes in one call is edited, with its echo, as one that comes by single characters, and
-/// whether raw bytes are kept as they are.
-fn receives_in_one_call(line: &mut Line) -> Result<bool, NoMemory> {
-    let edits = line.receive_bytes(b"ab\x7fc\r")? == 5 && line.reads(b"ac\n")?;
-    let echoes = line.sends(b"ab\x08 \x08c\r\n")? && line.sends(b"")?;
-    let raw = line.set(b"raw")?
-        && line.receive_bytes(b"a\x03\x7f\r")? == 4
-        && line.reads(b"a\x03\x7f\r")?;
-    Ok(edits && echoes && raw && line.receive_bytes(&[0x62; 100])? == 64)
-}
-
-/// Whether a read out of canonical mode waits for MIN bytes, or for TIME after the last, and a word that is none is
-/// refused.
-fn waits_by_min_and_time(line: &mut Line) -> Result<bool, NoMemory> {
-    let sets = line.set(b"raw")? && line.set(b"min=3")? && line.set(b"time=2")?;
-    let min = line.type_in(b"ab")? && line.waits()? && line.type_in(b"c\x03")?;
-    let bytes = line.reads(b"abc\x03")? && line.type_in(b"d")?;
-    line.advance(1);
-    let early = line.waits()?;
-    line.advance(2);
-    Ok(sets && min && bytes && early && line.reads(b"d")? && !line.set(b"-raw")?)
-}
-
-/// Whether INTR drops what was typed and raises a signal, which is told once.
-fn interrupts(line: &mut Line) -> Result<bool, NoMemory> {
-    let typed = line.type_in(b"ab\x03")? && line.unread() == 0 && line.sends(b"ab^C")?;
-    Ok(typed && line.take_signal()? == Some(Signal::Int) && line.take_signal()? == None)
-}
-
-/// Whether what STOP halts is held until START, and what went out is taken in pieces.
-fn holds_output(line: &mut Line) -> Result<bool, NoMemory> {
-    let held = line.write(b"abc\ndef\tgh")? == 10
-        && line.type_in(b"\x13")?
-        && line.write(&[0x62; 100])? == 64;
-    let before = line.sends(b"abc\r\ndef")? && line.sends(b"\tgh")? && line.sends(b"")?;
-    Ok(held && before && line.type_in(b"\x11")? && line.sends(b"bbbbbbbb")?)
-}
-
-#[test]
-fn a_line_is_edited_echoed_and_read(rt: HostRuntime) -> Result<(), Fail> {
-    let mut line = Line::new(rt.alloc())?;
-    assert!(rt; edits_a_line(&mut line) == Ok(true));
-    Ok(())
-}
-
-#[test]
-fn bytes_are_received_in_one_call(rt: HostRuntime) -> Result<(), Fail> {
-    let mut line = Line::new(rt.alloc())?;
-    assert!(rt; receives_in_one_call(&mut line) == Ok(true) && line.unread() == 64);
-    Ok(())
-}
-
-#[test]
-fn min_and_time_end_a_read(rt: HostRuntime) -> Result<(), Fail> {
-    let mut line = Line::new(rt.alloc())?;
-    assert!(rt; waits_by_min_and_time(&mut line) == Ok(true));
-    Ok(())
-}
-
-#[test]
-fn intr_raises_a_signal_once(rt: HostRuntime) -> Result<(), Fail> {
-    let mut line = Line::new(rt.alloc())?;
-    assert!(rt; interrupts(&mut line) == Ok(true));
-    Ok(())
-}
-
-#[test]
-fn output_is_held_and_taken_in_pieces(rt: HostRuntime) -> Result<(), Fail> {
-    let mut line = Line::new(rt.alloc())?;
-    assert!(rt; holds_output(&mut line) == Ok(true));
-    Ok(())
 }

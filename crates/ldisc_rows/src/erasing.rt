@@ -3,7 +3,6 @@
 
 use n_tty_edit::{Edit, Gone};
 use std::alloc::Global;
-use std::test::Fail;
 use tty_base::NoMemory;
 use tty_modes::places::IUTF8;
 use tty_modes::{Modes, Word};
@@ -26,19 +25,20 @@ fn gone(first: u8, bytes: usize, width: usize) -> Option<Gone> {
     })
 }
 
-/// What ERASE takes from a line of these bytes, which begins in this column.
-fn erased(
+/// Whether ERASE takes this from a line of these bytes, which begins in this column.
+fn erases(
     alloc: Global,
     bytes: &[u8],
     start: usize,
     modes: &Modes,
-) -> Result<Option<Gone>, NoMemory> {
+    wanted: Option<Gone>,
+) -> Result<bool, NoMemory> {
     let mut line = line_of(alloc, bytes)?;
-    Ok(line.erase(start, modes))
+    Ok(line.erase(start, modes) == wanted)
 }
 
 #[test]
-fn erase_takes_a_byte_or_a_character(rt: HostRuntime) -> Result<(), Fail> {
+fn erase_takes_a_byte_or_a_character(rt: HostRuntime) {
     let plain = Modes::sane();
     let mut utf8 = plain;
     utf8.apply(Word::On(IUTF8));
@@ -54,36 +54,17 @@ fn erase_takes_a_byte_or_a_character(rt: HostRuntime) -> Result<(), Fail> {
         (b"\xc3\xa9\t", 0, gone(9, 1, 6), gone(9, 1, 7)),
     ];
     for (bytes, start, by_byte, by_character) in rows {
-        assert!(rt;
-            erased(rt.alloc(), bytes, start, &plain)? == by_byte,
-            "{bytes:?}"
-        );
-        assert!(rt;
-            erased(rt.alloc(), bytes, start, &utf8)? == by_character,
-            "{bytes:?}"
-        );
+        let byte = erases(rt.alloc(), bytes, start, &plain, by_byte);
+        let character = erases(rt.alloc(), bytes, start, &utf8, by_character);
+        assert!(rt; byte == Ok(true) && character == Ok(true), "{bytes:?}");
     }
-    Ok(())
 }
 
 /// Whether WERASE leaves this of a line, and takes as much as it says before and after.
-fn leaves(line: &mut Edit, left: &[u8]) -> bool {
+fn leaves(alloc: Global, bytes: &[u8], left: &[u8]) -> Result<bool, NoMemory> {
+    let mut line = line_of(alloc, bytes)?;
     let len = line.word_len();
-    line.erase_word() == len && line.bytes() == left
-}
-
-#[test]
-fn words_are_erased(rt: HostRuntime) -> Result<(), Fail> {
-    let rows = [
-        (b"foo bar".as_slice(), b"foo ".as_slice()),
-        (b"foo_1 .. ", b""),
-        (b"a.b\xa9", b"a."),
-    ];
-    for (bytes, left) in rows {
-        let mut line = line_of(rt.alloc(), bytes)?;
-        assert!(rt; leaves(&mut line, left), "{bytes:?}");
-    }
-    Ok(())
+    Ok(line.erase_word() == len && line.bytes() == left)
 }
 
 /// Whether a line of 4,095 letters takes no more, and KILL takes them all.
@@ -96,10 +77,17 @@ fn is_bounded(line: &mut Edit) -> bool {
     is_wide && line.kill() == 4095 && line.bytes().is_empty()
 }
 
-#[test]
-fn a_line_is_bounded(rt: HostRuntime) -> Result<(), Fail> {
-    let mut line = line_of(rt.alloc(), &[0x61; 4095])?;
-    assert!(rt; is_bounded(&mut line));
+fn a_line_is_bounded(alloc: Global) -> Result<bool, NoMemory> {
+    let mut line = line_of(alloc, &[0x61; 4095])?;
+    let is_bounded = is_bounded(&mut line);
     moves(line);
-    Ok(())
+    Ok(is_bounded)
+}
+
+#[test]
+fn words_are_erased_and_a_line_is_bounded(rt: HostRuntime) {
+    assert!(rt; leaves(rt.alloc(), b"foo bar", b"foo ") == Ok(true));
+    assert!(rt; leaves(rt.alloc(), b"foo_1 .. ", b"") == Ok(true));
+    assert!(rt; leaves(rt.alloc(), b"a.b\xa9", b"a.") == Ok(true));
+    assert!(rt; a_line_is_bounded(rt.alloc()) == Ok(true));
 }

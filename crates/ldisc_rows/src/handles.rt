@@ -3,34 +3,42 @@
 use handle_table::{HandleState, Handles};
 use tty_calls::Access;
 
-#[test]
-fn a_killed_handle_keeps_its_number(rt: HostRuntime) {
-    let mut handles = Handles::new();
-    assert_eq!(rt; handles.state(31), None);
-    assert!(rt; handles.admit(31, Access::Rw, true));
-    assert!(rt; handles.admit(0, Access::R, false));
-    assert!(rt; !handles.admit(31, Access::R, false));
-    assert_eq!(rt; handles.live(), 2);
+/// Whether two handles are admitted, each number once.
+fn admits_two(handles: &mut Handles) -> bool {
+    let is_empty = handles.state(31) == None;
+    let first = handles.admit(31, Access::Rw, true);
+    let second = handles.admit(0, Access::R, false);
+    let again = handles.admit(31, Access::R, false);
+    is_empty && first && second && !again && handles.live() == 2
+}
 
+/// Whether a killed handle keeps its number.
+fn keeps_the_dead(handles: &mut Handles) -> bool {
     handles.kill_all();
     let dead = HandleState {
         access: Access::Rw,
         nonblock: true,
         live: false,
     };
-    assert_eq!(rt; handles.state(31), Some(dead));
-    assert_eq!(rt; handles.live(), 0);
-    assert!(rt; !handles.admit(31, Access::W, false));
+    let is_dead = handles.state(31) == Some(dead) && handles.live() == 0;
+    is_dead && !handles.admit(31, Access::W, false)
+}
 
-    assert!(rt; handles.remove(31));
-    assert!(rt; !handles.remove(31));
-    assert!(rt; handles.admit(31, Access::W, false));
-    assert_eq!(rt; handles.live(), 1);
+/// Whether a number is free once its handle is removed.
+fn frees_its_number(handles: &mut Handles) -> bool {
+    let removed = handles.remove(31);
+    let again = handles.remove(31);
+    removed && !again && handles.admit(31, Access::W, false) && handles.live() == 1
 }
 
 fn moves<T: Send + Sync + Drop>(_value: T) {}
 
 #[test]
-fn handles_move_between_threads(_rt: HostRuntime) {
-    moves(Handles::new());
+fn a_killed_handle_keeps_its_number(rt: HostRuntime) {
+    let mut handles = Handles::new();
+    let admits = admits_two(&mut handles);
+    let keeps = keeps_the_dead(&mut handles);
+    let frees = frees_its_number(&mut handles);
+    moves(handles);
+    assert!(rt; admits && keeps && frees);
 }

@@ -2,7 +2,6 @@
 
 use flow_control::{Counter, Signals, Tally, Wire, room_makes_no_difference};
 use std::alloc::Global;
-use std::test::Fail;
 use tty_base::{Bytes, NoMemory, Signal};
 
 /// The output of a port, whose calls have the memory that they need.
@@ -61,11 +60,9 @@ fn holds_what_fits(output: &mut Output, bytes: &[u8]) -> Result<bool, NoMemory> 
     Ok(takes && holds && waits && goes_on && is_sent)
 }
 
-#[test]
-fn held_output_goes_out_in_order(rt: HostRuntime) -> Result<(), Fail> {
-    let mut output = Output::new(rt.alloc())?;
-    assert!(rt; holds_what_fits(&mut output, &[97; 4095]) == Ok(true));
-    Ok(())
+fn output_is_held(alloc: Global) -> Result<bool, NoMemory> {
+    let mut output = Output::new(alloc)?;
+    holds_what_fits(&mut output, &[97; 4095])
 }
 
 /// Whether TCOON ends both halts, but none where TCOOFF made none, and START ends its own alone.
@@ -100,15 +97,17 @@ fn drops_and_resets(output: &mut Output) -> Result<bool, NoMemory> {
     Ok(takes && drops && takes_more && !output.wire.halted() && !output.wire.noted())
 }
 
-#[test]
-fn both_halts_and_the_note(rt: HostRuntime) -> Result<(), Fail> {
-    let mut output = Output::new(rt.alloc())?;
-    assert!(rt; halts_twice(&mut output) == Ok(true));
-    assert!(rt; drops_and_resets(&mut output) == Ok(true));
-    let Output { wire } = output;
-    assert!(rt; wire.into_wire().as_slice() == b"\x13ac".as_slice());
-    room_makes_no_difference();
-    Ok(())
+/// Whether both halts and the note go well, and this went out.
+fn halts_and_drops(output: &mut Output) -> Result<bool, NoMemory> {
+    let halts = halts_twice(output)?;
+    Ok(drops_and_resets(output)? && halts)
+}
+
+fn output_is_halted(alloc: Global) -> Result<bool, NoMemory> {
+    let mut output = Output::new(alloc)?;
+    let halts = halts_and_drops(&mut output);
+    let wire = output.wire.into_wire();
+    Ok(halts == Ok(true) && wire.as_slice() == b"\x13ac".as_slice())
 }
 
 /// What is taken from the front of what went out, at most three bytes.
@@ -127,11 +126,17 @@ fn gives_three(alloc: Global, output: &mut Output) -> Result<bool, NoMemory> {
     Ok(goes && out.as_slice() == b"abc".as_slice() && output.wire.wire() == b"d".as_slice())
 }
 
+fn output_is_taken(alloc: Global) -> Result<bool, NoMemory> {
+    let mut output = Output::new(alloc)?;
+    gives_three(alloc, &mut output)
+}
+
 #[test]
-fn what_went_out_is_taken_from_the_front(rt: HostRuntime) -> Result<(), Fail> {
-    let mut output = Output::new(rt.alloc())?;
-    assert!(rt; gives_three(rt.alloc(), &mut output) == Ok(true));
-    Ok(())
+fn output_is_held_halted_and_taken(rt: HostRuntime) {
+    room_makes_no_difference();
+    assert!(rt; output_is_held(rt.alloc()) == Ok(true));
+    assert!(rt; output_is_halted(rt.alloc()) == Ok(true));
+    assert!(rt; output_is_taken(rt.alloc()) == Ok(true));
 }
 
 /// Whether the first of two signals is taken, and the other stays.
@@ -145,13 +150,6 @@ fn gives_a_signal(alloc: Global, tally: &mut Tally) -> Result<bool, NoMemory> {
     tally.take_signals(most, &mut out);
     let is_first = out.as_slice() == [Signal::Int].as_slice();
     Ok(is_first && tally.signals.as_slice() == [Signal::Quit].as_slice())
-}
-
-#[test]
-fn signals_are_taken_from_the_front(rt: HostRuntime) -> Result<(), Fail> {
-    let mut tally = Tally::new(rt.alloc());
-    assert!(rt; gives_a_signal(rt.alloc(), &mut tally) == Ok(true));
-    Ok(())
 }
 
 /// Whether signals and counts add up.
@@ -168,8 +166,12 @@ fn counts(tally: &mut Tally) -> Result<bool, NoMemory> {
 }
 
 #[test]
-fn counts_and_signals(rt: HostRuntime) -> Result<(), Fail> {
-    let mut tally = Tally::new(rt.alloc());
-    assert!(rt; counts(&mut tally) == Ok(true));
-    Ok(())
+fn signals_are_taken_and_counted(rt: HostRuntime) {
+    let mut first = Tally::new(rt.alloc());
+    let gives = gives_a_signal(rt.alloc(), &mut first);
+    drop(first);
+    let mut second = Tally::new(rt.alloc());
+    let counts = counts(&mut second);
+    drop(second);
+    assert!(rt; gives == Ok(true) && counts == Ok(true));
 }

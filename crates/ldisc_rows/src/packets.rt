@@ -5,7 +5,6 @@ use flow_control::{Tally, Wire};
 use n_slip::{NSlip, pieces_are_counted};
 use slip_frames::encode;
 use std::alloc::Global;
-use std::test::Fail;
 use tty_base::{Bytes, Flag, Flagged, NoMemory};
 
 fn moves<T: Send + Drop>(_value: T) {}
@@ -38,15 +37,6 @@ fn keeps_both(slip: &mut NSlip, tally: &mut Tally) -> bool {
     slip.receive_all(line.as_slice(), tally);
     let are_kept = slip.waiting() == 2 && slip.first_len() == 2;
     are_kept && tally.counts.pin == 2 && tally.counts.pbad == 0
-}
-
-#[test]
-fn characters_come_all_at_once(rt: HostRuntime) -> Result<(), Fail> {
-    pieces_are_counted();
-    let mut slip = NSlip::new(rt.alloc())?;
-    let mut tally = Tally::new(rt.alloc());
-    assert!(rt; keeps_both(&mut slip, &mut tally));
-    Ok(())
 }
 
 /// The first packet that waits, or nothing where none does.
@@ -82,16 +72,6 @@ fn keeps_sixty_four(slip: &mut NSlip, tally: &mut Tally) -> bool {
     slip.waiting() == 64 && tally.counts.pin == 64 && tally.counts.pfull == 1
 }
 
-#[test]
-fn sixty_five_packets(rt: HostRuntime) -> Result<(), Fail> {
-    let mut slip = NSlip::new(rt.alloc())?;
-    let mut tally = Tally::new(rt.alloc());
-    assert!(rt; keeps_sixty_four(&mut slip, &mut tally));
-    assert!(rt; gives_so_many(rt.alloc(), &mut slip, 64) == Ok(true) && slip.waiting() == 0);
-    moves(slip);
-    Ok(())
-}
-
 /// Hears a packet with an escape, a piece that a parity error spoils, and the front of another. Answers whether the
 /// packet is kept.
 fn keeps_the_good_one(slip: &mut NSlip, tally: &mut Tally) -> bool {
@@ -118,14 +98,6 @@ fn keeps_what_began(alloc: Global, slip: &mut NSlip, tally: &mut Tally) -> Resul
     Ok(is_kept && is_empty && goes_on && is_told)
 }
 
-#[test]
-fn pieces_of_a_line(rt: HostRuntime) -> Result<(), Fail> {
-    let mut slip = NSlip::new(rt.alloc())?;
-    let mut tally = Tally::new(rt.alloc());
-    assert!(rt; keeps_what_began(rt.alloc(), &mut slip, &mut tally) == Ok(true));
-    Ok(())
-}
-
 /// Whether one of two packets is kept, the longest, and the other is counted as bad.
 fn keeps_the_longest(slip: &mut NSlip, tally: &mut Tally) -> bool {
     let letters = [0x61; 1007];
@@ -135,14 +107,6 @@ fn keeps_the_longest(slip: &mut NSlip, tally: &mut Tally) -> bool {
     }
     let is_kept = slip.waiting() == 1 && slip.first_len() == 1006;
     is_kept && tally.counts.pin == 1 && tally.counts.pbad == 1
-}
-
-#[test]
-fn the_longest_packet_and_a_longer_one(rt: HostRuntime) -> Result<(), Fail> {
-    let mut slip = NSlip::new(rt.alloc())?;
-    let mut tally = Tally::new(rt.alloc());
-    assert!(rt; keeps_the_longest(&mut slip, &mut tally));
-    Ok(())
 }
 
 /// Whether a packet is sent twice under a halt, and not a third time.
@@ -159,10 +123,59 @@ fn sends_twice(alloc: Global, slip: &mut NSlip, encoded: &[u8]) -> Result<bool, 
     Ok(wire.held() == 4028 && tally.counts.pout == 2)
 }
 
+/// Which packets are tried.
+#[derive(Clone, Copy)]
+enum Packets {
+    AllAtOnce,
+    SixtyFive,
+    Pieces,
+    Longest,
+    Sent,
+}
+
+/// Whether 64 of 65 packets are kept, and taken in their order.
+fn keeps_and_gives(alloc: Global, slip: &mut NSlip, tally: &mut Tally) -> Result<bool, NoMemory> {
+    let keeps = keeps_sixty_four(slip, tally);
+    Ok(gives_so_many(alloc, slip, 64)? && keeps && slip.waiting() == 0)
+}
+
+fn sends(alloc: Global, slip: &mut NSlip) -> Result<bool, NoMemory> {
+    match encode(alloc, [0xc0; 1006].as_slice()) {
+        Ok(encoded) => sends_twice(alloc, slip, encoded.as_slice()),
+        Err(_) => Ok(false),
+    }
+}
+
+fn go_well(
+    alloc: Global,
+    packets: Packets,
+    slip: &mut NSlip,
+    tally: &mut Tally,
+) -> Result<bool, NoMemory> {
+    match packets {
+        Packets::AllAtOnce => Ok(keeps_both(slip, tally)),
+        Packets::SixtyFive => keeps_and_gives(alloc, slip, tally),
+        Packets::Pieces => keeps_what_began(alloc, slip, tally),
+        Packets::Longest => Ok(keeps_the_longest(slip, tally)),
+        Packets::Sent => sends(alloc, slip),
+    }
+}
+
+fn are_well(alloc: Global, packets: Packets) -> Result<bool, NoMemory> {
+    let mut slip = NSlip::new(alloc)?;
+    let mut tally = Tally::new(alloc);
+    let well = go_well(alloc, packets, &mut slip, &mut tally);
+    moves(slip);
+    moves(tally);
+    well
+}
+
 #[test]
-fn a_packet_is_sent_where_there_is_room(rt: HostRuntime) -> Result<(), Fail> {
-    let encoded = encode(rt.alloc(), [0xc0; 1006].as_slice())?;
-    let mut slip = NSlip::new(rt.alloc())?;
-    assert!(rt; sends_twice(rt.alloc(), &mut slip, encoded.as_slice()) == Ok(true));
-    Ok(())
+fn packets_are_kept_spoiled_and_sent(rt: HostRuntime) {
+    pieces_are_counted();
+    assert!(rt; are_well(rt.alloc(), Packets::AllAtOnce) == Ok(true));
+    assert!(rt; are_well(rt.alloc(), Packets::SixtyFive) == Ok(true));
+    assert!(rt; are_well(rt.alloc(), Packets::Pieces) == Ok(true));
+    assert!(rt; are_well(rt.alloc(), Packets::Longest) == Ok(true));
+    assert!(rt; are_well(rt.alloc(), Packets::Sent) == Ok(true));
 }

@@ -34,35 +34,33 @@ fn posts(modes: &Modes, bytes: &[u8], posted: &[u8]) -> bool {
     left.is_empty()
 }
 
-#[test]
-fn tab_becomes_blanks(rt: HostRuntime) {
-    let modes = modes_of(["raw", "opost", "onlcr", "tab3"].as_slice());
-    assert!(rt; posts(&modes, b"a\tb\n\r", b"a       b\r\n\r"));
-}
-
-#[test]
-fn return_at_the_start_is_dropped(rt: HostRuntime) {
-    let modes = modes_of(["raw", "opost", "onocr", "ocrnl"].as_slice());
-    assert!(rt; posts(&modes, b"\ra\r", b"a\n"));
-}
-
-#[test]
-fn continuation_bytes_have_no_width(rt: HostRuntime) {
+/// Whether continuation bytes have no width under iutf8 alone.
+fn continuation_bytes_have_no_width() -> bool {
     let mut modes = Modes::sane();
     modes.apply(Word::On(TAB3));
     let text = b"\xc3\xa9\tb";
-    assert!(rt; posts(&modes, text, b"\xc3\xa9      b"));
+    let by_byte = posts(&modes, text, b"\xc3\xa9      b");
     modes.apply(Word::On(IUTF8));
-    assert!(rt; posts(&modes, text, b"\xc3\xa9       b"));
+    by_byte && posts(&modes, text, b"\xc3\xa9       b")
+}
+
+/// Whether a backspace at the start of a line is posted, and moves nothing.
+fn backspace_stops_at_the_start() -> bool {
+    let mut out = Out::new();
+    let piece = out.post(8, &modes_of(["raw"].as_slice()));
+    let stops = piece.len() == 1 && !piece.is_empty() && out.column() == 0;
+    moves(out);
+    moves(piece);
+    stops
 }
 
 #[test]
-fn backspace_stops_at_the_start(rt: HostRuntime) {
+fn bytes_are_posted_under_the_flags(rt: HostRuntime) {
     column_of_more();
-    let mut out = Out::new();
-    let modes = modes_of(["raw"].as_slice());
-    let piece = out.post(8, &modes);
-    assert!(rt; piece.len() == 1 && !piece.is_empty() && out.column() == 0);
-    moves(out);
-    moves(piece);
+    let tabs = modes_of(["raw", "opost", "onlcr", "tab3"].as_slice());
+    assert!(rt; posts(&tabs, b"a\tb\n\r", b"a       b\r\n\r"));
+    let returns = modes_of(["raw", "opost", "onocr", "ocrnl"].as_slice());
+    assert!(rt; posts(&returns, b"\ra\r", b"a\n"));
+    assert!(rt; continuation_bytes_have_no_width());
+    assert!(rt; backspace_stops_at_the_start());
 }

@@ -19,12 +19,7 @@ fn each_case_of_min_and_time(rt: HostRuntime) {
         (3, 5, 3, 12, true),
     ];
     for (min, time, unread, now, want) in rows {
-        assert!(rt; now >= 12);
-        let is_ready = ready(4, min, time, unread, 10, 12, now);
-        assert_eq!(rt;
-            is_ready,
-            want,
-            "MIN {min}, TIME {time}, {unread} unread at {now}"
-        );
+        let is_ready = now >= 12 && ready(4, min, time, unread, 10, 12, now);
+        assert!(rt; is_ready == want, "{unread} unread at {now}");
     }
 }

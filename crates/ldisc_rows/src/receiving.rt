@@ -7,7 +7,6 @@ ghost use Rattle.n_tty.specs.States.{FitsModes};
 use flow_control::{Tally, Wire};
 use n_tty::{CHARACTER_ROOM, NTty, room_makes_no_difference};
 use std::alloc::Global;
-use std::test::Fail;
 use tty_base::{Bytes, Flag, Flagged, NoMemory};
 use tty_modes::places::{IXANY, IXOFF};
 use tty_modes::{Modes, Word};
@@ -111,13 +110,6 @@ fn edits_a_line(line: &mut Line) -> Result<bool, NoMemory>
     Ok(is_read && line.tty.unread() == 0 && line.wire.wire() == echo)
 }
 
-#[test]
-fn a_line_is_edited_and_read(rt: HostRuntime) -> Result<(), Fail> {
-    let mut line = Line::new(rt.alloc(), &[])?;
-    assert!(rt; edits_a_line(&mut line) == Ok(true));
-    Ok(())
-}
-
 /// Whether 5,000 characters are cut to a line of 4,096 bytes, and each is counted and echoed.
 fn cuts_a_long_line(line: &mut Line) -> Result<bool, NoMemory>
     requires fits { FitsModes line.old.modes line.old.tty }
@@ -128,13 +120,6 @@ fn cuts_a_long_line(line: &mut Line) -> Result<bool, NoMemory>
     }
     let is_read = line.read(65536)? == Some(4096) && line.out.as_slice().ends_with(b"aa\n");
     Ok(is_read && line.tally.counts.cut == 905 && line.wire.wire().len() == 5002)
-}
-
-#[test]
-fn a_long_line_is_cut(rt: HostRuntime) -> Result<(), Fail> {
-    let mut line = Line::new(rt.alloc(), &[])?;
-    assert!(rt; cuts_a_long_line(&mut line) == Ok(true));
-    Ok(())
 }
 
 /// Whether 4,000 unread bytes stop the sender, 129 do not start it again, and 128 do.
@@ -151,13 +136,6 @@ fn stops_and_starts(line: &mut Line) -> Result<bool, NoMemory>
     Ok(stops && starts && line.tty.unread() == 0)
 }
 
-#[test]
-fn input_that_fills_is_stopped(rt: HostRuntime) -> Result<(), Fail> {
-    let mut line = Line::new(rt.alloc(), &[Word::Raw, Word::On(IXOFF)])?;
-    assert!(rt; stops_and_starts(&mut line) == Ok(true));
-    Ok(())
-}
-
 /// Whether what is edited can be read once the modes are raw.
 fn becomes_plain(line: &mut Line) -> Result<bool, NoMemory>
     requires fits { FitsModes line.old.modes line.old.tty }
@@ -168,14 +146,6 @@ fn becomes_plain(line: &mut Line) -> Result<bool, NoMemory>
     let is_edited = line.type_in(b"ab")?;
     line.tty.recast(&line.modes, &raw);
     Ok(is_edited && line.tty.inq(&raw) == 2)
-}
-
-#[test]
-fn the_edited_line_becomes_plain(rt: HostRuntime) -> Result<(), Fail> {
-    room_makes_no_difference();
-    let mut line = Line::new(rt.alloc(), &[])?;
-    assert!(rt; becomes_plain(&mut line) == Ok(true));
-    Ok(())
 }
 
 /// Whether the first 64 bytes of a piece are held at a halt, until a character comes.
@@ -191,9 +161,55 @@ fn holds_a_piece(line: &mut Line) -> Result<bool, NoMemory>
     Ok(holds && comes && line.wire.held() == 0 && line.wire.wire().ends_with(b"bbx"))
 }
 
+/// What a port goes through.
+#[derive(Clone, Copy)]
+enum Case {
+    Edited,
+    Cut,
+    Stopped,
+    Recast,
+    Held,
+}
+
+/// The words that change the defaults.
+fn words_of(case: Case) -> &'static [Word] {
+    match case {
+        Case::Stopped => &[Word::Raw, Word::On(IXOFF)],
+        Case::Held => &[Word::On(IXANY)],
+        _ => &[],
+    }
+}
+
+fn goes_well(line: &mut Line, case: Case) -> Result<bool, NoMemory>
+    requires fits { FitsModes line.old.modes line.old.tty }
+    requires column { line.old.tty.column ≤ 0 }
+{
+    match case {
+        Case::Edited => edits_a_line(line),
+        Case::Cut => cuts_a_long_line(line),
+        Case::Stopped => stops_and_starts(line),
+        Case::Recast => becomes_plain(line),
+        Case::Held => holds_a_piece(line),
+    }
+}
+
+fn is_well(alloc: Global, case: Case) -> Result<bool, NoMemory> {
+    let mut line = Line::new(alloc, words_of(case))?;
+    let well = goes_well(&mut line, case);
+    drop(line);
+    well
+}
+
 #[test]
-fn a_halted_piece_is_held(rt: HostRuntime) -> Result<(), Fail> {
-    let mut line = Line::new(rt.alloc(), &[Word::On(IXANY)])?;
-    assert!(rt; holds_a_piece(&mut line) == Ok(true));
-    Ok(())
+fn lines_are_edited_cut_stopped_recast_and_held(rt: HostRuntime) {
+    room_makes_no_difference();
+    for case in [
+        Case::Edited,
+        Case::Cut,
+        Case::Stopped,
+        Case::Recast,
+        Case::Held,
+    ] {
+        assert!(rt; is_well(rt.alloc(), case) == Ok(true));
+    }
 }

@@ -12,24 +12,8 @@ use ldisc_switch::{
 };
 use n_tty::CHARACTER_ROOM;
 use std::alloc::Global;
-use std::test::Fail;
 use tty_base::{Bytes, NoMemory};
 use tty_modes::Modes;
-
-#[test]
-fn kinds_by_number(rt: HostRuntime) {
-    assert_eq!(rt; Kind::of(0), Some(Kind::Tty));
-    assert_eq!(rt; Kind::of(1), Some(Kind::Slip));
-    assert_eq!(rt; Kind::of(2), None);
-    calls_of_n_tty();
-    calls_of_n_slip();
-    one_more();
-    rule_under_n_slip();
-    kind_stays();
-    column_of_all_posted();
-    room_makes_no_difference();
-    packets_of_all_heard();
-}
 
 fn hear_first(
     disc: &mut Disc,
@@ -62,13 +46,14 @@ fn hears_a_character(disc: &mut Disc, wire: &mut Wire, tally: &mut Tally) -> Res
     Ok(is_empty && disc.unread() == 1 && wire.wire() == b"\x11a".as_slice())
 }
 
-#[test]
-fn a_character_under_n_tty(rt: HostRuntime) -> Result<(), Fail> {
-    let mut tally = Tally::new(rt.alloc());
-    let mut wire = Wire::new(rt.alloc())?;
-    let mut disc = fresh(rt.alloc(), Kind::Tty)?;
-    assert!(rt; hears_a_character(&mut disc, &mut wire, &mut tally) == Ok(true));
-    Ok(())
+/// Whether a character goes well under N_TTY.
+fn a_character_goes_well(alloc: Global) -> Result<bool, NoMemory> {
+    let mut wire = Wire::new(alloc)?;
+    let mut disc = fresh(alloc, Kind::Tty)?;
+    let mut tally = Tally::new(alloc);
+    let hears = hears_a_character(&mut disc, &mut wire, &mut tally);
+    drop(disc);
+    hears
 }
 
 fn hear(
@@ -118,11 +103,12 @@ fn hears_a_packet(alloc: Global, disc: &mut Disc) -> Result<bool, NoMemory> {
     Ok(starts && take_packet(alloc, disc)?.as_slice() == [0x41, 0xc0].as_slice())
 }
 
-#[test]
-fn packets_under_n_slip(rt: HostRuntime) -> Result<(), Fail> {
-    let mut disc = fresh(rt.alloc(), Kind::Slip)?;
-    assert!(rt; hears_a_packet(rt.alloc(), &mut disc) == Ok(true));
-    Ok(())
+/// Whether a packet goes well under N_SLIP.
+fn a_packet_goes_well(alloc: Global) -> Result<bool, NoMemory> {
+    let mut disc = fresh(alloc, Kind::Slip)?;
+    let hears = hears_a_packet(alloc, &mut disc);
+    drop(disc);
+    hears
 }
 
 /// Whether START goes out, and nothing is unread.
@@ -137,10 +123,36 @@ fn is_empty(disc: &Disc, wire: &mut Wire) -> Result<bool, NoMemory>
     Ok(is_slip && disc.unread() == 0 && wire.wire() == b"\x11".as_slice())
 }
 
+/// Whether nothing is unread under N_SLIP.
+fn nothing_is_unread(alloc: Global) -> Result<bool, NoMemory> {
+    let mut wire = Wire::new(alloc)?;
+    let disc = fresh(alloc, Kind::Slip)?;
+    let is_empty = is_empty(&disc, &mut wire);
+    drop(disc);
+    is_empty
+}
+
+/// Laws, each as a call.
+fn laws() {
+    calls_of_n_tty();
+    calls_of_n_slip();
+    one_more();
+    rule_under_n_slip();
+    kind_stays();
+    column_of_all_posted();
+    room_makes_no_difference();
+    packets_of_all_heard();
+}
+
+fn are_by_number() -> bool {
+    Kind::of(0) == Some(Kind::Tty) && Kind::of(1) == Some(Kind::Slip) && Kind::of(2) == None
+}
+
 #[test]
-fn nothing_is_unread_under_n_slip(rt: HostRuntime) -> Result<(), Fail> {
-    let mut wire = Wire::new(rt.alloc())?;
-    let disc = fresh(rt.alloc(), Kind::Slip)?;
-    assert!(rt; is_empty(&disc, &mut wire) == Ok(true));
-    Ok(())
+fn characters_and_packets_under_each_kind(rt: HostRuntime) {
+    laws();
+    assert!(rt; are_by_number());
+    assert!(rt; a_character_goes_well(rt.alloc()) == Ok(true));
+    assert!(rt; a_packet_goes_well(rt.alloc()) == Ok(true));
+    assert!(rt; nothing_is_unread(rt.alloc()) == Ok(true));
 }

@@ -2,7 +2,6 @@
 
 use line_store::Store;
 use std::alloc::{AllocError, Global};
-use std::test::Fail;
 use tty_base::{Bytes, NoMemory};
 
 /// A store in two lists: its bytes, and for each end how many bytes stand before it.
@@ -144,15 +143,15 @@ fn all_agree(alloc: Global, both: &mut Both, calls: u32) -> Result<bool, NoMemor
     Ok(true)
 }
 
-// Many calls on both, more than the circle has places.
-#[test]
-fn the_circle_is_two_lists(rt: HostRuntime) -> Result<(), Fail> {
+/// Whether many calls agree on both, more than the circle has places.
+fn agree_on_both(alloc: Global) -> Result<bool, NoMemory> {
     let mut both = Both {
-        plain: Plain::new(rt.alloc()),
-        store: Store::new(rt.alloc())?,
+        store: Store::new(alloc)?,
+        plain: Plain::new(alloc),
     };
-    assert!(rt; all_agree(rt.alloc(), &mut both, 30000) == Ok(true));
-    Ok(())
+    let agree = all_agree(alloc, &mut both, 30000);
+    drop(both);
+    agree
 }
 
 fn is_movable<T: Send + Sync>(_: &T) {}
@@ -191,16 +190,28 @@ fn come_round(store: &mut Store, out: &mut Bytes) -> Result<bool, NoMemory> {
     Ok(store.len() == 0 && store.lines() == 0)
 }
 
-// Marks without bytes between them stand apart, wherever in the circle they are.
-#[test]
-fn several_eof_marks_come_round(rt: HostRuntime) -> Result<(), Fail> {
-    let mut out = Bytes::new(rt.alloc());
-    let mut store = Store::new(rt.alloc())?;
-    is_movable(&store);
+/// Whether three lines come as they are added, wherever in the circle they are.
+fn come_round_often(store: &mut Store, out: &mut Bytes) -> Result<bool, NoMemory> {
     for _ in 0..5000 {
-        assert!(rt; come_round(&mut store, &mut out) == Ok(true));
+        if !come_round(store, out)? {
+            return Ok(false);
+        }
     }
+    Ok(true)
+}
+
+/// Whether marks without bytes between them stand apart.
+fn marks_stand_apart(alloc: Global) -> Result<bool, NoMemory> {
+    let mut store = Store::new(alloc)?;
+    is_movable(&store);
+    let mut out = Bytes::new(alloc);
+    let come = come_round_often(&mut store, &mut out) == Ok(true);
     let mut pairs = out.as_slice().chunks(2);
-    assert!(rt; pairs.all(|pair| pair == [0x61, 0x62].as_slice()));
-    Ok(())
+    Ok(come && pairs.all(|pair| pair == [0x61, 0x62].as_slice()))
+}
+
+#[test]
+fn the_circle_is_two_lists_and_several_eof_marks_come_round(rt: HostRuntime) {
+    assert!(rt; agree_on_both(rt.alloc()) == Ok(true));
+    assert!(rt; marks_stand_apart(rt.alloc()) == Ok(true));
 }
