@@ -3,24 +3,69 @@
 use check_text::parse_check;
 use session_text::{BadLine, Reason, TextFault};
 use std::alloc::{AllocError, Global};
-use std::test::Fail;
 use tty_base::{Errno, Flag, Flagged, LineReport, Overrun};
-use tty_calls::{AnswerRef, Entry, Event, Journal, Who};
+use tty_calls::{AnswerRef, Entry, Event, Journal, PortRun, Who};
 use tty_modes::Modes;
 
+/// A session of each kind of call that is answered otherwise, and a journal of each kind of line.
+const PLAY: &str = "tty-session 1
+ports 1
+phase
+caller a 0
+open 0 rw
+read 0 5
+write 0 6162
+getm 0
+getd 0
+counts 0
+close 0
+end
+# what happened
+journals
+journal 0 17
+*line 0 0 0 line_end 0
+a 0 0 0 answer ok
+a 1 0 0 wait
+*clock 0 0 0 tick
+*flush 0 0 0 flush n68p0Ab00f41o00
+a 1 0 0 answer 2 6869
+a 2 0 0 part 1
+a 2 1 0 answer 2 drop -
+
+a 3 0 0 answer icrnl ixon opost onlcr isig icanon echo echoe echok echoke echoctl iexten intr=3 quit=28 erase=127 kill=21 eof=4 time=0 min=1 start=17 stop=19 susp=26 eol=0 reprint=18 werase=23 lnext=22 eol2=0
+a 4 0 0 answer 0 drop n41
+a 5 0 0 answer mark=0 parity=1 frame=2 break=3 cut=4 echo=5 pin=6 pout=7 pbad=8 pfull=18446744073709551615
+a 6 0 0 answer EBADF
+a 7 0 1 caller_end
+*clock 0 0 1 clock_end
+*session 0 0 1 phase_end
+*session 1 0 1 hangup -
+a 9 9 9 caller_end
+overruns 0 1
+5 4 3
+\tline 0 6 1 4
+done";
+
+/// Whether this is the only run of the text.
+fn are_the_runs(runs: &[PortRun]) -> bool {
+    let [run] = runs else {
+        return false;
+    };
+    run.journal.len() == 17 && is_the_line(&run.line) && first_other(&run.journal) == None
+}
+
+/// Whether a text is read as what it tells.
+fn is_read(alloc: Global, text: &str) -> Result<bool, TextFault> {
+    let (session, runs) = parse_check(alloc, text.as_bytes())?;
+    let read = session.ports == 1 && are_the_runs(runs.as_slice());
+    drop(session);
+    drop(runs);
+    Ok(read)
+}
+
 #[test]
-fn each_kind_of_line_is_read(rt: HostRuntime) -> Result<(), Fail> {
-    let text =
-        b"tty-session 1\nports 1\nphase\ncaller a 0\nopen 0 rw\nread 0 5\nwrite 0 6162\ngetm 0\ngetd 0\ncounts 0\nclose 0\nend\n# what happened\njournals\njournal 0 17\n*line 0 0 0 line_end 0\na 0 0 0 answer ok\na 1 0 0 wait\n*clock 0 0 0 tick\n*flush 0 0 0 flush n68p0Ab00f41o00\na 1 0 0 answer 2 6869\na 2 0 0 part 1\na 2 1 0 answer 2 drop -\n\na 3 0 0 answer icrnl ixon opost onlcr isig icanon echo echoe echok echoke echoctl iexten intr=3 quit=28 erase=127 kill=21 eof=4 time=0 min=1 start=17 stop=19 susp=26 eol=0 reprint=18 werase=23 lnext=22 eol2=0\na 4 0 0 answer 0 drop n41\na 5 0 0 answer mark=0 parity=1 frame=2 break=3 cut=4 echo=5 pin=6 pout=7 pbad=8 pfull=18446744073709551615\na 6 0 0 answer EBADF\na 7 0 1 caller_end\n*clock 0 0 1 clock_end\n*session 0 0 1 phase_end\n*session 1 0 1 hangup -\na 9 9 9 caller_end\noverruns 0 1\n5 4 3\n\tline 0 6 1 4\ndone".as_slice();
-    let (session, runs) = parse_check(rt.alloc(), text)
-        .ok()
-        .ok_or("the text spells a session and a run")?;
-    assert!(rt; session.ports == 1 && runs.len() == 1);
-    for run in runs.as_slice() {
-        assert!(rt; run.journal.len() == 17 && is_the_line(&run.line));
-        assert_eq!(rt; first_other(&run.journal), None);
-    }
-    Ok(())
+fn each_kind_of_line_is_read(rt: HostRuntime) {
+    assert!(rt; is_read(rt.alloc(), PLAY) == Ok(true));
 }
 
 /// The first place whose entry is not what the text has there.
@@ -95,35 +140,46 @@ fn is_answer(place: usize, answer: &AnswerRef) -> bool {
     }
 }
 
+/// A session, whose journal has one entry.
+const BEFORE: &str = "tty-session 1
+ports 1
+phase
+caller a 0
+read 0 5
+write 0 6162
+getm 0
+counts 0
+end
+journals
+journal 0 1
+";
+
+/// Entries whose answers are not printed so.
+const PRINTED_OTHERWISE: &str = "a 0 0 0 answer 1 4A
+a 0 0 0 answer 2 4a
+a 0 0 0 answer 0 4a
+a 0 0 0 answer ok
+a 1 0 0 answer 02
+a 1 0 0 answer 4294967296
+a 2 0 0 answer ixon icrnl intr=3 quit=28 erase=127 kill=21 eof=4 time=0 min=1 start=17 stop=19 susp=26 eol=0 reprint=18 werase=23 lnext=22 eol2=0
+a 2 0 0 answer intr=3 quit=28 erase=127 kill=21 eof=4 time=0 min=1 start=17 stop=19 susp=26 eol=0 reprint=18 werase=23 lnext=22
+a 3 0 0 answer mark=0 parity=0 frame=0 break=0 cut=0 echo=0 pin=0 pout=0 pbad=0 pfull=18446744073709551616
+a 3 0 0 answer parity=0 mark=0 frame=0 break=0 cut=0 echo=0 pin=0 pout=0 pbad=0 pfull=0";
+
 /// What is told of a text and one more line.
-fn fault_with(alloc: Global, text: &[u8], line: &[u8]) -> Result<Option<TextFault>, AllocError> {
-    let mut whole = text.to_vec(alloc)?;
-    whole.extend_from_slice(line)?;
-    Ok(parse_check(alloc, whole.as_slice()).err())
+fn fault_with(alloc: Global, text: &str, line: &str) -> Result<Option<TextFault>, AllocError> {
+    let whole = format!(in alloc; "{text}{line}\n")?;
+    Ok(parse_check(alloc, whole.as_bytes()).err())
 }
 
 #[test]
-fn an_answer_that_is_not_printed_so_is_a_wrong_word(rt: HostRuntime) -> Result<(), Fail> {
-    let session =
-        b"tty-session 1\nports 1\nphase\ncaller a 0\nread 0 5\nwrite 0 6162\ngetm 0\ncounts 0\nend\njournals\njournal 0 1\n".as_slice();
-    for answer in [
-        b"a 0 0 0 answer 1 4A\n".as_slice(),
-        b"a 0 0 0 answer 2 4a\n".as_slice(),
-        b"a 0 0 0 answer 0 4a\n".as_slice(),
-        b"a 0 0 0 answer ok\n".as_slice(),
-        b"a 1 0 0 answer 02\n".as_slice(),
-        b"a 1 0 0 answer 4294967296\n".as_slice(),
-        b"a 2 0 0 answer ixon icrnl intr=3 quit=28 erase=127 kill=21 eof=4 time=0 min=1 start=17 stop=19 susp=26 eol=0 reprint=18 werase=23 lnext=22 eol2=0\n".as_slice(),
-        b"a 2 0 0 answer intr=3 quit=28 erase=127 kill=21 eof=4 time=0 min=1 start=17 stop=19 susp=26 eol=0 reprint=18 werase=23 lnext=22\n".as_slice(),
-        b"a 3 0 0 answer mark=0 parity=0 frame=0 break=0 cut=0 echo=0 pin=0 pout=0 pbad=0 pfull=18446744073709551616\n".as_slice(),
-        b"a 3 0 0 answer parity=0 mark=0 frame=0 break=0 cut=0 echo=0 pin=0 pout=0 pbad=0 pfull=0\n".as_slice(),
-    ] {
-        let fault = fault_with(rt.alloc(), session, answer)?;
-        let bad = BadLine {
-            line: 12,
-            reason: Reason::Word,
-        };
-        assert!(rt; fault == Some(TextFault::Bad(bad)), "at {answer:?}");
+fn an_answer_that_is_not_printed_so_is_a_wrong_word(rt: HostRuntime) {
+    let bad = BadLine {
+        line: 12,
+        reason: Reason::Word,
+    };
+    for line in PRINTED_OTHERWISE.lines() {
+        let fault = fault_with(rt.alloc(), BEFORE, line);
+        assert!(rt; fault == Ok(Some(TextFault::Bad(bad))), "at {line}");
     }
-    Ok(())
 }

@@ -2,7 +2,6 @@
 
 use session_gen::make;
 use std::alloc::Global;
-use std::test::Fail;
 use tty_base::{Flagged, LineStep, NoMemory};
 use tty_calls::{Phase, Session};
 
@@ -28,21 +27,12 @@ fn begin(alloc: Global, session: &Session, bytes: [u8; 3]) -> Result<bool, NoMem
     )
 }
 
-#[test]
-fn the_first_bytes_of_some_numbers(rt: HostRuntime) -> Result<(), Fail> {
-    let rows = [
-        (0, [0x3c, 0x5e, 0xe3]),
-        (7, [0x3d, 0x16, 0x5d]),
-        (4_294_967_295, [0x3c, 0x69, 0x1b]),
-    ];
-    for (number, bytes) in rows {
-        let session = make(rt.alloc(), number)?;
-        assert!(rt;
-            begin(rt.alloc(), &session, bytes) == Ok(true),
-            "of {number}"
-        );
-    }
-    Ok(())
+/// Whether the session of a number begins so.
+fn number_begins(alloc: Global, number: u32, bytes: [u8; 3]) -> Result<bool, NoMemory> {
+    let session = make(alloc, number)?;
+    let begins = begin(alloc, &session, bytes);
+    moves(session);
+    begins
 }
 
 /// How many calls and characters a session has.
@@ -60,12 +50,20 @@ fn sums(session: &Session) -> (usize, usize) {
     (calls, characters)
 }
 
-#[test]
-fn seven_has_98_calls_and_240_000_characters(rt: HostRuntime) -> Result<(), Fail> {
-    let session = make(rt.alloc(), 7)?;
-    assert_eq!(rt; sums(&session), (98, 240_000));
+/// How many calls and characters the session of 7 has.
+fn sums_of_seven(alloc: Global) -> Result<(usize, usize), NoMemory> {
+    let session = make(alloc, 7)?;
+    let sums = sums(&session);
     moves(session);
-    Ok(())
+    Ok(sums)
+}
+
+#[test]
+fn the_first_bytes_of_some_numbers_and_the_sums_of_seven(rt: HostRuntime) {
+    assert!(rt; number_begins(rt.alloc(), 0, [0x3c, 0x5e, 0xe3]) == Ok(true));
+    assert!(rt; number_begins(rt.alloc(), 7, [0x3d, 0x16, 0x5d]) == Ok(true));
+    assert!(rt; number_begins(rt.alloc(), 4_294_967_295, [0x3c, 0x69, 0x1b]) == Ok(true));
+    assert!(rt; sums_of_seven(rt.alloc()) == Ok((98, 240_000)));
 }
 
 fn moves<T: Send + Drop>(_value: T) {}

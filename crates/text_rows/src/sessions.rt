@@ -2,21 +2,39 @@
 
 use session_text::{BadLine, Reason, TextFault, parse};
 use std::alloc::{AllocError, Global};
-use std::test::Fail;
 use tty_base::{Flag, Flagged, LineStep, NoMemory};
 use tty_calls::{Access, Call, Phase, Session, When};
 use tty_modes::Word;
 
+const THREE_BYTES: &str = "tty-session 1
+ports 1
+phase
+caller a 0
+open 0 rw nonblock
+modes 0 now raw
+phase
+line 0
+rx 68690a
+clock 0
+tick 5
+caller a 0
+read 0 64
+close 0
+end
+";
+
+/// Whether a text is read as the session of three bytes.
+fn is_spelled(alloc: Global, text: &str) -> Result<bool, TextFault> {
+    let session = parse(alloc, text.as_bytes())?;
+    let are_two = are_two_phases(alloc, &session) == Ok(true);
+    let is_read = are_two && is_of_one_port(&session);
+    drop(session);
+    Ok(is_read)
+}
+
 #[test]
-fn three_bytes_are_two_phases(rt: HostRuntime) -> Result<(), Fail> {
-    let text =
-        b"tty-session 1\nports 1\nphase\ncaller a 0\nopen 0 rw nonblock\nmodes 0 now raw\nphase\nline 0\nrx 68690a\nclock 0\ntick 5\ncaller a 0\nread 0 64\nclose 0\nend\n".as_slice();
-    let session = parse(rt.alloc(), text)
-        .ok()
-        .ok_or("the text spells a session")?;
-    assert!(rt; is_of_one_port(&session));
-    assert!(rt; are_two_phases(rt.alloc(), &session) == Ok(true));
-    Ok(())
+fn three_bytes_are_two_phases(rt: HostRuntime) {
+    assert!(rt; is_spelled(rt.alloc(), THREE_BYTES) == Ok(true));
 }
 
 fn is_of_one_port(session: &Session) -> bool {
@@ -221,15 +239,22 @@ fn repeated_fault(alloc: Global, row: &Row, times: usize) -> Result<Option<TextF
     Ok(fault_of(alloc, text.as_slice()))
 }
 
+/// Whether a limit is reached, and not passed.
+fn is_kept(alloc: Global, row: &Row) -> Result<bool, AllocError> {
+    let reaches = repeated_fault(alloc, row, row.most)?;
+    let passes = repeated_fault(alloc, row, row.most.saturating_add(1))?;
+    Ok(reaches == None && passes == bad(row.line, row.reason))
+}
+
 #[test]
-fn each_limit_is_reached_and_not_passed(rt: HostRuntime) -> Result<(), Fail> {
+fn each_limit_is_reached_and_not_passed(rt: HostRuntime) {
     for row in LIMITS {
-        let reaches = repeated_fault(rt.alloc(), &row, row.most)?;
-        assert!(rt; reaches == None, "at {:?}", row.piece);
-        let passes = repeated_fault(rt.alloc(), &row, row.most.saturating_add(1))?;
-        assert!(rt; passes == bad(row.line, row.reason), "at {:?}", row.piece);
+        assert!(rt;
+            is_kept(rt.alloc(), &row) == Ok(true),
+            "at line {}",
+            row.line
+        );
     }
-    Ok(())
 }
 
 /// A phase with sixteen callers on each of two ports.
@@ -248,18 +273,14 @@ fn fault_with(alloc: Global, text: &str, line: &[u8]) -> Result<Option<TextFault
     Ok(fault_of(alloc, whole.as_slice()))
 }
 
-#[test]
-fn sixteen_callers_of_a_port_are_good(rt: HostRuntime) -> Result<(), Fail> {
-    let alloc = rt.alloc();
+/// Whether sixteen callers of a port are good, and neither one more nor one of them again.
+fn sixteen_are_good(alloc: Global) -> Result<bool, AllocError> {
     let text = sixteen_callers(alloc)?;
-    for (line, fault) in [
-        (b"".as_slice(), None),
-        (b"caller c0 0\n", bad(36, Reason::Order)),
-        (b"caller c16 0\n", bad(36, Reason::Limit)),
-    ] {
-        assert!(rt; fault_with(alloc, text.as_str(), line) == Ok(fault));
-    }
-    Ok(())
+    let text = text.as_str();
+    let good = fault_with(alloc, text, b"") == Ok(None);
+    let again = fault_with(alloc, text, b"caller c0 0\n") == Ok(bad(36, Reason::Order));
+    let more = fault_with(alloc, text, b"caller c16 0\n") == Ok(bad(36, Reason::Limit));
+    Ok(good && again && more)
 }
 
 /// What is told of a caller whose call begins so, goes on with a piece so many times, and ends.
@@ -276,26 +297,28 @@ fn call_fault(
     Ok(fault_of(alloc, text.as_slice()))
 }
 
-#[test]
-fn a_wrong_argument_is_told_before_a_limit_that_its_line_passes(
-    rt: HostRuntime,
-) -> Result<(), Fail> {
-    let words = call_fault(rt.alloc(), b"modes 0 now", b" echo", 64, b" eco\nend\n")?;
-    assert!(rt; words == bad(5, Reason::Word));
-    let bytes = call_fault(rt.alloc(), b"write 0 ", b"61", 65_537, b"6\nend\n")?;
-    assert!(rt; bytes == bad(5, Reason::Hex));
-    Ok(())
+/// Whether a wrong argument is told before a limit that its line passes.
+fn arguments_come_first(alloc: Global) -> Result<bool, AllocError> {
+    let words = call_fault(alloc, b"modes 0 now", b" echo", 64, b" eco\nend\n")?;
+    let bytes = call_fault(alloc, b"write 0 ", b"61", 65_537, b"6\nend\n")?;
+    Ok(words == bad(5, Reason::Word) && bytes == bad(5, Reason::Hex))
+}
+
+/// Whether a long text of one byte is refused so.
+fn is_refused(alloc: Global, byte: u8, line: u32, reason: Reason) -> Result<bool, AllocError> {
+    let text = vec![in alloc; byte; 4_194_304]?;
+    Ok(fault_of(alloc, text.as_slice()) == bad(line, reason))
 }
 
 #[test]
-fn a_long_text_of_one_byte_is_refused(rt: HostRuntime) -> Result<(), Fail> {
-    for (byte, line, reason) in [
-        (b'a', 1, Reason::Header),
-        (b'\n', 4_194_305, Reason::Order),
-        (b'#', 2, Reason::Order),
-    ] {
-        let text = vec![in rt.alloc(); byte; 4_194_304]?;
-        assert!(rt; fault_of(rt.alloc(), text.as_slice()) == bad(line, reason));
-    }
-    Ok(())
+fn faults_are_told_in_their_order(rt: HostRuntime) {
+    assert!(rt; sixteen_are_good(rt.alloc()) == Ok(true));
+    assert!(rt; arguments_come_first(rt.alloc()) == Ok(true));
+}
+
+#[test]
+fn a_long_text_of_one_byte_is_refused(rt: HostRuntime) {
+    assert!(rt; is_refused(rt.alloc(), b'a', 1, Reason::Header) == Ok(true));
+    assert!(rt; is_refused(rt.alloc(), b'\n', 4_194_305, Reason::Order) == Ok(true));
+    assert!(rt; is_refused(rt.alloc(), b'#', 2, Reason::Order) == Ok(true));
 }
