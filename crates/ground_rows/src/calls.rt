@@ -2,7 +2,6 @@
 
 use arrayvec::ArrayString;
 use std::alloc::{AllocError, Global};
-use std::test::Fail;
 use tty_base::{Buffer, Flagged, NoMemory};
 use tty_calls::{
     AnswerRef, Call, Calls, Entry, Event, Journal, Names, Phase, Script, Session, When, Who,
@@ -86,11 +85,10 @@ fn keeps_two(journal: &mut Journal) -> Result<bool, NoMemory> {
     Ok(has_the_answer(journal) && has_the_flush(journal, &characters) && is_over(journal))
 }
 
-#[test]
-fn each_entry_has_its_own_bytes_and_characters(rt: HostRuntime) -> Result<(), Fail> {
-    let mut journal = Journal::new(rt.alloc());
-    assert!(rt; keeps_two(&mut journal) == Ok(true));
-    Ok(())
+/// Whether each entry has its own bytes and characters.
+fn entries_are_kept(alloc: Global) -> Result<bool, NoMemory> {
+    let mut journal = Journal::new(alloc);
+    keeps_two(&mut journal)
 }
 
 /// What a call is, its handle and its bytes, of calls that have no words.
@@ -135,8 +133,8 @@ fn keeps_all(calls: &mut Calls, given: &[Call]) -> Result<bool, NoMemory> {
     Ok(is_empty && are_kept(calls, given))
 }
 
-#[test]
-fn each_call_has_its_own_bytes_and_words(rt: HostRuntime) -> Result<(), Fail> {
+/// Whether each call has its own bytes and words.
+fn calls_are_kept(alloc: Global) -> Result<bool, NoMemory> {
     let given = [
         Call::Write { h: 0, bytes: b"ab" },
         Call::SetModes {
@@ -147,9 +145,8 @@ fn each_call_has_its_own_bytes_and_words(rt: HostRuntime) -> Result<(), Fail> {
         Call::Vhangup { h: 4 },
         Call::SendPacket { h: 5, bytes: b"c" },
     ];
-    let mut calls = Calls::new(rt.alloc());
-    assert!(rt; keeps_all(&mut calls, &given) == Ok(true));
-    Ok(())
+    let mut calls = Calls::new(alloc);
+    keeps_all(&mut calls, &given)
 }
 
 /// A name, where it fits.
@@ -197,7 +194,9 @@ fn session_of(alloc: Global) -> Result<Session, AllocError> {
 
 fn names_of(alloc: Global) -> Result<Names, NoMemory> {
     let session = session_of(alloc)?;
-    Names::on_port(alloc, &session, 1)
+    let names = Names::on_port(alloc, &session, 1);
+    drop(session);
+    names
 }
 
 /// Whether these are the names, each with its place as its number.
@@ -211,9 +210,15 @@ fn are_numbered(names: &Names, wanted: &[&str]) -> bool {
     names.len() == wanted.len() && names.name(wanted.len()).is_none()
 }
 
+/// Whether a name keeps the number of its first script.
+fn names_are_kept(alloc: Global) -> Result<bool, NoMemory> {
+    let names = names_of(alloc)?;
+    Ok(are_numbered(&names, &["b", "a", "c"]))
+}
+
 #[test]
-fn a_name_keeps_the_number_of_its_first_script(rt: HostRuntime) -> Result<(), Fail> {
-    let names = names_of(rt.alloc())?;
-    assert!(rt; are_numbered(&names, &["b", "a", "c"]));
-    Ok(())
+fn entries_calls_and_names_are_what_was_added(rt: HostRuntime) {
+    assert!(rt; entries_are_kept(rt.alloc()) == Ok(true));
+    assert!(rt; calls_are_kept(rt.alloc()) == Ok(true));
+    assert!(rt; names_are_kept(rt.alloc()) == Ok(true));
 }

@@ -1,7 +1,6 @@
 //! The default modes, the words that set modes and the texts that are none, as tests of worked values.
 
-use std::alloc::AllocError;
-use std::test::Fail;
+use std::alloc::{AllocError, Global};
 use tty_modes::places::{CHARACTER_COUNT, FLAG_COUNT, ICANON, IUTF8, OPOST, TOSTOP, VEOL2, VMIN};
 use tty_modes::{
     BadWord, Modes, Word, character_name, flag_name, set_word, set_word_bytes,
@@ -29,20 +28,49 @@ fn add_characters(text: &mut String, modes: &Modes) -> Result<(), AllocError> {
     Ok(())
 }
 
-#[test]
-fn defaults_print_as_their_line(rt: HostRuntime) -> Result<(), Fail> {
-    let mut text = String::new(rt.alloc());
+/// Whether the default modes are told so.
+fn defaults_are(alloc: Global, line: &str) -> Result<bool, AllocError> {
+    let mut text = String::new(alloc);
     add_flags(&mut text, &Modes::sane())?;
     add_characters(&mut text, &Modes::sane())?;
-    assert_eq!(rt;
-        text.as_str(),
-        "icrnl ixon opost onlcr isig icanon echo echoe echok echoke echoctl iexten intr=3 quit=28 erase=127 kill=21 eof=4 time=0 min=1 start=17 stop=19 susp=26 eol=0 reprint=18 werase=23 lnext=22 eol2=0 "
-    );
-    Ok(())
+    Ok(text.as_str() == line)
 }
 
 #[test]
-fn words_are_read(rt: HostRuntime) {
+fn defaults_print_as_their_line(rt: HostRuntime) {
+    let line =
+        "icrnl ixon opost onlcr isig icanon echo echoe echok echoke echoctl iexten intr=3 quit=28 erase=127 kill=21 eof=4 time=0 min=1 start=17 stop=19 susp=26 eol=0 reprint=18 werase=23 lnext=22 eol2=0 ";
+    assert!(rt; defaults_are(rt.alloc(), line) == Ok(true));
+}
+
+/// Texts that are no mode words, the first of them empty.
+const OTHERS: &str = "
+-
+=
+min
+min=
+min=01
+min=+1
+min=256
+min=-1
+=1
+-raw
+-sane
+--echo
+Echo
+echo=1";
+
+fn are_refused(texts: &str) -> bool {
+    for text in texts.lines() {
+        if set_word(text) != Err(BadWord) {
+            return false;
+        }
+    }
+    texts.starts_with('\n') && set_word_bytes(b"ech\xef") == Err(BadWord)
+}
+
+#[test]
+fn words_are_read_and_other_texts_refused(rt: HostRuntime) {
     for (text, word) in [
         ("ignbrk", Word::On(0)),
         ("tostop", Word::On(28)),
@@ -51,21 +79,12 @@ fn words_are_read(rt: HostRuntime) {
         ("min=0", Word::Cc(6, 0)),
         ("raw", Word::Raw),
         ("sane", Word::Sane),
+        ("-echo", Word::Off(19)),
     ] {
-        assert!(rt; set_word(text) == Ok(word), "{text}");
+        let bytes = set_word_bytes(text.as_bytes());
+        assert!(rt; set_word(text) == Ok(word) && bytes == Ok(word), "{text}");
     }
-    assert!(rt; set_word_bytes(b"-echo") == Ok(Word::Off(19)));
-    assert!(rt; set_word_bytes(b"ech\xef") == Err(BadWord));
-}
-
-#[test]
-fn other_texts_are_refused(rt: HostRuntime) {
-    for text in [
-        "", "-", "=", "min", "min=", "min=01", "min=+1", "min=256", "min=-1", "=1", "-raw",
-        "-sane", "--echo", "Echo", "echo=1",
-    ] {
-        assert!(rt; set_word(text) == Err(BadWord), "{text}");
-    }
+    assert!(rt; are_refused(OTHERS));
 }
 
 /// Applies words one after the other.
@@ -90,36 +109,47 @@ fn is_at(modes: &Modes, place: u8, value: u8) -> bool {
     modes.cc(place) == value
 }
 
-#[test]
-fn words_change_modes(rt: HostRuntime) {
-    words_are_their_texts();
-    let mut modes = Modes::sane();
+/// Whether words set and clear flags, and set a special character.
+fn are_changed(modes: &mut Modes) -> bool {
     let words = [
         Word::On(IUTF8),
         Word::On(TOSTOP),
         Word::Cc(VMIN, 3),
         Word::Raw,
     ];
-    change(&mut modes, &words);
-    assert!(rt;
-        are_set(&modes, &[IUTF8, TOSTOP], true) && are_set(&modes, &[ICANON, OPOST], false)
-    );
-    assert!(rt; is_at(&modes, VMIN, 3));
-    let before = modes;
-    change(
-        &mut modes,
-        &[Word::On(29), Word::Off(4_294_967_295), Word::Cc(15, 7)],
-    );
-    assert!(rt; modes == before && are_set(&modes, &[29], false) && is_at(&modes, 15, 0));
-    change(&mut modes, &[Word::Off(TOSTOP)]);
-    assert!(rt; modes != before && are_set(&modes, &[TOSTOP], false));
-    change(&mut modes, &[Word::Sane]);
-    assert!(rt;
-        modes == Modes::sane() && are_set(&modes, &[IUTF8], false) && is_at(&modes, VEOL2, 0)
-    );
+    change(modes, &words);
+    let are_set = are_set(modes, &[IUTF8, TOSTOP], true) && are_set(modes, &[ICANON, OPOST], false);
+    are_set && is_at(modes, VMIN, 3)
+}
+
+/// Whether words for flags and characters that there are not change nothing.
+fn stay(modes: &mut Modes) -> bool {
+    let before = *modes;
+    let words = [Word::On(29), Word::Off(4_294_967_295), Word::Cc(15, 7)];
+    change(modes, &words);
+    let stay = *modes == before && are_set(modes, &[29], false) && is_at(modes, 15, 0);
+    change(modes, &[Word::Off(TOSTOP)]);
+    stay && *modes != before && are_set(modes, &[TOSTOP], false)
+}
+
+/// Whether the defaults come back, and several words are applied at once.
+fn come_back(modes: &mut Modes) -> bool {
+    change(modes, &[Word::Sane]);
+    let is_sane = *modes == Modes::sane() && are_set(modes, &[IUTF8], false);
+    let is_default = is_sane && is_at(modes, VEOL2, 0);
     modes.apply_all(&[Word::On(IUTF8), Word::Raw, Word::Off(IUTF8)]);
-    assert!(rt; are_set(&modes, &[IUTF8, ICANON], false));
+    is_default && are_set(modes, &[IUTF8, ICANON], false)
+}
+
+#[test]
+fn words_change_modes(rt: HostRuntime) {
+    words_are_their_texts();
+    let mut modes = Modes::sane();
+    let are_changed = are_changed(&mut modes);
+    let stay = stay(&mut modes);
+    let come_back = come_back(&mut modes);
     moves(modes);
+    assert!(rt; are_changed && stay && come_back);
 }
 
 fn moves<T: Send + Sync + Drop>(_value: T) {}

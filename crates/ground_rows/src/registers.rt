@@ -59,55 +59,53 @@ fn tries(rt: &impl Abort, row: &[Step]) {
     }
 }
 
-#[test]
-fn fifo_fills_and_overruns(rt: HostRuntime) {
-    let row = [
-        Step::Reads(Reg::R2, 0xc1),
-        Step::Arrive(3),
-        Step::Reads(Reg::R5, 0x61),
-        Step::Reads(Reg::R2, 0xc1),
-        Step::Pends(false),
-        Step::Idles(4),
-        Step::Reads(Reg::R2, 0xcc),
-        Step::Arrive(5),
-        Step::Reads(Reg::R2, 0xc4),
-        Step::Pends(true),
-        Step::Arrive(9),
-        Step::Reads(Reg::R5, 0x63),
-        Step::Reads(Reg::R5, 0x61),
-    ];
-    tries(&rt, &row);
-}
+/// The FIFO fills and overruns.
+const FILLS: &[Step] = &[
+    Step::Reads(Reg::R2, 0xc1),
+    Step::Arrive(3),
+    Step::Reads(Reg::R5, 0x61),
+    Step::Reads(Reg::R2, 0xc1),
+    Step::Pends(false),
+    Step::Idles(4),
+    Step::Reads(Reg::R2, 0xcc),
+    Step::Arrive(5),
+    Step::Reads(Reg::R2, 0xc4),
+    Step::Pends(true),
+    Step::Arrive(9),
+    Step::Reads(Reg::R5, 0x63),
+    Step::Reads(Reg::R5, 0x61),
+];
+
+/// A character with a parity error stands at the front.
+const PARITY: &[Step] = &[
+    Step::ArrivesBad,
+    Step::Reads(Reg::R2, 0xc6),
+    Step::Reads(Reg::R5, 0xe5),
+    Step::Reads(Reg::R5, 0x61),
+    Step::Reads(Reg::R0, 0x42),
+    Step::Reads(Reg::R0, 0),
+];
+
+/// Registers that are kept.
+const KEPT: &[Step] = &[
+    Step::Writes(Reg::R1, 0xff),
+    Step::Writes(Reg::R4, 0xff),
+    Step::Writes(Reg::R7, 0xa5),
+    Step::Writes(Reg::R3, 0x83),
+    Step::Writes(Reg::R1, 0x01),
+    Step::Reads(Reg::R0, 0x0c),
+    Step::Reads(Reg::R1, 0x01),
+    Step::Reads(Reg::R3, 0x83),
+    Step::Reads(Reg::R4, 0x1f),
+    Step::Reads(Reg::R6, 0xb0),
+    Step::Reads(Reg::R7, 0xa5),
+    Step::Writes(Reg::R3, 0x03),
+    Step::Reads(Reg::R1, 0x0f),
+];
 
 #[test]
-fn parity_error_at_the_front(rt: HostRuntime) {
-    let row = [
-        Step::ArrivesBad,
-        Step::Reads(Reg::R2, 0xc6),
-        Step::Reads(Reg::R5, 0xe5),
-        Step::Reads(Reg::R5, 0x61),
-        Step::Reads(Reg::R0, 0x42),
-        Step::Reads(Reg::R0, 0),
-    ];
-    tries(&rt, &row);
-}
-
-#[test]
-fn registers_that_are_kept(rt: HostRuntime) {
-    let row = [
-        Step::Writes(Reg::R1, 0xff),
-        Step::Writes(Reg::R4, 0xff),
-        Step::Writes(Reg::R7, 0xa5),
-        Step::Writes(Reg::R3, 0x83),
-        Step::Writes(Reg::R1, 0x01),
-        Step::Reads(Reg::R0, 0x0c),
-        Step::Reads(Reg::R1, 0x01),
-        Step::Reads(Reg::R3, 0x83),
-        Step::Reads(Reg::R4, 0x1f),
-        Step::Reads(Reg::R6, 0xb0),
-        Step::Reads(Reg::R7, 0xa5),
-        Step::Writes(Reg::R3, 0x03),
-        Step::Reads(Reg::R1, 0x0f),
-    ];
-    tries(&rt, &row);
+fn the_receiver_fills_overruns_and_keeps_registers(rt: HostRuntime) {
+    for row in [FILLS, PARITY, KEPT] {
+        tries(&rt, row);
+    }
 }

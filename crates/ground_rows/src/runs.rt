@@ -4,7 +4,6 @@ ghost use Rattle.std.specs.Prelude.{◌<◌};
 
 use char_lanes::{bytes_between, push_run};
 use std::alloc::{AllocError, Global};
-use std::test::Fail;
 use tty_base::{Flag, Flagged};
 
 const LETTER: Flagged = Flagged {
@@ -61,25 +60,24 @@ fn run_ends_at(alloc: Global, len: usize, place: usize) -> Result<bool, AllocErr
     Ok(true)
 }
 
-#[test]
-fn a_run_ends_at_the_first_other(rt: HostRuntime) -> Result<(), Fail> {
-    for len in 1..40 {
-        for place in 0..len {
-            let ends = run_ends_at(rt.alloc(), len, place);
-            assert!(rt; ends == Ok(true), "at {place} of {len}");
+/// Whether a run of so many letters ends at the first other, and is taken whole where none is.
+fn run_is_taken(alloc: Global, len: usize) -> Result<bool, AllocError>
+    requires { 0 < len }
+{
+    for place in 0..len {
+        if !run_ends_at(alloc, len, place)? {
+            return Ok(false);
         }
     }
-    Ok(())
+    is_whole(alloc, len)
 }
 
-#[test]
-fn a_whole_run_is_taken(rt: HostRuntime) -> Result<(), Fail> {
-    for len in 1..40 {
-        let bytes = run_with(rt.alloc(), len, 0, LETTER)?;
-        assert_eq!(rt; bytes.len(), len);
-        assert!(rt; bytes.iter().all(|byte| *byte == b'a'));
-    }
-    Ok(())
+/// Whether a whole run is taken.
+fn is_whole(alloc: Global, len: usize) -> Result<bool, AllocError>
+    requires { 0 < len }
+{
+    let bytes = run_with(alloc, len, 0, LETTER)?;
+    Ok(bytes.len() == len && bytes.iter().all(|byte| *byte == b'a'))
 }
 
 /// Whether so many bytes end at each byte beyond the bounds in this place.
@@ -94,14 +92,23 @@ fn bytes_end_at(alloc: Global, len: usize, place: usize) -> Result<bool, AllocEr
     Ok(true)
 }
 
-#[test]
-fn bytes_end_at_the_first_other(rt: HostRuntime) -> Result<(), Fail> {
-    for len in 1..70 {
-        assert!(rt; between_with(rt.alloc(), len, 0, b'~') == Ok(len));
-        for place in 0..len {
-            let end = bytes_end_at(rt.alloc(), len, place);
-            assert!(rt; end == Ok(true), "at {place} of {len}");
+/// Whether so many bytes end at the first other, and are taken whole where none is.
+fn bytes_are_taken(alloc: Global, len: usize) -> Result<bool, AllocError>
+    requires { 0 < len }
+{
+    for place in 0..len {
+        if !bytes_end_at(alloc, len, place)? {
+            return Ok(false);
         }
     }
-    Ok(())
+    Ok(between_with(alloc, len, 0, b'~')? == len)
+}
+
+#[test]
+fn runs_and_bytes_end_at_the_first_other(rt: HostRuntime) {
+    for len in 1..70 {
+        let is_taken = len >= 40 || run_is_taken(rt.alloc(), len) == Ok(true);
+        let are_taken = bytes_are_taken(rt.alloc(), len) == Ok(true);
+        assert!(rt; is_taken && are_taken, "of {len}");
+    }
 }

@@ -2,7 +2,6 @@
 
 use line_steps::LineSteps;
 use std::alloc::Global;
-use std::test::Fail;
 use tty_base::{Flag, Flagged, LineStep, NoMemory};
 
 fn rx(flag: Flag, byte: u8) -> LineStep {
@@ -49,22 +48,24 @@ fn keeps_seven(alloc: Global, steps: &mut LineSteps) -> Result<bool, NoMemory> {
     Ok(is_empty && steps.len() == 7 && are_written_out(alloc, steps, &wanted)?)
 }
 
-#[test]
-fn steps_are_written_out_in_their_order(rt: HostRuntime) -> Result<(), Fail> {
-    let mut steps = LineSteps::new(rt.alloc());
-    assert!(rt; keeps_seven(rt.alloc(), &mut steps) == Ok(true));
-    Ok(())
-}
-
 /// Whether a run of 200 is 200 steps once it is added.
 fn keeps_a_long_run(alloc: Global, steps: &mut LineSteps) -> Result<bool, NoMemory> {
     add_run(steps, alloc, Flag::Normal, &[b'x'; 200])?;
     are_written_out(alloc, steps, &[rx(Flag::Normal, b'x'); 200])
 }
 
+/// Whether steps are written out in their order, behind a list that is empty.
+fn are_kept(alloc: Global) -> Result<bool, NoMemory> {
+    let mut seven = LineSteps::new(alloc);
+    let keeps = keeps_seven(alloc, &mut seven);
+    drop(seven);
+    let mut long = LineSteps::new(alloc);
+    let keeps_long = keeps_a_long_run(alloc, &mut long);
+    drop(long);
+    Ok(keeps? && keeps_long?)
+}
+
 #[test]
-fn long_runs_are_written_out(rt: HostRuntime) -> Result<(), Fail> {
-    let mut steps = LineSteps::new(rt.alloc());
-    assert!(rt; keeps_a_long_run(rt.alloc(), &mut steps) == Ok(true));
-    Ok(())
+fn steps_and_long_runs_are_written_out_in_their_order(rt: HostRuntime) {
+    assert!(rt; are_kept(rt.alloc()) == Ok(true));
 }

@@ -6,7 +6,6 @@ ghost use Rattle.std.specs.Prelude.{◌≤◌};
 use std::alloc::Global;
 use std::io;
 use std::io::{ErrorKind, Read, Write};
-use std::test::Fail;
 use tty_base::{
     Bytes, Chars, Failed, Flag, Flagged, MemSink, MemSource, NoMemory, Put, PutFault, Sink, Source,
     StdSink, StdSource, TakeFault, read_all, write_all,
@@ -71,13 +70,6 @@ fn keeps(alloc: Global, bytes: &mut Bytes) -> Result<bool, NoMemory> {
     Ok(is_kept && copied.as_slice() == b"ab".as_slice())
 }
 
-#[test]
-fn a_list_keeps_what_was_added_in_reserved_room(rt: HostRuntime) -> Result<(), Fail> {
-    let mut bytes = Bytes::new(rt.alloc());
-    assert!(rt; keeps(rt.alloc(), &mut bytes) == Ok(true));
-    Ok(())
-}
-
 /// Whether the text `hello`, in pieces of two bytes, is read up to a limit, or this fault is told.
 fn reads(
     alloc: Global,
@@ -90,14 +82,6 @@ fn reads(
         Ok(text) => Ok(fault == None && text.as_slice() == b"hello".as_slice()),
         Err(told) => Ok(fault == Some(told)),
     }
-}
-
-#[test]
-fn a_text_is_read_in_pieces_up_to_its_limit(rt: HostRuntime) -> Result<(), Fail> {
-    let alloc = rt.alloc();
-    assert!(rt; reads(alloc, Vec::new(alloc), 5, None)?);
-    assert!(rt; reads(alloc, Vec::new(alloc), 4, Some(TakeFault::TooLong))?);
-    Ok(())
 }
 
 /// Whether a sink that fails in the text `hello` tells so, and was given these bytes before.
@@ -115,13 +99,25 @@ fn fails_after(
     Ok(told == Err(PutFault::WriteFault) && sink.given() == given)
 }
 
+/// Whether a text is read in pieces up to its limit, and a source that fails is told.
+fn texts_are_read(alloc: Global) -> Result<bool, NoMemory> {
+    let whole = reads(alloc, Vec::new(alloc), 5, None)?;
+    let long = reads(alloc, Vec::new(alloc), 4, Some(TakeFault::TooLong))?;
+    let fails = vec![in alloc; 1]?;
+    Ok(whole && long && reads(alloc, fails, 9, Some(TakeFault::ReadFault))?)
+}
+
+/// Whether a sink that fails is told, and one that has no more room.
+fn sinks_are_told(alloc: Global) -> Result<bool, NoMemory> {
+    let fails = vec![in alloc; 1]?;
+    let fails = fails_after(alloc, 2, 9, fails, b"he")?;
+    Ok(fails && fails_after(alloc, 8, 3, Vec::new(alloc), b"hel")?)
+}
+
 #[test]
-fn a_failing_source_and_a_failing_sink_are_told(rt: HostRuntime) -> Result<(), Fail> {
-    let alloc = rt.alloc();
-    assert!(rt; reads(alloc, vec![in alloc; 1]?, 9, Some(TakeFault::ReadFault))?);
-    assert!(rt; fails_after(alloc, 2, 9, vec![in alloc; 1]?, b"he")?);
-    assert!(rt; fails_after(alloc, 8, 3, Vec::new(alloc), b"hel")?);
-    Ok(())
+fn failing_sources_and_sinks_are_told(rt: HostRuntime) {
+    assert!(rt; texts_are_read(rt.alloc()) == Ok(true));
+    assert!(rt; sinks_are_told(rt.alloc()) == Ok(true));
 }
 
 /// A device that fails at its first call, and then gives `hello`.
@@ -144,14 +140,13 @@ fn answers(source: &mut StdSource<Flaky>, wanted: Result<usize, Failed>) -> bool
     source.read(&mut buf) == wanted
 }
 
-#[test]
-fn standard_input_that_fails_is_a_fault_and_gives_its_text_after(
-    rt: HostRuntime,
-) -> Result<(), Fail> {
-    let mut source = StdSource::new(failing(ErrorKind::BrokenPipe));
-    assert!(rt; answers(&mut source, Err(Failed)));
-    assert!(rt; gives(rt.alloc(), &mut source)? && answers(&mut source, Ok(0)));
-    Ok(())
+/// Whether standard input that fails is a fault, and gives its text after; and a signal is none.
+fn input_goes_on(alloc: Global) -> Result<bool, TakeFault> {
+    let mut broken = StdSource::new(failing(ErrorKind::BrokenPipe));
+    let is_fault = answers(&mut broken, Err(Failed));
+    let is_given = gives(alloc, &mut broken)? && answers(&mut broken, Ok(0));
+    let mut signalled = StdSource::new(failing(ErrorKind::Interrupted));
+    Ok(is_fault && is_given && gives(alloc, &mut signalled)?)
 }
 
 /// Whether a write of two bytes answers so.
@@ -159,27 +154,25 @@ fn takes(sink: &mut StdSink<Flaky>, wanted: Result<usize, Failed>) -> bool {
     sink.write(b"hi") == wanted
 }
 
-#[test]
-fn standard_output_that_fails_is_a_fault_and_can_go_on(rt: HostRuntime) {
-    let mut sink = StdSink::new(failing(ErrorKind::BrokenPipe));
-    assert!(rt; takes(&mut sink, Err(Failed)) && takes(&mut sink, Ok(1)));
+/// Whether standard output that fails is a fault and can go on; and a signal is none.
+fn output_goes_on() -> bool {
+    let mut broken = StdSink::new(failing(ErrorKind::BrokenPipe));
+    let is_fault = takes(&mut broken, Err(Failed)) && takes(&mut broken, Ok(1));
+    let mut signalled = StdSink::new(failing(ErrorKind::Interrupted));
+    is_fault && write_all(&mut signalled, b"hi") == Ok(())
+}
+
+/// Whether standard output adds to what its writer holds.
+fn output_is_added(alloc: Global) -> bool {
+    let mut text = Vec::new(alloc);
+    let is_put = write_all(&mut StdSink::new(&mut text), b"hello") == Ok(());
+    is_put && text.as_slice() == b"hello".as_slice()
 }
 
 #[test]
-fn a_signal_is_no_fault_of_standard_input_and_output(rt: HostRuntime) -> Result<(), Fail> {
-    let mut source = StdSource::new(failing(ErrorKind::Interrupted));
-    assert!(rt; gives(rt.alloc(), &mut source)?);
-    let mut sink = StdSink::new(failing(ErrorKind::Interrupted));
-    assert!(rt; write_all(&mut sink, b"hi") == Ok(()));
-    Ok(())
-}
-
-#[test]
-fn standard_output_adds_to_what_its_writer_holds(rt: HostRuntime) -> Result<(), Fail> {
-    let mut text = Vec::new(rt.alloc());
-    assert!(rt; write_all(&mut StdSink::new(&mut text), b"hello") == Ok(()));
-    assert!(rt; text.as_slice() == b"hello".as_slice());
-    Ok(())
+fn standard_streams_that_fail_are_told_and_go_on(rt: HostRuntime) {
+    assert!(rt; input_goes_on(rt.alloc()) == Ok(true));
+    assert!(rt; output_goes_on() && output_is_added(rt.alloc()));
 }
 
 /// Whether a character is put into an empty list.
@@ -192,13 +185,6 @@ fn puts(list: &mut Chars) -> Result<bool, NoMemory> {
     let is_put = list.put(c) == Ok(());
     list.push();
     Ok(is_put && list.as_slice() == [c].as_slice())
-}
-
-#[test]
-fn a_list_takes_characters_in_its_reserved_room(rt: HostRuntime) -> Result<(), Fail> {
-    let mut list = Chars::new(rt.alloc());
-    assert!(rt; puts(&mut list) == Ok(true));
-    Ok(())
 }
 
 /// Whether eight characters fill an empty list, and a ninth has room once it is reserved.
@@ -215,13 +201,6 @@ fn keeps_nine(alloc: Global, list: &mut Chars) -> Result<bool, NoMemory>
     Ok(is_full && copied.as_slice() == [c; 9].as_slice())
 }
 
-#[test]
-fn a_ninth_character_takes_memory(rt: HostRuntime) -> Result<(), Fail> {
-    let mut list = Chars::new(rt.alloc());
-    assert!(rt; keeps_nine(rt.alloc(), &mut list) == Ok(true));
-    Ok(())
-}
-
 /// Whether these are good characters with these bytes.
 fn are_good(characters: &[Flagged], bytes: &[u8]) -> bool {
     for (c, byte) in characters.iter().zip(bytes) {
@@ -232,23 +211,45 @@ fn are_good(characters: &[Flagged], bytes: &[u8]) -> bool {
     characters.len() == bytes.len()
 }
 
-#[test]
-fn good_characters_are_added_from_bytes(rt: HostRuntime) -> Result<(), Fail> {
-    let mut list = Chars::new(rt.alloc());
+/// Whether good characters are added from bytes.
+fn keeps_good(list: &mut Chars) -> Result<bool, NoMemory>
+    requires { 8 ≤ list.old.spare }
+{
     list.add_good(b"abcdefgh");
     list.reserve(21)?;
     list.add_good(b"ABCDEFGH");
     list.add_good(b"0123456789xyz");
-    assert!(rt; are_good(list.as_slice(), b"abcdefghABCDEFGH0123456789xyz"));
-    Ok(())
+    Ok(are_good(list.as_slice(), b"abcdefghABCDEFGH0123456789xyz"))
+}
+
+/// Whether a shorter list keeps its room.
+fn keeps_room(list: &mut Chars) -> bool
+    requires { 8 ≤ list.old.spare }
+{
+    let c = Flagged::default();
+    list.append(&[c; 5]);
+    list.truncate(3);
+    list.as_slice() == [c; 3].as_slice() && list.spare() == 5
+}
+
+fn characters_are_kept(alloc: Global) -> bool {
+    let mut one = Chars::new(alloc);
+    let mut nine = Chars::new(alloc);
+    let mut good = Chars::new(alloc);
+    let mut short = Chars::new(alloc);
+    let is_put = puts(&mut one) == Ok(true);
+    let are_nine = keeps_nine(alloc, &mut nine) == Ok(true);
+    let are_good = keeps_good(&mut good) == Ok(true);
+    is_put && are_nine && are_good && keeps_room(&mut short)
+}
+
+fn bytes_are_kept(alloc: Global) -> Result<bool, NoMemory> {
+    let mut bytes = Bytes::new(alloc);
+    keeps(alloc, &mut bytes)
 }
 
 #[test]
-fn a_shorter_list_keeps_its_room(rt: HostRuntime) -> Result<(), Fail> {
-    let c = Flagged::default();
-    let mut list = Chars::new(rt.alloc());
-    list.append(&[c; 5]);
-    list.truncate(3);
-    assert!(rt; list.as_slice() == [c; 3].as_slice() && list.spare() == 5);
-    Ok(())
+fn lists_keep_what_was_added_in_reserved_room(rt: HostRuntime) {
+    assert!(rt; bytes_are_kept(rt.alloc()) == Ok(true));
+    assert!(rt; characters_are_kept(rt.alloc()));
 }
