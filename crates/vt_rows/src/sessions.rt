@@ -5,7 +5,6 @@ ghost use Rattle.vt_text.specs.Sessions.{vt_session_of};
 ghost use Rattle.vt_account.specs.Keyed.{IsWithinKeys};
 
 use std::alloc::Global;
-use std::test::Fail;
 use tty_base::Bytes;
 use vt_account::sessions_that_are_read_are_within_keys;
 use vt_one::{VtPlayed, play_vt};
@@ -38,36 +37,93 @@ fn told_of(alloc: Global, session: &VtSession, played: &VtPlayed) -> Option<Byte
 }
 
 /// The report of a text, played on one thread.
-fn report_of(alloc: Global, text: &[u8]) -> Option<Bytes> {
-    let mut session = session_of(alloc, text)?;
-    let played = played_of(alloc, &mut session)?;
-    told_of(alloc, &session, &played)
+fn report_of(alloc: Global, text: &str) -> Option<Bytes> {
+    let mut session = session_of(alloc, text.as_bytes())?;
+    let played = played_of(alloc, &mut session);
+    let told = match &played {
+        Some(played) => told_of(alloc, &session, played),
+        None => None,
+    };
+    drop(session);
+    drop(played);
+    told
 }
 
 /// Whether a text has this report.
-fn is_reported(alloc: Global, text: &[u8], report: &[u8]) -> bool {
+fn is_reported(alloc: Global, text: &str, report: &str) -> bool {
     match report_of(alloc, text) {
-        Some(told) => told.as_slice() == report,
+        Some(told) => told.as_slice() == report.as_bytes(),
         None => false,
     }
 }
 
-#[test]
-fn keys_follow_the_activation(rt: HostRuntime) -> Result<(), Fail> {
-    let text =
-        b"vt-session 1\nconsoles 2\nphase\ncaller a 0\nopen 0 rw nonblock\ncaller a 1\nopen 0 rw nonblock\nphase\nkeys 6869\nphase\noperator o\nactivate 1\nstate\nphase\nkeys 6a0d\nphase\ncaller a 0\ninq 0\ncaller a 1\nread 0 64\nend\n".as_slice();
-    let report =
-        b"0.a.0 open ok\n0.a.1 inq 0\n1.a.0 open ok\n1.a.1 read 2 6a0a\nvt.o.0 activate ok\nvt.o.1 state 1\nconsole 0 keys=2 overrun=0 taken=2 dropped=0 generation=1\nconsole 0 row 0 6869\nconsole 1 keys=2 overrun=0 taken=2 dropped=0 generation=1\nconsole 1 row 0 6a\nactive 1\ndone\n".as_slice();
-    assert!(rt; is_reported(rt.alloc(), text, report));
-    Ok(())
-}
+/// Keys follow the activation.
+const KEYS_FOLLOW: (&str, &str) = (
+    "vt-session 1
+consoles 2
+phase
+caller a 0
+open 0 rw nonblock
+caller a 1
+open 0 rw nonblock
+phase
+keys 6869
+phase
+operator o
+activate 1
+state
+phase
+keys 6a0d
+phase
+caller a 0
+inq 0
+caller a 1
+read 0 64
+end
+",
+    "0.a.0 open ok
+0.a.1 inq 0
+1.a.0 open ok
+1.a.1 read 2 6a0a
+vt.o.0 activate ok
+vt.o.1 state 1
+console 0 keys=2 overrun=0 taken=2 dropped=0 generation=1
+console 0 row 0 6869
+console 1 keys=2 overrun=0 taken=2 dropped=0 generation=1
+console 1 row 0 6a
+active 1
+done
+",
+);
+
+/// A refused activation leaves the board, and rows scroll.
+const ROWS_SCROLL: (&str, &str) = (
+    "vt-session 1
+consoles 2
+phase
+operator o
+activate 2
+state
+caller a 0
+open 0 rw nonblock
+write 0 0a0a0a0a0a0a0a0a0a0a0a0a0a0a0a0a0a0a0a0a0a0a0a0a0a61
+end
+",
+    "0.a.0 open ok
+0.a.1 write 26
+vt.o.0 activate ENXIO
+vt.o.1 state 0
+console 0 keys=0 overrun=0 taken=0 dropped=0 generation=1
+console 0 row 24 61
+console 1 keys=0 overrun=0 taken=0 dropped=0 generation=1
+active 0
+done
+",
+);
 
 #[test]
-fn a_refused_activation_leaves_the_board_and_rows_scroll(rt: HostRuntime) -> Result<(), Fail> {
-    let text =
-        b"vt-session 1\nconsoles 2\nphase\noperator o\nactivate 2\nstate\ncaller a 0\nopen 0 rw nonblock\nwrite 0 0a0a0a0a0a0a0a0a0a0a0a0a0a0a0a0a0a0a0a0a0a0a0a0a0a61\nend\n".as_slice();
-    let report =
-        b"0.a.0 open ok\n0.a.1 write 26\nvt.o.0 activate ENXIO\nvt.o.1 state 0\nconsole 0 keys=0 overrun=0 taken=0 dropped=0 generation=1\nconsole 0 row 24 61\nconsole 1 keys=0 overrun=0 taken=0 dropped=0 generation=1\nactive 0\ndone\n".as_slice();
-    assert!(rt; is_reported(rt.alloc(), text, report));
-    Ok(())
+fn sessions_of_consoles_are_played_and_reported(rt: HostRuntime) {
+    for (text, report) in [KEYS_FOLLOW, ROWS_SCROLL] {
+        assert!(rt; is_reported(rt.alloc(), text, report), "at {text}");
+    }
 }
