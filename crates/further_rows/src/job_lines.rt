@@ -3,7 +3,7 @@
 use arrayvec::ArrayString;
 use job_control::{JobAnswer, JobSignal, Proc, Target};
 use job_print::{put_answer, put_signal};
-use std::test::Fail;
+use std::alloc::Global;
 use tty_base::NoMemory;
 
 fn put_lines(text: &mut String, procs: &[Proc]) -> Result<(), NoMemory> {
@@ -16,9 +16,9 @@ fn put_lines(text: &mut String, procs: &[Proc]) -> Result<(), NoMemory> {
     put_signal(text, 0, procs, JobSignal::Int, Target::Nobody)
 }
 
-#[test]
-fn lines_of_a_report(rt: HostRuntime) -> Result<(), Fail> {
-    let mut text = String::new(rt.alloc());
+/// Whether these are the lines of a report.
+fn lines_are(alloc: Global, wanted: &str) -> Result<bool, NoMemory> {
+    let mut text = String::new(alloc);
     let procs = [Proc {
         name: ArrayString::new(),
         session: 1,
@@ -28,9 +28,13 @@ fn lines_of_a_report(rt: HostRuntime) -> Result<(), Fail> {
         nottin: false,
         nottou: false,
     }];
-    let is_put = put_lines(&mut text, procs.as_slice()).is_ok();
+    put_lines(&mut text, procs.as_slice())?;
+    Ok(text.as_str() == wanted)
+}
+
+#[test]
+fn lines_of_a_report(rt: HostRuntime) {
     let wanted =
         "0.sh.1 sctty ok\n0.sh.2 gpgrp 1\n0.job.0 read stopped TTIN\n0.job.3 sctty EPERM\njob 0 TTIN group 2\njob 0 INT -\n";
-    assert!(rt; is_put && text.as_str() == wanted);
-    Ok(())
+    assert!(rt; lines_are(rt.alloc(), wanted) == Ok(true));
 }

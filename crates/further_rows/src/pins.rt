@@ -11,50 +11,49 @@ fn bits_after_last_close(hupcl: bool) -> u32 {
     modem.bits()
 }
 
-#[test]
-fn hupcl_takes_the_lines_down(rt: HostRuntime) {
-    assert_eq!(rt; bits_after_last_close(true), 0);
-    assert_eq!(rt; bits_after_last_close(false), 6);
-}
-
-#[test]
-fn each_pin_has_its_bits(rt: HostRuntime) {
-    for (pin, bits, up, down) in [
-        (Pin::Dcd, 0x40, 0x88, 0x08),
-        (Pin::Dsr, 0x100, 0x22, 0x02),
-        (Pin::Cts, 0x20, 0x11, 0x01),
-        (Pin::Ri, 0x80, 0x40, 0x04),
-    ] {
-        let mut modem = Modem::new();
-        assert!(rt; !modem.set(pin, true));
-        assert_eq!(rt; modem.bits(), bits);
-        assert_eq!(rt; modem.msr(), up);
-        let lost = modem.set(pin, false);
-        assert_eq!(rt; lost, pin == Pin::Dcd);
-        assert_eq!(rt; modem.msr(), down);
-        assert_eq!(rt; modem.msr(), 0);
-    }
-}
-
-#[test]
-fn clocal_stands_for_the_carrier(rt: HostRuntime) {
+/// Whether a pin that changes has these bits, and is told once.
+fn has_its_bits(pin: Pin, bits: u32, up: u8, down: u8) -> bool {
     let mut modem = Modem::new();
-    assert!(rt; !modem.may_open(false) && modem.may_open(true));
-    modem.softcar(true);
-    assert!(rt; modem.carrier_soft() && modem.may_open(false));
-    let _ = modem.set(Pin::Dcd, true);
-    assert!(rt; !modem.set(Pin::Dcd, false));
+    let gained = modem.set(pin, true);
+    let is_up = modem.bits() == bits && modem.msr() == up;
+    let lost = modem.set(pin, false);
+    let is_told = modem.msr() == down && modem.msr() == 0;
+    !gained && is_up && is_told && lost == (pin == Pin::Dcd)
 }
 
-#[test]
-fn numbers_change_dtr_and_rts_alone(rt: HostRuntime) {
+fn pins_have_their_bits() -> bool {
+    has_its_bits(Pin::Dcd, 0x40, 0x88, 0x08)
+        && has_its_bits(Pin::Dsr, 0x100, 0x22, 0x02)
+        && has_its_bits(Pin::Cts, 0x20, 0x11, 0x01)
+        && has_its_bits(Pin::Ri, 0x80, 0x40, 0x04)
+}
+
+/// Whether CLOCAL stands for the carrier.
+fn clocal_stands() -> bool {
+    let mut modem = Modem::new();
+    let before = !modem.may_open(false) && modem.may_open(true);
+    modem.softcar(true);
+    let after = modem.carrier_soft() && modem.may_open(false);
+    let _ = modem.set(Pin::Dcd, true);
+    before && after && !modem.set(Pin::Dcd, false)
+}
+
+/// Whether numbers change DTR and RTS alone.
+fn numbers_change_two() -> bool {
     let mut modem = Modem::new();
     modem.raise(0x1fb);
-    assert_eq!(rt; modem.bits(), 2);
+    let raised = modem.bits() == 2;
     modem.assign(0x1fd);
-    assert_eq!(rt; modem.bits(), 4);
+    let assigned = modem.bits() == 4;
     modem.lower(0x1fb);
-    assert_eq!(rt; modem.bits(), 4);
+    let lowered = modem.bits() == 4;
     modem.lower(4);
-    assert_eq!(rt; modem.bits(), 0);
+    raised && assigned && lowered && modem.bits() == 0
+}
+
+#[test]
+fn the_lines_of_a_modem(rt: HostRuntime) {
+    assert!(rt; bits_after_last_close(true) == 0 && bits_after_last_close(false) == 6);
+    assert!(rt; pins_have_their_bits());
+    assert!(rt; clocal_stands() && numbers_change_two());
 }

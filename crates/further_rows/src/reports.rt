@@ -4,8 +4,8 @@ use further_report::{jobs_report, modem_report};
 use job_control::{JobAnswer, JobSignal, Target};
 use job_text::{JobEvent, JobLog, JobsSession, parse_jobs};
 use modem_text::{ModemEvent, ModemLog, ModemSession, parse_modem};
+use session_text::TextFault;
 use std::alloc::Global;
-use std::test::Fail;
 use tty_base::{Buffer, Bytes, Counts, LineReport, NoMemory};
 use tty_calls::{Answer, Journal, PortEnd, PortRun};
 
@@ -129,18 +129,22 @@ fn jobs_told(alloc: Global, session: &JobsSession) -> Result<Bytes, NoMemory> {
     )
 }
 
-#[test]
-fn a_dial_in_is_told(rt: HostRuntime) -> Result<(), Fail> {
-    let session = parse_modem(rt.alloc(), DIAL_IN)?;
-    let text = modem_told(rt.alloc(), &session)?;
-    assert!(rt; text.as_slice() == DIAL_IN_REPORT);
-    Ok(())
+fn a_dial_in_is_told(alloc: Global) -> Result<bool, TextFault> {
+    let session = parse_modem(alloc, DIAL_IN)?;
+    let told = modem_told(alloc, &session);
+    drop(session);
+    Ok(told?.as_slice() == DIAL_IN_REPORT)
+}
+
+fn a_shell_is_told(alloc: Global) -> Result<bool, TextFault> {
+    let session = parse_jobs(alloc, SHELL)?;
+    let told = jobs_told(alloc, &session);
+    drop(session);
+    Ok(told?.as_slice() == SHELL_REPORT)
 }
 
 #[test]
-fn a_shell_is_told(rt: HostRuntime) -> Result<(), Fail> {
-    let session = parse_jobs(rt.alloc(), SHELL)?;
-    let text = jobs_told(rt.alloc(), &session)?;
-    assert!(rt; text.as_slice() == SHELL_REPORT);
-    Ok(())
+fn a_dial_in_and_a_shell_are_told(rt: HostRuntime) {
+    assert!(rt; a_dial_in_is_told(rt.alloc()) == Ok(true));
+    assert!(rt; a_shell_is_told(rt.alloc()) == Ok(true));
 }

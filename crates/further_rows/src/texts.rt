@@ -4,7 +4,6 @@ use job_text::parse_jobs;
 use modem_text::parse_modem;
 use session_text::{BadLine, Reason, TextFault};
 use std::alloc::Global;
-use std::test::Fail;
 
 const MODEM: &[u8] =
     b"tty-session 1\nports 2\nphase\nmodem 1\ndcd 1\ncaller a 0\nmget 0\nopen 0 rw\nphase\nend\n";
@@ -24,19 +23,24 @@ const FIFTH: TextFault = TextFault::Bad(BadLine {
 
 /// How many phases a text with modem lines has, or why it is wrong.
 fn modem_phases(alloc: Global, text: &[u8]) -> Result<usize, TextFault> {
-    Ok(parse_modem(alloc, text)?.parts.len())
+    let session = parse_modem(alloc, text)?;
+    let phases = session.parts.len();
+    drop(session);
+    Ok(phases)
 }
 
 /// How many phases a text of processes has, or why it is wrong.
 fn jobs_phases(alloc: Global, text: &[u8]) -> Result<usize, TextFault> {
-    Ok(parse_jobs(alloc, text)?.parts.len())
+    let session = parse_jobs(alloc, text)?;
+    let phases = session.parts.len();
+    drop(session);
+    Ok(phases)
 }
 
 #[test]
-fn texts_are_read(rt: HostRuntime) -> Result<(), Fail> {
-    assert!(rt; modem_phases(rt.alloc(), MODEM) == Ok(2));
-    assert!(rt; modem_phases(rt.alloc(), WRONG_MODEM) == Err(FIFTH));
-    assert!(rt; jobs_phases(rt.alloc(), JOBS) == Ok(2));
-    assert!(rt; jobs_phases(rt.alloc(), WRONG_JOBS) == Err(FIFTH));
-    Ok(())
+fn texts_are_read(rt: HostRuntime) {
+    let modem = modem_phases(rt.alloc(), MODEM) == Ok(2);
+    assert!(rt; modem && modem_phases(rt.alloc(), WRONG_MODEM) == Err(FIFTH));
+    let jobs = jobs_phases(rt.alloc(), JOBS) == Ok(2);
+    assert!(rt; jobs && jobs_phases(rt.alloc(), WRONG_JOBS) == Err(FIFTH));
 }
