@@ -1,11 +1,9 @@
 //! Sessions that are drawn from a number, played on one thread and on many.
 
-use super::plays::{Outcome, is_legal, played};
+use super::plays::{is_legal, played};
 use drawn_sessions::drawn_session;
 use std::alloc::{AllocError, Global};
-use std::process::Abort;
 use std::sync::Wait;
-use std::test::Fail;
 use std::thread::Threads;
 use tty_port::OpenGate;
 
@@ -16,40 +14,59 @@ const ONE: &[&str] = &["run", "--one", "--journal"];
 
 const MANY: &[&str] = &["run", "--journal"];
 
-fn played_by<R: Threads + Wait + Sync>(
+/// What is told of a session with these words, where it is played.
+fn told_by<R: Threads + Wait + Sync>(
     rt: &R,
     alloc: Global,
     words: &[&str],
     session: &str,
-) -> Result<Outcome, AllocError> {
+) -> Result<Option<Vec<u8>>, AllocError> {
     let text = session.as_bytes().to_vec(alloc)?;
-    played(rt, alloc, words, text, &OpenGate)
+    let told = played(rt, alloc, words, text, &OpenGate)?;
+    Ok(told.text_of_play())
 }
 
-/// The session is told the same whenever it is played on one thread, and its journals are legal there
-/// and on threads.
-fn is_well_played<R: Threads + Wait + Abort + Sync>(
+/// Whether the journals of a session that is played with these words are legal.
+fn is_legally_played<R: Threads + Wait + Sync>(
+    rt: &R,
+    alloc: Global,
+    words: &[&str],
+    session: &str,
+) -> Result<bool, AllocError> {
+    match told_by(rt, alloc, words, session)? {
+        Some(text) => is_legal(rt, alloc, session, text.as_slice()),
+        None => Ok(false),
+    }
+}
+
+/// Whether a session is told the same at a second play on one thread.
+fn is_told_alike<R: Threads + Wait + Sync>(
     rt: &R,
     alloc: Global,
     session: &str,
-) -> Result<(), Fail> {
-    let one = played_by(rt, alloc, ONE, session)?;
-    assert_eq!(rt; one.status, 0, "at {session}");
-    is_legal(rt, alloc, session, one.text.as_slice())?;
-    let again = played_by(rt, alloc, ONE, session)?;
-    let same = again.text == one.text;
-    assert!(rt; same, "another report of {session}");
-    let many = played_by(rt, alloc, MANY, session)?;
-    assert_eq!(rt; many.status, 0, "at {session}");
-    is_legal(rt, alloc, session, many.text.as_slice())
+) -> Result<bool, AllocError> {
+    let first = told_by(rt, alloc, ONE, session)?;
+    let second = told_by(rt, alloc, ONE, session)?;
+    Ok(first.is_some() && first == second)
+}
+
+/// Whether the session of a number is told alike, and its journals are legal on one thread and on many.
+fn is_well_played<R: Threads + Wait + Sync>(
+    rt: &R,
+    alloc: Global,
+    number: u32,
+) -> Result<bool, AllocError> {
+    let session = drawn_session(alloc, number)?;
+    let session = session.as_str();
+    let alike = is_told_alike(rt, alloc, session) == Ok(true);
+    let one = is_legally_played(rt, alloc, ONE, session) == Ok(true);
+    Ok(alike && one && is_legally_played(rt, alloc, MANY, session) == Ok(true))
 }
 
 #[test]
-fn drawn_sessions_are_well_played(rt: HostRuntime) -> Result<(), Fail> {
-    let alloc = rt.alloc();
+fn drawn_sessions_are_well_played(rt: HostRuntime) {
     for number in 0..SESSIONS {
-        let session = drawn_session(alloc, number)?;
-        is_well_played(&rt, alloc, session.as_str())?;
+        let well = is_well_played(&rt, rt.alloc(), number);
+        assert!(rt; well == Ok(true), "of {number}");
     }
-    Ok(())
 }

@@ -1,7 +1,7 @@
 //! Input that is flushed while the line still runs.
 
 use super::places::{Place, answers, are_in_order};
-use super::plays::played_behind;
+use super::plays::{Outcome, played_behind};
 use std::sync::Wait;
 use std::test::Fail;
 use tty_calls::{Event, Journal, Who};
@@ -48,18 +48,25 @@ fn is_line_end(journal: &Journal, place: usize, phase: u32) -> bool {
     matches!(journal.get(place), Some(entry) if entry.step == phase && matches!(entry.event, Event::LineEnd(_)))
 }
 
+/// Whether the flush came before the read, and the read before the line's end.
+fn is_early(played: &Outcome) -> bool {
+    let Some(journal) = played.journal() else {
+        return false;
+    };
+    let flush = (0..journal.len()).find(|place| is_flush(journal, *place));
+    let read = (0..journal.len()).find(|place| answers(journal, *place, 0, 2));
+    let end = (0..journal.len()).find(|place| is_line_end(journal, *place, 1));
+    are_in_order(flush, read, end)
+}
+
 #[test]
 fn flush_early(rt: HostRuntime) -> Result<(), Fail> {
     let gate = BeforeLineEnd {
         after_the_read: Place::new(),
     };
     let played = played_behind(&rt, rt.alloc(), A_READ_BESIDE_THE_LINE, &gate)?;
-    assert_eq!(rt; played.status, 0);
-    assert!(rt; gate.after_the_read.was_met());
-    let journal = played.journal().ok_or("no port")?;
-    let flush = (0..journal.len()).find(|place| is_flush(journal, *place));
-    let read = (0..journal.len()).find(|place| answers(journal, *place, 0, 2));
-    let end = (0..journal.len()).find(|place| is_line_end(journal, *place, 1));
-    assert!(rt; are_in_order(flush, read, end));
+    let is_early = played.status == 0 && is_early(&played);
+    drop(played);
+    assert!(rt; is_early && gate.after_the_read.was_met());
     Ok(())
 }

@@ -2,11 +2,9 @@
 
 use super::places::{MOST_TURNS, answers};
 use super::plays::{Outcome, is_legal, played};
-use std::alloc::Global;
-use std::process::Abort;
+use std::alloc::{AllocError, Global};
 use std::sync::Wait;
 use std::sync::atomic::{AtomicBool, AtomicU32, Ordering};
-use std::test::Fail;
 use std::thread::{self, Threads};
 use tty_base::Errno;
 use tty_calls::{AnswerRef, Event, Who};
@@ -144,55 +142,87 @@ fn may_be_read(answer: Option<AnswerRef>, held: &str) -> bool {
     }
 }
 
-/// Lets the call that is held go on at each pass, until a play has fewer passes.
-fn at_each_pass<R: Threads + Wait + Abort + Sync>(
+/// Whether a play in which a call was held was told, and its write and its read were answered so.
+fn is_well_answered(told: &Outcome, held: &str, beside: &str) -> bool {
+    let written = may_be_written(answer_of(told, WRITER, WRITE), held);
+    let read = beside != A_READ || may_be_read(answer_of(told, READER, 0), held);
+    told.status == 0 && written && read
+}
+
+/// Plays a session whose held call goes on at a pass. Answers how many passes there were, where all goes well.
+fn passes_at<R: Threads + Wait + Sync>(
+    rt: &R,
+    alloc: Global,
+    session: &str,
+    held: &str,
+    beside: &str,
+    at: u32,
+) -> Result<Option<u32>, AllocError> {
+    let gate = AtPass::new(at);
+    let text = written_out(alloc, session)?;
+    let told = played(rt, alloc, &["run", "--journal"], text, &gate)?;
+    let well = is_well_answered(&told, held, beside);
+    let legal = is_legal(rt, alloc, session, told.text.as_slice());
+    drop(told);
+    let is_held = !gate.is_given_up.load(Ordering::SeqCst);
+    let passes = gate.passes();
+    Ok(if well && is_held && legal == Ok(true) {
+        Some(passes)
+    } else {
+        None
+    })
+}
+
+/// Whether all goes well where the call that is held goes on at each pass, until a play has fewer passes.
+fn goes_well<R: Threads + Wait + Sync>(
+    rt: &R,
+    alloc: Global,
+    session: &str,
+    held: &str,
+    beside: &str,
+) -> Result<bool, AllocError> {
+    for at in 1..=MOST_PASSES {
+        match passes_at(rt, alloc, session, held, beside, at)? {
+            Some(passes) if passes < at => return Ok(true),
+            Some(_) => {}
+            None => return Ok(false),
+        }
+    }
+    Ok(false)
+}
+
+fn goes_well_beside<R: Threads + Wait + Sync>(
     rt: &R,
     alloc: Global,
     held: &str,
     beside: &str,
-) -> Result<(), Fail> {
+) -> Result<bool, AllocError> {
     let session = format!(in alloc; "{BEGIN}{held}{beside}end\n")?;
-    let mut passes = 0;
-    for at in 1..=MOST_PASSES {
-        let gate = AtPass::new(at);
-        let text = written_out(alloc, session.as_str())?;
-        let told = played(rt, alloc, &["run", "--journal"], text, &gate)?;
-        assert_eq!(rt; told.status, 0, "{held} at pass {at}");
-        assert!(rt;
-            !gate.is_given_up.load(Ordering::SeqCst),
-            "{held} at pass {at}"
-        );
-        let written = may_be_written(answer_of(&told, WRITER, WRITE), held);
-        assert!(rt; written, "{held} at pass {at}");
-        let read = beside != A_READ || may_be_read(answer_of(&told, READER, 0), held);
-        assert!(rt; read, "{held} at pass {at}");
-        is_legal(rt, alloc, session.as_str(), told.text.as_slice())?;
-        passes = gate.passes();
-        if passes < at {
-            break;
-        }
-    }
-    assert!(rt; passes < MOST_PASSES, "{held}");
-    Ok(())
+    goes_well(rt, alloc, session.as_str(), held, beside)
+}
+
+/// Whether all goes well beside nothing, a read and a line.
+fn goes_well_beside_each<R: Threads + Wait + Sync>(
+    rt: &R,
+    alloc: Global,
+    held: &str,
+) -> Result<bool, AllocError> {
+    let alone = goes_well_beside(rt, alloc, held, NOTHING)?;
+    let read = goes_well_beside(rt, alloc, held, A_READ)?;
+    Ok(alone && read && goes_well_beside(rt, alloc, held, A_LINE)?)
 }
 
 #[test]
-fn a_write_is_whole_or_refused_by_a_hangup(rt: HostRuntime) -> Result<(), Fail> {
-    at_each_pass(&rt, rt.alloc(), HANGUP, NOTHING)?;
-    at_each_pass(&rt, rt.alloc(), HANGUP, A_READ)?;
-    at_each_pass(&rt, rt.alloc(), HANGUP, A_LINE)
+fn a_write_is_whole_or_refused_by_a_hangup(rt: HostRuntime) {
+    assert!(rt; goes_well_beside_each(&rt, rt.alloc(), HANGUP) == Ok(true));
 }
 
 #[test]
-fn a_write_is_whole_or_refused_by_a_change(rt: HostRuntime) -> Result<(), Fail> {
-    at_each_pass(&rt, rt.alloc(), CHANGE, NOTHING)?;
-    at_each_pass(&rt, rt.alloc(), CHANGE, A_READ)?;
-    at_each_pass(&rt, rt.alloc(), CHANGE, A_LINE)
+fn a_write_is_whole_or_refused_by_a_change(rt: HostRuntime) {
+    assert!(rt; goes_well_beside_each(&rt, rt.alloc(), CHANGE) == Ok(true));
 }
 
 #[test]
-fn a_write_is_whole_where_nothing_changes(rt: HostRuntime) -> Result<(), Fail> {
-    at_each_pass(&rt, rt.alloc(), NO_CHANGE, NOTHING)?;
-    at_each_pass(&rt, rt.alloc(), NO_CHANGE, A_READ)?;
-    at_each_pass(&rt, rt.alloc(), NO_CHANGE, A_LINE)
+fn a_write_is_whole_where_nothing_changes(rt: HostRuntime) {
+    assert!(rt; goes_well_beside_each(&rt, rt.alloc(), NO_CHANGE) == Ok(true));
 }
