@@ -32,12 +32,14 @@ pub fn open_console(
         → IfOk result (λ station. IsBeforePhase (record { port = number; session = x }) 0 station 0) }
 {
     let capacity = session.flips.as_slice()[number] as usize;
-    let (putter, taker) = flip(alloc, capacity)?;
     let counts = counts_of(alloc, session, number)?;
+    let steps = vec![in alloc; 0; names.len()]?;
+    let line = Line::new(alloc, most)?;
+    let (putter, taker) = flip(alloc, capacity)?;
     Ok(Station {
         port: Port::new(alloc, counts.as_slice(), JOURNAL_LIMIT, taker)?,
         putter,
-        line: Line::new(alloc, most)?,
-        steps: vec![in alloc; 0; names.len()]?,
+        line,
+        steps,
     })
 }
