@@ -1,4 +1,5 @@
-//! A player of sessions of processes on one thread.
+//! Parts of a player of sessions of processes on one thread: what callers pass down to a port, its log and its desk, the
+//! line of a phase with its signals, and turns that are played at the desk. The player itself is not here.
 #![tactic(auto)]
 
 mod acts;
