@@ -1,5 +1,5 @@
 -- The callers' numbers and steps: those that the printer counts are those of the session.
-use Rattle.std.proofs.Common.{◌≡◌, ◌≢◌, ℕ, Bool, true, false, List, [], ◌∷◌, ◌++◌, Option, None, Some, ◌+◌, ◌<◌, length, flat_map, get_or, set, replicate, refl, sym, ap, ◌∙◌, cond, arith, add-zero, append-nil, length-append, length-set}
+use Rattle.std.proofs.Common.{◌≡◌, ◌≢◌, ℕ, Bool, true, false, List, [], ◌∷◌, ◌++◌, Option, None, Some, Result, Ok, Err, OnOk, ◌+◌, ◌<◌, length, flat_map, get_or, set, replicate, refl, sym, ap, ◌∙◌, cond, arith, add-zero, append-nil, length-append, length-set}
 use Rattle.std.specs.Str.{bytes_eq}
 use Rattle.std.proofs.lemmas.Bool.{false≢true}
 use Rattle.std.proofs.lemmas.Slice.Eq.{bytes_eq-Decides}
@@ -7,7 +7,7 @@ use Rattle.std.proofs.lemmas.Grind.{flat_map-append}
 use Rattle.std.proofs.lemmas.List.{get_or-replicate, length-replicate, get_or-set_same, get_or-set_other}
 use Rattle.std.proofs.lemmas.List.Quantifiers.{position-Some}
 use Rattle.tty_calls.specs.Plain.{PlainCall, PlainAnswer}
-use Rattle.tty_calls.specs.Sessions.{PlainScript, PlainSession, scripts_over, names_of, number_in, calls_under}
+use Rattle.tty_calls.specs.Sessions.{PlainPhase, PlainScript, PlainSession, scripts_over, names_of, number_in, calls_under}
 use Rattle.session_print.specs.Report.{Told, told_from, told_in, told_on, told_line, answer_to, answered_line}
 use Rattle.session_print.specs.Printing.{told_script, steps_then, told_scripts}
 
@@ -126,18 +126,28 @@ same_line : (p : ℕ) (found answers : ℕ → ℕ → Option PlainAnswer) → (
 same_line p found answers same t None = refl
 same_line p found answers same t (Some c) = ap (answered_line p t) (same c t.step)
 
-same_lines : (p : ℕ) (found answers : ℕ → ℕ → Option PlainAnswer) → ((c step : ℕ) → found c step ≡ answers c step) → (ts : List Told) → flat_map (told_line p found) ts ≡ flat_map (told_line p answers) ts
+-- two ways to find answers that come to the same tell the same
+pub same_lines : (p : ℕ) (found answers : ℕ → ℕ → Option PlainAnswer) → ((c step : ℕ) → found c step ≡ answers c step) → (ts : List Told) → flat_map (told_line p found) ts ≡ flat_map (told_line p answers) ts
 same_lines p found answers same [] = refl
 same_lines p found answers same (t ∷ ts) =
     ap (λ xs. xs ++ flat_map (told_line p found) ts) (same_line p found answers same t t.caller)
     ∙ ap (λ xs. told_line p answers t ++ xs) (same_lines p found answers same ts)
 
 -- what is told by numbers and steps is what is told of the session
-pub told_is : (p : ℕ) (found answers : ℕ → ℕ → Option PlainAnswer) → ((c step : ℕ) → found c step ≡ answers c step)
-    → (session : PlainSession) (names : List (List ℕ)) (steps : List ℕ) → names ≡ names_of (scripts_over p session.phases) → steps ≡ replicate (length names) 0
-    → flat_map (told_line p found) (told_scripts names steps (scripts_over p session.phases)) ≡ flat_map (told_line p answers) (told_on p session)
-told_is p found answers same session names steps named zeros =
+told_is : (p : ℕ) (answers : ℕ → ℕ → Option PlainAnswer) (session : PlainSession) (names : List (List ℕ)) (steps : List ℕ) → names ≡ names_of (scripts_over p session.phases) → steps ≡ replicate (length names) 0
+    → flat_map (told_line p answers) (told_scripts names steps (scripts_over p session.phases)) ≡ flat_map (told_line p answers) (told_on p session)
+told_is p answers session names steps named zeros =
     let scripts : List PlainScript = scripts_over p session.phases in
-    goes_on p found names [] scripts steps (stands_first names steps zeros)
-    ∙ same_lines p found answers same (told_in names [] scripts)
-    ∙ ap (λ ns. flat_map (told_line p answers) (told_in ns [] scripts)) named
+    goes_on p answers names [] scripts steps (stands_first names steps zeros) ∙ ap (λ ns. flat_map (told_line p answers) (told_in ns [] scripts)) named
+
+-- .. where that is what was added to a text
+pub told_added : {T E : Type 0} (r : Result T E) (p : ℕ) (answers : ℕ → ℕ → Option PlainAnswer) (session : PlainSession) (names : List (List ℕ)) (phases : List PlainPhase) (old new : List ℕ)
+    → names ≡ names_of (scripts_over p session.phases) → phases ≡ session.phases
+    → OnOk r (new ≡ old ++ flat_map (told_line p answers) (told_scripts names (replicate (length names) 0) (scripts_over p phases)))
+    → OnOk r (new ≡ old ++ flat_map (told_line p answers) (told_on p session))
+told_added (Ok t) p answers session names phases old new named all told =
+    let steps : List ℕ = replicate (length names) 0 in
+    told
+    ∙ ap (λ ps. old ++ flat_map (told_line p answers) (told_scripts names steps (scripts_over p ps))) all
+    ∙ ap (λ xs. old ++ xs) (told_is p answers session names steps named refl)
+told_added (Err e) p answers session names phases old new named all told = tt

@@ -1,5 +1,6 @@
 -- How the printer goes on: for private functions alone.
 use Rattle.std.specs.Prelude.{◌≡◌, ℕ, List, [], ◌∷◌, ◌++◌, ◌+◌, ◌-◌, ◌/◌, ◌%◌, nat_lt, Option, None, Some, Bool, ◌&&◌, ◌==◌, if◌then◌else◌, codes, decimal, filter, flat_map, length, map, slice_get, slice_index, slice_index_or, slice_set, string_bytes}
+use Rattle.std.specs.Borrow.{Bor}
 use Rattle.std.specs.List.{range_with_len}
 use Rattle.std.specs.Option.{option_and_then}
 use Rattle.tty_modes.specs.Names.{flag_names}
@@ -21,6 +22,11 @@ use Rattle.session_print.specs.declared.places.Places.{Places}
 use Rattle.session_print.specs.declared.places.Stretch.{Stretch}
 use Rattle.session_print.specs.declared.places.Turn.{Turn}
 use Rattle.session_print.specs.declared.sums.Sums.{Sums}
+
+-- words, each with the number that follows it, and what stands at their end
+abbrev pub fields_text : List (Bor (List ℕ) × ℕ) → List ℕ → List ℕ
+fields_text [] end = end
+fields_text (field ∷ fields) end = field.0.now ++ (decimal field.1 ++ fields_text fields end)
 
 abbrev pub same_turn : Turn → Turn → Bool
 same_turn a b = (a.caller == b.caller) && (a.step == b.step)
@@ -60,7 +66,7 @@ answer_at es place = option_and_then (λ e. answer_of_event e.event) (entry_at e
 
 -- the answer to a caller's step
 abbrev pub noted_answer : Answers → ℕ → ℕ → Option PlainAnswer
-noted_answer answers c step = answer_at answers.journal.now.items (place_in answers.places c step)
+noted_answer answers c step = answer_at answers.journal.now.items (place_in answers.places.now c step)
 
 -- what an entry answers to a caller's step, where it answers this turn
 abbrev pub entry_answer : Option Turn → PlainEntry → ℕ → ℕ → Option PlainAnswer

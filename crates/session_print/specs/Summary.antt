@@ -53,13 +53,3 @@ summary_text number session runs ends =
     codes "gen " ++ (decimal number ++ (codes "\ncalls " ++ (decimal (call_count session.phases) ++ (codes "\narrived " ++ (decimal (all_arrived runs)
     ++ (codes "\ntaken " ++ (decimal (all_flushed runs) ++ (codes "\nbytes " ++ (decimal (all_got runs)
     ++ (codes "\ngenerations " ++ (decimal (all_generations ends) ++ codes "\ndone\n")))))))))))
-
--- .. in two parts, as they are printed
-abbrev pub summary_front : ℕ → PlainSession → List PortRun → List ℕ
-summary_front number session runs =
-    codes "gen " ++ (decimal number ++ (codes "\ncalls " ++ (decimal (call_count session.phases) ++ (codes "\narrived " ++ decimal (all_arrived runs)))))
-
-abbrev pub summary_rest : List PortRun → List PlainEnd → List ℕ
-summary_rest runs ends =
-    codes "\ntaken " ++ (decimal (all_flushed runs) ++ (codes "\nbytes " ++ (decimal (all_got runs)
-    ++ (codes "\ngenerations " ++ (decimal (all_generations ends) ++ codes "\ndone\n")))))

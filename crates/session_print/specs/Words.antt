@@ -53,17 +53,6 @@ counts_text n =
     ++ (codes " pin=" ++ (decimal n.pin ++ (codes " pout=" ++ (decimal n.pout ++ (codes " pbad=" ++ (decimal n.pbad
     ++ (codes " pfull=" ++ decimal n.pfull))))))))))))))))))
 
--- .. in two halves, as they are printed
-abbrev pub first_counts : Counts → List ℕ
-first_counts n =
-    codes "mark=" ++ (decimal n.mark ++ (codes " parity=" ++ (decimal n.parity ++ (codes " frame=" ++ (decimal n.frame
-    ++ (codes " break=" ++ (decimal n.breaks ++ (codes " cut=" ++ decimal n.cut))))))))
-
-abbrev pub last_counts : Counts → List ℕ
-last_counts n =
-    codes " echo=" ++ (decimal n.echo ++ (codes " pin=" ++ (decimal n.pin ++ (codes " pout=" ++ (decimal n.pout ++ (codes " pbad=" ++ (decimal n.pbad
-    ++ (codes " pfull=" ++ decimal n.pfull))))))))
-
 -- bytes in hexadecimal, after their number
 abbrev pub got_text : List ℕ → List ℕ
 got_text [] = codes "0"

@@ -13,10 +13,10 @@ use tty_base::NoMemory;
 use tty_calls::{AnswerRef, Entry, Event, Journal, Who};
 
 /// The answers of a journal: the journal, and for each turn the place of the entry that answers it.
-#[derive(Drop)]
+#[derive(Clone, Copy)]
 pub(crate) struct Answers<'a> {
-    journal: &'a Journal,
-    places: Places,
+    pub(crate) journal: &'a Journal,
+    pub(crate) places: &'a Places,
 }
 
 impl<'a> Answers<'a> {
@@ -31,44 +31,20 @@ impl<'a> Answers<'a> {
     }
 }
 
-/// What one walk over a journal gives: its answers, and its sums.
-#[derive(Drop)]
-pub(crate) struct Walked<'a> {
-    pub(crate) answers: Answers<'a>,
-    pub(crate) sums: Sums,
-}
-
-/// Walks over a journal. It is large, and is waited for: so it is walked once for all that a report
-/// says of it. More entries than can be counted are want of memory.
-pub(crate) fn walk(alloc: Global, journal: &Journal) -> Result<Walked<'_>, NoMemory>
-    ensures answers { IfOk result (λ walked. (c step : ℕ) → noted_answer walked.answers c step ≡ answer_in journal.now.items c step) }
-    ensures sums { IfOk result (λ walked. walked.sums ≡ sums_of journal.now.items) }
-{
-    let mut places = Places::new(alloc);
-    let mut sums = Sums {
-        flushed: 0,
-        dropped: 0,
-    };
-    note_all(alloc, journal, &mut places, &mut sums)?;
-    let answers = Answers { journal, places };
-    Ok(Walked { answers, sums })
-}
-
-/// Notes the answers of a journal among no places, and adds its sums to none.
-fn note_all(
-    alloc: Global,
-    journal: &Journal,
-    places: &mut Places,
-    sums: &mut Sums,
-) -> Result<(), NoMemory>
-    requires places { (c step : ℕ) → place_in places.old c step ≡ 0 }
-    requires sums { sums.old ≡ record { flushed = 0; dropped = 0 } }
+/// Notes the places of a journal's answers among none, and gives the sums of the journal. It is large, and is waited
+/// for: so it is walked once for all that a report says of it. More entries than can be counted are want of memory.
+pub(crate) fn walk(alloc: Global, journal: &Journal, places: &mut Places) -> Result<Sums, NoMemory>
+    requires { (c step : ℕ) → place_in places.old c step ≡ 0 }
     ensures answers { OnOk result ((c step : ℕ) → answer_at journal.now.items (place_in places.new c step) ≡ answer_in journal.now.items c step) }
-    ensures sums { OnOk result (sums.new ≡ sums_of journal.now.items) }
+    ensures sums { IfOk result (λ sums. sums ≡ sums_of journal.now.items) }
 {
     if journal.len() > u32::MAX as usize {
         return Err(NoMemory);
     }
+    let mut sums = Sums {
+        flushed: 0,
+        dropped: 0,
+    };
     for index in 0..journal.len() {
         let entry = journal.at(index);
         sums.add(&entry.event)?;
@@ -76,7 +52,7 @@ fn note_all(
             places.note(alloc, turn, index as u32 + 1)?;
         }
     }
-    Ok(())
+    Ok(sums)
 }
 
 /// The turn that an entry answers.

@@ -1,14 +1,14 @@
 //! The lines of a report that tell the calls of a port, each with its answer.
 
-ghost use Rattle.std.specs.Prelude.{◌≡◌, ◌++◌, ◌+◌, ◌<◌, ◌^◌, Some, IfOk, OnOk, flat_map, length, map, replicate, string_bytes};
+ghost use Rattle.std.specs.Prelude.{◌≡◌, [], ◌++◌, ◌+◌, ◌<◌, ◌^◌, ℕ, Some, IfOk, OnOk, flat_map, length, map, replicate, string_bytes};
 ghost use Rattle.tty_calls.specs.Plain.{call_of, answer_lent};
 ghost use Rattle.tty_calls.specs.Sessions.{script_of, phase_of, number_in, scripts_over, session_of};
-ghost use Rattle.session_print.specs.Report.{calls_text, told_line, told_from};
-ghost use Rattle.session_print.specs.Printing.{sums_on, call_head, call_rest, tens, noted_answer, scripts_for, told_script, steps_then, told_scripts, steps_after};
+ghost use Rattle.session_print.specs.Report.{calls_text, told_line, told_from, told_on};
+ghost use Rattle.session_print.specs.Printing.{sums_on, place_in, call_head, call_rest, tens, noted_answer, scripts_for, told_script, steps_then, told_scripts, steps_after};
 
-use super::answers::{Answers, Walked, walk};
+use super::answers::{Answers, walk};
 use super::digits::{digit_text, put_tens};
-use super::places::Turn;
+use super::places::{Places, Turn};
 use super::sums::Sums;
 use super::words::{put_answer, verb_of};
 use std::alloc::{AllocError, Global};
@@ -27,24 +27,55 @@ pub(crate) fn put_calls(
     ensures text { OnOk result (string_bytes text.new ≡ string_bytes text.old ++ calls_text port (session_of session.now) run.now) }
     ensures sums { IfOk result (λ sums. sums ≡ sums_on run.now) }
 {
-    let names = Names::on_port(alloc, session, port)?;
-    let Walked { answers, sums } = walk(alloc, &run.journal)?;
-    let teller = Teller {
-        port,
-        names,
-        answers,
-    };
-    let told = teller.put_phases(alloc, text, session.phases.as_slice());
-    drop(teller);
-    told?;
+    let mut places = Places::new(alloc);
+    put_walked_calls(alloc, text, port, session, run, &mut places)
+}
+
+/// Adds these lines, and notes the places of the journal's answers among none.
+fn put_walked_calls(
+    alloc: Global,
+    text: &mut String,
+    port: usize,
+    session: &Session,
+    run: &PortRun,
+    places: &mut Places,
+) -> Result<Sums, NoMemory>
+    requires { (c step : ℕ) → place_in places.old c step ≡ 0 }
+    ensures text { OnOk result (string_bytes text.new ≡ string_bytes text.old ++ calls_text port (session_of session.now) run.now) }
+    ensures sums { IfOk result (λ sums. sums ≡ sums_on run.now) }
+{
+    let journal = &run.journal;
+    let sums = walk(alloc, journal, places)?;
+    put_answered_calls(alloc, text, port, session, Answers { journal, places })?;
     Ok(sums)
 }
 
+/// Adds a line for each call of a port that is among these answers.
+fn put_answered_calls(
+    alloc: Global,
+    text: &mut String,
+    port: usize,
+    session: &Session,
+    answers: Answers,
+) -> Result<(), NoMemory>
+    ensures { OnOk result (string_bytes text.new ≡ string_bytes text.old ++ flat_map (told_line port (noted_answer answers.entry)) (told_on port (session_of session.now))) }
+{
+    let names = Names::on_port(alloc, session, port)?;
+    let teller = Teller {
+        port,
+        names: &names,
+        answers,
+    };
+    let told = teller.put_phases(alloc, text, session.phases.as_slice());
+    drop(names);
+    told
+}
+
 /// What the calls of a port are told from: the names of its callers, and the answers of its journal.
-#[derive(Drop)]
+#[derive(Clone, Copy)]
 struct Teller<'a> {
     port: usize,
-    names: Names,
+    names: &'a Names,
     answers: Answers<'a>,
 }
 
@@ -52,7 +83,7 @@ impl Teller<'_> {
     /// Adds the lines of the port's scripts in all phases.
     fn put_phases(&self, alloc: Global, text: &mut String, phases: &[Phase]) -> Result<(), NoMemory>
         ensures { OnOk result (string_bytes text.new ≡ string_bytes text.old
-            ++ flat_map (told_line self.now.port (noted_answer self.now.answers)) (told_scripts self.now.names (replicate (length self.now.names) 0) (scripts_over self.now.port (map phase_of phases.now)))) }
+            ++ flat_map (told_line self.now.port (noted_answer self.now.answers)) (told_scripts self.now.names.now (replicate (length self.now.names.now) 0) (scripts_over self.now.port (map phase_of phases.now)))) }
     {
         let mut steps = vec![in alloc; 0usize; self.names.len()]?;
         for phase in phases {
@@ -68,10 +99,10 @@ impl Teller<'_> {
         steps: &mut Vec<usize>,
         scripts: &[Script],
     ) -> Result<(), NoMemory>
-        requires { length steps.old.items ≡ length self.now.names }
+        requires { length steps.old.items ≡ length self.now.names.now }
         ensures text { OnOk result (string_bytes text.new ≡ string_bytes text.old
-            ++ flat_map (told_line self.now.port (noted_answer self.now.answers)) (told_scripts self.now.names steps.old.items (scripts_for self.now.port scripts.now))) }
-        ensures steps { OnOk result (steps.new.items ≡ steps_after self.now.names steps.old.items (scripts_for self.now.port scripts.now)) }
+            ++ flat_map (told_line self.now.port (noted_answer self.now.answers)) (told_scripts self.now.names.now steps.old.items (scripts_for self.now.port scripts.now))) }
+        ensures steps { OnOk result (steps.new.items ≡ steps_after self.now.names.now steps.old.items (scripts_for self.now.port scripts.now)) }
         ensures each { OnOk result (length steps.new.items ≡ length steps.old.items) }
     {
         for script in scripts {
@@ -89,10 +120,10 @@ impl Teller<'_> {
         steps: &mut Vec<usize>,
         script: &Script,
     ) -> Result<(), NoMemory>
-        requires { length steps.old.items ≡ length self.now.names }
+        requires { length steps.old.items ≡ length self.now.names.now }
         ensures text { OnOk result (string_bytes text.new ≡ string_bytes text.old
-            ++ flat_map (told_line self.now.port (noted_answer self.now.answers)) (told_script steps.old.items (script_of script.now) (number_in self.now.names script.now.name.bytes))) }
-        ensures steps { OnOk result (steps.new.items ≡ steps_then steps.old.items (script_of script.now) (number_in self.now.names script.now.name.bytes)) }
+            ++ flat_map (told_line self.now.port (noted_answer self.now.answers)) (told_script steps.old.items (script_of script.now) (number_in self.now.names.now script.now.name.bytes))) }
+        ensures steps { OnOk result (steps.new.items ≡ steps_then steps.old.items (script_of script.now) (number_in self.now.names.now script.now.name.bytes)) }
     {
         let calls = &script.calls;
         match self.names.number(&script.name) {
@@ -118,7 +149,25 @@ impl Teller<'_> {
         ensures { OnOk result (string_bytes text.new ≡ string_bytes text.old
             ++ flat_map (told_line self.now.port (noted_answer self.now.answers)) (told_from name.now (Some first.caller) first.step calls.now.items)) }
     {
-        let mut head = Head::new(*text.allocator(), self.port, name, first.step)?;
+        let mut head = Head::new(*text.allocator());
+        self.put_under(text, &mut head, name, first, calls)
+    }
+
+    /// Adds these lines, with what each begins with.
+    fn put_under(
+        &self,
+        text: &mut String,
+        head: &mut Head,
+        name: &str,
+        first: Turn,
+        calls: &Calls,
+    ) -> Result<(), AllocError>
+        requires head { string_bytes head.old.front ≡ [] }
+        requires few { first.step + length calls.now.items < 2 ^ 64 }
+        ensures { OnOk result (string_bytes text.new ≡ string_bytes text.old
+            ++ flat_map (told_line self.now.port (noted_answer self.now.answers)) (told_from name.now (Some first.caller) first.step calls.now.items)) }
+    {
+        head.begin(self.port, name, first.step)?;
         let mut turn = first;
         for place in 0..calls.len() {
             if let Some(answer) = self.answers.get(turn) {
@@ -141,15 +190,24 @@ struct Head {
 }
 
 impl Head {
-    /// What the line of this step begins with.
-    fn new(alloc: Global, port: usize, name: &str, step: usize) -> Result<Head, AllocError>
-        ensures front { IfOk result (λ head. string_bytes head.front ≡ call_head port name.now) }
-        ensures shared { IfOk result (λ head. string_bytes head.shared ≡ string_bytes head.front ++ tens step) }
+    /// That of no line yet.
+    fn new(alloc: Global) -> Head
+        ensures { string_bytes result.front ≡ [] }
     {
-        let front = head_of(alloc, port, name)?;
-        let mut shared = String::new(alloc);
-        set_tens(&mut shared, front.as_str(), step)?;
-        Ok(Head { front, shared })
+        Head {
+            front: String::new(alloc),
+            shared: String::new(alloc),
+        }
+    }
+
+    /// Becomes, from that of no line, what the line of this step begins with.
+    fn begin(&mut self, port: usize, name: &str, step: usize) -> Result<(), AllocError>
+        requires { string_bytes self.old.front ≡ [] }
+        ensures front { OnOk result (string_bytes self.new.front ≡ call_head port name.now) }
+        ensures shared { OnOk result (string_bytes self.new.shared ≡ string_bytes self.new.front ++ tens step) }
+    {
+        write!(self.front, "{port}.{name}.")?;
+        set_tens(&mut self.shared, self.front.as_str(), step)
     }
 
     /// Goes on from this step to the next.
@@ -189,15 +247,6 @@ fn set_tens(head: &mut String, front: &str, step: usize) -> Result<(), AllocErro
     head.clear();
     head.push_str(front)?;
     put_tens(head, step as u64)
-}
-
-/// What the line of a call begins with.
-fn head_of(alloc: Global, port: usize, name: &str) -> Result<String, AllocError>
-    ensures { IfOk result (λ head. string_bytes head ≡ call_head port name.now) }
-{
-    let mut head = String::new(alloc);
-    write!(head, "{port}.{name}.")?;
-    Ok(head)
 }
 
 /// Adds the line of a call and its answer, whose head lacks the last digit of the step.

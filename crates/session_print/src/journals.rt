@@ -1,15 +1,16 @@
 //! The text of the journals: for each port its entries, its overruns, and the numbers of its line.
 
-ghost use Rattle.std.specs.Prelude.{◌≡◌, ◌++◌, IfOk, OnOk, decimal, flat_map, string_bytes};
+ghost use Rattle.std.specs.Prelude.{◌≡◌, ◌++◌, IfOk, OnOk, codes, decimal, flat_map, string_bytes};
 ghost use Rattle.tty_base.specs.declared.characters.Flagged.{Flagged};
 ghost use Rattle.tty_calls.specs.Plain.{answer_lent, answered, entry_of, event_of};
-ghost use Rattle.tty_calls.specs.Sessions.{session_of};
-ghost use Rattle.session_print.specs.Journals.{journals_text, journal_on, heading, entry_line, event_text, chars_text, beside_text, overrun_line, line_numbers};
+ghost use Rattle.tty_calls.specs.Sessions.{session_of, scripts_over, names_of};
+ghost use Rattle.session_print.specs.Journals.{journals_text, journal_on, entry_line, event_text, chars_text, beside_text, overrun_line, line_numbers};
 ghost use Rattle.session_print.specs.Lines.{newline};
-ghost use Rattle.session_print.specs.Printing.{entry_rest};
+ghost use Rattle.session_print.specs.Printing.{Fronts, entry_rest};
 
 use super::characters::put_each_character;
 use super::digits::put_number;
+use super::fields::put_fields;
 use super::fronts::Front;
 use super::parts::put_places;
 use super::words::put_answer;
@@ -53,24 +54,52 @@ fn put_journal(
     ensures { OnOk result (string_bytes text.new ≡ string_bytes text.old ++ journal_on port (session_of session.now) run.now) }
 {
     let names = Names::on_port(alloc, session, port)?;
-    put_heading(text, "journal", port, run.journal.len())?;
-    put_entries(text, &names, &run.journal)?;
-    put_heading(text, "overruns", port, run.line.overruns.len())?;
+    let put = put_run(text, port, session, &names, run);
+    drop(names);
+    Ok(put?)
+}
+
+/// Adds the journal of a port whose callers have these names.
+fn put_run(
+    text: &mut String,
+    port: usize,
+    session: &Session,
+    names: &Names,
+    run: &PortRun,
+) -> Result<(), AllocError>
+    requires { names.now ≡ names_of (scripts_over port (session_of session.now).phases) }
+    ensures { OnOk result (string_bytes text.new ≡ string_bytes text.old ++ journal_on port (session_of session.now) run.now) }
+{
+    let _ = session;
+    put_heading(text, "journal ", port, run.journal.len())?;
+    put_entries(text, names, &run.journal)?;
+    put_heading(text, "overruns ", port, run.line.overruns.len())?;
     put_overruns(text, run.line.overruns.as_slice())?;
-    put_line_numbers(text, port, &run.line)?;
-    Ok(())
+    put_line_numbers(text, port, &run.line)
 }
 
 fn put_heading(text: &mut String, word: &str, port: usize, lines: usize) -> Result<(), AllocError>
-    ensures { OnOk result (string_bytes text.new ≡ string_bytes text.old ++ heading word.now port lines) }
+    ensures { OnOk result (string_bytes text.new ≡ string_bytes text.old ++ (word.now ++ (decimal port ++ (codes " " ++ (decimal lines ++ newline))))) }
 {
-    write!(text, "{word} {port} {lines}\n")
+    put_fields(text, &[(word, port as u64), (" ", lines as u64)], "\n")
 }
 
 fn put_entries(text: &mut String, names: &Names, journal: &Journal) -> Result<(), AllocError>
     ensures { OnOk result (string_bytes text.new ≡ string_bytes text.old ++ flat_map (entry_line names.now) journal.now.items) }
 {
     let mut front = Front::new(*text.allocator(), names)?;
+    put_each_entry(text, names, &mut front, journal)
+}
+
+fn put_each_entry(
+    text: &mut String,
+    names: &Names,
+    front: &mut Front,
+    journal: &Journal,
+) -> Result<(), AllocError>
+    requires { Fronts names.now front.old }
+    ensures { OnOk result (string_bytes text.new ≡ string_bytes text.old ++ flat_map (entry_line names.now) journal.now.items) }
+{
     for place in 0..journal.len() {
         let entry = journal.at(place);
         front.turn_to(names, entry.who, entry.step)?;
@@ -99,19 +128,13 @@ fn put_event(text: &mut String, event: &Event) -> Result<(), AllocError>
         Event::Answer { answer, dropped } => put_answered(text, &answer, dropped),
         Event::Part(taken) => put_counted(text, "part ", u64::from(taken)),
         Event::Wait => text.push_str("wait\n"),
-        Event::Flush(characters) => {
-            text.push_str("flush ")?;
-            put_characters(text, characters)
-        }
+        Event::Flush(characters) => put_listed(text, "flush ", characters),
         Event::Tick => text.push_str("tick\n"),
         Event::LineEnd(sent) => put_counted(text, "line_end ", sent),
         Event::ClockEnd => text.push_str("clock_end\n"),
         Event::CallerEnd => text.push_str("caller_end\n"),
         Event::PhaseEnd => text.push_str("phase_end\n"),
-        Event::Hangup(dropped) => {
-            text.push_str("hangup ")?;
-            put_characters(text, dropped)
-        }
+        Event::Hangup(dropped) => put_listed(text, "hangup ", dropped),
     }
 }
 
@@ -152,11 +175,12 @@ fn put_beside(text: &mut String, dropped: &[Flagged]) -> Result<(), AllocError>
     put_each_character(text, dropped)
 }
 
-/// Adds characters, or a sign where there are none, and the end of a line.
+/// Adds a word, characters or a sign where there are none, and the end of a line.
 #[inline(never)]
-fn put_characters(text: &mut String, characters: &[Flagged]) -> Result<(), AllocError>
-    ensures { OnOk result (string_bytes text.new ≡ string_bytes text.old ++ (chars_text characters.now ++ newline)) }
+fn put_listed(text: &mut String, word: &str, characters: &[Flagged]) -> Result<(), AllocError>
+    ensures { OnOk result (string_bytes text.new ≡ string_bytes text.old ++ (word.now ++ (chars_text characters.now ++ newline))) }
 {
+    text.push_str(word)?;
     if characters.is_empty() {
         return text.push_str("-\n");
     }
@@ -169,7 +193,7 @@ fn put_overruns(text: &mut String, overruns: &[Overrun]) -> Result<(), AllocErro
 {
     for overrun in overruns {
         let Overrun { at, sent, seen } = *overrun;
-        write!(text, "{at} {sent} {seen}\n")?;
+        put_fields(text, &[("", u64::from(at)), (" ", sent), (" ", seen)], "\n")?;
     }
     Ok(())
 }
@@ -177,8 +201,14 @@ fn put_overruns(text: &mut String, overruns: &[Overrun]) -> Result<(), AllocErro
 fn put_line_numbers(text: &mut String, port: usize, line: &LineReport) -> Result<(), AllocError>
     ensures { OnOk result (string_bytes text.new ≡ string_bytes text.old ++ line_numbers port line.now) }
 {
-    let arrived = line.arrived;
-    let lost = line.fifo_lost;
-    let sent = line.sent;
-    write!(text, "line {port} {arrived} {lost} {sent}\n")
+    put_fields(
+        text,
+        &[
+            ("line ", port as u64),
+            (" ", u64::from(line.arrived)),
+            (" ", u64::from(line.fifo_lost)),
+            (" ", line.sent),
+        ],
+        "\n",
+    )
 }

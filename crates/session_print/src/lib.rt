@@ -6,6 +6,7 @@ mod answers;
 mod calls;
 mod characters;
 mod digits;
+mod fields;
 mod fronts;
 mod journals;
 mod laws;

@@ -4,14 +4,15 @@
 ghost use Rattle.std.specs.Prelude.{◌≡◌, ◌++◌, OnOk, string_bytes};
 ghost use Rattle.tty_calls.specs.Sessions.{session_of};
 ghost use Rattle.session_print.specs.Ends.{end_of};
-ghost use Rattle.session_print.specs.Lines.{port_text, line_line, flip_text, counts_line, signals_line, signals_text, generation_line, wire_line};
+ghost use Rattle.session_print.specs.Lines.{newline, port_text, line_line, flip_text, counts_line, signals_line, signals_text, generation_line, wire_line};
 ghost use Rattle.session_print.specs.Printing.{sums_on, sums_line};
 
 use super::digits::put_hex;
+use super::fields::put_fields;
 use super::sums::Sums;
-use super::words::{put_counts, signal_name};
+use super::words::{put_counts, spaced_signal};
 use std::alloc::AllocError;
-use tty_base::{Counts, LineReport, NoMemory, Signal};
+use tty_base::{Counts, LineReport, Signal};
 use tty_calls::{PortEnd, PortRun, Session};
 
 /// Adds the lines of a port, of whose journal these are the sums.
@@ -22,7 +23,7 @@ pub(crate) fn put_port(
     run: &PortRun,
     sums: Sums,
     end: &PortEnd,
-) -> Result<(), NoMemory>
+) -> Result<(), AllocError>
     requires { sums ≡ sums_on run.now }
     ensures { OnOk result (string_bytes text.new ≡ string_bytes text.old ++ port_text (session_of session.now) port run.now (end_of end.now)) }
 {
@@ -43,27 +44,29 @@ fn put_line(
 ) -> Result<(), AllocError>
     ensures { OnOk result (string_bytes text.new ≡ string_bytes text.old ++ line_line (session_of session.now) port line.now) }
 {
-    let arrived = line.arrived;
-    let lost = line.fifo_lost;
-    let sent = line.sent;
-    let overruns = line.overruns.len();
-    write!(
+    put_fields(
         text,
-        "port {port} line arrived={arrived} lost={lost} sent={sent} overrun={overruns}"
+        &[
+            ("port ", port as u64),
+            (" line arrived=", u64::from(line.arrived)),
+            (" lost=", u64::from(line.fifo_lost)),
+            (" sent=", line.sent),
+            (" overrun=", line.overruns.len() as u64),
+        ],
+        "",
     )?;
-    put_flip(text, port, session)?;
-    text.push_str("\n")
+    put_flip(text, port, session)
 }
 
-/// Adds the capacity of a port's flip buffer, from version 2 on.
+/// Adds the capacity of a port's flip buffer, from version 2 on, and the end of the line.
 fn put_flip(text: &mut String, port: usize, session: &Session) -> Result<(), AllocError>
-    ensures { OnOk result (string_bytes text.new ≡ string_bytes text.old ++ flip_text (session_of session.now) port) }
+    ensures { OnOk result (string_bytes text.new ≡ string_bytes text.old ++ (flip_text (session_of session.now) port ++ newline)) }
 {
     if session.version != 2 {
-        return Ok(());
+        return text.push_str("\n");
     }
     let flip = session.flips.as_slice().get(port).copied().unwrap_or(0);
-    write!(text, " flip={flip}")
+    put_fields(text, &[(" flip=", u64::from(flip))], "\n")
 }
 
 /// Adds how many characters were flushed, and how many were dropped.
@@ -71,16 +74,21 @@ fn put_input(text: &mut String, port: usize, sums: Sums) -> Result<(), AllocErro
     ensures { OnOk result (string_bytes text.new ≡ string_bytes text.old ++ sums_line port sums) }
 {
     let Sums { flushed, dropped } = sums;
-    write!(
+    put_fields(
         text,
-        "port {port} input taken={flushed} dropped={dropped}\n"
+        &[
+            ("port ", port as u64),
+            (" input taken=", flushed),
+            (" dropped=", dropped),
+        ],
+        "\n",
     )
 }
 
 fn put_count_line(text: &mut String, port: usize, counts: &Counts) -> Result<(), AllocError>
     ensures { OnOk result (string_bytes text.new ≡ string_bytes text.old ++ counts_line port counts.now) }
 {
-    write!(text, "port {port} counts ")?;
+    put_fields(text, &[("port ", port as u64)], " counts ")?;
     put_counts(text, counts)?;
     text.push_str("\n")
 }
@@ -88,7 +96,7 @@ fn put_count_line(text: &mut String, port: usize, counts: &Counts) -> Result<(),
 fn put_signals(text: &mut String, port: usize, signals: &[Signal]) -> Result<(), AllocError>
     ensures { OnOk result (string_bytes text.new ≡ string_bytes text.old ++ signals_line port signals.now) }
 {
-    write!(text, "port {port} signals")?;
+    put_fields(text, &[("port ", port as u64)], " signals")?;
     put_signal_names(text, signals)?;
     text.push_str("\n")
 }
@@ -100,8 +108,7 @@ fn put_signal_names(text: &mut String, signals: &[Signal]) -> Result<(), AllocEr
         return text.push_str(" -");
     }
     for signal in signals {
-        let name = signal_name(*signal);
-        write!(text, " {name}")?;
+        text.push_str(spaced_signal(*signal))?;
     }
     Ok(())
 }
@@ -109,17 +116,21 @@ fn put_signal_names(text: &mut String, signals: &[Signal]) -> Result<(), AllocEr
 fn put_generation(text: &mut String, port: usize, generation: u32) -> Result<(), AllocError>
     ensures { OnOk result (string_bytes text.new ≡ string_bytes text.old ++ generation_line port generation) }
 {
-    write!(text, "port {port} generation {generation}\n")
+    let generation = u64::from(generation);
+    put_fields(
+        text,
+        &[("port ", port as u64), (" generation ", generation)],
+        "\n",
+    )
 }
 
 fn put_wire(text: &mut String, port: usize, wire: &[u8]) -> Result<(), AllocError>
     ensures { OnOk result (string_bytes text.new ≡ string_bytes text.old ++ wire_line port wire.now) }
 {
-    write!(text, "port {port} wire ")?;
     if wire.is_empty() {
-        text.push_str("-")?;
-    } else {
-        put_hex(text, wire)?;
+        return put_fields(text, &[("port ", port as u64)], " wire -\n");
     }
+    put_fields(text, &[("port ", port as u64)], " wire ")?;
+    put_hex(text, wire)?;
     text.push_str("\n")
 }

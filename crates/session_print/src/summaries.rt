@@ -7,9 +7,10 @@ ghost use Rattle.tty_calls.specs.Plain.{answer_lent, event_of};
 ghost use Rattle.tty_calls.specs.Sessions.{script_of, phase_of, session_of};
 ghost use Rattle.session_print.specs.Ends.{end_of};
 ghost use Rattle.session_print.specs.Lines.{flushed_count};
-ghost use Rattle.session_print.specs.Summary.{summary_text, summary_front, summary_rest, all_arrived, all_flushed, all_got, all_generations, got_count, got_in as got_by_event, got_by as got_by_answer};
+ghost use Rattle.session_print.specs.Summary.{summary_text, all_arrived, all_flushed, all_got, all_generations, got_count, got_in as got_by_event, got_by as got_by_answer};
 
-use super::sums::flushed_in;
+use super::fields::put_fields;
+use super::sums::{flushed_in, sum_of};
 use std::alloc::Global;
 use tty_base::{Bytes, NoMemory};
 use tty_calls::{AnswerRef, Event, Journal, Phase, PortEnd, PortRun, Script, Session};
@@ -27,35 +28,29 @@ pub fn summary(
     ensures { IfOk result (λ text. text.items ≡ summary_text number (session_of session.now) runs.now (map end_of ends.now)) }
 {
     let mut text = String::new(alloc);
-    put_front(&mut text, number, session, runs)?;
-    put_rest(&mut text, runs, ends)?;
+    put_summary(&mut text, number, session, runs, ends)?;
     Ok(Bytes::from_vec(text.into_bytes()))
 }
 
-fn put_front(
+fn put_summary(
     text: &mut String,
     number: u32,
     session: &Session,
     runs: &[PortRun],
+    ends: &[PortEnd],
 ) -> Result<(), NoMemory>
-    ensures { OnOk result (string_bytes text.new ≡ string_bytes text.old ++ summary_front number (session_of session.now) runs.now) }
+    ensures { OnOk result (string_bytes text.new ≡ string_bytes text.old ++ summary_text number (session_of session.now) runs.now (map end_of ends.now)) }
 {
-    let calls = calls_in(session.phases.as_slice())?;
-    let arrived = arrived_on(runs)?;
-    write!(text, "gen {number}\ncalls {calls}\narrived {arrived}")?;
-    Ok(())
-}
-
-fn put_rest(text: &mut String, runs: &[PortRun], ends: &[PortEnd]) -> Result<(), NoMemory>
-    ensures { OnOk result (string_bytes text.new ≡ string_bytes text.old ++ summary_rest runs.now (map end_of ends.now)) }
-{
-    let Handed { flushed, got } = handed_on(runs)?;
-    let generations = generations_of(ends)?;
-    write!(
-        text,
-        "\ntaken {flushed}\nbytes {got}\ngenerations {generations}\ndone\n"
-    )?;
-    Ok(())
+    let totals = totals_of(runs)?;
+    let fields = [
+        ("gen ", u64::from(number)),
+        ("\ncalls ", calls_in(session.phases.as_slice())?),
+        ("\narrived ", totals.arrived),
+        ("\ntaken ", totals.flushed),
+        ("\nbytes ", totals.got),
+        ("\ngenerations ", generations_of(ends)?),
+    ];
+    Ok(put_fields(text, &fields, "\ndone\n")?)
 }
 
 fn calls_in(phases: &[Phase]) -> Result<u64, NoMemory>
@@ -64,7 +59,7 @@ fn calls_in(phases: &[Phase]) -> Result<u64, NoMemory>
     let mut count = 0u64;
     for phase in phases {
         let more = calls_of(phase.callers.as_slice())?;
-        count = count.checked_add(more).ok_or(NoMemory)?;
+        count = sum_of(count, more)?;
     }
     Ok(count)
 }
@@ -74,46 +69,46 @@ fn calls_of(scripts: &[Script]) -> Result<u64, NoMemory>
 {
     let mut count = 0u64;
     for script in scripts {
-        count = count
-            .checked_add(script.calls.len() as u64)
-            .ok_or(NoMemory)?;
+        count = sum_of(count, script.calls.len() as u64)?;
     }
     Ok(count)
 }
 
-/// How many characters arrived.
-fn arrived_on(runs: &[PortRun]) -> Result<u64, NoMemory>
-    ensures { IfOk result (λ count. count ≡ all_arrived runs.now) }
-{
-    let mut count = 0u64;
-    for run in runs {
-        count = count
-            .checked_add(u64::from(run.line.arrived))
-            .ok_or(NoMemory)?;
-    }
-    Ok(count)
-}
-
-/// How many characters journals flush, and how many bytes they answer.
+/// How many characters a journal flushes, and how many bytes it answers.
 #[derive(Clone, Copy)]
 struct Handed {
     flushed: u64,
     got: u64,
 }
 
-/// What was flushed and answered on all ports.
-fn handed_on(runs: &[PortRun]) -> Result<Handed, NoMemory>
-    ensures flushed { IfOk result (λ handed. handed.flushed ≡ all_flushed runs.now) }
-    ensures got { IfOk result (λ handed. handed.got ≡ all_got runs.now) }
+/// How many characters arrived and were flushed, and how many bytes were answered, on all ports.
+#[derive(Clone, Copy)]
+struct Totals {
+    arrived: u64,
+    flushed: u64,
+    got: u64,
+}
+
+/// What arrived, was flushed and was answered on all ports.
+fn totals_of(runs: &[PortRun]) -> Result<Totals, NoMemory>
+    ensures arrived { IfOk result (λ totals. totals.arrived ≡ all_arrived runs.now) }
+    ensures flushed { IfOk result (λ totals. totals.flushed ≡ all_flushed runs.now) }
+    ensures got { IfOk result (λ totals. totals.got ≡ all_got runs.now) }
 {
+    let mut arrived = 0u64;
     let mut flushed = 0u64;
     let mut got = 0u64;
     for run in runs {
         let more = handed_in(&run.journal)?;
-        flushed = flushed.checked_add(more.flushed).ok_or(NoMemory)?;
-        got = got.checked_add(more.got).ok_or(NoMemory)?;
+        arrived = sum_of(arrived, u64::from(run.line.arrived))?;
+        flushed = sum_of(flushed, more.flushed)?;
+        got = sum_of(got, more.got)?;
     }
-    Ok(Handed { flushed, got })
+    Ok(Totals {
+        arrived,
+        flushed,
+        got,
+    })
 }
 
 /// What a journal flushes and answers, counted in one walk.
@@ -126,8 +121,8 @@ fn handed_in(journal: &Journal) -> Result<Handed, NoMemory>
     for place in 0..journal.len() {
         let entry = journal.at(place);
         let more = flushed_in(&entry.event);
-        flushed = flushed.checked_add(more).ok_or(NoMemory)?;
-        got = got.checked_add(got_in(&entry.event)).ok_or(NoMemory)?;
+        flushed = sum_of(flushed, more)?;
+        got = sum_of(got, got_in(&entry.event))?;
     }
     Ok(Handed { flushed, got })
 }
@@ -155,9 +150,7 @@ fn generations_of(ends: &[PortEnd]) -> Result<u64, NoMemory>
 {
     let mut count = 0u64;
     for end in ends {
-        count = count
-            .checked_add(u64::from(end.generation))
-            .ok_or(NoMemory)?;
+        count = sum_of(count, u64::from(end.generation))?;
     }
     Ok(count)
 }

@@ -1,6 +1,6 @@
 //! How many characters a journal flushes, and how many were dropped.
 
-ghost use Rattle.std.specs.Prelude.{◌≡◌, ◌+◌, OnOk, length};
+ghost use Rattle.std.specs.Prelude.{◌≡◌, ◌+◌, IfOk, OnOk, length};
 ghost use Rattle.tty_calls.specs.Plain.{event_of};
 ghost use Rattle.session_print.specs.Lines.{flushed_in as flushed_by, dropped_in as dropped_by};
 
@@ -48,6 +48,14 @@ pub(crate) fn flushed_in(event: &Event) -> u64
 fn add_to(sum: &mut u64, characters: &[Flagged]) -> Result<(), NoMemory>
     ensures { OnOk result (sum.new ≡ sum.old + length characters.now) }
 {
-    *sum = sum.checked_add(characters.len() as u64).ok_or(NoMemory)?;
+    *sum = sum_of(*sum, characters.len() as u64)?;
     Ok(())
+}
+
+/// The sum of two numbers. One that 64 bits do not hold is want of memory.
+#[inline(always)]
+pub(crate) fn sum_of(one: u64, other: u64) -> Result<u64, NoMemory>
+    ensures { IfOk result (λ sum. sum ≡ one + other) }
+{
+    one.checked_add(other).ok_or(NoMemory)
 }

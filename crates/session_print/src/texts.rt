@@ -13,7 +13,7 @@ use super::journals::put_journals;
 use super::ports::put_port;
 use super::sums::Sums;
 use super::words::put_answer;
-use std::alloc::Global;
+use std::alloc::{AllocError, Global};
 use tty_base::{Bytes, NoMemory};
 use tty_calls::{Answer, PortEnd, PortRun, Session};
 
@@ -58,14 +58,40 @@ pub fn play_text(
     ensures { IfOk result (λ text. text.items ≡ text_of_play journals (session_of session.now) runs.now (map end_of ends.now)) }
 {
     let mut text = blank(used);
-    text.reserve(ROOM)?;
-    let sums = put_all_calls(alloc, &mut text, session, runs)?;
-    put_ports(&mut text, session, runs, sums.as_slice(), ends)?;
-    if journals {
-        put_journals(alloc, &mut text, session, runs)?;
-    }
-    text.push_str("done\n")?;
+    put_play(alloc, &mut text, session, runs, ends, journals)?;
     Ok(Bytes::from_vec(text.into_bytes()))
+}
+
+fn put_play(
+    alloc: Global,
+    text: &mut String,
+    session: &Session,
+    runs: &[PortRun],
+    ends: &[PortEnd],
+    journals: bool,
+) -> Result<(), NoMemory>
+    ensures { OnOk result (string_bytes text.new ≡ string_bytes text.old ++ text_of_play journals (session_of session.now) runs.now (map end_of ends.now)) }
+{
+    text.reserve(ROOM)?;
+    put_calls_and_ports(alloc, text, session, runs, ends)?;
+    if journals {
+        put_journals(alloc, text, session, runs)?;
+    }
+    Ok(text.push_str("done\n")?)
+}
+
+/// Adds the lines of all calls, and then those of all ports.
+fn put_calls_and_ports(
+    alloc: Global,
+    text: &mut String,
+    session: &Session,
+    runs: &[PortRun],
+    ends: &[PortEnd],
+) -> Result<(), NoMemory>
+    ensures { OnOk result (string_bytes text.new ≡ string_bytes text.old ++ (calls_from 0 (session_of session.now) runs.now ++ ports_from 0 (session_of session.now) runs.now (map end_of ends.now))) }
+{
+    let sums = put_all_calls(alloc, text, session, runs)?;
+    Ok(put_ports(text, session, runs, sums.as_slice(), ends)?)
 }
 
 /// The text of an answer, as it stands in a report and in a journal.
@@ -88,11 +114,27 @@ fn put_all_calls(
     ensures sums { IfOk result (λ sums. sums.items ≡ map sums_on runs.now) }
 {
     let mut sums = Vec::new(alloc);
+    put_each_call(alloc, text, session, runs, &mut sums)?;
+    Ok(sums)
+}
+
+/// Adds the lines of the calls of all ports, and the sums of each port's journal to none.
+fn put_each_call(
+    alloc: Global,
+    text: &mut String,
+    session: &Session,
+    runs: &[PortRun],
+    sums: &mut Vec<Sums>,
+) -> Result<(), NoMemory>
+    requires { sums.old.items ≡ [] }
+    ensures text { OnOk result (string_bytes text.new ≡ string_bytes text.old ++ calls_from 0 (session_of session.now) runs.now) }
+    ensures sums { OnOk result (sums.new.items ≡ map sums_on runs.now) }
+{
     for (port, run) in runs.iter().enumerate() {
         let summed = put_calls(alloc, text, port, session, run)?;
         sums.push(summed)?;
     }
-    Ok(sums)
+    Ok(())
 }
 
 /// Adds the lines of all ports, of whose journals these are the sums.
@@ -102,7 +144,7 @@ fn put_ports(
     runs: &[PortRun],
     sums: &[Sums],
     ends: &[PortEnd],
-) -> Result<(), NoMemory>
+) -> Result<(), AllocError>
     requires { sums.now ≡ map sums_on runs.now }
     ensures { OnOk result (string_bytes text.new ≡ string_bytes text.old ++ ports_from 0 (session_of session.now) runs.now (map end_of ends.now)) }
 {

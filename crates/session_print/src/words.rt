@@ -2,9 +2,10 @@
 
 ghost use Rattle.std.specs.Prelude.{◌≡◌, ◌++◌, OnOk, codes, string_bytes};
 ghost use Rattle.tty_calls.specs.Plain.{call_of, answer_lent};
-ghost use Rattle.session_print.specs.Words.{verb_of as verb_in, errno_name as name_of_errno, signal_name as name_of_signal, counts_text, first_counts, last_counts, got_text, answer_text};
+ghost use Rattle.session_print.specs.Words.{verb_of as verb_in, errno_name as name_of_errno, signal_name as name_of_signal, counts_text, got_text, answer_text};
 
 use super::digits::{put_hex, put_number};
+use super::fields::put_fields;
 use super::modes::put_modes;
 use std::alloc::AllocError;
 use tty_base::{Counts, Errno, Signal};
@@ -45,41 +46,21 @@ fn put_got(text: &mut String, bytes: &[u8]) -> Result<(), AllocError>
 pub(crate) fn put_counts(text: &mut String, counts: &Counts) -> Result<(), AllocError>
     ensures { OnOk result (string_bytes text.new ≡ string_bytes text.old ++ counts_text counts.now) }
 {
-    put_first_counts(text, counts)?;
-    put_last_counts(text, counts)
-}
-
-fn put_first_counts(text: &mut String, counts: &Counts) -> Result<(), AllocError>
-    ensures { OnOk result (string_bytes text.new ≡ string_bytes text.old ++ first_counts counts.now) }
-{
-    let Counts {
-        mark,
-        parity,
-        frame,
-        breaks,
-        cut,
-        ..
-    } = *counts;
-    write!(
+    put_fields(
         text,
-        "mark={mark} parity={parity} frame={frame} break={breaks} cut={cut}"
-    )
-}
-
-fn put_last_counts(text: &mut String, counts: &Counts) -> Result<(), AllocError>
-    ensures { OnOk result (string_bytes text.new ≡ string_bytes text.old ++ last_counts counts.now) }
-{
-    let Counts {
-        echo,
-        pin,
-        pout,
-        pbad,
-        pfull,
-        ..
-    } = *counts;
-    write!(
-        text,
-        " echo={echo} pin={pin} pout={pout} pbad={pbad} pfull={pfull}"
+        &[
+            ("mark=", counts.mark),
+            (" parity=", counts.parity),
+            (" frame=", counts.frame),
+            (" break=", counts.breaks),
+            (" cut=", counts.cut),
+            (" echo=", counts.echo),
+            (" pin=", counts.pin),
+            (" pout=", counts.pout),
+            (" pbad=", counts.pbad),
+            (" pfull=", counts.pfull),
+        ],
+        "",
     )
 }
 
@@ -125,12 +106,13 @@ fn errno_name(errno: Errno) -> &'static str
     }
 }
 
-pub(crate) fn signal_name(signal: Signal) -> &'static str
-    ensures { result.now ≡ name_of_signal signal }
+/// The name of a signal, after a blank.
+pub(crate) fn spaced_signal(signal: Signal) -> &'static str
+    ensures { result.now ≡ codes " " ++ name_of_signal signal }
 {
     match signal {
-        Signal::Int => "INT",
-        Signal::Quit => "QUIT",
-        Signal::Susp => "SUSP",
+        Signal::Int => " INT",
+        Signal::Quit => " QUIT",
+        Signal::Susp => " SUSP",
     }
 }

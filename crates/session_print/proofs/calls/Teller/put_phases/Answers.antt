@@ -7,12 +7,12 @@ use Rattle.session_print.proofs.calls.Teller.put_phases.Goals as goal
 
 pub loop-phase-preserved : goal.loop-phase-preserved
 loop-phase-preserved c =
-    phasing_more c.args.self.now.port (noted_answer c.args.self.now.answers) c.args.self.now.names (string_bytes c.args.text.now) c.in_ok-steps.steps.items c.args.phases.now (string_bytes c.loop-phase.text) (string_bytes c.put_scripts.new.text) c.loop-phase.steps.items c.put_scripts.new.steps.items c.loop-phase.phase-index c.phase-item.result c.as_slice.result.now c.loop-phase.invariant c.loop-phase-test.true c.phase-item.is c.as_slice.ensures c.in_ok-put_scripts.ensures.text c.in_ok-put_scripts.ensures.steps c.in_ok-put_scripts.ensures.each
+    phasing_more c.args.self.now.port (noted_answer c.args.self.now.answers) c.args.self.now.names.now (string_bytes c.args.text.now) c.in_ok-steps.steps.items c.args.phases.now (string_bytes c.loop-phase.text) (string_bytes c.put_scripts.new.text) c.loop-phase.steps.items c.put_scripts.new.steps.items c.loop-phase.phase-index c.phase-item.result c.as_slice.result.now c.loop-phase.invariant c.loop-phase-test.true c.phase-item.is c.as_slice.ensures c.in_ok-put_scripts.ensures.text c.in_ok-put_scripts.ensures.steps c.in_ok-put_scripts.ensures.each
 
 pub returns : goal.returns
 returns c =
     let p = c.args.self.now.port in
-    let names = c.args.self.now.names in
+    let names = c.args.self.now.names.now in
     let steps = c.in_ok-steps.steps.items in
     let answers = noted_answer c.args.self.now.answers in
     let text = string_bytes c.args.text.now in

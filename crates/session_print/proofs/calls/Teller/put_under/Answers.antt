@@ -2,8 +2,8 @@ use Rattle.std.proofs.Common.{refl, string_bytes}
 use Rattle.tty_calls.specs.Plain.{call_of, answer_lent}
 use Rattle.session_print.specs.Printing.{noted_answer}
 use Rattle.session_print.proofs.Telling.{stepping_told, stepping_silent}
-use Rattle.session_print.proofs.calls.Teller.put_steps.Goals as goal
-use Rattle.session_print.proofs.calls.Teller.put_steps.Goals.{in-Some+in_ok-put_call, in_default}
+use Rattle.session_print.proofs.calls.Teller.put_under.Goals as goal
+use Rattle.session_print.proofs.calls.Teller.put_under.Goals.{in-Some+in_ok-put_call, in_default}
 
 pub loop-place-preserved : goal.loop-place-preserved
 loop-place-preserved c =

@@ -2,7 +2,7 @@ use Rattle.std.proofs.Common.{◌≡◌, ℕ, take}
 use Rattle.session_print.specs.Lines.{flushed_count, dropped_count}
 use Rattle.session_print.specs.Report.{answer_in}
 use Rattle.session_print.specs.Printing.{answer_at, place_in}
-use Rattle.session_print.proofs.answers.note_all.Given as goal
+use Rattle.session_print.proofs.answers.walk.Given as goal
 
 abbrev pub invariant-loop-index : goal.invariant-loop-index
 invariant-loop-index l = record {

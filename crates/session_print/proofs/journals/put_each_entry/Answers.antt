@@ -1,7 +1,7 @@
 use Rattle.std.proofs.Common.{◌∙◌, arith, string_bytes}
 use Rattle.tty_calls.specs.Plain.{entry_of}
 use Rattle.session_print.proofs.Entries.{entry_more}
-use Rattle.session_print.proofs.journals.put_entries.Goals as goal
+use Rattle.session_print.proofs.journals.put_each_entry.Goals as goal
 
 pub loop-place-preserved : goal.loop-place-preserved
 loop-place-preserved c = record {

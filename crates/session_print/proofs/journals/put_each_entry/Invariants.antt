@@ -1,7 +1,7 @@
 use Rattle.std.proofs.Common.{◌≡◌, ◌++◌, drop, flat_map, string_bytes}
 use Rattle.session_print.specs.Journals.{entry_line}
 use Rattle.session_print.specs.Printing.{Fronts}
-use Rattle.session_print.proofs.journals.put_entries.Given as goal
+use Rattle.session_print.proofs.journals.put_each_entry.Given as goal
 
 abbrev pub invariant-loop-place : goal.invariant-loop-place
 invariant-loop-place l = record {

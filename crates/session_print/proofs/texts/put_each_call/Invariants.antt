@@ -2,7 +2,7 @@ use Rattle.std.proofs.Common.{◌≡◌, ◌++◌, drop, map, string_bytes, take
 use Rattle.tty_calls.specs.Sessions.{session_of}
 use Rattle.session_print.specs.Report.{calls_from}
 use Rattle.session_print.specs.Printing.{sums_on}
-use Rattle.session_print.proofs.texts.put_all_calls.Given as goal
+use Rattle.session_print.proofs.texts.put_each_call.Given as goal
 
 abbrev pub invariant-loop-port : goal.invariant-loop-port
 invariant-loop-port l = record {

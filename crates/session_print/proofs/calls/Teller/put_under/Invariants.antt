@@ -1,7 +1,7 @@
 use Rattle.std.proofs.Common.{string_bytes}
 use Rattle.session_print.specs.Printing.{noted_answer}
 use Rattle.session_print.proofs.Telling.{Stepping}
-use Rattle.session_print.proofs.calls.Teller.put_steps.Given as goal
+use Rattle.session_print.proofs.calls.Teller.put_under.Given as goal
 
 abbrev pub invariant-loop-place : goal.invariant-loop-place
 invariant-loop-place l =

@@ -3,8 +3,8 @@ use Rattle.tty_calls.specs.Plain.{entry_of}
 use Rattle.session_print.specs.Lines.{flushed_in, dropped_in}
 use Rattle.session_print.specs.Printing.{answer_at, place_in}
 use Rattle.session_print.proofs.Answering.{told_more, told_same, sum_more}
-use Rattle.session_print.proofs.answers.note_all.Goals as goal
-use Rattle.session_print.proofs.answers.note_all.Goals.{in-Some+in_ok-note, in_default}
+use Rattle.session_print.proofs.answers.walk.Goals as goal
+use Rattle.session_print.proofs.answers.walk.Goals.{in-Some+in_ok-note, in_default}
 
 pub loop-index-preserved : goal.loop-index-preserved
 loop-index-preserved c =
