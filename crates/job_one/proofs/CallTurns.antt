@@ -10,7 +10,8 @@ use Rattle.tty_terminal.specs.Runs.{is_flush, is_of_call}
 use Rattle.passed_calls.specs.Journals.{Journal}
 use Rattle.port_core.specs.Attempts.{PlainTried, done_by, took_part, must_wait}
 use Rattle.port_core.specs.Ports.{PortValue, IsPort}
-use Rattle.one_thread.specs.Turns.{PlaysOn}
+use Rattle.one_thread.specs.Stages.{HasAnyOrder}
+use Rattle.one_thread.specs.Turns.{PlaysOnIn}
 use Rattle.one_thread.specs.Acts.{InCall, TriesCall, PlaysCall}
 use Rattle.one_thread.specs.declared.roles.Role.{Role}
 use Rattle.one_thread.specs.declared.after_line.Stand.{Stand}
@@ -102,7 +103,7 @@ module _ (f : Frame) (roles : List Role) where
       → IsNextTurn f roles old was (turn.Call place) → IsPort old → IsPort new → TriesCall roles old new place call tried → PlaysCall roles old new was now place call → signals_of new.terminal ≡ signals_of old.terminal
   still_at old new d was now place call tried h is port later tries plays =
       let at = in_call_at old d was place call h is in
-      let on : PlaysOn at.in_turn.scene at.in_turn.scripts roles old new was now = plays.each at in
+      let on : PlaysOnIn HasAnyOrder at.in_turn.scene at.in_turn.scripts roles old new was now = (plays.each at).on in
       let m = tries.makes in
       signals_stay old new m.entry port later
       (record {

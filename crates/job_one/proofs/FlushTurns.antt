@@ -3,7 +3,8 @@ use Rattle.std.proofs.Common.{◌≡◌, ℕ, ◌+◌, List, [], ◌∷◌, ◌+
 use Rattle.tty_calls.specs.declared.answers.Denied.{Denied}
 use Rattle.tty_calls.specs.declared.answers.Denied.TheVariants.{NoMemory, Full}
 use Rattle.port_core.specs.Ports.{PortValue, IsPort, Denies}
-use Rattle.one_thread.specs.Turns.{PlaysOn}
+use Rattle.one_thread.specs.Stages.{HasAnyOrder}
+use Rattle.one_thread.specs.Turns.{PlaysOnIn}
 use Rattle.one_thread.specs.Acts.{AddsEntry, InTurn, PlaysTurn}
 use Rattle.one_thread.specs.declared.roles.Role.{Role}
 use Rattle.one_thread.specs.declared.after_line.Stand.{Stand}
@@ -32,7 +33,7 @@ module _ (f : Frame) (roles : List Role) where
       → ComesBy old new (adds.entry ∷ [])
   comes_at old new d was now next h is plays adds =
       let at = in_turn_at old d was next h is in
-      let on : PlaysOn at.scene at.scripts roles old new was now = plays.each at in
+      let on : PlaysOnIn HasAnyOrder at.scene at.scripts roles old new was now = (plays.each at).on in
       record {
         added = adds.added;
         grows = same_kept old new adds.kept;

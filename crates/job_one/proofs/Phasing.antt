@@ -155,7 +155,7 @@ phase_ends first session scripts roles lines old mid v new putter now left line 
     let agrees_mid = before_all s mid new (ended.part ++ ended.last ∷ []) ended.added both.0.grows both.1.agrees in
     let agrees_old = before_all s old mid (on.flushes ++ on.last ∷ []) on.added (same_kept old mid on.kept) agrees_mid in
     let at_old : IsAtPhase s k old putter line run = (b.each.each s both.1.like agrees_old).0 in
-    let here : PlaysLine s k old mid now line played later = plays.each (record {
+    let here : PlaysLine s k old mid now line played later = plays.in_order (record {
       scene = s;
       begins = at_old;
       within = subst (λ (n : ℕ). k < n) (sym (phases_same p first.session s.session both.1.like.shape)) within;

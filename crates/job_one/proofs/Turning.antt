@@ -17,8 +17,8 @@ use Rattle.port_core.specs.Attempts.{PlainTried, done_by, took_part, must_wait, 
 use Rattle.port_core.specs.Ports.{PortValue, IsPort, call_in, end_entry}
 use Rattle.one_thread.specs.Order.{is_of_consoles}
 use Rattle.one_thread.specs.Roles.{Scene}
-use Rattle.one_thread.specs.Stages.{IsOfScene}
-use Rattle.one_thread.specs.Turns.{role_numbers, who_of, standing_at, IsTurn, PlaysOn}
+use Rattle.one_thread.specs.Stages.{HasAnyOrder, IsOfSceneIn}
+use Rattle.one_thread.specs.Turns.{role_numbers, who_of, standing_at, IsTurn, PlaysOnIn, TakesTurn}
 use Rattle.one_thread.specs.Acts.{AddsEntry, PlaysTurn, TriesCall, PlaysCall, EndsCalls, PlaysLast}
 use Rattle.one_thread.specs.declared.roles.Role.{Role}
 use Rattle.one_thread.specs.declared.after_line.Stand.{Stand}
@@ -39,7 +39,6 @@ use Rattle.job_one.specs.Latest.{latest_on}
 use Rattle.job_one.specs.Desk.{proc_in, call_after, signals_of, IsDeskAt, jobs_passed, due_passed, HadBegun}
 use Rattle.job_one.specs.Playing.{DeskValue, step_at, next_passing, passings_with, begun_at, begun_with, hangup_of, hangup_with, AreLoggedBefore, IsPlayingJobs}
 use Rattle.job_one.proofs.Witnessed.{in_turn, in_call, in_last, turn_on, calls_next, call_on, last_on, same_entry}
-use Rattle.job_one.proofs.Made.{who_made}
 use Rattle.job_one.proofs.Nexts.{next_of_call}
 use Rattle.job_one.proofs.Growing.{calls_all}
 use Rattle.job_one.proofs.Passings.{all_more, in_steps_more}
@@ -64,7 +63,7 @@ module _ (first : Scene) (session : JobsSession) (scripts : Scene → List Scrip
   calls_as f g v ticks stand place call same h = subst (λ (mine : ℕ → List Passing). IsCalling first phases scripts roles start mine v ticks stand place call) (λ i. λ c. same c i) h
 
   -- a port of the scene comes to another one of it
-  comes : (s : Scene) (v w : PortValue) (part : List PlainEntry) → IsOfScene s v → IsOfScene s w → w.journal ≡ v.journal ++ part → Grows (call_in v.kept) (call_in w.kept) → ComesBy v w part
+  comes : (s : Scene) (v w : PortValue) (part : List PlainEntry) → IsOfSceneIn HasAnyOrder s v → IsOfSceneIn HasAnyOrder s w → w.journal ≡ v.journal ++ part → Grows (call_in v.kept) (call_in w.kept) → ComesBy v w part
   comes s v w part was now added grows = record { added = added; grows = grows; counts = now.counts ∙ sym was.counts; capacity = now.capacity ∙ sym was.capacity }
 
   kept_grows : (v w : PortValue) → w.kept ≡ v.kept → Grows (call_in v.kept) (call_in w.kept)
@@ -80,8 +79,9 @@ module _ (first : Scene) (session : JobsSession) (scripts : Scene → List Scrip
       let mine = passings_with session log p d (begun_at old) in
       let s = scene_on p h.playing.has.session in
       let at = in_turn first phases scripts roles start mine old ticks was next h.playing is in
-      let on : PlaysOn s (scripts s) roles old new was now = plays.each at in
-      let who = who_made s (scripts s) roles old new was now next at.plays at.is_turn on in
+      let takes : TakesTurn s (scripts s) roles old new was now next = plays.each at in
+      let on = takes.on in
+      let who = takes.who in
       let other : (c : ℕ) → is_caller on.adds.entry.who c ≡ false = λ c. ap (λ (w : Who). is_caller w c) who ∙ none c in
       let by : ComesBy old new (on.adds.entry ∷ []) = comes s old new (on.adds.entry ∷ []) at.plays.of_scene on.plays.of_scene on.adds.added (kept_grows old new adds.kept) in
       record {
@@ -275,7 +275,7 @@ module _ (first : Scene) (session : JobsSession) (scripts : Scene → List Scrip
       let more = with_call log d old c in
       let s = scene_on p calling.has.session in
       let in_it = in_call first phases scripts roles start more old ticks was place call calling is in
-      let on : PlaysOn s (scripts s) roles old new was now = plays.each in_it in
+      let on : PlaysOnIn HasAnyOrder s (scripts s) roles old new was now = (plays.each in_it).on in
       let makes = makes_as roles old new place r call at tried tries in
       let attempts = attempts_as roles old new place r call at tried tries in
       let by : ComesBy old new (on.adds.entry ∷ []) = comes s old new (on.adds.entry ∷ []) in_it.in_turn.plays.of_scene on.plays.of_scene on.adds.added makes.grows in
@@ -316,7 +316,7 @@ module _ (first : Scene) (session : JobsSession) (scripts : Scene → List Scrip
       let late : DeskValue = record { jobs = jobs_passed d.jobs call answer; next = slice_set d.next c (step_at d c + 1); signals = d.signals; due = due_passed d.jobs call answer } in
       let s = scene_on p calling.has.session in
       let in_it = in_call first phases scripts roles start more old ticks was place call calling is in
-      let on : PlaysOn s (scripts s) roles old new was now = plays.each in_it in
+      let on : PlaysOnIn HasAnyOrder s (scripts s) roles old new was now = (plays.each in_it).on in
       let makes = makes_as roles old new place r call at tried tries in
       let attempts = attempts_as roles old new place r call at tried tries in
       let by : ComesBy old new (on.adds.entry ∷ []) = comes s old new (on.adds.entry ∷ []) in_it.in_turn.plays.of_scene on.plays.of_scene on.adds.added makes.grows in
@@ -361,7 +361,7 @@ module _ (first : Scene) (session : JobsSession) (scripts : Scene → List Scrip
       let mine = passings_with session log p d (begun_at old) in
       let s = scene_on p h.playing.has.session in
       let in_it = in_last first phases scripts roles start mine old ticks was place r h.playing is at rest in
-      let on : PlaysOn s (scripts s) roles old new was now = plays.each in_it in
+      let on : PlaysOnIn HasAnyOrder s (scripts s) roles old new was now = (plays.each in_it).on in
       let added : new.journal ≡ old.journal ++ end_entry old ends.role.number ∷ [] = ap (λ (v : PortValue). v.journal) ends.appends.appended in
       let entry : end_entry old ends.role.number ≡ on.adds.entry = same_entry old.journal (end_entry old ends.role.number) on.adds.entry (sym added ∙ on.adds.added) in
       let none : is_of_call on.adds.entry.event ≡ false = sym (ap (λ (e : PlainEntry). is_of_call e.event) entry) in
@@ -442,7 +442,7 @@ module _ (first : Scene) (session : JobsSession) (scripts : Scene → List Scrip
       let late : DeskValue = record d { due = [] } in
       let s = scene_on p calling.has.session in
       let in_it = in_call first phases scripts roles start more old ticks was place call calling is in
-      let on : PlaysOn s (scripts s) roles old new was now = plays.each in_it in
+      let on : PlaysOnIn HasAnyOrder s (scripts s) roles old new was now = (plays.each in_it).on in
       let makes = makes_as roles old new place r call at tried tries in
       let attempts = attempts_as roles old new place r call at tried tries in
       let by : ComesBy old new (on.adds.entry ∷ []) = comes s old new (on.adds.entry ∷ []) in_it.in_turn.plays.of_scene on.plays.of_scene on.adds.added makes.grows in

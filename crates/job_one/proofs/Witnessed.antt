@@ -19,13 +19,15 @@ use Rattle.port_core.specs.Attempts.{PlainTried}
 use Rattle.port_core.specs.Ports.{PortValue, IsPort, call_in, end_entry}
 use Rattle.one_thread.specs.Order.{is_of_consoles}
 use Rattle.one_thread.specs.Roles.{Scene}
-use Rattle.one_thread.specs.Turns.{role_numbers, who_of, standing_at, IsTurn, IsNextCall, Plays, PlaysOn}
-use Rattle.one_thread.specs.Acts.{BeginsLine, PlaysItsLine, AddsEntry, InTurn, PlaysTurn, InCall, TriesCall, PlaysCall, EndsCalls, InLast, PlaysLast, PlaysEnd}
+use Rattle.one_thread.specs.Stages.{HasAnyOrder}
+use Rattle.one_thread.specs.Turns.{role_numbers, who_of, standing_at, IsTurn, IsNextCall, Plays, PlaysOnIn, PlaysOn}
+use Rattle.one_thread.specs.Acts.{BeginsLine, PlaysItsLine, AddsEntry, InTurn, InOrder, PlaysTurn, InCall, TriesCall, PlaysCall, EndsCalls, InLast, PlaysLast, PlaysEnd}
 use Rattle.one_thread.specs.declared.roles.Role.{Role}
 use Rattle.one_thread.specs.declared.after_line.Stand.{Stand}
 use Rattle.one_thread.specs.declared.after_line.Turn.{Turn}
 use Rattle.one_thread.specs.declared.after_line.Turn.TheVariants as turn
 use Rattle.one_thread.proofs.Calling.{may_act}
+use Rattle.one_thread.proofs.Orders.{any_line, any_turn}
 use Rattle.order_laws.specs.Agreed.{Agrees, IsLike, IsBeforeEach, AreRolesOfEach, EndsEach}
 use Rattle.order_laws.proofs.InEach.{turn_each, call_each, last_each, end_each, line_each}
 use Rattle.order_laws.proofs.Shapes.{phases_same, at_phase}
@@ -47,9 +49,9 @@ pub consoles_in : (first s : Scene) (roles : List Role) (v : PortValue) (stand :
     → IsTurn (is_of_consoles s.session) v (role_numbers roles) stand.going next
 consoles_in first s roles v stand next like is = subst (λ (b : Bool). IsTurn b v (role_numbers roles) stand.going next) (sym like.shape.consoles) is
 
-abbrev pub in_turn : (first : Scene) (phases : List BlockPhase) (scripts : Scene → List Script) (roles : List Role) (start : PortValue) (mine : ℕ → List Passing) (v : PortValue) (ticks : ℕ) (stand : Stand) (next : Turn)
-    → IsPlaying first phases scripts roles start mine v ticks stand → IsTurn (is_of_consoles first.session) v (role_numbers roles) stand.going next → InTurn roles v stand next
-in_turn first phases scripts roles start mine v ticks stand next h is =
+abbrev pub in_order : (first : Scene) (phases : List BlockPhase) (scripts : Scene → List Script) (roles : List Role) (start : PortValue) (mine : ℕ → List Passing) (v : PortValue) (ticks : ℕ) (stand : Stand) (next : Turn)
+    → IsPlaying first phases scripts roles start mine v ticks stand → IsTurn (is_of_consoles first.session) v (role_numbers roles) stand.going next → InOrder roles v stand next
+in_order first phases scripts roles start mine v ticks stand next h is =
     record {
       scene = scene_on first.port h.has.session;
       scripts = scripts (scene_on first.port h.has.session);
@@ -57,7 +59,11 @@ in_turn first phases scripts roles start mine v ticks stand next h is =
       is_turn = consoles_in first (scene_on first.port h.has.session) roles v stand next h.has.like is;
     }
 
-agrees_on : (s : Scene) (scripts : List Script) (roles : List Role) (v w : PortValue) (stand now : Stand) → PlaysOn s scripts roles v w stand now → Agrees s w
+abbrev pub in_turn : (first : Scene) (phases : List BlockPhase) (scripts : Scene → List Script) (roles : List Role) (start : PortValue) (mine : ℕ → List Passing) (v : PortValue) (ticks : ℕ) (stand : Stand) (next : Turn)
+    → IsPlaying first phases scripts roles start mine v ticks stand → IsTurn (is_of_consoles first.session) v (role_numbers roles) stand.going next → InTurn roles v stand next
+in_turn first phases scripts roles start mine v ticks stand next h is = any_turn roles v stand next (in_order first phases scripts roles start mine v ticks stand next h is)
+
+agrees_on : {HasOrder : Scene → List PlainEntry → Type 0} (s : Scene) (scripts : List Script) (roles : List Role) (v w : PortValue) (stand now : Stand) → PlaysOnIn HasOrder s scripts roles v w stand now → Agrees s w
 agrees_on s scripts roles v w stand now h = record { known = h.plays.of_scene.known; in_phases = h.plays.of_scene.in_phases }
 
 phase_on : (p : ℕ) (phases : List BlockPhase) (mine : ℕ → List Passing) (j k : ℕ) → k ≡ j → AreUpTo p phases j mine → AreUpTo p phases k mine
@@ -92,8 +98,8 @@ pub turn_on : (first : Scene) (phases : List BlockPhase) (scripts : Scene → Li
     → PlaysTurn roles old new was now next → AddsEntry old new → IsPlaying first phases scripts roles start mine new ticks now
 turn_on first phases scripts roles start mine old new ticks was now next h is none plays adds =
     let s = scene_on first.port h.has.session in
-    let at = in_turn first phases scripts roles start mine old ticks was next h is in
-    let on : PlaysOn s (scripts s) roles old new was now = plays.each at in
+    let at = in_order first phases scripts roles start mine old ticks was next h is in
+    let on : PlaysOn s (scripts s) roles old new was now = plays.in_order at in
     record {
       each = turn_each first scripts roles start old new ticks was now next h.each is plays adds;
       has = record { session = h.has.session; by = h.has.by; within = h.has.within; ports = h.has.ports; flips = h.has.flips; like = h.has.like; agrees = agrees_on s (scripts s) roles old new was now on };
@@ -145,7 +151,7 @@ calls_next first phases scripts roles start mine more m v ticks stand place r ca
     (within_limits phases (passed_more p m h.has.by.passed) later refl (blocks_same first.session.ports first.session.flips session.ports session.flips phases h.has.ports h.has.flips limits) within) in
     let s = scene_on p session in
     let z = scene_on p later in
-    let at = in_turn first phases scripts roles start mine v ticks stand (turn.Call place) h whose in
+    let at = in_order first phases scripts roles start mine v ticks stand (turn.Call place) h whose in
     let grows : GrowsBy p k phases r.number m mine more session later =
     record {
       by = h.has.by;
@@ -158,7 +164,7 @@ calls_next first phases scripts roles start mine more m v ticks stand place r ca
       consoles = like.shape.consoles ∙ sym h.has.like.shape.consoles;
       flip = like.shape.flip ∙ sym h.has.like.shape.flip;
     } in
-    let on = (may_act s (scripts s) roles v stand place r at.plays is at.is_turn).not_over in
+    let on = (may_act s (scripts s) roles v stand place r at.plays is (any_turn roles v stand (turn.Call place) at).possible).not_over in
     let agrees : Agrees z v = agrees_then p phases r.number m mine more session later (scripts s) roles v stand at.plays grows on in
     let plays : Plays z (scripts z) roles v stand = (h.each.each z like agrees).plays in
     let next : IsNextCall (scripts z) roles v place call = next_passed p phases m mine more session later (scripts z) roles v stand place r call plays is grows one h.made rest in
@@ -177,12 +183,12 @@ abbrev pub in_call : (first : Scene) (phases : List BlockPhase) (scripts : Scene
     → IsCalling first phases scripts roles start more v ticks stand place call → IsTurn (is_of_consoles first.session) v (role_numbers roles) stand.going (turn.Call place) → InCall roles v stand place call
 in_call first phases scripts roles start more v ticks stand place call h is =
     record {
-      in_turn = record {
+      in_turn = any_turn roles v stand (turn.Call place) (record {
         scene = scene_on first.port h.has.session;
         scripts = scripts (scene_on first.port h.has.session);
         plays = (h.each.each (scene_on first.port h.has.session) h.has.like h.has.agrees).plays;
         is_turn = consoles_in first (scene_on first.port h.has.session) roles v stand (turn.Call place) h.has.like is;
-      };
+      });
       next = h.next;
     }
 
@@ -192,7 +198,7 @@ pub call_on : (first : Scene) (phases : List BlockPhase) (scripts : Scene → Li
 call_on first phases scripts roles start more old new ticks was now place call tried h is tries plays =
     let s = scene_on first.port h.has.session in
     let at = in_call first phases scripts roles start more old ticks was place call h is in
-    let on : PlaysOn s (scripts s) roles old new was now = plays.each at in
+    let on : PlaysOnIn HasAnyOrder s (scripts s) roles old new was now = (plays.each at).on in
     let makes = tries.makes in
     let same : tries.role ≡ h.role = same_Some tries.role h.role (sym tries.at_place ∙ h.at_place) in
     let entry : makes.entry ≡ on.adds.entry = same_entry old.journal makes.entry on.adds.entry (sym makes.added ∙ on.adds.added) in
@@ -223,7 +229,7 @@ pub last_on : (first : Scene) (phases : List BlockPhase) (scripts : Scene → Li
 last_on first phases scripts roles start mine old new ticks was now place r h whose is rest ends plays =
     let s = scene_on first.port h.has.session in
     let at = in_last first phases scripts roles start mine old ticks was place r h whose is rest in
-    let on : PlaysOn s (scripts s) roles old new was now = plays.each at in
+    let on : PlaysOnIn HasAnyOrder s (scripts s) roles old new was now = (plays.each at).on in
     let added : new.journal ≡ old.journal ++ end_entry old ends.role.number ∷ [] = ap (λ (v : PortValue). v.journal) ends.appends.appended in
     let entry : end_entry old ends.role.number ≡ on.adds.entry = same_entry old.journal (end_entry old ends.role.number) on.adds.entry (sym added ∙ on.adds.added) in
     record {
@@ -241,7 +247,7 @@ pub end_on : (first : Scene) (phases : List BlockPhase) (scripts : Scene → Lis
 end_on first phases scripts roles start mine old new putter now ticks stand run h is plays adds =
     let s = scene_on first.port h.has.session in
     let playing = h.each.each s h.has.like h.has.agrees in
-    let ends = plays.each start (record {
+    let ends = plays.in_order start (record {
       scene = s;
       scripts = scripts s;
       ticks = ticks;
@@ -259,12 +265,12 @@ abbrev pub begins_line : (first : Scene) (phases : List BlockPhase) (mine : ℕ 
     → IsBeforeEach first v putter line run → HasPassed first phases mine v → v.terminal.phase < length first.session.phases → lines ≡ line_on first.port (phase_at first.session v.terminal.phase)
     → BeginsLine lines v putter line run
 begins_line first phases mine lines v putter line run h has within is =
-    record {
+    any_line lines v putter line run (record {
       scene = scene_on first.port has.session;
       begins = (h.each (scene_on first.port has.session) has.like has.agrees).0;
       within = subst (λ (n : ℕ). v.terminal.phase < n) (sym (phases_same first.port first.session has.session has.like.shape)) within;
       steps_are = is ∙ sym (at_phase (line_on first.port) first.session has.session v.terminal.phase has.like.shape.lines);
-    }
+    })
 
 pub begins_playing : (first : Scene) (phases : List BlockPhase) (scripts : Scene → List Script) (roles : List Role) (mine : ℕ → List Passing) (lines : List LineStep) (old mid : PortValue) (putter now : PutterState Flagged) (line played : LineState) (run later ticks : ℕ)
     → IsBeforeEach first old putter line run → HasPassed first phases mine old → AreBefore first.port phases old.terminal.phase mine

@@ -23,10 +23,10 @@ use Rattle.journal_check.specs.Legal.{IsInPhase, IsCallOf, IsCallerOf, first_ste
 use Rattle.port_core.specs.Flips.{DropsShown}
 use Rattle.port_core.specs.Attempts.{PlainTried, done_by, took_part, must_wait, AnswersCall, TakesPartOf, MustGoOnWaiting, Attempts}
 use Rattle.port_core.specs.Ports.{PlainKept, PortValue, kept_with, with_call, Appends, caller_entry, end_entry}
-use Rattle.one_thread.specs.Order.{IsPieceOf, turn_after_event, is_of_consoles}
+use Rattle.one_thread.specs.Order.{IsPieceOf, turn_after_event}
 use Rattle.one_thread.specs.Roles.{Scene, calls_in, role_in, AreRolesOf}
-use Rattle.one_thread.specs.Stages.{place_of}
-use Rattle.one_thread.specs.Turns.{role_numbers, turn_with, IsTurn, standing_at, standing_at_rest, IsInRole, IsKept, IsInParts, IsGoing, HasCallers, next_run, Plays, PlaysOn, going_after}
+use Rattle.one_thread.specs.Stages.{place_of, HasAnyOrder}
+use Rattle.one_thread.specs.Turns.{role_numbers, turn_with, who_of, IsPossible, standing_at, standing_at_rest, IsInRole, IsKept, IsInParts, IsGoing, HasCallers, next_run, PlaysIn, TakesTurn, going_after}
 use Rattle.one_thread.specs.declared.roles.Role.{Role}
 use Rattle.one_thread.specs.declared.after_line.Stand.{Stand}
 use Rattle.one_thread.specs.declared.after_line.Turn.TheVariants as turn
@@ -100,12 +100,12 @@ callers_act s scripts roles v w stand place r going callers is may acts =
 
 -- a caller that makes an entry: its role, and where it stands in it
 pub record Turns (s : Scene) (scripts : List Script) (roles : List Role) (v : PortValue) (stand : Stand) (place : ℕ) (r : Role) : Type 0 where
-  pub plays : Plays s scripts roles v stand
+  pub plays : PlaysIn HasAnyOrder s scripts roles v stand
   pub is : slice_get roles place ≡ Some r
-  pub turn_is : IsTurn (is_of_consoles s.session) v (role_numbers roles) stand.going (turn.Call place)
+  pub possible : IsPossible v (role_numbers roles) stand.going (turn.Call place)
 
 pub turns_may : (s : Scene) (scripts : List Script) (roles : List Role) (v : PortValue) (stand : Stand) (place : ℕ) (r : Role) → Turns s scripts roles v stand place r → MayAct s v r.number
-turns_may s scripts roles v stand place r h = may_act s scripts roles v stand place r h.plays h.is h.turn_is
+turns_may s scripts roles v stand place r h = may_act s scripts roles v stand place r h.plays h.is h.possible
 
 -- where the caller of this role stands after its own entry, and any other
 own_stands : (s : Scene) (v w : PortValue) (e : PlainEntry) (c : ℕ) → IsMore s v w e → e.who ≡ Caller c → standing_at w c ≡ standing_after_own e.event e.generation (standing_at v c)
@@ -119,11 +119,11 @@ other_stands s v w e c d more who other = stands_at s v w e more d ∙ if_false 
 caller_more : (s : Scene) (scripts : List Script) (roles : List Role) (v w : PortValue) (stand : Stand) (place : ℕ) (r : Role) (going : Option ℕ) (e : PlainEntry) → Turns s scripts roles v stand place r → IsMore s v w e
     → e.who ≡ Caller r.number → marks_of w.terminal ≡ marks_of v.terminal → is_flush e.event ≡ false → session_events e.event ≡ [] → IsPieceOf s.port s.session (place_of s v.journal) e.part e.event
     → IsInPhase s.port s.session v.terminal.phase e.who e.step e.event → Acts s scripts roles v w r going → ((other : Who) → turn_after_event e.event e.who other ≡ turn_with (role_numbers roles) going other)
-    → PlaysOn s scripts roles v w stand (record { run = next_run stand.run stand.part; part = 0; ticks = stand.ticks; going = going })
+    → TakesTurn s scripts roles v w stand (record { run = next_run stand.run stand.part; part = 0; ticks = stand.ticks; going = going }) (turn.Call place)
 caller_more s scripts roles v w stand place r going e h more who marks no_flush inside piece phase acts settled =
     let at : slice_index (role_numbers roles) place ≡ r.number = role_number roles place r h.is in
-    let is_turn = who ∙ (ap (λ (n : ℕ). Caller n) (sym at) ∙ h.turn_is.who) in
-    plays_more s scripts roles v w stand (record { run = next_run stand.run stand.part; part = 0; ticks = stand.ticks; going = going }) e h.plays more phase is_turn piece inside
+    let by : e.who ≡ who_of (role_numbers roles) (turn.Call place) = who ∙ ap (λ (n : ℕ). Caller n) (sym at) in
+    plays_more s scripts roles v w stand (record { run = next_run stand.run stand.part; part = 0; ticks = stand.ticks; going = going }) (turn.Call place) e h.plays more phase by piece inside
     (ap (λ (m : Marks). m.phase) marks) (ap (λ (m : Marks). m.line_over) marks) (ap (λ (m : Marks). m.sent) marks)
     (λ over. h.plays.clock (sym (ap (λ (m : Marks). m.clock_over) marks) ∙ over)) (ap (λ (m : Marks). m.tick + stand.ticks) marks)
     (runs_rest v w (place_of s v.journal).before stand.run stand.part e h.plays.runs more.journal (ap (λ (m : Marks). m.latest) marks) no_flush)
@@ -183,7 +183,7 @@ drops_flip true t f g dropped h = (h.takes_out.ring, h.takes_out.capacity)
 drops_flip false t f g dropped h = (ap (λ (x : TakerState Flagged). x.ring) h.1, ap (λ (x : TakerState Flagged). x.capacity) h.1)
 
 answered_more : (s : Scene) (scripts : List Script) (roles : List Role) (v w : PortValue) (stand : Stand) (place : ℕ) (r : Role) (call : PlainCall) (answer : PlainAnswer) → Calls s scripts roles v stand place r call
-    → AnswersCall v w r.number (caller_at v.terminal r.number).next call answer → PlaysOn s scripts roles v w stand (record { run = next_run stand.run stand.part; part = 0; ticks = stand.ticks; going = None })
+    → AnswersCall v w r.number (caller_at v.terminal r.number).next call answer → TakesTurn s scripts roles v w stand (record { run = next_run stand.run stand.part; part = 0; ticks = stand.ticks; going = None }) (turn.Call place)
 answered_more s scripts roles v w stand place r call answer h a =
     let c = r.number in
     let count = length (calls_in (slice_get scripts r.place)) in
@@ -218,7 +218,7 @@ answered_more s scripts roles v w stand place r call answer h a =
     (is_caller_of s scripts roles v stand place r h.turns, (λ k. in_phase s scripts roles v stand place r h.turns below), (λ k. absurd (false≢true k))) acts (λ other. refl)
 
 parted_more : (s : Scene) (scripts : List Script) (roles : List Role) (v w : PortValue) (stand : Stand) (place : ℕ) (r : Role) (call : PlainCall) → Calls s scripts roles v stand place r call
-    → TakesPartOf v w r.number (caller_at v.terminal r.number).next call → PlaysOn s scripts roles v w stand (record { run = next_run stand.run stand.part; part = 0; ticks = stand.ticks; going = Some place })
+    → TakesPartOf v w r.number (caller_at v.terminal r.number).next call → TakesTurn s scripts roles v w stand (record { run = next_run stand.run stand.part; part = 0; ticks = stand.ticks; going = Some place }) (turn.Call place)
 parted_more s scripts roles v w stand place r call h a =
     let c = r.number in
     let count = length (calls_in (slice_get scripts r.place)) in
@@ -276,7 +276,7 @@ parted_more s scripts roles v w stand place r call h a =
     first_part (suc n) now noted f = if_false (suc n == 0) now noted (not_none n) ∙ f (omega arith)
 
 waited_more : (s : Scene) (scripts : List Script) (roles : List Role) (v w : PortValue) (stand : Stand) (place : ℕ) (r : Role) (call : PlainCall) → Calls s scripts roles v stand place r call
-    → Appends (with_call v r.number (caller_at v.terminal r.number).next call) w v.flip (caller_entry v r.number waited) → PlaysOn s scripts roles v w stand (record { run = next_run stand.run stand.part; part = 0; ticks = stand.ticks; going = None })
+    → Appends (with_call v r.number (caller_at v.terminal r.number).next call) w v.flip (caller_entry v r.number waited) → TakesTurn s scripts roles v w stand (record { run = next_run stand.run stand.part; part = 0; ticks = stand.ticks; going = None }) (turn.Call place)
 waited_more s scripts roles v w stand place r call h appends =
     let c = r.number in
     let count = length (calls_in (slice_get scripts r.place)) in
@@ -311,12 +311,12 @@ waited_more s scripts roles v w stand place r call h appends =
 
 -- a call that waits in vain is told so, and does not go on waiting
 must_wait_more : (s : Scene) (scripts : List Script) (roles : List Role) (v w : PortValue) (stand : Stand) (place : ℕ) (r : Role) (call : PlainCall) → Calls s scripts roles v stand place r call
-    → MustGoOnWaiting v w r.number (caller_at v.terminal r.number).next call → PlaysOn s scripts roles v w stand (record { run = next_run stand.run stand.part; part = 0; ticks = stand.ticks; going = None })
+    → MustGoOnWaiting v w r.number (caller_at v.terminal r.number).next call → TakesTurn s scripts roles v w stand (record { run = next_run stand.run stand.part; part = 0; ticks = stand.ticks; going = None }) (turn.Call place)
 must_wait_more s scripts roles v w stand place r call h a = waits_case (is_some (caller_at v.terminal r.number).waits) refl a.waits
   where
     waits_case : (b : Bool) → is_some (caller_at v.terminal r.number).waits ≡ b
         → MatchBool b ((w ≡ v) × (quiet v.counts v.terminal ≡ false)) (Appends (with_call v r.number (caller_at v.terminal r.number).next call) w v.flip (caller_entry v r.number waited))
-        → PlaysOn s scripts roles v w stand (record { run = next_run stand.run stand.part; part = 0; ticks = stand.ticks; going = None })
+        → TakesTurn s scripts roles v w stand (record { run = next_run stand.run stand.part; part = 0; ticks = stand.ticks; going = None }) (turn.Call place)
     waits_case true e k =
         let is_call = called s scripts roles v stand place r call h.turns.plays h.turns.is h.next in
         let must = ap (λ (o : Option PlainCall). is_wait (outcome_of v.terminal (caller_at v.terminal r.number) o)) is_call ∙ wait_test (outcome v.terminal (caller_at v.terminal r.number) call) a.must in
@@ -324,7 +324,7 @@ must_wait_more s scripts roles v w stand place r call h a = waits_case (is_some 
     waits_case false e k = waited_more s scripts roles v w stand place r call h k
 
 pub tried_more : (s : Scene) (scripts : List Script) (roles : List Role) (v w : PortValue) (stand : Stand) (place : ℕ) (r : Role) (call : PlainCall) (tried : PlainTried) → Calls s scripts roles v stand place r call
-    → Attempts v w r.number (caller_at v.terminal r.number).next call tried → PlaysOn s scripts roles v w stand (record { run = next_run stand.run stand.part; part = 0; ticks = stand.ticks; going = going_after place tried })
+    → Attempts v w r.number (caller_at v.terminal r.number).next call tried → TakesTurn s scripts roles v w stand (record { run = next_run stand.run stand.part; part = 0; ticks = stand.ticks; going = going_after place tried }) (turn.Call place)
 tried_more s scripts roles v w stand place r call (done_by answer) h a = answered_more s scripts roles v w stand place r call answer h a
 tried_more s scripts roles v w stand place r call took_part h a = parted_more s scripts roles v w stand place r call h a
 tried_more s scripts roles v w stand place r call must_wait h a = must_wait_more s scripts roles v w stand place r call h a
@@ -333,7 +333,7 @@ tried_more s scripts roles v w stand place r call must_wait h a = must_wait_more
 
 pub ended_more : (s : Scene) (scripts : List Script) (roles : List Role) (v w : PortValue) (stand : Stand) (place : ℕ) (r : Role) → Turns s scripts roles v stand place r
     → (standing_at v r.number).begun ≡ false → r.first + length (calls_in (slice_get scripts r.place)) ≤ (standing_at v r.number).next
-    → Appends v w v.flip (end_entry v r.number) → PlaysOn s scripts roles v w stand (record { run = next_run stand.run stand.part; part = 0; ticks = stand.ticks; going = None })
+    → Appends v w v.flip (end_entry v r.number) → TakesTurn s scripts roles v w stand (record { run = next_run stand.run stand.part; part = 0; ticks = stand.ticks; going = None }) (turn.Call place)
 ended_more s scripts roles v w stand place r h between all appends =
     let c = r.number in
     let count = length (calls_in (slice_get scripts r.place)) in

@@ -27,16 +27,18 @@ use Rattle.journal_check.specs.Phases.{HasPlayed}
 use Rattle.port_core.specs.Flips.{after_meeting}
 use Rattle.port_core.specs.Phases.{EndsPhase}
 use Rattle.port_core.specs.Ports.{PortValue, IsPort, call_in, Denies, phase_entry}
-use Rattle.one_thread.specs.Order.{IsInTurn, can_go_on, is_waiting, must_wait, is_of_consoles}
+use Rattle.one_thread.specs.Order.{first_place, AreInTurn, IsInTurn, is_waiting, must_wait, is_of_consoles}
 use Rattle.one_thread.specs.Roles.{Scene, calls_in, role_in, AreRolesOf}
-use Rattle.one_thread.specs.Stages.{place_of, IsOfScene, AreAtFirst, BeginsRun, IsAfterLine, EndsAfterLine, StopsAfterLine}
-use Rattle.one_thread.specs.Acts.{Playing}
-use Rattle.one_thread.specs.Turns.{role_numbers, IsTurn, standing_at, standing_at_rest, IsAtRest, IsInRole, IsAbsent, HasCallers, next_run, HasRuns, Plays, PlaysOn}
+use Rattle.one_thread.specs.Stages.{place_of, HasAnyOrder, HasOneOrder, IsOfSceneIn, AreAtFirst, BeginsRun, IsAfterLineIn, EndsAfterLineIn, StopsAfterLine}
+use Rattle.one_thread.specs.Acts.{PlayingIn, Playing, PlaysEnd}
+use Rattle.one_thread.specs.Turns.{role_numbers, IsTurn, IsPossible, NoneIs, NothingGoesOn, standing_at, standing_at_rest, IsAtRest, IsInRole, IsAbsent, HasCallers, next_run, HasRuns, PlaysIn, Plays, PlaysOnIn}
 use Rattle.one_thread.specs.declared.roles.Role.{Role}
 use Rattle.one_thread.specs.declared.after_line.Stand.{Stand}
 use Rattle.one_thread.specs.declared.after_line.Turn.TheVariants as turn
-use Rattle.one_thread.proofs.Ranks.{session_turn}
+use Rattle.one_thread.proofs.Places.{turns_more}
+use Rattle.one_thread.proofs.Possible.{end_view, by_rank}
 use Rattle.one_thread.proofs.Entries.{more_of, IsRunOf, scene_more, by_turn, numbers_same}
+use Rattle.one_thread.proofs.Orders.{scene_in}
 use Rattle.one_thread.proofs.Passing.{runs_rest, stands_at, marks_at}
 use Rattle.one_thread.proofs.Calling.{role_of, role_number, enough}
 use Rattle.one_thread.proofs.Starting.{no_steps, at_rest}
@@ -73,14 +75,14 @@ callers_at_first s scripts roles v first are =
       parts = λ c waits some. let none : (standing_at v c).parts ≡ 0 = ap (λ (q : Standing). q.parts) (first_stands s v first c) in absurd (omega arith);
     }
 
-pub run_of_port : (s : Scene) (v : PortValue) → IsOfScene s v → IsPort v → IsRunOf s v.journal v.terminal
+pub run_of_port : {HasOrder : Scene → List PlainEntry → Type 0} (s : Scene) (v : PortValue) → IsOfSceneIn HasOrder s v → IsPort v → IsRunOf s v.journal v.terminal
 run_of_port s v scene port =
     subst (λ (n : ℕ). IsRun (call_at s.port s.session) (counts_on s.port s.session) n v.journal v.terminal) scene.capacity
     (subst (λ (cs : List ℕ). IsRun (call_at s.port s.session) cs v.flip.capacity v.journal v.terminal) scene.counts
     (leads_grown (call_in v.kept) (call_at s.port s.session) v.counts (opening (sum v.counts) v.flip.capacity) v.journal v.terminal scene.known port.run))
 
-pub begins : (s : Scene) (scripts : List Script) (roles : List Role) (v : PortValue) (ticks run : ℕ) → IsAfterLine s v run → AreRolesOf s v.terminal.phase (map (role_in scripts) roles) → IsPort v
-    → Playing s scripts roles v v ticks (record { run = run; part = 0; ticks = ticks; going = None })
+pub begins : {HasOrder : Scene → List PlainEntry → Type 0} (s : Scene) (scripts : List Script) (roles : List Role) (v : PortValue) (ticks run : ℕ) → IsAfterLineIn HasOrder s v run → AreRolesOf s v.terminal.phase (map (role_in scripts) roles) → IsPort v
+    → PlayingIn HasOrder s scripts roles v v ticks (record { run = run; part = 0; ticks = ticks; going = None })
 begins s scripts roles v ticks run h are port =
     let few = h.begins_run.few in
     record {
@@ -110,8 +112,8 @@ inside_more : (part : List PlainEntry) (e : PlainEntry) → session_events_in pa
 inside_more part e inside no_event =
     flat_map-append (λ (x : PlainEntry). session_events x.event) part (e ∷ []) ∙ ((λ i. inside i ++ (no_event i ++ [])) ∙ refl)
 
-pub goes_on_playing : (s : Scene) (scripts : List Script) (roles : List Role) (start v w : PortValue) (ticks : ℕ) (stand now : Stand) → Playing s scripts roles start v ticks stand → PlaysOn s scripts roles v w stand now
-    → Playing s scripts roles start w ticks now
+pub goes_on_playing : {HasOrder : Scene → List PlainEntry → Type 0} (s : Scene) (scripts : List Script) (roles : List Role) (start v w : PortValue) (ticks : ℕ) (stand now : Stand) → PlayingIn HasOrder s scripts roles start v ticks stand → PlaysOnIn HasOrder s scripts roles v w stand now
+    → PlayingIn HasOrder s scripts roles start w ticks now
 goes_on_playing s scripts roles start v w ticks stand now h more =
     let adds = more.adds in
     record {
@@ -129,7 +131,7 @@ goes_on_playing s scripts roles start v w ticks stand now h more =
     }
 
 -- the numbers of the roles are those of callers of the port
-pub all_known : (s : Scene) (scripts : List Script) (roles : List Role) (v : PortValue) (stand : Stand) → Plays s scripts roles v stand → All (λ (r : Role). r.number < sum v.counts) roles
+pub all_known : {HasOrder : Scene → List PlainEntry → Type 0} (s : Scene) (scripts : List Script) (roles : List Role) (v : PortValue) (stand : Stand) → PlaysIn HasOrder s scripts roles v stand → All (λ (r : Role). r.number < sum v.counts) roles
 all_known s scripts roles v stand plays i d lt =
     subst (λ (cs : List ℕ). (get_or roles i d).number < sum cs) (sym plays.of_scene.counts)
     (role_of s v.terminal.phase scripts roles i (get_or roles i d) plays.callers.are_roles (slice_get-get_or roles i d lt)).known
@@ -141,26 +143,24 @@ all_over true waits must e f = refl
 all_over false true must e f = absurd (false≢true (sym f))
 all_over false false must e f = absurd (false≢true (sym e))
 
+-- each caller is over
+all_are_over : (v : PortValue) (numbers : List ℕ) → NothingGoesOn v numbers → NoneIs (is_waiting v.terminal) numbers → (i : ℕ) → i < length numbers → (caller_at v.terminal (slice_index numbers i)).over ≡ true
+all_are_over v numbers h none i lt =
+    let c = slice_index numbers i in
+    all_over (caller_at v.terminal c).over (is_waiting v.terminal c) (must_wait (call_in v.kept) v.terminal c) (h.none i lt) (none i lt)
+
 -- nothing is left to do in the phase
-pub record NothingIsLeft (v : PortValue) (roles : List Role) (going : Option ℕ) : Type 0 where
-  pub settled : going ≡ None
+pub record NothingIsLeft (v : PortValue) (roles : List Role) : Type 0 where
   pub idle_is : nothing_to_flush v.terminal ≡ true
   pub clock_is : v.terminal.clock_over ≡ true
   pub over : (i : ℕ) → i < length (role_numbers roles) → (caller_at v.terminal (slice_index (role_numbers roles) i)).over ≡ true
 
-pub nothing_left : (clock_first : Bool) (v : PortValue) (roles : List Role) (going : Option ℕ) → IsTurn clock_first v (role_numbers roles) going turn.End → NothingIsLeft v roles going
-nothing_left clock_first v roles going is =
-    let h = session_turn (role_numbers roles) going clock_first (nothing_to_flush v.terminal) v.terminal.clock_over (can_go_on (call_in v.kept) v.terminal) (is_waiting v.terminal) is.who in
-    record {
-      settled = h.0.settled;
-      idle_is = h.0.idle_is;
-      clock_is = h.0.over_is;
-      over = λ i lt.
-          let c = slice_index (role_numbers roles) i in
-          all_over (caller_at v.terminal c).over (is_waiting v.terminal c) (must_wait (call_in v.kept) v.terminal c) (h.0.none i lt) (h.1 i lt);
-    }
+pub nothing_left : (v : PortValue) (roles : List Role) (going : Option ℕ) → IsPossible v (role_numbers roles) going turn.End → NothingIsLeft v roles
+nothing_left v roles going possible =
+    let h = (end_view v (role_numbers roles) going possible).1 in
+    record { idle_is = h.0.idle; clock_is = h.0.clock; over = all_are_over v (role_numbers roles) h.0 h.1 }
 
-pub may_end_of : (s : Scene) (scripts : List Script) (roles : List Role) (v : PortValue) (stand : Stand) → Plays s scripts roles v stand → NothingIsLeft v roles stand.going → may_end v.counts v.terminal ≡ true
+pub may_end_of : {HasOrder : Scene → List PlainEntry → Type 0} (s : Scene) (scripts : List Script) (roles : List Role) (v : PortValue) (stand : Stand) → PlaysIn HasOrder s scripts roles v stand → NothingIsLeft v roles → may_end v.counts v.terminal ≡ true
 may_end_of s scripts roles v stand plays nothing =
     all_four v.terminal.line_over v.terminal.clock_over _ (nothing_to_flush v.terminal) plays.line nothing.clock_is (enough s scripts roles v stand is_over plays refl nothing.over) nothing.idle_is
 
@@ -177,7 +177,7 @@ default_free : (ns : List ℕ) (i c : ℕ) → i < length ns → slice_index ns 
 default_free ns i c lt = same_Some (get_or ns i 0) (get_or ns i c) (sym (slice_get-get_or ns i 0 lt) ∙ slice_get-get_or ns i c lt)
 
 -- of the caller of a role
-ended_in_role : (s : Scene) (scripts : List Script) (roles : List Role) (v : PortValue) (stand : Stand) (i : ℕ) (r : Role) → Plays s scripts roles v stand → slice_get roles i ≡ Some r → (caller_at v.terminal r.number).over ≡ true
+ended_in_role : {HasOrder : Scene → List PlainEntry → Type 0} (s : Scene) (scripts : List Script) (roles : List Role) (v : PortValue) (stand : Stand) (i : ℕ) (r : Role) → PlaysIn HasOrder s scripts roles v stand → slice_get roles i ≡ Some r → (caller_at v.terminal r.number).over ≡ true
     → HasEnded true (first_step s.port s.session v.terminal.phase r.number) (steps_in s.port s.session v.terminal.phase r.number) (standing_at v r.number)
 ended_in_role s scripts roles v stand i r plays at over =
     let role = role_of s v.terminal.phase scripts roles i r plays.callers.are_roles at in
@@ -187,7 +187,7 @@ ended_in_role s scripts roles v stand i r plays at over =
     let begun = in_role.over_rest over in
     record { played = (next, over); resting = resting_of (standing_at v r.number) _ next begun (in_role.rest begun) }
 
-has_ended : (s : Scene) (scripts : List Script) (roles : List Role) (v : PortValue) (stand : Stand) (c : ℕ) → Plays s scripts roles v stand → NothingIsLeft v roles stand.going → (b : Bool)
+has_ended : {HasOrder : Scene → List PlainEntry → Type 0} (s : Scene) (scripts : List Script) (roles : List Role) (v : PortValue) (stand : Stand) (c : ℕ) → PlaysIn HasOrder s scripts roles v stand → NothingIsLeft v roles → (b : Bool)
     → has_script (scripts_on s.port (phase_at s.session v.terminal.phase)) (name_at s.port s.session c) ≡ b
     → HasEnded b (first_step s.port s.session v.terminal.phase c) (steps_in s.port s.session v.terminal.phase c) (standing_at v c)
 has_ended s scripts roles v stand c plays nothing true is =
@@ -218,15 +218,15 @@ has_ended s scripts roles v stand c plays nothing false is =
       resting = ap (λ (q : Standing). record q { over = false }) stands ∙ ap (λ (n : ℕ). standing_at_rest n) same;
     }
 
-pub ends_of : (s : Scene) (scripts : List Script) (roles : List Role) (start v w : PortValue) (putter now : PutterState Flagged) (ticks : ℕ) (stand rested : Stand) → Playing s scripts roles start v ticks stand
-    → IsTurn (is_of_consoles s.session) v (role_numbers roles) stand.going turn.End → EndsPhase v w putter now → ticks ≡ ticks_on s.port (phase_at s.session start.terminal.phase)
-    → rested ≡ record { run = next_run stand.run stand.part; part = 0; ticks = stand.ticks; going = None } → EndsAfterLine s start w putter now rested.run
-ends_of s scripts roles start v w putter now ticks stand rested h turn ends asked rest =
+pub ends_of : {HasOrder : Scene → List PlainEntry → Type 0} (Order : Scene → List PlainEntry → Type 0) (s : Scene) (scripts : List Script) (roles : List Role) (start v w : PortValue) (putter now : PutterState Flagged) (ticks : ℕ) (stand rested : Stand) → PlayingIn HasOrder s scripts roles start v ticks stand
+    → IsPossible v (role_numbers roles) stand.going turn.End → EndsPhase v w putter now → ticks ≡ ticks_on s.port (phase_at s.session start.terminal.phase)
+    → rested ≡ record { run = next_run stand.run stand.part; part = 0; ticks = stand.ticks; going = None } → Order s w.journal
+    → EndsAfterLineIn Order s start w putter now rested.run
+ends_of Order s scripts roles start v w putter now ticks stand rested h possible ends asked rest turns =
     let plays = h.plays in
     let e : PlainEntry = phase_entry v Session phase_ended in
     let more = more_of s v w v.kept (after_meeting v.flip putter) e plays.of_scene.counts plays.of_scene.known ends.appends refl refl in
-    let nothing = nothing_left (is_of_consoles s.session) v roles stand.going turn in
-    let in_turn : IsInTurn s.port s.session (place_of s v.journal) e = record { by_turn = by_turn s scripts roles v stand Session plays turn.who; piece = tt } in
+    let nothing = nothing_left v roles stand.going possible in
     let runs = runs_rest v w (place_of s v.journal).before stand.run stand.part e plays.runs more.journal (ap (λ (m : Marks). m.latest) (marks_at s v w e more)) refl in
     let few = runs.few in
     let next : w.terminal ≡ next_phase v.terminal = ap (λ (x : PortValue). x.terminal) ends.appends.appended in
@@ -245,6 +245,7 @@ ends_of s scripts roles start v w putter now ticks stand rested h turn ends aske
       added = more.journal ∙ (ap (λ (j : List PlainEntry). j ++ e ∷ []) h.added ∙ append_assoc start.journal h.part (e ∷ []));
       leads = h.leads;
       inside = h.inside;
+      who = refl;
       ends = refl;
       next = next;
       line = plays.line;
@@ -254,7 +255,7 @@ ends_of s scripts roles start v w putter now ticks stand rested h turn ends aske
       callers = λ c.
           subst (λ (k : ℕ). HasPlayed (has_script (scripts_on s.port (phase_at s.session k)) (name_at s.port s.session c)) (first_step s.port s.session k c) (steps_in s.port s.session k c) (caller_at v.terminal c).next (caller_at v.terminal c).over)
           h.phase (ended c).played;
-      of_scene = scene_more s v w e plays.of_scene plays.run more tt in_turn;
+      of_scene = scene_in Order s w (scene_more s v w e plays.of_scene plays.run more tt) turns;
       at_first = subst (λ (k : ℕ). AreAtFirst s (k + 1) w.terminal) h.phase at_first;
       rest = ap (λ (t : Terminal). nothing_to_flush t) next ∙ nothing.idle_is;
       begins_run =
@@ -267,6 +268,25 @@ ends_of s scripts roles start v w putter now ticks stand rested h turn ends aske
   where
     begins_after : (x : PortValue) (before : Option PlainEntry) (run : ℕ) → HasRuns x before run 0 → BeginsRun run x
     begins_after x before run r = let few = r.few in record { follows = r.follows; below = r.below; few = omega arith }
+
+-- in the order of one thread
+pub end_in_order : (s : Scene) (scripts : List Script) (roles : List Role) (v w : PortValue) (putter now : PutterState Flagged) (stand : Stand) → Plays s scripts roles v stand
+    → IsTurn (is_of_consoles s.session) v (role_numbers roles) stand.going turn.End → EndsPhase v w putter now → HasOneOrder s w.journal
+end_in_order s scripts roles v w putter now stand plays is ends =
+    let e : PlainEntry = phase_entry v Session phase_ended in
+    let in_turn : IsInTurn s.port s.session (place_of s v.journal) e = record { by_turn = by_turn s scripts roles v stand Session plays is.who; piece = tt } in
+    subst (λ (j : List PlainEntry). AreInTurn s.port s.session (first_place s.port s.session) j) (sym (ap (λ (x : PortValue). x.journal) ends.appends.appended))
+    (turns_more s.port s.session (first_place s.port s.session) v.journal e plays.of_scene.turns in_turn)
+
+pub plays_end : (roles : List Role) (old new : PortValue) (putter now : PutterState Flagged) (stand rested : Stand) → EndsPhase old new putter now
+    → rested ≡ record { run = next_run stand.run stand.part; part = 0; ticks = stand.ticks; going = None } → PlaysEnd roles old new putter now stand rested.run
+plays_end roles old new putter now stand rested ends rest =
+    record {
+      each = λ start h. ends_of HasAnyOrder h.scene h.scripts roles start old new putter now h.ticks stand rested h.playing h.possible ends h.ticks_are rest tt;
+      in_order = λ start h.
+          ends_of HasOneOrder h.scene h.scripts roles start old new putter now h.ticks stand rested h.playing (by_rank (is_of_consoles h.scene.session) old (role_numbers roles) stand.going turn.End h.is_turn) ends h.ticks_are rest
+          (end_in_order h.scene h.scripts roles old new putter now stand h.playing.plays h.is_turn ends);
+    }
 
 -- ---- a journal that takes no further entry, or no memory
 

@@ -6,8 +6,7 @@ use Rattle.std.proofs.lemmas.Option.{get_or_from_slice_get, slice_get_within, sl
 use Rattle.std.proofs.lemmas.Bool.{false≢true, cases_lt, le-leb}
 use Rattle.std.proofs.lemmas.Bool.Decides.{nat_tests}
 use Rattle.tty_calls.specs.declared.sessions.Script.{Script}
-use Rattle.tty_calls.specs.declared.journals.Who.TheVariants.{Caller}
-use Rattle.tty_calls.specs.Plain.{PlainCall}
+use Rattle.tty_calls.specs.Plain.{PlainCall, PlainEntry}
 use Rattle.tty_calls.specs.Sessions.{call_at, counts_on}
 use Rattle.tty_terminal.specs.declared.callers.CallerState.{CallerState}
 use Rattle.tty_terminal.specs.Terminals.{Terminal, idle_caller, caller_at, has_begun, is_resting}
@@ -17,13 +16,14 @@ use Rattle.tty_terminal.specs.Steps.{callers_in, quiet, nothing_to_flush, is_wai
 use Rattle.tty_terminal.proofs.Effects.{outcome_keeps}
 use Rattle.tty_terminal.proofs.WaitLaws.{run_waits, run_parts}
 use Rattle.port_core.specs.Ports.{PortValue, call_in}
-use Rattle.one_thread.specs.Order.{can_go_on, is_waiting, must_wait, is_of_consoles}
+use Rattle.one_thread.specs.Order.{can_go_on, is_waiting, must_wait}
 use Rattle.one_thread.specs.Roles.{Scene, calls_in, role_in, IsRoleOf, AreRolesOf}
-use Rattle.one_thread.specs.Turns.{role_numbers, IsTurn, standing_at, IsInParts, IsGoing, Plays}
+use Rattle.one_thread.specs.Turns.{role_numbers, NothingGoesOn, IsPossible, standing_at, IsInParts, IsGoing, PlaysIn}
 use Rattle.one_thread.specs.declared.roles.Role.{Role}
 use Rattle.one_thread.specs.declared.after_line.Stand.{Stand}
 use Rattle.one_thread.specs.declared.after_line.Turn.TheVariants as turn
-use Rattle.one_thread.proofs.Ranks.{number_at, NothingGoesOn, caller_turn}
+use Rattle.one_thread.proofs.Ranks.{number_at}
+use Rattle.one_thread.proofs.Possible.{call_view}
 use Rattle.one_thread.proofs.Entries.{numbers_same, can_same}
 use Rattle.one_thread.proofs.Counting.{at_least}
 use Rattle.journal_check.proofs.Truths.{all_four}
@@ -80,7 +80,7 @@ rests false true must e = refl
 rests false false must e = absurd (false≢true (sym e))
 
 -- as many callers of the phase pass a test as it has, where each of them passes
-pub enough : (s : Scene) (scripts : List Script) (roles : List Role) (v : PortValue) (stand : Stand) (p : CallerState → Bool) → Plays s scripts roles v stand → p idle_caller ≡ false
+pub enough : {HasOrder : Scene → List PlainEntry → Type 0} (s : Scene) (scripts : List Script) (roles : List Role) (v : PortValue) (stand : Stand) (p : CallerState → Bool) → PlaysIn HasOrder s scripts roles v stand → p idle_caller ≡ false
     → ((i : ℕ) → i < length (role_numbers roles) → p (caller_at v.terminal (slice_index (role_numbers roles) i)) ≡ true) → nat_le (callers_in v.counts v.terminal.phase) (count_by p v.terminal.callers) ≡ true
 enough s scripts roles v stand p plays idle all =
     let are = plays.callers.are_roles in
@@ -91,15 +91,15 @@ enough s scripts roles v stand p plays idle all =
     let count : callers_in v.counts v.terminal.phase ≡ length roles = ap (λ (cs : List ℕ). callers_in cs v.terminal.phase) plays.of_scene.counts ∙ (sym are.count ∙ mapped) in
     le-leb (callers_in v.counts v.terminal.phase) (count_by p v.terminal.callers) (omega arith)
 
-pub quiet_of : (s : Scene) (scripts : List Script) (roles : List Role) (v : PortValue) (stand : Stand) → Plays s scripts roles v stand
-    → NothingGoesOn (role_numbers roles) stand.going (nothing_to_flush v.terminal) v.terminal.clock_over (can_go_on (call_in v.kept) v.terminal) → quiet v.counts v.terminal ≡ true
+pub quiet_of : {HasOrder : Scene → List PlainEntry → Type 0} (s : Scene) (scripts : List Script) (roles : List Role) (v : PortValue) (stand : Stand) → PlaysIn HasOrder s scripts roles v stand
+    → NothingGoesOn v (role_numbers roles) → quiet v.counts v.terminal ≡ true
 quiet_of s scripts roles v stand plays nothing =
     let each =
     enough s scripts roles v stand is_resting plays refl
     (λ i lt.
     let c = slice_index (role_numbers roles) i in
     rests (caller_at v.terminal c).over (is_waiting v.terminal c) (must_wait (call_in v.kept) v.terminal c) (nothing.none i lt)) in
-    all_four v.terminal.line_over v.terminal.clock_over _ (nothing_to_flush v.terminal) plays.line nothing.over_is each nothing.idle_is
+    all_four v.terminal.line_over v.terminal.clock_over _ (nothing_to_flush v.terminal) plays.line nothing.clock each nothing.idle
 
 going_same : (numbers : List ℕ) (going : Option ℕ) (c d : ℕ) → IsGoing numbers going c → IsGoing numbers going d → d ≡ c
 going_same numbers going c d h k =
@@ -109,20 +109,20 @@ going_same numbers going c d h k =
 none_going : (numbers : List ℕ) (going : Option ℕ) (d : ℕ) → going ≡ None → IsGoing numbers going d → ⊥
 none_going numbers going d none h = let e = sym none ∙ h.at_place in absurd (cc)
 
-pub may_act : (s : Scene) (scripts : List Script) (roles : List Role) (v : PortValue) (stand : Stand) (i : ℕ) (r : Role) → Plays s scripts roles v stand → slice_get roles i ≡ Some r
-    → IsTurn (is_of_consoles s.session) v (role_numbers roles) stand.going (turn.Call i) → MayAct s v r.number
-may_act s scripts roles v stand i r plays is turn =
+pub may_act : {HasOrder : Scene → List PlainEntry → Type 0} (s : Scene) (scripts : List Script) (roles : List Role) (v : PortValue) (stand : Stand) (i : ℕ) (r : Role) → PlaysIn HasOrder s scripts roles v stand → slice_get roles i ≡ Some r
+    → IsPossible v (role_numbers roles) stand.going (turn.Call i) → MayAct s v r.number
+may_act s scripts roles v stand i r plays is possible =
     let c = r.number in
     let numbers = role_numbers roles in
     let at : slice_index numbers i ≡ c = role_number roles i r is in
     let in_role = plays.callers.in_roles i r is in
-    let who = ap (λ (n : ℕ). Caller n) (sym at) ∙ turn.who in
     let settled_parts : stand.going ≡ None → (d : ℕ) → (standing_at v d).waits ≡ false → 0 < (standing_at v d).parts → d ≡ c =
     λ none d w some. absurd (none_going numbers stand.going d none (plays.callers.parts d w some)) in
     let settled_generation : stand.going ≡ None → (standing_at v c).waits ≡ false → 0 < (standing_at v c).parts → (standing_at v c).generation ≡ v.terminal.generation =
     λ none w some. absurd (none_going numbers stand.going c none (plays.callers.parts c w some)) in
-    elim (caller_turn numbers stand.going (is_of_consoles s.session) (nothing_to_flush v.terminal) v.terminal.clock_over (can_go_on (call_in v.kept) v.terminal) (is_waiting v.terminal) c who) [
-      | inl going ↦
+    elim (call_view v numbers stand.going i possible) [
+      | inl there ↦
+          let going : IsGoing numbers stand.going c = subst (λ (n : ℕ). IsGoing numbers stand.going n) at there in
           let open_part : IsInParts v c = subst (λ (n : ℕ). IsInParts v n) going.is (plays.callers.goes_on going.place going.at_place).1 in
           let begun = run_parts (call_at s.port s.session) (counts_on s.port s.session) _ v.journal v.terminal plays.run c open_part.parts in
           record {
@@ -131,22 +131,24 @@ may_act s scripts roles v stand i r plays is turn =
             parts = λ d w some. going_same numbers stand.going c d going (plays.callers.parts d w some);
             generation = λ w some. open_part.generation;
           }
-      | inr rest ↦ elim rest [
+      | inr free ↦ elim free.1 [
         | inl can ↦
-            let facts = both_fail (caller_at v.terminal c).over (is_waiting v.terminal c) (must_wait (call_at s.port s.session) v.terminal c) (sym (can_same s scripts roles v stand plays c) ∙ can.1) in
+            let here : can_go_on (call_in v.kept) v.terminal c ≡ true = subst (λ (n : ℕ). can_go_on (call_in v.kept) v.terminal n ≡ true) at can in
+            let facts = both_fail (caller_at v.terminal c).over (is_waiting v.terminal c) (must_wait (call_at s.port s.session) v.terminal c) (sym (can_same s scripts roles v stand plays c) ∙ here) in
             record {
               not_over = facts.0;
               in_vain = λ w m. absurd (facts.1 w m);
-              parts = settled_parts can.0;
-              generation = settled_generation can.0;
+              parts = settled_parts free.0;
+              generation = settled_generation free.0;
             }
         | inr vain ↦
-            let begun = run_waits (call_at s.port s.session) (counts_on s.port s.session) _ v.journal v.terminal plays.run c vain.1 in
+            let waits : is_waiting v.terminal c ≡ true = subst (λ (n : ℕ). is_waiting v.terminal n ≡ true) at vain.1 in
+            let begun = run_waits (call_at s.port s.session) (counts_on s.port s.session) _ v.journal v.terminal plays.run c waits in
             record {
               not_over = not_both (caller_at v.terminal c).over (has_begun (caller_at v.terminal c)) in_role.over_rest begun;
               in_vain = λ w m. quiet_of s scripts roles v stand plays vain.0;
-              parts = settled_parts vain.0.settled;
-              generation = settled_generation vain.0.settled;
+              parts = settled_parts free.0;
+              generation = settled_generation free.0;
             }
       ]
     ]
@@ -154,7 +156,7 @@ may_act s scripts roles v stand i r plays is turn =
 -- ---- the call of its next step
 
 -- the session's call of the step
-pub called : (s : Scene) (scripts : List Script) (roles : List Role) (v : PortValue) (stand : Stand) (i : ℕ) (r : Role) (call : PlainCall) → Plays s scripts roles v stand → slice_get roles i ≡ Some r
+pub called : {HasOrder : Scene → List PlainEntry → Type 0} (s : Scene) (scripts : List Script) (roles : List Role) (v : PortValue) (stand : Stand) (i : ℕ) (r : Role) (call : PlainCall) → PlaysIn HasOrder s scripts roles v stand → slice_get roles i ≡ Some r
     → slice_get (calls_in (slice_get scripts r.place)) ((standing_at v r.number).next - r.first) ≡ Some call → call_at s.port s.session r.number (caller_at v.terminal r.number).next ≡ Some call
 called s scripts roles v stand i r call plays is next =
     let role = role_of s v.terminal.phase scripts roles i r plays.callers.are_roles is in

@@ -18,14 +18,15 @@ use Rattle.tty_terminal.proofs.Runs.{leads_more}
 use Rattle.tty_terminal.proofs.WaitLaws.{run_waits}
 use Rattle.journal_check.specs.Legal.{IsInPhase, AreInPhases, session_events, flip_on}
 use Rattle.port_core.specs.Ports.{PlainKept, PortValue, call_in, Appends}
-use Rattle.one_thread.specs.Order.{Place, first_place, AreInTurn, IsInTurn, IsPieceOf, turn, turn_after, turn_after_event, turn_by_rank, callers_of, first_of, can_go_on, is_waiting, must_wait, is_of_consoles}
+use Rattle.one_thread.specs.Order.{Place, first_place, IsPieceOf, turn, turn_after, turn_after_event, turn_by_rank, callers_of, first_of, can_go_on, is_waiting, must_wait, is_of_consoles}
 use Rattle.one_thread.specs.Roles.{Scene, numbers_in, role_in}
-use Rattle.one_thread.specs.Stages.{place_of, IsOfScene}
-use Rattle.one_thread.specs.Turns.{role_numbers, turn_with, IsKept, HasCallers, HasRuns, Plays, PlaysOn}
+use Rattle.one_thread.specs.Stages.{place_of, HasAnyOrder, IsOfSceneIn}
+use Rattle.one_thread.specs.Turns.{role_numbers, turn_with, who_of, IsKept, HasCallers, HasRuns, PlaysIn, TakesTurn}
 use Rattle.one_thread.specs.declared.roles.Role.{Role}
 use Rattle.one_thread.specs.declared.after_line.Stand.{Stand}
+use Rattle.one_thread.specs.declared.after_line.Turn.{Turn}
 use Rattle.one_thread.proofs.Ranks.{first_same}
-use Rattle.one_thread.proofs.Places.{place_more, turns_more, in_phases_more, leads_place, leads_phase}
+use Rattle.one_thread.proofs.Places.{place_more, in_phases_more, leads_place, leads_phase}
 
 -- an entry more, of the session's calls
 pub record IsMore (s : Scene) (v w : PortValue) (e : PlainEntry) : Type 0 where
@@ -68,9 +69,9 @@ pub before_more : (s : Scene) (v w : PortValue) (e : PlainEntry) → IsMore s v 
 before_more s v w e more =
     ap (λ (j : List PlainEntry). (place_of s j).before) more.journal ∙ ap (λ (x : Place). x.before) (place_more (call_at s.port s.session) (first_place s.port s.session) v.journal e)
 
-pub scene_more : (s : Scene) (v w : PortValue) (e : PlainEntry) → IsOfScene s v → IsRunOf s v.journal v.terminal → IsMore s v w e
-    → IsInPhase s.port s.session v.terminal.phase e.who e.step e.event → IsInTurn s.port s.session (place_of s v.journal) e → IsOfScene s w
-scene_more s v w e scene run more phase turn =
+pub scene_more : {HasOrder : Scene → List PlainEntry → Type 0} (s : Scene) (v w : PortValue) (e : PlainEntry) → IsOfSceneIn HasOrder s v → IsRunOf s v.journal v.terminal → IsMore s v w e
+    → IsInPhase s.port s.session v.terminal.phase e.who e.step e.event → IsOfSceneIn HasAnyOrder s w
+scene_more s v w e scene run more phase =
     let at_phase = leads_phase (call_at s.port s.session) (counts_on s.port s.session) _ v.journal v.terminal run in
     let phases = in_phases_more s.port s.session 0 v.journal e scene.in_phases (subst (λ (k : ℕ). IsInPhase s.port s.session k e.who e.step e.event) (sym at_phase) phase) in
     record {
@@ -79,9 +80,7 @@ scene_more s v w e scene run more phase turn =
       limit = more.limit ∙ scene.limit;
       known = more.known;
       in_phases = subst (λ (j : List PlainEntry). AreInPhases s.port s.session 0 j) (sym more.journal) phases;
-      turns =
-          subst (λ (j : List PlainEntry). AreInTurn s.port s.session (first_place s.port s.session) j) (sym more.journal)
-          (turns_more s.port s.session (first_place s.port s.session) v.journal e scene.turns turn);
+      turns = tt;
     }
 
 -- ---- whose turn it is, by the definition of the order
@@ -98,7 +97,7 @@ can_case true over x y h = ap (λ (z : Bool). not over && (not true || not z)) (
 pub kept_is : (s : Scene) (v : PortValue) (c step : ℕ) → Grows (call_in v.kept) (call_at s.port s.session) → IsKept v.kept c step → call_in v.kept c step ≡ call_at s.port s.session c step
 kept_is s v c step known kept = kept.found ∙ sym (known c step kept.call kept.found)
 
-pub can_same : (s : Scene) (scripts : List Script) (roles : List Role) (v : PortValue) (stand : Stand) → Plays s scripts roles v stand → (c : ℕ)
+pub can_same : {HasOrder : Scene → List PlainEntry → Type 0} (s : Scene) (scripts : List Script) (roles : List Role) (v : PortValue) (stand : Stand) → PlaysIn HasOrder s scripts roles v stand → (c : ℕ)
     → can_go_on (call_in v.kept) v.terminal c ≡ can_go_on (call_at s.port s.session) v.terminal c
 can_same s scripts roles v stand plays c =
     can_case (is_waiting v.terminal c) (caller_at v.terminal c).over (must_wait (call_in v.kept) v.terminal c) (must_wait (call_at s.port s.session) v.terminal c)
@@ -112,7 +111,7 @@ third true b x y z e f = absurd (false≢true (sym e))
 third false true x y z e f = refl
 third false false x y z e f = absurd (false≢true f)
 
-pub by_turn : (s : Scene) (scripts : List Script) (roles : List Role) (v : PortValue) (stand : Stand) (who : Who) → Plays s scripts roles v stand
+pub by_turn : {HasOrder : Scene → List PlainEntry → Type 0} (s : Scene) (scripts : List Script) (roles : List Role) (v : PortValue) (stand : Stand) (who : Who) → PlaysIn HasOrder s scripts roles v stand
     → who ≡ turn_with (role_numbers roles) stand.going (turn_by_rank (is_of_consoles s.session) (call_in v.kept) (role_numbers roles) v.terminal) → who ≡ turn s.port s.session (place_of s v.journal)
 by_turn s scripts roles v stand who plays is =
     let place = place_of s v.journal in
@@ -133,37 +132,40 @@ by_turn s scripts roles v stand who plays is =
     (lt-leb (length s.session.phases) place.terminal.phase (subst (λ (t : Terminal). t.phase < length s.session.phases) (sym at) plays.within))
     (ap (λ (t : Terminal). t.line_over) at ∙ plays.line)
 
-pub plays_more : (s : Scene) (scripts : List Script) (roles : List Role) (v w : PortValue) (stand now : Stand) (e : PlainEntry) → Plays s scripts roles v stand → IsMore s v w e
-    → IsInPhase s.port s.session v.terminal.phase e.who e.step e.event
-    → e.who ≡ turn_with (role_numbers roles) stand.going (turn_by_rank (is_of_consoles s.session) (call_in v.kept) (role_numbers roles) v.terminal)
+-- a turn that was taken
+pub plays_more : (s : Scene) (scripts : List Script) (roles : List Role) (v w : PortValue) (stand now : Stand) (next : Turn) (e : PlainEntry) → PlaysIn HasAnyOrder s scripts roles v stand → IsMore s v w e
+    → IsInPhase s.port s.session v.terminal.phase e.who e.step e.event → e.who ≡ who_of (role_numbers roles) next
     → IsPieceOf s.port s.session (place_of s v.journal) e.part e.event → session_events e.event ≡ []
     → w.terminal.phase ≡ v.terminal.phase → w.terminal.line_over ≡ v.terminal.line_over → w.terminal.sent ≡ v.terminal.sent
     → (w.terminal.clock_over ≡ true → now.ticks ≡ 0) → w.terminal.tick + now.ticks ≡ v.terminal.tick + stand.ticks
     → HasRuns w (Some e) now.run now.part → HasCallers s scripts roles w now.going
-    → ((other : Who) → turn_after_event e.event e.who other ≡ turn_with (role_numbers roles) now.going other) → PlaysOn s scripts roles v w stand now
-plays_more s scripts roles v w stand now e plays more phase is piece inside same_phase same_line same_sent clock ticks runs callers settled =
-    let in_turn : IsInTurn s.port s.session (place_of s v.journal) e = record { by_turn = by_turn s scripts roles v stand e.who plays is; piece = piece } in
+    → ((other : Who) → turn_after_event e.event e.who other ≡ turn_with (role_numbers roles) now.going other) → TakesTurn s scripts roles v w stand now next
+plays_more s scripts roles v w stand now next e plays more phase who piece inside same_phase same_line same_sent clock ticks runs callers settled =
     let before = before_more s v w e more in
     record {
-      plays = record {
-        of_scene = scene_more s v w e plays.of_scene plays.run more phase in_turn;
-        run = run_more s v w e plays.run more;
-        within = subst (λ (k : ℕ). k < length s.session.phases) (sym same_phase) plays.within;
-        line = same_line ∙ plays.line;
-        clock = clock;
-        runs = subst (λ (b : Option PlainEntry). HasRuns w b now.run now.part) (sym before) runs;
-        callers = callers;
-        settled = λ other. ap (λ (b : Option PlainEntry). turn_after b other) before ∙ settled other;
+      on = record {
+        plays = record {
+          of_scene = scene_more s v w e plays.of_scene plays.run more phase;
+          run = run_more s v w e plays.run more;
+          within = subst (λ (k : ℕ). k < length s.session.phases) (sym same_phase) plays.within;
+          line = same_line ∙ plays.line;
+          clock = clock;
+          runs = subst (λ (b : Option PlainEntry). HasRuns w b now.run now.part) (sym before) runs;
+          callers = callers;
+          settled = λ other. ap (λ (b : Option PlainEntry). turn_after b other) before ∙ settled other;
+        };
+        adds = record {
+          entry = e;
+          added = more.journal;
+          allowed = more.allowed;
+          leads = more.terminal;
+          inside = inside;
+          piece = piece;
+          phase = same_phase;
+          sent = same_sent;
+          ring = more.ring;
+        };
+        ticks = ticks;
       };
-      adds = record {
-        entry = e;
-        added = more.journal;
-        allowed = more.allowed;
-        leads = more.terminal;
-        inside = inside;
-        phase = same_phase;
-        sent = same_sent;
-        ring = more.ring;
-      };
-      ticks = ticks;
+      who = who;
     }

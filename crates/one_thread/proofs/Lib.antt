@@ -1,6 +1,8 @@
 pub mod Ranks
 pub mod Places
+pub mod Possible
 pub mod Entries
+pub mod Orders
 pub mod Passing
 pub mod Counting
 pub mod Kept

@@ -29,17 +29,17 @@ use Rattle.journal_check.specs.Legal.{phase_at, first_step, script_of_first, rec
 use Rattle.port_core.specs.Flips.{MeetsTaker, after_meeting}
 use Rattle.port_core.specs.Phases.{EndsLine}
 use Rattle.port_core.specs.Ports.{PortValue, IsPort, Denies, call_in, is_stuck, phase_entry}
-use Rattle.one_thread.specs.Order.{Place, cuts_in, cuts_after, due, front_to_flush, turn_after, is_after_flush, AreInTurn, IsInTurn, first_place}
+use Rattle.one_thread.specs.Order.{Place, cuts_in, cuts_after, due, front_to_flush, turn_after, is_after_flush, IsInTurn, first_place}
 use Rattle.one_thread.specs.Roles.{Scene}
-use Rattle.one_thread.specs.Stages.{IsOfScene, BeginsRun, RunsBelow, IsAfterLine, caller_at_rest, place_of}
-use Rattle.one_thread.specs.Lines.{HasPut, IsAtPhase, SeesIn, PlaysLine, StopsInLine, StopsLine}
+use Rattle.one_thread.specs.Stages.{HasAnyOrder, IsOfSceneIn, BeginsRun, RunsBelow, IsAfterLineIn, caller_at_rest, place_of}
+use Rattle.one_thread.specs.Lines.{HasPut, IsAtPhaseIn, SeesIn, PlaysLineIn, StopsInLineIn, StopsLineIn}
 use Rattle.one_thread.specs.LineInside.{LineStart, steps_before, steps_of, IsInLine, SeesFrom, IsCaughtUp, IsBetweenSteps, DeniesCut, PlaysSteps, StopsSteps, StandsBefore}
 use Rattle.one_thread.proofs.LineLists.{no_cut_left, All_later, overruns_see_most}
 use Rattle.one_thread.proofs.Places.{in_phases_more, place_more, turns_more}
 use Rattle.one_thread.proofs.AfterLine.{run_of_port}
 use Rattle.one_thread.proofs.Entries.{place_is}
 use Rattle.one_thread.proofs.LineTurns.{front_stuck, front_of_none, due_at, line_in_turn}
-use Rattle.one_thread.proofs.LineSteps.{sent_met, knows_met, has_put_met, has_put_at, in_line_met, in_line_heard, StepsTo, in_line_steps}
+use Rattle.one_thread.proofs.LineSteps.{place_is_after, sent_met, knows_met, has_put_met, has_put_at, in_line_met, in_line_heard, StepsTo, in_line_steps}
 use Rattle.journal_check.proofs.ReceiptLemmas.{first_more}
 
 same_number : (m n : ℕ) → (m == n) ≡ true → m ≡ n
@@ -52,7 +52,7 @@ abbrev pub start_of : Scene → PortValue → LineState → LineStart
 start_of s v line = record { scene = s; phase = v.terminal.phase; port = v; line = line }
 
 module _ (s : Scene) (v : PortValue) (putter met : PutterState Flagged) (line : LineState) (run : ℕ)
-    (a : IsAtPhase s v.terminal.phase v putter line run) (within : v.terminal.phase < length s.session.phases)
+    (a : IsAtPhaseIn HasAnyOrder s v.terminal.phase v putter line run) (within : v.terminal.phase < length s.session.phases)
     (taken : v.terminal.taken ≡ length v.flip.taken) (meets : MeetsTaker v.flip putter met) where
   in_line_first : IsInLine (start_of s v line) v putter line []
   in_line_first = record {
@@ -65,6 +65,7 @@ module _ (s : Scene) (v : PortValue) (putter met : PutterState Flagged) (line : 
     flushes = [];
     added = sym (append-nil v.journal);
     leads = refl;
+    in_turn = tt;
     inside = refl;
     no_end = refl;
     kept = refl;
@@ -136,18 +137,19 @@ module _ (s : Scene) (v : PortValue) (putter met : PutterState Flagged) (line : 
         subst (λ (l : List LineStep). IsBetweenSteps (start_of s v line) w now next (closed_script l) later) is (p.each (start_of s v line) [] [] script_is begins)
 
     pub stops_all : (d : Denied) (w : PortValue) (now : PutterState Flagged) (next : LineState)
-        → StopsSteps d (closed_script steps) at_start w met now line next run → StopsLine d s v.terminal.phase v w now next
+        → StopsSteps d (closed_script steps) at_start w met now line next run → StopsLineIn HasAnyOrder d s v.terminal.phase v w now next
     stops_all d w now next h = h.each (start_of s v line) [] [] script_is begins
 
 -- ---- a full journal
 
 stops_in_line : (b : LineStart) (v : PortValue) (putter : PutterState Flagged) (line : LineState) (steps left : List LineStep)
-    → steps_of b ≡ steps ++ left → IsInLine b v putter line steps → length v.journal ≡ v.limit → StopsInLine b.scene b.phase b.port v putter line
+    → steps_of b ≡ steps ++ left → IsInLine b v putter line steps → length v.journal ≡ v.limit → StopsInLineIn HasAnyOrder b.scene b.phase b.port v putter line
 stops_in_line b v putter line steps left script i full = record {
   of_scene = i.of_scene;
   part = i.flushes;
   added = i.added;
   leads = i.leads;
+  in_turn = i.in_turn;
   inside = i.inside;
   tick = i.tick;
   full = full ∙ i.of_scene.limit;
@@ -160,15 +162,15 @@ stops_in_line b v putter line steps left script i full = record {
 }
 
 pub stops_denied : (d : Denied) (b : LineStart) (v w : PortValue) (putter : PutterState Flagged) (line : LineState) (steps left : List LineStep)
-    → steps_of b ≡ steps ++ left → IsInLine b v putter line steps → Denies d v w → StopsLine d b.scene b.phase b.port w putter line
+    → steps_of b ≡ steps ++ left → IsInLine b v putter line steps → Denies d v w → StopsLineIn HasAnyOrder d b.scene b.phase b.port w putter line
 stops_denied NoMemory b v w putter line steps left script i h = tt
 stops_denied Full b v w putter line steps left script i h =
-    subst (λ (x : PortValue). StopsInLine b.scene b.phase b.port x putter line) (sym h.1) (stops_in_line b v putter line steps left script i h.0)
+    subst (λ (x : PortValue). StopsInLineIn HasAnyOrder b.scene b.phase b.port x putter line) (sym h.1) (stops_in_line b v putter line steps left script i h.0)
 
 -- where the flush at a cut was denied
 pub stops_at_cut : (d : Denied) (b : LineStart) (v w : PortValue) (putter now met : PutterState Flagged) (line next : LineState) (done left : List LineStep) (step : LineStep)
     → steps_of b ≡ done ++ step ∷ left → IsInLine b v putter line done → StepsTo putter now line next (steps_before b ++ done) step → DeniesCut d v w now met
-    → StopsLine d b.scene b.phase b.port w met next
+    → StopsLineIn HasAnyOrder d b.scene b.phase b.port w met next
 stops_at_cut d b v w putter now met line next done left step script i st h =
     stops_denied d b (record v { flip = after_meeting v.flip now }) w met next (done ++ step ∷ []) left
     (script ∙ sym (append_assoc done (step ∷ []) left))
@@ -206,7 +208,7 @@ module _ (b : LineStart) (v w : PortValue) (putter now : PutterState Flagged) (l
       (subst (λ (k : ℕ). k < length b.scene.session.phases) (sym phase) i.in_line.within)
       (ap (λ (t : Terminal). t.line_over) place_at ∙ i.in_line.line_over) (none_due i.open_or_stuck)
 
-  scene_end : IsOfScene b.scene w
+  scene_end : IsOfSceneIn HasAnyOrder b.scene w
   scene_end = record {
     counts = ap (λ (y : PortValue). y.counts) x.appends.appended ∙ i.in_line.of_scene.counts;
     capacity = ap (λ (f : TakerState Flagged). f.capacity) x.flip ∙ i.in_line.of_scene.capacity;
@@ -214,8 +216,7 @@ module _ (b : LineStart) (v w : PortValue) (putter now : PutterState Flagged) (l
     known = subst (λ ks. Grows (call_in ks) (call_at b.scene.port b.scene.session)) (sym (ap (λ (y : PortValue). y.kept) x.appends.appended)) i.in_line.of_scene.known;
     in_phases = subst (λ (es : List PlainEntry). AreInPhases b.scene.port b.scene.session 0 es) (sym journal_end)
         (in_phases_more b.scene.port b.scene.session 0 v.journal end i.in_line.of_scene.in_phases tt);
-    turns = subst (λ (es : List PlainEntry). AreInTurn b.scene.port b.scene.session (first_place b.scene.port b.scene.session) es) (sym journal_end)
-        (turns_more b.scene.port b.scene.session (first_place b.scene.port b.scene.session) v.journal end i.in_line.of_scene.turns in_turn);
+    turns = tt;
   }
 
   before_is : (place_of b.scene w.journal).before ≡ Some end
@@ -233,7 +234,7 @@ module _ (b : LineStart) (v w : PortValue) (putter now : PutterState Flagged) (l
         few = few;
       }
 
-  after_end : IsAfterLine b.scene w run
+  after_end : IsAfterLineIn HasAnyOrder b.scene w run
   after_end =
       let phase : w.terminal.phase ≡ b.phase = ap (λ (t : Terminal). t.phase) terminal_end ∙ i.in_line.phase in
       record {
@@ -274,7 +275,7 @@ module _ (b : LineStart) (v w : PortValue) (putter now : PutterState Flagged) (l
         sees = omega (arith, low.sees, high, number_seen);
       }
 
-  pub line_ends : PlaysLine b.scene b.phase b.port w now b.line line run
+  pub line_ends : PlaysLineIn HasAnyOrder b.scene b.phase b.port w now b.line line run
   line_ends =
       let sent : now.sent ≡ putter.sent = sent_met v.flip putter now x.meets in
       let p = b.scene.port in
@@ -289,6 +290,8 @@ module _ (b : LineStart) (v w : PortValue) (putter now : PutterState Flagged) (l
         last = end;
         added = journal_end ∙ ap (λ (es : List PlainEntry). es ++ end ∷ []) i.in_line.added ∙ append_assoc b.port.journal i.in_line.flushes (end ∷ []);
         leads = subst (λ (u : Terminal). Leads (call_at p session) (counts_on p session) b.port.terminal (i.in_line.flushes ++ end ∷ []) u) (sym terminal_end) leads;
+        in_turn = turns_more p session (place_of b.scene b.port.journal) i.in_line.flushes end i.in_line.in_turn
+            (subst (λ (x : Place). IsInTurn p session x end) (place_is_after b v putter line (steps_of b) i.in_line) in_turn);
         inside = i.in_line.inside;
         no_end = i.in_line.no_end;
         kept = ap (λ (y : PortValue). y.kept) x.appends.appended ∙ i.in_line.kept;

@@ -1,6 +1,6 @@
 -- Steps of the line flush once at most.
-use Rattle.std.proofs.Common.{◌≡◌, ℕ, ◌-◌, min, ◌<◌, ◌≤◌, true, false, List, [], ◌∷◌, ◌++◌, length, refl, sym, ◌∙◌, ap, subst, arith, append-nil, inl, inr}
-use Rattle.std.specs.Prelude.{Result, Ok, Err, IfOk, IfErr, IsTrue, All}
+use Rattle.std.proofs.Common.{◌≡◌, ℕ, ◌-◌, min, true, List, [], ◌∷◌, length, refl, sym, ◌∙◌, ap, subst, arith, append-nil, inl, inr}
+use Rattle.std.specs.Prelude.{Result, Ok, Err, IfOk, IfErr, IsTrue}
 use Rattle.std.proofs.lemmas.Bool.{cases_lt}
 use Rattle.std.proofs.lemmas.List.Elements.{All-nil, All-cons}
 use Rattle.tty_base.specs.declared.characters.Flagged.{Flagged}
@@ -16,7 +16,7 @@ use Rattle.port_core.specs.Flushes.{Flushes, LooksAtNone}
 use Rattle.port_core.specs.Given.{FlushesGiven, DeniesGiven, with_put, with_pushed}
 use Rattle.port_core.specs.Ports.{PortValue, Denies, is_stuck, flush_entry}
 use Rattle.one_thread.specs.Acts.{FlushesOnce}
-use Rattle.one_thread.specs.LineInside.{FlushesCut, FlushesSince, DeniesCut}
+use Rattle.one_thread.specs.LineInside.{FlushesSince, DeniesCut}
 use Rattle.one_thread.proofs.LineLists.{true_or_false}
 use Rattle.journal_check.proofs.Truths.{on_false, on_true}
 

@@ -28,12 +28,12 @@ use Rattle.journal_check.specs.Legal.{session_events, line_ends, AreInPhases}
 use Rattle.port_core.specs.Flips.{MeetsTaker, after_meeting}
 use Rattle.port_core.specs.Flushes.{Takes}
 use Rattle.port_core.specs.Ports.{PortValue, call_in, is_stuck, flush_entry}
-use Rattle.one_thread.specs.Order.{Place, IsInTurn, AreInTurn, first_place}
+use Rattle.one_thread.specs.Order.{Place, IsInTurn, first_place, place_after}
 use Rattle.one_thread.specs.Roles.{Scene}
-use Rattle.one_thread.specs.Stages.{IsOfScene, BeginsRun, RunsBelow, place_of}
+use Rattle.one_thread.specs.Stages.{HasAnyOrder, IsOfSceneIn, BeginsRun, RunsBelow, place_of}
 use Rattle.one_thread.specs.Lines.{HasPut}
 use Rattle.one_thread.specs.LineInside.{LineStart, steps_before, IsInLine, KnowsTaken, with_all_pushed}
-use Rattle.one_thread.proofs.Places.{in_phases_more, place_more, turns_more}
+use Rattle.one_thread.proofs.Places.{in_phases_more, place_more, place_both, turns_more}
 use Rattle.journal_check.proofs.Truths.{if_false}
 
 -- ---- small facts
@@ -101,6 +101,7 @@ in_line_steps b v putter now line next done step i st =
       flushes = i.flushes;
       added = i.added;
       leads = i.leads;
+      in_turn = i.in_turn;
       inside = i.inside;
       no_end = i.no_end;
       kept = i.kept;
@@ -156,9 +157,9 @@ has_put_at v w putter line steps ring capacity h = record {
   room = h.room;
 }
 
-pub scene_met : (s : Scene) (v : PortValue) (putter : PutterState Flagged) → IsOfScene s v → IsOfScene s (record v { flip = after_meeting v.flip putter })
+pub scene_met : (s : Scene) (v : PortValue) (putter : PutterState Flagged) → IsOfSceneIn HasAnyOrder s v → IsOfSceneIn HasAnyOrder s (record v { flip = after_meeting v.flip putter })
 scene_met s v putter o =
-    record { counts = o.counts; capacity = o.capacity; limit = o.limit; known = o.known; in_phases = o.in_phases; turns = o.turns }
+    record { counts = o.counts; capacity = o.capacity; limit = o.limit; known = o.known; in_phases = o.in_phases; turns = tt }
 
 pub in_line_met : (b : LineStart) (v : PortValue) (putter now : PutterState Flagged) (line : LineState) (steps : List LineStep)
     → IsInLine b v putter line steps → MeetsTaker v.flip putter now → IsInLine b (record v { flip = after_meeting v.flip putter }) now line steps
@@ -172,6 +173,7 @@ in_line_met b v putter now line steps i m = record {
   flushes = i.flushes;
   added = i.added;
   leads = i.leads;
+  in_turn = i.in_turn;
   inside = i.inside;
   no_end = i.no_end;
   kept = i.kept;
@@ -200,6 +202,7 @@ in_line_heard b v putter now line steps i heard =
       flushes = i.flushes;
       added = i.added;
       leads = i.leads;
+      in_turn = i.in_turn;
       inside = i.inside;
       no_end = i.no_end;
       kept = i.kept;
@@ -230,6 +233,12 @@ receives_keeps t (c ∷ cs) =
     let k = receives_keeps (after_character t c) cs in
     record { phase = k.phase; line_over = k.line_over; clock_over = k.clock_over; tick = k.tick; sent = k.sent; callers = k.callers }
 
+-- where the journal stands, from where the line began
+pub place_is_after : (b : LineStart) (v : PortValue) (putter : PutterState Flagged) (line : LineState) (steps : List LineStep) (i : IsInLine b v putter line steps)
+    → place_of b.scene v.journal ≡ place_after (call_at b.scene.port b.scene.session) (place_of b.scene b.port.journal) i.flushes
+place_is_after b v putter line steps i =
+    ap (λ (es : List PlainEntry). place_of b.scene es) i.added ∙ place_both (call_at b.scene.port b.scene.session) (first_place b.scene.port b.scene.session) b.port.journal i.flushes
+
 module _ (b : LineStart) (v w : PortValue) (putter : PutterState Flagged) (line : LineState) (steps : List LineStep) (run most n : ℕ)
     (i : IsInLine b v putter line steps) (takes : Takes v w run 0 most n) where
   pub journal_is : w.journal ≡ v.journal ++ flush_entry v run 0 takes.chars ∷ []
@@ -254,8 +263,7 @@ module _ (b : LineStart) (v w : PortValue) (putter : PutterState Flagged) (line 
           limit = ap (λ (x : PortValue). x.limit) takes.appends.appended ∙ i.of_scene.limit;
           known = subst (λ ks. Grows (call_in ks) (call_at p session)) (sym (ap (λ (x : PortValue). x.kept) takes.appends.appended)) i.of_scene.known;
           in_phases = subst (λ (es : List PlainEntry). AreInPhases p session 0 es) (sym journal_is) (in_phases_more p session 0 v.journal e i.of_scene.in_phases tt);
-          turns = subst (λ (es : List PlainEntry). AreInTurn p session (first_place p session) es) (sym journal_is)
-              (turns_more p session (first_place p session) v.journal e i.of_scene.turns in_turn);
+          turns = tt;
         };
         within = i.within;
         phase = ap (λ (t : Terminal). t.phase) terminal_is ∙ k.phase ∙ i.phase;
@@ -265,6 +273,7 @@ module _ (b : LineStart) (v w : PortValue) (putter : PutterState Flagged) (line 
         flushes = i.flushes ++ e ∷ [];
         added = journal_is ∙ ap (λ (es : List PlainEntry). es ++ e ∷ []) i.added ∙ append_assoc b.port.journal i.flushes (e ∷ []);
         leads = subst (λ (u : Terminal). Leads (call_at p session) (counts_on p session) b.port.terminal (i.flushes ++ e ∷ []) u) (sym terminal_is) leads;
+        in_turn = turns_more p session (place_of b.scene b.port.journal) i.flushes e i.in_turn (subst (λ (x : Place). IsInTurn p session x e) (place_is_after b v putter line steps i) in_turn);
         inside = no_more_of (λ x. session_events x.event) i.flushes e i.inside refl;
         no_end = no_more_of (λ x. line_ends x.event) i.flushes e i.no_end refl;
         kept = ap (λ (x : PortValue). x.kept) takes.appends.appended ∙ i.kept;

@@ -26,7 +26,8 @@ use Rattle.port_core.specs.Flushes.{Flushes}
 use Rattle.port_core.specs.Given.{with_put, with_pushed, FlushesGiven, DeniesGiven}
 use Rattle.port_core.specs.Ports.{PortValue, IsPort}
 use Rattle.one_thread.specs.Order.{cuts_after}
-use Rattle.one_thread.specs.Lines.{HasPut, StopsLine}
+use Rattle.one_thread.specs.Stages.{HasAnyOrder}
+use Rattle.one_thread.specs.Lines.{HasPut, StopsLineIn}
 use Rattle.one_thread.specs.LineInside.{LineStart, steps_before, steps_of, IsInLine, SeesFrom, IsBetweenSteps, FlushesSince, DeniesCut, PlaysSteps, StopsSteps, run_after}
 use Rattle.one_thread.proofs.LineLists.{handed_list, handed_is, no_cut, cuts_same}
 use Rattle.one_thread.proofs.LineSteps.{StepsTo}
@@ -134,6 +135,7 @@ module _ (b : LineStart) (v : PortValue) (putter : PutterState Flagged) (line : 
       flushes = i.in_line.flushes;
       added = i.in_line.added;
       leads = i.in_line.leads;
+      in_turn = i.in_line.in_turn;
       inside = i.in_line.inside;
       no_end = i.in_line.no_end;
       kept = i.in_line.kept;
@@ -231,7 +233,7 @@ module _ (b : LineStart) (v : PortValue) (putter now : PutterState Flagged) (lin
       subst (λ (l : List LineStep). IsBetweenSteps b w after next l later) (sym whole)
       (step_flushed b v putter now there next front left step run last_script at_last steps_to w after later f)
 
-  window_stopped : (d : Denied) (w : PortValue) (met : PutterState Flagged) → DeniesCut d v w now met → StopsLine d b.scene b.phase b.port w met next
+  window_stopped : (d : Denied) (w : PortValue) (met : PutterState Flagged) → DeniesCut d v w now met → StopsLineIn HasAnyOrder d b.scene b.phase b.port w met next
   window_stopped d w met h = stops_at_cut d b v w putter now met there next front left step last_script at_last.in_line steps_to h
 
 -- ---- with the flush that follows

@@ -13,7 +13,7 @@ use Rattle.tty_calls.specs.Sessions.{call_at, counts_on}
 use Rattle.tty_terminal.specs.declared.callers.Piece.{Piece}
 use Rattle.tty_terminal.specs.Terminals.{Terminal, caller_at}
 use Rattle.tty_terminal.specs.Receiving.{accepts, after_characters}
-use Rattle.tty_terminal.specs.Steps.{follows, nothing_to_flush}
+use Rattle.tty_terminal.specs.Steps.{follows}
 use Rattle.tty_terminal.specs.Runs.{is_flush, RunHas}
 use Rattle.tty_terminal.specs.Marks.{Marks, marks_of, marks_after}
 use Rattle.tty_terminal.specs.Standing.{Standing, standing_of, standing_after}
@@ -24,15 +24,15 @@ use Rattle.tty_terminal.proofs.Runs.{run_in_line}
 use Rattle.journal_check.specs.Legal.{first_step}
 use Rattle.port_core.specs.Flips.{shown_count}
 use Rattle.port_core.specs.Flushes.{Takes}
-use Rattle.port_core.specs.Ports.{PlainKept, PortValue, IsPort, call_in, Appends, phase_entry, flush_entry}
-use Rattle.one_thread.specs.Order.{IsPiece, is_most, is_after_flush, can_go_on, is_waiting, is_of_consoles}
+use Rattle.port_core.specs.Ports.{PlainKept, PortValue, IsPort, Appends, phase_entry, flush_entry}
+use Rattle.one_thread.specs.Order.{IsPiece, is_most, is_after_flush}
 use Rattle.one_thread.specs.Roles.{Scene, calls_in, role_in, AreRolesOf}
-use Rattle.one_thread.specs.Stages.{place_of, RunsBelow}
-use Rattle.one_thread.specs.Turns.{role_numbers, turn_with, IsTurn, standing_at, standing_at_rest, IsInRole, IsKept, HasCallers, next_run, HasRuns, Plays, PlaysOn}
+use Rattle.one_thread.specs.Stages.{place_of, HasAnyOrder, RunsBelow}
+use Rattle.one_thread.specs.Turns.{role_numbers, turn_with, IsPossible, standing_at, standing_at_rest, IsInRole, IsKept, HasCallers, next_run, HasRuns, PlaysIn, TakesTurn}
 use Rattle.one_thread.specs.declared.roles.Role.{Role}
 use Rattle.one_thread.specs.declared.after_line.Stand.{Stand}
 use Rattle.one_thread.specs.declared.after_line.Turn.TheVariants as turn
-use Rattle.one_thread.proofs.Ranks.{clock_turn, flusher_turn}
+use Rattle.one_thread.proofs.Possible.{flush_view, pass_view}
 use Rattle.one_thread.proofs.Entries.{IsMore, more_of, place_is, plays_more}
 use Rattle.journal_check.proofs.Truths.{if_true, when_true}
 
@@ -112,42 +112,39 @@ marks_at s v w e more = ap (λ (t : Terminal). marks_of t) more.terminal ∙ ste
 
 -- ---- ticks, and the end of the clock
 
-settled_callers : (s : Scene) (scripts : List Script) (roles : List Role) (v : PortValue) (stand : Stand) → Plays s scripts roles v stand → stand.going ≡ None → HasCallers s scripts roles v None
+settled_callers : (s : Scene) (scripts : List Script) (roles : List Role) (v : PortValue) (stand : Stand) → PlaysIn HasAnyOrder s scripts roles v stand → stand.going ≡ None → HasCallers s scripts roles v None
 settled_callers s scripts roles v stand plays none = subst (λ (g : Option ℕ). HasCallers s scripts roles v g) none plays.callers
 
-pub clock_turn_of : (clock_first : Bool) (v : PortValue) (numbers : List ℕ) (going : Option ℕ) → IsTurn clock_first v numbers going turn.Pass → (going ≡ None) × (v.terminal.clock_over ≡ false)
-clock_turn_of clock_first v numbers going is = clock_turn numbers going clock_first (nothing_to_flush v.terminal) v.terminal.clock_over (can_go_on (call_in v.kept) v.terminal) (is_waiting v.terminal) is.who
-
-pub clock_over_more : (s : Scene) (scripts : List Script) (roles : List Role) (v w : PortValue) (stand : Stand) → Plays s scripts roles v stand → IsTurn (is_of_consoles s.session) v (role_numbers roles) stand.going turn.Pass → stand.ticks ≡ 0
-    → Appends v w v.flip (phase_entry v Clock clock_ended) → PlaysOn s scripts roles v w stand (record { run = next_run stand.run stand.part; part = 0; ticks = stand.ticks; going = None })
-clock_over_more s scripts roles v w stand plays is none_left appends =
+pub clock_over_more : (s : Scene) (scripts : List Script) (roles : List Role) (v w : PortValue) (stand : Stand) → PlaysIn HasAnyOrder s scripts roles v stand → IsPossible v (role_numbers roles) stand.going turn.Pass → stand.ticks ≡ 0
+    → Appends v w v.flip (phase_entry v Clock clock_ended) → TakesTurn s scripts roles v w stand (record { run = next_run stand.run stand.part; part = 0; ticks = stand.ticks; going = None }) turn.Pass
+clock_over_more s scripts roles v w stand plays possible none_left appends =
     let e : PlainEntry = phase_entry v Clock clock_ended in
     let more = more_of s v w v.kept v.flip e plays.of_scene.counts plays.of_scene.known appends refl refl in
     let marks = marks_at s v w e more in
-    let turn = clock_turn_of (is_of_consoles s.session) v (role_numbers roles) stand.going is in
-    plays_more s scripts roles v w stand (record { run = next_run stand.run stand.part; part = 0; ticks = stand.ticks; going = None }) e plays more tt is.who tt refl
+    let clock = pass_view v (role_numbers roles) stand.going possible in
+    plays_more s scripts roles v w stand (record { run = next_run stand.run stand.part; part = 0; ticks = stand.ticks; going = None }) turn.Pass e plays more tt refl tt refl
     (ap (λ (m : Marks). m.phase) marks) (ap (λ (m : Marks). m.line_over) marks) (ap (λ (m : Marks). m.sent) marks) (λ over. none_left)
     (ap (λ (m : Marks). m.tick + stand.ticks) marks)
     (runs_rest v w (place_of s v.journal).before stand.run stand.part e plays.runs more.journal (ap (λ (m : Marks). m.latest) marks) refl)
-    (callers_same s scripts roles v w (settled_callers s scripts roles v stand plays turn.0) (ap (λ (m : Marks). m.phase) marks) (ap (λ (x : PortValue). x.kept) appends.appended) (stands_at s v w e more))
+    (callers_same s scripts roles v w (settled_callers s scripts roles v stand plays clock.0) (ap (λ (m : Marks). m.phase) marks) (ap (λ (x : PortValue). x.kept) appends.appended) (stands_at s v w e more))
     (λ other. refl)
 
-pub tick_more : (s : Scene) (scripts : List Script) (roles : List Role) (v w : PortValue) (stand rested : Stand) → Plays s scripts roles v stand → IsTurn (is_of_consoles s.session) v (role_numbers roles) stand.going turn.Pass → stand.ticks ≢ 0
+pub tick_more : (s : Scene) (scripts : List Script) (roles : List Role) (v w : PortValue) (stand rested : Stand) → PlaysIn HasAnyOrder s scripts roles v stand → IsPossible v (role_numbers roles) stand.going turn.Pass → stand.ticks ≢ 0
     → Appends v w v.flip (phase_entry v Clock ticked) → rested ≡ record { run = next_run stand.run stand.part; part = 0; ticks = stand.ticks; going = None }
-    → PlaysOn s scripts roles v w stand (record { run = rested.run; part = rested.part; ticks = stand.ticks - 1; going = rested.going })
-tick_more s scripts roles v w stand rested plays is some_left appends rest =
+    → TakesTurn s scripts roles v w stand (record { run = rested.run; part = rested.part; ticks = stand.ticks - 1; going = rested.going }) turn.Pass
+tick_more s scripts roles v w stand rested plays possible some_left appends rest =
     let e : PlainEntry = phase_entry v Clock ticked in
     let more = more_of s v w v.kept v.flip e plays.of_scene.counts plays.of_scene.known appends refl refl in
     let marks = marks_at s v w e more in
-    let turn = clock_turn_of (is_of_consoles s.session) v (role_numbers roles) stand.going is in
+    let clock = pass_view v (role_numbers roles) stand.going possible in
     let one_more : w.terminal.tick ≡ v.terminal.tick + 1 = ap (λ (m : Marks). m.tick) marks in
     let same_clock : w.terminal.clock_over ≡ v.terminal.clock_over = ap (λ (m : Marks). m.clock_over) marks in
-    subst (λ (r : Stand). PlaysOn s scripts roles v w stand (record { run = r.run; part = r.part; ticks = stand.ticks - 1; going = r.going })) (sym rest)
-    (plays_more s scripts roles v w stand (record { run = next_run stand.run stand.part; part = 0; ticks = stand.ticks - 1; going = None }) e plays more tt is.who tt refl
-    (ap (λ (m : Marks). m.phase) marks) (ap (λ (m : Marks). m.line_over) marks) (ap (λ (m : Marks). m.sent) marks) (λ over. absurd (false≢true (sym turn.1 ∙ (sym same_clock ∙ over))))
+    subst (λ (r : Stand). TakesTurn s scripts roles v w stand (record { run = r.run; part = r.part; ticks = stand.ticks - 1; going = r.going }) turn.Pass) (sym rest)
+    (plays_more s scripts roles v w stand (record { run = next_run stand.run stand.part; part = 0; ticks = stand.ticks - 1; going = None }) turn.Pass e plays more tt refl tt refl
+    (ap (λ (m : Marks). m.phase) marks) (ap (λ (m : Marks). m.line_over) marks) (ap (λ (m : Marks). m.sent) marks) (λ over. absurd (false≢true (sym clock.1 ∙ (sym same_clock ∙ over))))
     (let sums : w.terminal.tick + (stand.ticks - 1) ≡ v.terminal.tick + stand.ticks = omega arith in sums)
     (runs_rest v w (place_of s v.journal).before stand.run stand.part e plays.runs more.journal (ap (λ (m : Marks). m.latest) marks) refl)
-    (callers_same s scripts roles v w (settled_callers s scripts roles v stand plays turn.0) (ap (λ (m : Marks). m.phase) marks) (ap (λ (x : PortValue). x.kept) appends.appended) (stands_at s v w e more))
+    (callers_same s scripts roles v w (settled_callers s scripts roles v stand plays clock.0) (ap (λ (m : Marks). m.phase) marks) (ap (λ (x : PortValue). x.kept) appends.appended) (stands_at s v w e more))
     (λ other. refl))
 
 -- ---- a flush
@@ -174,9 +171,6 @@ runs_flush v w before run part chars runs more latest same =
   where
     after_some : (n : ℕ) → true ≡ not (n + 1 == 0)
     after_some n = grind (arith, nat_tests)
-
-pub flush_turn_of : (clock_first : Bool) (v : PortValue) (numbers : List ℕ) (going : Option ℕ) → IsTurn clock_first v numbers going turn.Flush → (going ≡ None) × (nothing_to_flush v.terminal ≡ false)
-flush_turn_of clock_first v numbers going is = flusher_turn numbers going clock_first (nothing_to_flush v.terminal) v.terminal.clock_over (can_go_on (call_in v.kept) v.terminal) (is_waiting v.terminal) is.who
 
 most_case : (len taken sent : ℕ) (accepting : Bool) → ((len ≡ 64) ⊎ ((taken + len ≡ sent) ⊎ (accepting ≡ false))) → ((len == 64) || ((taken + len == sent) || not accepting)) ≡ true
 most_case len taken sent accepting h =
@@ -216,13 +210,13 @@ not_twice : (a b : Bool) → a ≡ not b → b ≡ not a
 not_twice a true e = sym (ap (λ (x : Bool). not x) e)
 not_twice a false e = sym (ap (λ (x : Bool). not x) e)
 
-pub flush_more : (s : Scene) (scripts : List Script) (roles : List Role) (v w : PortValue) (stand : Stand) (n : ℕ) → Plays s scripts roles v stand → IsPort v → IsTurn (is_of_consoles s.session) v (role_numbers roles) stand.going turn.Flush
-    → Takes v w stand.run stand.part 64 n → PlaysOn s scripts roles v w stand (record { run = stand.run; part = stand.part + 1; ticks = stand.ticks; going = stand.going })
-flush_more s scripts roles v w stand n plays port is takes =
+pub flush_more : (s : Scene) (scripts : List Script) (roles : List Role) (v w : PortValue) (stand : Stand) (n : ℕ) → PlaysIn HasAnyOrder s scripts roles v stand → IsPort v → IsPossible v (role_numbers roles) stand.going turn.Flush
+    → Takes v w stand.run stand.part 64 n → TakesTurn s scripts roles v w stand (record { run = stand.run; part = stand.part + 1; ticks = stand.ticks; going = stand.going }) turn.Flush
+flush_more s scripts roles v w stand n plays port possible takes =
     let e : PlainEntry = flush_entry v stand.run stand.part takes.chars in
     let more = more_of s v w v.kept w.flip e plays.of_scene.counts plays.of_scene.known takes.appends takes.takes_out.capacity takes.takes_out.ring in
     let marks = marks_at s v w e more in
-    let turn = flush_turn_of (is_of_consoles s.session) v (role_numbers roles) stand.going is in
+    let settled = (flush_view v (role_numbers roles) stand.going possible).0 in
     let at = place_is s v plays.run in
     let taken = run_in_line (call_at s.port s.session) (counts_on s.port s.session) _ v.journal v.terminal plays.run plays.line in
     let most = most_of v w stand.run stand.part n port plays.line taken takes (ap (λ (t : Terminal). accepts t) more.terminal) in
@@ -232,10 +226,10 @@ flush_more s scripts roles v w stand n plays port is takes =
     let generation : w.terminal.generation ≡ v.terminal.generation =
     ap (λ (t : Terminal). t.generation) more.terminal ∙ step_generation (call_at s.port s.session) (counts_on s.port s.session) v.terminal e more.allowed in
     let callers =
-    callers_same s scripts roles v w (settled_callers s scripts roles v stand plays turn.0) (ap (λ (m : Marks). m.phase) marks) (ap (λ (x : PortValue). x.kept) takes.appends.appended) (stands_at s v w e more) in
-    plays_more s scripts roles v w stand (record { run = stand.run; part = stand.part + 1; ticks = stand.ticks; going = stand.going }) e plays more tt is.who piece refl
+    callers_same s scripts roles v w (settled_callers s scripts roles v stand plays settled) (ap (λ (m : Marks). m.phase) marks) (ap (λ (x : PortValue). x.kept) takes.appends.appended) (stands_at s v w e more) in
+    plays_more s scripts roles v w stand (record { run = stand.run; part = stand.part + 1; ticks = stand.ticks; going = stand.going }) turn.Flush e plays more tt refl piece refl
     (ap (λ (m : Marks). m.phase) marks) (ap (λ (m : Marks). m.line_over) marks) (ap (λ (m : Marks). m.sent) marks) (λ over. plays.clock (sym (ap (λ (m : Marks). m.clock_over) marks) ∙ over))
     (ap (λ (m : Marks). m.tick + stand.ticks) marks)
     (runs_flush v w (place_of s v.journal).before stand.run stand.part takes.chars plays.runs more.journal (ap (λ (m : Marks). m.latest) marks) generation)
-    (subst (λ (g : Option ℕ). HasCallers s scripts roles w g) (sym turn.0) callers)
-    (λ other. sym (ap (λ (g : Option ℕ). turn_with (role_numbers roles) g other) turn.0))
+    (subst (λ (g : Option ℕ). HasCallers s scripts roles w g) (sym settled) callers)
+    (λ other. sym (ap (λ (g : Option ℕ). turn_with (role_numbers roles) g other) settled))

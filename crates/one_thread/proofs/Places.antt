@@ -13,6 +13,10 @@ pub place_more : (calls : ℕ → ℕ → Option PlainCall) (s : Place) (es : Li
 place_more calls s [] e = refl
 place_more calls s (x ∷ es) e = place_more calls (next_place calls s x) es e
 
+pub place_both : (calls : ℕ → ℕ → Option PlainCall) (s : Place) (es part : List PlainEntry) → place_after calls s (es ++ part) ≡ place_after calls (place_after calls s es) part
+place_both calls s [] part = refl
+place_both calls s (x ∷ es) part = place_both calls (next_place calls s x) es part
+
 pub turns_more : (p : ℕ) (session : PlainSession) (s : Place) (es : List PlainEntry) (e : PlainEntry) → AreInTurn p session s es → IsInTurn p session (place_after (call_at p session) s es) e → AreInTurn p session s (es ++ e ∷ [])
 turns_more p session s [] e turns turn = (turn, tt)
 turns_more p session s (x ∷ es) e turns turn = (turns.0, turns_more p session (next_place (call_at p session) s x) es e turns.1 turn)

@@ -34,11 +34,12 @@ use Rattle.port_core.specs.Ports.{PortValue, IsPort, call_in, hangup_entry}
 use Rattle.port_core.specs.Phases.{HangsUp}
 use Rattle.one_thread.specs.Order.{Place, first_place, turn, AreInTurn, IsPieceOf, AllSeeAll}
 use Rattle.one_thread.specs.Roles.{Scene, names_in, AreFirstSteps}
-use Rattle.one_thread.specs.Stages.{place_of, caller_at_rest, IsOfScene}
-use Rattle.one_thread.specs.Lines.{HasPut, IsAtPhase}
+use Rattle.one_thread.specs.Stages.{place_of, caller_at_rest, HasAnyOrder, HasOneOrder, IsOfSceneIn, IsOfScene}
+use Rattle.one_thread.specs.Lines.{HasPut, IsAtPhaseIn, IsAtPhase}
 use Rattle.one_thread.specs.Played.{IsPlayedOn, ArePlayed, IsRunInOrder, AreInOneOrder}
-use Rattle.one_thread.specs.Phases.{phase_count, HasFewTicks, HavePlayed, HaveSeenAll, HavePlayedInOrder, IsPortOf, IsFullRun, IsAtEnd, IsLeftOf, AreFirstPlayed}
-use Rattle.one_thread.proofs.Places.{leads_place, turns_more}
+use Rattle.one_thread.specs.Phases.{phase_count, HasFewTicks, HavePlayed, HaveSeenAll, HavePlayedInOrder, IsPortOf, IsFullRun, IsAtEnd, IsLeftOf, EndsRun, AreFirstPlayed}
+use Rattle.one_thread.proofs.Places.{leads_place}
+use Rattle.one_thread.proofs.Orders.{order_goes_on}
 use Rattle.one_thread.proofs.JournalLemmas.{one_if, all_phases_after, up_after, ticks_both, leads_both}
 use Rattle.one_thread.proofs.ReceivedLemmas.{script_whole, kept_front, overruns_within, all_counted, list_grows}
 use Rattle.journal_check.proofs.NameLemmas.{no_calls_yet}
@@ -54,7 +55,7 @@ run_of_scene s v counts capacity run =
     subst (λ (cs : List ℕ). IsRun (call_at s.port s.session) cs (flip_on s.port s.session) v.journal v.terminal) counts
     (subst (λ n. IsRun (call_at s.port s.session) v.counts n v.journal v.terminal) capacity run)
 
-place_terminal : (s : Scene) (v : PortValue) → IsOfScene s v → IsPort v → (place_of s v.journal).terminal ≡ v.terminal
+place_terminal : {HasOrder : Scene → List PlainEntry → Type 0} (s : Scene) (v : PortValue) → IsOfSceneIn HasOrder s v → IsPort v → (place_of s v.journal).terminal ≡ v.terminal
 place_terminal s v of_scene port =
     let grown = leads_grown (call_in v.kept) (call_at s.port s.session) v.counts (opening (sum v.counts) v.flip.capacity) v.journal v.terminal of_scene.known port.run in
     leads_place (call_at s.port s.session) (counts_on s.port s.session) (first_place s.port s.session) (first_place s.port s.session).terminal v.journal v.terminal refl (run_of_scene s v of_scene.counts of_scene.capacity grown)
@@ -77,7 +78,7 @@ hangup_ticks s journal e dropped ends few j =
 
 -- ---- the run of a scene
 
-pub port_of_scene : (s : Scene) (v : PortValue) → IsOfScene s v → IsPortOf s v
+pub port_of_scene : {HasOrder : Scene → List PlainEntry → Type 0} (s : Scene) (v : PortValue) → IsOfSceneIn HasOrder s v → IsPortOf s v
 port_of_scene s v h = record {
   counts = h.counts;
   capacity = h.capacity;
@@ -160,13 +161,12 @@ is_past_all : (n m : ℕ) → n ≡ m → m ≤ n
 is_past_all n m h = omega (arith, h)
 
 -- the hangup stands in its turn
-hangup_in_turn : (s : Scene) (v : PortValue) (e : PlainEntry) (dropped : List Flagged) → IsOfScene s v → IsPort v → v.terminal.phase ≡ length s.session.phases → e.who ≡ Session → e.event ≡ hung_up dropped
-    → AreInTurn s.port s.session (first_place s.port s.session) (v.journal ++ e ∷ [])
+hangup_in_turn : (s : Scene) (v : PortValue) (e : PlainEntry) (dropped : List Flagged) → IsOfSceneIn HasAnyOrder s v → IsPort v → v.terminal.phase ≡ length s.session.phases → e.who ≡ Session → e.event ≡ hung_up dropped
+    → AreInTurn s.port s.session (place_of s v.journal) (e ∷ [])
 hangup_in_turn s v e dropped of_scene port past who event =
     let there = place_terminal s v of_scene port in
     let phase : length s.session.phases ≤ (place_of s v.journal).terminal.phase = is_past_all (place_of s v.journal).terminal.phase (length s.session.phases) (ap (λ (t : Terminal). t.phase) there ∙ past) in
-    turns_more s.port s.session (first_place s.port s.session) v.journal e of_scene.turns
-    (record { by_turn = who ∙ sym (session_turn s.port s.session (place_of s v.journal) phase); piece = subst (λ (x : PlainEvent). IsPieceOf s.port s.session (place_of s v.journal) e.part x) (sym event) tt })
+    (record { by_turn = who ∙ sym (session_turn s.port s.session (place_of s v.journal) phase); piece = subst (λ (x : PlainEvent). IsPieceOf s.port s.session (place_of s v.journal) e.part x) (sym event) tt }, tt)
 
 -- the journal with the hangup is on the way
 hung_on_the_way : (s : Scene) (v w : PortValue) (now : PutterState Flagged) → v.counts ≡ counts_on s.port s.session → IsOnTheWay s.port s.session v.journal v.terminal → IsPort w → HangsUp v w now → IsOnTheWay s.port s.session w.journal w.terminal
@@ -252,17 +252,29 @@ hung_played s v flip putter now w line run end at_end port same hang left =
       legal = λ other. record { on_the_way = way; account = account };
     }
 
-pub hung_in_order : (s : Scene) (v : PortValue) (flip : TakerState Flagged) (now : PutterState Flagged) (w : PortValue) (line : LineState) (run : PortRun) (end : PortEnd)
-    → IsOfScene s v → IsPort v → v.terminal.phase ≡ length s.session.phases → HaveSeenAll s v.journal line.report.overruns.items → HangsUp (record v { flip = flip }) w now → IsLeftOf w line run end → IsRunInOrder s.port s.session run
-hung_in_order s v flip now w line run end of_scene port past see_all hang left =
+pub hung_ends : (s : Scene) (v : PortValue) (flip : TakerState Flagged) (now : PutterState Flagged) (w : PortValue) (line : LineState) (run : PortRun) (end : PortEnd)
+    → IsOfSceneIn HasAnyOrder s v → IsPort v → v.terminal.phase ≡ length s.session.phases → HangsUp (record v { flip = flip }) w now → IsLeftOf w line run end → EndsRun s v.journal line.report.overruns.items run
+hung_ends s v flip now w line run end of_scene port past hang left =
     let e : PlainEntry = hangup_entry (record v { flip = flip }) hang.dropped in
-    let entries : run.journal.items ≡ v.journal ++ e ∷ [] = left.journal ∙ ap (λ (x : PortValue). x.journal) hang.appends.appended in
-    let overruns : run.line.overruns.items ≡ line.report.overruns.items = ap (λ (r : LineReport). r.overruns.items) left.report in
-    let turns : AreInTurn s.port s.session (first_place s.port s.session) run.journal.items =
-    subst (λ (es : List PlainEntry). AreInTurn s.port s.session (first_place s.port s.session) es) (sym entries) (hangup_in_turn s v e hang.dropped of_scene port past refl refl) in
     record {
-      turns = turns;
-      whole = λ other. record { turns = turns; seen = subst (λ (es : List PlainEntry). AllSeeAll s.port s.session es run.line.overruns.items) (sym entries) (subst (λ (os : List Overrun). AllSeeAll s.port s.session (v.journal ++ e ∷ []) os) (sym overruns) (see_all (e ∷ []))) };
+      part = e ∷ [];
+      added = left.journal ∙ ap (λ (x : PortValue). x.journal) hang.appends.appended;
+      in_turn = hangup_in_turn s v e hang.dropped of_scene port past refl refl;
+      overruns_are = ap (λ (r : LineReport). r.overruns.items) left.report;
+    }
+
+-- a port whose journal is full
+pub full_ends : (s : Scene) (journal : List PlainEntry) (v : PortValue) (line : LineState) (run : PortRun) (end : PortEnd) → v.journal ≡ journal → IsLeftOf v line run end → EndsRun s journal line.report.overruns.items run
+full_ends s journal v line run end same left =
+    record { part = []; added = left.journal ∙ (same ∙ sym (append-nil journal)); in_turn = tt; overruns_are = ap (λ (r : LineReport). r.overruns.items) left.report }
+
+-- a run that ends so is in the order of one thread, where its journal was
+pub ends_in_order : (s : Scene) (journal : List PlainEntry) (overruns : List Overrun) (run : PortRun) → HasOneOrder s journal → HaveSeenAll s journal overruns → EndsRun s journal overruns run → IsRunInOrder s.port s.session run
+ends_in_order s journal overruns run turns see_all h =
+    let all : HasOneOrder s run.journal.items = order_goes_on s journal run.journal.items h.part h.added turns h.in_turn in
+    record {
+      turns = all;
+      whole = λ other. record { turns = all; seen = subst (λ (es : List PlainEntry). AllSeeAll s.port s.session es run.line.overruns.items) (sym h.added) (subst (λ (os : List Overrun). AllSeeAll s.port s.session (journal ++ h.part) os) (sym h.overruns_are) (see_all h.part)) };
     }
 
 -- a port whose journal is full kept the order as far as it went
@@ -332,10 +344,10 @@ pub no_first_steps : (s : Scene) (n : ℕ) → n ≡ length (names_in s) → Are
 no_first_steps s n h = record { count = length-replicate n 0 ∙ h; each = λ c. no_steps n c ∙ sym (first_none s.port s.session c) }
 
 -- a port that has come to the end of its phases can be hung up
-pub phases_over : (s : Scene) (v : PortValue) (putter : PutterState Flagged) (line : LineState) (run : ℕ) → IsAtPhase s (length s.session.phases) v putter line run → v.terminal.phase ≡ length v.counts
+pub phases_over : {HasOrder : Scene → List PlainEntry → Type 0} (s : Scene) (v : PortValue) (putter : PutterState Flagged) (line : LineState) (run : ℕ) → IsAtPhaseIn HasOrder s (length s.session.phases) v putter line run → v.terminal.phase ≡ length v.counts
 phases_over s v putter line run h = h.phase ∙ sym (ap (λ (xs : List ℕ). length xs) h.of_scene.counts ∙ length-map s.session.phases (λ phase. length (scripts_on s.port phase)))
 
-pub at_end_of : (s : Scene) (v : PortValue) (putter : PutterState Flagged) (line : LineState) (run : ℕ) → IsAtPhase s (length s.session.phases) v putter line run → HavePlayed s (length s.session.phases) v.journal line.report.overruns.items → IsAtEnd s v putter line
+pub at_end_of : {HasOrder : Scene → List PlainEntry → Type 0} (s : Scene) (v : PortValue) (putter : PutterState Flagged) (line : LineState) (run : ℕ) → IsAtPhaseIn HasOrder s (length s.session.phases) v putter line run → HavePlayed s (length s.session.phases) v.journal line.report.overruns.items → IsAtEnd s v putter line
 at_end_of s v putter line run h played = record { port_of = port_of_scene s v h.of_scene; has_put = h.has_put; played = played }
 
 -- ---- port after port

@@ -5,7 +5,7 @@ use Rattle.std.proofs.lemmas.List.{drop_more, get_or-map, length-map}
 use Rattle.tty_calls.specs.declared.journals.Who.{Who}
 use Rattle.tty_calls.specs.declared.journals.Who.TheVariants.{Caller, Flusher, Clock, Session}
 use Rattle.one_thread.specs.Order.{first_of}
-use Rattle.one_thread.specs.Turns.{role_numbers, turn_with, IsFirst, IsGoing}
+use Rattle.one_thread.specs.Turns.{role_numbers, turn_with, IsFirst, IsGoing, NoneIs}
 use Rattle.one_thread.specs.declared.roles.Role.{Role}
 use Rattle.journal_check.proofs.Truths.{if_false, if_true}
 
@@ -47,10 +47,6 @@ first_same p q (c ∷ cs) other h =
     λ j. if h 0 (omega arith) j then Caller c else rest j
 
 -- ---- what a turn says
-
--- none of them is such a one
-abbrev pub NoneIs : (ℕ → Bool) → List ℕ → Type 0
-NoneIs p cs = (i : ℕ) → i < length cs → p (slice_index cs i) ≡ false
 
 abbrev FirstView : (ℕ → Bool) → List ℕ → Who → Type 0
 FirstView p cs other = (NoneIs p cs × (first_of p cs other ≡ other)) ⊎ ((c : ℕ) × (p c ≡ true) × (first_of p cs other ≡ Caller c))
@@ -114,7 +110,7 @@ clock_turn numbers None clock_first true over p q e =
     ]
 
 -- all is over but callers that wait, of whom one may be asked for
-pub record NothingGoesOn (numbers : List ℕ) (going : Option ℕ) (idle over : Bool) (p : ℕ → Bool) : Type 0 where
+pub record AllRest (numbers : List ℕ) (going : Option ℕ) (idle over : Bool) (p : ℕ → Bool) : Type 0 where
   pub settled : going ≡ None
   pub idle_is : idle ≡ true
   pub over_is : over ≡ true
@@ -125,7 +121,7 @@ session_last q cs false e = absurd (cc)
 session_last q cs true e = elim (first_view q cs Session) [ inl h ↦ (refl, h.0) | inr h ↦ (let k = e ∙ h.2 in absurd (cc)) ]
 
 pub session_turn : (numbers : List ℕ) (going : Option ℕ) (clock_first idle over : Bool) (p q : ℕ → Bool) → Session ≡ turn_with numbers going (rank clock_first idle over p q numbers)
-    → NothingGoesOn numbers going idle over p × NoneIs q numbers
+    → AllRest numbers going idle over p × NoneIs q numbers
 session_turn numbers (Some i) clock_first idle over p q e = absurd (cc)
 session_turn numbers None clock_first false over p q e = absurd (cc)
 session_turn numbers None clock_first true over p q e =
@@ -140,12 +136,12 @@ session_turn numbers None clock_first true over p q e =
       ]
     ]
 
-same_caller : (c d : ℕ) → Caller c ≡ Caller d → c ≡ d
+pub same_caller : (c d : ℕ) → Caller c ≡ Caller d → c ≡ d
 same_caller c d e = cc
 
 -- a call that goes on, a caller that can go on, or one that waits in vain
 abbrev pub CallerView : List ℕ → Option ℕ → Bool → Bool → (ℕ → Bool) → (ℕ → Bool) → ℕ → Type 0
-CallerView numbers going idle over p q c = IsGoing numbers going c ⊎ (((going ≡ None) × (p c ≡ true)) ⊎ (NothingGoesOn numbers going idle over p × (q c ≡ true)))
+CallerView numbers going idle over p q c = IsGoing numbers going c ⊎ (((going ≡ None) × (p c ≡ true)) ⊎ (AllRest numbers going idle over p × (q c ≡ true)))
 
 caller_last : (q : ℕ → Bool) (cs : List ℕ) (over : Bool) (c : ℕ) → Caller c ≡ (if not over then Clock else first_of q cs Session) → (over ≡ true) × (q c ≡ true)
 caller_last q cs false c e = absurd (cc)

@@ -23,8 +23,8 @@ use Rattle.journal_check.specs.Phases.{HasPlayed, CompletesPhase}
 use Rattle.port_core.specs.Ports.{PortValue}
 use Rattle.one_thread.specs.Order.{Place, place_after, first_place, cuts_flushed}
 use Rattle.one_thread.specs.Roles.{Scene}
-use Rattle.one_thread.specs.Stages.{place_of, AreAtFirst, IsOfScene, EndsAfterLine, StopsAfterLine}
-use Rattle.one_thread.specs.Lines.{HasPut, IsAtPhase, PlaysLine, StopsInLine, StopsLine}
+use Rattle.one_thread.specs.Stages.{place_of, AreAtFirst, IsOfSceneIn, EndsAfterLineIn, StopsAfterLine}
+use Rattle.one_thread.specs.Lines.{HasPut, IsAtPhaseIn, IsAtPhase, PlaysLineIn, PlaysLine, StopsInLineIn, StopsLine}
 use Rattle.one_thread.specs.Phases.{HasFewTicks, HavePlayed, HavePlayedInOrder, IsFullRun, StopsFull}
 use Rattle.one_thread.proofs.Places.{place_more}
 use Rattle.one_thread.proofs.JournalLemmas.{none_ends, leads_both, stops_within}
@@ -66,21 +66,21 @@ same_put v w putter now line steps put same ring capacity =
       room = put.room;
     })
 
-same_capacity : (s : Scene) (v w : PortValue) → IsOfScene s v → IsOfScene s w → w.flip.capacity ≡ v.flip.capacity
+same_capacity : {HasOrder : Scene → List PlainEntry → Type 0} (s : Scene) (v w : PortValue) → IsOfSceneIn HasOrder s v → IsOfSceneIn HasOrder s w → w.flip.capacity ≡ v.flip.capacity
 same_capacity s v w old new = new.capacity ∙ sym old.capacity
 
 -- ---- the end of a phase
 
-end_phase : (s : Scene) (k : ℕ) (old mid : PortValue) (now : PutterState Flagged) (line played : LineState) (run : ℕ) (new : PortValue) (left : PutterState Flagged) (next : ℕ)
-    → PlaysLine s k old mid now line played run → (ends : EndsAfterLine s mid new now left next) → ends.terminal.phase ≡ k
+end_phase : {HasOrder : Scene → List PlainEntry → Type 0} (s : Scene) (k : ℕ) (old mid : PortValue) (now : PutterState Flagged) (line played : LineState) (run : ℕ) (new : PortValue) (left : PutterState Flagged) (next : ℕ)
+    → PlaysLineIn HasOrder s k old mid now line played run → (ends : EndsAfterLineIn HasOrder s mid new now left next) → ends.terminal.phase ≡ k
 end_phase s k old mid now line played run new left next plays ends =
     let stays = phase_stays (call_at s.port s.session) (counts_on s.port s.session) mid.terminal ends.part ends.terminal ends.leads in
     let none = none_ends ends.part ends.inside in
     let here = plays.phase in
     omega (arith, stays, none, here)
 
-pub at_next_phase : (s : Scene) (k : ℕ) (old mid new : PortValue) (putter now left : PutterState Flagged) (line played : LineState) (run after_line next : ℕ)
-    → IsAtPhase s k old putter line run → PlaysLine s k old mid now line played after_line → EndsAfterLine s mid new now left next → IsAtPhase s (k + 1) new left played next
+pub at_next_phase : {HasOrder : Scene → List PlainEntry → Type 0} (s : Scene) (k : ℕ) (old mid new : PortValue) (putter now left : PutterState Flagged) (line played : LineState) (run after_line next : ℕ)
+    → IsAtPhaseIn HasOrder s k old putter line run → PlaysLineIn HasOrder s k old mid now line played after_line → EndsAfterLineIn HasOrder s mid new now left next → IsAtPhaseIn HasOrder s (k + 1) new left played next
 at_next_phase s k old mid new putter now left line played run after_line next before plays ends =
     let phase = end_phase s k old mid now line played after_line new left next plays ends in
     let capacity = same_capacity s old new before.of_scene ends.of_scene in
@@ -108,8 +108,8 @@ leads_on s t m u flushes last part h k =
     (leads_both (call_at s.port s.session) (counts_on s.port s.session) t (flushes ++ last ∷ []) m part u h k)
 
 -- the phase as it was played
-plays_part : (s : Scene) (k : ℕ) (old mid new : PortValue) (putter now left : PutterState Flagged) (line played : LineState) (run after_line next : ℕ)
-    → k < length s.session.phases → IsAtPhase s k old putter line run → (plays : PlaysLine s k old mid now line played after_line) → (ends : EndsAfterLine s mid new now left next)
+plays_part : {HasOrder : Scene → List PlainEntry → Type 0} (s : Scene) (k : ℕ) (old mid new : PortValue) (putter now left : PutterState Flagged) (line played : LineState) (run after_line next : ℕ)
+    → k < length s.session.phases → IsAtPhaseIn HasOrder s k old putter line run → (plays : PlaysLineIn HasOrder s k old mid now line played after_line) → (ends : EndsAfterLineIn HasOrder s mid new now left next)
     → PlaysPart s k old.terminal plays.flushes plays.last (length now.sent) ends.part ends.last ends.terminal
 plays_part s k old mid new putter now left line played run after_line next within before plays ends = record {
   within = within;
@@ -122,8 +122,8 @@ plays_part s k old mid new putter now left line played run after_line next withi
   tick = ends.tick ∙ ap (λ n. n + ticks_on s.port (phase_at s.session mid.terminal.phase)) plays.tick ∙ ap (λ n. old.terminal.tick + ticks_on s.port (phase_at s.session n)) plays.phase;
 }
 
-completes_phase : (s : Scene) (k : ℕ) (old mid new : PortValue) (putter now left : PutterState Flagged) (line played : LineState) (run after_line next : ℕ)
-    → IsAtPhase s k old putter line run → (plays : PlaysLine s k old mid now line played after_line) → (ends : EndsAfterLine s mid new now left next)
+completes_phase : {HasOrder : Scene → List PlainEntry → Type 0} (s : Scene) (k : ℕ) (old mid new : PortValue) (putter now left : PutterState Flagged) (line played : LineState) (run after_line next : ℕ)
+    → IsAtPhaseIn HasOrder s k old putter line run → (plays : PlaysLineIn HasOrder s k old mid now line played after_line) → (ends : EndsAfterLineIn HasOrder s mid new now left next)
     → (more : List Overrun) → All (λ o. received_before s.port s.session (k + 1) ≤ o.at) more → CompletesPhase s.port s.session (played.report.overruns.items ++ more) k old.terminal ends.terminal
 completes_phase s k old mid new putter now left line played run after_line next before plays ends more later =
     let list : List Flagged = received_list (script_of_first s.port s.session (k + 1)) in
@@ -144,8 +144,8 @@ journal_after journal mid new flushes last part end is ends =
     ends ∙ ap (λ (x : List PlainEntry). x ++ (part ++ end ∷ [])) is ∙ append_assoc journal (flushes ++ last ∷ []) (part ++ end ∷ [])
     ∙ ap (λ (x : List PlainEntry). journal ++ x) (sym (append_assoc (flushes ++ last ∷ []) part (end ∷ []))) ∙ ap (λ (x : List PlainEntry). journal ++ (x ++ end ∷ [])) (append_assoc flushes (last ∷ []) part)
 
-pub played_phase : (s : Scene) (k : ℕ) (old mid new : PortValue) (putter now left : PutterState Flagged) (line played : LineState) (run after_line next : ℕ)
-    → k < length s.session.phases → IsAtPhase s k old putter line run → HavePlayedInOrder s k old.journal line.report.overruns.items → PlaysLine s k old mid now line played after_line → EndsAfterLine s mid new now left next
+pub played_phase : {HasOrder : Scene → List PlainEntry → Type 0} (s : Scene) (k : ℕ) (old mid new : PortValue) (putter now left : PutterState Flagged) (line played : LineState) (run after_line next : ℕ)
+    → k < length s.session.phases → IsAtPhaseIn HasOrder s k old putter line run → HavePlayedInOrder s k old.journal line.report.overruns.items → PlaysLineIn HasOrder s k old mid now line played after_line → EndsAfterLineIn HasOrder s mid new now left next
     → HavePlayedInOrder s (k + 1) new.journal played.report.overruns.items
 played_phase s k old mid new putter now left line played run after_line next within before so_far plays ends =
     let part = plays_part s k old mid new putter now left line played run after_line next within before plays ends in
@@ -167,8 +167,8 @@ script_left s k steps left h =
     script_parts s.port s.session (k + 1) ∙ ap (λ (x : List LineStep). x ++ script (map (line_on s.port) (drop (k + 1) s.session.phases))) h
     ∙ append_assoc steps left (script (map (line_on s.port) (drop (k + 1) s.session.phases)))
 
-full_in_line : (s : Scene) (k : ℕ) (old new : PortValue) (putter now : PutterState Flagged) (line played : LineState) (run : ℕ)
-    → k < length s.session.phases → IsAtPhase s k old putter line run → HavePlayed s k old.journal line.report.overruns.items → StopsInLine s k old new now played → IsFullRun s new now played
+full_in_line : {HasOrder : Scene → List PlainEntry → Type 0} (s : Scene) (k : ℕ) (old new : PortValue) (putter now : PutterState Flagged) (line played : LineState) (run : ℕ)
+    → k < length s.session.phases → IsAtPhaseIn HasOrder s k old putter line run → HavePlayed s k old.journal line.report.overruns.items → StopsInLineIn HasOrder s k old new now played → IsFullRun s new now played
 full_in_line s k old new putter now line played run within before so_far stops = record {
   full = stops.full;
   ticks = subst (HasFewTicks s) (sym stops.added)
@@ -209,7 +209,7 @@ full_after_line s k old mid new putter now left line played run after_line withi
 
 -- ---- the player's exits
 
-pub room_for_line : (s : Scene) (k : ℕ) (v : PortValue) (putter : PutterState Flagged) (line : LineState) (run : ℕ) (steps : List LineStep) → IsAtPhase s k v putter line run → k < length s.session.phases → steps ≡ line_on s.port (phase_at s.session k)
+pub room_for_line : {HasOrder : Scene → List PlainEntry → Type 0} (s : Scene) (k : ℕ) (v : PortValue) (putter : PutterState Flagged) (line : LineState) (run : ℕ) (steps : List LineStep) → IsAtPhaseIn HasOrder s k v putter line run → k < length s.session.phases → steps ≡ line_on s.port (phase_at s.session k)
     → line.report.arrived + arrival_count steps ≤ line.most
 room_for_line s k v putter line run steps before within is =
     let fit = arrivals_fit s.port s.session k within in

@@ -1,6 +1,5 @@
 -- The entry of an attempt, and of the end of a caller's calls.
-use Rattle.std.proofs.Common.{◌≡◌, ℕ, List, ◌∷◌, [], ◌++◌, Bool, true, false, IsTrue, Option, Some, is_some, MatchBool, length, get_or, refl, sym, ◌∙◌, ap, subst, if◌then◌else◌, ◌==◌, ◌&&◌}
-use Rattle.std.specs.Prelude.{slice_get}
+use Rattle.std.proofs.Common.{◌≡◌, ℕ, List, ◌∷◌, [], ◌++◌, Bool, true, false, IsTrue, Option, Some, is_some, MatchBool, get_or, refl, sym, ◌∙◌, ap, subst, if◌then◌else◌, ◌==◌, ◌&&◌}
 use Rattle.std.proofs.lemmas.Bool.{false≢true}
 use Rattle.tty_base.specs.declared.characters.Flagged.{Flagged}
 use Rattle.word_ring.specs.Ends.{TakerState}
@@ -96,5 +95,5 @@ attempted roles v w stand place call d state tried h at attempts =
       role = r;
       at_place = h.next.at_place;
       attempts = made_at;
-      makes = made_by s scripts roles v w stand place r call tried (calls_of_next s scripts roles v stand place call h.in_turn.plays h.in_turn.is_turn h.next) made_at;
+      makes = made_by s scripts roles v w stand place r call tried (calls_of_next s scripts roles v stand place call h.in_turn.plays h.in_turn.possible h.next) made_at;
     }

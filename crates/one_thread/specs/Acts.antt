@@ -17,9 +17,9 @@ use Rattle.port_core.specs.Attempts.{PlainTried, Attempts}
 use Rattle.port_core.specs.Ports.{PortValue, call_in, Appends, end_entry}
 use Rattle.one_thread.specs.Order.{is_of_consoles}
 use Rattle.one_thread.specs.Roles.{Scene, calls_in}
-use Rattle.one_thread.specs.Stages.{EndsAfterLine}
-use Rattle.one_thread.specs.Lines.{IsAtPhase, PlaysLine, StopsLine}
-use Rattle.one_thread.specs.Turns.{role_numbers, standing_at, IsTurn, IsNextCall, Plays, PlaysOn}
+use Rattle.one_thread.specs.Stages.{HasAnyOrder, HasOneOrder, EndsAfterLineIn, EndsAfterLine}
+use Rattle.one_thread.specs.Lines.{IsAtPhaseIn, PlaysLineIn, PlaysLine, StopsLineIn, StopsLine}
+use Rattle.one_thread.specs.Turns.{role_numbers, standing_at, IsTurn, IsPossible, IsNextCall, PlaysIn, Plays, PlaysOn, TakesTurn}
 use Rattle.one_thread.specs.declared.roles.Role.{Role}
 use Rattle.one_thread.specs.declared.after_line.Stand.{Stand}
 use Rattle.one_thread.specs.declared.after_line.Turn.{Turn}
@@ -27,18 +27,28 @@ use Rattle.one_thread.specs.declared.after_line.Turn.TheVariants as turn
 
 -- ---- the line of a phase
 
--- a scene in whose phase this line begins
-pub record BeginsLine (steps : List LineStep) (v : PortValue) (putter : PutterState Flagged) (line : LineState) (run : ℕ) : Type 0 where
+-- a scene in whose phase this line begins, in an order
+pub record BeginsLineIn (HasOrder : Scene → List PlainEntry → Type 0) (steps : List LineStep) (v : PortValue) (putter : PutterState Flagged) (line : LineState) (run : ℕ) : Type 0 where
   pub scene : Scene
-  pub begins : IsAtPhase scene v.terminal.phase v putter line run
+  pub begins : IsAtPhaseIn HasOrder scene v.terminal.phase v putter line run
   pub within : v.terminal.phase < length scene.session.phases
   pub steps_are : steps ≡ line_on scene.port (phase_at scene.session v.terminal.phase)
 
+-- .. in whatever order; and in the order of one thread
+abbrev pub BeginsLine : List LineStep → PortValue → PutterState Flagged → LineState → (run : ℕ) → Type 0
+BeginsLine steps v putter line run = BeginsLineIn HasAnyOrder steps v putter line run
+
+abbrev pub BeginsInOrder : List LineStep → PortValue → PutterState Flagged → LineState → (run : ℕ) → Type 0
+BeginsInOrder steps v putter line run = BeginsLineIn HasOneOrder steps v putter line run
+
+-- the line is played in whatever order the phases before were, and in the order of one thread where they were
 pub record PlaysItsLine (steps : List LineStep) (old new : PortValue) (putter now : PutterState Flagged) (line played : LineState) (run next : ℕ) : Type 0 where
-  pub each : (h : BeginsLine steps old putter line run) → PlaysLine h.scene old.terminal.phase old new now line played next
+  pub each : (h : BeginsLine steps old putter line run) → PlaysLineIn HasAnyOrder h.scene old.terminal.phase old new now line played next
+  pub in_order : (h : BeginsInOrder steps old putter line run) → PlaysLine h.scene old.terminal.phase old new now line played next
 
 pub record StopsItsLine (d : Denied) (steps : List LineStep) (old new : PortValue) (putter now : PutterState Flagged) (line played : LineState) (run : ℕ) : Type 0 where
-  pub each : (h : BeginsLine steps old putter line run) → StopsLine d h.scene old.terminal.phase old new now played
+  pub each : (h : BeginsLine steps old putter line run) → StopsLineIn HasAnyOrder d h.scene old.terminal.phase old new now played
+  pub in_order : (h : BeginsInOrder steps old putter line run) → StopsLine d h.scene old.terminal.phase old new now played
 
 -- by steps of it: one flush more at most, and no call
 pub record FlushesOnce (old new : PortValue) : Type 0 where
@@ -60,17 +70,26 @@ pub record AddsEntry (old new : PortValue) : Type 0 where
   pub added : new.journal ≡ old.journal ++ entry ∷ []
   pub kept : new.kept ≡ old.kept
 
--- a scene that is played, with the scripts of the phase, in which it is this turn
+-- a scene that is played in whatever order, with the scripts of the phase, in which this turn can be taken
 pub record InTurn (roles : List Role) (v : PortValue) (stand : Stand) (next : Turn) : Type 0 where
+  pub scene : Scene
+  pub scripts : List Script
+  pub plays : PlaysIn HasAnyOrder scene scripts roles v stand
+  pub possible : IsPossible v (role_numbers roles) stand.going next
+
+-- a scene that is played in the order of one thread, with the scripts of the phase, in which it is this turn
+pub record InOrder (roles : List Role) (v : PortValue) (stand : Stand) (next : Turn) : Type 0 where
   pub scene : Scene
   pub scripts : List Script
   pub plays : Plays scene scripts roles v stand
   pub is_turn : IsTurn (is_of_consoles scene.session) v (role_numbers roles) stand.going next
 
+-- the turn is taken; and the order of one thread is kept where it is this turn
 pub record PlaysTurn (roles : List Role) (old new : PortValue) (before now : Stand) (next : Turn) : Type 0 where
-  pub each : (h : InTurn roles old before next) → PlaysOn h.scene h.scripts roles old new before now
+  pub each : (h : InTurn roles old before next) → TakesTurn h.scene h.scripts roles old new before now next
+  pub in_order : (h : InOrder roles old before next) → PlaysOn h.scene h.scripts roles old new before now
 
--- .. where this is the next call of the caller at a place, whose turn it is
+-- .. where this is the next call of the caller at a place, whose turn can be taken
 pub record InCall (roles : List Role) (v : PortValue) (stand : Stand) (place : ℕ) (call : PlainCall) : Type 0 where
   pub in_turn : InTurn roles v stand (turn.Call place)
   pub next : IsNextCall in_turn.scripts roles v place call
@@ -93,9 +112,10 @@ pub record TriesCall (roles : List Role) (old new : PortValue) (place : ℕ) (ca
   pub makes : MakesCall old new role.number call
 
 pub record PlaysCall (roles : List Role) (old new : PortValue) (before now : Stand) (place : ℕ) (call : PlainCall) : Type 0 where
-  pub each : (h : InCall roles old before place call) → PlaysOn h.in_turn.scene h.in_turn.scripts roles old new before now
+  pub each : (h : InCall roles old before place call) → TakesTurn h.in_turn.scene h.in_turn.scripts roles old new before now (turn.Call place)
+  pub in_order : (h : InOrder roles old before (turn.Call place)) → IsNextCall h.scripts roles old place call → PlaysOn h.scene h.scripts roles old new before now
 
--- .. where the caller at a place, whose turn it is, has no call left
+-- .. where the caller at a place, whose turn can be taken, has no call left
 pub record HasNoCall (scripts : List Script) (roles : List Role) (v : PortValue) (place : ℕ) : Type 0 where
   pub role : Role
   pub at_place : slice_get roles place ≡ Some role
@@ -112,13 +132,14 @@ pub record InLast (roles : List Role) (v : PortValue) (stand : Stand) (place : �
   pub none : HasNoCall in_turn.scripts roles v place
 
 pub record PlaysLast (roles : List Role) (old new : PortValue) (before now : Stand) (place : ℕ) : Type 0 where
-  pub each : (h : InLast roles old before place) → PlaysOn h.in_turn.scene h.in_turn.scripts roles old new before now
+  pub each : (h : InLast roles old before place) → TakesTurn h.in_turn.scene h.in_turn.scripts roles old new before now (turn.Call place)
+  pub in_order : (h : InOrder roles old before (turn.Call place)) → HasNoCall h.scripts roles old place → PlaysOn h.scene h.scripts roles old new before now
 
 -- ---- the end of the phase
 
--- the player, since the line's end
-pub record Playing (s : Scene) (scripts : List Script) (roles : List Role) (start v : PortValue) (ticks : ℕ) (stand : Stand) : Type 0 where
-  pub plays : Plays s scripts roles v stand
+-- the player, since the line's end, in an order
+pub record PlayingIn (HasOrder : Scene → List PlainEntry → Type 0) (s : Scene) (scripts : List Script) (roles : List Role) (start v : PortValue) (ticks : ℕ) (stand : Stand) : Type 0 where
+  pub plays : PlaysIn HasOrder s scripts roles v stand
   pub part : List PlainEntry
   pub added : v.journal ≡ start.journal ++ part
   pub leads : Leads (call_at s.port s.session) (counts_on s.port s.session) start.terminal part v.terminal
@@ -128,8 +149,20 @@ pub record Playing (s : Scene) (scripts : List Script) (roles : List Role) (star
   pub tick : v.terminal.tick + stand.ticks ≡ start.terminal.tick + ticks
   pub ring : v.flip.ring ≡ start.flip.ring
 
--- a scene that was played since the line's end, and has nothing left
+abbrev pub Playing : Scene → List Script → List Role → (start v : PortValue) → (ticks : ℕ) → Stand → Type 0
+Playing s scripts roles start v ticks stand = PlayingIn HasOneOrder s scripts roles start v ticks stand
+
+-- a scene that was played since the line's end in whatever order, and has nothing left
 pub record InEnd (roles : List Role) (start v : PortValue) (stand : Stand) : Type 0 where
+  pub scene : Scene
+  pub scripts : List Script
+  pub ticks : ℕ
+  pub playing : PlayingIn HasAnyOrder scene scripts roles start v ticks stand
+  pub possible : IsPossible v (role_numbers roles) stand.going turn.End
+  pub ticks_are : ticks ≡ ticks_on scene.port (phase_at scene.session start.terminal.phase)
+
+-- .. in the order of one thread, in which it is over
+pub record InOrderedEnd (roles : List Role) (start v : PortValue) (stand : Stand) : Type 0 where
   pub scene : Scene
   pub scripts : List Script
   pub ticks : ℕ
@@ -138,4 +171,5 @@ pub record InEnd (roles : List Role) (start v : PortValue) (stand : Stand) : Typ
   pub ticks_are : ticks ≡ ticks_on scene.port (phase_at scene.session start.terminal.phase)
 
 pub record PlaysEnd (roles : List Role) (old new : PortValue) (putter now : PutterState Flagged) (stand : Stand) (run : ℕ) : Type 0 where
-  pub each : (start : PortValue) (h : InEnd roles start old stand) → EndsAfterLine h.scene start new putter now run
+  pub each : (start : PortValue) (h : InEnd roles start old stand) → EndsAfterLineIn HasAnyOrder h.scene start new putter now run
+  pub in_order : (start : PortValue) (h : InOrderedEnd roles start old stand) → EndsAfterLine h.scene start new putter now run

@@ -19,10 +19,10 @@ use Rattle.port_core.specs.declared.ports.flushing.Flushed.TheVariants.{Took, No
 use Rattle.port_core.specs.Flips.{MeetsTaker, after_meeting}
 use Rattle.port_core.specs.Flushes.{Flushes}
 use Rattle.port_core.specs.Ports.{PortValue, IsPort, Denies, is_stuck}
-use Rattle.one_thread.specs.Order.{cuts_after}
+use Rattle.one_thread.specs.Order.{cuts_after, AreInTurn}
 use Rattle.one_thread.specs.Roles.{Scene}
-use Rattle.one_thread.specs.Stages.{IsOfScene, AreAtFirst, BeginsRun, place_of}
-use Rattle.one_thread.specs.Lines.{HasPut, StopsLine}
+use Rattle.one_thread.specs.Stages.{HasAnyOrder, IsOfSceneIn, AreAtFirst, BeginsRun, place_of}
+use Rattle.one_thread.specs.Lines.{HasPut, StopsLineIn}
 
 -- where the line of a phase began: the scene and the phase, and the port and the line as they were then
 pub record LineStart : Type 0 where
@@ -40,7 +40,7 @@ steps_of b = closed_script (line_on b.scene.port (phase_at b.scene.session b.pha
 
 -- The line has done these steps of the phase, and nothing but flushes stands in the journal since it began.
 pub record IsInLine (b : LineStart) (v : PortValue) (putter : PutterState Flagged) (line : LineState) (steps : List LineStep) : Type 0 where
-  pub of_scene : IsOfScene b.scene v
+  pub of_scene : IsOfSceneIn HasAnyOrder b.scene v
   pub within : b.phase < length b.scene.session.phases
   pub phase : v.terminal.phase ≡ b.phase
   pub line_over : v.terminal.line_over ≡ false
@@ -49,6 +49,7 @@ pub record IsInLine (b : LineStart) (v : PortValue) (putter : PutterState Flagge
   pub flushes : List PlainEntry
   pub added : v.journal ≡ b.port.journal ++ flushes
   pub leads : Leads (call_at b.scene.port b.scene.session) (counts_on b.scene.port b.scene.session) b.port.terminal flushes v.terminal
+  pub in_turn : AreInTurn b.scene.port b.scene.session (place_of b.scene b.port.journal) flushes
   pub inside : session_events_in flushes ≡ []
   pub no_end : line_ends_in flushes ≡ []
   pub kept : v.kept ≡ b.port.kept
@@ -137,7 +138,7 @@ pub record PlaysSteps (steps : List LineStep) (v w : PortValue) (putter now : Pu
 -- Wherever a line is between two steps and these are its next ones, it stops in them.
 pub record StopsSteps (d : Denied) (steps : List LineStep) (v w : PortValue) (putter now : PutterState Flagged) (line next : LineState) (run : ℕ) : Type 0 where
   pub each : (b : LineStart) (done left : List LineStep) → steps_of b ≡ done ++ (steps ++ left)
-      → IsBetweenSteps b v putter line done run → StopsLine d b.scene b.phase b.port w now next
+      → IsBetweenSteps b v putter line done run → StopsLineIn HasAnyOrder d b.scene b.phase b.port w now next
 
 -- Some line is between two steps and these are its next ones, with room for what arrives in them.
 pub record StandsBefore (steps : List LineStep) (v : PortValue) (putter : PutterState Flagged) (line : LineState) (run : ℕ) : Type 0 where

@@ -17,9 +17,9 @@ use Rattle.tty_terminal.specs.Runs.{IsRun}
 use Rattle.port_core.specs.Ports.{PortValue, IsPort, call_in}
 use Rattle.one_thread.specs.Played.{IsEndOf, IsPlayedOn}
 use Rattle.one_thread.specs.declared.phases.Station.{Station}
-use Rattle.one_thread.specs.Order.{AllSeeAll}
+use Rattle.one_thread.specs.Order.{AreInTurn, AllSeeAll}
 use Rattle.one_thread.specs.Roles.{Scene, AreFirstSteps}
-use Rattle.one_thread.specs.Stages.{IsOfScene}
+use Rattle.one_thread.specs.Stages.{place_of, IsOfScene}
 use Rattle.one_thread.specs.Lines.{HasPut, IsAtPhase}
 
 -- how many phases end in a journal
@@ -109,6 +109,14 @@ pub record IsLeftOf (v : PortValue) (line : LineState) (run : PortRun) (end : Po
   pub journal : run.journal.items ≡ v.journal
   pub at_end : IsEndOf v.terminal end
   pub report : run.line ≡ line.report
+
+-- a run whose journal is this one with the hangup that ends it, in its turn in the order of one thread, or as it was
+-- where it is full; and with these overruns
+pub record EndsRun (s : Scene) (journal : List PlainEntry) (overruns : List Overrun) (run : PortRun) : Type 0 where
+  pub part : List PlainEntry
+  pub added : run.journal.items ≡ journal ++ part
+  pub in_turn : AreInTurn s.port s.session (place_of s journal) part
+  pub overruns_are : run.line.overruns.items ≡ overruns
 
 -- the first ports of the session were played
 pub record AreFirstPlayed (session : PlainSession) (count : ℕ) (runs : List PortRun) (ends : List PortEnd) : Type 0 where

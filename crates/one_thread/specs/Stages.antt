@@ -4,6 +4,7 @@ use mathlib.Core.List.{IsPrefix}
 use Rattle.tty_base.specs.declared.characters.Flagged.{Flagged}
 use Rattle.word_ring.specs.Ends.{PutterState, with_loaded}
 use Rattle.tty_calls.specs.declared.journals.Who.{Who}
+use Rattle.tty_calls.specs.declared.journals.Who.TheVariants.{Session}
 use Rattle.tty_calls.specs.declared.answers.Denied.{Denied}
 use Rattle.tty_calls.specs.declared.answers.Denied.TheVariants.{NoMemory, Full}
 use Rattle.tty_calls.specs.Plain.{PlainEntry, phase_ended}
@@ -28,14 +29,24 @@ RunsBelow run journal = All (λ e. IsTrue (is_flush e.event) → e.step < run) j
 abbrev pub place_of : Scene → List PlainEntry → Place
 place_of s journal = place_after (call_at s.port s.session) (first_place s.port s.session) journal
 
--- The port plays the scene: it keeps the session's calls and no others, and its journal is on the way and in the order.
-pub record IsOfScene (s : Scene) (v : PortValue) : Type 0 where
+-- what is known of the order of a journal: nothing; or that it is the order of one thread
+abbrev pub HasAnyOrder : Scene → List PlainEntry → Type 0
+HasAnyOrder s journal = Unit {0}
+
+abbrev pub HasOneOrder : Scene → List PlainEntry → Type 0
+HasOneOrder s journal = AreInTurn s.port s.session (first_place s.port s.session) journal
+
+-- The port plays the scene: it keeps the session's calls and no others, and its journal is on the way and in an order.
+pub record IsOfSceneIn (HasOrder : Scene → List PlainEntry → Type 0) (s : Scene) (v : PortValue) : Type 0 where
   pub counts : v.counts ≡ counts_on s.port s.session
   pub capacity : v.flip.capacity ≡ flip_on s.port s.session
   pub limit : v.limit ≡ 4194304
   pub known : Grows (call_in v.kept) (call_at s.port s.session)
   pub in_phases : AreInPhases s.port s.session 0 v.journal
-  pub turns : AreInTurn s.port s.session (first_place s.port s.session) v.journal
+  pub turns : HasOrder s v.journal
+
+abbrev pub IsOfScene : Scene → PortValue → Type 0
+IsOfScene s v = IsOfSceneIn HasOneOrder s v
 
 -- a caller between two calls, whose next step is this one, and who is not over
 abbrev pub caller_at_rest : ℕ → CallerState
@@ -53,8 +64,8 @@ pub record BeginsRun (run : ℕ) (v : PortValue) : Type 0 where
 
 -- ---- once the line of a phase is over
 
-pub record IsAfterLine (s : Scene) (v : PortValue) (run : ℕ) : Type 0 where
-  pub of_scene : IsOfScene s v
+pub record IsAfterLineIn (HasOrder : Scene → List PlainEntry → Type 0) (s : Scene) (v : PortValue) (run : ℕ) : Type 0 where
+  pub of_scene : IsOfSceneIn HasOrder s v
   pub within : v.terminal.phase < length s.session.phases
   pub line : v.terminal.line_over ≡ true
   pub clock : v.terminal.clock_over ≡ false
@@ -64,14 +75,18 @@ pub record IsAfterLine (s : Scene) (v : PortValue) (run : ℕ) : Type 0 where
   pub no_part : (other : Who) → turn_after (place_of s v.journal).before other ≡ other
   pub no_flush : is_after_flush (place_of s v.journal).before ≡ false
 
+abbrev pub IsAfterLine : Scene → PortValue → (run : ℕ) → Type 0
+IsAfterLine s v run = IsAfterLineIn HasOneOrder s v run
+
 -- What comes after the line of a phase: flushes, callers and clock, up to the end of the phase.
-pub record EndsAfterLine (s : Scene) (old new : PortValue) (putter now : PutterState Flagged) (run : ℕ) : Type 0 where
+pub record EndsAfterLineIn (HasOrder : Scene → List PlainEntry → Type 0) (s : Scene) (old new : PortValue) (putter now : PutterState Flagged) (run : ℕ) : Type 0 where
   pub part : List PlainEntry
   pub last : PlainEntry
   pub terminal : Terminal
   pub added : new.journal ≡ old.journal ++ (part ++ last ∷ [])
   pub leads : Leads (call_at s.port s.session) (counts_on s.port s.session) old.terminal part terminal
   pub inside : session_events_in part ≡ []
+  pub who : last.who ≡ Session
   pub ends : last.event ≡ phase_ended
   pub next : new.terminal ≡ next_phase terminal
   -- the phase is complete
@@ -80,7 +95,7 @@ pub record EndsAfterLine (s : Scene) (old new : PortValue) (putter now : PutterS
   pub clock : terminal.clock_over ≡ true
   pub tick : terminal.tick ≡ old.terminal.tick + ticks_on s.port (phase_at s.session old.terminal.phase)
   pub callers : (c : ℕ) → HasPlayed (has_script (scripts_on s.port (phase_at s.session old.terminal.phase)) (name_at s.port s.session c)) (first_step s.port s.session old.terminal.phase c) (steps_in s.port s.session old.terminal.phase c) (caller_at terminal c).next (caller_at terminal c).over
-  pub of_scene : IsOfScene s new
+  pub of_scene : IsOfSceneIn HasOrder s new
   pub at_first : AreAtFirst s (old.terminal.phase + 1) new.terminal
   pub rest : nothing_to_flush new.terminal ≡ true
   pub begins_run : BeginsRun run new
@@ -88,6 +103,9 @@ pub record EndsAfterLine (s : Scene) (old new : PortValue) (putter now : PutterS
   pub met : now ≡ with_loaded (record putter { pushed = putter.sent }) (length new.flip.taken)
   pub begins : IsPrefix new.flip.taken putter.sent
   pub ring : new.flip.ring ≡ old.flip.ring
+
+abbrev pub EndsAfterLine : Scene → (old new : PortValue) → (putter now : PutterState Flagged) → (run : ℕ) → Type 0
+EndsAfterLine s old new putter now run = EndsAfterLineIn HasOneOrder s old new putter now run
 
 -- a journal that takes no further entry
 abbrev pub IsFullAt : Denied → PortValue → Type 0

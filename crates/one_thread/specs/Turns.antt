@@ -1,20 +1,20 @@
 -- What the player keeps between two entries after the line of a phase, and whose turn it is.
-use Rattle.std.specs.Prelude.{◌≡◌, ◌≤◌, ◌<◌, ◌+◌, ◌-◌, ◌==◌, ℕ, List, [], ◌∷◌, ◌++◌, Bool, true, false, not, IsTrue, Option, None, Some, if◌then◌else◌, length, map, slice_get, slice_index}
+use Rattle.std.specs.Prelude.{◌≡◌, ◌⊎◌, ◌≤◌, ◌<◌, ◌+◌, ◌-◌, ◌==◌, ℕ, List, [], ◌∷◌, ◌++◌, Bool, true, false, not, IsTrue, MatchOption, Option, None, Some, if◌then◌else◌, length, map, slice_get, slice_index}
 use Rattle.tty_calls.specs.declared.journals.Who.{Who}
 use Rattle.tty_calls.specs.declared.journals.Who.TheVariants.{Caller, Flusher, Clock, Session}
 use Rattle.tty_calls.specs.declared.sessions.Script.{Script}
 use Rattle.tty_calls.specs.Plain.{PlainCall, PlainEntry}
 use Rattle.tty_calls.specs.Sessions.{call_at, counts_on}
 use Rattle.tty_terminal.specs.Terminals.{caller_at}
-use Rattle.tty_terminal.specs.Steps.{Allowed, after, follows}
+use Rattle.tty_terminal.specs.Steps.{Allowed, after, follows, nothing_to_flush}
 use Rattle.tty_terminal.specs.Runs.{IsRun, RunHas}
 use Rattle.tty_terminal.specs.Standing.{Standing, standing_of}
 use Rattle.journal_check.specs.Legal.{first_step, session_events, flip_on}
 use Rattle.port_core.specs.Attempts.{PlainTried, done_by, took_part, must_wait}
 use Rattle.port_core.specs.Ports.{PlainKept, PortValue, call_in}
-use Rattle.one_thread.specs.Order.{first_of, turn_by_rank, turn_after, is_after_flush}
+use Rattle.one_thread.specs.Order.{first_of, can_go_on, is_waiting, turn_by_rank, turn_after, is_after_flush, IsPieceOf}
 use Rattle.one_thread.specs.Roles.{Scene, calls_in, role_in, AreRolesOf}
-use Rattle.one_thread.specs.Stages.{place_of, IsOfScene, RunsBelow}
+use Rattle.one_thread.specs.Stages.{place_of, HasAnyOrder, HasOneOrder, IsOfSceneIn, RunsBelow}
 use Rattle.one_thread.specs.declared.roles.Role.{Role}
 use Rattle.one_thread.specs.declared.after_line.Stand.{Stand}
 use Rattle.one_thread.specs.declared.after_line.Turn.{Turn}
@@ -54,6 +54,33 @@ IsTurnWithin turn.End n = Unit {0}
 -- a turn by the calls that the port keeps, where the call of the caller at a place may go on
 pub record IsTurn (clock_first : Bool) (v : PortValue) (numbers : List ℕ) (going : Option ℕ) (next : Turn) : Type 0 where
   pub who : who_of numbers next ≡ turn_with numbers going (turn_by_rank clock_first (call_in v.kept) numbers v.terminal)
+  pub within : IsTurnWithin next (length numbers)
+
+-- ---- whose turn can be taken, in whatever order
+
+-- none of these is such a one
+abbrev pub NoneIs : (ℕ → Bool) → List ℕ → Type 0
+NoneIs is_such numbers = (i : ℕ) → i < length numbers → is_such (slice_index numbers i) ≡ false
+
+-- nothing can be flushed, the clock is over, and no caller can go on
+pub record NothingGoesOn (v : PortValue) (numbers : List ℕ) : Type 0 where
+  pub idle : nothing_to_flush v.terminal ≡ true
+  pub clock : v.terminal.clock_over ≡ true
+  pub none : NoneIs (can_go_on (call_in v.kept) v.terminal) numbers
+
+-- Where no write goes on: a flush, where there is something to flush; a call of a caller that can go on, or that waits
+-- in vain; a tick or the end of the clock, until that is over; and the end of the phase, where nothing is left.
+abbrev pub IsFree : PortValue → List ℕ → Turn → Type 0
+IsFree v numbers turn.Flush = nothing_to_flush v.terminal ≡ false
+IsFree v numbers (turn.Call i) =
+    (can_go_on (call_in v.kept) v.terminal (slice_index numbers i) ≡ true)
+    ⊎ (NothingGoesOn v numbers × (is_waiting v.terminal (slice_index numbers i) ≡ true))
+IsFree v numbers turn.Pass = v.terminal.clock_over ≡ false
+IsFree v numbers turn.End = NothingGoesOn v numbers × NoneIs (is_waiting v.terminal) numbers
+
+-- a turn that can be taken: that of the caller whose write goes on, or where none does, one that is free
+pub record IsPossible (v : PortValue) (numbers : List ℕ) (going : Option ℕ) (next : Turn) : Type 0 where
+  pub whose : MatchOption going (IsFree v numbers next) (λ i. who_of numbers next ≡ Caller (slice_index numbers i))
   pub within : IsTurnWithin next (length numbers)
 
 -- ---- where callers stand
@@ -123,8 +150,9 @@ pub record HasRuns (v : PortValue) (before : Option PlainEntry) (run part : ℕ)
 
 -- ---- the player
 
-pub record Plays (s : Scene) (scripts : List Script) (roles : List Role) (v : PortValue) (stand : Stand) : Type 0 where
-  pub of_scene : IsOfScene s v
+-- since the line's end, in an order
+pub record PlaysIn (HasOrder : Scene → List PlainEntry → Type 0) (s : Scene) (scripts : List Script) (roles : List Role) (v : PortValue) (stand : Stand) : Type 0 where
+  pub of_scene : IsOfSceneIn HasOrder s v
   pub run : IsRun (call_at s.port s.session) (counts_on s.port s.session) (flip_on s.port s.session) v.journal v.terminal
   pub within : v.terminal.phase < length s.session.phases
   pub line : v.terminal.line_over ≡ true
@@ -133,22 +161,34 @@ pub record Plays (s : Scene) (scripts : List Script) (roles : List Role) (v : Po
   pub callers : HasCallers s scripts roles v stand.going
   pub settled : (other : Who) → turn_after (place_of s v.journal).before other ≡ turn_with (role_numbers roles) stand.going other
 
--- one entry more, of the session's calls
+abbrev pub Plays : Scene → List Script → List Role → PortValue → Stand → Type 0
+Plays s scripts roles v stand = PlaysIn HasOneOrder s scripts roles v stand
+
+-- one entry more, of the session's calls; a flush takes as much as it can
 pub record Adds (s : Scene) (old new : PortValue) : Type 0 where
   pub entry : PlainEntry
   pub added : new.journal ≡ old.journal ++ entry ∷ []
   pub allowed : Allowed (call_at s.port s.session) (counts_on s.port s.session) old.terminal entry
   pub leads : new.terminal ≡ after (call_at s.port s.session) old.terminal entry
   pub inside : session_events entry.event ≡ []
+  pub piece : IsPieceOf s.port s.session (place_of s old.journal) entry.part entry.event
   pub phase : new.terminal.phase ≡ old.terminal.phase
   pub sent : new.terminal.sent ≡ old.terminal.sent
   pub ring : new.flip.ring ≡ old.flip.ring
 
 -- What a turn came to: an entry more, and each tick is one that was left.
-pub record PlaysOn (s : Scene) (scripts : List Script) (roles : List Role) (old new : PortValue) (before now : Stand) : Type 0 where
-  pub plays : Plays s scripts roles new now
+pub record PlaysOnIn (HasOrder : Scene → List PlainEntry → Type 0) (s : Scene) (scripts : List Script) (roles : List Role) (old new : PortValue) (before now : Stand) : Type 0 where
+  pub plays : PlaysIn HasOrder s scripts roles new now
   pub adds : Adds s old new
   pub ticks : new.terminal.tick + now.ticks ≡ old.terminal.tick + before.ticks
+
+abbrev pub PlaysOn : Scene → List Script → List Role → (old new : PortValue) → (before now : Stand) → Type 0
+PlaysOn s scripts roles old new before now = PlaysOnIn HasOneOrder s scripts roles old new before now
+
+-- .. in whatever order, by whose turn it was
+pub record TakesTurn (s : Scene) (scripts : List Script) (roles : List Role) (old new : PortValue) (before now : Stand) (next : Turn) : Type 0 where
+  pub on : PlaysOnIn HasAnyOrder s scripts roles old new before now
+  pub who : on.adds.entry.who ≡ who_of (role_numbers roles) next
 
 -- the call of the next step of the caller at a place
 pub record IsNextCall (scripts : List Script) (roles : List Role) (v : PortValue) (place : ℕ) (call : PlainCall) : Type 0 where

@@ -5,9 +5,9 @@ ghost use Rattle.tty_base.specs.Lines.{arrival, arrival_count};
 ghost use Rattle.tty_calls.specs.Limits.{IsWithinLimits, character_count};
 ghost use Rattle.tty_calls.specs.Sessions.{session_of};
 ghost use Rattle.one_thread.specs.Roles.{Scene, scene_of, names_in};
-ghost use Rattle.one_thread.specs.Phases.{HaveSeenAll, IsBeforePhase, IsPortOf, IsFullRun, IsAtEnd, IsStopped, IsLeftOf};
+ghost use Rattle.one_thread.specs.Phases.{HaveSeenAll, IsBeforePhase, IsPortOf, IsFullRun, IsAtEnd, IsStopped, IsLeftOf, EndsRun};
 ghost use Rattle.one_thread.specs.Played.{IsPlayedOn, IsRunInOrder};
-ghost use Rattle.one_thread.specs.Stages.{IsOfScene};
+ghost use Rattle.one_thread.specs.Stages.{HasAnyOrder, IsOfSceneIn, IsOfScene};
 
 use crate::phases::{Station, play_phase, steps_of};
 use crate::roles::counts_of;
@@ -118,6 +118,7 @@ pub fn hang_up(
     requires ring { putter.ring ≡ port.flip.ring }
     requires sent { port.terminal.sent ≡ length putter.sent }
     ensures played { (s : Scene) → IsAtEnd s port putter line → IfOk result (λ played. IsPlayedOn s.port s.session played.0 played.1) }
+    ensures ends { (s : Scene) → IsOfSceneIn HasAnyOrder s port → port.terminal.phase ≡ length s.session.phases → IfOk result (λ played. EndsRun s port.journal line.report.overruns.items played.0) }
     ensures in_order { (s : Scene) → IsOfScene s port → port.terminal.phase ≡ length s.session.phases → HaveSeenAll s port.journal line.report.overruns.items → IfOk result (λ played. IsRunInOrder s.port s.session played.0) }
 {
     let _journal = port.journal();

@@ -12,7 +12,7 @@ use Rattle.tty_terminal.specs.Runs.{Grows, phase_after, is_of_call}
 use Rattle.journal_check.specs.Legal.{IsInPhase, AreInPhases, first_step, steps_in, flip_on}
 use Rattle.port_core.specs.Ports.{PortValue, call_in, end_entry}
 use Rattle.one_thread.specs.Roles.{Scene, calls_in}
-use Rattle.one_thread.specs.Turns.{Plays, IsNextCall, standing_at}
+use Rattle.one_thread.specs.Turns.{PlaysIn, IsNextCall, standing_at}
 use Rattle.one_thread.specs.Acts.{InTurn, MakesCall, EndsCalls, HasNoCall}
 use Rattle.one_thread.specs.declared.roles.Role.{Role}
 use Rattle.one_thread.specs.declared.after_line.Stand.{Stand}
@@ -50,7 +50,7 @@ before_all s old new part added grows h =
     }
 
 -- the last entry is of the phase to which the port has come
-in_this_phase : (s : Scene) (scripts : List Script) (roles : List Role) (old new : PortValue) (stand : Stand) (e : PlainEntry) → Plays s scripts roles old stand → new.journal ≡ old.journal ++ e ∷ [] → Agrees s new
+in_this_phase : {HasOrder : Scene → List PlainEntry → Type 0} (s : Scene) (scripts : List Script) (roles : List Role) (old new : PortValue) (stand : Stand) (e : PlainEntry) → PlaysIn HasOrder s scripts roles old stand → new.journal ≡ old.journal ++ e ∷ [] → Agrees s new
     → IsInPhase s.port s.session old.terminal.phase e.who e.step e.event
 in_this_phase s scripts roles old new stand e plays added h =
     let p = s.port in

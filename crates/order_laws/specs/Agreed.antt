@@ -5,16 +5,17 @@ use Rattle.word_ring.specs.Ends.{PutterState}
 use Rattle.tty_base.specs.declared.characters.Flagged.{Flagged}
 use Rattle.uart_line.specs.LineState.{LineState}
 use Rattle.tty_calls.specs.declared.sessions.Script.{Script}
+use Rattle.tty_calls.specs.Plain.{PlainEntry}
 use Rattle.tty_calls.specs.Limits.{IsWithinLimits}
 use Rattle.tty_calls.specs.Sessions.{ticks_on, call_at}
 use Rattle.tty_terminal.specs.Runs.{Grows}
 use Rattle.journal_check.specs.Legal.{AreInPhases, phase_at}
 use Rattle.port_core.specs.Ports.{PortValue, call_in}
 use Rattle.one_thread.specs.Roles.{Scene, role_in, AreRolesOf}
-use Rattle.one_thread.specs.Stages.{EndsAfterLine}
-use Rattle.one_thread.specs.Lines.{IsAtPhase}
+use Rattle.one_thread.specs.Stages.{HasOneOrder, EndsAfterLineIn}
+use Rattle.one_thread.specs.Lines.{IsAtPhaseIn}
 use Rattle.one_thread.specs.Phases.{HavePlayedInOrder}
-use Rattle.one_thread.specs.Acts.{Playing}
+use Rattle.one_thread.specs.Acts.{PlayingIn}
 use Rattle.one_thread.specs.declared.roles.Role.{Role}
 use Rattle.one_thread.specs.declared.after_line.Stand.{Stand}
 use Rattle.order_laws.specs.Growth.{HasShape}
@@ -33,21 +34,30 @@ pub record IsLike (first s : Scene) : Type 0 where
   pub limits : IsWithinLimits s.session
 
 -- Each scene like this one that agrees with the port was played up to the phase that begins.
-pub record IsBeforeEach (first : Scene) (v : PortValue) (putter : PutterState Flagged) (line : LineState) (run : ℕ) : Type 0 where
+pub record IsBeforeEachIn (HasOrder : Scene → List PlainEntry → Type 0) (first : Scene) (v : PortValue) (putter : PutterState Flagged) (line : LineState) (run : ℕ) : Type 0 where
   pub each : (s : Scene) → IsLike first s → Agrees s v
-      → IsAtPhase s v.terminal.phase v putter line run × HavePlayedInOrder s v.terminal.phase v.journal line.report.overruns.items
+      → IsAtPhaseIn HasOrder s v.terminal.phase v putter line run × HavePlayedInOrder s v.terminal.phase v.journal line.report.overruns.items
+
+abbrev pub IsBeforeEach : (first : Scene) → PortValue → PutterState Flagged → LineState → (run : ℕ) → Type 0
+IsBeforeEach first v putter line run = IsBeforeEachIn HasOneOrder first v putter line run
 
 -- its callers of a phase, whichever of these scenes it is
 pub record AreRolesOfEach (first : Scene) (scripts : Scene → List Script) (roles : List Role) (k : ℕ) (v : PortValue) : Type 0 where
   pub each : (s : Scene) → IsLike first s → Agrees s v → AreRolesOf s k (map (role_in (scripts s)) roles)
 
 -- Since the line's end each scene like this one that agrees with the port was played, with these scripts of it.
-pub record PlaysEach (first : Scene) (scripts : Scene → List Script) (roles : List Role) (start v : PortValue) (ticks : ℕ) (stand : Stand) : Type 0 where
+pub record PlaysEachIn (HasOrder : Scene → List PlainEntry → Type 0) (first : Scene) (scripts : Scene → List Script) (roles : List Role) (start v : PortValue) (ticks : ℕ) (stand : Stand) : Type 0 where
   pub ticks_are : ticks ≡ ticks_on first.port (phase_at first.session start.terminal.phase)
   pub grows : Grows (call_in start.kept) (call_in v.kept)
-  pub each : (s : Scene) → IsLike first s → Agrees s v → Playing s (scripts s) roles start v ticks stand
+  pub each : (s : Scene) → IsLike first s → Agrees s v → PlayingIn HasOrder s (scripts s) roles start v ticks stand
+
+abbrev pub PlaysEach : (first : Scene) → (Scene → List Script) → List Role → (start v : PortValue) → (ticks : ℕ) → Stand → Type 0
+PlaysEach first scripts roles start v ticks stand = PlaysEachIn HasOneOrder first scripts roles start v ticks stand
 
 -- .. up to the end of the phase
-pub record EndsEach (first : Scene) (start new : PortValue) (putter now : PutterState Flagged) (run : ℕ) : Type 0 where
+pub record EndsEachIn (HasOrder : Scene → List PlainEntry → Type 0) (first : Scene) (start new : PortValue) (putter now : PutterState Flagged) (run : ℕ) : Type 0 where
   pub grows : Grows (call_in start.kept) (call_in new.kept)
-  pub each : (s : Scene) → IsLike first s → Agrees s new → EndsAfterLine s start new putter now run
+  pub each : (s : Scene) → IsLike first s → Agrees s new → EndsAfterLineIn HasOrder s start new putter now run
+
+abbrev pub EndsEach : (first : Scene) → (start new : PortValue) → (putter now : PutterState Flagged) → (run : ℕ) → Type 0
+EndsEach first start new putter now run = EndsEachIn HasOneOrder first start new putter now run

@@ -2,10 +2,12 @@
 #![tactic(auto)]
 
 mod agreed;
+mod any_order;
 mod each;
 mod laws;
 
 pub use agreed::{a_call_made_was_next, a_port_agreed_before, who_ended_had_no_call};
+pub use any_order::{phases_play_each_in_any_order, possible_turns_play_each};
 pub use each::{
     a_call_plays_each, a_line_plays_each, a_phase_plays_each, a_port_that_opens_is_before_each,
     a_turn_plays_each, an_end_of_a_phase_ends_each, an_end_of_calls_plays_each,

@@ -8,7 +8,8 @@ use Rattle.one_thread.specs.Stages.{EndsAfterLine, StopsAfterLine}
 use Rattle.one_thread.specs.Acts.{PlaysEnd}
 use Rattle.one_thread.specs.declared.after_line.Turn.{Turn}
 use Rattle.one_thread.specs.declared.after_line.Turn.TheVariants as turn
-use Rattle.one_thread.proofs.Ready.{in_this_turn}
+use Rattle.one_thread.proofs.Orders.{any_turn}
+use Rattle.one_thread.proofs.Ready.{in_order}
 use Rattle.one_thread.proofs.AfterLine.{begins, goes_on_playing, all_known, stops_of}
 use Rattle.one_thread.proofs.after_line.play_after_line.Goals.{in-End, in_default}
 use Rattle.one_thread.proofs.after_line.play_after_line.Goals as goal
@@ -54,7 +55,7 @@ end_phase-requires-clause-turn g c =
       | in-End w ↦ w.in-End.is
       | in_default w ↦ absurd (false≢true (sym w.matches-is ∙ c.if-not-matches.false))
     ] in
-    in_this_turn g.scene c.args.scripts.now c.args.roles.now c.loop-next.port c.loop-next.stand c.loop-next.next turn.End playing.plays c.loop-next.invariant.turn at_end
+    any_turn c.args.roles.now c.loop-next.port c.loop-next.stand turn.End (in_order g.scene c.args.scripts.now c.args.roles.now c.loop-next.port c.loop-next.stand c.loop-next.next turn.End playing.plays c.loop-next.invariant.turn at_end)
 
 pub returns-clause-ok : goal.returns-clause-ok
 returns-clause-ok g c =
@@ -66,7 +67,7 @@ returns-clause-ok g c =
     ] in
     IfOk-weaker c.end_phase.result (λ next. PlaysEnd c.args.roles.now c.loop-next.port c.end_phase.new.port c.args.putter.now c.end_phase.new.putter c.loop-next.stand next)
     (λ next. EndsAfterLine g.scene c.args.port.now c.end_phase.new.port c.args.putter.now c.end_phase.new.putter next)
-    (λ next ends. ends.each c.args.port.now (record {
+    (λ next ends. ends.in_order c.args.port.now (record {
       scene = g.scene;
       scripts = c.args.scripts.now;
       ticks = c.args.ticks;

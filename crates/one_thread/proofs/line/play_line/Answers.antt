@@ -1,8 +1,10 @@
 use Rattle.std.proofs.Common.{[], subst, sym, append-nil}
 use Rattle.std.proofs.lemmas.Result.{err_from_is_err_and}
-use Rattle.one_thread.specs.Lines.{StopsLine}
+use Rattle.one_thread.specs.Stages.{HasAnyOrder}
+use Rattle.one_thread.specs.Lines.{StopsLineIn}
 use Rattle.one_thread.specs.LineInside.{steps_of}
 use Rattle.one_thread.proofs.LineEnds.{start_of, stands_at_start, plays_all, stops_all, stops_denied, line_ends}
+use Rattle.one_thread.proofs.Orders.{plays_its_line, stops_its_line}
 use Rattle.one_thread.proofs.StationLemmas.{room_for_line}
 use Rattle.one_thread.proofs.line.play_line.Goals as goal
 
@@ -17,11 +19,11 @@ pub returns-in_err-next-clause-err : goal.returns-in_err-next-clause-err
 returns-in_err-next-clause-err c =
     let p = err_from_is_err_and c.from_residual.result c.from_residual.ensures.1 in
     let w = c.play_steps.new in
-    rw (p.1, p.2) (record {
-      each = λ h.
-          stops_all h.scene c.args.port.now c.args.putter.now c.meet.new.putter c.args.line.now c.args.run h.begins h.within c.numbers_tell.ensures.taken c.meet.ensures.putter
-          c.args.steps.now.items h.steps_are c.meet.new.self c.meet.ensures.port c.in_err-next.field-0.0 w.port w.putter w.line c.in_err-next.ensures.err;
-    })
+    rw (p.1, p.2)
+    (stops_its_line c.in_err-next.field-0.0 c.args.steps.now.items c.args.port.now w.port c.args.putter.now w.putter c.args.line.now w.line c.args.run
+    (λ h.
+    stops_all h.scene c.args.port.now c.args.putter.now c.meet.new.putter c.args.line.now c.args.run h.begins h.within c.numbers_tell.ensures.taken c.meet.ensures.putter
+    c.args.steps.now.items h.steps_are c.meet.new.self c.meet.ensures.port c.in_err-next.field-0.0 w.port w.putter w.line c.in_err-next.ensures.err))
 
 pub line_end-requires-clause-not_over : goal.line_end-requires-clause-not_over
 line_end-requires-clause-not_over c =
@@ -51,22 +53,21 @@ pub returns-in_err-line_end-clause-err : goal.returns-in_err-line_end-clause-err
 returns-in_err-line_end-clause-err c =
     let p = err_from_is_err_and c.from_residual-in_err-line_end.result c.from_residual-in_err-line_end.ensures.1 in
     let w = c.play_steps.new in
-    rw (p.1, p.2) (record {
-      each = λ h.
-          let b = start_of h.scene c.args.port.now c.args.line.now in
-          let last = plays_all h.scene c.args.port.now c.args.putter.now c.meet.new.putter c.args.line.now c.args.run h.begins h.within c.numbers_tell.ensures.taken c.meet.ensures.putter
-          c.args.steps.now.items h.steps_are c.meet.new.self c.meet.ensures.port w.port w.putter w.line c.in_ok-next.next c.in_ok-next.ensures.ok in
-          subst (λ q. StopsLine c.in_err-line_end.field-0.0 h.scene c.args.port.now.terminal.phase c.args.port.now c.line_end.new.self q w.line) (sym c.in_err-line_end.ensures.putter)
-          (stops_denied c.in_err-line_end.field-0.0 b w.port c.line_end.new.self w.putter w.line (steps_of b) [] (sym (append-nil (steps_of b))) last.in_line c.in_err-line_end.ensures.err);
-    })
+    rw (p.1, p.2)
+    (stops_its_line c.in_err-line_end.field-0.0 c.args.steps.now.items c.args.port.now c.line_end.new.self c.args.putter.now c.line_end.new.putter c.args.line.now w.line c.args.run
+    (λ h.
+    let b = start_of h.scene c.args.port.now c.args.line.now in
+    let last = plays_all h.scene c.args.port.now c.args.putter.now c.meet.new.putter c.args.line.now c.args.run h.begins h.within c.numbers_tell.ensures.taken c.meet.ensures.putter
+    c.args.steps.now.items h.steps_are c.meet.new.self c.meet.ensures.port w.port w.putter w.line c.in_ok-next.next c.in_ok-next.ensures.ok in
+    subst (λ q. StopsLineIn HasAnyOrder c.in_err-line_end.field-0.0 h.scene c.args.port.now.terminal.phase c.args.port.now c.line_end.new.self q w.line) (sym c.in_err-line_end.ensures.putter)
+    (stops_denied c.in_err-line_end.field-0.0 b w.port c.line_end.new.self w.putter w.line (steps_of b) [] (sym (append-nil (steps_of b))) last.in_line c.in_err-line_end.ensures.err)))
 
 pub returns-clause-ok : goal.returns-clause-ok
 returns-clause-ok c =
     let w = c.play_steps.new in
-    record {
-      each = λ h.
-          let b = start_of h.scene c.args.port.now c.args.line.now in
-          let last = plays_all h.scene c.args.port.now c.args.putter.now c.meet.new.putter c.args.line.now c.args.run h.begins h.within c.numbers_tell.ensures.taken c.meet.ensures.putter
-          c.args.steps.now.items h.steps_are c.meet.new.self c.meet.ensures.port w.port w.putter w.line c.in_ok-next.next c.in_ok-next.ensures.ok in
-          line_ends b w.port c.line_end.new.self w.putter c.line_end.new.putter w.line c.in_ok-next.next last c.journal-journal.ensures.port c.in_ok-line_end.ensures.ok;
-    }
+    plays_its_line c.args.steps.now.items c.args.port.now c.line_end.new.self c.args.putter.now c.line_end.new.putter c.args.line.now w.line c.args.run c.in_ok-next.next
+    (λ h.
+    let b = start_of h.scene c.args.port.now c.args.line.now in
+    let last = plays_all h.scene c.args.port.now c.args.putter.now c.meet.new.putter c.args.line.now c.args.run h.begins h.within c.numbers_tell.ensures.taken c.meet.ensures.putter
+    c.args.steps.now.items h.steps_are c.meet.new.self c.meet.ensures.port w.port w.putter w.line c.in_ok-next.next c.in_ok-next.ensures.ok in
+    line_ends b w.port c.line_end.new.self w.putter c.line_end.new.putter w.line c.in_ok-next.next last c.journal-journal.ensures.port c.in_ok-line_end.ensures.ok)

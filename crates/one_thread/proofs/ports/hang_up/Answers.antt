@@ -5,7 +5,9 @@ use Rattle.port_core.specs.Ports.{PortValue, Denies}
 use Rattle.port_core.specs.Phases.{HangsUp}
 use Rattle.port_core.specs.Flips.{after_meeting}
 use Rattle.one_thread.specs.Phases.{IsLeftOf}
-use Rattle.one_thread.proofs.PortLemmas.{full_played, full_at_end, full_in_order, hung_played, hung_in_order}
+use Rattle.one_thread.specs.Stages.{HasAnyOrder}
+use Rattle.one_thread.proofs.Orders.{scene_in}
+use Rattle.one_thread.proofs.PortLemmas.{full_played, full_at_end, hung_played, hung_ends, full_ends, ends_in_order}
 use Rattle.one_thread.proofs.ports.hang_up.Goals as goal
 
 pub returns-in-Ok-clause-played : goal.returns-in-Ok-clause-played
@@ -15,12 +17,20 @@ returns-in-Ok-clause-played c s at_end =
     (subst (λ (x : PortValue). HangsUp x c.last_hangup.new.self c.meet.new.putter) c.meet.ensures.port c.in-Ok.ensures.ok)
     c.left_of.ensures
 
+pub returns-in-Ok-clause-ends : goal.returns-in-Ok-clause-ends
+returns-in-Ok-clause-ends c s of_scene past =
+    let v = c.args.port in
+    hung_ends s v (after_meeting v.flip c.args.putter) c.meet.new.putter c.last_hangup.new.self c.args.line c.left_of.result.0 c.left_of.result.1 of_scene c.journal-journal.ensures.port past
+    (subst (λ (x : PortValue). HangsUp x c.last_hangup.new.self c.meet.new.putter) c.meet.ensures.port c.in-Ok.ensures.ok)
+    c.left_of.ensures
+
 pub returns-in-Ok-clause-in_order : goal.returns-in-Ok-clause-in_order
 returns-in-Ok-clause-in_order c s of_scene past see_all =
     let v = c.args.port in
-    hung_in_order s v (after_meeting v.flip c.args.putter) c.meet.new.putter c.last_hangup.new.self c.args.line c.left_of.result.0 c.left_of.result.1 of_scene c.journal-journal.ensures.port past see_all
+    ends_in_order s v.journal c.args.line.report.overruns.items c.left_of.result.0 of_scene.turns see_all
+    (hung_ends s v (after_meeting v.flip c.args.putter) c.meet.new.putter c.last_hangup.new.self c.args.line c.left_of.result.0 c.left_of.result.1 (scene_in HasAnyOrder s v of_scene tt) c.journal-journal.ensures.port past
     (subst (λ (x : PortValue). HangsUp x c.last_hangup.new.self c.meet.new.putter) c.meet.ensures.port c.in-Ok.ensures.ok)
-    c.left_of.ensures
+    c.left_of.ensures)
 
 pub returns-in-Err-Full-clause-played : goal.returns-in-Err-Full-clause-played
 returns-in-Err-Full-clause-played c s at_end =
@@ -31,9 +41,15 @@ returns-in-Err-Full-clause-played c s at_end =
     (full_at_end s v c.args.putter c.args.line at_end full) c.meet.ensures.putter.begins refl refl
     (subst (λ (x : PortValue). IsLeftOf x c.args.line c.left_of-in-Err-Full.result.0 c.left_of-in-Err-Full.result.1) (denied.1 ∙ c.meet.ensures.port) c.left_of-in-Err-Full.ensures)
 
+pub returns-in-Err-Full-clause-ends : goal.returns-in-Err-Full-clause-ends
+returns-in-Err-Full-clause-ends c s of_scene past =
+    let v = c.args.port in
+    let denied : Denies Full c.meet.new.self c.last_hangup.new.self = subst (λ (d : Denied). Denies d c.meet.new.self c.last_hangup.new.self) c.in-Err-Full.field-0-is c.in-Err-Full.ensures.err in
+    full_ends s v.journal c.last_hangup.new.self c.args.line c.left_of-in-Err-Full.result.0 c.left_of-in-Err-Full.result.1 (ap (λ (x : PortValue). x.journal) (denied.1 ∙ c.meet.ensures.port)) c.left_of-in-Err-Full.ensures
+
 pub returns-in-Err-Full-clause-in_order : goal.returns-in-Err-Full-clause-in_order
 returns-in-Err-Full-clause-in_order c s of_scene past see_all =
     let v = c.args.port in
     let denied : Denies Full c.meet.new.self c.last_hangup.new.self = subst (λ (d : Denied). Denies d c.meet.new.self c.last_hangup.new.self) c.in-Err-Full.field-0-is c.in-Err-Full.ensures.err in
-    let full : length v.journal ≡ v.limit = subst (λ (x : PortValue). length x.journal ≡ x.limit) c.meet.ensures.port denied.0 in
-    full_in_order s v c.left_of-in-Err-Full.result.0 of_scene (c.left_of-in-Err-Full.ensures.journal ∙ ap (λ (x : PortValue). x.journal) (denied.1 ∙ c.meet.ensures.port)) (full ∙ of_scene.limit)
+    ends_in_order s v.journal c.args.line.report.overruns.items c.left_of-in-Err-Full.result.0 of_scene.turns see_all
+    (full_ends s v.journal c.last_hangup.new.self c.args.line c.left_of-in-Err-Full.result.0 c.left_of-in-Err-Full.result.1 (ap (λ (x : PortValue). x.journal) (denied.1 ∙ c.meet.ensures.port)) c.left_of-in-Err-Full.ensures)

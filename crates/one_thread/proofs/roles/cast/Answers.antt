@@ -1,4 +1,4 @@
-use Rattle.std.proofs.Common.{refl, sym, ap, map, ◌∙◌, ◌≢◌, arith}
+use Rattle.std.proofs.Common.{sym, ap, map, ◌∙◌, ◌≢◌, arith}
 use Rattle.one_thread.specs.Roles.{role_in}
 use Rattle.one_thread.specs.Casting.{IsNumbered}
 use Rattle.one_thread.proofs.CastLemmas.{own_at, others_yes, others_no, others_all}
