@@ -148,6 +148,15 @@ flush_stands v w (e ∷ []) port later h is few first session d stands =
     (had_by v w e port later added (flush_keeps e.event one)) stands
 flush_stands v w (e ∷ x ∷ part) port later h is few first session d stands = absurd (omega (arith, few))
 
+-- no call was begun
+flush_begun : (v w : PortValue) (part : List PlainEntry) → IsPort v → IsPort w → (h : FlushesOnce v w) → h.part ≡ part → length part ≤ 1 → (c : ℕ) → HadBegun v w c
+flush_begun v w [] port later h is few c = had_same v w (h.stays is) c
+flush_begun v w (e ∷ []) port later h is few c =
+    let added : w.journal ≡ v.journal ++ e ∷ [] = h.added ∙ ap (λ (es : List PlainEntry). v.journal ++ es) is in
+    let one : IsTrue (is_flush e.event) = All-head (λ (x : PlainEntry). IsTrue (is_flush x.event)) e [] (subst (λ (es : List PlainEntry). All (λ x. IsTrue (is_flush x.event)) es) is h.flushes) in
+    had_by v w e port later added (flush_keeps e.event one) c
+flush_begun v w (e ∷ x ∷ part) port later h is few c = absurd (omega (arith, few))
+
 flush_dates : (v w : PortValue) (part : List PlainEntry) → IsPort v → IsPort w → (h : FlushesOnce v w) → h.part ≡ part → length part ≤ 1
     → (first : Scene) (session : JobsSession) (d : DeskState) → IsUpToDate first session v d → IsUpToDate first session w (new_sent_on w d)
 flush_dates v w [] port later h is few first session d up =
@@ -169,11 +178,11 @@ flush_dates v w (e ∷ x ∷ part) port later h is few first session d up = absu
 pub flush_sends : (v w : PortValue) (d x : DeskState) → IsPort v → IsPort w → FlushesOnce v w → x ≡ new_sent_on w d → SendsAlong v w d x
 flush_sends v w d x port later h is =
     subst (λ (y : DeskState). SendsAlong v w d y) (sym is)
-    (record { alone = alone_new w d; each = λ first session up. flush_dates v w h.part port later h refl h.few first session d up })
+    (record { alone = alone_new w d; kept = h.kept; begun = flush_begun v w h.part port later h refl h.few; each = λ first session up. flush_dates v w h.part port later h refl h.few first session d up })
 
 pub flush_stops : (v w : PortValue) (d : DeskState) → IsPort v → IsPort w → FlushesOnce v w → StopsAlong v w d d
 flush_stops v w d port later h =
-    record { alone = alone_none d; each = λ first session up. flush_stands v w h.part port later h refl h.few first session d up.stands }
+    record { alone = alone_none d; kept = h.kept; begun = flush_begun v w h.part port later h refl h.few; each = λ first session up. flush_stands v w h.part port later h refl h.few first session d up.stands }
 
 pub stops_by : (denied : Denied) (v w : PortValue) (d x : DeskState) → StopsAlong v w d x → StopsBy denied v w d x
 stops_by NoMemory v w d x h = tt
@@ -192,15 +201,18 @@ alone_more d x y h k = record {
   passes = λ session. subst (λ (p : ℕ). passings_on session y.log p ≡ passings_on session x.log p) h.same.number (k.passes session) ∙ h.passes session;
 }
 
+had_more : (u v w : PortValue) (c : ℕ) → HadBegun u v c → HadBegun v w c → HadBegun u w c
+had_more u v w c h k is = (let mid = k is in let first = h mid.0 in (first.0, mid.1 ∙ first.1))
+
 pub sends_none : (v : PortValue) (d : DeskState) → SendsAlong v v d d
-sends_none v d = record { alone = alone_none d; each = λ first session up. up }
+sends_none v d = record { alone = alone_none d; kept = refl; begun = λ c is. (is, refl); each = λ first session up. up }
 
 pub sends_more : (u v w : PortValue) (d x y : DeskState) → SendsAlong u v d x → SendsAlong v w x y → SendsAlong u w d y
-sends_more u v w d x y h k = record { alone = alone_more d x y h.alone k.alone; each = λ first session up. k.each first session (h.each first session up) }
+sends_more u v w d x y h k = record { alone = alone_more d x y h.alone k.alone; kept = k.kept ∙ h.kept; begun = λ c. had_more u v w c (h.begun c) (k.begun c); each = λ first session up. k.each first session (h.each first session up) }
 
 pub stops_more : (denied : Denied) (u v w : PortValue) (d x y : DeskState) → SendsAlong u v d x → StopsBy denied v w x y → StopsBy denied u w d y
 stops_more NoMemory u v w d x y h k = tt
-stops_more Full u v w d x y h k = record { alone = alone_more d x y h.alone k.alone; each = λ first session up. k.each first session (h.each first session up) }
+stops_more Full u v w d x y h k = record { alone = alone_more d x y h.alone k.alone; kept = k.kept ∙ h.kept; begun = λ c. had_more u v w c (h.begun c) (k.begun c); each = λ first session up. k.each first session (h.each first session up) }
 
 -- want of memory tells nothing
 pub memory_stops : (denied : Denied) (v w : PortValue) (d x : DeskState) → denied ≡ NoMemory → StopsBy denied v w d x
@@ -218,7 +230,7 @@ meeting_sends v w putter d is =
     let met : PortValue = record v { flip = after_meeting v.flip putter } in
     let by : ComesBy v met [] = record { added = sym (append-nil v.journal); grows = λ c step call at. at; counts = refl; capacity = refl } in
     subst (λ (x : PortValue). SendsAlong v x d d) (sym is)
-    (record { alone = alone_none d; each = λ first session up. record { stands = stands_on first session v met [] d by (had_same v met refl) up.stands; all_sent = up.all_sent } })
+    (record { alone = alone_none d; kept = refl; begun = had_same v met refl; each = λ first session up. record { stands = stands_on first session v met [] d by (had_same v met refl) up.stands; all_sent = up.all_sent } })
 
 -- the line's end is noted in the journal
 pub line_end_sends : (v w : PortValue) (putter now : PutterState Flagged) (d : DeskState) → IsPort v → IsPort w → EndsLine v w putter now → SendsAlong v w d d
@@ -235,6 +247,8 @@ line_end_sends v w putter now d port later ends =
     } in
     record {
       alone = alone_none d;
+      kept = ap (λ (x : PortValue). x.kept) appended;
+      begun = had_by v w e port later added refl;
       each = λ first session up. record {
         stands = stands_on first session v w (e ∷ []) d by (had_by v w e port later added refl) up.stands;
         all_sent = omega (arith, up.all_sent, ap (λ (ss : List Signal). length ss) still);
@@ -245,4 +259,4 @@ line_end_sends v w putter now d port later ends =
 pub line_end_stops : (denied : Denied) (v w : PortValue) (d : DeskState) → Denies denied v w → StopsBy denied v w d d
 line_end_stops NoMemory v w d h = tt
 line_end_stops Full v w d h =
-    subst (λ (x : PortValue). StopsAlong v x d d) (sym h.1) (record { alone = alone_none d; each = λ first session up. up.stands })
+    subst (λ (x : PortValue). StopsAlong v x d d) (sym h.1) (record { alone = alone_none d; kept = refl; begun = λ c is. (is, refl); each = λ first session up. up.stands })

@@ -1,15 +1,15 @@
 -- A call of a caller's turn that is for the port.
-use Rattle.std.proofs.Common.{◌≡◌, ◌≤◌, ◌<◌, ◌⊎◌, ℕ, ◌+◌, ◌-◌, ◌^◌, Bool, true, false, List, [], ◌∷◌, ◌++◌, Option, None, Some, length, get_or, if◌then◌else◌, refl, sym, ap, ◌∙◌, subst, arith}
+use Rattle.std.proofs.Common.{◌≡◌, ◌≤◌, ◌<◌, ◌⊎◌, ℕ, ◌-◌, ◌^◌, Bool, true, false, List, [], ◌∷◌, ◌++◌, Option, None, Some, length, get_or, if◌then◌else◌, refl, sym, ap, ◌∙◌, subst, arith, length-append}
 use Rattle.std.specs.Prelude.{slice_index_or}
 use Rattle.std.proofs.lemmas.Bool.{false≢true}
 use Rattle.std.proofs.lemmas.Option.{get_or_from_slice_get}
 use Rattle.tty_base.specs.declared.counters.Signal.{Signal}
-use Rattle.tty_calls.specs.Plain.{PlainCall, opens, closes, reads, writes, gets_modes, sets_modes, gets_disc, sets_disc, flushes, steers, counts_input, counts_output, excludes, admits, drains, gets_counts, hangs_up, sends_packet, takes_packet, PlainAnswer, done, count_is, got, number_is, modes_are, counts_are, refused, idle, PlainEvent, answered, parted, waited, flushed, ticked, line_ended, clock_ended, caller_ended, phase_ended, hung_up}
+use Rattle.tty_calls.specs.Plain.{PlainCall, opens, closes, reads, writes, gets_modes, sets_modes, gets_disc, sets_disc, flushes, steers, counts_input, counts_output, excludes, admits, drains, gets_counts, hangs_up, sends_packet, takes_packet, PlainAnswer, done, count_is, got, number_is, modes_are, counts_are, refused, idle, PlainEvent, answered, parted, waited, flushed, ticked, line_ended, clock_ended, caller_ended, phase_ended, hung_up, PlainEntry}
 use Rattle.tty_terminal.specs.Terminals.{opening}
 use Rattle.tty_terminal.specs.Runs.{is_flush, is_of_call}
 use Rattle.passed_calls.specs.Journals.{Journal}
 use Rattle.port_core.specs.Attempts.{PlainTried, done_by, took_part, must_wait}
-use Rattle.port_core.specs.Ports.{PortValue, IsPort}
+use Rattle.port_core.specs.Ports.{PortValue, IsPort, IsOpen}
 use Rattle.one_thread.specs.Stages.{HasAnyOrder}
 use Rattle.one_thread.specs.Turns.{PlaysOnIn}
 use Rattle.one_thread.specs.Acts.{InCall, TriesCall, PlaysCall}
@@ -27,7 +27,10 @@ use Rattle.job_one.specs.Events.{DeskState, noted, told_at, leader_told, is_hang
 use Rattle.job_one.specs.Between.{value_at}
 use Rattle.job_one.specs.Playing.{DeskValue, passings_with, begun_with, IsPlayingJobs}
 use Rattle.job_one.specs.Frames.{Frame, IsAtTurn, IsNextTurn, IsForPort}
+use Rattle.job_one.specs.Taken.{Advances, WereOver, HasGone, TakesCall}
 use Rattle.job_one.proofs.Witnessed.{in_call}
+use Rattle.job_one.proofs.Attempted.{call_is}
+use Rattle.job_one.proofs.Overs.{over_call}
 use Rattle.job_one.proofs.Phasing.{signals_stay}
 use Rattle.job_one.proofs.Turning.{due_goes_on, call_waits, call_answered}
 
@@ -68,6 +71,19 @@ is_answered jobs (hangs_up h) idle = record { jobs_are = refl; due_are = refl }
 nothing : Journal
 nothing = record { entries = []; calls = λ c step. None; opening = opening 0 0 }
 
+-- an entry of a call is no flush
+pub call_no_flush : (event : PlainEvent) → is_of_call event ≡ true → is_flush event ≡ false
+call_no_flush (answered a dropped) e = refl
+call_no_flush (parted n) e = refl
+call_no_flush waited e = refl
+call_no_flush (flushed chars) e = absurd (false≢true e)
+call_no_flush ticked e = absurd (false≢true e)
+call_no_flush (line_ended n) e = absurd (false≢true e)
+call_no_flush clock_ended e = absurd (false≢true e)
+call_no_flush caller_ended e = absurd (false≢true e)
+call_no_flush phase_ended e = absurd (false≢true e)
+call_no_flush (hung_up dropped) e = absurd (false≢true e)
+
 module _ (f : Frame) (roles : List Role) where
   -- the player with this log, and these events due
   abbrev Plays : PortValue → Stand → JobLog → DeskValue → Type 0
@@ -85,19 +101,6 @@ module _ (f : Frame) (roles : List Role) where
 
   pub few_at : (v : PortValue) (d : DeskState) (stand : Stand) (place : ℕ) (call : PlainCall) (r : Role) → IsForPort f roles v d stand place call → slice_index_or d.next (get_or roles place r).number 0 < 2 ^ 32 - 1
   few_at v d stand place call r h = subst (λ (x : Role). slice_index_or d.next x.number 0 < 2 ^ 32 - 1) (sym (at_role v d stand place call r h)) h.few
-
-  -- an entry of a call is no flush
-  call_no_flush : (event : PlainEvent) → is_of_call event ≡ true → is_flush event ≡ false
-  call_no_flush (answered a dropped) e = refl
-  call_no_flush (parted n) e = refl
-  call_no_flush waited e = refl
-  call_no_flush (flushed chars) e = absurd (false≢true e)
-  call_no_flush ticked e = absurd (false≢true e)
-  call_no_flush (line_ended n) e = absurd (false≢true e)
-  call_no_flush clock_ended e = absurd (false≢true e)
-  call_no_flush caller_ended e = absurd (false≢true e)
-  call_no_flush phase_ended e = absurd (false≢true e)
-  call_no_flush (hung_up dropped) e = absurd (false≢true e)
 
   still_at : (old new : PortValue) (d : DeskState) (was now : Stand) (place : ℕ) (call : PlainCall) (tried : PlainTried) → IsForPort f roles old d was place call
       → IsNextTurn f roles old was (turn.Call place) → IsPort old → IsPort new → TriesCall roles old new place call tried → PlaysCall roles old new was now place call → signals_of new.terminal ≡ signals_of old.terminal
@@ -179,3 +182,53 @@ module _ (f : Frame) (roles : List Role) where
       let is_x : x ≡ answered_in d n c call answer = said ∙ ap (λ (q : Role). answered_in d n q.number call answer) (at_role old d was place call r h) in
       subst (λ (z : DeskState). IsAtTurn f roles new z now) (sym is_x)
       (settles new now d y (is_hangup_done call answer) at.number refl (subst (λ (ss : List Signal). length ss ≤ d.sent) (sym (still_at old new d was now place call (done_by answer) h is port later tries plays)) at.all_sent) by_due)
+
+  -- ---- what the attempt leaves
+
+  gone_at : (old new : PortValue) (d : DeskState) (was : Stand) (place : ℕ) (call : PlainCall) (tried : PlainTried) → IsForPort f roles old d was place call → IsNextTurn f roles old was (turn.Call place)
+      → IsOpen old → TriesCall roles old new place call tried → HasGone false old new
+  gone_at old new d was place call tried h is room tries =
+      let at = in_call_at old d was place call h is in
+      let m = tries.makes in
+      (omega (arith, room.0, at.in_turn.plays.of_scene.limit), ap (λ (es : List PlainEntry). length es) m.added ∙ length-append old.journal (m.entry ∷ []))
+
+  over_at : (old new : PortValue) (d : DeskState) (was now : Stand) (place : ℕ) (call : PlainCall) (tried : PlainTried) → IsForPort f roles old d was place call → IsNextTurn f roles old was (turn.Call place)
+      → TriesCall roles old new place call tried → PlaysCall roles old new was now place call → (c : ℕ) → WereOver old new c
+  over_at old new d was now place call tried h is tries plays c =
+      let at = in_call_at old d was place call h is in
+      let on : PlaysOnIn HasAnyOrder at.in_turn.scene at.in_turn.scripts roles old new was now = (plays.each at).on in
+      over_call at.in_turn.scene old new on.adds c (call_is old new tries.role.number call tries.makes at.in_turn.scene on.adds)
+
+  told_advances : (d x : DeskState) (at c : ℕ) (leader : Option ℕ) → Advances true c d x → Advances true c d (told_at x at leader)
+  told_advances d x at c None h = h
+  told_advances d x at c (Some leader) h = record { callers = h.callers; procs = h.procs; next = h.next }
+
+  answered_advances : (d : DeskState) (at c : ℕ) (answer : PlainAnswer) (hung_up : Bool) → Advances true c d (if hung_up then leader_told (answered_by_port d at c answer) at else answered_by_port d at c answer)
+  answered_advances d at c answer true =
+      let y : DeskState = answered_by_port d at c answer in
+      told_advances d (record y { jobs = let_go y.jobs }) at c (leader_of y.jobs) (record { callers = refl; procs = refl; next = refl })
+  answered_advances d at c answer false = record { callers = refl; procs = refl; next = refl }
+
+  pub takes_waiting : (old new : PortValue) (d : DeskState) (was now : Stand) (place : ℕ) (call : PlainCall) (tried : PlainTried) → IsAtTurn f roles old d was → (h : IsForPort f roles old d was place call)
+      → IsNextTurn f roles old was (turn.Call place) → IsPort old → IsPort new → IsOpen old → (tried ≡ must_wait) ⊎ (tried ≡ took_part) → TriesCall roles old new place call tried → PlaysCall roles old new was now place call
+      → TakesCall f roles place old new d d (record { answered = false; stand = now })
+  takes_waiting old new d was now place call tried at h is port later room waits tries plays = record {
+    at = waits_at old new d was now place call tried at h is port later waits tries plays;
+    desk = λ r r_at. record { callers = refl; procs = refl; next = refl };
+    over = over_at old new d was now place call tried h is tries plays;
+    gone = gone_at old new d was place call tried h is room tries;
+  }
+
+  pub takes_answered : (old new : PortValue) (d x : DeskState) (was now : Stand) (place : ℕ) (call : PlainCall) (answer : PlainAnswer) (r : Role) → IsAtTurn f roles old d was → (h : IsForPort f roles old d was place call)
+      → IsNextTurn f roles old was (turn.Call place) → IsPort old → IsPort new → IsOpen old → TriesCall roles old new place call (done_by answer) → PlaysCall roles old new was now place call
+      → x ≡ answered_in d (length new.journal) (get_or roles place r).number call answer → TakesCall f roles place old new d x (record { answered = true; stand = now })
+  takes_answered old new d x was now place call answer r at h is port later room tries plays said =
+      let gone = gone_at old new d was place call (done_by answer) h is room tries in
+      record {
+        at = answered_at old new d x was now place call answer r at h is port later tries plays said;
+        desk = λ q q_at.
+            subst (λ (z : DeskState). Advances true q.number d z) (sym (said ∙ ap (λ (z : Role). answered_in d (length new.journal) z.number call answer) (get_or_from_slice_get roles place q r q_at)))
+            (answered_advances d (length new.journal) q.number answer (is_hangup_done call answer));
+        over = over_at old new d was now place call (done_by answer) h is tries plays;
+        gone = omega (arith, gone.1);
+      }

@@ -27,5 +27,12 @@ pub mod Along
 pub mod Phasing
 pub mod FlushTurns
 pub mod CallTurns
+pub mod Overs
+pub mod HandleNumbers
 pub mod OwnTurns
+pub mod NextCalls
+pub mod HangUps
+pub mod LeftCalls
 pub mod Telling
+pub mod Mixed
+pub mod Owned

@@ -1,6 +1,8 @@
 -- The calls of job control at a desk.
-use Rattle.std.specs.Prelude.{ℕ, Option, None, Some, Result, Ok, Err, List, [], ◌∷◌, map, if◌then◌else◌}
+use Rattle.std.specs.Prelude.{ℕ, Option, None, Some, Result, Ok, Err, List, [], ◌∷◌, map, position, if◌then◌else◌}
 use Rattle.std.specs.Option.{option_to_list}
+use Rattle.handle_table.specs.Handles.{is_live}
+use Rattle.tty_terminal.specs.Terminals.{Terminal}
 use Rattle.job_control.specs.declared.answers.JobAnswer.{JobAnswer}
 use Rattle.job_control.specs.declared.answers.JobAnswer.TheVariants as told
 use Rattle.job_control.specs.declared.processes.JobRefusal.{JobRefusal}
@@ -31,3 +33,14 @@ told_by (Err refusal) = refusal_answer refusal
 abbrev pub refused_or : JobState → Option JobAnswer → Outcome → Outcome
 refused_or jobs None outcome = outcome
 refused_or jobs (Some answer) outcome = leaves answer jobs
+
+-- a call of job control came to this
+abbrev pub came_to : Terminal → (c : ℕ) → JobAnswer → JobState → Due → Outcome
+came_to t c answer left due = record { answer = answer; left = left; due = due_events due c (position is_live t.handles) }
+
+-- the handle of the hangup that is due, where this is the least live one
+abbrev pub hangup_due : Due → (least : Option ℕ) → Option ℕ
+hangup_due due.Nothing least = None
+hangup_due (due.Signal signal target) least = None
+hangup_due (due.Left target) least = None
+hangup_due (due.Ended target) least = least

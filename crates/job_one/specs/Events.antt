@@ -1,5 +1,5 @@
 -- What is noted at the desk of a port.
-use Rattle.std.specs.Prelude.{◌≡◌, ◌≤◌, ◌+◌, ℕ, Bool, true, false, if◌then◌else◌, Option, None, Some, List, [], ◌∷◌, ◌++◌, length, drop, slice_index_or, slice_set, unwrap_or}
+use Rattle.std.specs.Prelude.{◌≡◌, ◌≤◌, ◌+◌, ℕ, All, Bool, true, false, if◌then◌else◌, Option, None, Some, List, [], ◌∷◌, ◌++◌, length, drop, slice_index_or, slice_set, unwrap_or}
 use Rattle.tty_base.specs.declared.counters.Signal.{Signal}
 use Rattle.tty_calls.specs.Plain.{PlainCall, hangs_up, PlainAnswer, done, PlainEntry}
 use Rattle.tty_calls.specs.declared.calls.Access.{Access}
@@ -16,7 +16,9 @@ use Rattle.job_control.specs.declared.processes.JobAct.TheVariants.{Read, Write,
 use Rattle.one_thread.specs.Roles.{Scene}
 use Rattle.job_text.specs.Events.{JobEvent, own, passed, passed_down, sent, JobLog}
 use Rattle.job_text.specs.Sessions.{JobsSession}
-use Rattle.job_steps.specs.Steps.{any_access, judged_answer, sent_by_stop, job_signal, foreground_target}
+use Rattle.passed_calls.specs.Scripts.{further}
+use Rattle.job_text.specs.declared.calls.OwnCall.{OwnCall}
+use Rattle.job_steps.specs.Steps.{Outcome, any_access, judged_answer, outcome_of, sent_by_stop, job_signal, foreground_target}
 use Rattle.job_one.specs.Later.{ComesBy}
 use Rattle.job_one.specs.Desk.{signals_of, IsDeskAt}
 
@@ -43,6 +45,10 @@ abbrev pub all_noted : DeskState → (at : ℕ) → List JobEvent → DeskState
 all_noted d at [] = d
 all_noted d at (e ∷ es) = all_noted (noted d at e) at es
 
+-- each event is of this port
+abbrev pub AreOn : ℕ → JobLog → Type 0
+AreOn p log = All (λ l. l.port ≡ p) log
+
 -- nothing but signals
 abbrev pub AreSent : List JobEvent → Type 0
 AreSent [] = Unit {0}
@@ -57,6 +63,14 @@ after_call d c = record d { next = slice_set d.next c (slice_index_or d.next c 0
 
 abbrev pub answered_own : DeskState → (at c : ℕ) → JobAnswer → DeskState
 answered_own d at c answer = after_call (noted d at (own c (slice_index_or d.next c 0) answer)) c
+
+-- what a call of job control of a caller comes to
+abbrev pub own_outcome : DeskState → PortValue → (c : ℕ) → OwnCall → Outcome
+own_outcome d v c call = outcome_of d.jobs v.terminal (slice_index_or d.callers c 0) c (further call)
+
+-- it is answered so, and these signals are sent
+abbrev pub controlled : DeskState → PortValue → (c : ℕ) → Outcome → (signals : List JobEvent) → DeskState
+controlled d v c outcome signals = all_noted (record (answered_own d (length v.journal) c outcome.answer) { jobs = outcome.left }) (length v.journal) signals
 
 -- a call from the background is answered as it was judged, and where it is stopped its group is told
 abbrev pub stopped : DeskState → (at c : ℕ) → Judged → DeskState

@@ -1,10 +1,10 @@
 -- A phase of a port of processes, behind its line, as the player's functions speak of it.
-use Rattle.std.specs.Prelude.{◌≡◌, ◌≤◌, ◌<◌, ◌-◌, ◌^◌, ℕ, IsTrue, List, false, Some, length, slice_get, slice_index_or}
+use Rattle.std.specs.Prelude.{◌≡◌, ◌≤◌, ◌<◌, ◌-◌, ◌^◌, ℕ, IsTrue, List, [], ◌∷◌, false, Some, length, slice_get, slice_index_or}
 use Rattle.tty_calls.specs.declared.sessions.Script.{Script}
-use Rattle.tty_calls.specs.declared.answers.Denied.{Denied}
-use Rattle.tty_calls.specs.declared.answers.Denied.TheVariants.{NoMemory, Full}
-use Rattle.tty_calls.specs.Plain.{PlainCall}
+use Rattle.tty_calls.specs.Plain.{PlainCall, hangs_up}
+use Rattle.tty_terminal.specs.Terminals.{handle_at}
 use Rattle.port_core.specs.Ports.{PortValue}
+use Rattle.handle_table.specs.Handles.{is_live}
 use Rattle.one_thread.specs.Order.{is_of_consoles}
 use Rattle.one_thread.specs.Roles.{Scene}
 use Rattle.one_thread.specs.Turns.{role_numbers, IsTurn}
@@ -13,6 +13,7 @@ use Rattle.one_thread.specs.declared.after_line.Stand.{Stand}
 use Rattle.one_thread.specs.declared.after_line.Turn.{Turn}
 use Rattle.job_control.specs.declared.processes.Judged.TheVariants.{Pass}
 use Rattle.passed_calls.specs.Scripts.{plain}
+use Rattle.job_text.specs.Events.{JobEvent, passed_down}
 use Rattle.job_text.specs.Sessions.{JobCall, JobsSession}
 use Rattle.job_steps.specs.Derived.{block_phases}
 use Rattle.job_steps.specs.Steps.{is_own, judged_call}
@@ -20,7 +21,8 @@ use Rattle.job_one.specs.Witness.{IsCalling}
 use Rattle.job_one.specs.Desk.{proc_in, call_after, signals_of}
 use Rattle.job_one.specs.Events.{DeskState}
 use Rattle.job_one.specs.Between.{value_at}
-use Rattle.job_one.specs.Playing.{passings_with, begun_at, begun_with, IsPlayingJobs}
+use Rattle.job_one.specs.Latest.{latest_on}
+use Rattle.job_one.specs.Playing.{passings_with, begun_at, begun_with, hangup_with, IsPlayingJobs}
 
 -- what stays meanwhile: the session and its plain part, the scripts of each scene that may be played, the port behind
 -- the line, and the ticks
@@ -31,19 +33,18 @@ pub record Frame : Type 0 where
   pub start : PortValue
   pub ticks : ℕ
 
--- between two turns: the desk is that of this port, and each of its signals was sent on
-pub record IsAtTurn (f : Frame) (roles : List Role) (v : PortValue) (d : DeskState) (stand : Stand) : Type 0 where
+-- the desk is that of this port, where each of its signals was sent on, and these events are due
+pub record IsOwing (f : Frame) (roles : List Role) (v : PortValue) (d : DeskState) (stand : Stand) (due : List JobEvent) : Type 0 where
   pub number : f.first.port ≡ d.number
-  pub playing : IsPlayingJobs f.first f.session f.scripts roles f.start d.log v (value_at d) f.ticks stand
+  pub playing : IsPlayingJobs f.first f.session f.scripts roles f.start d.log v (record (value_at d) { due = due }) f.ticks stand
   pub all_sent : length (signals_of v.terminal) ≤ d.sent
+
+-- between two turns: nothing is due
+abbrev pub IsAtTurn : Frame → List Role → PortValue → DeskState → Stand → Type 0
+IsAtTurn f roles v d stand = IsOwing f roles v d stand []
 
 abbrev pub IsNextTurn : Frame → List Role → PortValue → Stand → Turn → Type 0
 IsNextTurn f roles v stand next = IsTurn (is_of_consoles f.first.session) v (role_numbers roles) stand.going next
-
--- the journal is full, and port and desk are as before; want of memory tells nothing
-abbrev pub StaysAtTurn : Denied → Frame → List Role → PortValue → DeskState → Stand → Type 0
-StaysAtTurn NoMemory f roles v d stand = Unit {0}
-StaysAtTurn Full f roles v d stand = IsAtTurn f roles v d stand
 
 -- A call of the caller at a place, whose turn it is, for the port: the one that it has begun, or a new one that goes on
 -- by the background check; and with it the session that is played has this call next.
@@ -67,3 +68,14 @@ pub record IsOwnCall (f : Frame) (roles : List Role) (v : PortValue) (d : DeskSt
   pub proc : slice_index_or d.callers role.number 0 ≡ proc_in f.session f.first.port role.number
   pub has : call_after f.session f.first.port d.next role.number ≡ Some call
   pub its : IsTrue (is_own d.jobs v.terminal (proc_in f.session f.first.port role.number) call)
+
+-- the hangup of the process of the caller at a place, which has ended in its turn
+pub record IsHangingUp (f : Frame) (roles : List Role) (v : PortValue) (d : DeskState) (stand : Stand) (place handle : ℕ) : Type 0 where
+  pub role : Role
+  pub at_place : slice_get roles place ≡ Some role
+  pub owing : IsOwing f roles v d stand (passed_down role.number handle ∷ [])
+  pub rests : begun_at v role.number ≡ false
+  pub live : IsTrue (is_live (handle_at v.terminal handle))
+  pub few : handle < 32
+  pub latest : latest_on d.log f.first.port < slice_index_or d.next role.number 0
+  pub calling : IsCalling f.first (block_phases f.session) f.scripts roles f.start (hangup_with f.session d.log f.first.port (value_at d) v role.number handle) v f.ticks stand place (hangs_up handle)

@@ -12,3 +12,6 @@ pub mod Along
 pub mod Between
 pub mod Frames
 pub mod Controls
+pub mod Remaining
+pub mod AfterLine
+pub mod Taken

@@ -1,15 +1,24 @@
 //! The calls of job control: what each is answered, and what is due then.
 
-ghost use Rattle.std.specs.Prelude.{◌≡◌, ◌<◌, ℕ, Option, length};
+ghost use Rattle.std.specs.Prelude.{◌≡◌, ◌<◌, ℕ, Option, IsTrue, length, position};
+ghost use Rattle.handle_table.specs.Handles.{is_live};
 ghost use Rattle.tty_terminal.specs.Terminals.{handle_at};
 ghost use Rattle.job_control.specs.Control.{JobState, after_sctty, sctty_refusal, no_terminal, after_notty, gpgrp_answer, after_spgrp, spgrp_refusal, after_exit};
 ghost use Rattle.job_control.specs.declared.answers.JobAnswer.TheVariants as told;
-ghost use Rattle.job_steps.specs.Steps.{Outcome, done_or, number_or, refusal_answer, foreground_target, notty_due, through};
-ghost use Rattle.job_one.specs.Controls.{due_events, ended_due, told_by, refused_or};
+ghost use Rattle.job_steps.specs.Steps.{Outcome, done_or, number_or, outcome_of, refusal_answer, foreground_target, notty_due, spgrp_outcome, through};
+ghost use Rattle.job_text.specs.declared.calls.OwnCall.TheVariants as own;
+ghost use Rattle.passed_calls.specs.Scripts.{further};
+ghost use Rattle.job_one.specs.Controls.{came_to, due_events, ended_due, hangup_due, told_by, refused_or};
 
-use job_control::{JobAnswer, JobRefusal, JobSignal, Jobs, Target};
+use handle_table::HandleState;
+use job_control::{JobAct, JobAnswer, JobRefusal, JobSignal, Jobs, Judged, Target};
+use job_text::OwnCall;
 use port_core::Port;
 use tty_base::Errno;
+use tty_modes::places::TOSTOP;
+
+/// How many numbers handles have.
+const HANDLES: u8 = 32;
 
 /// What is due behind a call.
 #[derive(Clone, Copy)]
@@ -122,4 +131,105 @@ pub fn exit(jobs: &mut Jobs, proc: u16) -> Due
     };
     jobs.exit(proc);
     due
+}
+
+/// A call of job control by a process.
+pub fn control(jobs: &mut Jobs, port: &Port, proc: u16, call: OwnCall) -> (JobAnswer, Due)
+    requires { proc < length jobs.old.procs }
+    ensures { (c : ℕ) → outcome_of jobs.old port.now.terminal proc c (further call) ≡ came_to port.now.terminal c result.0 jobs.new result.1 }
+{
+    match call {
+        OwnCall::Sctty { h } => sctty_through(jobs, port, proc, h),
+        OwnCall::Notty { h } => notty_through(jobs, port, proc, h),
+        OwnCall::Gpgrp { h } => gpgrp_through(jobs, port, proc, h),
+        OwnCall::Spgrp { h, group } => spgrp_through(jobs, port, proc, h, group),
+        OwnCall::Exit => (JobAnswer::Done, exit(jobs, proc)),
+    }
+}
+
+fn sctty_through(jobs: &mut Jobs, port: &Port, proc: u16, h: u8) -> (JobAnswer, Due)
+    ensures { (c : ℕ) → outcome_of jobs.old port.now.terminal proc c (further (own.Sctty h)) ≡ came_to port.now.terminal c result.0 jobs.new result.1 }
+{
+    match refusal_through(port, h, Errno::EIO) {
+        Some(answer) => (answer, Due::Nothing),
+        None => (sctty(jobs, proc), Due::Nothing),
+    }
+}
+
+fn notty_through(jobs: &mut Jobs, port: &Port, proc: u16, h: u8) -> (JobAnswer, Due)
+    requires { proc < length jobs.old.procs }
+    ensures { (c : ℕ) → outcome_of jobs.old port.now.terminal proc c (further (own.Notty h)) ≡ came_to port.now.terminal c result.0 jobs.new result.1 }
+{
+    match refusal_through(port, h, Errno::EIO) {
+        Some(answer) => (answer, Due::Nothing),
+        None => notty(jobs, proc),
+    }
+}
+
+fn gpgrp_through(jobs: &Jobs, port: &Port, proc: u16, h: u8) -> (JobAnswer, Due)
+    ensures { (c : ℕ) → outcome_of jobs.now port.now.terminal proc c (further (own.Gpgrp h)) ≡ came_to port.now.terminal c result.0 jobs.now result.1 }
+{
+    match refusal_through(port, h, Errno::EIO) {
+        Some(answer) => (answer, Due::Nothing),
+        None => (gpgrp(jobs, proc), Due::Nothing),
+    }
+}
+
+fn spgrp_through(jobs: &mut Jobs, port: &Port, proc: u16, h: u8, group: u16) -> (JobAnswer, Due)
+    ensures { (c : ℕ) → outcome_of jobs.old port.now.terminal proc c (further (own.Spgrp h group)) ≡ came_to port.now.terminal c result.0 jobs.new result.1 }
+{
+    match refusal_through(port, h, Errno::ENOTTY) {
+        Some(answer) => (answer, Due::Nothing),
+        None => spgrp_checked(jobs, port, proc, group),
+    }
+}
+
+/// It is a change of the port: so the background check comes before the group is looked for.
+fn spgrp_checked(jobs: &mut Jobs, port: &Port, proc: u16, group: u16) -> (JobAnswer, Due)
+    ensures { (c : ℕ) → spgrp_outcome jobs.old port.now.terminal proc group ≡ came_to port.now.terminal c result.0 jobs.new result.1 }
+{
+    if !jobs.controls(proc) {
+        return (JobAnswer::Refused(Errno::ENOTTY), Due::Nothing);
+    }
+    let tostop = port.modes().has(TOSTOP);
+    match jobs.check(proc, JobAct::Change, tostop) {
+        Judged::Pass => (spgrp(jobs, proc, group), Due::Nothing),
+        Judged::Eio => (JobAnswer::Refused(Errno::ENOTTY), Due::Nothing),
+        Judged::Stop(signal) => {
+            let target = Target::Group(jobs.group(proc));
+            (JobAnswer::Stopped(signal), Due::Signal(signal, target))
+        }
+    }
+}
+
+/// The handle through which the port is hung up, where that is due.
+pub fn hangup_through(port: &Port, due: Due) -> Option<u8>
+    ensures { result ≡ hangup_due due (position is_live port.now.terminal.handles) }
+{
+    match due {
+        Due::Ended(_) => least_live(port),
+        _ => None,
+    }
+}
+
+fn is_live(handle: Option<HandleState>) -> bool
+    ensures { result ≡ is_live handle }
+{
+    match handle {
+        Some(handle) => handle.live,
+        None => false,
+    }
+}
+
+/// The least number of a live handle.
+fn least_live(port: &Port) -> Option<u8>
+    ensures { result ≡ position is_live port.now.terminal.handles }
+{
+    let _journal = port.journal();
+    for h in 0..HANDLES {
+        if is_live(port.handle(h)) {
+            return Some(h);
+        }
+    }
+    None
 }

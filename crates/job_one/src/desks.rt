@@ -1,18 +1,20 @@
 //! The desk of a port: job control beside it, and what is noted of it.
 
-ghost use Rattle.std.specs.Prelude.{◌≡◌, ◌<◌, ◌-◌, ◌^◌, [], ◌∷◌, ◌++◌, length, map, slice_get, slice_index_or, None, IfErr, OnOk};
-ghost use Rattle.job_text.specs.Events.{event_of, logged_of, sent};
+ghost use Rattle.std.specs.Prelude.{◌≡◌, ◌<◌, ◌-◌, ◌^◌, [], ◌∷◌, ◌++◌, length, map, position, slice_get, slice_index_or, ℕ, None, IfErr, IfOk, OnErr, OnOk};
+ghost use Rattle.handle_table.specs.Handles.{is_live};
+ghost use Rattle.job_text.specs.Events.{event_of, logged_of, passed_down, sent};
 ghost use Rattle.tty_calls.specs.Plain.{answer_of, call_of};
 ghost use Rattle.job_steps.specs.Steps.{checks, job_signal, judged_if, judged_call};
 ghost use Rattle.job_one.specs.Controls.{due_events};
 ghost use Rattle.job_one.specs.Desk.{signals_of};
-ghost use Rattle.job_one.specs.Events.{needs_of, noted, all_noted, stopped, leader_told, is_hangup_done, answered, answered_own, answered_by_port, sent_on, new_sent_on};
+ghost use Rattle.job_one.specs.Events.{AreOn, needs_of, noted, all_noted, own_outcome, controlled, stopped, leader_told, is_hangup_done, answered, answered_own, answered_by_port, sent_on, new_sent_on};
 ghost use Rattle.tty_calls.specs.declared.answers.Denied.TheVariants as denied;
 
-use crate::controls::{Due, foreground};
+use crate::controls::{Due, control, foreground};
 use job_control::{JobAct, JobAnswer, JobSignal, Jobs, Judged, Target};
-use job_text::{JobEvent, JobLog};
+use job_text::{JobEvent, JobLog, OwnCall};
 use port_core::Port;
+use std::alloc::Global;
 use std::marker::Model;
 use tty_base::{Errno, NoMemory, Signal};
 use tty_calls::{Access, Answer, Call, Denied};
@@ -33,7 +35,7 @@ pub struct Desk {
 impl Model for Desk {
     ghost use Rattle.std.specs.Prelude.{map};
     ghost use Rattle.job_text.specs.Events.{logged_of};
-    ghost use Rattle.job_one.specs.Events.{DeskState};
+    ghost use Rattle.job_one.specs.Events.{AreOn, DeskState};
 
     ghost Value = { DeskState };
 
@@ -45,6 +47,8 @@ impl Model for Desk {
       sent = d.sent;
       log = map logged_of d.log.items;
     } };
+
+    ghost invariant = { λ d. AreOn d.number (map logged_of d.log.items) };
 }
 
 /// A signal of a port by its name in job control.
@@ -59,10 +63,23 @@ fn job_signal(signal: Signal) -> JobSignal
 }
 
 fn push_event(log: &mut Vec<JobLog>, logged: JobLog) -> Result<(), NoMemory>
-    ensures { OnOk result (log.new.items ≡ log.old.items ++ logged ∷ []) }
+    ensures ok { OnOk result (log.new.items ≡ log.old.items ++ logged ∷ []) }
+    ensures err { OnErr result (log.new.items ≡ log.old.items) }
 {
     log.push(logged)?;
     Ok(())
+}
+
+/// Adds an event to a log. One of events of one port stays so, where this is such a one.
+fn add_event(log: &mut Vec<JobLog>, logged: JobLog) -> Result<(), Denied>
+    ensures ok { OnOk result (log.new.items ≡ log.old.items ++ logged ∷ []) }
+    ensures err { IfErr result (λ d. d ≡ denied.NoMemory) }
+    ensures own { (p : ℕ) → logged.port ≡ p → AreOn p (map logged_of log.old.items) → AreOn p (map logged_of log.new.items) }
+{
+    match push_event(log, logged) {
+        Ok(()) => Ok(()),
+        Err(NoMemory) => Err(Denied::NoMemory),
+    }
 }
 
 /// Whether a handle of this access serves for an act.
@@ -87,9 +104,9 @@ fn is_hangup(call: &Call, answer: &Answer) -> bool
 }
 
 impl Desk {
-    /// A desk for the callers of these processes, who have made no call, behind what was logged of other ports.
-    pub fn new(number: u8, callers: Vec<u16>, next: Vec<u32>, jobs: Jobs, log: Vec<JobLog>) -> Desk
-        ensures { result ≡ record { number = number; callers = callers.items; jobs = jobs; next = next.items; sent = 0; log = map logged_of log.items } }
+    /// A desk for the callers of these processes, at which nothing was logged.
+    pub fn new(alloc: Global, number: u8, callers: Vec<u16>, next: Vec<u32>, jobs: Jobs) -> Desk
+        ensures { result ≡ record { number = number; callers = callers.items; jobs = jobs; next = next.items; sent = 0; log = [] } }
     {
         Desk {
             number,
@@ -97,8 +114,24 @@ impl Desk {
             jobs,
             next,
             sent: 0,
-            log,
+            log: Vec::new(alloc),
         }
+    }
+
+    /// What was logged, all of it of the desk's port. It takes no memory.
+    pub fn into_log(self) -> Vec<JobLog>
+        ensures log { map logged_of result.items ≡ self.log }
+        ensures own { AreOn self.number self.log }
+    {
+        let Desk {
+            number: _,
+            callers: _,
+            jobs: _,
+            next: _,
+            sent: _,
+            log,
+        } = self;
+        log
     }
 
     /// What a call that is for the port meets before the port is asked.
@@ -181,6 +214,31 @@ impl Desk {
             }
             Due::Ended(target) => self.send(port, JobSignal::Hup, target),
         }
+    }
+
+    /// A caller's call of job control is made and answered, and the signals that are due then are sent. It gives what was
+    /// due.
+    pub fn control(&mut self, port: &Port, caller: u16, call: OwnCall) -> Result<Due, Denied>
+        requires known { caller < length self.old.next }
+        requires few { slice_index_or self.old.next caller 0 < 2 ^ 32 - 1 }
+        requires caller { caller < length self.old.callers }
+        requires proc { slice_index_or self.old.callers caller 0 < length self.old.jobs.procs }
+        ensures due { IfOk result (λ due. due_events due caller (position is_live port.now.terminal.handles) ≡ (own_outcome self.old port.now caller call).due) }
+        ensures ok { IfOk result (λ due. self.new ≡ controlled self.old port.now caller (own_outcome self.old port.now caller call) (due_events due caller None)) }
+        ensures err { IfErr result (λ d. d ≡ denied.NoMemory) }
+    {
+        let proc = self.callers[usize::from(caller)];
+        let (answer, due) = control(&mut self.jobs, port, proc, call);
+        self.answer_with(port, caller, answer, due)?;
+        Ok(due)
+    }
+
+    /// The port was hung up for a process that has ended.
+    pub fn pass_down(&mut self, port: &Port, caller: u16, h: u8) -> Result<(), Denied>
+        ensures ok { OnOk result (self.new ≡ noted self.old (length port.now.journal) (passed_down caller h)) }
+        ensures err { IfErr result (λ d. d ≡ denied.NoMemory) }
+    {
+        self.note(port, JobEvent::Down { caller, h })
     }
 
     /// A call from the background is answered as it was judged, and its group is told.
@@ -273,10 +331,7 @@ impl Desk {
             at,
             event,
         };
-        match push_event(&mut self.log, logged) {
-            Ok(()) => Ok(()),
-            Err(NoMemory) => Err(Denied::NoMemory),
-        }
+        add_event(&mut self.log, logged)
     }
 
     fn send(&mut self, port: &Port, signal: JobSignal, target: Target) -> Result<(), Denied>

@@ -1,8 +1,9 @@
 //! Parts of a player of sessions of processes on one thread: what callers pass down to a port, its log and its desk, the
-//! line of a phase with its signals, and turns that are played at the desk. The player itself is not here.
+//! line of a phase with its signals, and what comes after it up to the end of the phase. The player itself is not here.
 #![tactic(auto)]
 
 mod acts;
+mod after_line;
 mod controls;
 mod desk_laws;
 mod desks;
@@ -11,12 +12,16 @@ mod line;
 mod logs;
 mod orders;
 mod players;
+mod remaining;
 mod turns;
 
 pub use acts::{
     calls_are_played, calls_end, phases_begin_to_be_played, phases_end, turns_are_played,
 };
-pub use controls::{Due, exit, foreground, gpgrp, notty, refusal_through, sctty, spgrp};
+pub use after_line::play_after_line;
+pub use controls::{
+    Due, control, exit, foreground, gpgrp, hangup_through, notty, refusal_through, sctty, spgrp,
+};
 pub use desk_laws::{
     calls_begin_by_their_entries, desks_follow_their_ports, desks_go_along_with_lines,
     new_signals_are_sent_on, signals_come_of_flushes,
@@ -36,4 +41,5 @@ pub use players::{
     phases_of_processes_are_played, players_answer_calls, players_hang_up_for_processes,
     players_pass_calls_down, players_send_signals_on, players_take_their_turns,
 };
-pub use turns::{take_call, take_flush, take_stop};
+pub use remaining::{NextCall, Remaining};
+pub use turns::{Taken, take_call, take_flush, take_own, take_pass, take_stop};

@@ -1,16 +1,26 @@
-//! What comes after the line of a phase.
+//! The turns that come after the line of a phase, one by one.
 
-ghost use Rattle.std.specs.Prelude.{◌≡◌, IfOk, IfErr, OnOk};
-ghost use Rattle.tty_calls.specs.declared.answers.Denied.TheVariants as denied;
-ghost use Rattle.passed_calls.specs.Scripts.{plain};
+ghost use Rattle.std.specs.Prelude.{◌≡◌, Some, IfOk, IfErr, OnOk, slice_get};
+ghost use Rattle.passed_calls.specs.Scripts.{plain, further};
 ghost use Rattle.one_thread.specs.declared.after_line.Turn.TheVariants as turn;
 ghost use Rattle.tty_calls.specs.Plain.{call_of};
-ghost use Rattle.job_one.specs.Frames.{Frame, IsAtTurn, IsForPort, IsNextTurn, IsOwnCall, StaysAtTurn};
+ghost use Rattle.job_one.specs.Frames.{Frame, IsAtTurn, IsForPort, IsHangingUp, IsNextTurn, IsOwnCall};
+ghost use Rattle.job_one.specs.AfterLine.{StopsTurns, IsFrameWithin};
+ghost use Rattle.job_one.specs.Taken.{IsNextOf, TakesCall, TakesTurn};
 
+use crate::controls::hangup_through;
 use crate::desks::Desk;
-use one_thread::{Role, Stand, flush, try_call};
+use job_text::OwnCall;
+use one_thread::{Role, Stand, flush, pass, try_call};
 use port_core::{Port, Tried};
 use tty_calls::{Call, Denied};
+
+/// What a caller's turn came to: whether a call was answered, and where the player stands then.
+#[derive(Clone, Copy)]
+pub struct Taken {
+    pub answered: bool,
+    pub stand: Stand,
+}
 
 /// The next piece of a flush run, and the signals that it has raised.
 pub fn take_flush(
@@ -22,13 +32,33 @@ pub fn take_flush(
     ghost frame: { Frame }
     requires at { IsAtTurn frame roles.now port.old desk.old stand }
     requires next { IsNextTurn frame roles.now port.old stand turn.Flush }
-    ensures ok { IfOk result (λ now. IsAtTurn frame roles.now port.new desk.new now) }
-    ensures err { IfErr result (λ d. StaysAtTurn d frame roles.now port.new desk.new stand) }
+    ensures ok { IfOk result (λ now. TakesTurn frame roles.now port.old port.new desk.old desk.new now) }
+    ensures err { IfErr result (λ d. StopsTurns d frame roles.now port.new desk.new) }
 {
     let _before = port.journal();
     let now = flush(port, roles, stand)?;
     let _behind = port.journal();
     desk.send_new(port)?;
+    Ok(now)
+}
+
+/// A tick, or the end of the clock.
+pub fn take_pass(
+    port: &mut Port,
+    desk: &Desk,
+    roles: &[Role],
+    stand: Stand,
+) -> Result<Stand, Denied>
+    ghost frame: { Frame }
+    requires at { IsAtTurn frame roles.now port.old desk.now stand }
+    requires next { IsNextTurn frame roles.now port.old stand turn.Pass }
+    ensures ok { IfOk result (λ now. TakesTurn frame roles.now port.old port.new desk.now desk.now now) }
+    ensures err { IfErr result (λ d. StopsTurns d frame roles.now port.new desk.now) }
+{
+    let _ = desk;
+    let _before = port.journal();
+    let now = pass(port, roles, stand)?;
+    let _behind = port.journal();
     Ok(now)
 }
 
@@ -41,13 +71,13 @@ pub fn take_call(
     place: usize,
     call: &Call,
     stand: Stand,
-) -> Result<Stand, Denied>
+) -> Result<Taken, Denied>
     ghost frame: { Frame }
     requires at { IsAtTurn frame roles.now port.old desk.old stand }
     requires next { IsNextTurn frame roles.now port.old stand (turn.Call place) }
     requires call { IsForPort frame roles.now port.old desk.old stand place (call_of call.now) }
-    ensures ok { IfOk result (λ now. IsAtTurn frame roles.now port.new desk.new now) }
-    ensures err { IfErr result (λ d. StaysAtTurn d frame roles.now port.new desk.new stand) }
+    ensures ok { IfOk result (λ taken. TakesCall frame roles.now place port.old port.new desk.old desk.new taken) }
+    ensures err { IfErr result (λ d. StopsTurns d frame roles.now port.new desk.new) }
 {
     let caller = roles[place].number;
     let _before = port.journal();
@@ -56,10 +86,19 @@ pub fn take_call(
     match tried {
         Tried::Done(answer) => {
             desk.pass_answer(port, caller, call, answer)?;
-            Ok(now)
+            Ok(Taken {
+                answered: true,
+                stand: now,
+            })
         }
-        Tried::Part => Ok(now),
-        Tried::MustWait => Ok(now),
+        Tried::Part => Ok(Taken {
+            answered: false,
+            stand: now,
+        }),
+        Tried::MustWait => Ok(Taken {
+            answered: false,
+            stand: now,
+        }),
     }
 }
 
@@ -71,17 +110,79 @@ pub fn take_stop(
     place: usize,
     call: &Call,
     stand: Stand,
-) -> Result<(), Denied>
+) -> Result<Taken, Denied>
     ghost frame: { Frame }
     requires at { IsAtTurn frame roles.now port.now desk.old stand }
     requires next { IsNextTurn frame roles.now port.now stand (turn.Call place) }
     requires own { IsOwnCall frame roles.now port.now desk.old place (plain (call_of call.now)) }
-    ensures ok { OnOk result (IsAtTurn frame roles.now port.now desk.new stand) }
-    ensures err { IfErr result (λ d. d ≡ denied.NoMemory) }
+    ensures ok { IfOk result (λ taken. TakesCall frame roles.now place port.now port.now desk.old desk.new taken) }
+    ensures err { IfErr result (λ d. StopsTurns d frame roles.now port.now desk.new) }
 {
     let caller = roles[place].number;
     let _journal = port.journal();
     let judged = desk.judge(port, caller, call);
-    let _ = stand;
-    desk.stop(port, caller, judged)
+    desk.stop(port, caller, judged)?;
+    Ok(Taken {
+        answered: true,
+        stand,
+    })
+}
+
+/// A caller's call of job control. Where a process ends that leads the session that holds the port, the port is hung up
+/// for it.
+pub fn take_own(
+    port: &mut Port,
+    desk: &mut Desk,
+    roles: &[Role],
+    place: usize,
+    call: OwnCall,
+    stand: Stand,
+) -> Result<Taken, Denied>
+    ghost frame: { Frame }
+    requires frame { IsFrameWithin frame }
+    requires at { IsAtTurn frame roles.now port.old desk.old stand }
+    requires next { IsNextTurn frame roles.now port.old stand (turn.Call place) }
+    requires call { IsNextOf frame roles.now desk.old place (further call) }
+    ensures ok { IfOk result (λ taken. TakesCall frame roles.now place port.old port.new desk.old desk.new taken) }
+    ensures err { IfErr result (λ d. StopsTurns d frame roles.now port.new desk.new) }
+{
+    let caller = roles[place].number;
+    let _journal = port.journal();
+    let due = desk.control(port, caller, call)?;
+    match hangup_through(port, due) {
+        Some(h) => {
+            let now = hang_up(port, desk, roles, place, h, stand)?;
+            Ok(Taken {
+                answered: true,
+                stand: now,
+            })
+        }
+        None => Ok(Taken {
+            answered: true,
+            stand,
+        }),
+    }
+}
+
+/// The hangup for a process that has ended, which is never refused and never waits.
+fn hang_up(
+    port: &mut Port,
+    desk: &mut Desk,
+    roles: &[Role],
+    place: usize,
+    h: u8,
+    stand: Stand,
+) -> Result<Stand, Denied>
+    ghost frame: { Frame }
+    requires next { IsNextTurn frame roles.now port.old stand (turn.Call place) }
+    requires hangs_up { IsHangingUp frame roles.now port.old desk.old stand place h }
+    ensures ok { IfOk result (λ now. TakesTurn frame roles.now port.old port.new desk.old desk.new now) }
+    ensures err { IfErr result (λ d. StopsTurns d frame roles.now port.new desk.new) }
+{
+    let caller = roles[place].number;
+    let _before = port.journal();
+    let (_tried, now) = try_call(port, roles, place, &Call::Vhangup { h }, stand)?;
+    let _behind = port.journal();
+    desk.pass_down(port, caller, h)?;
+    Ok(now)
 }

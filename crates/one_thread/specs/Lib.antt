@@ -9,3 +9,4 @@ pub mod Roles
 pub mod Rows
 pub mod Stages
 pub mod Turns
+pub mod Leaving

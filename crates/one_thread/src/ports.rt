@@ -6,6 +6,7 @@ ghost use Rattle.tty_calls.specs.Limits.{IsWithinLimits, character_count};
 ghost use Rattle.tty_calls.specs.Sessions.{session_of};
 ghost use Rattle.one_thread.specs.Roles.{Scene, scene_of, names_in};
 ghost use Rattle.one_thread.specs.Phases.{HaveSeenAll, IsBeforePhase, IsPortOf, IsFullRun, IsAtEnd, IsStopped, IsLeftOf, EndsRun};
+ghost use Rattle.one_thread.specs.Leaving.{EndsJournal};
 ghost use Rattle.one_thread.specs.Played.{IsPlayedOn, IsRunInOrder};
 ghost use Rattle.one_thread.specs.Stages.{HasAnyOrder, IsOfSceneIn, IsOfScene};
 
@@ -120,6 +121,7 @@ pub fn hang_up(
     ensures played { (s : Scene) → IsAtEnd s port putter line → IfOk result (λ played. IsPlayedOn s.port s.session played.0 played.1) }
     ensures ends { (s : Scene) → IsOfSceneIn HasAnyOrder s port → port.terminal.phase ≡ length s.session.phases → IfOk result (λ played. EndsRun s port.journal line.report.overruns.items played.0) }
     ensures in_order { (s : Scene) → IsOfScene s port → port.terminal.phase ≡ length s.session.phases → HaveSeenAll s port.journal line.report.overruns.items → IfOk result (λ played. IsRunInOrder s.port s.session played.0) }
+    ensures journal { IfOk result (λ played. EndsJournal port played.0.journal.items) }
 {
     let _journal = port.journal();
     port.meet(&mut putter);

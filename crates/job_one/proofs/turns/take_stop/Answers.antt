@@ -1,6 +1,7 @@
-use Rattle.std.proofs.lemmas.Result.{on_ok_weaker}
+use Rattle.std.proofs.lemmas.Result.{err_from_is_err_and}
 use Rattle.tty_calls.specs.Plain.{call_of}
 use Rattle.passed_calls.specs.Scripts.{plain}
+use Rattle.job_one.proofs.FlushTurns.{memory_at}
 use Rattle.job_one.proofs.OwnTurns.{known_own, few_own, caller_own, stop_at}
 use Rattle.job_one.proofs.turns.take_stop.Goals as goal
 
@@ -18,6 +19,9 @@ stop-requires-clause-caller g c = caller_own g.frame c.args.roles.now c.args.por
 
 pub returns-clause-ok : goal.returns-clause-ok
 returns-clause-ok g c =
-    on_ok_weaker c.stop.result
-    (stop_at g.frame c.args.roles.now c.args.port.now c.args.desk.now c.stop.new.self c.args.stand c.args.place (call_of c.args.call.now) _ c.judge-judged.result c.requires.0 c.requires.1.0 c.journal-journal.ensures.port c.requires.1.1 c.judge-judged.ensures)
-    c.stop.ensures.ok
+    stop_at g.frame c.args.roles.now c.args.port.now c.args.desk.now c.stop.new.self c.args.stand c.args.place (call_of c.args.call.now) _ c.judge-judged.result c.requires.0 c.requires.1.0 c.journal-journal.ensures.port c.requires.1.1 c.judge-judged.ensures c.in_ok-stop.ensures.ok
+
+pub returns-in_err-stop-clause-err : goal.returns-in_err-stop-clause-err
+returns-in_err-stop-clause-err g c =
+    let p = err_from_is_err_and c.from_residual.result c.from_residual.ensures.1 in
+    rw (p.1, p.2) (memory_at g.frame c.args.roles.now c.in_err-stop.field-0.0 c.args.port.now c.stop.new.self c.in_err-stop.ensures.err)

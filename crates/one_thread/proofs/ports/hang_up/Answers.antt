@@ -1,4 +1,4 @@
-use Rattle.std.proofs.Common.{◌≡◌, length, refl, ap, subst, ◌∙◌}
+use Rattle.std.proofs.Common.{◌≡◌, inl, inr, length, refl, ap, subst, ◌∙◌}
 use Rattle.tty_calls.specs.declared.answers.Denied.{Denied}
 use Rattle.tty_calls.specs.declared.answers.Denied.TheVariants.{Full}
 use Rattle.port_core.specs.Ports.{PortValue, Denies}
@@ -53,3 +53,14 @@ returns-in-Err-Full-clause-in_order c s of_scene past see_all =
     let denied : Denies Full c.meet.new.self c.last_hangup.new.self = subst (λ (d : Denied). Denies d c.meet.new.self c.last_hangup.new.self) c.in-Err-Full.field-0-is c.in-Err-Full.ensures.err in
     ends_in_order s v.journal c.args.line.report.overruns.items c.left_of-in-Err-Full.result.0 of_scene.turns see_all
     (full_ends s v.journal c.last_hangup.new.self c.args.line c.left_of-in-Err-Full.result.0 c.left_of-in-Err-Full.result.1 (ap (λ (x : PortValue). x.journal) (denied.1 ∙ c.meet.ensures.port)) c.left_of-in-Err-Full.ensures)
+
+pub returns-in-Ok-clause-journal : goal.returns-in-Ok-clause-journal
+returns-in-Ok-clause-journal c =
+    let hung : HangsUp (record c.args.port { flip = after_meeting c.args.port.flip c.args.putter }) c.last_hangup.new.self c.meet.new.putter =
+    subst (λ (x : PortValue). HangsUp x c.last_hangup.new.self c.meet.new.putter) c.meet.ensures.port c.in-Ok.ensures.ok in
+    inr (hung.dropped, c.left_of.ensures.journal ∙ ap (λ (x : PortValue). x.journal) hung.appends.appended)
+
+pub returns-in-Err-Full-clause-journal : goal.returns-in-Err-Full-clause-journal
+returns-in-Err-Full-clause-journal c =
+    let denied : Denies Full c.meet.new.self c.last_hangup.new.self = subst (λ (d : Denied). Denies d c.meet.new.self c.last_hangup.new.self) c.in-Err-Full.field-0-is c.in-Err-Full.ensures.err in
+    inl (c.left_of-in-Err-Full.ensures.journal ∙ ap (λ (x : PortValue). x.journal) (denied.1 ∙ c.meet.ensures.port))

@@ -1,0 +1,81 @@
+-- What a turn of a phase of processes leaves.
+use Rattle.std.specs.Prelude.{◌≡◌, ◌≤◌, ◌<◌, ◌+◌, ◌-◌, ◌^◌, ℕ, Bool, true, false, not, is_none, IsTrue, List, [], ◌∷◌, Some, if◌then◌else◌, length, slice_get, slice_index_or, slice_set}
+use Rattle.tty_terminal.specs.Terminals.{caller_at}
+use Rattle.port_core.specs.Ports.{PortValue}
+use Rattle.one_thread.specs.declared.roles.Role.{Role}
+use Rattle.one_thread.specs.declared.after_line.Stand.{Stand}
+use Rattle.job_control.specs.declared.processes.Judged.{Judged}
+use Rattle.job_control.specs.declared.processes.Judged.TheVariants.{Pass}
+use Rattle.job_text.specs.Sessions.{JobCall}
+use Rattle.job_steps.specs.Derived.{block_phases}
+use Rattle.job_steps.specs.Steps.{judged_answer}
+use Rattle.job_one.specs.Passed.{begin_of}
+use Rattle.job_one.specs.Desk.{proc_in, call_after}
+use Rattle.job_one.specs.Events.{DeskState}
+use Rattle.job_one.specs.Frames.{Frame, IsAtTurn}
+use Rattle.job_one.specs.Remaining.{left_at, AreLeft}
+use Rattle.job_one.specs.AfterLine.{IsFrameWithin, HasProcs}
+use Rattle.job_one.specs.declared.turns.Taken.{Taken}
+
+-- where the call of a caller was answered its next step rises, and nothing else of the desk's callers changes
+pub record Advances (answered : Bool) (c : ℕ) (d x : DeskState) : Type 0 where
+  pub callers : x.callers ≡ d.callers
+  pub procs : x.jobs.procs ≡ d.jobs.procs
+  pub next : x.next ≡ (if answered then slice_set d.next c (slice_index_or d.next c 0 + 1) else d.next)
+
+-- whose calls of the phase are over has ended them before already
+abbrev pub WereOver : (old new : PortValue) → (c : ℕ) → Type 0
+WereOver old new c = (caller_at new.terminal c).over ≡ true → (caller_at old.terminal c).over ≡ true
+
+-- a call that was not answered has made an entry, for which there was room
+abbrev pub HasGone : (answered : Bool) → (old new : PortValue) → Type 0
+HasGone true old new = length old.journal ≤ length new.journal
+HasGone false old new = (length old.journal < 4194304) × (length new.journal ≡ length old.journal + 1)
+
+-- what a turn of the caller at a place comes to
+pub record TakesCall (f : Frame) (roles : List Role) (place : ℕ) (old new : PortValue) (d x : DeskState) (taken : Taken) : Type 0 where
+  pub at : IsAtTurn f roles new x taken.stand
+  pub desk : (r : Role) → slice_get roles place ≡ Some r → Advances taken.answered r.number d x
+  pub over : (c : ℕ) → WereOver old new c
+  pub gone : HasGone taken.answered old new
+
+-- what a turn of nobody's call comes to
+pub record TakesTurn (f : Frame) (roles : List Role) (old new : PortValue) (d x : DeskState) (now : Stand) : Type 0 where
+  pub at : IsAtTurn f roles new x now
+  pub desk : Advances false 0 d x
+  pub over : (c : ℕ) → WereOver old new c
+  pub gone : HasGone false old new
+
+-- a call that its caller has begun goes to the port, or else one that the background check lets go on
+abbrev pub GoesToPort : (goes begun : Bool) → Judged → Type 0
+GoesToPort true begun judged = begun ≡ false → judged ≡ Pass
+GoesToPort false begun judged = (begun ≡ false) × IsTrue (not (is_none (judged_answer judged)))
+
+-- the next call of the caller at a place, in its phase
+pub record IsNextOf (f : Frame) (roles : List Role) (d : DeskState) (place : ℕ) (call : JobCall) : Type 0 where
+  pub role : Role
+  pub at_place : slice_get roles place ≡ Some role
+  pub known : role.number < length d.next
+  pub few : slice_index_or d.next role.number 0 < 2 ^ 32 - 1
+  pub caller : role.number < length d.callers
+  pub proc : slice_index_or d.callers role.number 0 ≡ proc_in f.session f.first.port role.number
+  pub exists : slice_index_or d.callers role.number 0 < length d.jobs.procs
+  pub has : call_after f.session f.first.port d.next role.number ≡ Some call
+  pub from : begin_of f.first.port (block_phases f.session) f.start.terminal.phase role.number ≤ slice_index_or d.next role.number 0
+  pub to : slice_index_or d.next role.number 0 < begin_of f.first.port (block_phases f.session) (f.start.terminal.phase + 1) role.number
+
+-- between two turns of the phase: whose calls are over has none left
+pub record IsBetweenTurns (f : Frame) (roles : List Role) (v : PortValue) (d : DeskState) (stand : Stand) (left : List (List JobCall)) : Type 0 where
+  pub at : IsAtTurn f roles v d stand
+  pub frame : IsFrameWithin f
+  pub procs : HasProcs f.first.port f.session d
+  pub calls : AreLeft f.first.port f.start.terminal.phase f.session roles d.next left
+  pub over : (i : ℕ) (r : Role) → slice_get roles i ≡ Some r → (caller_at v.terminal r.number).over ≡ true → left_at left i ≡ []
+
+-- how many calls are left, and how many entries with them the journal may still have: each turn takes some
+abbrev pub count_left : List (List JobCall) → ℕ
+count_left [] = 0
+count_left (calls ∷ more) = length calls + count_left more
+
+abbrev pub turns_left : PortValue → List (List JobCall) → ℕ
+turns_left v left = (4194304 - length v.journal) + count_left left

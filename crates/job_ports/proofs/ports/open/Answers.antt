@@ -1,0 +1,26 @@
+use Rattle.std.proofs.Common.{◌≡◌, ◌≤◌, ℕ, List, length, refl, sym, ap, ◌∙◌, subst, arith}
+use Rattle.tty_calls.specs.Sessions.{session_of, scripts_over, names_of}
+use Rattle.one_thread.specs.Phases.{IsBeforePhase}
+use Rattle.one_thread.specs.Roles.{scene_of}
+use Rattle.job_control.specs.declared.processes.Proc.{Proc}
+use Rattle.job_ports.proofs.Beginning.{base_within}
+use Rattle.job_ports.proofs.Starting.{opened_between, procs_are}
+use Rattle.job_ports.proofs.ports.open.Goals as goal
+
+pub open_desk-requires : goal.open_desk-requires
+open_desk-requires c =
+    let few = c.requires.within.procs c.args.number in
+    let same = ap (λ (ps : List Proc). length ps) (procs_are c.args.number c.args.session.now c.requires.port) in
+    omega (arith, few, same)
+
+pub open_port-requires-clause-within : goal.open_port-requires-clause-within
+open_port-requires-clause-within c = base_within c.args.session.now c.requires.within
+
+pub returns : goal.returns
+returns c =
+    let p = c.args.number in
+    let kept = c.args.session.now in
+    opened_between p kept c.in_ok-names.names c.in_ok-station.station (record { names = c.in_ok-names.names; station = c.in_ok-station.station; desk = c.in_ok-desk.desk })
+    c.requires.within c.requires.port (c.in_ok-names.ensures ∙ ap (λ (q : ℕ). names_of (scripts_over q (session_of kept.session).phases)) c.from-port.ensures)
+    c.in_ok-desk.ensures.opened c.in_ok-desk.ensures.callers
+    (subst (λ (q : ℕ). IsBeforePhase (scene_of q kept.session) 0 c.in_ok-station.station 0) c.from-port.ensures c.in_ok-station.ensures) c.journal-journal.ensures.port refl refl

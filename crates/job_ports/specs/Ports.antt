@@ -1,0 +1,83 @@
+-- A port of a session of processes that was played, whatever session its callers' calls are found to make.
+use Rattle.std.specs.Prelude.{◌≡◌, ◌≢◌, ◌≤◌, ◌<◌, ℕ, List, [], ◌++◌, All, Some, length, slice_get}
+use Rattle.tty_base.specs.declared.characters.Flagged.{Flagged}
+use Rattle.word_ring.specs.Ends.{PutterState}
+use Rattle.uart_line.specs.LineState.{LineState}
+use Rattle.tty_calls.specs.declared.answers.PortEnd.{PortEnd}
+use Rattle.tty_calls.specs.declared.journals.PortRun.{PortRun}
+use Rattle.tty_calls.specs.Plain.{PlainEntry}
+use Rattle.tty_calls.specs.Limits.{IsCallWithin, IsWithinLimits}
+use Rattle.tty_calls.specs.Sessions.{PlainSession}
+use Rattle.port_core.specs.Ports.{PortValue, IsPort}
+use Rattle.one_thread.specs.Phases.{IsFullRun}
+use Rattle.one_thread.specs.Roles.{Scene}
+use Rattle.one_thread.specs.Stages.{IsOfScene}
+use Rattle.order_laws.specs.Agreed.{Agrees, IsLike}
+use Rattle.passed_calls.specs.Derived.{Passing, by_caller, calls_at}
+use Rattle.passed_calls.specs.Logs.{logged_on}
+use Rattle.job_text.specs.Events.{JobEvent, JobLog}
+use Rattle.job_text.specs.Sessions.{JobsSession}
+use Rattle.job_steps.specs.Derived.{block_phases, passings_on}
+use Rattle.job_one.specs.Passed.{IsOfBlocks, IsPassedBy}
+use Rattle.job_one.specs.Witness.{HasPassed}
+use Rattle.job_one.specs.Desk.{IsDeskAt}
+use Rattle.job_one.specs.Events.{DeskState}
+use Rattle.job_one.specs.Between.{value_at, IsBeforeJobs}
+use Rattle.job_one.specs.Playing.{passings_with, begun_at}
+use Rattle.job_one.specs.Played.{begun_in, IsJobPlayedOn}
+
+-- ---- what was played
+
+-- all that a port was passed: what it has answered, and what it has begun and not answered
+abbrev pub all_passed : JobsSession → JobLog → (p : ℕ) → List PlainEntry → List Passing
+all_passed session log p journal = passings_on session log p ++ begun_in session log p journal
+
+-- it keeps the limits of calls, with one for each call of a caller at most
+pub record ArePassingsWithin (passings : List Passing) : Type 0 where
+  pub calls : All (λ m. All IsCallWithin m.calls) passings
+  pub single : (c step : ℕ) → length (calls_at (by_caller c passings) step) ≤ 1
+
+-- a session of the same blocks in which a port was passed this
+pub record IsPlayedWith (session : JobsSession) (p : ℕ) (passings : List Passing) (played : PlainSession) : Type 0 where
+  pub version : played.version ≡ session.version
+  pub flips : played.flips ≡ session.flips
+  pub limits : IsWithinLimits played
+  pub passed : IsPassedBy p (block_phases session) (λ c. by_caller c passings) played
+
+-- a port with its own log, its run and its end
+pub record IsPortPlayed (p : ℕ) (session : JobsSession) (log : JobLog) (run : PortRun) (end : PortEnd) : Type 0 where
+  pub within : ArePassingsWithin (all_passed session log p run.journal.items)
+  pub none_begun : length run.journal.items ≢ 4194304 → begun_in session log p run.journal.items ≡ []
+  pub each : (played : PlainSession) → IsPlayedWith session p (all_passed session log p run.journal.items) played → IsJobPlayedOn p session played log run end
+
+-- the first ports were, with the log of all of them
+pub record AreFirstPlayed (session : JobsSession) (count : ℕ) (log : JobLog) (runs : List PortRun) (ends : List PortEnd) : Type 0 where
+  pub runs_of : length runs ≡ count
+  pub ends_of : length ends ≡ count
+  pub below : All (λ l. l.port < count) log
+  pub each : (p : ℕ) (run : PortRun) (end : PortEnd) → slice_get runs p ≡ Some run → slice_get ends p ≡ Some end → IsPortPlayed p session (logged_on p log) run end
+
+-- ---- a port that is played
+
+-- a scene that is played of a session of processes: the same but for the callers' calls
+pub record IsSceneOf (first : Scene) (session : JobsSession) : Type 0 where
+  pub version : first.session.version ≡ session.version
+  pub ports : first.session.ports ≡ session.ports
+  pub flips : first.session.flips ≡ session.flips
+  pub of_blocks : IsOfBlocks first.port (block_phases session) first.session
+
+-- all phases were played
+pub record IsJobsEnd (first : Scene) (session : JobsSession) (v : PortValue) (putter : PutterState Flagged) (line : LineState) (run : ℕ) (d : DeskState) : Type 0 where
+  pub before : IsBeforeJobs first session v putter line run d
+  pub phase : v.terminal.phase ≡ length first.session.phases
+  pub port : IsPort v
+
+-- the journal is full, in the line of a phase or behind it; and something may still be due at the desk
+pub record IsJobsFull (first : Scene) (session : JobsSession) (v : PortValue) (putter : PutterState Flagged) (line : LineState) (d : DeskState) : Type 0 where
+  pub port : IsPort v
+  pub number : first.port ≡ d.number
+  pub ring : putter.ring ≡ v.flip.ring
+  pub due : List JobEvent
+  pub desk : IsDeskAt first session d.log v d.jobs d.next d.sent due
+  pub has : HasPassed first (block_phases session) (passings_with session d.log first.port (value_at d) (begun_at v)) v
+  pub full : (s : Scene) → IsLike first s → Agrees s v → IsOfScene s v × IsFullRun s v putter line

@@ -1,0 +1,184 @@
+//! The phases of a session of processes on a port.
+
+ghost use Rattle.std.specs.Prelude.{◌≡◌, ◌+◌, ◌<◌, ◌≤◌, List, [], IfOk, IfErr, length, map, slice_index_or, slice_set, sum};
+ghost use Rattle.tty_calls.specs.declared.answers.Denied.TheVariants as denied;
+ghost use Rattle.tty_calls.specs.declared.sessions.Script.{Script};
+ghost use Rattle.tty_calls.specs.Sessions.{script_of, session_of};
+ghost use Rattle.tty_terminal.specs.Terminals.{caller_at};
+ghost use Rattle.one_thread.specs.Casting.{AreNumbered, HaveSameCallers, cast_of};
+ghost use Rattle.one_thread.specs.Roles.{role_in, scene_of};
+ghost use Rattle.job_text.specs.Sessions.{jobs_session_of, own_of};
+ghost use Rattle.job_text.specs.Within.{IsJobsSessionWithin};
+ghost use Rattle.job_one.specs.Filled.{AreNextSteps};
+ghost use Rattle.job_one.specs.Remaining.{calls_of_port};
+ghost use Rattle.job_ports.specs.Between.{BeginsPhase, IsBetween, IsStoppedBy, Setting, setting_of};
+
+use job_one::{Desk, Remaining, play_after_line, play_line};
+use job_text::{JobsPart, JobsSession, OwnCall};
+use line_steps::LineSteps;
+use one_thread::{Role, Stand, Station, cast, scripts_of, steps_of, ticks_of};
+use passed_calls::PlacedCall;
+use port_core::Port;
+use std::alloc::Global;
+use tty_base::NoMemory;
+use tty_calls::{Denied, Names, Script};
+
+/// A port that is played, the names of its callers, and its desk.
+#[derive(Drop)]
+pub struct JobStation {
+    pub names: Names,
+    pub station: Station,
+    pub desk: Desk,
+}
+
+/// Plays a phase: its line, and what comes after it. Answers the number of the next flush run.
+pub(crate) fn play_phase(
+    alloc: Global,
+    session: &JobsSession,
+    number: u8,
+    k: usize,
+    at: &mut JobStation,
+    run: u32,
+) -> Result<u32, Denied>
+    ghost setting: { Setting }
+    requires setting { setting ≡ setting_of number session.now k }
+    requires within { IsJobsSessionWithin (jobs_session_of session.now) }
+    requires port { number < (session_of session.now.session).ports }
+    requires phase { k < length (session_of session.now.session).phases }
+    requires before { IsBetween (scene_of number session.now.session) (jobs_session_of session.now) k run at.old }
+    ensures ok { IfOk result (λ next. IsBetween (scene_of number session.now.session) (jobs_session_of session.now) (k + 1) next at.new) }
+    ensures err { IfErr result (λ d. IsStoppedBy d (scene_of number session.now.session) (jobs_session_of session.now) at.new) }
+{
+    let port = usize::from(number);
+    let scripts = scripts_of(&session.session, k);
+    let placed = own_in(session.parts.as_slice(), k);
+    take_steps(&at.station.port, at.station.steps.as_mut_slice());
+    let roles = cast_in(alloc, scripts, port, &at.names, at.station.steps.as_slice())?;
+    let mut calls = calls_in(alloc, scripts, placed, number)?;
+    play_parts(
+        at,
+        roles.as_slice(),
+        &mut calls,
+        steps_of(&session.session, port, k),
+        ticks_of(&session.session, port, k),
+        run,
+        session.session.version == 0,
+    )
+}
+
+/// The roles of a port's scripts.
+fn cast_in(
+    alloc: Global,
+    scripts: &[Script],
+    port: usize,
+    names: &Names,
+    steps: &[u32],
+) -> Result<Vec<Role>, Denied>
+    requires numbered { AreNumbered names.now port (map script_of scripts.now) }
+    requires few { length names.now < 65536 }
+    requires steps { length steps.now ≡ length names.now }
+    ensures ok { IfOk result (λ roles. (others : List Script) → HaveSameCallers others scripts.now → map (role_in others) roles.items ≡ cast_of names.now steps.now port (map script_of others)) }
+    ensures err { IfErr result (λ d. d ≡ denied.NoMemory) }
+{
+    match cast(alloc, scripts, port, names, steps) {
+        Ok(roles) => Ok(roles),
+        Err(NoMemory) => Err(Denied::NoMemory),
+    }
+}
+
+/// What the callers of a port have to call in a phase.
+fn calls_in<'a>(
+    alloc: Global,
+    scripts: &'a [Script],
+    placed: &'a [PlacedCall<OwnCall>],
+    port: u8,
+) -> Result<Remaining<'a>, Denied>
+    ensures ok { IfOk result (λ calls. calls ≡ calls_of_port port scripts.now placed.now) }
+    ensures err { IfErr result (λ d. d ≡ denied.NoMemory) }
+{
+    match Remaining::of(alloc, scripts, placed, port) {
+        Ok(calls) => Ok(calls),
+        Err(NoMemory) => Err(Denied::NoMemory),
+    }
+}
+
+/// The line of a phase, and what comes after it. Answers the number of the next flush run.
+fn play_parts(
+    at: &mut JobStation,
+    roles: &[Role],
+    calls: &mut Remaining,
+    steps: &LineSteps,
+    ticks: u32,
+    run: u32,
+    clock_first: bool,
+) -> Result<u32, Denied>
+    ghost setting: { Setting }
+    requires { BeginsPhase setting roles.now at.old at.old.station.port.terminal.phase run calls.old steps.now.items ticks clock_first }
+    ensures ok { IfOk result (λ next. IsBetween setting.first setting.session (at.old.station.port.terminal.phase + 1) next at.new) }
+    ensures err { IfErr result (λ d. IsStoppedBy d setting.first setting.session at.new) }
+{
+    let played = play_line(
+        &mut at.station.port,
+        &mut at.station.putter,
+        &mut at.station.line,
+        &mut at.desk,
+        steps,
+        run,
+    );
+    let _journal = at.station.port.journal();
+    let run = played?;
+    let stand = Stand {
+        run,
+        part: 0,
+        ticks,
+        going: None,
+    };
+    let ended = play_after_line(
+        &mut at.station.port,
+        &mut at.station.putter,
+        &mut at.desk,
+        roles,
+        calls,
+        stand,
+        clock_first,
+    );
+    let _end = at.station.port.journal();
+    ended
+}
+
+/// The calls of job control in a phase.
+fn own_in(parts: &[JobsPart], k: usize) -> &[PlacedCall<OwnCall>]
+    ensures { result.now ≡ slice_index_or (map own_of parts.now) k [] }
+{
+    match parts.get(k) {
+        None => &[],
+        Some(part) => part.own.as_slice(),
+    }
+}
+
+/// Notes the next step of each of so many callers.
+fn take_steps(port: &Port, steps: &mut [u32])
+    requires known { length steps.old ≤ sum port.now.counts }
+    requires few { length steps.old ≤ 65536 }
+    ensures { AreNextSteps port.now.terminal (length steps.old) steps.new }
+{
+    for caller in 0..steps.len() {
+        let step = next_of(port, caller);
+        set_step(steps, caller, step);
+    }
+}
+
+fn next_of(port: &Port, caller: usize) -> u32
+    requires known { caller < sum port.now.counts }
+    requires few { caller < 65536 }
+    ensures { result ≡ (caller_at port.now.terminal caller).next }
+{
+    port.caller(caller as u16).next
+}
+
+fn set_step(steps: &mut [u32], caller: usize, step: u32)
+    requires { caller < length steps.old }
+    ensures { steps.new ≡ slice_set steps.old caller step }
+{
+    steps[caller] = step;
+}
