@@ -1,9 +1,10 @@
 -- How the program ends: what `tty_run` promises of its status, said of the exit status.
 use Rattle.std.specs.Prelude.{◌≡◌, ◌≢◌, ◌⊎◌, ◌≤◌, ℕ, List, [], Option, IfSome, length, map, drop, string_bytes, String}
 use Rattle.tty_base.specs.Outside.{Rose, TookCount, LeavesRest}
-use Rattle.tty_one.specs.Endings.{AreKnown, AreRun, AreRunOne, AreGen, AskCheck, AskVtOne, AskToRead, IsStatus, IsStatusOr, IsTold}
+use Rattle.tty_one.specs.Endings.{AreKnown, AreRun, AreRunOne, AreGen, AskCheck, AskJobs, AskVtOne, AskToRead, IsStatus, IsStatusOr, IsTold}
 use Rattle.tty_one.specs.Reported.{Returned, nothing}
 use Rattle.tty_one.specs.Consoles.{CompletesConsoles}
+use Rattle.tty_one.specs.Processes.{CompletesProcesses}
 use Rattle.tty_one.specs.Outcome.{IsDone, IsToldRefused, IsToldIllegal, IsBroken, Completes, CompletesCheck}
 use Rattle.tty_run.specs.Headline.{IsPlayedOnThreads}
 
@@ -36,9 +37,11 @@ pub record IsEnded (Unread : Type 0) (words : List (List ℕ)) (faults faults' m
   pub no_runs : status ≢ 0 → status ≢ 4 → back ≡ nothing
   pub none_judged : AskCheck words → back.runs ≡ []
   pub no_entries : (AskVtOne words → ⊥) → back.entries ≡ []
+  pub no_log : (AskJobs words → ⊥) → back.log ≡ []
   pub rest_left : IfSome left (λ bytes. LeavesRest bytes rest)
   pub complete : IfSome left (λ bytes. AreRun words ⊎ AreRunOne words → length bytes ≤ 4194304 → (Rose faults faults' → ⊥) → Completes bytes status)
   pub made : AreGen words → IsStatusOr 0 status
   pub unread : AreGen words → Unread
   pub judged : IfSome left (λ bytes. AskCheck words → length bytes ≤ 4194304 → (Rose faults faults' → ⊥) → CompletesCheck bytes status)
   pub consoles : IfSome left (λ bytes. AskVtOne words → length bytes ≤ 4194304 → (Rose faults faults' → ⊥) → CompletesConsoles bytes status)
+  pub processes : IfSome left (λ bytes. AskJobs words → length bytes ≤ 4194304 → (Rose faults faults' → ⊥) → CompletesProcesses bytes status)

@@ -74,8 +74,14 @@ fn run_words<R: Threads + Wait + Sync, S: Source, K: Sink>(
     ensures { IsEnded (source.new ≡ source.old) (texts_of words.now) (S.faults source.old) (S.faults source.new) (K.faults sink.old) (K.faults sink.new)
         (S.left source.old) (S.left source.new) (K.given sink.old) (K.given sink.new) (exit_status result) }
 {
-    let Ran { status, runs, vt } = tty_run(rt, alloc, words, source, sink, &OpenGate);
+    let Ran {
+        status,
+        runs,
+        vt,
+        jobs,
+    } = tty_run(rt, alloc, words, source, sink, &OpenGate);
     mem::forget(runs);
     mem::forget(vt);
+    mem::forget(jobs);
     ExitCode::from(status)
 }

@@ -1,5 +1,5 @@
 -- What became of a session of consoles that was played, as it is reported.
-use Rattle.std.proofs.Common.{◌≡◌, ℕ, List, Option, Some, Result, Ok, Err, map, sym, ap, subst, ◌∙◌}
+use Rattle.std.proofs.Common.{◌≡◌, ℕ, List, [], Option, Some, Result, Ok, Err, map, sym, ap, subst, ◌∙◌}
 use Rattle.std.specs.Prelude.{IfOk}
 use Rattle.std.proofs.lemmas.List.{length-map}
 use Rattle.tty_base.specs.declared.buffers.NoMemory.{NoMemory}
@@ -38,7 +38,7 @@ module _ (session now : PlainVtSession) (played : VtPlayed) (can : CanBePlayed s
   never_full : IsNeverFull (keyed session played.board.entries)
   never_full = subst (λ (es : List VtEntry). IsNeverFull (keyed session es)) (sym ordered.board) can.never_full
 
-  work_at : (e : Ending) (back : Returned) → IsReportOf now played e → back ≡ record { runs = played.consoles.runs.items; entries = played.board.entries } → IsConsolesWork session e back
+  work_at : (e : Ending) (back : Returned) → IsReportOf now played e → back ≡ record { runs = played.consoles.runs.items; entries = played.board.entries; log = [] } → IsConsolesWork session e back
   work_at (Done text) back told same =
       subst (λ (b : Returned). AreConsolesPlayed session b text.items) (sym same) (
       record {
@@ -60,7 +60,7 @@ module _ (session now : PlainVtSession) (played : VtPlayed) (can : CanBePlayed s
   work_at (NotLegal line) back told same = told
 
   pub played_consoles : (r : Result Work NoMemory) → IfOk r (λ work. IsReportOf now played work.ending)
-      → IfOk r (λ work. brought work ≡ record { runs = played.consoles.runs.items; entries = played.board.entries }) → IfOk r (λ work. IsConsolesWork session work.ending (brought work))
+      → IfOk r (λ work. brought work ≡ record { runs = played.consoles.runs.items; entries = played.board.entries; log = [] }) → IfOk r (λ work. IsConsolesWork session work.ending (brought work))
   played_consoles (Ok work) told same = work_at work.ending (brought work) told same
   played_consoles (Err e) told same = told
 

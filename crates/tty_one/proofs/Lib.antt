@@ -1,4 +1,5 @@
 mod Answered
+mod Bared
 mod ConsolesPlayed
 mod ConsolesReport
 mod ConsolesRoom
@@ -8,6 +9,8 @@ mod OneReport
 pub mod Outcomes
 pub mod PortLemmas
 mod Printed
+mod ProcessesPlayed
+mod ProcessesRoom
 pub mod Refused
 mod ReportedLines
 pub mod Roomy

@@ -21,11 +21,11 @@ use Rattle.order_laws.proofs.OneRun.{one_run}
 use Rattle.tty_one.specs.declared.playing.Telling.{Telling}
 use Rattle.tty_one.specs.declared.playing.Telling.TheVariants.{Report, Summary}
 use Rattle.tty_one.specs.declared.words.Command.{Command}
-use Rattle.tty_one.specs.declared.words.Command.TheVariants.{Run, RunOne, Gen, Check, VtOne}
+use Rattle.tty_one.specs.declared.words.Command.TheVariants.{Run, RunOne, Jobs, Gen, Check, VtOne}
 use Rattle.tty_one.specs.Endings.{Ask, AskRunOne, AreRunOne, AreGen, AskGen}
 use Rattle.tty_one.specs.Reported.{Returned, end_at, IsOrdered, IsWhole, text_by, IsToldAs, IsReported}
 use Rattle.tty_one.specs.Outcome.{IsPlayedText, WasGiven, IsToldBy, IsDone, GaveTheSame}
-use Rattle.tty_one.proofs.Outcomes.{not_gen_and_one, not_gen_and_run, not_check_and_gen, not_check_and_one, not_run_and_one, not_vt_and_one, not_vt_and_gen}
+use Rattle.tty_one.proofs.Outcomes.{not_gen_and_one, not_gen_and_run, not_check_and_gen, not_check_and_one, not_run_and_one, not_jobs_and_one, not_jobs_and_gen, not_vt_and_one, not_vt_and_gen}
 
 -- ---- runs that are the same
 
@@ -172,6 +172,7 @@ run_told : (words : List (List ℕ)) (bytes : List ℕ) (journals : Bool) (comma
 run_told words bytes journals (Run threads) back text one asked told = absurd (not_run_and_one words threads journals asked one)
 run_told words bytes journals (RunOne others) back text one asked told =
     subst (λ (b : Bool). IsPlayedText (Some bytes) (λ session. IsReported IsOrdered (Report b) session back.runs text)) (same_journals words others journals asked one) told
+run_told words bytes journals Jobs back text one asked told = absurd (not_jobs_and_one words journals asked one)
 run_told words bytes journals (Gen number) back text one asked told = absurd (not_gen_and_one words journals (number, asked) one)
 run_told words bytes journals Check back text one asked told = absurd (not_check_and_one words journals asked one)
 run_told words bytes journals VtOne back text one asked told = absurd (not_vt_and_one words journals asked one)
@@ -187,6 +188,7 @@ gen_told : (words : List (List ℕ)) (left : Option (List ℕ)) (number : ℕ) (
     → IsReported IsOrdered (Summary number) (generated_session number) back.runs text
 gen_told words left number (Run threads) back text gen asked told = absurd (not_gen_and_run words threads (number, gen) asked)
 gen_told words left number (RunOne journals) back text gen asked told = absurd (not_gen_and_one words journals (number, gen) asked)
+gen_told words left number Jobs back text gen asked told = absurd (not_jobs_and_gen words asked (number, gen))
 gen_told words left number (Gen other) back text gen asked told = subst (λ (n : ℕ). IsReported IsOrdered (Summary n) (generated_session n) back.runs text) (same_number words other number asked gen) told
 gen_told words left number Check back text gen asked told = absurd (not_check_and_gen words (number, gen) asked)
 gen_told words left number VtOne back text gen asked told = absurd (not_vt_and_gen words asked (number, gen))

@@ -1,5 +1,5 @@
 -- What each status says of the work that ended with it.
-use Rattle.std.proofs.Common.{◌≡◌, ◌⊎◌, ◌+◌, ◌≤◌, take, drop, length, codes, get_or, arith, ℕ, Bool, true, false, List, [], ◌∷◌, ◌++◌, Option, None, Some, IfSome, inl, inr, refl, sym, ap, subst, ◌∙◌}
+use Rattle.std.proofs.Common.{◌≡◌, ◌⊎◌, ◌+◌, ◌≤◌, take, drop, length, codes, get_or, arith, ℕ, Bool, true, false, List, [], ◌∷◌, ◌++◌, Option, None, Some, Ok, IfSome, inl, inr, refl, sym, ap, subst, ◌∙◌}
 use Rattle.tty_base.specs.Contents.{Contents}
 use Rattle.tty_base.specs.Outside.{Rose, LeavesRest, TookCount}
 use Rattle.tty_calls.specs.declared.journals.PortRun.{PortRun}
@@ -10,37 +10,44 @@ use Rattle.session_text.specs.Grammar.{Spells}
 use Rattle.session_text.proofs.Spelled.{spelled_fault}
 use Rattle.vt_text.specs.Sessions.{PlainVtSession}
 use Rattle.tty_one.specs.declared.words.Command.{Command}
-use Rattle.tty_one.specs.declared.words.Command.TheVariants.{Run, RunOne, Gen, Check, VtOne}
+use Rattle.tty_one.specs.declared.words.Command.TheVariants.{Run, RunOne, Jobs, Gen, Check, VtOne}
 use Rattle.tty_one.specs.declared.playing.Telling.{Telling}
 use Rattle.tty_one.specs.declared.playing.Telling.TheVariants.{Report}
 use Rattle.tty_one.specs.declared.works.Ran.{Ran}
 use Rattle.tty_one.specs.declared.works.Work.{Work}
 use Rattle.tty_one.specs.declared.works.Ending.{Ending}
 use Rattle.tty_one.specs.declared.works.Ending.TheVariants.{Done, BadSession, BadWords, ReadFault, TooLong, NotLegal}
-use Rattle.tty_one.specs.Endings.{Ask, AskRun, AskRunOne, AskCheck, AskVtOne, AskOneToRead, IsStatusOr, IsOfOne, AreKnown, AreOfOne, AreRun, AreRunOne, AreGen, line_of, status_of, text_of, bad_session_line, IsOfSource, IsTold}
+use Rattle.tty_one.specs.Endings.{Ask, AskRun, AskRunOne, AskCheck, AskJobs, AskVtOne, AskOneToRead, IsStatusOr, IsOfOne, AreKnown, AreOfOne, AreRun, AreRunOne, AreGen, line_of, status_of, text_of, bad_session_line, IsOfSource, IsTold}
 use Rattle.tty_one.specs.Reported.{Returned, returned, nothing, IsOrdered, IsInAnyOrder, IsReported}
 use Rattle.tty_one.specs.Consoles.{SpellsConsoles, fault_in, consoles_refusal, IsToldOfConsoles, CompletesConsoles}
+use Rattle.job_text.specs.Reading.{jobs_in}
+use Rattle.job_text.specs.Sessions.{JobsSession}
+use Rattle.tty_one.specs.Processes.{bare_of, fault_in as fault_of_processes, processes_refusal, IsToldOfProcesses, CompletesProcesses}
 use Rattle.tty_one.specs.Outcome.{IsPlayedText, IsRefused, Completes, CompletesCheck, WasGiven, WasGivenFront, IsDone, IsToldRefused, IsToldIllegal, IsBroken, breaks_fault, breaks_long, breaks_refusal, breaks_text, breaks_verdict}
-use Rattle.tty_one.specs.Works.{brought, IsWork, HasEntries, CanEnd, ReadsNothing}
+use Rattle.tty_one.specs.Works.{brought, IsWork, HasEntries, HasLog, CanEnd, ReadsNothing}
 use Rattle.tty_one.proofs.Judged.{completes_check}
 
 -- what the work brought is what is returned
-pub work_with : (command : Command) (left : Option (List ℕ)) (e : Ending) (ran : Ran) (work : Work) → ran.runs ≡ work.runs → ran.vt ≡ work.vt
+pub work_with : (command : Command) (left : Option (List ℕ)) (e : Ending) (ran : Ran) (work : Work) → ran.runs ≡ work.runs → ran.vt ≡ work.vt → ran.jobs ≡ work.jobs
     → IsWork command left e (brought work) → IsWork command left e (returned ran)
-work_with command left e ran work runs entries done =
-    let same : brought work ≡ returned ran = λ i. record { runs = (sym runs i).items; entries = (sym entries i).items } in
+work_with command left e ran work runs entries log done =
+    let same : brought work ≡ returned ran = λ i. record { runs = (sym runs i).items; entries = (sym entries i).items; log = (sym log i).items } in
     subst (IsWork command left e) same done
 
 -- work that ended without a run returns nothing
-pub nothing_told : (ran : Ran) (work : Work) (e : Ending) → ran.runs ≡ work.runs → ran.vt ≡ work.vt → work ≡ record { ending = e; runs = record { items = []; spare = 0 }; vt = record { items = []; spare = 0 } }
+pub nothing_told : (ran : Ran) (work : Work) (e : Ending) → ran.runs ≡ work.runs → ran.vt ≡ work.vt → ran.jobs ≡ work.jobs
+    → work ≡ record { ending = e; runs = record { items = []; spare = 0 }; vt = record { items = []; spare = 0 }; jobs = record { items = []; spare = 0 } }
     → returned ran ≡ nothing
-nothing_told ran work e runs entries same = λ i. record { runs = (runs_are i).items; entries = (entries_are i).items }
+nothing_told ran work e runs entries log same = λ i. record { runs = (runs_are i).items; entries = (entries_are i).items; log = (log_is i).items }
   where
     runs_are : ran.runs ≡ record { items = []; spare = 0 }
     runs_are = runs ∙ ap (λ (w : Work). w.runs) same
 
     entries_are : ran.vt ≡ record { items = []; spare = 0 }
     entries_are = entries ∙ ap (λ (w : Work). w.vt) same
+
+    log_is : ran.jobs ≡ record { items = []; spare = 0 }
+    log_is = log ∙ ap (λ (w : Work). w.jobs) same
 
 -- ---- which words ask for what
 
@@ -83,6 +90,30 @@ not_check_and_run words true check run = let same : 2 ≡ 1 = ap length (sym run
 option_differs : codes "--journal" ≡ codes "--one" → ⊥
 option_differs h = let third : 106 ≡ 111 = ap (λ word. get_or word 2 0) h in omega (arith, third)
 
+-- the words of processes begin with another
+jobs_differ : (words others : List (List ℕ)) (w : List ℕ) → AskJobs words → words ≡ w ∷ others → (get_or w 0 0 ≡ 106 → ⊥) → ⊥
+jobs_differ words others w jobs run differs =
+    let first : codes "jobs" ≡ w = same_heads (codes "jobs") w [] others (sym jobs ∙ run) in
+    differs (ap (λ word. get_or word 0 0) (sym first))
+
+pub not_jobs_and_one : (words : List (List ℕ)) (journals : Bool) → AskJobs words → AskRunOne journals words → ⊥
+not_jobs_and_one words false jobs run = jobs_differ words _ (codes "run") jobs run (λ e. omega (arith, e))
+not_jobs_and_one words true jobs (inl run) = jobs_differ words _ (codes "run") jobs run (λ e. omega (arith, e))
+not_jobs_and_one words true jobs (inr run) = jobs_differ words _ (codes "run") jobs run (λ e. omega (arith, e))
+
+pub not_jobs_and_run : (words : List (List ℕ)) (journals : Bool) → AskJobs words → AskRun journals words → ⊥
+not_jobs_and_run words false jobs run = jobs_differ words _ (codes "run") jobs run (λ e. omega (arith, e))
+not_jobs_and_run words true jobs run = jobs_differ words _ (codes "run") jobs run (λ e. omega (arith, e))
+
+pub not_jobs_and_gen : (words : List (List ℕ)) → AskJobs words → AreGen words → ⊥
+not_jobs_and_gen words jobs gen = jobs_differ words _ (codes "gen") jobs gen.1.1 (λ e. omega (arith, e))
+
+pub not_jobs_and_check : (words : List (List ℕ)) → AskJobs words → AskCheck words → ⊥
+not_jobs_and_check words jobs check = jobs_differ words _ (codes "check") jobs check (λ e. omega (arith, e))
+
+pub not_jobs_and_vt : (words : List (List ℕ)) → AskJobs words → AskVtOne words → ⊥
+not_jobs_and_vt words jobs vt = jobs_differ words _ (codes "vt") jobs vt (λ e. omega (arith, e))
+
 -- the words of consoles begin with another
 vt_differs : (words rest others : List (List ℕ)) (w : List ℕ) → words ≡ codes "vt" ∷ rest → words ≡ w ∷ others → (get_or w 0 0 ≡ 118 → ⊥) → ⊥
 vt_differs words rest others w vt run differs =
@@ -116,6 +147,7 @@ not_run_and_one words true true run (inr one) = let same : 2 ≡ 3 = ap length (
 pub run_is_not_one : (words : List (List ℕ)) → AreRun words → AreOfOne words → ⊥
 run_is_not_one words run (Run journals, of_one, asked) = of_one
 run_is_not_one words run (RunOne journals, of_one, asked) = not_run_and_one words run.0 journals run.1 asked
+run_is_not_one words run (Jobs, of_one, asked) = not_jobs_and_run words run.0 asked run.1
 run_is_not_one words run (Gen number, of_one, asked) = not_gen_and_run words run.0 (number, asked) run.1
 run_is_not_one words run (Check, of_one, asked) = not_check_and_run words run.0 asked run.1
 run_is_not_one words run (VtOne, of_one, asked) = not_vt_and_run words run.0 asked run.1
@@ -123,6 +155,7 @@ run_is_not_one words run (VtOne, of_one, asked) = not_vt_and_run words run.0 ask
 pub one_if_not_run : (words : List (List ℕ)) → (AreRun words → ⊥) → AreKnown words → AreOfOne words
 one_if_not_run words no_run (Run journals, asked) = absurd (no_run (journals, asked))
 one_if_not_run words no_run (RunOne journals, asked) = (RunOne journals, tt, asked)
+one_if_not_run words no_run (Jobs, asked) = (Jobs, tt, asked)
 one_if_not_run words no_run (Gen number, asked) = (Gen number, tt, asked)
 one_if_not_run words no_run (Check, asked) = (Check, tt, asked)
 one_if_not_run words no_run (VtOne, asked) = (VtOne, tt, asked)
@@ -130,6 +163,7 @@ one_if_not_run words no_run (VtOne, asked) = (VtOne, tt, asked)
 pub reads_nothing : (command : Command) (words : List (List ℕ)) → Ask command words → AreGen words → ReadsNothing command
 reads_nothing (Run journals) words asked gen = absurd (not_gen_and_run words journals gen asked)
 reads_nothing (RunOne journals) words asked gen = absurd (not_gen_and_one words journals gen asked)
+reads_nothing Jobs words asked gen = absurd (not_jobs_and_gen words asked gen)
 reads_nothing (Gen number) words asked gen = tt
 reads_nothing Check words asked gen = absurd (not_check_and_gen words gen asked)
 reads_nothing VtOne words asked gen = absurd (not_vt_and_gen words asked gen)
@@ -138,6 +172,7 @@ reads_nothing VtOne words asked gen = absurd (not_vt_and_gen words asked gen)
 read_fault_reads : (command : Command) → CanEnd command ReadFault → ReadsNothing command → ⊥
 read_fault_reads (Run journals) can none = none
 read_fault_reads (RunOne journals) can none = none
+read_fault_reads Jobs can none = none
 read_fault_reads (Gen number) can none = can
 read_fault_reads Check can none = none
 read_fault_reads VtOne can none = none
@@ -145,6 +180,7 @@ read_fault_reads VtOne can none = none
 long_reads : (command : Command) → CanEnd command TooLong → ReadsNothing command → ⊥
 long_reads (Run journals) can none = none
 long_reads (RunOne journals) can none = none
+long_reads Jobs can none = none
 long_reads (Gen number) can none = can
 long_reads Check can none = none
 long_reads VtOne can none = none
@@ -152,7 +188,8 @@ long_reads VtOne can none = none
 -- the words of a command that reads ask for a text to be read
 pub one_reads : (command : Command) (words : List (List ℕ)) → IsOfOne command → Ask command words → (ReadsNothing command → ⊥) → AskOneToRead words
 one_reads (Run journals) words of_one asked some = absurd of_one
-one_reads (RunOne journals) words of_one asked some = inl (journals, asked)
+one_reads (RunOne journals) words of_one asked some = inl (inl (journals, asked))
+one_reads Jobs words of_one asked some = inl (inr asked)
 one_reads (Gen number) words of_one asked some = absurd (some tt)
 one_reads Check words of_one asked some = inr (inl asked)
 one_reads VtOne words of_one asked some = inr (inr asked)
@@ -168,6 +205,7 @@ broken_verdict : (Known Reading : Type 0) (words : List (List ℕ)) (command : C
     → Ask command words → IsWork command left (NotLegal line) back → WasGivenFront before now line.items → IsBroken Known Reading words faults faults' left rest before now back
 broken_verdict Known Reading words (Run journals) faults faults' left rest before now back line asked work front = absurd work.1
 broken_verdict Known Reading words (RunOne journals) faults faults' left rest before now back line asked work front = absurd work.1
+broken_verdict Known Reading words Jobs faults faults' left rest before now back line asked work front = absurd work.1
 broken_verdict Known Reading words (Gen number) faults faults' left rest before now back line asked work front = absurd work.1
 broken_verdict Known Reading words Check faults faults' left rest before now back line asked work front = breaks_verdict work.1.verdict line.items asked work.1.told work.1.illegal front
 broken_verdict Known Reading words VtOne faults faults' left rest before now back line asked work front = absurd work.1
@@ -223,6 +261,7 @@ refused_by words command left before now back e status asked work is given one_i
 illegal_line : (words : List (List ℕ)) (command : Command) (left before now : Option (List ℕ)) (back : Returned) (line : Contents ℕ) → Ask command words → IsWork command left (NotLegal line) back → WasGiven before now line.items → IsToldIllegal words left before now
 illegal_line words (Run journals) left before now back line asked work given = absurd work.1
 illegal_line words (RunOne journals) left before now back line asked work given = absurd work.1
+illegal_line words Jobs left before now back line asked work given = absurd work.1
 illegal_line words (Gen number) left before now back line asked work given = absurd work.1
 illegal_line words Check left before now back line asked work given =
     record { verdict = work.1.verdict; asked = asked; judged = work.1.told.judged; illegal = work.1.illegal; given = subst (λ (t : List ℕ). WasGiven before now t) work.1.told.told given }
@@ -289,6 +328,11 @@ long_by BadWords status faults faults' (Some bytes) rest of is = λ took. absurd
 long_by ReadFault status faults faults' (Some bytes) rest of is = λ took. absurd (of.1 took)
 long_by TooLong status faults faults' (Some bytes) rest of is = λ took. is
 long_by (NotLegal line) status faults faults' (Some bytes) rest of is = λ took. absurd (of took)
+
+-- a source that was not read has left all
+pub nothing_read : (left : Option (List ℕ)) → IfSome left (λ bytes. LeavesRest bytes left)
+nothing_read None = tt
+nothing_read (Some bytes) = (0, omega arith, refl)
 
 -- ---- what a text comes to where reading did not fail
 
@@ -358,6 +402,7 @@ completes words command None rest faults faults' back e status asked is of done 
 completes words command (Some bytes) rest faults faults' back e status asked (inr four) of done left = λ known short sound. not_told bytes status four
 completes words (Run journals) (Some bytes) rest faults faults' back e status asked (inl is) of done left = λ run. absurd (not_run_and_one words journals run.0 asked run.1)
 completes words (RunOne journals) (Some bytes) rest faults faults' back e status asked (inl is) of done left = λ known short sound. completes_one journals bytes faults faults' rest back e status is of done left short sound
+completes words Jobs (Some bytes) rest faults faults' back e status asked (inl is) of done left = λ run. absurd (not_jobs_and_one words run.0 asked run.1)
 completes words (Gen number) (Some bytes) rest faults faults' back e status asked (inl is) of done left = λ run. absurd (not_gen_and_one words run.0 (number, asked) run.1)
 completes words Check (Some bytes) rest faults faults' back e status asked (inl is) of done left = λ run. absurd (not_check_and_one words run.0 asked run.1)
 completes words VtOne (Some bytes) rest faults faults' back e status asked (inl is) of done left = λ run. absurd (not_vt_and_one words run.0 asked run.1)
@@ -375,6 +420,7 @@ pub judged : (words : List (List ℕ)) (command : Command) (left rest : Option (
 judged words command None rest faults faults' back e status asked is of done left = left
 judged words (Run journals) (Some bytes) rest faults faults' back e status asked is of done left = λ check. absurd (not_check_and_run words journals check asked)
 judged words (RunOne journals) (Some bytes) rest faults faults' back e status asked is of done left = λ check. absurd (not_check_and_one words journals check asked)
+judged words Jobs (Some bytes) rest faults faults' back e status asked is of done left = λ check. absurd (not_jobs_and_check words asked check)
 judged words (Gen number) (Some bytes) rest faults faults' back e status asked is of done left = λ check. absurd (not_check_and_gen words (number, asked) check)
 judged words Check (Some bytes) rest faults faults' back e status asked is of done left = λ check short sound. completes_check bytes faults faults' rest back e status is of done (λ took. too_short bytes rest left took short) sound
 judged words VtOne (Some bytes) rest faults faults' back e status asked is of done left = λ check. absurd (not_vt_and_check words asked check)
@@ -418,6 +464,7 @@ completes_consoles words command (Some bytes) rest faults faults' back e status 
 }
 completes_consoles words (Run journals) (Some bytes) rest faults faults' back e status asked (inl is) of done left = λ vt. absurd (not_vt_and_run words journals vt asked)
 completes_consoles words (RunOne journals) (Some bytes) rest faults faults' back e status asked (inl is) of done left = λ vt. absurd (not_vt_and_one words journals vt asked)
+completes_consoles words Jobs (Some bytes) rest faults faults' back e status asked (inl is) of done left = λ vt. absurd (not_jobs_and_vt words asked vt)
 completes_consoles words (Gen number) (Some bytes) rest faults faults' back e status asked (inl is) of done left = λ vt. absurd (not_vt_and_gen words vt (number, asked))
 completes_consoles words Check (Some bytes) rest faults faults' back e status asked (inl is) of done left = λ vt. absurd (not_vt_and_check words vt asked)
 completes_consoles words VtOne (Some bytes) rest faults faults' back e status asked (inl is) of done left = λ vt short sound. consoles_complete bytes faults faults' rest back e status is of done left short sound
@@ -427,6 +474,53 @@ pub not_consoles : (words : List (List ℕ)) (left : Option (List ℕ)) (status 
     → IfSome left (λ bytes. AskVtOne words → length bytes ≤ 4194304 → (Rose faults faults' → ⊥) → CompletesConsoles bytes status)
 not_consoles words None status faults faults' other = tt
 not_consoles words (Some bytes) status faults faults' other = λ vt. absurd (other vt)
+
+-- ---- what a text of processes comes to
+
+processes_spelled : (bytes text : List ℕ) (back : Returned) (h : IsToldOfProcesses (Some bytes) back text) → jobs_in bytes ≡ Ok (bare_of h.session)
+processes_spelled bytes text back h = subst (λ (read : List ℕ). jobs_in read ≡ Ok (bare_of h.session)) h.whole h.spelled
+
+processes_not_both : (bytes : List ℕ) (session : JobsSession) (bad : BadLine) → jobs_in bytes ≡ Ok session → processes_refusal bytes ≡ Some bad → ⊥
+processes_not_both bytes session bad spells refused = none_some bad (sym (ap fault_of_processes spells) ∙ refused)
+
+processes_complete : (bytes : List ℕ) (faults faults' : ℕ) (rest : Option (List ℕ)) (back : Returned) (e : Ending) (status : ℕ) → status ≡ status_of e
+    → IsOfSource e faults faults' (Some bytes) rest → IsWork Jobs (Some bytes) e back → LeavesRest bytes rest → length bytes ≤ 4194304 → (Rose faults faults' → ⊥) → CompletesProcesses bytes status
+processes_complete bytes faults faults' rest back (Done report) status is of work left short sound =
+    record {
+      played = λ session spells. inl is;
+      refused = λ bad wrong. absurd (processes_not_both bytes (bare_of work.session) bad (processes_spelled bytes report.items back work) wrong);
+    }
+processes_complete bytes faults faults' rest back (BadSession line) status is of work left short sound =
+    let wrong : processes_refusal bytes ≡ Some work.1.bad = subst (λ (text : List ℕ). processes_refusal text ≡ Some work.1.bad) work.1.refused.whole work.1.refused.refused in
+    record {
+      played = λ session spells. absurd (processes_not_both bytes session work.1.bad spells wrong);
+      refused = λ bad _. inl is;
+    }
+processes_complete bytes faults faults' rest back BadWords status is of work left short sound = absurd of
+processes_complete bytes faults faults' rest back ReadFault status is of work left short sound = absurd (sound of.0)
+processes_complete bytes faults faults' rest back TooLong status is of work left short sound = absurd (too_short bytes rest left of short)
+processes_complete bytes faults faults' rest back (NotLegal line) status is of work left short sound = absurd work.1
+
+pub completes_processes : (words : List (List ℕ)) (command : Command) (left rest : Option (List ℕ)) (faults faults' : ℕ) (back : Returned) (e : Ending) (status : ℕ) → Ask command words → (status ≡ status_of e) ⊎ (status ≡ 4)
+    → IsOfSource e faults faults' left rest → IsWork command left e back → IfSome left (λ bytes. LeavesRest bytes rest)
+    → IfSome left (λ bytes. AskJobs words → length bytes ≤ 4194304 → (Rose faults faults' → ⊥) → CompletesProcesses bytes status)
+completes_processes words command None rest faults faults' back e status asked is of done left = left
+completes_processes words command (Some bytes) rest faults faults' back e status asked (inr four) of done left = λ jobs short sound. record {
+  played = λ session spells. inr (inl four);
+  refused = λ bad wrong. inr (inl four);
+}
+completes_processes words (Run journals) (Some bytes) rest faults faults' back e status asked (inl is) of done left = λ jobs. absurd (not_jobs_and_run words journals jobs asked)
+completes_processes words (RunOne journals) (Some bytes) rest faults faults' back e status asked (inl is) of done left = λ jobs. absurd (not_jobs_and_one words journals jobs asked)
+completes_processes words Jobs (Some bytes) rest faults faults' back e status asked (inl is) of done left = λ jobs short sound. processes_complete bytes faults faults' rest back e status is of done left short sound
+completes_processes words (Gen number) (Some bytes) rest faults faults' back e status asked (inl is) of done left = λ jobs. absurd (not_jobs_and_gen words jobs (number, asked))
+completes_processes words Check (Some bytes) rest faults faults' back e status asked (inl is) of done left = λ jobs. absurd (not_jobs_and_check words jobs asked)
+completes_processes words VtOne (Some bytes) rest faults faults' back e status asked (inl is) of done left = λ jobs. absurd (not_jobs_and_vt words jobs asked)
+
+-- words that ask for no processes
+pub not_processes : (words : List (List ℕ)) (left : Option (List ℕ)) (status : ℕ) (faults faults' : ℕ) → (AskJobs words → ⊥)
+    → IfSome left (λ bytes. AskJobs words → length bytes ≤ 4194304 → (Rose faults faults' → ⊥) → CompletesProcesses bytes status)
+not_processes words None status faults faults' other = tt
+not_processes words (Some bytes) status faults faults' other = λ jobs. absurd (other jobs)
 
 -- ---- what the session of a number comes to
 
@@ -442,6 +536,7 @@ made_so number (NotLegal line) status (inl is) can = absurd can
 pub made : (words : List (List ℕ)) (command : Command) (e : Ending) (status : ℕ) → Ask command words → (status ≡ status_of e) ⊎ (status ≡ 4) → CanEnd command e → AreGen words → IsStatusOr 0 status
 made words (Run journals) e status asked is can = λ gen. absurd (not_gen_and_run words journals gen asked)
 made words (RunOne journals) e status asked is can = λ gen. absurd (not_gen_and_one words journals gen asked)
+made words Jobs e status asked is can = λ gen. absurd (not_jobs_and_gen words asked gen)
 made words (Gen number) e status asked is can = λ gen. made_so number e status is can
 made words Check e status asked is can = λ gen. absurd (not_check_and_gen words gen asked)
 made words VtOne e status asked is can = λ gen. absurd (not_vt_and_gen words asked gen)
@@ -458,6 +553,7 @@ none_at left back (NotLegal line) done = done.1.told.no_runs
 pub none_judged : (words : List (List ℕ)) (command : Command) (left : Option (List ℕ)) (back : Returned) (e : Ending) → Ask command words → IsWork command left e back → AskCheck words → back.runs ≡ []
 none_judged words (Run journals) left back e asked done = λ check. absurd (not_check_and_run words journals check asked)
 none_judged words (RunOne journals) left back e asked done = λ check. absurd (not_check_and_one words journals check asked)
+none_judged words Jobs left back e asked done = λ check. absurd (not_jobs_and_check words asked check)
 none_judged words (Gen number) left back e asked done = λ check. absurd (not_check_and_gen words (number, asked) check)
 none_judged words Check left back e asked done = λ check. none_at left back e done
 none_judged words VtOne left back e asked done = λ check. absurd (not_vt_and_check words asked check)
@@ -466,9 +562,19 @@ none_judged words VtOne left back e asked done = λ check. absurd (not_vt_and_ch
 pub no_entries : (words : List (List ℕ)) (command : Command) (back : Returned) → Ask command words → HasEntries command back → (AskVtOne words → ⊥) → back.entries ≡ []
 no_entries words (Run journals) back asked none other = none
 no_entries words (RunOne journals) back asked none other = none
+no_entries words Jobs back asked none other = none
 no_entries words (Gen number) back asked none other = none
 no_entries words Check back asked none other = none
 no_entries words VtOne back asked none other = absurd (other asked)
+
+-- only processes have a log
+pub no_log : (words : List (List ℕ)) (command : Command) (back : Returned) → Ask command words → HasLog command back → (AskJobs words → ⊥) → back.log ≡ []
+no_log words (Run journals) back asked none other = none
+no_log words (RunOne journals) back asked none other = none
+no_log words Jobs back asked none other = absurd (other asked)
+no_log words (Gen number) back asked none other = none
+no_log words Check back asked none other = none
+no_log words VtOne back asked none other = none
 
 -- nothing is returned beside a status other than 0 and 4
 nothing_at : (command : Command) (left : Option (List ℕ)) (back : Returned) (e : Ending) → IsWork command left e back → (status_of e ≡ 0 → ⊥) → back ≡ nothing
@@ -495,6 +601,9 @@ unmade words status other gen = absurd (other (Gen gen.0, tt, gen.1))
 pub unjudged : (words : List (List ℕ)) (left : Option (List ℕ)) (status : ℕ) (faults faults' : ℕ) → (AreOfOne words → ⊥) → IfSome left (λ bytes. AskCheck words → length bytes ≤ 4194304 → (Rose faults faults' → ⊥) → CompletesCheck bytes status)
 unjudged words None status faults faults' other = tt
 unjudged words (Some bytes) status faults faults' other = λ check. absurd (other (Check, tt, check))
+
+pub not_one_jobs : (words : List (List ℕ)) → (AreOfOne words → ⊥) → AskJobs words → ⊥
+not_one_jobs words other jobs = other (Jobs, tt, jobs)
 
 pub not_one_vt : (words : List (List ℕ)) → (AreOfOne words → ⊥) → AskVtOne words → ⊥
 not_one_vt words other vt = other (VtOne, tt, vt)

@@ -76,7 +76,7 @@ unread_works command left TooLong h = refl
 unread_works command left (NotLegal line) h = absurd h
 
 -- work that ended without a run
-pub ended_works : (command : Command) (faults now : ℕ) (left rest : Option (List ℕ)) (e : Ending) (work : Work) → work ≡ record { ending = e; runs = record { items = []; spare = 0 }; vt = record { items = []; spare = 0 } }
+pub ended_works : (command : Command) (faults now : ℕ) (left rest : Option (List ℕ)) (e : Ending) (work : Work) → work ≡ record { ending = e; runs = record { items = []; spare = 0 }; vt = record { items = []; spare = 0 }; jobs = record { items = []; spare = 0 } }
     → IsWork command left e nothing → IsOfSource e faults now left rest → IsWork command left work.ending (brought work) × IsOfSource work.ending faults now left rest
 ended_works command faults now left rest e work same done of =
     subst (λ (w : Work). IsWork command left w.ending (brought w) × IsOfSource w.ending faults now left rest) (sym same) (done, of)

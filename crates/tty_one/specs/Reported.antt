@@ -8,21 +8,25 @@ use Rattle.session_print.specs.Report.{play_text}
 use Rattle.session_print.specs.Summary.{summary_text}
 use Rattle.journal_check.specs.Legal.{IsLegal}
 use Rattle.one_thread.specs.Order.{IsInOneOrder}
+use Rattle.passed_calls.specs.declared.logs.Logged.{Logged}
+use Rattle.job_text.specs.declared.logs.JobEvent.{JobEvent}
 use Rattle.vt_consoles.specs.declared.entries.VtEntry.{VtEntry}
 use Rattle.tty_one.specs.declared.works.Ran.{Ran}
 use Rattle.tty_one.specs.declared.playing.Telling.{Telling}
 use Rattle.tty_one.specs.declared.playing.Telling.TheVariants.{Report, Summary}
 
--- what a call returns beside its status: the runs of ports or of consoles, and the entries of a board
+-- what a call returns beside its status: the runs of ports or of consoles, the entries of a board, and the log of
+-- processes
 pub record Returned : Type 0 where
   pub runs : List PortRun
   pub entries : List VtEntry
+  pub log : List (Logged JobEvent)
 
 abbrev pub returned : Ran → Returned
-returned ran = record { runs = ran.runs.items; entries = ran.vt.items }
+returned ran = record { runs = ran.runs.items; entries = ran.vt.items; log = ran.jobs.items }
 
 abbrev pub nothing : Returned
-nothing = record { runs = []; entries = [] }
+nothing = record { runs = []; entries = []; log = [] }
 
 -- what a report says of the end of a terminal
 abbrev pub end_at : Terminal → PlainEnd

@@ -14,13 +14,21 @@ use Rattle.journal_check.specs.Short.{IsCutShort}
 use Rattle.journal_check.specs.declared.verdicts.Verdict.{Verdict}
 use Rattle.journal_check.specs.declared.verdicts.Verdict.TheVariants.{Legal}
 use Rattle.one_thread.specs.declared.playing.Played.{Played}
+use Rattle.passed_calls.specs.Within.{ArePassedWithin}
+use Rattle.job_text.specs.declared.sessions.JobsSession.{JobsSession as KeptSession}
+use Rattle.job_text.specs.Events.{JobLog, logged_of}
+use Rattle.job_text.specs.Sessions.{JobsSession, bare_session_of}
+use Rattle.job_text.specs.Within.{IsJobsSessionWithin}
+use Rattle.job_one.specs.Played.{derived_with}
+use Rattle.job_ports.specs.declared.running.JobsRan.{JobsRan}
+use Rattle.further_report.specs.Jobs.{jobs_report_text}
 use Rattle.vt_text.specs.Sessions.{PlainVtSession}
 use Rattle.vt_account.specs.InOrder.{entries_in_order}
 use Rattle.vt_account.specs.Keyed.{IsWithinKeys, keyed}
 use Rattle.vt_report.specs.Report.{report_text}
 use Rattle.vt_one.specs.declared.playing.VtPlayed.{VtPlayed}
 use Rattle.tty_one.specs.declared.words.Command.{Command}
-use Rattle.tty_one.specs.declared.words.Command.TheVariants.{Run, RunOne, Gen, Check, VtOne}
+use Rattle.tty_one.specs.declared.words.Command.TheVariants.{Run, RunOne, Jobs, Gen, Check, VtOne}
 use Rattle.tty_one.specs.declared.playing.Telling.{Telling}
 use Rattle.tty_one.specs.declared.reading.Reading.{Reading}
 use Rattle.tty_one.specs.declared.reading.Reading.TheVariants.{Of, Ended}
@@ -30,11 +38,12 @@ use Rattle.tty_one.specs.declared.works.Ending.TheVariants.{Done, BadSession, Ba
 use Rattle.tty_one.specs.Endings.{bad_session_line, verdict_line, IsShort, IsOfSource}
 use Rattle.tty_one.specs.Reported.{Returned, nothing, text_by, IsReported, IsAllOf}
 use Rattle.tty_one.specs.Consoles.{AreConsolesPlayed, IsToldOfConsoles, consoles_refusal}
+use Rattle.tty_one.specs.Processes.{given_to, AreProcessesPlayed, IsToldOfProcesses, processes_refusal}
 use Rattle.tty_one.specs.Outcome.{IsToldVerdict, IsToldBy, IsRefused, refusal_by}
 
 -- what comes of work beside its ending
 abbrev pub brought : Work → Returned
-brought work = record { runs = work.runs.items; entries = work.vt.items }
+brought work = record { runs = work.runs.items; entries = work.vt.items; log = work.jobs.items }
 
 -- ---- reading
 
@@ -175,12 +184,48 @@ IsConsolesText text ReadFault back = ⊥
 IsConsolesText text TooLong back = ⊥
 IsConsolesText text (NotLegal line) back = ⊥
 
+-- ---- processes
+
+-- what playing a session of processes needs
+pub record CanProcessesBePlayed (session : JobsSession) : Type 0 where
+  pub within : IsJobsSessionWithin session
+  pub never_full : (log : JobLog) (runs : List PortRun) → ArePassedWithin (given_to session log runs) → IsNeverFull (derived_with session log runs)
+
+-- of a session of processes
+abbrev pub AreProcessesWork : JobsSession → Ending → Returned → Type 0
+AreProcessesWork session (Done text) back = AreProcessesPlayed session back text.items
+AreProcessesWork session (BadSession line) back = ⊥
+AreProcessesWork session BadWords back = ⊥
+AreProcessesWork session ReadFault back = ⊥
+AreProcessesWork session TooLong back = ⊥
+AreProcessesWork session (NotLegal line) back = ⊥
+
+-- of processes that were played
+abbrev pub IsReportOfProcesses : KeptSession → JobsRan → Ending → Type 0
+IsReportOfProcesses session ran (Done text) =
+    text.items ≡ jobs_report_text (bare_session_of session) (map logged_of ran.log.items) ran.runs.items (map end_of ran.ends.items)
+IsReportOfProcesses session ran (BadSession line) = ⊥
+IsReportOfProcesses session ran BadWords = ⊥
+IsReportOfProcesses session ran ReadFault = ⊥
+IsReportOfProcesses session ran TooLong = ⊥
+IsReportOfProcesses session ran (NotLegal line) = ⊥
+
+-- of a text of processes
+abbrev pub IsProcessesText : List ℕ → Ending → Returned → Type 0
+IsProcessesText text (Done report) back = IsToldOfProcesses (Some text) back report.items
+IsProcessesText text (BadSession line) back = (back ≡ nothing) × IsLineOf processes_refusal (Some text) line.items
+IsProcessesText text BadWords back = ⊥
+IsProcessesText text ReadFault back = ⊥
+IsProcessesText text TooLong back = ⊥
+IsProcessesText text (NotLegal line) back = ⊥
+
 -- ---- a command
 
 -- only journals that were read can be found not legal
 abbrev pub IsIllegalBy : Command → Option (List ℕ) → List PortRun → List ℕ → Type 0
 IsIllegalBy (Run journals) left runs line = ⊥
 IsIllegalBy (RunOne journals) left runs line = ⊥
+IsIllegalBy Jobs left runs line = ⊥
 IsIllegalBy (Gen number) left runs line = ⊥
 IsIllegalBy Check left runs line = IsIllegal left runs line
 IsIllegalBy VtOne left runs line = ⊥
@@ -198,14 +243,25 @@ IsWork command left (NotLegal line) back = (back ≡ nothing) × IsIllegalBy com
 abbrev pub HasEntries : Command → Returned → Type 0
 HasEntries (Run journals) back = back.entries ≡ []
 HasEntries (RunOne journals) back = back.entries ≡ []
+HasEntries Jobs back = back.entries ≡ []
 HasEntries (Gen number) back = back.entries ≡ []
 HasEntries Check back = back.entries ≡ []
 HasEntries VtOne back = Unit {0}
+
+-- only processes have a log
+abbrev pub HasLog : Command → Returned → Type 0
+HasLog (Run journals) back = back.log ≡ []
+HasLog (RunOne journals) back = back.log ≡ []
+HasLog Jobs back = Unit {0}
+HasLog (Gen number) back = back.log ≡ []
+HasLog Check back = back.log ≡ []
+HasLog VtOne back = back.log ≡ []
 
 -- only a command that reads can be refused what it reads
 abbrev pub CanEnd : Command → Ending → Type 0
 CanEnd (Run journals) ending = Unit {0}
 CanEnd (RunOne journals) ending = Unit {0}
+CanEnd Jobs ending = Unit {0}
 CanEnd (Gen number) (Done report) = Unit {0}
 CanEnd (Gen number) (BadSession line) = ⊥
 CanEnd (Gen number) BadWords = ⊥
@@ -219,6 +275,7 @@ CanEnd VtOne ending = Unit {0}
 abbrev pub ReadsNothing : Command → Type 0
 ReadsNothing (Run journals) = ⊥
 ReadsNothing (RunOne journals) = ⊥
+ReadsNothing Jobs = ⊥
 ReadsNothing (Gen number) = Unit {0}
 ReadsNothing Check = ⊥
 ReadsNothing VtOne = ⊥

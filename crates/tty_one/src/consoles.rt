@@ -1,6 +1,6 @@
 //! Sessions of consoles that are read and played on one thread, and what is told of them.
 
-ghost use Rattle.std.specs.Prelude.{◌≡◌, ◌≤◌, IfOk, IfSome, OnErr, length};
+ghost use Rattle.std.specs.Prelude.{◌≡◌, ◌≤◌, [], IfOk, IfSome, OnErr, length};
 ghost use Rattle.tty_base.specs.Outside.{LeavesRest};
 ghost use Rattle.vt_text.specs.Sessions.{vt_session_of};
 ghost use Rattle.tty_one.specs.declared.words.Command.TheVariants.{VtOne};
@@ -8,7 +8,7 @@ ghost use Rattle.tty_one.specs.Endings.{IsShort, IsOfSource};
 ghost use Rattle.tty_one.specs.Works.{brought, CanBePlayed, IsConsolesText, IsConsolesWork, IsReportOf, IsWork};
 
 use crate::reading::{Reading, read_text, refusal_line};
-use crate::works::{Ending, VtEntries, Work};
+use crate::works::{Ending, JobLogs, VtEntries, Work};
 use one_thread::Played;
 use session_text::TextFault;
 use std::alloc::Global;
@@ -22,6 +22,7 @@ use vt_text::{VtSession, parse_vt};
 pub(crate) fn run_vt<S: Source>(alloc: Global, source: &mut S) -> Result<Work, NoMemory>
     ensures from { IfOk result (λ work. IsOfSource work.ending (S.faults source.old) (S.faults source.new) (S.left source.old) (S.left source.new)) }
     ensures work { IfOk result (λ work. IsWork VtOne (S.left source.old) work.ending (brought work)) }
+    ensures no_log { IfOk result (λ work. work.jobs.items ≡ []) }
     ensures short { OnErr result (IsShort (S.left source.old) (S.left source.new)) }
     ensures rest { IfSome (S.left source.old) (λ bytes. LeavesRest bytes (S.left source.new)) }
 {
@@ -34,7 +35,8 @@ pub(crate) fn run_vt<S: Source>(alloc: Global, source: &mut S) -> Result<Work, N
 /// What comes of a text of consoles.
 fn work_on_text(alloc: Global, text: &[u8]) -> Result<Work, NoMemory>
     requires { length text.now ≤ 4194304 }
-    ensures { IfOk result (λ work. IsConsolesText text.now work.ending (brought work)) }
+    ensures told { IfOk result (λ work. IsConsolesText text.now work.ending (brought work)) }
+    ensures no_log { IfOk result (λ work. work.jobs.items ≡ []) }
 {
     match parse_vt(alloc, text) {
         Ok(mut session) => run_session(alloc, &mut session),
@@ -49,7 +51,8 @@ fn work_on_text(alloc: Global, text: &[u8]) -> Result<Work, NoMemory>
 /// Plays a session of consoles on one thread and makes its report.
 fn run_session(alloc: Global, session: &mut VtSession) -> Result<Work, NoMemory>
     requires { CanBePlayed (vt_session_of session.old) }
-    ensures { IfOk result (λ work. IsConsolesWork (vt_session_of session.old) work.ending (brought work)) }
+    ensures told { IfOk result (λ work. IsConsolesWork (vt_session_of session.old) work.ending (brought work)) }
+    ensures no_log { IfOk result (λ work. work.jobs.items ≡ []) }
 {
     a_played_session_has_the_same_report();
     match play_vt(alloc, session) {
@@ -62,7 +65,8 @@ fn run_session(alloc: Global, session: &mut VtSession) -> Result<Work, NoMemory>
 /// The work on a session of consoles that was played: its report, with the runs and the entries.
 fn work_of(alloc: Global, session: &VtSession, played: VtPlayed) -> Result<Work, NoMemory>
     ensures ending { IfOk result (λ work. IsReportOf (vt_session_of session.now) played work.ending) }
-    ensures brought { IfOk result (λ work. brought work ≡ record { runs = played.consoles.runs.items; entries = played.board.entries }) }
+    ensures brought { IfOk result (λ work. brought work ≡ record { runs = played.consoles.runs.items; entries = played.board.entries; log = [] }) }
+    ensures no_log { IfOk result (λ work. work.jobs.items ≡ []) }
 {
     let VtPlayed { board, consoles } = played;
     let Played { runs, ends } = consoles;
@@ -70,5 +74,10 @@ fn work_of(alloc: Global, session: &VtSession, played: VtPlayed) -> Result<Work,
     let text = vt_report(alloc, session, entries, runs.as_slice(), ends.as_slice())?;
     let vt = VtEntries::from_vec(Vec::from_slice(alloc, entries)?);
     let ending = Ending::Done(text);
-    Ok(Work { ending, runs, vt })
+    Ok(Work {
+        ending,
+        runs,
+        vt,
+        jobs: JobLogs::new(alloc),
+    })
 }

@@ -20,6 +20,7 @@ pub(crate) fn run_check<S: Source>(alloc: Global, source: &mut S) -> Result<Work
     ensures work { IfOk result (λ work. IsWork Check (S.left source.old) work.ending (brought work)) }
     ensures none { IfOk result (λ work. work.runs.items ≡ []) }
     ensures no_entries { IfOk result (λ work. work.vt.items ≡ []) }
+    ensures no_log { IfOk result (λ work. work.jobs.items ≡ []) }
     ensures short { OnErr result (IsShort (S.left source.old) (S.left source.new)) }
     ensures rest { IfSome (S.left source.old) (λ bytes. LeavesRest bytes (S.left source.new)) }
 {

@@ -1,7 +1,7 @@
 //! Laws of the reports and journals of sessions: each call has one line, a session has one report, no journal is
 //! ever full, and journals that are printed are legal.
 
-ghost use Rattle.std.specs.Prelude.{◌≡◌, ◌<◌, ◌≤◌, ℕ, List, Bool, true, Option, Some, length};
+ghost use Rattle.std.specs.Prelude.{◌≡◌, ◌<◌, ◌≤◌, ℕ, List, Bool, true, Ok, Option, Some, length};
 ghost use Rattle.tty_calls.specs.declared.journals.PortRun.{PortRun};
 ghost use Rattle.tty_calls.specs.Plain.{PlainCall};
 ghost use Rattle.tty_calls.specs.Sessions.{PlainSession, call_at};
@@ -12,10 +12,16 @@ ghost use Rattle.journal_check.specs.Short.{IsCutShort};
 ghost use Rattle.tty_one.specs.declared.playing.Telling.{Telling};
 ghost use Rattle.tty_one.specs.declared.playing.Telling.TheVariants.{Report};
 ghost use Rattle.vt_consoles.specs.declared.entries.VtEntry.{VtEntry};
+ghost use Rattle.passed_calls.specs.Within.{ArePassedWithin};
+ghost use Rattle.job_text.specs.Events.{JobLog};
+ghost use Rattle.job_text.specs.Reading.{jobs_in};
+ghost use Rattle.job_text.specs.Sessions.{JobsSession};
+ghost use Rattle.job_one.specs.Played.{derived_with};
 ghost use Rattle.vt_text.specs.Sessions.{PlainVtSession};
 ghost use Rattle.vt_account.specs.Keyed.{keyed};
 ghost use Rattle.tty_one.specs.Endings.{AreRunOne, AreGen, AskJournals, AskVtOne};
 ghost use Rattle.tty_one.specs.Reported.{Returned, IsReported, IsOrdered, IsInAnyOrder};
+ghost use Rattle.tty_one.specs.Processes.{bare_of, given_to};
 ghost use Rattle.tty_one.specs.Consoles.{AreConsolesPlayed, SpellsConsoles};
 ghost use Rattle.tty_one.specs.Outcome.{IsAnsweredOnce, IsDone, GaveTheSame, TellsEachOnce, IsReadBack, GaveJournals};
 
@@ -58,6 +64,13 @@ pub fn no_journal_is_ever_full()
 pub fn no_journal_of_a_console_is_ever_full()
     ensures { (text : List ℕ) (session : PlainVtSession) (entries : List VtEntry) (p : ℕ) (run : PortRun) (t : Terminal) → SpellsConsoles text session
         → length text ≤ 4194304 → IsCutShort p (keyed session entries) run t → length run.journal.items < 4194304 }
+{}
+
+/// A law: no journal of a session of processes is ever full. A run of the session that its ports were played, as far as
+/// it went, has fewer entries than that, where at most one call was passed down for each call of a process.
+pub fn no_journal_of_processes_is_ever_full()
+    ensures { (text : List ℕ) (session : JobsSession) (log : JobLog) (runs : List PortRun) (p : ℕ) (run : PortRun) (t : Terminal) → jobs_in text ≡ Ok (bare_of session)
+        → length text ≤ 4194304 → ArePassedWithin (given_to session log runs) → IsCutShort p (derived_with session log runs) run t → length run.journal.items < 4194304 }
 {}
 
 /// A law: a session of consoles has one report on one thread. So two calls of `tty_one` that ended with 0 gave the same

@@ -13,7 +13,7 @@ ghost use Rattle.tty_one.specs.declared.words.Command.TheVariants.{RunOne, Gen};
 ghost use Rattle.tty_one.specs.Works.{brought, IsWork, IsSessionWork, IsEndingOf, CanEnd, IsNeverFull};
 
 use crate::reading::{Reading, read_session};
-use crate::works::{Ending, VtEntries, Work};
+use crate::works::{Ending, JobLogs, VtEntries, Work};
 use one_thread::{Played, play};
 use session_gen::make;
 use session_print::{play_text, summary};
@@ -39,6 +39,7 @@ pub(crate) fn run_one<S: Source>(
     ensures from { IfOk result (λ work. IsOfSource work.ending (S.faults source.old) (S.faults source.new) (S.left source.old) (S.left source.new)) }
     ensures work { IfOk result (λ work. IsWork (RunOne journals) (S.left source.old) work.ending (brought work)) }
     ensures no_entries { IfOk result (λ work. work.vt.items ≡ []) }
+    ensures no_log { IfOk result (λ work. work.jobs.items ≡ []) }
     ensures short { OnErr result (IsShort (S.left source.old) (S.left source.new)) }
     ensures rest { IfSome (S.left source.old) (λ bytes. LeavesRest bytes (S.left source.new)) }
 {
@@ -54,6 +55,7 @@ pub(crate) fn run_number(alloc: Global, number: u32) -> Result<Work, NoMemory>
     ensures played { IfOk result (λ work. IsSessionWork IsOrdered (Summary number) (generated_session number) work.ending work.runs.items) }
     ensures can { IfOk result (λ work. CanEnd (Gen number) work.ending) }
     ensures no_entries { IfOk result (λ work. work.vt.items ≡ []) }
+    ensures no_log { IfOk result (λ work. work.jobs.items ≡ []) }
 {
     let session = make(alloc, number)?;
     run_session(alloc, Bytes::new(alloc), &session, Telling::Summary(number))
@@ -69,6 +71,7 @@ fn run_session(
     requires { IsWithinLimits (session_of session.now) × IsNeverFull (session_of session.now) }
     ensures played { IfOk result (λ work. IsSessionWork IsOrdered telling (session_of session.now) work.ending work.runs.items) }
     ensures no_entries { IfOk result (λ work. work.vt.items ≡ []) }
+    ensures no_log { IfOk result (λ work. work.jobs.items ≡ []) }
 {
     let played = play(alloc, session)?;
     work_of(alloc, used, session, played, telling)
@@ -86,6 +89,7 @@ pub fn work_of(
     ensures ending { IfOk result (λ work. IsEndingOf telling (session_of session.now) played work.ending) }
     ensures runs { IfOk result (λ work. work.runs ≡ played.runs) }
     ensures no_entries { IfOk result (λ work. work.vt.items ≡ []) }
+    ensures no_log { IfOk result (λ work. work.jobs.items ≡ []) }
 {
     let text = text_by(alloc, used, session, &played, telling)?;
     let Played { runs, ends: _ } = played;
@@ -94,6 +98,7 @@ pub fn work_of(
         ending,
         runs,
         vt: VtEntries::new(alloc),
+        jobs: JobLogs::new(alloc),
     })
 }
 

@@ -14,6 +14,8 @@ pub enum Command {
     Run { journals: bool },
     /// A session is read and played on one thread, and told likewise.
     RunOne { journals: bool },
+    /// A session of processes is read and played on one thread, and told.
+    Jobs,
     /// The session of a number is played and summed up.
     Gen(u32),
     /// A session is read with its journals, and these are judged.
@@ -29,6 +31,9 @@ pub(crate) fn command_of(words: &[&str]) -> Option<Command>
 {
     if are(words, &["check"]) {
         return Some(Command::Check);
+    }
+    if are(words, &["jobs"]) {
+        return Some(Command::Jobs);
     }
     if are(words, &["vt", "--one"]) {
         return Some(Command::VtOne);

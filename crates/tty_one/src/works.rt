@@ -4,6 +4,7 @@ ghost use Rattle.std.specs.Prelude.{◌≡◌, ◌⊎◌, ◌≢◌, ◌++◌, [
 ghost use Rattle.tty_base.specs.Outside.{Rose, GivesFront};
 ghost use Rattle.tty_one.specs.Endings.{status_of, text_of};
 
+use job_text::JobLog;
 use std::alloc::Global;
 use tty_base::{Buffer, Bytes, Sink, write_all};
 use tty_calls::PortRun;
@@ -15,13 +16,17 @@ pub type Runs = Buffer<PortRun>;
 /// The entries of a board.
 pub type VtEntries = Buffer<VtEntry>;
 
-/// What a call of the program came to: its exit status, the runs of the ports or consoles, and the entries of the
-/// consoles' board.
+/// What happened beside the ports of processes.
+pub type JobLogs = Buffer<JobLog>;
+
+/// What a call of the program came to: its exit status, the runs of the ports or consoles, the entries of the consoles'
+/// board, and what happened beside the ports of processes.
 #[derive(Drop)]
 pub struct Ran {
     pub status: u8,
     pub runs: Runs,
     pub vt: VtEntries,
+    pub jobs: JobLogs,
 }
 
 /// How the work ended, before it was told.
@@ -38,23 +43,25 @@ pub enum Ending {
     NotLegal(Bytes),
 }
 
-/// What was done: how it ended, the runs, and the entries of the consoles' board.
+/// What was done: how it ended, the runs, the entries of the consoles' board, and the log of processes.
 #[derive(Drop)]
 pub struct Work {
     pub ending: Ending,
     pub runs: Runs,
     pub vt: VtEntries,
+    pub jobs: JobLogs,
 }
 
 impl Work {
     /// Work that ended without a run.
     pub fn ended(alloc: Global, ending: Ending) -> Work
-        ensures { result ≡ record { ending = ending; runs = record { items = []; spare = 0 }; vt = record { items = []; spare = 0 } } }
+        ensures { result ≡ record { ending = ending; runs = record { items = []; spare = 0 }; vt = record { items = []; spare = 0 }; jobs = record { items = []; spare = 0 } } }
     {
         Work {
             ending,
             runs: Runs::new(alloc),
             vt: VtEntries::new(alloc),
+            jobs: JobLogs::new(alloc),
         }
     }
 
@@ -62,22 +69,30 @@ impl Work {
     pub fn tell<K: Sink>(self, sink: &mut K) -> Ran
         ensures runs { result.runs ≡ self.runs }
         ensures vt { result.vt ≡ self.vt }
+        ensures jobs { result.jobs ≡ self.jobs }
         ensures status { (result.status ≡ status_of self.ending) ⊎ (result.status ≡ 4) }
         ensures fault { result.status ≡ 4 → Rose (K.faults sink.old) (K.faults sink.new) }
         ensures whole { result.status ≢ 4 → IfSome (K.given sink.old) (λ before. K.given sink.new ≡ Some (before ++ text_of self.ending)) }
         ensures front { IfSome (K.given sink.old) (λ before. GivesFront before (text_of self.ending) (K.given sink.new)) }
     {
-        let Work { ending, runs, vt } = self;
+        let Work {
+            ending,
+            runs,
+            vt,
+            jobs,
+        } = self;
         match write_all(sink, ending.text()) {
             Ok(()) => Ran {
                 status: ending.status(),
                 runs,
                 vt,
+                jobs,
             },
             Err(_) => Ran {
                 status: 4,
                 runs,
                 vt,
+                jobs,
             },
         }
     }

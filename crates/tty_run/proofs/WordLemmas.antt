@@ -2,7 +2,7 @@
 use Rattle.std.proofs.Common.{◌⊎◌, ◌≤◌, ℕ, length, List, Option, None, Some, IfSome, inl, inr}
 use Rattle.tty_base.specs.Outside.{Rose}
 use Rattle.tty_one.specs.declared.words.Command.{Command}
-use Rattle.tty_one.specs.declared.words.Command.TheVariants.{Run, RunOne, Gen, Check, VtOne}
+use Rattle.tty_one.specs.declared.words.Command.TheVariants.{Run, RunOne, Jobs, Gen, Check, VtOne}
 use Rattle.tty_one.specs.Endings.{Ask, AreKnown, AreOfOne, AreRun, AreRunOne, AskOneToRead, AskToRead}
 use Rattle.tty_one.specs.Reported.{Returned}
 use Rattle.tty_one.specs.Outcome.{Completes, IsBroken, breaks_words, breaks_fault, breaks_long, breaks_refusal, breaks_text, breaks_verdict, IsDone, IsToldBy, WasGiven}
@@ -47,6 +47,7 @@ headline_at : (words : List (List ℕ)) (left before now : Option (List ℕ)) (b
     → IsPlayedOnThreads words left before now back.runs
 headline_at words left before now back (Run journals) text run asked told given = record { journals = journals; text = text; asked = asked; played = told; given = given }
 headline_at words left before now back (RunOne journals) text run asked told given = absurd (run_is_not_one words run (RunOne journals, tt, asked))
+headline_at words left before now back Jobs text run asked told given = absurd (run_is_not_one words run (Jobs, tt, asked))
 headline_at words left before now back (Gen number) text run asked told given = absurd (run_is_not_one words run (Gen number, tt, asked))
 headline_at words left before now back Check text run asked told given = absurd (run_is_not_one words run (Check, tt, asked))
 headline_at words left before now back VtOne text run asked told given = absurd (run_is_not_one words run (VtOne, tt, asked))

@@ -6,4 +6,4 @@ mod playing;
 mod top;
 
 pub use top::tty_run;
-pub use tty_one::{Ran, Runs, VtEntries};
+pub use tty_one::{JobLogs, Ran, Runs, VtEntries};

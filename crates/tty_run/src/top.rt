@@ -2,9 +2,10 @@
 
 ghost use Rattle.std.specs.Prelude.{◌≡◌, ◌⊎◌, ◌≢◌, ◌≤◌, [], IfSome, length};
 ghost use Rattle.tty_base.specs.Outside.{Rose, TookCount, LeavesRest};
-ghost use Rattle.tty_one.specs.Endings.{AreKnown, AreRun, AreRunOne, AreGen, AskCheck, AskVtOne, AskToRead, IsStatus, IsStatusOr, IsTold, texts_of};
+ghost use Rattle.tty_one.specs.Endings.{AreKnown, AreRun, AreRunOne, AreGen, AskCheck, AskJobs, AskVtOne, AskToRead, IsStatus, IsStatusOr, IsTold, texts_of};
 ghost use Rattle.tty_one.specs.Reported.{nothing, returned};
 ghost use Rattle.tty_one.specs.Consoles.{CompletesConsoles};
+ghost use Rattle.tty_one.specs.Processes.{CompletesProcesses};
 ghost use Rattle.tty_one.specs.Outcome.{IsDone, IsToldRefused, IsToldIllegal, IsBroken, Completes, CompletesCheck};
 ghost use Rattle.tty_run.specs.Headline.{IsPlayedOnThreads};
 
@@ -13,14 +14,15 @@ use std::alloc::Global;
 use std::sync::Wait;
 use std::thread::Threads;
 use tty_base::{NoMemory, Sink, Source};
-use tty_one::{Ran, Runs, VtEntries, journals_on_threads, tty_one};
+use tty_one::{JobLogs, Ran, Runs, VtEntries, journals_on_threads, tty_one};
 use tty_port::Gate;
 
 /// Does what the words ask for, and ends with a status: 0 the work is done, 1 the text read is not in its
 /// grammar, 2 the words are none of the program's, 3 reading failed, 4 writing failed, 5 no memory was left,
 /// 6 the text is too long, 7 the journals that were read are not all legal. What is told goes to the sink:
 /// at 0 the session's report, with its journals where the words ask for them, the summary of a number's
-/// session, or that the journals are legal; else the line of the status. Of a session of consoles the report is its own.
+/// session, or that the journals are legal; else the line of the status. Of a session of consoles, and of one of processes, the report
+/// is its own.
 ///
 /// By `run` the session is played on threads: in each phase each port has one for each caller, one each for
 /// line and flusher, and one for a clock that has ticks. The other words are those of `tty_one`, which needs no thread.
@@ -50,7 +52,8 @@ pub fn tty_run<R: Threads + Wait + Sync, S: Source, K: Sink, G: Gate + Sync>(
     // 0: the session is the one that the text spells that was read, or the one of the number; each run is
     // legal, and on one thread in its order, and the sink was given the text of that session and these
     // runs, or their summary. Or the runs that the text spells are all legal, and it was given that. Or the text
-    // spells a session of consoles, and each of them and their board was played on one thread.
+    // spells a session of consoles, and each of them and their board was played on one thread. Or it spells a session of
+    // processes, and their ports were.
     ensures done { result.status ≡ 0 → IsDone (texts_of words.now) (S.left source.old) (K.given sink.old) (K.given sink.new) (returned result) }
     // 1: the text that was read is not in its grammar, and the sink was given its first wrong line.
     ensures bad_session { result.status ≡ 1 → IsToldRefused (texts_of words.now) (S.left source.old) (K.given sink.old) (K.given sink.new) }
@@ -62,6 +65,7 @@ pub fn tty_run<R: Threads + Wait + Sync, S: Source, K: Sink, G: Gate + Sync>(
     ensures no_runs { result.status ≢ 0 → result.status ≢ 4 → returned result ≡ nothing }
     ensures none_judged { AskCheck (texts_of words.now) → result.runs.items ≡ [] }
     ensures no_entries { (AskVtOne (texts_of words.now) → ⊥) → result.vt.items ≡ [] }
+    ensures no_log { (AskJobs (texts_of words.now) → ⊥) → result.jobs.items ≡ [] }
     // The source has left an end of what it had left.
     ensures rest { IfSome (S.left source.old) (λ bytes. LeavesRest bytes (S.left source.new)) }
     // Where a session is to be read and reading did not fail, a text that spells a session is played, and
@@ -78,6 +82,9 @@ pub fn tty_run<R: Threads + Wait + Sync, S: Source, K: Sink, G: Gate + Sync>(
     // Likewise a text that spells a session of consoles is played, and one that spells none is refused.
     ensures consoles { IfSome (S.left source.old) (λ bytes. AskVtOne (texts_of words.now) → length bytes ≤ 4194304
         → (Rose (S.faults source.old) (S.faults source.new) → ⊥) → CompletesConsoles bytes result.status) }
+    // .. and a session of processes.
+    ensures processes { IfSome (S.left source.old) (λ bytes. AskJobs (texts_of words.now) → length bytes ≤ 4194304
+        → (Rose (S.faults source.old) (S.faults source.new) → ⊥) → CompletesProcesses bytes result.status) }
 {
     let Some(journals) = journals_on_threads(words) else {
         return tty_one(alloc, words, source, sink);
@@ -88,6 +95,7 @@ pub fn tty_run<R: Threads + Wait + Sync, S: Source, K: Sink, G: Gate + Sync>(
             status: 5,
             runs: Runs::new(alloc),
             vt: VtEntries::new(alloc),
+            jobs: JobLogs::new(alloc),
         },
     }
 }

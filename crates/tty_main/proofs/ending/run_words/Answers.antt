@@ -32,11 +32,13 @@ returns g c =
       no_runs = called.no_runs;
       none_judged = called.none_judged;
       no_entries = called.no_entries;
+      no_log = called.no_log;
       rest_left = called.rest;
       complete = called.complete;
       made = called.made;
       unread = called.unread;
       judged = called.judged;
       consoles = called.consoles;
+      processes = called.processes;
     }
     )

@@ -15,12 +15,12 @@ work_on_text-requires g c =
 pub returns-in-Of-clause-from : goal.returns-in-Of-clause-from
 returns-in-Of-clause-from g c =
     let read = text_read consoles_refusal _ _ _ _ c.in_ok-text.field-0 c.in-Of.text c.as_slice.result.now c.in-Of.is c.as_slice.ensures (c.in_ok-text.ensures.read consoles_refusal) in
-    consoles_source (g.S.Source.faults c.args.source.now) (g.S.Source.faults c.read_text.new.source) (g.S.Source.left c.args.source.now) (g.S.Source.left c.read_text.new.source) c.as_slice.result.now c.work_on_text.result read.0 read.1 c.work_on_text.ensures
+    consoles_source (g.S.Source.faults c.args.source.now) (g.S.Source.faults c.read_text.new.source) (g.S.Source.left c.args.source.now) (g.S.Source.left c.read_text.new.source) c.as_slice.result.now c.work_on_text.result read.0 read.1 c.work_on_text.ensures.told
 
 pub returns-in-Of-clause-work : goal.returns-in-Of-clause-work
 returns-in-Of-clause-work g c =
     let read = text_read consoles_refusal _ _ _ _ c.in_ok-text.field-0 c.in-Of.text c.as_slice.result.now c.in-Of.is c.as_slice.ensures (c.in_ok-text.ensures.read consoles_refusal) in
-    consoles_work (g.S.Source.faults c.args.source.now) (g.S.Source.faults c.read_text.new.source) (g.S.Source.left c.args.source.now) (g.S.Source.left c.read_text.new.source) c.as_slice.result.now c.work_on_text.result read.0 read.1 c.work_on_text.ensures
+    consoles_work (g.S.Source.faults c.args.source.now) (g.S.Source.faults c.read_text.new.source) (g.S.Source.left c.args.source.now) (g.S.Source.left c.read_text.new.source) c.as_slice.result.now c.work_on_text.result read.0 read.1 c.work_on_text.ensures.told
 
 pub returns-in-Of-clause-short : goal.returns-in-Of-clause-short
 returns-in-Of-clause-short g c =

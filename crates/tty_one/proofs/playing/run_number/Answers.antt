@@ -16,4 +16,4 @@ run_session-requires c =
 pub returns : goal.returns
 returns c =
     let played = subst (λ (session : PlainSession). IfOk c.run_session.result (λ work. IsSessionWork IsOrdered (Summary c.args.number) session work.ending work.runs.items)) c.in_ok-session.ensures.session c.run_session.ensures.played in
-    record { played = played; can = number_ends c.args.number c.run_session.result played; no_entries = c.run_session.ensures.no_entries }
+    record { played = played; can = number_ends c.args.number c.run_session.result played; no_entries = c.run_session.ensures.no_entries; no_log = c.run_session.ensures.no_log }

@@ -5,14 +5,20 @@ use Rattle.tty_one.specs.declared.works.Ending.TheVariants.{BadWords}
 use Rattle.tty_one.specs.Reported.{returned}
 use Rattle.tty_one.specs.Outcome.{breaks_words, WasGivenFront}
 use Rattle.tty_one.specs.Works.{brought}
-use Rattle.tty_one.proofs.Outcomes.{nothing_told, nothing_by, no_entries, completes_consoles, not_consoles, not_one_vt, broken, done_by, refused_by, illegal_by, told_by, took_by, long_by, completes, judged, made, none_judged, unasked, unjudged, unmade, one_reads, reads_nothing, work_with}
+use Rattle.tty_one.proofs.Outcomes.{nothing_told, nothing_by, no_entries, no_log, completes_consoles, completes_processes, not_consoles, not_one_vt, not_processes, not_one_jobs, nothing_read, broken, done_by, refused_by, illegal_by, told_by, took_by, long_by, completes, judged, made, none_judged, unasked, unjudged, unmade, one_reads, reads_nothing, work_with}
 use Rattle.tty_one.proofs.top.tty_one.Goals as goal
 
 pub returns-in_default-clause-broken : goal.returns-in_default-clause-broken
 returns-in_default-clause-broken g c = λ _.
-    breaks_words c.in_default.ensures.other (nothing_told c.tell.result c.ended.result BadWords c.tell.ensures.runs c.tell.ensures.vt c.ended.ensures) (
+    breaks_words c.in_default.ensures.other (nothing_told c.tell.result c.ended.result BadWords c.tell.ensures.runs c.tell.ensures.vt c.tell.ensures.jobs c.ended.ensures) (
     subst (λ (e : Ending). WasGivenFront (g.K.Sink.given c.args.sink.now) (g.K.Sink.given c.tell.new.sink) (text_of e)) (ap (λ work. work.ending) c.ended.ensures) c.tell.ensures.front
     )
+
+pub returns-in_default-clause-told : goal.returns-in_default-clause-told
+returns-in_default-clause-told g c = told_by (g.K.Sink.given c.args.sink.now) (g.K.Sink.given c.tell.new.sink) c.ended.result.ending c.tell.result.status c.tell.ensures.status c.tell.ensures.whole c.tell.ensures.front
+
+pub returns-in_default-clause-rest : goal.returns-in_default-clause-rest
+returns-in_default-clause-rest g c = nothing_read (g.S.Source.left c.args.source.now)
 
 pub returns-in_default-clause-complete : goal.returns-in_default-clause-complete
 returns-in_default-clause-complete g c = unasked (texts_of c.args.words.now) (g.S.Source.left c.args.source.now) _ _ _ c.in_default.ensures.other
@@ -34,7 +40,7 @@ returns-in-Ok-clause-told g c = told_by (g.K.Sink.given c.args.sink.now) (g.K.Si
 
 pub returns-in-Ok-clause-done : goal.returns-in-Ok-clause-done
 returns-in-Ok-clause-done g c =
-    let done = work_with c.in-Some.command (g.S.Source.left c.args.source.now) c.in-Ok.work.ending c.tell-in-Ok.result c.in-Ok.work c.tell-in-Ok.ensures.runs c.tell-in-Ok.ensures.vt c.in-Ok.ensures.work in
+    let done = work_with c.in-Some.command (g.S.Source.left c.args.source.now) c.in-Ok.work.ending c.tell-in-Ok.result c.in-Ok.work c.tell-in-Ok.ensures.runs c.tell-in-Ok.ensures.vt c.tell-in-Ok.ensures.jobs c.in-Ok.ensures.work in
     done_by (texts_of c.args.words.now) c.in-Some.command (g.S.Source.left c.args.source.now) (g.K.Sink.given c.args.sink.now) (g.K.Sink.given c.tell-in-Ok.new.sink) (returned c.tell-in-Ok.result) c.in-Ok.work.ending c.tell-in-Ok.result.status c.in-Some.ensures.known.1 done c.tell-in-Ok.ensures.status c.tell-in-Ok.ensures.whole
 
 pub returns-in-Ok-clause-bad_session : goal.returns-in-Ok-clause-bad_session
@@ -47,14 +53,14 @@ returns-in-Ok-clause-not_legal g c =
 
 pub returns-in-Ok-clause-broken : goal.returns-in-Ok-clause-broken
 returns-in-Ok-clause-broken g c = λ _.
-    let done = work_with c.in-Some.command (g.S.Source.left c.args.source.now) c.in-Ok.work.ending c.tell-in-Ok.result c.in-Ok.work c.tell-in-Ok.ensures.runs c.tell-in-Ok.ensures.vt c.in-Ok.ensures.work in
+    let done = work_with c.in-Some.command (g.S.Source.left c.args.source.now) c.in-Ok.work.ending c.tell-in-Ok.result c.in-Ok.work c.tell-in-Ok.ensures.runs c.tell-in-Ok.ensures.vt c.tell-in-Ok.ensures.jobs c.in-Ok.ensures.work in
     broken (AreOfOne (texts_of c.args.words.now)) (AskOneToRead (texts_of c.args.words.now)) (texts_of c.args.words.now) c.in-Some.command _ _ _ _ _ _ (returned c.tell-in-Ok.result) c.in-Ok.work.ending c.in-Some.ensures.known.1 c.in-Ok.ensures.can (
     one_reads c.in-Some.command (texts_of c.args.words.now) c.in-Some.ensures.known.0 c.in-Some.ensures.known.1
     ) c.in-Ok.ensures.from done c.tell-in-Ok.ensures.front
 
 pub returns-in-Ok-clause-complete : goal.returns-in-Ok-clause-complete
 returns-in-Ok-clause-complete g c =
-    let done = work_with c.in-Some.command (g.S.Source.left c.args.source.now) c.in-Ok.work.ending c.tell-in-Ok.result c.in-Ok.work c.tell-in-Ok.ensures.runs c.tell-in-Ok.ensures.vt c.in-Ok.ensures.work in
+    let done = work_with c.in-Some.command (g.S.Source.left c.args.source.now) c.in-Ok.work.ending c.tell-in-Ok.result c.in-Ok.work c.tell-in-Ok.ensures.runs c.tell-in-Ok.ensures.vt c.tell-in-Ok.ensures.jobs c.in-Ok.ensures.work in
     completes (texts_of c.args.words.now) c.in-Some.command (g.S.Source.left c.args.source.now) (g.S.Source.left c.work_on.new.source) (g.S.Source.faults c.args.source.now) (g.S.Source.faults c.work_on.new.source) (returned c.tell-in-Ok.result) c.in-Ok.work.ending c.tell-in-Ok.result.status c.in-Some.ensures.known.1 c.tell-in-Ok.ensures.status c.in-Ok.ensures.from done c.in-Ok.ensures.rest
 
 pub returns-in-Ok-clause-judged : goal.returns-in-Ok-clause-judged
@@ -66,7 +72,7 @@ returns-in-Ok-clause-made g c = made (texts_of c.args.words.now) c.in-Some.comma
 
 pub returns-in-Ok-clause-none_judged : goal.returns-in-Ok-clause-none_judged
 returns-in-Ok-clause-none_judged g c =
-    let done = work_with c.in-Some.command (g.S.Source.left c.args.source.now) c.in-Ok.work.ending c.tell-in-Ok.result c.in-Ok.work c.tell-in-Ok.ensures.runs c.tell-in-Ok.ensures.vt c.in-Ok.ensures.work in
+    let done = work_with c.in-Some.command (g.S.Source.left c.args.source.now) c.in-Ok.work.ending c.tell-in-Ok.result c.in-Ok.work c.tell-in-Ok.ensures.runs c.tell-in-Ok.ensures.vt c.tell-in-Ok.ensures.jobs c.in-Ok.ensures.work in
     none_judged (texts_of c.args.words.now) c.in-Some.command (g.S.Source.left c.args.source.now) (returned c.tell-in-Ok.result) c.in-Ok.work.ending c.in-Some.ensures.known.1 done
 
 pub returns-in-Ok-clause-unread : goal.returns-in-Ok-clause-unread
@@ -80,14 +86,26 @@ returns-in_default-clause-consoles g c = not_consoles (texts_of c.args.words.now
 
 pub returns-in-Ok-clause-consoles : goal.returns-in-Ok-clause-consoles
 returns-in-Ok-clause-consoles g c =
-    let done = work_with c.in-Some.command (g.S.Source.left c.args.source.now) c.in-Ok.work.ending c.tell-in-Ok.result c.in-Ok.work c.tell-in-Ok.ensures.runs c.tell-in-Ok.ensures.vt c.in-Ok.ensures.work in
+    let done = work_with c.in-Some.command (g.S.Source.left c.args.source.now) c.in-Ok.work.ending c.tell-in-Ok.result c.in-Ok.work c.tell-in-Ok.ensures.runs c.tell-in-Ok.ensures.vt c.tell-in-Ok.ensures.jobs c.in-Ok.ensures.work in
     completes_consoles (texts_of c.args.words.now) c.in-Some.command (g.S.Source.left c.args.source.now) (g.S.Source.left c.work_on.new.source) (g.S.Source.faults c.args.source.now) (g.S.Source.faults c.work_on.new.source) (returned c.tell-in-Ok.result) c.in-Ok.work.ending c.tell-in-Ok.result.status c.in-Some.ensures.known.1 c.tell-in-Ok.ensures.status c.in-Ok.ensures.from done c.in-Ok.ensures.rest
 
 pub returns-in-Ok-clause-no_runs : goal.returns-in-Ok-clause-no_runs
 returns-in-Ok-clause-no_runs g c =
-    let done = work_with c.in-Some.command (g.S.Source.left c.args.source.now) c.in-Ok.work.ending c.tell-in-Ok.result c.in-Ok.work c.tell-in-Ok.ensures.runs c.tell-in-Ok.ensures.vt c.in-Ok.ensures.work in
+    let done = work_with c.in-Some.command (g.S.Source.left c.args.source.now) c.in-Ok.work.ending c.tell-in-Ok.result c.in-Ok.work c.tell-in-Ok.ensures.runs c.tell-in-Ok.ensures.vt c.tell-in-Ok.ensures.jobs c.in-Ok.ensures.work in
     nothing_by c.in-Some.command (g.S.Source.left c.args.source.now) (returned c.tell-in-Ok.result) c.in-Ok.work.ending c.tell-in-Ok.result.status done c.tell-in-Ok.ensures.status
 
 pub returns-in-Ok-clause-no_entries : goal.returns-in-Ok-clause-no_entries
 returns-in-Ok-clause-no_entries g c = λ other.
     ap (λ entries. entries.items) c.tell-in-Ok.ensures.vt ∙ no_entries (texts_of c.args.words.now) c.in-Some.command (brought c.in-Ok.work) c.in-Some.ensures.known.1 c.in-Ok.ensures.entries other
+
+pub returns-in-Ok-clause-no_log : goal.returns-in-Ok-clause-no_log
+returns-in-Ok-clause-no_log g c = λ other.
+    ap (λ log. log.items) c.tell-in-Ok.ensures.jobs ∙ no_log (texts_of c.args.words.now) c.in-Some.command (brought c.in-Ok.work) c.in-Some.ensures.known.1 c.in-Ok.ensures.log other
+
+pub returns-in_default-clause-processes : goal.returns-in_default-clause-processes
+returns-in_default-clause-processes g c = not_processes (texts_of c.args.words.now) (g.S.Source.left c.args.source.now) _ _ _ (not_one_jobs (texts_of c.args.words.now) c.in_default.ensures.other)
+
+pub returns-in-Ok-clause-processes : goal.returns-in-Ok-clause-processes
+returns-in-Ok-clause-processes g c =
+    let done = work_with c.in-Some.command (g.S.Source.left c.args.source.now) c.in-Ok.work.ending c.tell-in-Ok.result c.in-Ok.work c.tell-in-Ok.ensures.runs c.tell-in-Ok.ensures.vt c.tell-in-Ok.ensures.jobs c.in-Ok.ensures.work in
+    completes_processes (texts_of c.args.words.now) c.in-Some.command (g.S.Source.left c.args.source.now) (g.S.Source.left c.work_on.new.source) (g.S.Source.faults c.args.source.now) (g.S.Source.faults c.work_on.new.source) (returned c.tell-in-Ok.result) c.in-Ok.work.ending c.tell-in-Ok.result.status c.in-Some.ensures.known.1 c.tell-in-Ok.ensures.status c.in-Ok.ensures.from done c.in-Ok.ensures.rest

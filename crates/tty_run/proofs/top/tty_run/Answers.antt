@@ -3,7 +3,7 @@ use Rattle.tty_one.specs.declared.words.Command.TheVariants.{Run}
 use Rattle.tty_one.specs.Endings.{AreKnown, AskToRead, texts_of}
 use Rattle.tty_one.specs.Reported.{returned}
 use Rattle.tty_one.specs.Works.{brought}
-use Rattle.tty_one.proofs.Outcomes.{not_consoles, not_vt_and_run, nothing_by, broken, done_by, refused_by, illegal_by, told_by, took_by, long_by, completes_on_threads, judged, made, none_judged, one_if_not_run, reads_nothing, work_with}
+use Rattle.tty_one.proofs.Outcomes.{not_consoles, not_jobs_and_run, not_processes, not_vt_and_run, nothing_by, broken, done_by, refused_by, illegal_by, told_by, took_by, long_by, completes_on_threads, judged, made, none_judged, one_if_not_run, reads_nothing, work_with}
 use Rattle.tty_run.proofs.WordLemmas.{unknown_to_one, broken_one, complete_one, complete_on_threads, headline}
 use Rattle.tty_run.proofs.top.tty_run.Goals as goal
 
@@ -28,7 +28,7 @@ returns-in_default-clause-complete g c = complete_one (texts_of c.args.words.now
 
 pub returns-in-Ok-clause-headline : goal.returns-in-Ok-clause-headline
 returns-in-Ok-clause-headline g c = λ run zero_is.
-    let done = work_with (Run c.in-Some.journals) (g.S.Source.left c.args.source.now) c.in-Ok.work.ending c.tell.result c.in-Ok.work c.tell.ensures.runs c.tell.ensures.vt c.in-Ok.ensures.work in
+    let done = work_with (Run c.in-Some.journals) (g.S.Source.left c.args.source.now) c.in-Ok.work.ending c.tell.result c.in-Ok.work c.tell.ensures.runs c.tell.ensures.vt c.tell.ensures.jobs c.in-Ok.ensures.work in
     headline (texts_of c.args.words.now) (g.S.Source.left c.args.source.now) (g.K.Sink.given c.args.sink.now) (g.K.Sink.given c.tell.new.sink) (returned c.tell.result) run (
     done_by (texts_of c.args.words.now) (Run c.in-Some.journals) (g.S.Source.left c.args.source.now) (g.K.Sink.given c.args.sink.now) (g.K.Sink.given c.tell.new.sink) (returned c.tell.result) c.in-Ok.work.ending c.tell.result.status c.in-Some.ensures.known done c.tell.ensures.status c.tell.ensures.whole zero_is
     )
@@ -44,7 +44,7 @@ returns-in-Ok-clause-told g c = told_by (g.K.Sink.given c.args.sink.now) (g.K.Si
 
 pub returns-in-Ok-clause-done : goal.returns-in-Ok-clause-done
 returns-in-Ok-clause-done g c =
-    let done = work_with (Run c.in-Some.journals) (g.S.Source.left c.args.source.now) c.in-Ok.work.ending c.tell.result c.in-Ok.work c.tell.ensures.runs c.tell.ensures.vt c.in-Ok.ensures.work in
+    let done = work_with (Run c.in-Some.journals) (g.S.Source.left c.args.source.now) c.in-Ok.work.ending c.tell.result c.in-Ok.work c.tell.ensures.runs c.tell.ensures.vt c.tell.ensures.jobs c.in-Ok.ensures.work in
     done_by (texts_of c.args.words.now) (Run c.in-Some.journals) (g.S.Source.left c.args.source.now) (g.K.Sink.given c.args.sink.now) (g.K.Sink.given c.tell.new.sink) (returned c.tell.result) c.in-Ok.work.ending c.tell.result.status c.in-Some.ensures.known done c.tell.ensures.status c.tell.ensures.whole
 
 pub returns-in-Ok-clause-bad_session : goal.returns-in-Ok-clause-bad_session
@@ -57,12 +57,12 @@ returns-in-Ok-clause-not_legal g c =
 
 pub returns-in-Ok-clause-broken : goal.returns-in-Ok-clause-broken
 returns-in-Ok-clause-broken g c = λ _.
-    let done = work_with (Run c.in-Some.journals) (g.S.Source.left c.args.source.now) c.in-Ok.work.ending c.tell.result c.in-Ok.work c.tell.ensures.runs c.tell.ensures.vt c.in-Ok.ensures.work in
+    let done = work_with (Run c.in-Some.journals) (g.S.Source.left c.args.source.now) c.in-Ok.work.ending c.tell.result c.in-Ok.work c.tell.ensures.runs c.tell.ensures.vt c.tell.ensures.jobs c.in-Ok.ensures.work in
     broken (AreKnown (texts_of c.args.words.now)) (AskToRead (texts_of c.args.words.now)) (texts_of c.args.words.now) (Run c.in-Some.journals) _ _ _ _ _ _ (returned c.tell.result) c.in-Ok.work.ending c.in-Some.ensures.known tt (λ _. inl (c.in-Some.journals, c.in-Some.ensures.known)) c.in-Ok.ensures.from done c.tell.ensures.front
 
 pub returns-in-Ok-clause-complete : goal.returns-in-Ok-clause-complete
 returns-in-Ok-clause-complete g c =
-    let done = work_with (Run c.in-Some.journals) (g.S.Source.left c.args.source.now) c.in-Ok.work.ending c.tell.result c.in-Ok.work c.tell.ensures.runs c.tell.ensures.vt c.in-Ok.ensures.work in
+    let done = work_with (Run c.in-Some.journals) (g.S.Source.left c.args.source.now) c.in-Ok.work.ending c.tell.result c.in-Ok.work c.tell.ensures.runs c.tell.ensures.vt c.tell.ensures.jobs c.in-Ok.ensures.work in
     complete_on_threads (texts_of c.args.words.now) (g.S.Source.left c.args.source.now) (g.S.Source.faults c.args.source.now) (g.S.Source.faults c.run.new.source) c.tell.result.status (
     completes_on_threads c.in-Some.journals (g.S.Source.left c.args.source.now) (g.S.Source.left c.run.new.source) (g.S.Source.faults c.args.source.now) (g.S.Source.faults c.run.new.source) (returned c.tell.result) c.in-Ok.work.ending c.tell.result.status c.tell.ensures.status c.in-Ok.ensures.from done c.in-Ok.ensures.rest
     )
@@ -76,7 +76,7 @@ returns-in-Ok-clause-made g c = made (texts_of c.args.words.now) (Run c.in-Some.
 
 pub returns-in-Ok-clause-none_judged : goal.returns-in-Ok-clause-none_judged
 returns-in-Ok-clause-none_judged g c =
-    let done = work_with (Run c.in-Some.journals) (g.S.Source.left c.args.source.now) c.in-Ok.work.ending c.tell.result c.in-Ok.work c.tell.ensures.runs c.tell.ensures.vt c.in-Ok.ensures.work in
+    let done = work_with (Run c.in-Some.journals) (g.S.Source.left c.args.source.now) c.in-Ok.work.ending c.tell.result c.in-Ok.work c.tell.ensures.runs c.tell.ensures.vt c.tell.ensures.jobs c.in-Ok.ensures.work in
     none_judged (texts_of c.args.words.now) (Run c.in-Some.journals) (g.S.Source.left c.args.source.now) (returned c.tell.result) c.in-Ok.work.ending c.in-Some.ensures.known done
 
 pub returns-in-Ok-clause-unread : goal.returns-in-Ok-clause-unread
@@ -93,7 +93,7 @@ returns-in-Err-clause-other_words g c = λ unknown. absurd (unknown (Run c.in-So
 
 pub returns-in-Ok-clause-no_runs : goal.returns-in-Ok-clause-no_runs
 returns-in-Ok-clause-no_runs g c =
-    let done = work_with (Run c.in-Some.journals) (g.S.Source.left c.args.source.now) c.in-Ok.work.ending c.tell.result c.in-Ok.work c.tell.ensures.runs c.tell.ensures.vt c.in-Ok.ensures.work in
+    let done = work_with (Run c.in-Some.journals) (g.S.Source.left c.args.source.now) c.in-Ok.work.ending c.tell.result c.in-Ok.work c.tell.ensures.runs c.tell.ensures.vt c.tell.ensures.jobs c.in-Ok.ensures.work in
     nothing_by (Run c.in-Some.journals) (g.S.Source.left c.args.source.now) (returned c.tell.result) c.in-Ok.work.ending c.tell.result.status done c.tell.ensures.status
 
 pub returns-in-Ok-clause-no_entries : goal.returns-in-Ok-clause-no_entries
@@ -104,3 +104,12 @@ returns-in-Ok-clause-consoles g c = not_consoles (texts_of c.args.words.now) (g.
 
 pub returns-in-Err-clause-consoles : goal.returns-in-Err-clause-consoles
 returns-in-Err-clause-consoles g c = not_consoles (texts_of c.args.words.now) (g.S.Source.left c.args.source.now) _ _ _ (λ vt. not_vt_and_run (texts_of c.args.words.now) c.in-Some.journals vt c.in-Some.ensures.known)
+
+pub returns-in-Ok-clause-no_log : goal.returns-in-Ok-clause-no_log
+returns-in-Ok-clause-no_log g c = λ _. ap (λ log. log.items) c.tell.ensures.jobs ∙ c.in-Ok.ensures.no_log
+
+pub returns-in-Ok-clause-processes : goal.returns-in-Ok-clause-processes
+returns-in-Ok-clause-processes g c = not_processes (texts_of c.args.words.now) (g.S.Source.left c.args.source.now) _ _ _ (λ jobs. not_jobs_and_run (texts_of c.args.words.now) c.in-Some.journals jobs c.in-Some.ensures.known)
+
+pub returns-in-Err-clause-processes : goal.returns-in-Err-clause-processes
+returns-in-Err-clause-processes g c = not_processes (texts_of c.args.words.now) (g.S.Source.left c.args.source.now) _ _ _ (λ jobs. not_jobs_and_run (texts_of c.args.words.now) c.in-Some.journals jobs c.in-Some.ensures.known)
