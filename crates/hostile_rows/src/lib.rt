@@ -9,6 +9,8 @@ mod journals;
 #[cfg(test)]
 mod long;
 #[cfg(test)]
+mod processes;
+#[cfg(test)]
 mod sessions;
 #[cfg(test)]
 mod tables;

@@ -16,6 +16,8 @@ mod output;
 #[cfg(test)]
 mod overruns;
 #[cfg(test)]
+mod processes;
+#[cfg(test)]
 mod receiving;
 #[cfg(test)]
 mod refusals;

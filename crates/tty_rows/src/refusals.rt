@@ -23,10 +23,11 @@ const ROOM: usize = 65_536;
 const LONGEST: usize = 4_194_304;
 
 /// Words that are none of the program's.
-const OTHERS: [&[&str]; 9] = [
+const OTHERS: [&[&str]; 10] = [
     &[],
     &["run", "--two"],
     &["vt"],
+    &["jobs", "--one"],
     &["run", "--one", "--one"],
     &["run", "--journal", "--journal"],
     &["gen"],
