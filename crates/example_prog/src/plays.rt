@@ -10,8 +10,10 @@ use tty_rows::{told_of, told_on_threads, with_journals};
 /// alone, or a caller who waits for the line.
 const ALIKE: [&str; 5] = ["login", "mode_words", "output", "overruns", "unread_line"];
 
-/// The examples that are sessions of consoles.
+/// The examples that are sessions of consoles, and those of processes.
 const CONSOLES: [&str; 1] = ["two_consoles"];
+
+const PROCESSES: [&str; 1] = ["shell_jobs"];
 
 /// What is wrong with an example; nothing, where it is told as its files say, and its journals are legal.
 pub(crate) fn fault_of<R: Threads + Wait + Sync>(
@@ -21,7 +23,10 @@ pub(crate) fn fault_of<R: Threads + Wait + Sync>(
 ) -> Result<Option<&'static str>, AllocError> {
     let report = example.report.as_slice();
     if CONSOLES.contains(&example.name.as_str()) {
-        return fault_on_consoles(alloc, example);
+        return fault_alone(alloc, &["vt", "--one"], example);
+    }
+    if PROCESSES.contains(&example.name.as_str()) {
+        return fault_alone(alloc, &["jobs"], example);
     }
     let told = told_of(alloc, &["run", "--one"], text_of(alloc, example)?)?;
     if told.text.as_slice() != report {
@@ -49,9 +54,13 @@ pub(crate) fn fault_of<R: Threads + Wait + Sync>(
     Ok(None)
 }
 
-/// What is wrong with an example of consoles: nothing, where it is told as its file says.
-fn fault_on_consoles(alloc: Global, example: &Example) -> Result<Option<&'static str>, AllocError> {
-    let told = told_of(alloc, &["vt", "--one"], text_of(alloc, example)?)?;
+/// What is wrong with an example that these words alone play: nothing, where it is told as its file says.
+fn fault_alone(
+    alloc: Global,
+    words: &[&str],
+    example: &Example,
+) -> Result<Option<&'static str>, AllocError> {
+    let told = told_of(alloc, words, text_of(alloc, example)?)?;
     if told.text.as_slice() != example.report.as_slice() {
         return Ok(Some("another report"));
     }
