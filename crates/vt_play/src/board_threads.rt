@@ -1,0 +1,118 @@
+//! Who works at the board in a phase: the operators, each on a thread of its own, and the keyboard.
+
+ghost use Rattle.std.specs.Prelude.{IfOk};
+ghost use Rattle.vt_text.specs.Sessions.{vt_phase_of};
+ghost use Rattle.vt_play.specs.Stages.{CanKey, IsFresh, IsWithOperator, KeyboardComes, OperatorComes};
+
+use crate::stage::Stage;
+use crate::taking::both;
+use std::sync::Wait;
+use tty_base::NoMemory;
+use tty_calls::Denied;
+use tty_port::Gate;
+use vt_consoles::Seat;
+use vt_threads::{KeyWork, Keyboard, operate, play_keyboard};
+
+/// What an operator's thread brings back.
+#[derive(Drop)]
+pub struct OperatorBack {
+    pub seat: Seat,
+    pub result: Result<(), Denied>,
+}
+
+/// What the keyboard has of a phase: its seat at the board, and the consoles' lines.
+#[derive(Drop)]
+pub struct KeyHand {
+    pub seat: Seat,
+    pub keyboard: Keyboard,
+}
+
+/// What it brings back.
+#[derive(Drop)]
+pub struct KeyBack {
+    pub hand: KeyHand,
+    pub result: Result<(), Denied>,
+}
+
+/// The seats of the operators by their numbers, and what the keyboard has.
+#[derive(Drop)]
+pub struct BoardHand {
+    pub seats: Vec<Seat>,
+    pub keys: KeyHand,
+}
+
+/// What all that work at the board bring back, and whether an operator was denied a call.
+#[derive(Drop)]
+pub struct BoardBack {
+    pub seats: Vec<Seat>,
+    pub operated: Result<(), Denied>,
+    pub keys: KeyBack,
+}
+
+/// An operator's thread.
+pub fn operator_thread<R: Wait>(
+    rt: &R,
+    stage: Stage<'_>,
+    mut seat: Seat,
+    number: u32,
+) -> Result<OperatorBack, NoMemory>
+    requires { IsFresh stage.board.now number seat }
+    ensures { IfOk result (OperatorComes stage.entry.board.now stage.entry.names.now (vt_phase_of stage.entry.phase.now) number) }
+{
+    stage.start.wait(rt)?;
+    let operators = stage.phase.operators.as_slice();
+    let result = operate(rt, stage.board, stage.names, &mut seat, number, operators);
+    Ok(OperatorBack { seat, result })
+}
+
+/// The keyboard, once all threads are made.
+pub fn press_keys<R: Wait, G: Gate>(
+    rt: &R,
+    gate: &G,
+    stage: Stage<'_>,
+    keys: KeyHand,
+) -> Result<KeyBack, NoMemory>
+    requires { CanKey stage keys }
+    ensures { IfOk result (KeyboardComes stage.entry keys) }
+{
+    stage.start.open(rt);
+    stage.start.wait(rt)?;
+    let KeyHand {
+        mut seat,
+        mut keyboard,
+    } = keys;
+    let work = KeyWork {
+        number: stage.names.len() as u32,
+        first: stage.first,
+        keys: stage.phase.keys.as_slice(),
+        phase: stage.number,
+    };
+    let result = play_keyboard(
+        rt,
+        gate,
+        stage.board,
+        stage.ports,
+        &mut seat,
+        &mut keyboard,
+        work,
+    );
+    let hand = KeyHand { seat, keyboard };
+    Ok(KeyBack { hand, result })
+}
+
+/// What came before, and one operator more.
+pub fn with_operator(back: BoardBack, one: OperatorBack) -> Result<BoardBack, NoMemory>
+    ensures { IfOk result (IsWithOperator back one) }
+{
+    let BoardBack {
+        mut seats,
+        operated,
+        keys,
+    } = back;
+    seats.push(one.seat)?;
+    Ok(BoardBack {
+        seats,
+        operated: both(operated, one.result),
+        keys,
+    })
+}

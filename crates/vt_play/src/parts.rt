@@ -1,0 +1,89 @@
+//! All consoles in their parts for the threads of a phase.
+
+ghost use Rattle.std.specs.Prelude.{◌++◌, ◌∷◌, [], List, OnOk};
+ghost use Rattle.vt_threads.specs.declared.parting.Parted.{Parted};
+ghost use Rattle.vt_play.specs.Parts.{ArePartsOf};
+
+use crate::console_threads::OwnBack;
+use crate::taking::push_beside;
+use std::alloc::Global;
+use tty_base::NoMemory;
+use tty_port::SharedPort;
+use vt_threads::{Casting, KeyLines, Keyboard, OwnSeats, Parted, Rest, Standing};
+
+/// What of a console the threads of a phase do not even see.
+#[derive(Drop)]
+pub struct Kept {
+    pub steps: Vec<u32>,
+    pub standing: Standing,
+}
+
+/// All consoles in their parts, by their numbers.
+#[derive(Drop)]
+pub struct AllParts {
+    pub ports: Vec<Option<SharedPort>>,
+    pub keyboard: Keyboard,
+    pub owns: Vec<Option<OwnSeats>>,
+    pub castings: Vec<Casting>,
+    pub kept: Vec<Kept>,
+}
+
+/// All consoles in their parts after the threads of a phase.
+#[derive(Drop)]
+pub struct AllBack {
+    pub ports: Vec<Option<SharedPort>>,
+    pub keyboard: Keyboard,
+    pub owns: Vec<OwnBack>,
+    pub castings: Vec<Casting>,
+    pub kept: Vec<Kept>,
+}
+
+/// The parts of no console.
+pub fn no_parts(alloc: Global) -> AllParts
+    ensures { ArePartsOf [] result }
+{
+    AllParts {
+        ports: Vec::new(alloc),
+        keyboard: Keyboard {
+            keyed: KeyLines {
+                lines: Vec::new(alloc),
+                ends: Vec::new(alloc),
+            },
+            seats: Vec::new(alloc),
+        },
+        owns: Vec::new(alloc),
+        castings: Vec::new(alloc),
+        kept: Vec::new(alloc),
+    }
+}
+
+/// The parts of one console more.
+pub fn add_parts(all: &mut AllParts, parted: Parted) -> Result<(), NoMemory>
+    ensures { (qs : List Parted) → ArePartsOf qs all.old → OnOk result (ArePartsOf (qs ++ parted ∷ []) all.new) }
+{
+    let Parted {
+        port,
+        seats,
+        own,
+        line,
+        end,
+        rest,
+    } = parted;
+    let parted = (seats, own, line, end, rest);
+    let (seats, own, line, end, rest) = push_beside(&mut all.ports, port, parted)?;
+    let (own, line, end, rest) = push_beside(
+        &mut all.keyboard.seats,
+        seats,
+        (own, line, end, rest),
+    )?;
+    let (own, end, rest) = push_beside(&mut all.keyboard.keyed.lines, line, (own, end, rest))?;
+    let (own, rest) = push_beside(&mut all.keyboard.keyed.ends, end, (own, rest))?;
+    let rest = push_beside(&mut all.owns, own, rest)?;
+    let Rest {
+        casting,
+        steps,
+        standing,
+    } = rest;
+    let kept = push_beside(&mut all.castings, casting, Kept { steps, standing })?;
+    Ok(all.kept.push(kept)?)
+}
