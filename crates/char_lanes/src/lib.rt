@@ -1,7 +1,8 @@
 //! Runs of good characters, eight at a time.
 #![tactic(auto)]
 
-ghost use Rattle.std.specs.Prelude.{◌≡◌, ◌≢◌, ◌↔◌, slice_index_or, false, ◌+◌, ◌<◌, ◌≤◌, ◌++◌, IsTrue, length, take, drop, map, vec_len, vec_capacity};
+ghost use Rattle.std.specs.Prelude.{◌≡◌, ◌≢◌, ◌↔◌, slice_index_or, false, ◌+◌, ◌<◌, ◌≤◌, ◌++◌};
+ghost use Rattle.std.specs.Prelude.{IsTrue, length, take, drop, map, vec_len, vec_capacity};
 ghost use Rattle.std.specs.List.{AllByRecursion};
 ghost use Rattle.std.specs.Simd.Lanes.{mask_l};
 ghost use Rattle.char_lanes.specs.Between.{AreBetween, is_outside};
@@ -29,7 +30,9 @@ pub fn push_run(
     requires { vec_len bytes.old + length chars.now ≤ vec_capacity bytes.old }
     ensures within { result ≤ length chars.now }
     ensures run { AllByRecursion (IsIn first last without.now) (take result chars.now) }
-    ensures stops { (c : Flagged) → result < length chars.now → ¬ IsIn first last without.now (slice_index_or chars.now result c) }
+    ensures stops { (c : Flagged)
+        → result < length chars.now
+        → ¬ IsIn first last without.now (slice_index_or chars.now result c) }
     ensures items { bytes.new.items ≡ bytes.old.items ++ bytes_in (take result chars.now) }
     ensures len { vec_len bytes.new ≡ vec_len bytes.old + result }
     ensures capacity { vec_capacity bytes.old ≤ vec_capacity bytes.new }
@@ -85,7 +88,9 @@ fn push_each(bytes: &mut Vec<u8>, chars: &[Flagged], first: u8, last: u8, withou
     requires { vec_len bytes.old + length chars.now ≤ vec_capacity bytes.old }
     ensures within { result ≤ length chars.now }
     ensures run { AllByRecursion (IsIn first last without.now) (take result chars.now) }
-    ensures stops { (c : Flagged) → result < length chars.now → ¬ IsIn first last without.now (slice_index_or chars.now result c) }
+    ensures stops { (c : Flagged)
+        → result < length chars.now
+        → ¬ IsIn first last without.now (slice_index_or chars.now result c) }
     ensures items { bytes.new.items ≡ bytes.old.items ++ bytes_in (take result chars.now) }
     ensures len { vec_len bytes.new ≡ vec_len bytes.old + result }
     ensures capacity { vec_capacity bytes.new ≡ vec_capacity bytes.old }

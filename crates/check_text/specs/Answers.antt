@@ -1,10 +1,12 @@
 -- An ANSWER is read where it is, word for word, what is printed of the answer that its words mean.
-use Rattle.std.specs.Prelude.{ℕ, ◌^◌, ◌==◌, ◌&&◌, nat_le, nat_lt, List, [], ◌∷◌, Option, None, Some, option_map, unwrap_or, Ok, false, replicate, codes, if◌then◌else◌}
+use Rattle.std.specs.Prelude.{ℕ, ◌^◌, ◌==◌, ◌&&◌, nat_le, nat_lt, List, [], ◌∷◌, Option, None, Some}
+use Rattle.std.specs.Prelude.{option_map, unwrap_or, Ok, false, replicate, codes, if◌then◌else◌}
 use Rattle.std.specs.Str.{bytes_eq}
 use Rattle.std.specs.List.{list_all, after_first}
 use Rattle.tty_base.specs.declared.counters.Counts.{Counts}
 use Rattle.tty_base.specs.declared.counters.Errno.{Errno}
-use Rattle.tty_base.specs.declared.counters.Errno.TheVariants.{EBADF, EEXIST, EBUSY, EAGAIN, EIO, EINVAL, ENOTTY, EMSGSIZE}
+use Rattle.tty_base.specs.declared.counters.Errno.TheVariants.{EBADF, EEXIST, EBUSY, EAGAIN}
+use Rattle.tty_base.specs.declared.counters.Errno.TheVariants.{EIO, EINVAL, ENOTTY, EMSGSIZE}
 use Rattle.tty_modes.specs.Settings.{Settings, sane_modes}
 use Rattle.tty_modes.specs.Word.{after_word}
 use Rattle.tty_modes.specs.Reading.{word_of as mode_of}

@@ -1,6 +1,8 @@
 -- The callers of a port: their names by their numbers, and what each of their calls may be answered.
 use Rattle.std.specs.Prelude.{ℕ, List, [], map, Option, None, if◌then◌else◌, slice_get, slice_index_or}
-use Rattle.tty_calls.specs.Plain.{PlainCall, opens, closes, reads, writes, gets_modes, sets_modes, gets_disc, sets_disc, flushes, steers, counts_input, counts_output, excludes, admits, drains, gets_counts, hangs_up, sends_packet, takes_packet}
+use Rattle.tty_calls.specs.Plain.{PlainCall, opens, closes, reads, writes, gets_modes, sets_modes, gets_disc}
+use Rattle.tty_calls.specs.Plain.{sets_disc, flushes, steers, counts_input, counts_output, excludes, admits}
+use Rattle.tty_calls.specs.Plain.{drains, gets_counts, hangs_up, sends_packet, takes_packet}
 use Rattle.tty_calls.specs.Sessions.{PlainScript, PlainSession, scripts_over, names_of, number_in, calls_under}
 use Rattle.text_lines.specs.Values.{is_name}
 use Rattle.check_text.specs.declared.kinds.AnswerKind.{AnswerKind}

@@ -33,7 +33,10 @@ word_in (word ∷ rest) = Ok (in_front rest word)
 
 -- a number of 32 bits
 abbrev pub number_of_word : List ℕ → Read ℕ
-number_of_word word = if is_number word then (if nat_le (number_of word) 4294967295 then Ok (number_of word) else Err Limit) else Err Number
+number_of_word word =
+    if is_number word
+    then (if nat_le (number_of word) 4294967295 then Ok (number_of word) else Err Limit)
+    else Err Number
 
 abbrev pub number_in : List (List ℕ) → Read (Front ℕ)
 number_in words = word_in words >>= λ word. number_of_word word.value >>= λ n. Ok (in_front word.rest n)

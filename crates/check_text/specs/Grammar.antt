@@ -27,7 +27,8 @@ numbers_words port run = codes "line" ∷ decimal port ∷ decimal run.arrived �
 abbrev pub run_lines : ℕ → List (List (List ℕ)) → PlainRun → List (List (List ℕ))
 run_lines port entries run =
     heading_words (codes "journal") port (length run.journal)
-    ∷ (entries ++ heading_words (codes "overruns") port (length run.overruns) ∷ (map overrun_words run.overruns ++ numbers_words port run ∷ []))
+    ∷ (entries ++ heading_words (codes "overruns") port (length run.overruns)
+    ∷ (map overrun_words run.overruns ++ numbers_words port run ∷ []))
 
 -- .. of the runs of all ports, from this port on
 abbrev pub runs_lines : ℕ → List (List (List (List ℕ))) → List PlainRun → List (List (List ℕ))
@@ -47,7 +48,8 @@ AreEntries callers lines entries = AllZip (λ words entry. entry_in callers word
 -- .. on each port; there is one run for each
 abbrev pub AreJournals : List PlainCallers → List (List (List (List ℕ))) → List PlainRun → Type 0
 AreJournals [] [] [] = Unit {0}
-AreJournals (callers ∷ more) (lines ∷ others) (run ∷ runs) = AreEntries callers lines run.journal × AreJournals more others runs
+AreJournals (callers ∷ more) (lines ∷ others) (run ∷ runs) =
+    AreEntries callers lines run.journal × AreJournals more others runs
 AreJournals callers lines runs = ⊥
 
 abbrev pub most : ℕ

@@ -1,5 +1,6 @@
 -- The journals after a session, line by line: what is due, and the tests of a line there.
-use Rattle.std.specs.Prelude.{ℕ, ◌+◌, ◌-◌, ◌==◌, nat_lt, Bool, true, false, List, [], ◌∷◌, ◌++◌, length, map, Option, None, Some, slice_get, Result, Ok, Err, codes, if◌then◌else◌}
+use Rattle.std.specs.Prelude.{ℕ, ◌+◌, ◌-◌, ◌==◌, nat_lt, Bool, true, false, List, [], ◌∷◌, ◌++◌, length}
+use Rattle.std.specs.Prelude.{map, Option, None, Some, slice_get, Result, Ok, Err, codes, if◌then◌else◌}
 use Rattle.std.specs.List.{range_with_len}
 use Rattle.tty_base.specs.declared.lines.Overrun.{Overrun}
 use Rattle.tty_calls.specs.Plain.{PlainEntry}
@@ -28,7 +29,8 @@ abbrev pub callers_by_port : PlainSession → List PlainCallers
 callers_by_port session = map (λ port. callers_on port session) (range_with_len 0 session.ports)
 
 abbrev pub first_journals : PlainSession → PlainJournals
-first_journals session = record { callers = callers_by_port session; due = due.Journals; runs = []; entries = []; overruns = [] }
+first_journals session =
+    record { callers = callers_by_port session; due = due.Journals; runs = []; entries = []; overruns = [] }
 
 -- ---- what is due
 
@@ -58,18 +60,36 @@ entry_by None words = Err Order
 entry_by (Some callers) words = entry_in callers words
 
 abbrev pub run_with : PlainJournals → LineNumbers → PlainRun
-run_with j numbers = record { journal = j.entries; overruns = j.overruns; arrived = numbers.arrived; lost = numbers.lost; sent = numbers.sent }
+run_with j numbers = record {
+  journal = j.entries;
+  overruns = j.overruns;
+  arrived = numbers.arrived;
+  lost = numbers.lost;
+  sent = numbers.sent;
+}
 
 abbrev pub with_run : PlainJournals → LineNumbers → PlainJournals
-with_run j numbers = record j { due = run_due (length j.callers) (length j.runs + 1); runs = j.runs ++ run_with j numbers ∷ []; entries = []; overruns = [] }
+with_run j numbers = record j {
+  due = run_due (length j.callers) (length j.runs + 1);
+  runs = j.runs ++ run_with j numbers ∷ [];
+  entries = [];
+  overruns = [];
+}
 
 -- what a line of these words leaves, where this is due
 abbrev pub line_by : PlainJournals → Due → List (List ℕ) → Read PlainJournals
-line_by j due.Journals words = fixed_in (codes "journals") words >>= λ end. Ok (record j { due = run_due (length j.callers) (length j.runs) })
-line_by j due.Journal words = heading_in (codes "journal") (length j.runs) words >>= λ n. Ok (record j { due = entries_due n })
-line_by j (due.Entry left) words = entry_by (slice_get j.callers (length j.runs)) words >>= λ entry. Ok (record j { due = entries_due (left - 1); entries = j.entries ++ entry ∷ [] })
-line_by j due.Overruns words = heading_in (codes "overruns") (length j.runs) words >>= λ n. Ok (record j { due = overruns_due n })
-line_by j (due.Overrun left) words = overrun_in words >>= λ overrun. Ok (record j { due = overruns_due (left - 1); overruns = j.overruns ++ overrun ∷ [] })
+line_by j due.Journals words =
+    fixed_in (codes "journals") words >>= λ end. Ok (record j { due = run_due (length j.callers) (length j.runs) })
+line_by j due.Journal words =
+    heading_in (codes "journal") (length j.runs) words >>= λ n. Ok (record j { due = entries_due n })
+line_by j (due.Entry left) words =
+    entry_by (slice_get j.callers (length j.runs)) words
+    >>= λ entry. Ok (record j { due = entries_due (left - 1); entries = j.entries ++ entry ∷ [] })
+line_by j due.Overruns words =
+    heading_in (codes "overruns") (length j.runs) words >>= λ n. Ok (record j { due = overruns_due n })
+line_by j (due.Overrun left) words =
+    overrun_in words
+    >>= λ overrun. Ok (record j { due = overruns_due (left - 1); overruns = j.overruns ++ overrun ∷ [] })
 line_by j due.Numbers words = numbers_in (length j.runs) words >>= λ numbers. Ok (with_run j numbers)
 line_by j due.Done words = fixed_in (codes "done") words >>= λ end. Ok (record j { due = due.Over })
 line_by j due.Over words = Err Order

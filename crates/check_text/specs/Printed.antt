@@ -1,5 +1,6 @@
 -- Runs that are read as they are printed.
-use Rattle.std.specs.Prelude.{◌≡◌, ℕ, ◌<◌, ◌≤◌, ◌^◌, IsTrue, Some, Ok, List, [], ◌∷◌, ◌++◌, codes, decimal, length, slice_index_or}
+use Rattle.std.specs.Prelude.{◌≡◌, ℕ, ◌<◌, ◌≤◌, ◌^◌, IsTrue, Some, Ok, List, []}
+use Rattle.std.specs.Prelude.{◌∷◌, ◌++◌, codes, decimal, length, slice_index_or}
 use Rattle.std.specs.List.{AllByRecursion}
 use Rattle.hex.specs.Hex.{IsBytes}
 use Rattle.tty_base.specs.declared.characters.Flagged.{Flagged}
@@ -7,7 +8,9 @@ use Rattle.tty_base.specs.declared.counters.Counts.{Counts}
 use Rattle.tty_modes.specs.Settings.{Settings}
 use Rattle.tty_calls.specs.declared.journals.Who.{Who}
 use Rattle.tty_calls.specs.declared.journals.Who.TheVariants.{Caller, Flusher, Line, Clock, Session}
-use Rattle.tty_calls.specs.Plain.{PlainAnswer, done, count_is, got, number_is, modes_are, counts_are, refused, idle, PlainEvent, answered, parted, waited, flushed, ticked, line_ended, clock_ended, caller_ended, phase_ended, hung_up, PlainEntry}
+use Rattle.tty_calls.specs.Plain.{PlainAnswer, done, count_is, got, number_is, modes_are, counts_are}
+use Rattle.tty_calls.specs.Plain.{refused, idle, PlainEvent, answered, parted, waited, flushed, ticked}
+use Rattle.tty_calls.specs.Plain.{line_ended, clock_ended, caller_ended, phase_ended, hung_up, PlainEntry}
 use Rattle.tty_calls.specs.declared.journals.PortRun.{PortRun}
 use Rattle.tty_calls.specs.Sessions.{PlainSession}
 use Rattle.text_lines.specs.Values.{is_name}
@@ -59,7 +62,8 @@ abbrev pub IsCallOf : PlainCallers → Who → ℕ → (AnswerKind → Type 0) �
 IsCallOf callers who step P = (kind : AnswerKind) × (call_of_entry callers who step ≡ Ok kind) × P kind
 
 abbrev pub IsEventOf : PlainCallers → Who → ℕ → PlainEvent → Type 0
-IsEventOf callers who step (answered answer dropped) = IsCallOf callers who step (λ kind. IsAnswerTo kind answer) × AreBytes dropped
+IsEventOf callers who step (answered answer dropped) =
+    IsCallOf callers who step (λ kind. IsAnswerTo kind answer) × AreBytes dropped
 IsEventOf callers who step (parted taken) = IsCallOf callers who step (λ kind. Unit {0}) × (taken ≤ most)
 IsEventOf callers who step waited = IsCallOf callers who step (λ kind. Unit {0})
 IsEventOf callers who step (flushed chars) = AreBytes chars
@@ -72,7 +76,8 @@ IsEventOf callers who step (hung_up dropped) = AreBytes dropped
 
 -- a caller is one of the port's, and its name is a NAME
 abbrev pub IsWhoOf : PlainCallers → Who → Type 0
-IsWhoOf callers (Caller caller) = (caller < length callers.names) × IsTrue (is_name (slice_index_or callers.names caller []))
+IsWhoOf callers (Caller caller) =
+    (caller < length callers.names) × IsTrue (is_name (slice_index_or callers.names caller []))
 IsWhoOf callers Flusher = Unit {0}
 IsWhoOf callers Line = Unit {0}
 IsWhoOf callers Clock = Unit {0}
@@ -109,7 +114,8 @@ IsBeside dropped (word ∷ chars ∷ []) = (word ≡ codes "drop") × (chars_of 
 IsBeside dropped (word ∷ chars ∷ other ∷ rest) = ⊥
 
 abbrev pub IsEventLine : PlainEvent → List (List ℕ) → Type 0
-IsEventLine (answered answer dropped) words = (rest : List (List ℕ)) × (words ≡ codes "answer" ∷ (answer_words answer ++ rest)) × IsBeside dropped rest
+IsEventLine (answered answer dropped) words =
+    (rest : List (List ℕ)) × (words ≡ codes "answer" ∷ (answer_words answer ++ rest)) × IsBeside dropped rest
 IsEventLine (parted taken) words = words ≡ codes "part" ∷ decimal taken ∷ []
 IsEventLine waited words = words ≡ codes "wait" ∷ []
 IsEventLine (flushed chars) words = (text : List ℕ) × (words ≡ codes "flush" ∷ text ∷ []) × (chars_of text ≡ Some chars)
@@ -118,7 +124,8 @@ IsEventLine (line_ended sent) words = words ≡ codes "line_end" ∷ decimal sen
 IsEventLine clock_ended words = words ≡ codes "clock_end" ∷ []
 IsEventLine caller_ended words = words ≡ codes "caller_end" ∷ []
 IsEventLine phase_ended words = words ≡ codes "phase_end" ∷ []
-IsEventLine (hung_up dropped) words = (text : List ℕ) × (words ≡ codes "hangup" ∷ text ∷ []) × (chars_of text ≡ Some dropped)
+IsEventLine (hung_up dropped) words =
+    (text : List ℕ) × (words ≡ codes "hangup" ∷ text ∷ []) × (chars_of text ≡ Some dropped)
 
 pub record IsEntryLine (names : List (List ℕ)) (words : List (List ℕ)) (e : PlainEntry) : Type 0 where
   pub event : List (List ℕ)

@@ -3,7 +3,8 @@ use Rattle.std.specs.Prelude.{List, map}
 use Rattle.tty_base.specs.declared.characters.Flagged.{Flagged}
 use Rattle.tty_calls.specs.declared.journals.PortRun.{PortRun}
 use Rattle.tty_calls.specs.declared.sessions.Session.{Session}
-use Rattle.tty_calls.specs.Plain.{PlainEntry, PlainEvent, answer_of, answered, parted, waited, flushed, ticked, line_ended, clock_ended, caller_ended, phase_ended, hung_up}
+use Rattle.tty_calls.specs.Plain.{PlainEntry, PlainEvent, answer_of, answered, parted, waited, flushed}
+use Rattle.tty_calls.specs.Plain.{ticked, line_ended, clock_ended, caller_ended, phase_ended, hung_up}
 use Rattle.tty_calls.specs.Sessions.{session_of}
 use Rattle.check_text.specs.declared.callers.Callers.{Callers}
 use Rattle.check_text.specs.declared.journals.Journals.{Journals}
@@ -32,7 +33,8 @@ event_with chars events.PhaseEnd = phase_ended
 event_with chars events.Hangup = hung_up chars
 
 abbrev pub entry_with : List Flagged → ReadEntry → PlainEntry
-entry_with chars e = record { who = e.who; step = e.step; part = e.part; generation = e.generation; event = event_with chars e.event }
+entry_with chars e =
+    record { who = e.who; step = e.step; part = e.part; generation = e.generation; event = event_with chars e.event }
 
 abbrev pub journals_of : Journals → PlainJournals
 journals_of j = record {

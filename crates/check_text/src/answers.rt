@@ -7,7 +7,12 @@ ghost use Rattle.text_lines.specs.Lines.{words_of};
 ghost use Rattle.text_lines.specs.Values.{choice_of};
 ghost use Rattle.session_print.specs.Words.{errno_name};
 ghost use Rattle.check_text.specs.Fields.{in_front};
-ghost use Rattle.check_text.specs.Answers.{errno_of as errno_named, named_answer as answer_named, small_at as small_number, no_flags as cleared_modes, modes_from as modes_by_words, count_of as count_by_digits, count_at as count_by_place, counts_in as counts_by_words, answer_by, answer_meaning as meant_answer, answer_as, later_errnos, words_after as words_past, answer_in as read_answer};
+ghost use Rattle.check_text.specs.Answers.{errno_of as errno_named, named_answer as answer_named};
+ghost use Rattle.check_text.specs.Answers.{small_at as small_number, no_flags as cleared_modes};
+ghost use Rattle.check_text.specs.Answers.{modes_from as modes_by_words, count_of as count_by_digits};
+ghost use Rattle.check_text.specs.Answers.{count_at as count_by_place, counts_in as counts_by_words};
+ghost use Rattle.check_text.specs.Answers.{answer_by, answer_meaning as meant_answer, answer_as};
+ghost use Rattle.check_text.specs.Answers.{later_errnos, words_after as words_past, answer_in as read_answer};
 ghost use Rattle.check_text.specs.Building.{count_with};
 ghost use Rattle.check_text.specs.Results.{ReadsAs};
 
@@ -29,7 +34,8 @@ pub(crate) fn answer_in(
     kind: AnswerKind,
     words: &[u8],
 ) -> Result<(Answer, &[u8]), LineFault>
-    ensures { ReadsAs (λ parts. in_front (words_of parts.1.now) (answer_of parts.0)) result (read_answer kind (words_of words.now)) }
+    ensures { ReadsAs (λ parts. in_front (words_of parts.1.now) (answer_of parts.0)) result
+        (read_answer kind (words_of words.now)) }
 {
     let answer = answer_meaning(alloc, kind, words)?;
     let rest = after_answer(alloc, &answer, words)?;
@@ -38,7 +44,8 @@ pub(crate) fn answer_in(
 
 /// What follows the words of an answer, where these are the first words.
 fn after_answer<'a>(alloc: Global, answer: &Answer, words: &'a [u8]) -> Result<&'a [u8], LineFault>
-    ensures { ReadsAs (λ rest. in_front (words_of rest.now) (answer_of answer.now)) result (answer_as (answer_of answer.now) (words_of words.now)) }
+    ensures { ReadsAs (λ rest. in_front (words_of rest.now) (answer_of answer.now)) result
+        (answer_as (answer_of answer.now) (words_of words.now)) }
 {
     let text = answer_text(alloc, answer)?;
     words_after(text.as_slice(), words).ok_or(LineFault::Wrong(Reason::Word))

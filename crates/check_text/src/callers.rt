@@ -67,7 +67,9 @@ fn kinds_on(
     session: &Session,
     port: usize,
 ) -> Result<Vec<Vec<AnswerKind>>, NoMemory>
-    ensures { IfOk result (λ rows. map (λ row. row.items) rows.items ≡ rows_after names.now (replicate (length names.now) []) (scripts_over port (session_of session.now).phases)) }
+    ensures { IfOk result (λ rows.
+        map (λ row. row.items) rows.items
+        ≡ rows_after names.now (replicate (length names.now) []) (scripts_over port (session_of session.now).phases)) }
 {
     let mut rows = empty_rows(alloc, names.len())?;
     for phase in session.phases.as_slice() {
@@ -94,7 +96,8 @@ fn add_scripts(
     scripts: &[Script],
 ) -> Result<(), NoMemory>
     requires { length rows.old ≡ length names.now }
-    ensures { OnOk result (map (λ row. row.items) rows.new ≡ rows_after names.now (map (λ row. row.items) rows.old) (scripts_for port scripts.now)) }
+    ensures { OnOk result (map (λ row. row.items) rows.new
+        ≡ rows_after names.now (map (λ row. row.items) rows.old) (scripts_for port scripts.now)) }
 {
     for script in scripts {
         if usize::from(script.port) == port {
@@ -106,7 +109,8 @@ fn add_scripts(
 
 fn add_script(names: &Names, rows: &mut [Vec<AnswerKind>], script: &Script) -> Result<(), NoMemory>
     requires { length rows.old ≡ length names.now }
-    ensures { OnOk result (map (λ row. row.items) rows.new ≡ rows_then names.now (map (λ row. row.items) rows.old) (script_of script.now)) }
+    ensures { OnOk result (map (λ row. row.items) rows.new
+        ≡ rows_then names.now (map (λ row. row.items) rows.old) (script_of script.now)) }
 {
     match names.number(&script.name) {
         None => Ok(()),

@@ -3,10 +3,16 @@
 
 ghost use Rattle.std.specs.Prelude.{◌≡◌, List, Ok, Err, MatchResult};
 ghost use Rattle.tty_base.specs.declared.characters.Flagged.{Flagged};
-ghost use Rattle.tty_calls.specs.Plain.{answer_of, flushed, hung_up, parted, waited, line_ended, answered, PlainAnswer, PlainEvent};
+ghost use Rattle.tty_calls.specs.Plain.{answer_of, flushed, hung_up, parted, waited};
+ghost use Rattle.tty_calls.specs.Plain.{line_ended, answered, PlainAnswer, PlainEvent};
 ghost use Rattle.text_lines.specs.Lines.{words_of};
 ghost use Rattle.check_text.specs.Fields.{in_front, at_end};
-ghost use Rattle.check_text.specs.Entries.{ends_in_number, maker_of as maker_named, who_of as who_named, who_in as read_who, call_of_entry as call_in_entry, chars_in as read_chars, ends_in_chars, with_dropped as read_dropped, bare_by, event_by as read_event_by, event_in as read_event, entry_in as read_entry, fixed_in as read_fixed, heading_in as read_heading, overrun_in as read_overrun, numbers_in as read_numbers};
+ghost use Rattle.check_text.specs.Entries.{ends_in_number, maker_of as maker_named, who_of as who_named};
+ghost use Rattle.check_text.specs.Entries.{who_in as read_who, call_of_entry as call_in_entry, chars_in as read_chars};
+ghost use Rattle.check_text.specs.Entries.{ends_in_chars, with_dropped as read_dropped, bare_by};
+ghost use Rattle.check_text.specs.Entries.{event_by as read_event_by, event_in as read_event, entry_in as read_entry};
+ghost use Rattle.check_text.specs.Entries.{fixed_in as read_fixed, heading_in as read_heading};
+ghost use Rattle.check_text.specs.Entries.{overrun_in as read_overrun, numbers_in as read_numbers};
 ghost use Rattle.check_text.specs.Results.{ReadsAs};
 ghost use Rattle.check_text.specs.Views.{callers_of, entry_with, event_with};
 
@@ -30,7 +36,8 @@ pub(crate) fn entry_in(
     words: &[u8],
     characters: &mut Chars,
 ) -> Result<ReadEntry, LineFault>
-    ensures { ReadsAs (entry_with characters.new.items) result (read_entry (callers_of callers.now) (words_of words.now)) }
+    ensures { ReadsAs (entry_with characters.new.items) result
+        (read_entry (callers_of callers.now) (words_of words.now)) }
 {
     let (who, rest) = who_in(callers, words)?;
     let (step, rest) = number_in(rest)?;
@@ -47,7 +54,10 @@ pub(crate) fn entry_in(
 }
 
 fn who_in<'a>(callers: &Callers, words: &'a [u8]) -> Result<(Who, &'a [u8]), Reason>
-    ensures { MatchResult result (λ parts. read_who (callers_of callers.now).names (words_of words.now) ≡ Ok (in_front (words_of parts.1.now) parts.0)) (λ reason. read_who (callers_of callers.now).names (words_of words.now) ≡ Err reason) }
+    ensures { MatchResult result
+        (λ parts.
+        read_who (callers_of callers.now).names (words_of words.now) ≡ Ok (in_front (words_of parts.1.now) parts.0))
+        (λ reason. read_who (callers_of callers.now).names (words_of words.now) ≡ Err reason) }
 {
     let (word, rest) = word_in(words)?;
     match who_of(callers, word) {
@@ -93,7 +103,8 @@ fn event_in(
     words: &[u8],
     characters: &mut Chars,
 ) -> Result<ReadEvent, LineFault>
-    ensures { ReadsAs (event_with characters.new.items) result (read_event (callers_of callers.now) who step (words_of words.now)) }
+    ensures { ReadsAs (event_with characters.new.items) result
+        (read_event (callers_of callers.now) who step (words_of words.now)) }
 {
     let (word, rest) = word_in(words)?;
     match kind_of(word) {
@@ -111,7 +122,8 @@ fn event_by(
     words: &[u8],
     characters: &mut Chars,
 ) -> Result<ReadEvent, LineFault>
-    ensures { ReadsAs (event_with characters.new.items) result (read_event_by (callers_of callers.now) who step kind (words_of words.now)) }
+    ensures { ReadsAs (event_with characters.new.items) result
+        (read_event_by (callers_of callers.now) who step kind (words_of words.now)) }
 {
     match kind {
         EventKind::Answer => answer_event(alloc, callers, who, step, words, characters),
@@ -161,7 +173,8 @@ fn answer_event(
     words: &[u8],
     dropped: &mut Chars,
 ) -> Result<ReadEvent, LineFault>
-    ensures { ReadsAs (event_with dropped.new.items) result (read_event_by (callers_of callers.now) who step EventKind.Answer (words_of words.now)) }
+    ensures { ReadsAs (event_with dropped.new.items) result
+        (read_event_by (callers_of callers.now) who step EventKind.Answer (words_of words.now)) }
 {
     let kind = call_of_entry(callers, who, step)?;
     let (answer, rest) = answer_in(alloc, kind, words)?;
@@ -178,7 +191,8 @@ fn with_dropped(answer: Answer, words: &[u8], dropped: &mut Chars) -> Result<Rea
 
 /// The characters that were dropped beside an answer.
 fn dropped_in(words: &[u8], dropped: &mut Chars) -> Result<(), LineFault>
-    ensures { (answer : PlainAnswer) → ReadsAs (λ _. answered answer dropped.new.items) result (read_dropped answer (words_of words.now)) }
+    ensures { (answer : PlainAnswer)
+        → ReadsAs (λ _. answered answer dropped.new.items) result (read_dropped answer (words_of words.now)) }
 {
     match split_word(words) {
         None => {
@@ -197,7 +211,10 @@ fn dropped_in(words: &[u8], dropped: &mut Chars) -> Result<(), LineFault>
 
 /// How many bytes a part took.
 fn part_in(callers: &Callers, who: Who, step: u32, words: &[u8]) -> Result<u32, Reason>
-    ensures { MatchResult result (λ taken. read_event_by (callers_of callers.now) who step EventKind.Part (words_of words.now) ≡ Ok (parted taken)) (λ reason. read_event_by (callers_of callers.now) who step EventKind.Part (words_of words.now) ≡ Err reason) }
+    ensures { MatchResult result
+        (λ taken.
+        read_event_by (callers_of callers.now) who step EventKind.Part (words_of words.now) ≡ Ok (parted taken))
+        (λ reason. read_event_by (callers_of callers.now) who step EventKind.Part (words_of words.now) ≡ Err reason) }
 {
     call_of_entry(callers, who, step)?;
     let (taken, rest) = number_in(words)?;
@@ -206,7 +223,9 @@ fn part_in(callers: &Callers, who: Who, step: u32, words: &[u8]) -> Result<u32, 
 }
 
 fn wait_in(callers: &Callers, who: Who, step: u32, words: &[u8]) -> Result<(), Reason>
-    ensures { MatchResult result (λ _. read_event_by (callers_of callers.now) who step EventKind.Wait (words_of words.now) ≡ Ok waited) (λ reason. read_event_by (callers_of callers.now) who step EventKind.Wait (words_of words.now) ≡ Err reason) }
+    ensures { MatchResult result
+        (λ _. read_event_by (callers_of callers.now) who step EventKind.Wait (words_of words.now) ≡ Ok waited)
+        (λ reason. read_event_by (callers_of callers.now) who step EventKind.Wait (words_of words.now) ≡ Err reason) }
 {
     call_of_entry(callers, who, step)?;
     no_more(words)
@@ -214,7 +233,8 @@ fn wait_in(callers: &Callers, who: Who, step: u32, words: &[u8]) -> Result<(), R
 
 /// How many characters were sent by the line's end.
 fn sent_in(words: &[u8]) -> Result<u64, Reason>
-    ensures { MatchResult result (λ sent. ends_in_number line_ended (words_of words.now) ≡ Ok (line_ended sent)) (λ reason. ends_in_number line_ended (words_of words.now) ≡ Err reason) }
+    ensures { MatchResult result (λ sent. ends_in_number line_ended (words_of words.now) ≡ Ok (line_ended sent))
+        (λ reason. ends_in_number line_ended (words_of words.now) ≡ Err reason) }
 {
     let (sent, rest) = number_in(words)?;
     no_more(rest)?;
@@ -239,7 +259,8 @@ fn hangup_event(words: &[u8], dropped: &mut Chars) -> Result<ReadEvent, LineFaul
 
 /// What follows the first word. The characters that it writes become these.
 fn characters_in<'a>(words: &'a [u8], characters: &mut Chars) -> Result<&'a [u8], LineFault>
-    ensures { ReadsAs (λ rest. in_front (words_of rest.now) characters.new.items) result (read_chars (words_of words.now)) }
+    ensures { ReadsAs (λ rest. in_front (words_of rest.now) characters.new.items) result
+        (read_chars (words_of words.now)) }
 {
     let (word, rest) = word_in(words)?;
     read_characters(word, characters)?;

@@ -6,7 +6,9 @@ ghost use Rattle.tty_calls.specs.Sessions.{session_of};
 ghost use Rattle.text_lines.specs.Lines.{words_of};
 ghost use Rattle.session_text.specs.Reading.{Gives};
 ghost use Rattle.check_text.specs.Callers.{callers_on};
-ghost use Rattle.check_text.specs.Journals.{first_journals, run_due as due_run, entries_due as due_entries, overruns_due as due_overruns, is_over as is_last, entry_by, line_by, journals_after_line, runs_at_end};
+ghost use Rattle.check_text.specs.Journals.{first_journals, run_due as due_run, entries_due as due_entries};
+ghost use Rattle.check_text.specs.Journals.{overruns_due as due_overruns, is_over as is_last, entry_by};
+ghost use Rattle.check_text.specs.Journals.{line_by, journals_after_line, runs_at_end};
 ghost use Rattle.check_text.specs.Results.{ReadsAs};
 ghost use Rattle.check_text.specs.Runs.{run_of};
 ghost use Rattle.check_text.specs.Views.{callers_of, entry_with, journals_of};
@@ -77,7 +79,8 @@ impl Journals {
         number: u32,
         line: &[u8],
     ) -> Result<(), TextFault>
-        ensures { Gives (λ _. journals_of self.new) result (journals_after_line (journals_of self.old) number (words_of line.now)) }
+        ensures { Gives (λ _. journals_of self.new) result
+            (journals_after_line (journals_of self.old) number (words_of line.now)) }
     {
         match split_word(line) {
             None => Ok(()),
@@ -98,7 +101,8 @@ impl Journals {
     }
 
     fn read_words(&mut self, alloc: Global, words: &[u8]) -> Result<(), LineFault>
-        ensures { ReadsAs (λ _. journals_of self.new) result (line_by (journals_of self.old) self.old.due (words_of words.now)) }
+        ensures { ReadsAs (λ _. journals_of self.new) result
+            (line_by (journals_of self.old) self.old.due (words_of words.now)) }
     {
         match self.due {
             Due::Journals => self.read_start(words),
@@ -113,7 +117,8 @@ impl Journals {
     }
 
     fn read_start(&mut self, words: &[u8]) -> Result<(), LineFault>
-        ensures { ReadsAs (λ _. journals_of self.new) result (line_by (journals_of self.old) Due.Journals (words_of words.now)) }
+        ensures { ReadsAs (λ _. journals_of self.new) result
+            (line_by (journals_of self.old) Due.Journals (words_of words.now)) }
     {
         fixed_in(b"journals".as_slice(), words)?;
         self.due = run_due(self.callers.len(), self.runs.len());
@@ -121,7 +126,8 @@ impl Journals {
     }
 
     fn read_journal_heading(&mut self, words: &[u8]) -> Result<(), LineFault>
-        ensures { ReadsAs (λ _. journals_of self.new) result (line_by (journals_of self.old) Due.Journal (words_of words.now)) }
+        ensures { ReadsAs (λ _. journals_of self.new) result
+            (line_by (journals_of self.old) Due.Journal (words_of words.now)) }
     {
         let count = heading_in(b"journal".as_slice(), self.runs.len(), words)?;
         self.due = entries_due(count);
@@ -129,7 +135,8 @@ impl Journals {
     }
 
     fn read_overruns_heading(&mut self, words: &[u8]) -> Result<(), LineFault>
-        ensures { ReadsAs (λ _. journals_of self.new) result (line_by (journals_of self.old) Due.Overruns (words_of words.now)) }
+        ensures { ReadsAs (λ _. journals_of self.new) result
+            (line_by (journals_of self.old) Due.Overruns (words_of words.now)) }
     {
         let count = heading_in(b"overruns".as_slice(), self.runs.len(), words)?;
         self.due = overruns_due(count);
@@ -137,7 +144,8 @@ impl Journals {
     }
 
     fn read_end(&mut self, words: &[u8]) -> Result<(), LineFault>
-        ensures { ReadsAs (λ _. journals_of self.new) result (line_by (journals_of self.old) Due.Done (words_of words.now)) }
+        ensures { ReadsAs (λ _. journals_of self.new) result
+            (line_by (journals_of self.old) Due.Done (words_of words.now)) }
     {
         fixed_in(b"done".as_slice(), words)?;
         self.due = Due::Over;
@@ -145,7 +153,8 @@ impl Journals {
     }
 
     fn read_entry(&mut self, alloc: Global, left: u32, words: &[u8]) -> Result<(), LineFault>
-        ensures { ReadsAs (λ _. journals_of self.new) result (line_by (journals_of self.old) (Due.Entry left) (words_of words.now)) }
+        ensures { ReadsAs (λ _. journals_of self.new) result
+            (line_by (journals_of self.old) (Due.Entry left) (words_of words.now)) }
     {
         let callers = self.callers.as_slice();
         let entry = entry_due(alloc, callers, self.runs.len(), words, &mut self.characters)?;
@@ -154,7 +163,11 @@ impl Journals {
 
     /// Adds an entry, whose characters are those that were read last.
     fn take_entry(&mut self, entry: &ReadEntry, left: u32) -> Result<(), LineFault>
-        ensures { ReadsAs (λ _. journals_of self.new) result (Ok (record (journals_of self.old) { due = due_entries (left - 1); entries = (journals_of self.old).entries ++ entry_with self.old.characters.items entry.now ∷ [] })) }
+        ensures { ReadsAs (λ _. journals_of self.new) result
+            (Ok (record (journals_of self.old) {
+              due = due_entries (left - 1);
+              entries = (journals_of self.old).entries ++ entry_with self.old.characters.items entry.now ∷ [];
+            })) }
     {
         add_entry(&mut self.entries, &entry.lent(self.characters.as_slice()))?;
         self.due = entries_due(left.saturating_sub(1));
@@ -162,7 +175,8 @@ impl Journals {
     }
 
     fn read_overrun(&mut self, left: u32, words: &[u8]) -> Result<(), LineFault>
-        ensures { ReadsAs (λ _. journals_of self.new) result (line_by (journals_of self.old) (Due.Overrun left) (words_of words.now)) }
+        ensures { ReadsAs (λ _. journals_of self.new) result
+            (line_by (journals_of self.old) (Due.Overrun left) (words_of words.now)) }
     {
         let overrun = overrun_in(words)?;
         self.overruns.reserve(1)?;
@@ -172,7 +186,8 @@ impl Journals {
     }
 
     fn read_numbers(&mut self, alloc: Global, words: &[u8]) -> Result<(), LineFault>
-        ensures { ReadsAs (λ _. journals_of self.new) result (line_by (journals_of self.old) Due.Numbers (words_of words.now)) }
+        ensures { ReadsAs (λ _. journals_of self.new) result
+            (line_by (journals_of self.old) Due.Numbers (words_of words.now)) }
     {
         let port = self.runs.len();
         let numbers = numbers_in(port, words)?;
@@ -212,7 +227,8 @@ fn entry_due(
     words: &[u8],
     characters: &mut Chars,
 ) -> Result<ReadEntry, LineFault>
-    ensures { ReadsAs (entry_with characters.new.items) result (entry_by (slice_get (map callers_of callers.now) port) (words_of words.now)) }
+    ensures { ReadsAs (entry_with characters.new.items) result
+        (entry_by (slice_get (map callers_of callers.now) port) (words_of words.now)) }
 {
     match callers.get(port) {
         Some(callers) => entry_in(alloc, callers, words, characters),
@@ -221,7 +237,9 @@ fn entry_due(
 }
 
 fn callers_by_port(alloc: Global, session: &Session) -> Result<Vec<Callers>, NoMemory>
-    ensures { IfOk result (λ callers. map callers_of callers.items ≡ map (λ port. callers_on port (session_of session.now)) (range_with_len 0 session.now.ports)) }
+    ensures { IfOk result (λ callers.
+        map callers_of callers.items
+        ≡ map (λ port. callers_on port (session_of session.now)) (range_with_len 0 session.now.ports)) }
 {
     let mut callers = Vec::new(alloc);
     for port in 0..session.ports {

@@ -24,7 +24,9 @@ pub fn parse_check(alloc: Global, text: &[u8]) -> Result<(Session, Vec<PortRun>)
     ensures ok { IfOk result (λ check. Spells text.now (session_of check.0) (map run_of check.1.items)) }
     ensures short { IfOk result (λ check. All (λ run. length run.journal.items ≤ length text.now) check.1.items) }
     ensures bad { (line : BadLine) → result ≡ Err (TextFault.Bad line) → refusal text.now ≡ Some line }
-    ensures refused { (line : BadLine) → refusal text.now ≡ Some line → (result ≡ Err (TextFault.Bad line)) ⊎ (result ≡ Err TextFault.NoMemory) }
+    ensures refused { (line : BadLine)
+        → refusal text.now ≡ Some line
+        → (result ≡ Err (TextFault.Bad line)) ⊎ (result ≡ Err TextFault.NoMemory) }
 {
     read_check(alloc, text)
 }
@@ -44,7 +46,8 @@ fn read_journals(
     first: u32,
     text: &[u8],
 ) -> Result<Vec<PortRun>, TextFault>
-    ensures { Gives (λ runs. map run_of runs.items) result (runs_from (first_journals (session_of session.now)) first (lines_in text.now)) }
+    ensures { Gives (λ runs. map run_of runs.items) result
+        (runs_from (first_journals (session_of session.now)) first (lines_in text.now)) }
 {
     let mut journals = Journals::new(alloc, session)?;
     read_lines(alloc, &mut journals, first, text)
@@ -57,7 +60,8 @@ fn read_lines(
     first: u32,
     text: &[u8],
 ) -> Result<Vec<PortRun>, TextFault>
-    ensures { Gives (λ runs. map run_of runs.items) result (runs_from (journals_of journals.old) first (lines_in text.now)) }
+    ensures { Gives (λ runs. map run_of runs.items) result
+        (runs_from (journals_of journals.old) first (lines_in text.now)) }
 {
     let mut rest = text;
     let mut number = first;

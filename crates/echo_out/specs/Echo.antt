@@ -1,5 +1,6 @@
 -- The echo of what is done to the edited line, before output processing.
-use Rattle.std.specs.Prelude.{ℕ, zero, suc, ◌≤◌, ◌==◌, Bool, ◌&&◌, ◌||◌, not, List, [], ◌∷◌, ◌++◌, replicate, if◌then◌else◌, nat_lt, bit_xor}
+use Rattle.std.specs.Prelude.{ℕ, zero, suc, ◌≤◌, ◌==◌, Bool, ◌&&◌, ◌||◌, not, List, []}
+use Rattle.std.specs.Prelude.{◌∷◌, ◌++◌, replicate, if◌then◌else◌, nat_lt, bit_xor}
 use Rattle.tty_modes.specs.Settings.{Settings, has_flag, character}
 use Rattle.tty_modes.specs.declared.places.TheConstants.{ECHO, ECHOE, ECHOK, ECHOKE, ECHONL, ECHOCTL, VERASE, VKILL}
 use Rattle.echo_out.specs.declared.EchoEvent.{EchoEvent}
@@ -30,7 +31,8 @@ kill_rubs_out modes = has_flag modes ECHOE && has_flag modes ECHOK && has_flag m
 
 -- the echo of what an erasing character removes; where ERASE rubs nothing out, that character itself is shown
 abbrev pub erase_echo : Settings → EraseKind → (byte width : ℕ) → List ℕ
-erase_echo modes Erase byte width = if has_flag modes ECHOE then rubout_bytes byte width else shown_bytes modes (character modes VERASE)
+erase_echo modes Erase byte width =
+    if has_flag modes ECHOE then rubout_bytes byte width else shown_bytes modes (character modes VERASE)
 erase_echo modes Word byte width = rubout_bytes byte width
 erase_echo modes Kill byte width = if kill_rubs_out modes then rubout_bytes byte width else []
 

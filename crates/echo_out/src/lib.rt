@@ -5,7 +5,8 @@
 ghost use Rattle.std.specs.Prelude.{◌≡◌, ◌≤◌, false, [], ◌∷◌, replicate};
 ghost use Rattle.tty_modes.specs.Settings.{has_flag};
 ghost use Rattle.arrayvec.specs.ArrayVec.{array_vec_len};
-ghost use Rattle.echo_out.specs.Echo.{shown_bytes, blanking_bytes, rubout_bytes, erase_echo, kill_echo, kill_rubs_out, echo_of, FitsEcho};
+ghost use Rattle.echo_out.specs.Echo.{shown_bytes, blanking_bytes, rubout_bytes, erase_echo};
+ghost use Rattle.echo_out.specs.Echo.{kill_echo, kill_rubs_out, echo_of, FitsEcho};
 
 use arrayvec::ArrayVec;
 use tty_modes::Modes;

@@ -1,5 +1,6 @@
 -- Lists of numbers seen as characters.
-use Rattle.std.proofs.Common.{arith, ◌/◌, ◌%◌, ◌≡◌, ℕ, suc, ◌<◌, ◌≤◌, List, [], ◌∷◌, ◌++◌, map, length, get_or, true, refl, sym, ap, subst, ◌∙◌, ⊎_elim, inl, inr}
+use Rattle.std.proofs.Common.{arith, ◌/◌, ◌%◌, ◌≡◌, ℕ, suc, ◌<◌, ◌≤◌, List, [], ◌∷◌, ◌++◌, map}
+use Rattle.std.proofs.Common.{length, get_or, true, refl, sym, ap, subst, ◌∙◌, ⊎_elim, inl, inr}
 use mathlib.Core.List.{IsPrefix, map-append}
 use Rattle.std.proofs.lemmas.List.{append-nil, length-map}
 use Rattle.std.specs.List.{All}
@@ -16,16 +17,33 @@ pub chars_within : (xs ys : List ℕ) → IsOneWithin xs ys → IsOneWithin (map
 chars_within xs ys one = ⊎_elim (λ p. inl (chars_begin xs ys p)) (λ p. inr (chars_begin ys xs p)) one
 
 -- what was taken begins what was put, where that is known
-pub begins_seen : (t : TakerState ℕ) (u : TakerState Flagged) → out_state t ≡ u → (t.ended ≡ true → IsPrefix t.taken t.sent) → u.ended ≡ true → IsPrefix u.taken u.sent
-begins_seen t u e begins = subst (λ (z : TakerState Flagged). z.ended ≡ true → IsPrefix z.taken z.sent) e (λ is. chars_begin t.taken t.sent (begins is))
+pub begins_seen : (t : TakerState ℕ) (u : TakerState Flagged)
+    → out_state t ≡ u
+    → (t.ended ≡ true → IsPrefix t.taken t.sent)
+    → u.ended ≡ true
+    → IsPrefix u.taken u.sent
+begins_seen t u e begins = subst (λ (z : TakerState Flagged). z.ended ≡ true → IsPrefix z.taken z.sent) e
+    (λ is. chars_begin t.taken t.sent (begins is))
 
 -- numbers that were taken are characters that were taken
-pub out_taken : (t : TakerState ℕ) (xs : List ℕ) → out_state (with_taken t xs) ≡ with_taken (out_state t) (map char_of xs)
+pub out_taken : (t : TakerState ℕ) (xs : List ℕ)
+    → out_state (with_taken t xs) ≡ with_taken (out_state t) (map char_of xs)
 out_taken t [] = refl
 out_taken t (x ∷ xs) =
     let both = map-append char_of t.taken (x ∷ xs) in
-    let count : length (t.taken ++ x ∷ xs) ≡ length (map char_of t.taken ++ map char_of (x ∷ xs)) = sym (length-map (t.taken ++ x ∷ xs) char_of) ∙ ap length both in
-    λ i. record { ring = t.ring; capacity = t.capacity; taken = both i; peeked = []; released = t.released ++ count i ∷ []; tails = t.tails; floor = t.floor; ended = t.ended; sent = map char_of t.sent }
+    let count : length (t.taken ++ x ∷ xs) ≡ length (map char_of t.taken ++ map char_of (x ∷ xs)) =
+    sym (length-map (t.taken ++ x ∷ xs) char_of) ∙ ap length both in
+    λ i. record {
+      ring = t.ring;
+      capacity = t.capacity;
+      taken = both i;
+      peeked = [];
+      released = t.released ++ count i ∷ [];
+      tails = t.tails;
+      floor = t.floor;
+      ended = t.ended;
+      sent = map char_of t.sent;
+    }
 
 -- what taking some changes, and what stays
 pub record Took {A : Type 0} (t t' : TakerState A) (xs : List A) : Type 0 where
@@ -38,8 +56,17 @@ pub record Took {A : Type 0} (t t' : TakerState A) (xs : List A) : Type 0 where
   pub sent : t'.sent ≡ t.sent
 
 pub took : {A : Type 0} (t : TakerState A) (xs : List A) → Took t (with_taken t xs) xs
-took t [] = record { ring = refl; capacity = refl; taken = sym (append-nil t.taken); tails = refl; floor = refl; ended = refl; sent = refl }
-took t (x ∷ xs) = record { ring = refl; capacity = refl; taken = refl; tails = refl; floor = refl; ended = refl; sent = refl }
+took t [] = record {
+  ring = refl;
+  capacity = refl;
+  taken = sym (append-nil t.taken);
+  tails = refl;
+  floor = refl;
+  ended = refl;
+  sent = refl;
+}
+took t (x ∷ xs) =
+    record { ring = refl; capacity = refl; taken = refl; tails = refl; floor = refl; ended = refl; sent = refl }
 
 -- where all that was peeked is taken, nothing is peeked
 pub none_left : {A : Type 0} (t : TakerState A) (xs : List A) → xs ≡ t.peeked → (with_taken t xs).peeked ≡ []
@@ -47,7 +74,11 @@ none_left t [] all = sym all
 none_left t (x ∷ xs) all = refl
 
 -- the characters of a word
-pub four_of_word : (w : ℕ) (a b c d : Flagged) → a ≡ char_of (w % 65536) → b ≡ char_of (w / 65536 % 65536) → c ≡ char_of (w / 4294967296 % 65536) → d ≡ char_of (w / 281474976710656 % 65536)
+pub four_of_word : (w : ℕ) (a b c d : Flagged)
+    → a ≡ char_of (w % 65536)
+    → b ≡ char_of (w / 65536 % 65536)
+    → c ≡ char_of (w / 4294967296 % 65536)
+    → d ≡ char_of (w / 281474976710656 % 65536)
     → a ∷ b ∷ c ∷ d ∷ [] ≡ map char_of (lanes w 4)
 unfolding lane
 four_of_word w a b c d p q r s =
@@ -68,15 +99,39 @@ good_seen [] small = refl
 good_seen (x ∷ xs) small = λ i. good_one_seen x (small 0) i ∷ good_seen xs (λ k. small (suc k)) i
 
 -- numbers that pass are characters that pass
-pub passes_seen : (p p' : PutterState ℕ) (t t' : TakerState ℕ) (xs : List ℕ) → Passes p p' t t' xs → Passes (in_state p) (in_state p') (out_state t) (out_state t') (map char_of xs)
+pub passes_seen : (p p' : PutterState ℕ) (t t' : TakerState ℕ) (xs : List ℕ)
+    → Passes p p' t t' xs
+    → Passes (in_state p) (in_state p') (out_state t) (out_state t') (map char_of xs)
 passes_seen p p' t t' xs passes =
     let sent = map-append char_of p.sent xs in
-    let count : length (p.sent ++ xs) ≡ length (map char_of p.sent ++ map char_of xs) = sym (length-map (p.sent ++ xs) char_of) ∙ ap length sent in
+    let count : length (p.sent ++ xs) ≡ length (map char_of p.sent ++ map char_of xs) =
+    sym (length-map (p.sent ++ xs) char_of) ∙ ap length sent in
     let before : length p.sent ≡ length (map char_of p.sent) = sym (length-map p.sent char_of) in
     record {
       met = ap (map char_of) passes.met;
-      putter = ap in_state passes.putter ∙ (λ i. record { ring = p.ring; capacity = p.capacity; sent = sent i; pushed = sent i; heads = p.heads ++ count i ∷ []; floor = count i });
-      taker = ap out_state passes.taker ∙ (λ i. record { ring = t.ring; capacity = t.capacity; taken = sent i; peeked = []; released = t.released ++ count i ∷ []; tails = t.tails ++ count i ∷ []; floor = count i; ended = t.ended; sent = map char_of t.sent });
+      putter =
+          ap in_state passes.putter
+          ∙ (λ i. record {
+            ring = p.ring;
+            capacity = p.capacity;
+            sent = sent i;
+            pushed = sent i;
+            heads = p.heads ++ count i ∷ [];
+            floor = count i;
+          });
+      taker =
+          ap out_state passes.taker
+          ∙ (λ i. record {
+            ring = t.ring;
+            capacity = t.capacity;
+            taken = sent i;
+            peeked = [];
+            released = t.released ++ count i ∷ [];
+            tails = t.tails ++ count i ∷ [];
+            floor = count i;
+            ended = t.ended;
+            sent = map char_of t.sent;
+          });
       floor = omega (arith, passes.floor, before);
       heads = subst (λ n. All (λ h. h ≤ n) p'.heads) count passes.heads;
       rise = passes.rise;

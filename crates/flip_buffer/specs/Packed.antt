@@ -28,10 +28,27 @@ pub record Marks (flag : Flag) (mark : ℕ) : Type 0 where
 
 -- an end of the ring, its numbers seen as characters
 abbrev pub in_state : PutterState ℕ → PutterState Flagged
-in_state p = record { ring = p.ring; capacity = p.capacity; sent = map char_of p.sent; pushed = map char_of p.pushed; heads = p.heads; floor = p.floor }
+in_state p = record {
+  ring = p.ring;
+  capacity = p.capacity;
+  sent = map char_of p.sent;
+  pushed = map char_of p.pushed;
+  heads = p.heads;
+  floor = p.floor;
+}
 
 abbrev pub out_state : TakerState ℕ → TakerState Flagged
-out_state t = record { ring = t.ring; capacity = t.capacity; taken = map char_of t.taken; peeked = map char_of t.peeked; released = t.released; tails = t.tails; floor = t.floor; ended = t.ended; sent = map char_of t.sent }
+out_state t = record {
+  ring = t.ring;
+  capacity = t.capacity;
+  taken = map char_of t.taken;
+  peeked = map char_of t.peeked;
+  released = t.released;
+  tails = t.tails;
+  floor = t.floor;
+  ended = t.ended;
+  sent = map char_of t.sent;
+}
 
 abbrev pub note_state : NoteState ℕ → NoteState Flagged
 note_state n = record { ring = n.ring; pushed = map char_of n.pushed; heads = n.heads }

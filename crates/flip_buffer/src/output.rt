@@ -109,8 +109,12 @@ impl FlipOut {
     /// counts, and adds them to `out`.
     pub fn take(&mut self, most: usize, out: &mut ArrayVec<Flagged, 64>) -> usize
         requires { array_vec_len out.old + most ≤ 64 }
-        ensures moves { (xs : List Flagged) × (length xs ≡ result) × (out.new.items ≡ out.old.items ++ xs) × (self.new ≡ with_taken (with_shown self.old self.new.floor) xs) }
-        ensures count { (length self.old.taken ≤ self.new.floor) × (result ≡ min most (self.new.floor - length self.old.taken)) }
+        ensures moves { (xs : List Flagged)
+            × (length xs ≡ result)
+            × (out.new.items ≡ out.old.items ++ xs)
+            × (self.new ≡ with_taken (with_shown self.old self.new.floor) xs) }
+        ensures count { (length self.old.taken ≤ self.new.floor)
+            × (result ≡ min most (self.new.floor - length self.old.taken)) }
         ensures rises { self.old.floor ≤ self.new.floor }
         ensures most { self.new.floor ≤ length self.old.taken + self.old.capacity }
         ensures ended { self.old.ended ≡ true → self.new.floor ≡ length self.old.sent }
@@ -127,9 +131,17 @@ impl FlipOut {
     pub fn drop_all(&mut self, most: usize, out: &mut Chars) -> usize
         requires few { most ≤ self.old.capacity }
         requires room { most ≤ out.old.spare }
-        ensures moves { (xs : List Flagged) × (length xs ≡ result) × (out.new ≡ record { items = out.old.items ++ xs; spare = out.old.spare - result }) × (self.new.taken ≡ self.old.taken ++ xs) }
-        ensures shown { (tail : ℕ) × LooksAt self.old self.new tail × (result ≡ min most (tail - length self.old.taken)) }
-        ensures same { (self.new.ring ≡ self.old.ring) × (self.new.capacity ≡ self.old.capacity) × (self.new.ended ≡ self.old.ended) × (self.new.sent ≡ self.old.sent) }
+        ensures moves { (xs : List Flagged)
+            × (length xs ≡ result)
+            × (out.new ≡ record { items = out.old.items ++ xs; spare = out.old.spare - result })
+            × (self.new.taken ≡ self.old.taken ++ xs) }
+        ensures shown { (tail : ℕ)
+            × LooksAt self.old self.new tail
+            × (result ≡ min most (tail - length self.old.taken)) }
+        ensures same { (self.new.ring ≡ self.old.ring)
+            × (self.new.capacity ≡ self.old.capacity)
+            × (self.new.ended ≡ self.old.ended)
+            × (self.new.sent ≡ self.old.sent) }
         ensures peeked { self.new.peeked ≡ [] }
         ensures released { Releases self.old self.new }
         ensures ended { self.old.ended ≡ true → self.new.floor ≡ length self.old.sent }
@@ -148,7 +160,8 @@ impl FlipOut {
     pub fn end(&mut self, putter: FlipIn) -> u64
         requires { putter.ring ≡ self.old.ring }
         ensures sent { result ≡ length putter.sent }
-        ensures same { self.new ≡ record self.old { peeked = []; floor = length putter.sent; ended = true; sent = putter.sent } }
+        ensures same { self.new
+            ≡ record self.old { peeked = []; floor = length putter.sent; ended = true; sent = putter.sent } }
         ensures compared { IsPrefix self.old.taken putter.sent }
         ensures heads { AreReleased self.old.released putter.heads }
         ensures floor { self.old.floor ≤ length putter.sent }

@@ -107,7 +107,11 @@ fn add_any_characters(word: u64, out: &mut Chars)
 /// Whether the numbers of a word all stand for good characters.
 #[inline(always)]
 fn are_good(word: u64) -> bool
-    ensures { IsTrue result → (word % 65536 < 256) × (word / 65536 % 65536 < 256) × (word / 4294967296 % 65536 < 256) × (word / 281474976710656 % 65536 < 256) }
+    ensures { IsTrue result
+        → (word % 65536 < 256)
+        × (word / 65536 % 65536 < 256)
+        × (word / 4294967296 % 65536 < 256)
+        × (word / 281474976710656 % 65536 < 256) }
 {
     word / 256 % 256 == 0
         && word / 16777216 % 256 == 0

@@ -16,7 +16,10 @@ impl FlipOut {
     pub fn peek(&mut self, count: usize, out: &mut Chars)
         requires shown { length self.old.taken + length self.old.peeked + count ≤ self.old.floor }
         requires room { count ≤ out.old.spare }
-        ensures peeks { (xs : List Flagged) × (length xs ≡ count) × (out.new ≡ record { items = out.old.items ++ xs; spare = out.old.spare - count }) × (self.new ≡ record self.old { peeked = self.old.peeked ++ xs }) }
+        ensures peeks { (xs : List Flagged)
+            × (length xs ≡ count)
+            × (out.new ≡ record { items = out.old.items ++ xs; spare = out.old.spare - count })
+            × (self.new ≡ record self.old { peeked = self.old.peeked ++ xs }) }
     {
         self.peek_fours(count / 4, out);
         if count % 4 > 0 {
@@ -29,7 +32,10 @@ impl FlipOut {
     fn peek_each(&mut self, lone: usize, out: &mut Chars)
         requires shown { length self.old.taken + length self.old.peeked + lone ≤ self.old.floor }
         requires room { lone ≤ out.old.spare }
-        ensures peeks { (xs : List Flagged) × (length xs ≡ lone) × (out.new ≡ record { items = out.old.items ++ xs; spare = out.old.spare - lone }) × (self.new ≡ record self.old { peeked = self.old.peeked ++ xs }) }
+        ensures peeks { (xs : List Flagged)
+            × (length xs ≡ lone)
+            × (out.new ≡ record { items = out.old.items ++ xs; spare = out.old.spare - lone })
+            × (self.new ≡ record self.old { peeked = self.old.peeked ++ xs }) }
     {
         for _ in 0..lone {
             out.add(self.peek_next());
@@ -41,7 +47,10 @@ impl FlipOut {
     fn peek_fours(&mut self, fours: usize, out: &mut Chars)
         requires shown { length self.old.taken + length self.old.peeked + 4 * fours ≤ self.old.floor }
         requires room { 4 * fours ≤ out.old.spare }
-        ensures peeks { (xs : List Flagged) × (length xs ≡ 4 * fours) × (out.new ≡ record { items = out.old.items ++ xs; spare = out.old.spare - 4 * fours }) × (self.new ≡ record self.old { peeked = self.old.peeked ++ xs }) }
+        ensures peeks { (xs : List Flagged)
+            × (length xs ≡ 4 * fours)
+            × (out.new ≡ record { items = out.old.items ++ xs; spare = out.old.spare - 4 * fours })
+            × (self.new ≡ record self.old { peeked = self.old.peeked ++ xs }) }
     {
         for _ in 0..fours {
             add_characters(self.peek_four(), out);

@@ -1,6 +1,7 @@
 -- Reserved room makes no difference to what becomes of output and of a tally.
 use Rattle.std.proofs.Common.{◌≡◌, ℕ, ◌-◌, Bool, true, false, if◌then◌else◌, List, [], ◌++◌, length, refl, ap, arith}
-use Rattle.flow_control.specs.Output.{Output, IgnoresRoom, without_room, is_halted, has_room, on_wire, after_send, after_try, with_held_sent, after_start}
+use Rattle.flow_control.specs.Output.{Output, IgnoresRoom, without_room, is_halted, has_room}
+use Rattle.flow_control.specs.Output.{on_wire, after_send, after_try, with_held_sent, after_start}
 
 -- where it makes none to either branch
 pub without_room-if : (b : Bool) (x y x' y' : Output) → without_room x ≡ x' → without_room y ≡ y'

@@ -2,11 +2,13 @@
 use Rattle.std.specs.Prelude.{ℕ, ◌+◌, min, drop}
 use Rattle.tty_base.specs.declared.counters.Counts.{Counts}
 use Rattle.flow_control.specs.declared.tally.Counter.{Counter}
-use Rattle.flow_control.specs.declared.tally.Counter.TheVariants.{Mark, Parity, Frame, Break, Cut, Echo, PacketIn, PacketOut, PacketBad, PacketFull}
+use Rattle.flow_control.specs.declared.tally.Counter.TheVariants.{Mark, Parity, Frame, Break, Cut, Echo}
+use Rattle.flow_control.specs.declared.tally.Counter.TheVariants.{PacketIn, PacketOut, PacketBad, PacketFull}
 use Rattle.flow_control.specs.declared.tally.Tally.{Tally}
 
 abbrev pub no_counts : Counts
-no_counts = record { mark = 0; parity = 0; frame = 0; breaks = 0; cut = 0; echo = 0; pin = 0; pout = 0; pbad = 0; pfull = 0 }
+no_counts =
+    record { mark = 0; parity = 0; frame = 0; breaks = 0; cut = 0; echo = 0; pin = 0; pout = 0; pbad = 0; pfull = 0 }
 
 abbrev pub count_after : ℕ → ℕ → ℕ
 count_after count more = min (count + more) 18446744073709551615

@@ -1,5 +1,6 @@
 -- The output side of a port: the wire, held output, and what halts it.
-use Rattle.std.specs.Prelude.{◌≡◌, ℕ, ◌+◌, ◌-◌, Bool, false, ◌||◌, not, nat_le, List, [], ◌++◌, length, drop, if◌then◌else◌}
+use Rattle.std.specs.Prelude.{◌≡◌, ℕ, ◌+◌, ◌-◌, Bool, false, ◌||◌, not, nat_le}
+use Rattle.std.specs.Prelude.{List, [], ◌++◌, length, drop, if◌then◌else◌}
 use Rattle.tty_base.specs.Sizes.{MOST_HELD}
 
 -- the bytes on the wire, and the room that is reserved for more; the bytes that are held, in order; whether output is
@@ -34,7 +35,8 @@ on_wire output bytes = record output { wire = output.wire ++ bytes; spare = outp
 
 -- output that is sent: without a halt it goes to the wire at once, and with one it is held
 abbrev pub after_send : Output → List ℕ → Output
-after_send output bytes = if is_halted output then record output { held = output.held ++ bytes } else on_wire output bytes
+after_send output bytes =
+    if is_halted output then record output { held = output.held ++ bytes } else on_wire output bytes
 
 -- output that is sent where there is room, and else stays whole with the caller
 abbrev pub after_try : Output → List ℕ → Output

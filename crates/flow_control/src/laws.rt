@@ -1,7 +1,8 @@
 //! What follows from the definitions alone.
 
 ghost use Rattle.std.specs.Prelude.{◌≡◌, ℕ, List};
-ghost use Rattle.flow_control.specs.Output.{Output, IgnoresRoom, without_room, has_room, on_wire, after_send, after_try, after_start, after_release, after_tco_on, after_reset};
+ghost use Rattle.flow_control.specs.Output.{Output, IgnoresRoom, without_room, has_room, on_wire, after_send};
+ghost use Rattle.flow_control.specs.Output.{after_try, after_start, after_release, after_tco_on, after_reset};
 
 /// A law: how much room is reserved on the wire makes no difference to whether bytes fit, to where they go, and to what
 /// the end of a halt lets out.

@@ -1,8 +1,11 @@
 //! The wire, held output, and what halts it.
 
-ghost use Rattle.std.specs.Prelude.{◌≡◌, ◌≤◌, ◌<◌, ◌+◌, ◌-◌, [], ◌∷◌, ◌++◌, length, take, false, true, IfOk, OnOk, OnErr, if◌then◌else◌, vec_len, vec_capacity};
+ghost use Rattle.std.specs.Prelude.{◌≡◌, ◌≤◌, ◌<◌, ◌+◌, ◌-◌, [], ◌∷◌, ◌++◌, length, take, false};
+ghost use Rattle.std.specs.Prelude.{true, IfOk, OnOk, OnErr, if◌then◌else◌, vec_len, vec_capacity};
 ghost use Rattle.tty_base.specs.Sizes.{MOST_HELD};
-ghost use Rattle.flow_control.specs.Output.{after_reset, after_start, after_tco_on, with_held_sent, has_room, idle_output, is_halted, on_wire, after_release, room_of, after_try, without_front};
+ghost use Rattle.flow_control.specs.Output.{after_reset, after_start, after_tco_on, with_held_sent};
+ghost use Rattle.flow_control.specs.Output.{has_room, idle_output, is_halted, on_wire};
+ghost use Rattle.flow_control.specs.Output.{after_release, room_of, after_try, without_front};
 
 use std::alloc::Global;
 use std::marker::Model;
@@ -31,7 +34,14 @@ impl Model for Wire {
 
     ghost Value = { Output };
 
-    ghost view = { λ w. record { wire = w.wire.items; spare = w.wire.spare; held = w.held.items; stopped = w.stopped; off = w.off; noted = w.noted } };
+    ghost view = { λ w. record {
+      wire = w.wire.items;
+      spare = w.wire.spare;
+      held = w.held.items;
+      stopped = w.stopped;
+      off = w.off;
+      noted = w.noted;
+    } };
 
     ghost invariant = { λ w. record {
       bounded : vec_len w.held ≤ MOST_HELD;

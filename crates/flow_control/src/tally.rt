@@ -101,7 +101,8 @@ impl Tally {
     pub fn take_signals(&mut self, n: usize, out: &mut Signals)
         requires within { n ≤ length self.old.signals.items }
         requires room { n ≤ out.old.spare }
-        ensures front { out.new ≡ record { items = out.old.items ++ take n self.old.signals.items; spare = out.old.spare - n } }
+        ensures front { out.new
+            ≡ record { items = out.old.items ++ take n self.old.signals.items; spare = out.old.spare - n } }
         ensures rest { self.new ≡ without_signals n self.old }
     {
         self.signals.take_front(n, out);

@@ -1,5 +1,6 @@
 -- The lines of signals: nothing of the room behind a name is told.
-use Rattle.std.proofs.Common.{◌≡◌, ℕ, zero, suc, ◌+◌, ◌<◌, ◌==◌, Bool, true, false, cond, if◌then◌else◌, List, [], ◌∷◌, ◌++◌, length, map, drop, get_or, refl, sym, ◌∙◌, ap, arith, append_assoc}
+use Rattle.std.proofs.Common.{◌≡◌, ℕ, zero, suc, ◌+◌, ◌<◌, ◌==◌, Bool, true, false, cond, if◌then◌else◌, List}
+use Rattle.std.proofs.Common.{[], ◌∷◌, ◌++◌, length, map, drop, get_or, refl, sym, ◌∙◌, ap, arith, append_assoc}
 use Rattle.std.specs.List.{range_with_len}
 use Rattle.std.specs.Prelude.{codes, decimal, filter, slice_index_or}
 use Rattle.job_control.specs.declared.answers.Target.{Target}
@@ -26,7 +27,8 @@ bare_if false q qs rs e = e
 
 bare_procs : (p : ℕ) (procs : List PortProc) → procs_on p (map bare procs) ≡ map named (procs_on p procs)
 bare_procs p [] = refl
-bare_procs p (q ∷ qs) = bare_if (q.port == p) q (filter (λ r. r.port == p) qs) (filter (λ r. r.port == p) (map bare qs)) (bare_procs p qs)
+bare_procs p (q ∷ qs) =
+    bare_if (q.port == p) q (filter (λ r. r.port == p) qs) (filter (λ r. r.port == p) (map bare qs)) (bare_procs p qs)
 
 name_same : (procs : List Proc) (place : ℕ) → name_at (map named procs) place ≡ name_at procs place
 name_same [] zero = refl
@@ -34,10 +36,13 @@ name_same [] (suc n) = refl
 name_same (x ∷ xs) zero = refl
 name_same (x ∷ xs) (suc n) = name_same xs n
 
-line_same : (p : ℕ) (procs : List Proc) (signal : JobSignal) (target : Target) → signal_line p (map named procs) signal target ≡ signal_line p procs signal target
+line_same : (p : ℕ) (procs : List Proc) (signal : JobSignal) (target : Target)
+    → signal_line p (map named procs) signal target ≡ signal_line p procs signal target
 line_same p procs signal (Group group) = refl
 line_same p procs signal (Process place) =
-    ap (λ (name : List ℕ). codes "job " ++ (decimal p ++ (codes " " ++ (signal_text signal ++ ((codes " process " ++ name) ++ newline))))) (name_same procs place)
+    ap (λ (name : List ℕ).
+    codes "job " ++ (decimal p ++ (codes " " ++ (signal_text signal ++ ((codes " process " ++ name) ++ newline)))))
+    (name_same procs place)
 line_same p procs signal Nobody = refl
 
 signal_same : (p : ℕ) (procs : List Proc) (e : JobEvent) → signal_in p (map named procs) e ≡ signal_in p procs e
@@ -49,10 +54,14 @@ signal_same p procs (sent signal target) = line_same p procs signal target
 signals_same : (p : ℕ) (procs : List Proc) (log : JobLog) → signals_on p (map named procs) log ≡ signals_on p procs log
 signals_same p procs [] = refl
 signals_same p procs (l ∷ ls) =
-    ap (λ (line : List ℕ). (if l.port == p then line else []) ++ signals_on p (map named procs) ls) (signal_same p procs l.event)
-    ∙ ap (λ (lines : List ℕ). (if l.port == p then signal_in p procs l.event else []) ++ lines) (signals_same p procs ls)
+    ap (λ (line : List ℕ). (if l.port == p then line else []) ++ signals_on p (map named procs) ls)
+    (signal_same p procs l.event)
+    ∙ ap (λ (lines : List ℕ). (if l.port == p then signal_in p procs l.event else []) ++ lines)
+    (signals_same p procs ls)
 
-at_range : {A : Type 0} (f : ℕ → A) (d : A) (from n k : ℕ) → k < n → slice_index_or (map f (range_with_len from n)) k d ≡ f (from + k)
+at_range : {A : Type 0} (f : ℕ → A) (d : A) (from n k : ℕ)
+    → k < n
+    → slice_index_or (map f (range_with_len from n)) k d ≡ f (from + k)
 at_range f d from zero k lt = absurd (omega arith)
 at_range f d from (suc n) zero lt = ap f (omega arith)
 at_range f d from (suc n) (suc k) lt =
@@ -60,22 +69,31 @@ at_range f d from (suc n) (suc k) lt =
     at_range f d (from + 1) n k (omega arith) ∙ ap f there
 
 -- the signals of a port, by its processes as they are kept
-pub signals_told : (ports p : ℕ) (procs : List PortProc) (log : JobLog) → p < ports
-    → signals_on p (procs_on p procs) log ≡ signals_on p (slice_index_or (map (λ q. procs_on q (map bare procs)) (range_with_len 0 ports)) p []) log
+pub signals_told : (ports p : ℕ) (procs : List PortProc) (log : JobLog)
+    → p < ports
+    → signals_on p (procs_on p procs) log
+    ≡ signals_on p (slice_index_or (map (λ q. procs_on q (map bare procs)) (range_with_len 0 ports)) p []) log
 signals_told ports p procs log lt =
     let here : 0 + p ≡ p = omega arith in
     sym (signals_same p (procs_on p procs) log)
     ∙ ap (λ (ps : List Proc). signals_on p ps log)
-    (sym (bare_procs p procs) ∙ ap (λ (q : ℕ). procs_on q (map bare procs)) (sym here) ∙ sym (at_range (λ q. procs_on q (map bare procs)) [] 0 ports p lt))
+    (sym (bare_procs p procs)
+    ∙ ap (λ (q : ℕ). procs_on q (map bare procs)) (sym here)
+    ∙ sym (at_range (λ q. procs_on q (map bare procs)) [] 0 ports p lt))
 
 -- ---- loops over them
 
-procs_if : (b : Bool) (q : PortProc) (qs : List PortProc) → map (λ r. r.proc) (cond b (q ∷ qs) qs) ≡ (if b then q.proc ∷ [] else []) ++ map (λ r. r.proc) qs
+procs_if : (b : Bool) (q : PortProc) (qs : List PortProc)
+    → map (λ r. r.proc) (cond b (q ∷ qs) qs) ≡ (if b then q.proc ∷ [] else []) ++ map (λ r. r.proc) qs
 procs_if true q qs = refl
 procs_if false q qs = refl
 
-pub proc_more : (found new all : List Proc) (p i : ℕ) (procs : List PortProc) (x : PortProc) → i < length procs → x ≡ get_or procs i x
-    → new ≡ found ++ (if x.port == p then x.proc ∷ [] else []) → found ++ procs_on p (drop i procs) ≡ all → new ++ procs_on p (drop (i + 1) procs) ≡ all
+pub proc_more : (found new all : List Proc) (p i : ℕ) (procs : List PortProc) (x : PortProc)
+    → i < length procs
+    → x ≡ get_or procs i x
+    → new ≡ found ++ (if x.port == p then x.proc ∷ [] else [])
+    → found ++ procs_on p (drop i procs) ≡ all
+    → new ++ procs_on p (drop (i + 1) procs) ≡ all
 proc_more found new all p i procs x lt at put left =
     let one : List Proc = if x.port == p then x.proc ∷ [] else [] in
     let rest : List PortProc = drop (i + 1) procs in
@@ -85,9 +103,13 @@ proc_more found new all p i procs x lt at put left =
     ∙ ap (λ (qs : List PortProc). found ++ procs_on p qs) (sym (next_item procs i x lt at))
     ∙ left
 
-pub signal_more : (text new first : List ℕ) (p i : ℕ) (procs : List Proc) (log : List (Logged KeptJob)) (x : Logged KeptJob) → i < length log → x ≡ get_or log i x
+pub signal_more : (text new first : List ℕ) (p i : ℕ) (procs : List Proc) (log : List (Logged KeptJob))
+    (x : Logged KeptJob)
+    → i < length log
+    → x ≡ get_or log i x
     → new ≡ text ++ (if x.port == p then signal_in p procs (event_of x.event) else [])
-    → text ++ signals_on p procs (map logged_of (drop i log)) ≡ first → new ++ signals_on p procs (map logged_of (drop (i + 1) log)) ≡ first
+    → text ++ signals_on p procs (map logged_of (drop i log)) ≡ first
+    → new ++ signals_on p procs (map logged_of (drop (i + 1) log)) ≡ first
 signal_more text new first p i procs log x lt at put left =
     let one : List ℕ = if x.port == p then signal_in p procs (event_of x.event) else [] in
     let rest : List ℕ = signals_on p procs (map logged_of (drop (i + 1) log)) in

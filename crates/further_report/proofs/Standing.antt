@@ -1,5 +1,7 @@
 -- How many calls each caller made before a script.
-use Rattle.std.proofs.Common.{◌≡◌, ◌≢◌, inl, inr, ℕ, suc, zero, ◌+◌, ◌<◌, ◌==◌, nat_lt, Bool, true, false, cond, if◌then◌else◌, Option, None, Some, List, [], ◌∷◌, ◌++◌, length, map, replicate, refl, sym, ◌∙◌, ap, subst, arith, append-nil, length-append, ltb-true}
+use Rattle.std.proofs.Common.{◌≡◌, ◌≢◌, inl, inr, ℕ, suc, zero, ◌+◌, ◌<◌, ◌==◌, nat_lt, Bool, true, false}
+use Rattle.std.proofs.Common.{cond, if◌then◌else◌, Option, None, Some, List, [], ◌∷◌, ◌++◌, length, map}
+use Rattle.std.proofs.Common.{replicate, refl, sym, ◌∙◌, ap, subst, arith, append-nil, length-append, ltb-true}
 use Rattle.std.specs.Prelude.{filter, slice_index, slice_set}
 use Rattle.std.specs.List.{position_or_len}
 use Rattle.std.specs.Str.{bytes_eq}
@@ -34,21 +36,27 @@ record Stands {C : Type 0} (names : List (List ℕ)) (steps : List ℕ) (before 
   each : (c : ℕ) → c < length names → slice_index steps c ≡ length (calls_by names c before)
 
 calls_more : {C : Type 0} (names : List (List ℕ)) (c : ℕ) (before : List (CallerScript C)) (s : CallerScript C)
-    → calls_by names c (before ++ s ∷ []) ≡ calls_by names c before ++ (if is_number (number_in names s.name) c then s.calls else [])
+    → calls_by names c (before ++ s ∷ [])
+    ≡ calls_by names c before ++ (if is_number (number_in names s.name) c then s.calls else [])
 calls_more names c before s =
     flat_map-append (λ s. if is_number (number_in names s.name) c then s.calls else []) before (s ∷ [])
     ∙ ap (λ l. calls_by names c before ++ l) (append-nil (if is_number (number_in names s.name) c then s.calls else []))
 
-calls_same : {C : Type 0} (names : List (List ℕ)) (c : ℕ) (before : List (CallerScript C)) (s : CallerScript C) → is_number (number_in names s.name) c ≡ false
+calls_same : {C : Type 0} (names : List (List ℕ)) (c : ℕ) (before : List (CallerScript C)) (s : CallerScript C)
+    → is_number (number_in names s.name) c ≡ false
     → calls_by names c (before ++ s ∷ []) ≡ calls_by names c before
 calls_same names c before s h = calls_more names c before s ∙ rw h (append-nil (calls_by names c before))
 
-calls_with : {C : Type 0} (names : List (List ℕ)) (c : ℕ) (before : List (CallerScript C)) (s : CallerScript C) → is_number (number_in names s.name) c ≡ true
+calls_with : {C : Type 0} (names : List (List ℕ)) (c : ℕ) (before : List (CallerScript C)) (s : CallerScript C)
+    → is_number (number_in names s.name) c ≡ true
     → calls_by names c (before ++ s ∷ []) ≡ calls_by names c before ++ s.calls
 calls_with names c before s h = calls_more names c before s ∙ rw h refl
 
-stands_after : {C : Type 0} (names : List (List ℕ)) (steps : List ℕ) (before : List (CallerScript (AnyCall C))) (s : CallerScript (AnyCall C)) (number : Option ℕ) → number_in names s.name ≡ number
-    → Stands names steps before → Stands names (steps_then steps s number) (before ++ s ∷ [])
+stands_after : {C : Type 0} (names : List (List ℕ)) (steps : List ℕ) (before : List (CallerScript (AnyCall C)))
+    (s : CallerScript (AnyCall C)) (number : Option ℕ)
+    → number_in names s.name ≡ number
+    → Stands names steps before
+    → Stands names (steps_then steps s number) (before ++ s ∷ [])
 stands_after names steps before s None e h = record {
   count = h.count;
   each = λ c lt. h.each c lt ∙ ap (λ l. length l) (sym (calls_same names c before s (ap (λ m. is_number m c) e)));
@@ -74,25 +82,35 @@ stands_after names steps before s (Some n) e h =
 abbrev AreAnswers : (names : List (List ℕ)) → List (List (List ℕ)) → (ℕ → List (List ℕ)) → Type 0
 AreAnswers names answers told = (c : ℕ) → c < length names → answers_to answers c ≡ told c
 
-script_is : {C : Type 0} (verb : C → List ℕ) (p : ℕ) (names : List (List ℕ)) (answers : List (List (List ℕ))) (told : ℕ → List (List ℕ)) (steps : List ℕ)
-    (before : List (CallerScript (AnyCall C))) (s : CallerScript (AnyCall C)) (number : Option ℕ) → number_in names s.name ≡ number → Stands names steps before → AreAnswers names answers told
+script_is : {C : Type 0} (verb : C → List ℕ) (p : ℕ) (names : List (List ℕ)) (answers : List (List (List ℕ)))
+    (told : ℕ → List (List ℕ)) (steps : List ℕ) (before : List (CallerScript (AnyCall C)))
+    (s : CallerScript (AnyCall C)) (number : Option ℕ)
+    → number_in names s.name ≡ number
+    → Stands names steps before
+    → AreAnswers names answers told
     → script_text verb p answers steps s number ≡ script_lines verb p told (λ c. calls_by names c before) s number
 script_is verb p names answers told steps before s None e h k = refl
 script_is verb p names answers told steps before s (Some n) e h k =
     let within = number_within names s.name n e in
-    ap (λ (texts : List (List ℕ)). lines_from p s.name texts (slice_index steps n) (map (verb_in verb) s.calls)) (k n within)
+    ap (λ (texts : List (List ℕ)). lines_from p s.name texts (slice_index steps n) (map (verb_in verb) s.calls))
+    (k n within)
     ∙ ap (λ (step : ℕ). lines_from p s.name (told n) step (map (verb_in verb) s.calls)) (h.each n within)
 
-scripts_if : {C : Type 0} (b : Bool) (verb : C → List ℕ) (p : ℕ) (names : List (List ℕ)) (told : ℕ → List (List ℕ)) (before : List (CallerScript (AnyCall C))) (s : CallerScript (AnyCall C)) (ss : List (CallerScript (AnyCall C)))
+scripts_if : {C : Type 0} (b : Bool) (verb : C → List ℕ) (p : ℕ) (names : List (List ℕ)) (told : ℕ → List (List ℕ))
+    (before : List (CallerScript (AnyCall C))) (s : CallerScript (AnyCall C)) (ss : List (CallerScript (AnyCall C)))
     (here rest : List ℕ)
-    → (b ≡ true → here ≡ scripts_lines verb p names told before (s ∷ ss)) → (b ≡ false → rest ≡ scripts_lines verb p names told before ss)
+    → (b ≡ true → here ≡ scripts_lines verb p names told before (s ∷ ss))
+    → (b ≡ false → rest ≡ scripts_lines verb p names told before ss)
     → (if b then here else rest) ≡ scripts_lines verb p names told before (cond b (s ∷ ss) ss)
 scripts_if true verb p names told before s ss here rest yes_is no_is = yes_is refl
 scripts_if false verb p names told before s ss here rest yes_is no_is = no_is refl
 
-scripts_are : {C : Type 0} (verb : C → List ℕ) (p : ℕ) (names : List (List ℕ)) (answers : List (List (List ℕ))) (told : ℕ → List (List ℕ)) (steps : List ℕ)
-    (before scripts : List (CallerScript (AnyCall C))) → Stands names steps before → AreAnswers names answers told
-    → scripts_text verb p names answers steps scripts ≡ scripts_lines verb p names told before (filter (λ s. s.port == p) scripts)
+scripts_are : {C : Type 0} (verb : C → List ℕ) (p : ℕ) (names : List (List ℕ)) (answers : List (List (List ℕ)))
+    (told : ℕ → List (List ℕ)) (steps : List ℕ) (before scripts : List (CallerScript (AnyCall C)))
+    → Stands names steps before
+    → AreAnswers names answers told
+    → scripts_text verb p names answers steps scripts
+    ≡ scripts_lines verb p names told before (filter (λ s. s.port == p) scripts)
 scripts_are verb p names answers told steps before [] h k = refl
 scripts_are verb p names answers told steps before (s ∷ ss) h k =
     let number = number_in names s.name in
@@ -100,9 +118,11 @@ scripts_are verb p names answers told steps before (s ∷ ss) h k =
     scripts_if (s.port == p) verb p names told before s (filter (λ s. s.port == p) ss)
     (script_text verb p answers steps s number ++ scripts_text verb p names answers next ss)
     (scripts_text verb p names answers steps ss)
-    (λ on. ap (λ (l : List ℕ). l ++ scripts_text verb p names answers next ss) (script_is verb p names answers told steps before s number refl h k)
+    (λ on. ap (λ (l : List ℕ). l ++ scripts_text verb p names answers next ss)
+    (script_is verb p names answers told steps before s number refl h k)
     ∙ ap (λ (l : List ℕ). script_lines verb p told (λ c. calls_by names c before) s number ++ l)
-    (scripts_are verb p names answers told next (before ++ s ∷ []) ss (stands_after names steps before s number refl h) k))
+    (scripts_are verb p names answers told next (before ++ s ∷ []) ss (stands_after names steps before s number refl h)
+    k))
     (λ off. scripts_are verb p names answers told steps before ss h k)
 
 zero_at : (n c : ℕ) → slice_index (replicate n 0) c ≡ 0
@@ -112,9 +132,11 @@ zero_at (suc n) zero = refl
 zero_at (suc n) (suc c) = zero_at n c
 
 -- all scripts of a port
-pub all_scripts : {C : Type 0} (verb : C → List ℕ) (p : ℕ) (names : List (List ℕ)) (answers : List (List (List ℕ))) (told : ℕ → List (List ℕ)) (scripts : List (CallerScript (AnyCall C)))
+pub all_scripts : {C : Type 0} (verb : C → List ℕ) (p : ℕ) (names : List (List ℕ)) (answers : List (List (List ℕ)))
+    (told : ℕ → List (List ℕ)) (scripts : List (CallerScript (AnyCall C)))
     → ((c : ℕ) → c < length names → answers_to answers c ≡ told c)
-    → scripts_text verb p names answers (replicate (length names) 0) scripts ≡ scripts_lines verb p names told [] (filter (λ s. s.port == p) scripts)
+    → scripts_text verb p names answers (replicate (length names) 0) scripts
+    ≡ scripts_lines verb p names told [] (filter (λ s. s.port == p) scripts)
 all_scripts verb p names answers told scripts k =
     scripts_are verb p names answers told (replicate (length names) 0) [] scripts
     (record { count = length-replicate (length names) 0; each = λ c lt. zero_at (length names) c }) k

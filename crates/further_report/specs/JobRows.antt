@@ -23,16 +23,34 @@ use Rattle.further_report.specs.Jobs.{jobs_report_text}
 use Rattle.further_report.specs.Rows.{end_with, port_head, run_with}
 
 abbrev pub shell : Proc
-shell = record { name = record { bytes = codes "sh"; spare = [] }; session = 1; group = 1; parent = None; leader = true; nottin = false; nottou = false }
+shell = record {
+  name = record { bytes = codes "sh"; spare = [] };
+  session = 1;
+  group = 1;
+  parent = None;
+  leader = true;
+  nottin = false;
+  nottou = false;
+}
 
 abbrev pub job_of : (parent : Option ℕ) → Proc
-job_of parent = record { name = record { bytes = codes "job"; spare = [] }; session = 1; group = 2; parent = parent; leader = false; nottin = false; nottou = false }
+job_of parent = record {
+  name = record { bytes = codes "job"; spare = [] };
+  session = 1;
+  group = 2;
+  parent = parent;
+  leader = false;
+  nottin = false;
+  nottou = false;
+}
 
 abbrev pub phase_with : List LineStep → (name : List ℕ) → List JobCall → JobsPhase
-phase_with line name calls = record { lines = line ∷ []; ticks = 0 ∷ []; callers = record { port = 0; name = name; calls = calls } ∷ [] }
+phase_with line name calls =
+    record { lines = line ∷ []; ticks = 0 ∷ []; callers = record { port = 0; name = name; calls = calls } ∷ [] }
 
 abbrev pub session_with : (parent : Option ℕ) → List JobsPhase → JobsSession
-session_with parent phases = record { version = 1; ports = 1; flips = 4096 ∷ []; procs = (shell ∷ job_of parent ∷ []) ∷ []; phases = phases }
+session_with parent phases =
+    record { version = 1; ports = 1; flips = 4096 ∷ []; procs = (shell ∷ job_of parent ∷ []) ∷ []; phases = phases }
 
 abbrev pub logged : ℕ → JobEvent → Logged JobEvent
 logged at event = record { port = 0; at = at; event = event }
@@ -60,22 +78,32 @@ foreground_log =
     ∷ []
 
 abbrev pub interrupted : PlainEntry
-interrupted = record { who = Flusher; step = 0; part = 0; generation = 0; event = flushed (record { byte = 3; flag = Normal } ∷ []) }
+interrupted = record {
+  who = Flusher;
+  step = 0;
+  part = 0;
+  generation = 0;
+  event = flushed (record { byte = 3; flag = Normal } ∷ []);
+}
 
 abbrev pub foreground_told : List ℕ
-foreground_told = jobs_report_text foreground_given foreground_log (run_with 1 (interrupted ∷ []) ∷ []) (end_with (raised.Int ∷ []) 1 (94 ∷ 67 ∷ []) ∷ [])
+foreground_told = jobs_report_text foreground_given foreground_log (run_with 1 (interrupted ∷ []) ∷ [])
+    (end_with (raised.Int ∷ []) 1 (94 ∷ 67 ∷ []) ∷ [])
 
 abbrev pub foreground_report : List ℕ
 foreground_report =
-    codes "0.sh.0 open ok\n0.sh.1 sctty ok\n0.sh.2 gpgrp 1\n0.job.0 read stopped TTIN\n0.sh.3 spgrp ok\n0.job.1 read EAGAIN\n"
-    ++ (port_head (codes "1") ++ codes "INT\nport 0 generation 1\nport 0 wire 5e43\njob 0 TTIN group 2\njob 0 INT group 2\ndone\n")
+    codes
+    "0.sh.0 open ok\n0.sh.1 sctty ok\n0.sh.2 gpgrp 1\n0.job.0 read stopped TTIN\n0.sh.3 spgrp ok\n0.job.1 read EAGAIN\n"
+    ++ (port_head (codes "1")
+    ++ codes "INT\nport 0 generation 1\nport 0 wire 5e43\njob 0 TTIN group 2\njob 0 INT group 2\ndone\n")
 
 -- ---- a job without a parent is refused, and the shell ends
 
 abbrev pub shell_ends : JobsSession
 shell_ends = session_with None (
     phase_with [] (codes "sh") (plain (opens 0 Rw true) ∷ further (call.Sctty 0) ∷ [])
-    ∷ phase_with [] (codes "job") (plain (reads 0 8) ∷ plain (writes 0 (97 ∷ [])) ∷ plain (sets_modes 0 Now (Raw ∷ [])) ∷ further (call.Sctty 0) ∷ [])
+    ∷ phase_with [] (codes "job")
+    (plain (reads 0 8) ∷ plain (writes 0 (97 ∷ [])) ∷ plain (sets_modes 0 Now (Raw ∷ [])) ∷ further (call.Sctty 0) ∷ [])
     ∷ phase_with [] (codes "sh") (further call.Exit ∷ [])
     ∷ [])
 
@@ -97,5 +125,6 @@ shell_ends_told = jobs_report_text shell_ends shell_ends_log (run_with 0 [] ∷ 
 
 abbrev pub shell_ends_report : List ℕ
 shell_ends_report =
-    codes "0.sh.0 open ok\n0.sh.1 sctty ok\n0.job.0 read EIO\n0.job.1 write 1\n0.job.2 modes EIO\n0.job.3 sctty EPERM\n0.sh.2 exit ok\n"
+    codes
+    "0.sh.0 open ok\n0.sh.1 sctty ok\n0.job.0 read EIO\n0.job.1 write 1\n0.job.2 modes EIO\n0.job.3 sctty EPERM\n0.sh.2 exit ok\n"
     ++ (port_head (codes "0") ++ codes "-\nport 0 generation 2\nport 0 wire 61\njob 0 HUP group 1\ndone\n")

@@ -67,4 +67,5 @@ all_signals session log = flat_map (port_signals session log) (range_with_len 0 
 abbrev pub jobs_report_text : JobsSession → JobLog → List PortRun → List PlainEnd → List ℕ
 jobs_report_text session log runs ends =
     all_calls session log
-    ++ (ports_from 0 (without_phases session.version session.ports session.flips) runs ends ++ (all_signals session log ++ (codes "done" ++ newline)))
+    ++ (ports_from 0 (without_phases session.version session.ports session.flips) runs ends
+    ++ (all_signals session log ++ (codes "done" ++ newline)))

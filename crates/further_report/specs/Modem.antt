@@ -55,4 +55,6 @@ all_calls session log = flat_map (port_calls session log) (range_with_len 0 sess
 
 abbrev pub modem_report_text : ModemSession → ModemLog → List PortRun → List PlainEnd → List ℕ
 modem_report_text session log runs ends =
-    all_calls session log ++ (ports_from 0 (without_phases session.version session.ports session.flips) runs ends ++ (codes "done" ++ newline))
+    all_calls session log
+    ++ (ports_from 0 (without_phases session.version session.ports session.flips) runs ends
+    ++ (codes "done" ++ newline))

@@ -13,7 +13,12 @@ use Rattle.further_report.specs.Modem.{modem_report_text}
 use Rattle.further_report.specs.Rows.{end_with, port_head, run_with}
 
 abbrev pub phase_with : List PinStep → List ModemCall → ModemPhase
-phase_with pins calls = record { lines = [] ∷ []; ticks = 0 ∷ []; pins = pins ∷ []; callers = record { port = 0; name = codes "a"; calls = calls } ∷ [] }
+phase_with pins calls = record {
+  lines = [] ∷ [];
+  ticks = 0 ∷ [];
+  pins = pins ∷ [];
+  callers = record { port = 0; name = codes "a"; calls = calls } ∷ [];
+}
 
 abbrev pub session_with : List ModemPhase → ModemSession
 session_with phases = record { version = 1; ports = 1; flips = 4096 ∷ []; phases = phases }
@@ -26,7 +31,8 @@ abbrev pub report_of : ModemSession → ModemLog → (generation : ℕ) → List
 report_of session log generation = modem_report_text session log (run_with 0 [] ∷ []) (end_with [] generation [] ∷ [])
 
 abbrev pub port_lines : (generation : List ℕ) → List ℕ
-port_lines generation = port_head (codes "0") ++ (codes "-\nport 0 generation " ++ (generation ++ codes "\nport 0 wire -\ndone\n"))
+port_lines generation =
+    port_head (codes "0") ++ (codes "-\nport 0 generation " ++ (generation ++ codes "\nport 0 wire -\ndone\n"))
 
 -- ---- the carrier is lost, and the reader finds the end
 
@@ -73,7 +79,8 @@ local_line_log =
 
 abbrev pub local_line_report : List ℕ
 local_line_report =
-    codes "0.a.0 open ok\n0.a.1 softcar ok\n0.a.2 getcar 1\n0.a.3 mget 6\n0.a.4 msr 8\n0.a.5 msr 0\n0.a.6 read EAGAIN\n" ++ port_lines (codes "1")
+    codes "0.a.0 open ok\n0.a.1 softcar ok\n0.a.2 getcar 1\n0.a.3 mget 6\n0.a.4 msr 8\n0.a.5 msr 0\n0.a.6 read EAGAIN\n"
+    ++ port_lines (codes "1")
 
 -- ---- no carrier comes
 

@@ -22,7 +22,8 @@ pub(crate) trait Answering {
 
     /// Notes what it answers with the texts that callers were answered.
     fn note(&self, alloc: Global, answers: &mut [Vec<Bytes>]) -> Result<(), NoMemory>
-        ensures { OnOk result (map (λ texts. bytes_of texts.items) answers.new ≡ all_noted (map (λ texts. bytes_of texts.items) answers.old) (told self.now)) };
+        ensures { OnOk result (map (λ texts. bytes_of texts.items) answers.new
+            ≡ all_noted (map (λ texts. bytes_of texts.items) answers.old) (told self.now)) };
 }
 
 /// What each of so many callers of a port was answered.
@@ -32,7 +33,9 @@ pub(crate) fn answers_on<E: Answering>(
     callers: usize,
     log: &[Logged<E>],
 ) -> Result<Vec<Vec<Bytes>>, NoMemory>
-    ensures { IfOk result (λ answers. map (λ texts. bytes_of texts.items) answers.items ≡ all_noted (replicate callers []) (flat_map (λ l. if l.port == port then E.told l.event else []) log.now)) }
+    ensures { IfOk result (λ answers.
+        map (λ texts. bytes_of texts.items) answers.items
+        ≡ all_noted (replicate callers []) (flat_map (λ l. if l.port == port then E.told l.event else []) log.now)) }
 {
     let mut answers = no_answers(alloc, callers)?;
     note_all(alloc, port, answers.as_mut_slice(), log)?;
@@ -45,7 +48,9 @@ fn note_all<E: Answering>(
     answers: &mut [Vec<Bytes>],
     log: &[Logged<E>],
 ) -> Result<(), NoMemory>
-    ensures { OnOk result (map (λ texts. bytes_of texts.items) answers.new ≡ all_noted (map (λ texts. bytes_of texts.items) answers.old) (flat_map (λ l. if l.port == port then E.told l.event else []) log.now)) }
+    ensures { OnOk result (map (λ texts. bytes_of texts.items) answers.new
+        ≡ all_noted (map (λ texts. bytes_of texts.items) answers.old)
+        (flat_map (λ l. if l.port == port then E.told l.event else []) log.now)) }
 {
     for logged in log {
         note_on(alloc, port, answers, logged)?;
@@ -60,7 +65,9 @@ fn note_on<E: Answering>(
     answers: &mut [Vec<Bytes>],
     logged: &Logged<E>,
 ) -> Result<(), NoMemory>
-    ensures { OnOk result (map (λ texts. bytes_of texts.items) answers.new ≡ all_noted (map (λ texts. bytes_of texts.items) answers.old) (if logged.now.port == port then E.told logged.now.event else [])) }
+    ensures { OnOk result (map (λ texts. bytes_of texts.items) answers.new
+        ≡ all_noted (map (λ texts. bytes_of texts.items) answers.old)
+        (if logged.now.port == port then E.told logged.now.event else [])) }
 {
     if logged.port == port {
         logged.event.note(alloc, answers)
@@ -87,7 +94,9 @@ pub(crate) fn note_answer(
     caller: u16,
     answer: &Answer,
 ) -> Result<(), NoMemory>
-    ensures { OnOk result (map (λ texts. bytes_of texts.items) answers.new ≡ noted (map (λ texts. bytes_of texts.items) answers.old) (record { caller = caller; text = text_of_answer (answer_of answer.now) })) }
+    ensures { OnOk result (map (λ texts. bytes_of texts.items) answers.new
+        ≡ noted (map (λ texts. bytes_of texts.items) answers.old)
+        (record { caller = caller; text = text_of_answer (answer_of answer.now) })) }
 {
     let text = answer_text(alloc, answer)?;
     note(answers, caller, text)
@@ -95,7 +104,8 @@ pub(crate) fn note_answer(
 
 /// Notes what a caller was answered. One that is not there has no list.
 pub(crate) fn note(answers: &mut [Vec<Bytes>], caller: u16, text: Bytes) -> Result<(), NoMemory>
-    ensures { OnOk result (map (λ texts. bytes_of texts.items) answers.new ≡ noted (map (λ texts. bytes_of texts.items) answers.old) (record { caller = caller; text = text.items })) }
+    ensures { OnOk result (map (λ texts. bytes_of texts.items) answers.new
+        ≡ noted (map (λ texts. bytes_of texts.items) answers.old) (record { caller = caller; text = text.items })) }
 {
     let caller = caller as usize;
     if caller < answers.len() {

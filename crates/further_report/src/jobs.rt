@@ -1,12 +1,14 @@
 //! The report of a session whose callers are processes.
 
-ghost use Rattle.std.specs.Prelude.{◌≡◌, ◌++◌, ◌<◌, ◌==◌, [], ◌∷◌, IfOk, OnOk, if◌then◌else◌, length, map, replicate, slice_index_or, string_bytes};
+ghost use Rattle.std.specs.Prelude.{◌≡◌, ◌++◌, ◌<◌, ◌==◌, [], ◌∷◌, IfOk, OnOk, if◌then◌else◌};
+ghost use Rattle.std.specs.Prelude.{length, map, replicate, slice_index_or, string_bytes};
 ghost use Rattle.session_print.specs.Ends.{end_of};
 ghost use Rattle.tty_calls.specs.Sessions.{phase_of};
 ghost use Rattle.job_print.specs.Lines.{answer_text as text_of_answer};
 ghost use Rattle.job_text.specs.Events.{event_of, logged_of};
 ghost use Rattle.job_text.specs.Sessions.{bare_session_of, own_of, procs_on};
-ghost use Rattle.further_report.specs.Jobs.{all_calls, all_signals, jobs_report_text, own_verb, port_calls, port_signals, signal_in, signals_on};
+ghost use Rattle.further_report.specs.Jobs.{all_calls, all_signals, jobs_report_text, own_verb};
+ghost use Rattle.further_report.specs.Jobs.{port_calls, port_signals, signal_in, signals_on};
 ghost use Rattle.further_report.specs.Printing.{bytes_of, learned_over, noted, scripts_beside, scripts_text};
 
 use crate::answers::{Answering, answers_on, note, note_answer};
@@ -62,14 +64,16 @@ fn note_own(
     caller: u16,
     answer: JobAnswer,
 ) -> Result<(), NoMemory>
-    ensures { OnOk result (map (λ texts. bytes_of texts.items) answers.new ≡ noted (map (λ texts. bytes_of texts.items) answers.old) (record { caller = caller; text = text_of_answer answer })) }
+    ensures { OnOk result (map (λ texts. bytes_of texts.items) answers.new
+        ≡ noted (map (λ texts. bytes_of texts.items) answers.old)
+        (record { caller = caller; text = text_of_answer answer })) }
 {
     let text = answer_text(alloc, answer)?;
     note(answers, caller, text)
 }
 
-/// The report of a session whose callers are processes: each call with its answer, as the log tells it, then what became
-/// of each port, and which signals were sent. There is one run, and one end, for each port.
+/// The report of a session whose callers are processes: each call with its answer, as the log tells it, then what
+/// became of each port, and which signals were sent. There is one run, and one end, for each port.
 pub fn jobs_report(
     alloc: Global,
     session: &JobsSession,
@@ -77,7 +81,9 @@ pub fn jobs_report(
     runs: &[PortRun],
     ends: &[PortEnd],
 ) -> Result<Bytes, NoMemory>
-    ensures { IfOk result (λ text. text.items ≡ jobs_report_text (bare_session_of session.now) (map logged_of log.now) runs.now (map end_of ends.now)) }
+    ensures { IfOk result (λ text.
+        text.items
+        ≡ jobs_report_text (bare_session_of session.now) (map logged_of log.now) runs.now (map end_of ends.now)) }
 {
     let mut text = Vec::new(alloc);
     put_all(alloc, &mut text, session, log)?;
@@ -97,7 +103,8 @@ fn put_all(
     session: &JobsSession,
     log: &[JobLog],
 ) -> Result<(), NoMemory>
-    ensures { OnOk result (text.new.items ≡ text.old.items ++ all_calls (bare_session_of session.now) (map logged_of log.now)) }
+    ensures { OnOk result
+        (text.new.items ≡ text.old.items ++ all_calls (bare_session_of session.now) (map logged_of log.now)) }
 {
     for port in 0..session.session.ports {
         put_port(alloc, text, session, log, port)?;
@@ -113,7 +120,8 @@ fn put_port(
     log: &[JobLog],
     port: u8,
 ) -> Result<(), NoMemory>
-    ensures { OnOk result (text.new.items ≡ text.old.items ++ port_calls (bare_session_of session.now) (map logged_of log.now) port) }
+    ensures { OnOk result
+        (text.new.items ≡ text.old.items ++ port_calls (bare_session_of session.now) (map logged_of log.now) port) }
 {
     let phases = session.session.phases.as_slice();
     let names = names_of(alloc, port, phases)?;
@@ -135,8 +143,11 @@ fn put_phases(
     parts: &[JobsPart],
 ) -> Result<(), NoMemory>
     requires { length teller.now.answers.items ≡ length teller.now.names }
-    ensures { OnOk result (text.new.items ≡ text.old.items
-        ++ scripts_text own_verb teller.now.port teller.now.names (map (λ texts. bytes_of texts.items) teller.now.answers.items) (replicate (length teller.now.names) 0) (scripts_beside (map own_of parts.now) 0 (map phase_of phases.now))) }
+    ensures { OnOk result (text.new.items
+        ≡ text.old.items
+        ++ scripts_text own_verb teller.now.port teller.now.names
+        (map (λ texts. bytes_of texts.items) teller.now.answers.items) (replicate (length teller.now.names) 0)
+        (scripts_beside (map own_of parts.now) 0 (map phase_of phases.now))) }
 {
     let mut steps = first_steps(alloc, teller.names.len())?;
     for (place, phase) in phases.iter().enumerate() {
@@ -174,7 +185,8 @@ fn put_signals(
     session: &JobsSession,
     log: &[JobLog],
 ) -> Result<(), NoMemory>
-    ensures { OnOk result (string_bytes text.new ≡ string_bytes text.old ++ all_signals (bare_session_of session.now) (map logged_of log.now)) }
+    ensures { OnOk result (string_bytes text.new
+        ≡ string_bytes text.old ++ all_signals (bare_session_of session.now) (map logged_of log.now)) }
 {
     for port in 0..session.session.ports {
         put_signals_on(alloc, text, session, log, port)?;
@@ -191,7 +203,8 @@ fn put_signals_on(
     port: u8,
 ) -> Result<(), NoMemory>
     requires { port < session.now.session.ports }
-    ensures { OnOk result (string_bytes text.new ≡ string_bytes text.old ++ port_signals (bare_session_of session.now) (map logged_of log.now) port) }
+    ensures { OnOk result (string_bytes text.new
+        ≡ string_bytes text.old ++ port_signals (bare_session_of session.now) (map logged_of log.now) port) }
 {
     let procs = procs_on(alloc, session.procs.as_slice(), port)?;
     put_port_signals(text, port, procs.as_slice(), log)
@@ -210,7 +223,8 @@ fn procs_on(alloc: Global, procs: &[PortProc], port: u8) -> Result<Vec<Proc>, No
 
 /// Adds a process, where it is one of this port.
 fn add_proc(found: &mut Vec<Proc>, proc: &PortProc, port: u8) -> Result<(), NoMemory>
-    ensures { OnOk result (found.new.items ≡ found.old.items ++ (if proc.now.port == port then proc.now.proc ∷ [] else [])) }
+    ensures { OnOk result
+        (found.new.items ≡ found.old.items ++ (if proc.now.port == port then proc.now.proc ∷ [] else [])) }
 {
     if proc.port == port {
         found.push(proc.proc)?;
@@ -225,7 +239,8 @@ fn put_port_signals(
     procs: &[Proc],
     log: &[JobLog],
 ) -> Result<(), NoMemory>
-    ensures { OnOk result (string_bytes text.new ≡ string_bytes text.old ++ signals_on port procs.now (map logged_of log.now)) }
+    ensures { OnOk result
+        (string_bytes text.new ≡ string_bytes text.old ++ signals_on port procs.now (map logged_of log.now)) }
 {
     for logged in log {
         put_logged(text, port, procs, logged)?;
@@ -235,7 +250,9 @@ fn put_port_signals(
 
 /// Adds the line of a signal, where this is one that was sent on the port.
 fn put_logged(text: &mut String, port: u8, procs: &[Proc], logged: &JobLog) -> Result<(), NoMemory>
-    ensures { OnOk result (string_bytes text.new ≡ string_bytes text.old ++ (if logged.now.port == port then signal_in port procs.now (event_of logged.now.event) else [])) }
+    ensures { OnOk result (string_bytes text.new
+        ≡ string_bytes text.old
+        ++ (if logged.now.port == port then signal_in port procs.now (event_of logged.now.event) else [])) }
 {
     if logged.port == port {
         put_event(text, port, procs, &logged.event)
@@ -245,7 +262,8 @@ fn put_logged(text: &mut String, port: u8, procs: &[Proc], logged: &JobLog) -> R
 }
 
 fn put_event(text: &mut String, port: u8, procs: &[Proc], event: &JobEvent) -> Result<(), NoMemory>
-    ensures { OnOk result (string_bytes text.new ≡ string_bytes text.old ++ signal_in port procs.now (event_of event.now)) }
+    ensures { OnOk result
+        (string_bytes text.new ≡ string_bytes text.old ++ signal_in port procs.now (event_of event.now)) }
 {
     match event {
         JobEvent::Sent { signal, target } => put_signal(text, port, procs, *signal, *target),

@@ -1,7 +1,9 @@
 //! Worked reports, as laws.
 
 ghost use Rattle.std.specs.Prelude.{◌≡◌};
-ghost use Rattle.further_report.specs.ModemRows.{dial_in, dial_in_log, dial_in_report, local_line, local_line_log, local_line_report, no_carrier, no_carrier_log, no_carrier_report, report_of};
+ghost use Rattle.further_report.specs.ModemRows.{dial_in, dial_in_log, dial_in_report, local_line};
+ghost use Rattle.further_report.specs.ModemRows.{local_line_log, local_line_report, no_carrier};
+ghost use Rattle.further_report.specs.ModemRows.{no_carrier_log, no_carrier_report, report_of};
 ghost use Rattle.further_report.specs.JobRows.{foreground_report, foreground_told, shell_ends_report, shell_ends_told};
 
 /// A law: the reports of worked sessions with modem lines.

@@ -67,7 +67,9 @@ pub fn modem_report(
     runs: &[PortRun],
     ends: &[PortEnd],
 ) -> Result<Bytes, NoMemory>
-    ensures { IfOk result (λ text. text.items ≡ modem_report_text (modem_session_of session.now) (map logged_of log.now) runs.now (map end_of ends.now)) }
+    ensures { IfOk result (λ text.
+        text.items
+        ≡ modem_report_text (modem_session_of session.now) (map logged_of log.now) runs.now (map end_of ends.now)) }
 {
     let mut text = Vec::new(alloc);
     put_all(alloc, &mut text, session, log)?;
@@ -84,7 +86,8 @@ fn put_all(
     session: &ModemSession,
     log: &[ModemLog],
 ) -> Result<(), NoMemory>
-    ensures { OnOk result (text.new.items ≡ text.old.items ++ all_calls (modem_session_of session.now) (map logged_of log.now)) }
+    ensures { OnOk result
+        (text.new.items ≡ text.old.items ++ all_calls (modem_session_of session.now) (map logged_of log.now)) }
 {
     for port in 0..session.session.ports {
         put_port(alloc, text, session, log, port)?;
@@ -101,7 +104,8 @@ fn put_port(
     port: u8,
 ) -> Result<(), NoMemory>
     requires { port < session.now.session.ports }
-    ensures { OnOk result (text.new.items ≡ text.old.items ++ port_calls (modem_session_of session.now) (map logged_of log.now) port) }
+    ensures { OnOk result
+        (text.new.items ≡ text.old.items ++ port_calls (modem_session_of session.now) (map logged_of log.now) port) }
 {
     let phases = session.session.phases.as_slice();
     let names = names_of(alloc, port, phases)?;
@@ -123,8 +127,11 @@ fn put_phases(
     parts: &[ModemPart],
 ) -> Result<(), NoMemory>
     requires { length teller.now.answers.items ≡ length teller.now.names }
-    ensures { OnOk result (text.new.items ≡ text.old.items
-        ++ scripts_text own_verb teller.now.port teller.now.names (map (λ texts. bytes_of texts.items) teller.now.answers.items) (replicate (length teller.now.names) 0) (scripts_beside (map own_in parts.now) 0 (map phase_of phases.now))) }
+    ensures { OnOk result (text.new.items
+        ≡ text.old.items
+        ++ scripts_text own_verb teller.now.port teller.now.names
+        (map (λ texts. bytes_of texts.items) teller.now.answers.items) (replicate (length teller.now.names) 0)
+        (scripts_beside (map own_in parts.now) 0 (map phase_of phases.now))) }
 {
     let mut steps = first_steps(alloc, teller.names.len())?;
     for (place, phase) in phases.iter().enumerate() {

@@ -20,7 +20,10 @@ pub(crate) fn ports_lines(
     runs: &[PortRun],
     ends: &[PortEnd],
 ) -> Result<Vec<u8>, NoMemory>
-    ensures { IfOk result (λ text. text.items ≡ ports_from 0 (without_phases session.now.version session.now.ports session.now.flips.items) runs.now (map end_of ends.now)) }
+    ensures { IfOk result (λ text.
+        text.items
+        ≡ ports_from 0 (without_phases session.now.version session.now.ports session.now.flips.items) runs.now
+        (map end_of ends.now)) }
 {
     let bare = Session {
         version: session.version,

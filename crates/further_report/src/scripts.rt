@@ -1,6 +1,7 @@
 //! The lines of scripts: each call that was answered.
 
-ghost use Rattle.std.specs.Prelude.{◌≡◌, ◌++◌, ◌+◌, ◌-◌, ◌<◌, ◌≤◌, ◌==◌, IfOk, OnOk, ◌∷◌, [], drop, if◌then◌else◌, length, map, nat_lt, not, position, replicate, slice_get, take};
+ghost use Rattle.std.specs.Prelude.{◌≡◌, ◌++◌, ◌+◌, ◌-◌, ◌<◌, ◌≤◌, ◌==◌, IfOk, OnOk, ◌∷◌, [], drop, if◌then◌else◌};
+ghost use Rattle.std.specs.Prelude.{length, map, nat_lt, not, position, replicate, slice_get, take};
 ghost use Rattle.tty_calls.specs.Sessions.{number_in, script_of};
 ghost use Rattle.session_print.specs.Words.{verb_of};
 ghost use Rattle.passed_calls.specs.Scripts.{count_in, mixed, mixed_scripts, plain, further};
@@ -33,9 +34,14 @@ impl Teller {
     ) -> Result<(), NoMemory>
         requires steps { length steps.old.items ≡ length self.now.names }
         requires answers { length self.now.answers.items ≡ length self.now.names }
-        ensures text { OnOk result (text.new.items ≡ text.old.items
-            ++ scripts_text C.verb_text self.now.port self.now.names (map (λ texts. bytes_of texts.items) self.now.answers.items) steps.old.items (mixed_scripts 0 (map script_of scripts.now) placed.now)) }
-        ensures steps { OnOk result (steps.new.items ≡ steps_after self.now.port self.now.names steps.old.items (mixed_scripts 0 (map script_of scripts.now) placed.now)) }
+        ensures text { OnOk result (text.new.items
+            ≡ text.old.items
+            ++ scripts_text C.verb_text self.now.port self.now.names
+            (map (λ texts. bytes_of texts.items) self.now.answers.items) steps.old.items
+            (mixed_scripts 0 (map script_of scripts.now) placed.now)) }
+        ensures steps { OnOk result (steps.new.items
+            ≡ steps_after self.now.port self.now.names steps.old.items
+            (mixed_scripts 0 (map script_of scripts.now) placed.now)) }
         ensures each { OnOk result (length steps.new.items ≡ length steps.old.items) }
     {
         let mut rest = placed;
@@ -58,11 +64,22 @@ impl Teller {
     ) -> Result<(), NoMemory>
         requires steps { length steps.old.items ≡ length self.now.names }
         requires answers { length self.now.answers.items ≡ length self.now.names }
-        ensures text { OnOk result (text.new.items ≡ text.old.items
-            ++ scripts_text C.verb_text self.now.port self.now.names (map (λ texts. bytes_of texts.items) self.now.answers.items) steps.old.items
-            (record { port = script.now.port; name = script.now.name.bytes; calls = mixed 0 script.now.calls.items placed.now } ∷ [])) }
-        ensures steps { OnOk result (steps.new.items ≡ steps_after self.now.port self.now.names steps.old.items
-            (record { port = script.now.port; name = script.now.name.bytes; calls = mixed 0 script.now.calls.items placed.now } ∷ [])) }
+        ensures text { OnOk result (text.new.items
+            ≡ text.old.items
+            ++ scripts_text C.verb_text self.now.port self.now.names
+            (map (λ texts. bytes_of texts.items) self.now.answers.items) steps.old.items
+            (record {
+              port = script.now.port;
+              name = script.now.name.bytes;
+              calls = mixed 0 script.now.calls.items placed.now;
+            } ∷ [])) }
+        ensures steps { OnOk result (steps.new.items
+            ≡ steps_after self.now.port self.now.names steps.old.items
+            (record {
+              port = script.now.port;
+              name = script.now.name.bytes;
+              calls = mixed 0 script.now.calls.items placed.now;
+            } ∷ [])) }
         ensures each { OnOk result (length steps.new.items ≡ length steps.old.items) }
     {
         if script.port == self.port {
@@ -83,11 +100,24 @@ impl Teller {
     ) -> Result<(), NoMemory>
         requires steps { length steps.old.items ≡ length self.now.names }
         requires answers { length self.now.answers.items ≡ length self.now.names }
-        ensures text { OnOk result (text.new.items ≡ text.old.items
-            ++ script_text C.verb_text self.now.port (map (λ texts. bytes_of texts.items) self.now.answers.items) steps.old.items
-            (record { port = script.now.port; name = script.now.name.bytes; calls = mixed 0 script.now.calls.items placed.now }) (number_in self.now.names script.now.name.bytes)) }
-        ensures steps { OnOk result (steps.new.items ≡ steps_then steps.old.items
-            (record { port = script.now.port; name = script.now.name.bytes; calls = mixed 0 script.now.calls.items placed.now }) (number_in self.now.names script.now.name.bytes)) }
+        ensures text { OnOk result (text.new.items
+            ≡ text.old.items
+            ++ script_text C.verb_text self.now.port (map (λ texts. bytes_of texts.items) self.now.answers.items)
+            steps.old.items
+            (record {
+              port = script.now.port;
+              name = script.now.name.bytes;
+              calls = mixed 0 script.now.calls.items placed.now;
+            })
+            (number_in self.now.names script.now.name.bytes)) }
+        ensures steps { OnOk result (steps.new.items
+            ≡ steps_then steps.old.items
+            (record {
+              port = script.now.port;
+              name = script.now.name.bytes;
+              calls = mixed 0 script.now.calls.items placed.now;
+            })
+            (number_in self.now.names script.now.name.bytes)) }
         ensures each { OnOk result (length steps.new.items ≡ length steps.old.items) }
     {
         match self.names.number(&script.name) {
@@ -151,8 +181,8 @@ struct Front<'a> {
 }
 
 impl Front<'_> {
-    /// Adds the lines of a script's calls from a step on, and gives the step behind them. More steps than can be counted
-    /// are want of memory.
+    /// Adds the lines of a script's calls from a step on, and gives the step behind them. More steps than can be
+    /// counted are want of memory.
     fn put_calls<C: FurtherCall>(
         &self,
         alloc: Global,
@@ -161,7 +191,10 @@ impl Front<'_> {
         calls: &Calls,
         placed: &[PlacedCall<C>],
     ) -> Result<usize, NoMemory>
-        ensures text { OnOk result (text.new.items ≡ text.old.items ++ lines_from self.now.port self.now.name.now (bytes_of self.now.answers.now) step (map (verb_in C.verb_text) (mixed 0 calls.now.items placed.now))) }
+        ensures text { OnOk result (text.new.items
+            ≡ text.old.items
+            ++ lines_from self.now.port self.now.name.now (bytes_of self.now.answers.now) step
+            (map (verb_in C.verb_text) (mixed 0 calls.now.items placed.now))) }
         ensures step { IfOk result (λ next. next ≡ step + length (mixed 0 calls.now.items placed.now)) }
     {
         let mut cursor = Cursor {
@@ -175,7 +208,8 @@ impl Front<'_> {
         Ok(self.put_plain(alloc, text, cursor, calls, calls.len())?)
     }
 
-    /// Adds the lines of a call and of those for the port that stand before it, and gives where the script is told then.
+    /// Adds the lines of a call and of those for the port that stand before it, and gives where the script is told
+    /// then.
     fn put_placed<C: FurtherCall>(
         &self,
         alloc: Global,
@@ -185,10 +219,18 @@ impl Front<'_> {
         placed: PlacedCall<C>,
     ) -> Result<Cursor, NoMemory>
         requires { cursor.taken ≤ length calls.now.items }
-        ensures text { OnOk result (text.new.items ≡ text.old.items ++ lines_from self.now.port self.now.name.now (bytes_of self.now.answers.now) cursor.step
-            (map (verb_in C.verb_text) (map plain (take (placed.place - cursor.place) (drop cursor.taken calls.now.items)) ++ further placed.call ∷ []))) }
-        ensures step { IfOk result (λ next. next.step ≡ cursor.step + length (map plain (take (placed.place - cursor.place) (drop cursor.taken calls.now.items)) ++ further placed.call ∷ [])) }
-        ensures taken { IfOk result (λ next. drop next.taken calls.now.items ≡ drop (placed.place - cursor.place) (drop cursor.taken calls.now.items)) }
+        ensures text { OnOk result (text.new.items
+            ≡ text.old.items
+            ++ lines_from self.now.port self.now.name.now (bytes_of self.now.answers.now) cursor.step
+            (map (verb_in C.verb_text) (map plain
+            (take (placed.place - cursor.place) (drop cursor.taken calls.now.items)) ++ further placed.call ∷ []))) }
+        ensures step { IfOk result (λ next.
+            next.step
+            ≡ cursor.step
+            + length (map plain (take (placed.place - cursor.place) (drop cursor.taken calls.now.items))
+            ++ further placed.call ∷ [])) }
+        ensures taken { IfOk result (λ next.
+            drop next.taken calls.now.items ≡ drop (placed.place - cursor.place) (drop cursor.taken calls.now.items)) }
         ensures within { IfOk result (λ next. next.taken ≤ length calls.now.items) }
         ensures place { IfOk result (λ next. next.place ≡ placed.place + 1) }
     {
@@ -211,7 +253,9 @@ impl Front<'_> {
     ) -> Result<usize, NoMemory>
         requires from { cursor.taken ≤ end }
         requires within { end ≤ length calls.now.items }
-        ensures text { OnOk result (text.new.items ≡ text.old.items ++ lines_from self.now.port self.now.name.now (bytes_of self.now.answers.now) cursor.step
+        ensures text { OnOk result (text.new.items
+            ≡ text.old.items
+            ++ lines_from self.now.port self.now.name.now (bytes_of self.now.answers.now) cursor.step
             (map verb_of (take (end - cursor.taken) (drop cursor.taken calls.now.items)))) }
         ensures step { IfOk result (λ next. next ≡ cursor.step + (end - cursor.taken)) }
     {
@@ -231,7 +275,10 @@ impl Front<'_> {
         step: usize,
         verb: &str,
     ) -> Result<(), NoMemory>
-        ensures { OnOk result (text.new.items ≡ text.old.items ++ answered_line self.now.port self.now.name.now step verb.now (slice_get (bytes_of self.now.answers.now) step)) }
+        ensures { OnOk result (text.new.items
+            ≡ text.old.items
+            ++ answered_line self.now.port self.now.name.now step verb.now
+            (slice_get (bytes_of self.now.answers.now) step)) }
     {
         match self.answers.get(step) {
             None => Ok(()),
@@ -258,7 +305,10 @@ fn end_of(cursor: Cursor, place: u64, count: usize) -> usize
     requires { cursor.taken ≤ count }
     ensures from { cursor.taken ≤ result }
     ensures within { result ≤ count }
-    ensures end { result ≡ (if nat_lt (place - cursor.place) (count - cursor.taken) then cursor.taken + (place - cursor.place) else count) }
+    ensures end { result
+        ≡ (if nat_lt (place - cursor.place) (count - cursor.taken)
+        then cursor.taken + (place - cursor.place)
+        else count) }
 {
     let gap = place.saturating_sub(cursor.place);
     let left = count - cursor.taken;

@@ -1,5 +1,7 @@
 -- What items do to the callers and the calls of a session of ports as far as it was read.
-use Rattle.std.proofs.Common.{◌≡◌, ℕ, ◌+◌, ◌≤◌, Bool, true, false, if◌then◌else◌, Ok, Option, None, Some, List, [], ◌∷◌, ◌++◌, length, map, refl, sym, ◌∙◌, ap, subst, arith, length-append, append-nil, option_to_list}
+use Rattle.std.proofs.Common.{◌≡◌, ℕ, ◌+◌, ◌≤◌, Bool, true, false, if◌then◌else◌, Ok, Option}
+use Rattle.std.proofs.Common.{None, Some, List, [], ◌∷◌, ◌++◌, length, map, refl, sym, ◌∙◌}
+use Rattle.std.proofs.Common.{ap, subst, arith, length-append, append-nil, option_to_list}
 use Rattle.std.specs.Prelude.{sum_by, option_map}
 use Rattle.std.specs.List.{AllByRecursion}
 use Rattle.std.proofs.lemmas.Bool.{both_ways}
@@ -14,10 +16,12 @@ use Rattle.session_text.specs.declared.stands.Place.{Place}
 use Rattle.session_text.specs.declared.stands.Place.TheVariants as place
 use Rattle.session_text.specs.declared.verbs.Verb.{Verb}
 use Rattle.session_text.specs.declared.verbs.Verb.TheVariants as verb
-use Rattle.session_text.specs.Drafts.{PlainDraft, all_phases, session_with, with_call, with_open, phase_after, draft_after}
+use Rattle.session_text.specs.Drafts.{PlainDraft, all_phases, session_with}
+use Rattle.session_text.specs.Drafts.{with_call, with_open, phase_after, draft_after}
 use Rattle.session_text.specs.Grammar.{caller_key}
 use Rattle.session_text.specs.Meaning.{empty_phase, call_in}
-use Rattle.session_text.specs.Stands.{PlainKey, PlainStand, in_phase, is_ended, is_head, is_start, may_stand, stand_after}
+use Rattle.session_text.specs.Stands.{PlainKey, PlainStand, in_phase, is_ended}
+use Rattle.session_text.specs.Stands.{is_head, is_start, may_stand, stand_after}
 use Rattle.session_text.specs.Reading.{PlainReading, session_at_end}
 use Rattle.session_text.proofs.PhaseCounts.{ended_no_phase}
 use Rattle.further_text.specs.declared.sorts.Sort.{Sort}
@@ -37,7 +41,8 @@ open_calls (Some phase) = calls_in phase
 abbrev pub draft_calls : PlainDraft → ℕ
 draft_calls d = call_count d.phases + open_calls d.open_phase
 
-calls_by : (phases : List PlainPhase) (o : Option PlainPhase) → call_count (phases ++ option_to_list o) ≡ call_count phases + open_calls o
+calls_by : (phases : List PlainPhase) (o : Option PlainPhase)
+    → call_count (phases ++ option_to_list o) ≡ call_count phases + open_calls o
 calls_by phases None = let same = ap call_count (append-nil phases) in omega (arith, same)
 calls_by phases (Some phase) = sum_by_push calls_in phases phase
 
@@ -45,11 +50,17 @@ pub all_calls : (d : PlainDraft) → call_count (all_phases d) ≡ draft_calls d
 all_calls d = calls_by d.phases d.open_phase
 
 with_call_more : (call : PlainCall) (scripts : List PlainScript)
-    → sum_by (λ (script : PlainScript). length script.calls) (with_call call scripts) ≤ sum_by (λ (script : PlainScript). length script.calls) scripts + 1
+    → sum_by (λ (script : PlainScript). length script.calls) (with_call call scripts)
+    ≤ sum_by (λ (script : PlainScript). length script.calls) scripts + 1
 with_call_more call [] = omega arith
 with_call_more call (script ∷ []) =
     let more : PlainScript = record script { calls = script.calls ++ call ∷ [] } in
-    omega (arith, length-append script.calls (call ∷ []), sum_by-cons (λ (s : PlainScript). length s.calls) more [], sum_by-cons (λ (s : PlainScript). length s.calls) script [])
+    omega (
+      arith,
+      length-append script.calls (call ∷ []),
+      sum_by-cons (λ (s : PlainScript). length s.calls) more [],
+      sum_by-cons (λ (s : PlainScript). length s.calls) script [],
+    )
 with_call_more call (script ∷ other ∷ scripts) =
     omega (
       arith,
@@ -63,7 +74,8 @@ abbrev pub steps_of : Sort → ℕ
 steps_of sort.Inside = 1
 steps_of other = 0
 
-opened : (o : Option PlainPhase) (change : PlainPhase → PlainPhase) (n : ℕ) → ((phase : PlainPhase) → calls_in (change phase) ≤ calls_in phase + n)
+opened : (o : Option PlainPhase) (change : PlainPhase → PlainPhase) (n : ℕ)
+    → ((phase : PlainPhase) → calls_in (change phase) ≤ calls_in phase + n)
     → open_calls (option_map change o) ≤ open_calls o + n
 opened None change n h = omega arith
 opened (Some phase) change n h = h phase
@@ -71,59 +83,80 @@ opened (Some phase) change n h = h phase
 same_calls : (d : PlainDraft) (n : ℕ) → draft_calls d ≤ draft_calls d + n
 same_calls d n = omega arith
 
-open_more : (d : PlainDraft) (change : PlainPhase → PlainPhase) (n : ℕ) → ((phase : PlainPhase) → calls_in (change phase) ≤ calls_in phase + n) → draft_calls (with_open d change) ≤ draft_calls d + n
+open_more : (d : PlainDraft) (change : PlainPhase → PlainPhase) (n : ℕ)
+    → ((phase : PlainPhase) → calls_in (change phase) ≤ calls_in phase + n)
+    → draft_calls (with_open d change) ≤ draft_calls d + n
 open_more d change n h = omega (arith, opened d.open_phase change n h)
 
 more_than_same : (n k : ℕ) → n ≤ n + k
 more_than_same n k = omega arith
 
-script_added : (phase : PlainPhase) (script : PlainScript) → length script.calls ≡ 0 → sum_by (λ (s : PlainScript). length s.calls) (phase.callers ++ script ∷ []) ≤ calls_in phase + 0
-script_added phase script none = omega (arith, none, sum_by_push (λ (s : PlainScript). length s.calls) phase.callers script)
+script_added : (phase : PlainPhase) (script : PlainScript)
+    → length script.calls ≡ 0
+    → sum_by (λ (s : PlainScript). length s.calls) (phase.callers ++ script ∷ []) ≤ calls_in phase + 0
+script_added phase script none =
+    omega (arith, none, sum_by_push (λ (s : PlainScript). length s.calls) phase.callers script)
 
-phase_begun : (s : PlainStand) (d : PlainDraft) (arguments : List (List ℕ)) → draft_calls (draft_after s d verb.Phase arguments) ≤ draft_calls d + 0
+phase_begun : (s : PlainStand) (d : PlainDraft) (arguments : List (List ℕ))
+    → draft_calls (draft_after s d verb.Phase arguments) ≤ draft_calls d + 0
 phase_begun s d arguments =
     let none : calls_in (empty_phase s.ports) ≡ 0 = refl in
     omega (arith, none, all_calls d)
 
-pub calls_after : (s : PlainStand) (d : PlainDraft) (v : Verb) (arguments : List (List ℕ)) → draft_calls (draft_after s d v arguments) ≤ draft_calls d + steps_of (sort_by v)
+pub calls_after : (s : PlainStand) (d : PlainDraft) (v : Verb) (arguments : List (List ℕ))
+    → draft_calls (draft_after s d v arguments) ≤ draft_calls d + steps_of (sort_by v)
 calls_after s d verb.Session arguments = same_calls d 0
 calls_after s d verb.Ports arguments = same_calls d 0
 calls_after s d verb.Flip arguments = same_calls d 0
 calls_after s d verb.Phase arguments = phase_begun s d arguments
 calls_after s d verb.Line arguments = same_calls d 0
 calls_after s d verb.Clock arguments = same_calls d 0
-calls_after s d verb.Caller arguments = open_more d (phase_after s verb.Caller arguments) 0 (λ phase. script_added phase (record { port = number_at arguments 1; name = word_at arguments 0; calls = [] }) refl)
-calls_after s d verb.Tick arguments = open_more d (phase_after s verb.Tick arguments) 1 (λ phase. more_than_same (calls_in phase) 1)
+calls_after s d verb.Caller arguments = open_more d (phase_after s verb.Caller arguments) 0
+    (λ phase. script_added phase (record { port = number_at arguments 1; name = word_at arguments 0; calls = [] }) refl)
+calls_after s d verb.Tick arguments =
+    open_more d (phase_after s verb.Tick arguments) 1 (λ phase. more_than_same (calls_in phase) 1)
 calls_after s d verb.End arguments = same_calls d 0
-calls_after s d (verb.Step l) arguments = open_more d (phase_after s (verb.Step l) arguments) 1 (λ phase. more_than_same (calls_in phase) 1)
-calls_after s d (verb.Call c) arguments = open_more d (phase_after s (verb.Call c) arguments) 1 (λ phase. with_call_more (call_in c arguments) phase.callers)
+calls_after s d (verb.Step l) arguments =
+    open_more d (phase_after s (verb.Step l) arguments) 1 (λ phase. more_than_same (calls_in phase) 1)
+calls_after s d (verb.Call c) arguments =
+    open_more d (phase_after s (verb.Call c) arguments) 1 (λ phase. with_call_more (call_in c arguments) phase.callers)
 
 -- ---- which callers there are
 
 -- the port and the name of each
 abbrev pub keys_in : PlainPhase → List PlainKey
-keys_in phase = map (λ (script : PlainScript). let key : PlainKey = record { name = script.name; port = script.port } in key) phase.callers
+keys_in phase = map
+    (λ (script : PlainScript). let key : PlainKey = record { name = script.name; port = script.port } in key)
+    phase.callers
 
 keys_called : (call : PlainCall) (scripts : List PlainScript)
-    → map (λ (script : PlainScript). let key : PlainKey = record { name = script.name; port = script.port } in key) (with_call call scripts)
-    ≡ map (λ (script : PlainScript). let key : PlainKey = record { name = script.name; port = script.port } in key) scripts
+    → map (λ (script : PlainScript). let key : PlainKey = record { name = script.name; port = script.port } in key)
+    (with_call call scripts)
+    ≡ map (λ (script : PlainScript). let key : PlainKey = record { name = script.name; port = script.port } in key)
+    scripts
 keys_called call [] = refl
 keys_called call (script ∷ []) = refl
-keys_called call (script ∷ other ∷ scripts) = ap (λ (keys : List PlainKey). record { name = script.name; port = script.port } ∷ keys) (keys_called call (other ∷ scripts))
+keys_called call (script ∷ other ∷ scripts) = ap
+    (λ (keys : List PlainKey). record { name = script.name; port = script.port } ∷ keys)
+    (keys_called call (other ∷ scripts))
 
 -- an item adds a caller, or none
-pub keys_after : (s : PlainStand) (v : Verb) (arguments : List (List ℕ)) (phase : PlainPhase) → keys_in (phase_after s v arguments phase) ≡ keys_in phase ++ caller_key v arguments
+pub keys_after : (s : PlainStand) (v : Verb) (arguments : List (List ℕ)) (phase : PlainPhase)
+    → keys_in (phase_after s v arguments phase) ≡ keys_in phase ++ caller_key v arguments
 keys_after s verb.Session arguments phase = sym (append-nil (keys_in phase))
 keys_after s verb.Ports arguments phase = sym (append-nil (keys_in phase))
 keys_after s verb.Flip arguments phase = sym (append-nil (keys_in phase))
 keys_after s verb.Phase arguments phase = sym (append-nil (keys_in phase))
 keys_after s verb.Line arguments phase = sym (append-nil (keys_in phase))
 keys_after s verb.Clock arguments phase = sym (append-nil (keys_in phase))
-keys_after s verb.Caller arguments phase = map_push (λ (script : PlainScript). let key : PlainKey = record { name = script.name; port = script.port } in key) phase.callers (record { port = number_at arguments 1; name = word_at arguments 0; calls = [] })
+keys_after s verb.Caller arguments phase = map_push
+    (λ (script : PlainScript). let key : PlainKey = record { name = script.name; port = script.port } in key)
+    phase.callers (record { port = number_at arguments 1; name = word_at arguments 0; calls = [] })
 keys_after s verb.Tick arguments phase = sym (append-nil (keys_in phase))
 keys_after s verb.End arguments phase = sym (append-nil (keys_in phase))
 keys_after s (verb.Step l) arguments phase = sym (append-nil (keys_in phase))
-keys_after s (verb.Call c) arguments phase = keys_called (call_in c arguments) phase.callers ∙ sym (append-nil (keys_in phase))
+keys_after s (verb.Call c) arguments phase =
+    keys_called (call_in c arguments) phase.callers ∙ sym (append-nil (keys_in phase))
 
 -- ---- what holds of the callers of each phase
 
@@ -135,27 +168,46 @@ pub record EachPhase (P : List PlainKey → Type 0) (d : PlainDraft) : Type 0 wh
   pub closed : AllByRecursion (λ (phase : PlainPhase). P (keys_in phase)) d.phases
   pub here : OnOpen P d.open_phase
 
-all_by : (P : List PlainKey → Type 0) (phases : List PlainPhase) (o : Option PlainPhase) → AllByRecursion (λ (phase : PlainPhase). P (keys_in phase)) phases → OnOpen P o
+all_by : (P : List PlainKey → Type 0) (phases : List PlainPhase) (o : Option PlainPhase)
+    → AllByRecursion (λ (phase : PlainPhase). P (keys_in phase)) phases
+    → OnOpen P o
     → AllByRecursion (λ (phase : PlainPhase). P (keys_in phase)) (phases ++ option_to_list o)
 all_by P [] None h k = tt
 all_by P [] (Some phase) h k = (k, tt)
 all_by P (phase ∷ phases) o h k = (h.0, all_by P phases o h.1 k)
 
-pub each_phase : (P : List PlainKey → Type 0) (d : PlainDraft) → EachPhase P d → AllByRecursion (λ (phase : PlainPhase). P (keys_in phase)) (all_phases d)
+pub each_phase : (P : List PlainKey → Type 0) (d : PlainDraft)
+    → EachPhase P d
+    → AllByRecursion (λ (phase : PlainPhase). P (keys_in phase)) (all_phases d)
 each_phase P d h = all_by P d.phases d.open_phase h.closed h.here
 
-open_after : (P : List PlainKey → Type 0) (s : PlainStand) (v : Verb) (arguments : List (List ℕ)) (o : Option PlainPhase)
-    → ((phase : PlainPhase) → o ≡ Some phase → P (keys_in phase) → P (keys_in phase ++ caller_key v arguments)) → OnOpen P o → OnOpen P (option_map (phase_after s v arguments) o)
+open_after : (P : List PlainKey → Type 0) (s : PlainStand) (v : Verb) (arguments : List (List ℕ))
+    (o : Option PlainPhase)
+    → ((phase : PlainPhase) → o ≡ Some phase → P (keys_in phase) → P (keys_in phase ++ caller_key v arguments))
+    → OnOpen P o
+    → OnOpen P (option_map (phase_after s v arguments) o)
 open_after P s v arguments None more h = tt
 open_after P s v arguments (Some phase) more h = subst P (sym (keys_after s v arguments phase)) (more phase refl h)
 
 stays : (P : List PlainKey → Type 0) (s : PlainStand) (d : PlainDraft) (v : Verb) (arguments : List (List ℕ))
-    → ((phase : PlainPhase) → d.open_phase ≡ Some phase → P (keys_in phase) → P (keys_in phase ++ caller_key v arguments)) → EachPhase P d → EachPhase P (with_open d (phase_after s v arguments))
-stays P s d v arguments more h = record { closed = h.closed; here = open_after P s v arguments d.open_phase more h.here }
+    → ((phase : PlainPhase)
+    → d.open_phase ≡ Some phase
+    → P (keys_in phase)
+    → P (keys_in phase ++ caller_key v arguments))
+    → EachPhase P d
+    → EachPhase P (with_open d (phase_after s v arguments))
+stays P s d v arguments more h =
+    record { closed = h.closed; here = open_after P s v arguments d.open_phase more h.here }
 
 -- an item keeps it: a phase begins with no callers, and a caller more is one of whom it holds
-pub each_after : (P : List PlainKey → Type 0) (s : PlainStand) (d : PlainDraft) (v : Verb) (arguments : List (List ℕ)) → P []
-    → ((phase : PlainPhase) → d.open_phase ≡ Some phase → P (keys_in phase) → P (keys_in phase ++ caller_key v arguments)) → EachPhase P d → EachPhase P (draft_after s d v arguments)
+pub each_after : (P : List PlainKey → Type 0) (s : PlainStand) (d : PlainDraft) (v : Verb) (arguments : List (List ℕ))
+    → P []
+    → ((phase : PlainPhase)
+    → d.open_phase ≡ Some phase
+    → P (keys_in phase)
+    → P (keys_in phase ++ caller_key v arguments))
+    → EachPhase P d
+    → EachPhase P (draft_after s d v arguments)
 each_after P s d verb.Session arguments none more h = record { closed = h.closed; here = h.here }
 each_after P s d verb.Ports arguments none more h = record { closed = h.closed; here = h.here }
 each_after P s d verb.Flip arguments none more h = record { closed = h.closed; here = h.here }
@@ -169,8 +221,12 @@ each_after P s d (verb.Step l) arguments none more h = stays P s d (verb.Step l)
 each_after P s d (verb.Call c) arguments none more h = stays P s d (verb.Call c) arguments more h
 
 -- .. where the item is no caller's
-pub same_keys : (P : List PlainKey → Type 0) (v : Verb) (arguments : List (List ℕ)) (keys : List PlainKey) → caller_key v arguments ≡ [] → P keys → P (keys ++ caller_key v arguments)
-same_keys P v arguments keys none h = subst P (sym (append-nil keys) ∙ ap (λ (more : List PlainKey). keys ++ more) (sym none)) h
+pub same_keys : (P : List PlainKey → Type 0) (v : Verb) (arguments : List (List ℕ)) (keys : List PlainKey)
+    → caller_key v arguments ≡ []
+    → P keys
+    → P (keys ++ caller_key v arguments)
+same_keys P v arguments keys none h =
+    subst P (sym (append-nil keys) ∙ ap (λ (more : List PlainKey). keys ++ more) (sym none)) h
 
 -- ---- the callers of the open phase
 
@@ -179,18 +235,24 @@ abbrev pub HasOpen : List ℕ → Option PlainPhase → Type 0
 HasOpen ports None = ⊥
 HasOpen ports (Some phase) = map (λ (key : PlainKey). key.port) (keys_in phase) ≡ ports
 
-with_ports : (ports : List ℕ) (s : PlainStand) (v : Verb) (arguments : List (List ℕ)) (o : Option PlainPhase) → HasOpen ports o
-    → HasOpen (ports ++ map (λ (key : PlainKey). key.port) (caller_key v arguments)) (option_map (phase_after s v arguments) o)
+with_ports : (ports : List ℕ) (s : PlainStand) (v : Verb) (arguments : List (List ℕ)) (o : Option PlainPhase)
+    → HasOpen ports o
+    → HasOpen (ports ++ map (λ (key : PlainKey). key.port) (caller_key v arguments))
+    (option_map (phase_after s v arguments) o)
 with_ports ports s v arguments None h = absurd h
 with_ports ports s v arguments (Some phase) h =
-    ap (map (λ (key : PlainKey). key.port)) (keys_after s v arguments phase) ∙ map-append (λ (key : PlainKey). key.port) (keys_in phase) (caller_key v arguments)
+    ap (map (λ (key : PlainKey). key.port)) (keys_after s v arguments phase)
+    ∙ map-append (λ (key : PlainKey). key.port) (keys_in phase) (caller_key v arguments)
     ∙ ap (λ (ps : List ℕ). ps ++ map (λ (key : PlainKey). key.port) (caller_key v arguments)) h
 
 without_ports : (ports : List ℕ) (o : Option PlainPhase) → HasOpen ports o → HasOpen (ports ++ []) o
 without_ports ports o h = subst (λ (ps : List ℕ). HasOpen ps o) (sym (append-nil ports)) h
 
-pub ports_after : (ports : List ℕ) (s : PlainStand) (d : PlainDraft) (v : Verb) (arguments : List (List ℕ)) → (sort_by v ≡ sort.Border → ⊥) → HasOpen ports d.open_phase
-    → HasOpen (ports ++ map (λ (key : PlainKey). key.port) (caller_key v arguments)) (draft_after s d v arguments).open_phase
+pub ports_after : (ports : List ℕ) (s : PlainStand) (d : PlainDraft) (v : Verb) (arguments : List (List ℕ))
+    → (sort_by v ≡ sort.Border → ⊥)
+    → HasOpen ports d.open_phase
+    → HasOpen (ports ++ map (λ (key : PlainKey). key.port) (caller_key v arguments))
+    (draft_after s d v arguments).open_phase
 ports_after ports s d verb.Session arguments inner h = without_ports ports d.open_phase h
 ports_after ports s d verb.Ports arguments inner h = without_ports ports d.open_phase h
 ports_after ports s d verb.Flip arguments inner h = without_ports ports d.open_phase h
@@ -204,7 +266,11 @@ ports_after ports s d (verb.Step l) arguments inner h = with_ports ports s (verb
 ports_after ports s d (verb.Call c) arguments inner h = with_ports ports s (verb.Call c) arguments d.open_phase h
 
 -- an item that is no border does not begin a phase
-pub phase_before : (s : PlainStand) (v : Verb) (arguments : List (List ℕ)) → may_stand v s.place ≡ true → (sort_by v ≡ sort.Border → ⊥) → in_phase (stand_after s v arguments).place ≡ true → in_phase s.place ≡ true
+pub phase_before : (s : PlainStand) (v : Verb) (arguments : List (List ℕ))
+    → may_stand v s.place ≡ true
+    → (sort_by v ≡ sort.Border → ⊥)
+    → in_phase (stand_after s v arguments).place ≡ true
+    → in_phase s.place ≡ true
 phase_before s verb.Session arguments stands inner h = absurd (cc)
 phase_before s verb.Ports arguments stands inner h = absurd (cc)
 phase_before s verb.Flip arguments stands inner h = h
@@ -218,7 +284,10 @@ phase_before s (verb.Step l) arguments stands inner h = h
 phase_before s (verb.Call c) arguments stands inner h = h
 
 -- a border that begins a phase begins it with no callers
-pub phase_opened : (s : PlainStand) (d : PlainDraft) (v : Verb) (arguments : List (List ℕ)) → sort_by v ≡ sort.Border → in_phase (stand_after s v arguments).place ≡ true → HasOpen [] (draft_after s d v arguments).open_phase
+pub phase_opened : (s : PlainStand) (d : PlainDraft) (v : Verb) (arguments : List (List ℕ))
+    → sort_by v ≡ sort.Border
+    → in_phase (stand_after s v arguments).place ≡ true
+    → HasOpen [] (draft_after s d v arguments).open_phase
 phase_opened s d verb.Session arguments border h = absurd (cc)
 phase_opened s d verb.Ports arguments border h = absurd (cc)
 phase_opened s d verb.Flip arguments border h = absurd (cc)
@@ -281,7 +350,11 @@ start_outside place.Clock h = absurd (cc)
 start_outside place.Caller h = absurd (cc)
 
 -- an item that is no border leaves an open phase open
-pub phase_kept : (s : PlainStand) (v : Verb) (arguments : List (List ℕ)) → may_stand v s.place ≡ true → (sort_by v ≡ sort.Border → ⊥) → in_phase s.place ≡ true → in_phase (stand_after s v arguments).place ≡ true
+pub phase_kept : (s : PlainStand) (v : Verb) (arguments : List (List ℕ))
+    → may_stand v s.place ≡ true
+    → (sort_by v ≡ sort.Border → ⊥)
+    → in_phase s.place ≡ true
+    → in_phase (stand_after s v arguments).place ≡ true
 phase_kept s verb.Session arguments stands inner h = absurd (cc)
 phase_kept s verb.Ports arguments stands inner h = absurd (both_ways (in_phase s.place) (head_outside s.place stands) h)
 phase_kept s verb.Flip arguments stands inner h = h
@@ -295,13 +368,21 @@ phase_kept s (verb.Step l) arguments stands inner h = h
 phase_kept s (verb.Call c) arguments stands inner h = h
 
 -- a caller stands in a phase
-pub opens_phase : (r next : PlainReading) (word : List ℕ) (arguments : List (List ℕ)) (took : Took r word arguments next) → took.what ≡ verb.Caller → in_phase next.stand.place ≡ true
-opens_phase r next word arguments took is = ap (λ (s : PlainReading). in_phase s.stand.place) took.is ∙ ap (λ (v : Verb). in_phase (stand_after r.stand v arguments).place) is
+pub opens_phase : (r next : PlainReading) (word : List ℕ) (arguments : List (List ℕ))
+    (took : Took r word arguments next)
+    → took.what ≡ verb.Caller
+    → in_phase next.stand.place ≡ true
+opens_phase r next word arguments took is =
+    ap (λ (s : PlainReading). in_phase s.stand.place) took.is
+    ∙ ap (λ (v : Verb). in_phase (stand_after r.stand v arguments).place) is
 
 -- a text ends outside of phases
 ended_by : (b : Bool) (n : ℕ) (here x : PlainSession) → (if b then Ok here else bad n reason.Order) ≡ Ok x → b ≡ true
 ended_by true n here x e = refl
 ended_by false n here x e = absurd (cc)
 
-pub ended_outside : (r : PlainReading) (n : ℕ) (x : PlainSession) → session_at_end r n ≡ Ok x → in_phase r.stand.place ≡ false
-ended_outside r n x h = ended_no_phase r.stand.place (ended_by (is_ended r.stand.place) n (session_with r.stand r.draft) x h)
+pub ended_outside : (r : PlainReading) (n : ℕ) (x : PlainSession)
+    → session_at_end r n ≡ Ok x
+    → in_phase r.stand.place ≡ false
+ended_outside r n x h =
+    ended_no_phase r.stand.place (ended_by (is_ended r.stand.place) n (session_with r.stand r.draft) x h)

@@ -31,7 +31,8 @@ at_end r = is_ended r.session.stand.place
 -- an item of the session of ports
 abbrev pub base_after_item : BaseReading → ℕ → List ℕ → List (List ℕ) → Result BaseReading BadLine
 base_after_item r n word arguments =
-    reading_after_item r.session n arguments (verdict_on r.session.stand word arguments) >>= λ session. Ok (record r { session = session })
+    reading_after_item r.session n arguments (verdict_on r.session.stand word arguments)
+    >>= λ session. Ok (record r { session = session })
 
 -- the item that says how many ports there are: 8 at most, and with another number of arguments it is a wrong one
 abbrev pub base_after_ports : BaseReading → ℕ → List ℕ → List (List ℕ) → Result BaseReading BadLine

@@ -9,7 +9,8 @@ use Rattle.further_text.specs.declared.sorts.Sort.TheVariants.{Ports, Caller, Bo
 -- the items of line blocks and of clock blocks
 abbrev pub steps : List (List ℕ)
 steps =
-    codes "rx" ∷ codes "rxp" ∷ codes "rxf" ∷ codes "break" ∷ codes "mask" ∷ codes "unmask" ∷ codes "idle" ∷ codes "trigger" ∷ codes "tick" ∷ []
+    codes "rx" ∷ codes "rxp" ∷ codes "rxf" ∷ codes "break" ∷ codes "mask" ∷ codes "unmask" ∷ codes "idle"
+    ∷ codes "trigger" ∷ codes "tick" ∷ []
 
 abbrev pub is_step : List ℕ → Bool
 is_step word = list_any (bytes_eq word) steps

@@ -3,7 +3,8 @@
 ghost use Rattle.std.specs.Prelude.{◌≡◌, min};
 ghost use Rattle.tty_calls.specs.Sessions.{session_of};
 ghost use Rattle.session_text.specs.Reading.{Gives};
-ghost use Rattle.further_text.specs.Reading.{at_end, at_start, base_after_item, base_after_ports, base_after_step, base_at_end, first_base, in_open_phase, place_in, spend, with_block};
+ghost use Rattle.further_text.specs.Reading.{at_end, at_start, base_after_item, base_after_ports, base_after_step};
+ghost use Rattle.further_text.specs.Reading.{base_at_end, first_base, in_open_phase, place_in, spend, with_block};
 ghost use Rattle.further_text.specs.Views.{base_of};
 
 use crate::numbers::{bad, has_count};
@@ -46,7 +47,8 @@ impl BaseReader {
         word: &[u8],
         arguments: &FirstTwo,
     ) -> Result<(), TextFault>
-        ensures { Gives (λ _. base_of self.new) result (base_after_item (base_of self.old) number word.now arguments.now) }
+        ensures { Gives (λ _. base_of self.new) result
+            (base_after_item (base_of self.old) number word.now arguments.now) }
     {
         self.session.read_item(alloc, number, word, arguments)
     }
@@ -59,7 +61,8 @@ impl BaseReader {
         word: &[u8],
         arguments: &FirstTwo,
     ) -> Result<(), TextFault>
-        ensures { Gives (λ _. base_of self.new) result (base_after_ports (base_of self.old) number word.now arguments.now) }
+        ensures { Gives (λ _. base_of self.new) result
+            (base_after_ports (base_of self.old) number word.now arguments.now) }
     {
         if !has_count(arguments, 1) {
             return self.read_item(alloc, number, word, arguments);
@@ -78,7 +81,8 @@ impl BaseReader {
         word: &[u8],
         arguments: &FirstTwo,
     ) -> Result<(), TextFault>
-        ensures { Gives (λ _. base_of self.new) result (base_after_step (base_of self.old) number word.now arguments.now) }
+        ensures { Gives (λ _. base_of self.new) result
+            (base_after_step (base_of self.old) number word.now arguments.now) }
     {
         self.read_item(alloc, number, word, arguments)?;
         self.spend(number)

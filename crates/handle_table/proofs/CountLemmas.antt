@@ -9,7 +9,9 @@ use Rattle.handle_table.specs.Handles.{HandleMap, is_live, live_count, handle_af
 abbrev pub weight : Option HandleState → ℕ
 weight slot = cond (is_live slot) 1 0
 
-pub live_count-set : (handles : HandleMap) (h : ℕ) (slot : Option HandleState) → h < length handles → live_count (set handles h slot) + weight (get_or handles h None) ≡ live_count handles + weight slot
+pub live_count-set : (handles : HandleMap) (h : ℕ) (slot : Option HandleState)
+    → h < length handles
+    → live_count (set handles h slot) + weight (get_or handles h None) ≡ live_count handles + weight slot
 live_count-set handles h slot within = sum_by-set weight handles h slot None within
 
 pub live_count-le-length : (handles : HandleMap) → live_count handles ≤ length handles
@@ -22,4 +24,9 @@ weight-after_hangup (Some handle) = refl
 pub live_count-after_hangup : (handles : HandleMap) → live_count (after_hangup handles) ≡ 0
 live_count-after_hangup [] = refl
 live_count-after_hangup (slot ∷ handles) =
-    omega (arith, sum_by-cons weight (handle_after_hangup slot) (after_hangup handles), weight-after_hangup slot, live_count-after_hangup handles)
+    omega (
+      arith,
+      sum_by-cons weight (handle_after_hangup slot) (after_hangup handles),
+      weight-after_hangup slot,
+      live_count-after_hangup handles,
+    )

@@ -1,5 +1,6 @@
 -- The handles of a port: a map from the numbers 0 to 31.
-use Rattle.std.specs.Prelude.{◌≡◌, ℕ, length, Bool, true, false, Option, Some, None, List, slice_index_or, slice_set, map, replicate, count_by}
+use Rattle.std.specs.Prelude.{◌≡◌, ℕ, length, Bool, true, false, Option, Some, None}
+use Rattle.std.specs.Prelude.{List, slice_index_or, slice_set, map, replicate, count_by}
 use Rattle.tty_calls.specs.declared.calls.Access.{Access}
 use Rattle.handle_table.specs.declared.HandleState.{HandleState}
 
@@ -15,7 +16,8 @@ handle_at handles h = slice_index_or handles h None
 
 -- the map with a live handle of this number
 abbrev pub with_handle : HandleMap → ℕ → Access → Bool → HandleMap
-with_handle handles h access nonblock = slice_set handles h (Some (record { access = access; nonblock = nonblock; live = true }))
+with_handle handles h access nonblock =
+    slice_set handles h (Some (record { access = access; nonblock = nonblock; live = true }))
 
 abbrev pub without_handle : HandleMap → ℕ → HandleMap
 without_handle handles h = slice_set handles h None

@@ -2,7 +2,8 @@
 #![tactic(auto)]
 
 ghost use Rattle.std.specs.Prelude.{◌≡◌, ◌<◌, ◌≤◌, is_some, is_none, length, if◌then◌else◌};
-ghost use Rattle.handle_table.specs.Handles.{no_handles, handle_at, with_handle, without_handle, handle_after_hangup, after_hangup, live_count};
+ghost use Rattle.handle_table.specs.Handles.{no_handles, handle_at, with_handle, without_handle};
+ghost use Rattle.handle_table.specs.Handles.{handle_after_hangup, after_hangup, live_count};
 
 use std::marker::Model;
 use tty_calls::Access;

@@ -1,5 +1,7 @@
 -- What is passed asks no more than the session whose calls are passed.
-use Rattle.std.proofs.Common.{◌≡◌, inl, inr, ℕ, suc, ◌+◌, ◌≤◌, ◌==◌, Bool, true, false, cond, if◌then◌else◌, Option, None, Some, List, [], ◌∷◌, ◌++◌, length, map, refl, sym, ap, ◌∙◌, subst, arith, length-append}
+use Rattle.std.proofs.Common.{◌≡◌, inl, inr, ℕ, suc, ◌+◌, ◌≤◌, ◌==◌, Bool, true, false}
+use Rattle.std.proofs.Common.{cond, if◌then◌else◌, Option, None, Some, List, [], ◌∷◌, ◌++◌}
+use Rattle.std.proofs.Common.{length, map, refl, sym, ap, ◌∙◌, subst, arith, length-append}
 use Rattle.std.specs.Prelude.{All, filter, flat_map, slice_get, slice_index_or, sum_by, unwrap_or}
 use Rattle.std.specs.Str.{bytes_eq}
 use Rattle.std.proofs.lemmas.Bool.{eqb-true, or_left, or_right}
@@ -9,13 +11,15 @@ use Rattle.std.proofs.lemmas.List.Sums.{sum_by-append, sum_by-cons}
 use Rattle.tty_base.specs.Lines.{arrival_count}
 use Rattle.tty_calls.specs.Plain.{PlainCall, hangs_up}
 use Rattle.tty_calls.specs.Limits.{character_count}
-use Rattle.tty_calls.specs.Sessions.{PlainScript, PlainPhase, PlainSession, line_on, number_in, scripts_over as plain_scripts_over}
+use Rattle.tty_calls.specs.Sessions.{PlainScript, PlainPhase, PlainSession, line_on}
+use Rattle.tty_calls.specs.Sessions.{number_in, scripts_over as plain_scripts_over}
 use Rattle.session_text.specs.Asked.{asked_of}
 use Rattle.journal_check.proofs.NameLemmas.{get_append, get_past, same_name}
 use Rattle.journal_check.proofs.TurnLemmas.{at_number}
 use Rattle.one_thread.proofs.NameLemmas.{has_name, script_has_number}
 use Rattle.passed_calls.specs.Blocks.{Block, bare, blocks_on, names_on, number_on, steps_under}
-use Rattle.passed_calls.specs.Derived.{Passing, Passed, BlockPhase, blocks_of, by_caller, calls_at, calls_for, passed_script, passed_scripts, passed_phases_after, passed_phases}
+use Rattle.passed_calls.specs.Derived.{Passing, Passed, BlockPhase, blocks_of, by_caller, calls_at, calls_for}
+use Rattle.passed_calls.specs.Derived.{passed_script, passed_scripts, passed_phases_after, passed_phases}
 use Rattle.passed_calls.specs.Scripts.{CallerScript, plain, further, block_of, calls_named, numbered_call}
 use Rattle.passed_calls.specs.Within.{ArePassedWithin}
 use Rattle.passed_calls.proofs.Names.{on_port, over_phases}
@@ -32,20 +36,25 @@ Script = CallerScript JobCall
 
 pub plain_from : (o : Option JobCall) → All (IsFrom o) (plain_call o)
 plain_from None = All-nil (IsFrom None)
-plain_from (Some (plain call)) = All-cons (IsFrom (Some (plain call))) call [] (inl refl) (All-nil (IsFrom (Some (plain call))))
+plain_from (Some (plain call)) =
+    All-cons (IsFrom (Some (plain call))) call [] (inl refl) (All-nil (IsFrom (Some (plain call))))
 plain_from (Some (further call)) = All-nil (IsFrom (Some (further call)))
 
 abbrev pub OfCall : (calls : ℕ → ℕ → Option JobCall) → Passing → Type 0
 OfCall calls m = All (IsFrom (calls m.caller m.step)) m.calls
 
-events_from : (calls : ℕ → ℕ → Option JobCall) (latest : ℕ) (es : List JobEvent) → All (OfCall calls) (passings_from calls latest es)
+events_from : (calls : ℕ → ℕ → Option JobCall) (latest : ℕ) (es : List JobEvent)
+    → All (OfCall calls) (passings_from calls latest es)
 events_from calls latest [] = All-nil (OfCall calls)
 events_from calls latest (own c step answer ∷ es) = events_from calls step es
 events_from calls latest (passed c step answer ∷ es) =
-    All-cons (OfCall calls) (record { caller = c; step = step; calls = plain_call (calls c step) }) (passings_from calls latest es) (plain_from (calls c step)) (events_from calls latest es)
+    All-cons (OfCall calls) (record { caller = c; step = step; calls = plain_call (calls c step) })
+    (passings_from calls latest es) (plain_from (calls c step)) (events_from calls latest es)
 events_from calls latest (passed_down c h ∷ es) =
-    All-cons (OfCall calls) (record { caller = c; step = latest; calls = hangs_up h ∷ [] }) (passings_from calls latest es)
-    (All-cons (IsFrom (calls c latest)) (hangs_up h) [] (inr refl) (All-nil (IsFrom (calls c latest)))) (events_from calls latest es)
+    All-cons (OfCall calls) (record { caller = c; step = latest; calls = hangs_up h ∷ [] })
+    (passings_from calls latest es)
+    (All-cons (IsFrom (calls c latest)) (hangs_up h) [] (inr refl) (All-nil (IsFrom (calls c latest))))
+    (events_from calls latest es)
 events_from calls latest (sent signal target ∷ es) = events_from calls latest es
 
 pub logged_of_calls : (session : JobsSession) (log : JobLog) (p : ℕ) → AreOfCalls p session (passings_on session log p)
@@ -62,38 +71,62 @@ single_asks (further c) call (inl is) = absurd (cc)
 single_asks (plain c) call (inr none) = omega (arith, none)
 single_asks (further c) call (inr none) = omega (arith, none)
 
-few_ask : (o : JobCall) (calls : List PlainCall) → length calls ≤ 1 → All (IsFrom (Some o)) calls → sum_by call_asks calls ≤ any_asks o
+few_ask : (o : JobCall) (calls : List PlainCall)
+    → length calls ≤ 1
+    → All (IsFrom (Some o)) calls
+    → sum_by call_asks calls ≤ any_asks o
 few_ask o [] few h = omega arith
-few_ask o (call ∷ []) few h = omega (arith, sum_by-cons call_asks call [], single_asks o call (All-head (IsFrom (Some o)) call [] h))
+few_ask o (call ∷ []) few h =
+    omega (arith, sum_by-cons call_asks call [], single_asks o call (All-head (IsFrom (Some o)) call [] h))
 few_ask o (call ∷ other ∷ calls) few h = absurd (omega (arith, few))
 
 -- ---- what was passed for a call of a caller
 
 module _ (calls : ℕ → ℕ → Option JobCall) (c step : ℕ) where
-  of_step : (b : Bool) (m : Passing) → (m.step == step) ≡ b → m.caller ≡ c → OfCall calls m → All (IsFrom (calls c step)) (if b then m.calls else [])
+  of_step : (b : Bool) (m : Passing)
+      → (m.step == step) ≡ b
+      → m.caller ≡ c
+      → OfCall calls m
+      → All (IsFrom (calls c step)) (if b then m.calls else [])
   of_step true m e is h =
-      subst (λ (n : ℕ). All (IsFrom (calls c n)) m.calls) (eqb-true m.step step e) (subst (λ (d : ℕ). All (IsFrom (calls d m.step)) m.calls) is h)
+      subst (λ (n : ℕ). All (IsFrom (calls c n)) m.calls) (eqb-true m.step step e)
+      (subst (λ (d : ℕ). All (IsFrom (calls d m.step)) m.calls) is h)
   of_step false m e is h = All-nil (IsFrom (calls c step))
 
-  of_caller : (b : Bool) (m : Passing) (ms : List Passing) → (m.caller == c) ≡ b → OfCall calls m → All (IsFrom (calls c step)) (calls_at ms step) → All (IsFrom (calls c step)) (calls_at (cond b (m ∷ ms) ms) step)
+  of_caller : (b : Bool) (m : Passing) (ms : List Passing)
+      → (m.caller == c) ≡ b
+      → OfCall calls m
+      → All (IsFrom (calls c step)) (calls_at ms step)
+      → All (IsFrom (calls c step)) (calls_at (cond b (m ∷ ms) ms) step)
   of_caller true m ms e mine h =
-      All-append (IsFrom (calls c step)) (if m.step == step then m.calls else []) (calls_at ms step) (of_step (m.step == step) m refl (eqb-true m.caller c e) mine) h
+      All-append (IsFrom (calls c step)) (if m.step == step then m.calls else []) (calls_at ms step)
+      (of_step (m.step == step) m refl (eqb-true m.caller c e) mine) h
   of_caller false m ms e mine h = h
 
-  pub at_step : (ms : List Passing) → All (OfCall calls) ms → All (IsFrom (calls c step)) (calls_at (by_caller c ms) step)
+  pub at_step : (ms : List Passing)
+      → All (OfCall calls) ms
+      → All (IsFrom (calls c step)) (calls_at (by_caller c ms) step)
   at_step [] h = All-nil (IsFrom (calls c step))
-  at_step (m ∷ ms) h = of_caller (m.caller == c) m (by_caller c ms) refl (All-head (OfCall calls) m ms h) (at_step ms (All-tail (OfCall calls) m ms h))
+  at_step (m ∷ ms) h = of_caller (m.caller == c) m (by_caller c ms) refl (All-head (OfCall calls) m ms h)
+      (at_step ms (All-tail (OfCall calls) m ms h))
 
 -- ---- a script
 
-steps_ask : (ms : List Passing) (first : ℕ) (calls : List JobCall) → ((k : ℕ) (call : JobCall) → slice_get calls k ≡ Some call → sum_by call_asks (calls_at ms (first + k)) ≤ any_asks call)
+steps_ask : (ms : List Passing) (first : ℕ) (calls : List JobCall)
+    → ((k : ℕ) (call : JobCall)
+    → slice_get calls k ≡ Some call
+    → sum_by call_asks (calls_at ms (first + k)) ≤ any_asks call)
     → sum_by call_asks (calls_for ms first (length calls)) ≤ sum_by any_asks calls
 steps_ask ms first [] each = omega arith
 steps_ask ms first (call ∷ calls) each =
     let here : sum_by call_asks (calls_at ms first) ≤ any_asks call =
-    (let none : first + 0 ≡ first = omega arith in subst (λ (n : ℕ). sum_by call_asks (calls_at ms n) ≤ any_asks call) none (each 0 call refl)) in
-    let behind : (k : ℕ) (x : JobCall) → slice_get calls k ≡ Some x → sum_by call_asks (calls_at ms ((first + 1) + k)) ≤ any_asks x =
-    λ k x is. (let along : first + suc k ≡ (first + 1) + k = omega arith in subst (λ (n : ℕ). sum_by call_asks (calls_at ms n) ≤ any_asks x) along (each (suc k) x is)) in
+    (let none : first + 0 ≡ first = omega arith in
+    subst (λ (n : ℕ). sum_by call_asks (calls_at ms n) ≤ any_asks call) none (each 0 call refl)) in
+    let behind : (k : ℕ) (x : JobCall)
+    → slice_get calls k ≡ Some x
+    → sum_by call_asks (calls_at ms ((first + 1) + k)) ≤ any_asks x =
+    λ k x is. (let along : first + suc k ≡ (first + 1) + k = omega arith in
+    subst (λ (n : ℕ). sum_by call_asks (calls_at ms n) ≤ any_asks x) along (each (suc k) x is)) in
     omega (
       arith,
       here,
@@ -110,20 +143,24 @@ is_on p s = s.port == p
 abbrev blocks_all : List Script → List Block
 blocks_all ss = map block_of ss
 
-on_blocks : (t : Bool) (s : Script) (xs : List Script) (bs : List Block) → map block_of xs ≡ bs → map block_of (cond t (s ∷ xs) xs) ≡ cond t (block_of s ∷ bs) bs
+on_blocks : (t : Bool) (s : Script) (xs : List Script) (bs : List Block)
+    → map block_of xs ≡ bs
+    → map block_of (cond t (s ∷ xs) xs) ≡ cond t (block_of s ∷ bs) bs
 on_blocks true s xs bs h = ap (λ (ys : List Block). block_of s ∷ ys) h
 on_blocks false s xs bs h = h
 
 blocks_kept : (p : ℕ) (ss : List Script) → map block_of (filter (is_on p) ss) ≡ blocks_on p (blocks_all ss)
 blocks_kept p [] = refl
-blocks_kept p (s ∷ ss) = on_blocks (s.port == p) s (filter (is_on p) ss) (blocks_on p (blocks_all ss)) (blocks_kept p ss)
+blocks_kept p (s ∷ ss) =
+    on_blocks (s.port == p) s (filter (is_on p) ss) (blocks_on p (blocks_all ss)) (blocks_kept p ss)
 
 named_length : (b : Bool) (s : Script) → length (if b then s.calls else []) ≡ (if b then length s.calls else 0)
 named_length true s = refl
 named_length false s = refl
 
 -- how many calls stand before it under its name
-steps_named : (name : List ℕ) (ss : List Script) → length (calls_named (Some name) ss) ≡ steps_under name (map block_of ss)
+steps_named : (name : List ℕ) (ss : List Script)
+    → length (calls_named (Some name) ss) ≡ steps_under name (map block_of ss)
 steps_named name [] = refl
 steps_named name (s ∷ ss) =
     omega (
@@ -157,59 +194,100 @@ map_append {X} {Y} f (x ∷ xs) ys = ap (λ (zs : List Y). f x ∷ zs) (map_appe
 unwrapped : (o : Option ℕ) (n d : ℕ) → o ≡ Some n → unwrap_or o d ≡ n
 unwrapped o n d e = ap (λ (x : Option ℕ). unwrap_or x d) e
 
-own_name : (p : ℕ) (all : List Block) (xs zs : List Block) (b : Block) → blocks_on p all ≡ xs ++ b ∷ zs → slice_get (names_on p all) (number_on p all b.name) ≡ Some b.name
+own_name : (p : ℕ) (all : List Block) (xs zs : List Block) (b : Block)
+    → blocks_on p all ≡ xs ++ b ∷ zs
+    → slice_get (names_on p all) (number_on p all b.name) ≡ Some b.name
 own_name p all xs zs b e =
     let scripts : List PlainScript = map bare (blocks_on p all) in
-    let has : has_name scripts b.name ≡ true = ap (λ (bs : List Block). has_name (map bare bs) b.name) e ∙ (ap (λ (ss : List PlainScript). has_name ss b.name) (map_append bare xs (b ∷ zs)) ∙ there (map bare xs) (map bare zs) (bare b)) in
+    let has : has_name scripts b.name ≡ true =
+    ap (λ (bs : List Block). has_name (map bare bs) b.name) e
+    ∙ (ap (λ (ss : List PlainScript). has_name ss b.name) (map_append bare xs (b ∷ zs))
+    ∙ there (map bare xs) (map bare zs) (bare b)) in
     let number = script_has_number scripts b.name has in
-    ap (λ (n : ℕ). slice_get (names_on p all) n) (unwrapped (number_in (names_on p all) b.name) number.0 (length (names_on p all)) number.1)
+    ap (λ (n : ℕ). slice_get (names_on p all) n)
+    (unwrapped (number_in (names_on p all) b.name) number.0 (length (names_on p all)) number.1)
     ∙ at_number (names_on p all) b.name number.0 number.1
 
 -- ---- all scripts
 
-on_either : (t : Bool) (x : PlainScript) (s : Script) (xs : List PlainScript) (ss : List Script) → (t ≡ true → plain_asks x ≤ script_asks s) → sum_by plain_asks xs ≤ sum_by script_asks ss
+on_either : (t : Bool) (x : PlainScript) (s : Script) (xs : List PlainScript) (ss : List Script)
+    → (t ≡ true → plain_asks x ≤ script_asks s)
+    → sum_by plain_asks xs ≤ sum_by script_asks ss
     → sum_by plain_asks (cond t (x ∷ xs) xs) ≤ sum_by script_asks (cond t (s ∷ ss) ss)
 on_either true x s xs ss mine h = omega (arith, mine refl, h, sum_by-cons plain_asks x xs, sum_by-cons script_asks s ss)
 on_either false x s xs ss mine h = h
 
 -- of what a port was passed for a call no more is asked than of the call
 abbrev AsksFor : (p : ℕ) → (all : List Script) → List Passing → Type 0
-AsksFor p all ms = (c step : ℕ) (call : JobCall) → numbered_call (names_on p (blocks_all all)) (filter (is_on p) all) c step ≡ Some call → sum_by call_asks (calls_at (by_caller c ms) step) ≤ any_asks call
+AsksFor p all ms =
+    (c step : ℕ) (call : JobCall)
+    → numbered_call (names_on p (blocks_all all)) (filter (is_on p) all) c step ≡ Some call
+    → sum_by call_asks (calls_at (by_caller c ms) step) ≤ any_asks call
 
 module _ (p : ℕ) (given : Passed) (all : List Script) (each : AsksFor p all (given p)) where
-  own_asks : (before ss : List Script) (s : Script) → before ++ s ∷ ss ≡ all → s.port ≡ p → (s.port == p) ≡ true
-      → sum_by call_asks (calls_for (by_caller (number_on p (blocks_all all) s.name) (given p)) (steps_under s.name (blocks_on p (blocks_all before))) (length s.calls)) ≤ script_asks s
+  own_asks : (before ss : List Script) (s : Script)
+      → before ++ s ∷ ss ≡ all
+      → s.port ≡ p
+      → (s.port == p) ≡ true
+      → sum_by call_asks (calls_for (by_caller (number_on p (blocks_all all) s.name) (given p))
+      (steps_under s.name (blocks_on p (blocks_all before))) (length s.calls)) ≤ script_asks s
   own_asks before ss s e at on =
       let kept : filter (is_on p) all ≡ filter (is_on p) before ++ s ∷ filter (is_on p) ss =
-      ap (filter (is_on p)) (sym e) ∙ (filter-append (is_on p) before (s ∷ ss) ∙ ap (λ (t : Bool). filter (is_on p) before ++ cond t (s ∷ filter (is_on p) ss) (filter (is_on p) ss)) on) in
-      let blocks : blocks_on p (blocks_all all) ≡ map block_of (filter (is_on p) before) ++ block_of s ∷ map block_of (filter (is_on p) ss) =
-      sym (blocks_kept p all) ∙ (ap (map block_of) kept ∙ map_append block_of (filter (is_on p) before) (s ∷ filter (is_on p) ss)) in
-      let name = own_name p (blocks_all all) (map block_of (filter (is_on p) before)) (map block_of (filter (is_on p) ss)) (block_of s) blocks in
+      ap (filter (is_on p)) (sym e)
+      ∙ (filter-append (is_on p) before (s ∷ ss)
+      ∙ ap (λ (t : Bool). filter (is_on p) before ++ cond t (s ∷ filter (is_on p) ss) (filter (is_on p) ss)) on) in
+      let blocks : blocks_on p (blocks_all all)
+      ≡ map block_of (filter (is_on p) before) ++ block_of s ∷ map block_of (filter (is_on p) ss) =
+      sym (blocks_kept p all)
+      ∙ (ap (map block_of) kept ∙ map_append block_of (filter (is_on p) before) (s ∷ filter (is_on p) ss)) in
+      let name = own_name p (blocks_all all) (map block_of (filter (is_on p) before))
+      (map block_of (filter (is_on p) ss)) (block_of s) blocks in
       let number = number_on p (blocks_all all) s.name in
-      let first : steps_under s.name (blocks_on p (blocks_all before)) ≡ length (calls_named (Some s.name) (filter (is_on p) before)) =
-      ap (λ (bs : List Block). steps_under s.name bs) (sym (blocks_kept p before)) ∙ sym (steps_named s.name (filter (is_on p) before)) in
+      let first : steps_under s.name (blocks_on p (blocks_all before))
+      ≡ length (calls_named (Some s.name) (filter (is_on p) before)) =
+      ap (λ (bs : List Block). steps_under s.name bs) (sym (blocks_kept p before))
+      ∙ sym (steps_named s.name (filter (is_on p) before)) in
       steps_ask (by_caller number (given p)) (steps_under s.name (blocks_on p (blocks_all before))) s.calls
       (λ k call is. each number (steps_under s.name (blocks_on p (blocks_all before)) + k) call
-      (ap (λ (o : Option (List ℕ)). slice_get (calls_named o (filter (is_on p) all)) (steps_under s.name (blocks_on p (blocks_all before)) + k)) name
-      ∙ (ap (λ (xs : List Script). slice_get (calls_named (Some s.name) xs) (steps_under s.name (blocks_on p (blocks_all before)) + k)) kept
-      ∙ (ap (λ (n : ℕ). slice_get (calls_named (Some s.name) (filter (is_on p) before ++ s ∷ filter (is_on p) ss)) (n + k)) first
+      (ap (λ (o : Option (List ℕ)).
+      slice_get (calls_named o (filter (is_on p) all)) (steps_under s.name (blocks_on p (blocks_all before)) + k)) name
+      ∙ (ap (λ (xs : List Script).
+      slice_get (calls_named (Some s.name) xs) (steps_under s.name (blocks_on p (blocks_all before)) + k)) kept
+      ∙ (ap
+      (λ (n : ℕ). slice_get (calls_named (Some s.name) (filter (is_on p) before ++ s ∷ filter (is_on p) ss)) (n + k))
+      first
       ∙ call_behind (filter (is_on p) before) (filter (is_on p) ss) s k call is))))
 
-  own_script : (before ss : List Script) (s : Script) → before ++ s ∷ ss ≡ all → (s.port == p) ≡ true → plain_asks (passed_script given (blocks_all all) (blocks_all before) (block_of s)) ≤ script_asks s
+  own_script : (before ss : List Script) (s : Script)
+      → before ++ s ∷ ss ≡ all
+      → (s.port == p) ≡ true
+      → plain_asks (passed_script given (blocks_all all) (blocks_all before) (block_of s)) ≤ script_asks s
   own_script before ss s e on =
       let at = eqb-true s.port p on in
-      let same = ap (λ (q : ℕ). sum_by call_asks (calls_for (by_caller (number_on q (blocks_all all) s.name) (given q)) (steps_under s.name (blocks_on q (blocks_all before))) (length s.calls))) at in
+      let same = ap (λ (q : ℕ). sum_by call_asks (calls_for (by_caller (number_on q (blocks_all all) s.name) (given q))
+      (steps_under s.name (blocks_on q (blocks_all before))) (length s.calls))) at in
       omega (arith, same, own_asks before ss s e at on)
 
-  passed_ask : (before ss : List Script) → before ++ ss ≡ all → sum_by plain_asks (filter (on_port p) (passed_scripts given (blocks_all all) (blocks_all before) (blocks_all ss))) ≤ sum_by script_asks (filter (is_on p) ss)
+  passed_ask : (before ss : List Script)
+      → before ++ ss ≡ all
+      → sum_by plain_asks
+      (filter (on_port p) (passed_scripts given (blocks_all all) (blocks_all before) (blocks_all ss)))
+      ≤ sum_by script_asks (filter (is_on p) ss)
   passed_ask before [] e = omega arith
   passed_ask before (s ∷ ss) e =
-      let more : blocks_all (before ++ s ∷ []) ≡ blocks_all before ++ block_of s ∷ [] = map_append block_of before (s ∷ []) in
-      let rest : sum_by plain_asks (filter (on_port p) (passed_scripts given (blocks_all all) (blocks_all before ++ block_of s ∷ []) (blocks_all ss))) ≤ sum_by script_asks (filter (is_on p) ss) =
-      subst (λ (bs : List Block). sum_by plain_asks (filter (on_port p) (passed_scripts given (blocks_all all) bs (blocks_all ss))) ≤ sum_by script_asks (filter (is_on p) ss)) more
+      let more : blocks_all (before ++ s ∷ []) ≡ blocks_all before ++ block_of s ∷ [] =
+      map_append block_of before (s ∷ []) in
+      let rest : sum_by plain_asks (filter (on_port p)
+      (passed_scripts given (blocks_all all) (blocks_all before ++ block_of s ∷ []) (blocks_all ss)))
+      ≤ sum_by script_asks (filter (is_on p) ss) =
+      subst (λ (bs : List Block).
+      sum_by plain_asks (filter (on_port p) (passed_scripts given (blocks_all all) bs (blocks_all ss)))
+      ≤ sum_by script_asks (filter (is_on p) ss)) more
       (passed_ask (before ++ s ∷ []) ss (assoc before s ss ∙ e)) in
       on_either (s.port == p) (passed_script given (blocks_all all) (blocks_all before) (block_of s)) s
-      (filter (on_port p) (passed_scripts given (blocks_all all) (blocks_all before ++ block_of s ∷ []) (blocks_all ss))) (filter (is_on p) ss)
+      (filter (on_port p)
+      (passed_scripts given (blocks_all all) (blocks_all before ++ block_of s ∷ []) (blocks_all ss)))
+      (filter (is_on p) ss)
       (λ on. own_script before ss s e on) rest
     where
       assoc : (xs : List Script) (y : Script) (ys : List Script) → (xs ++ y ∷ []) ++ ys ≡ xs ++ y ∷ ys
@@ -218,49 +296,68 @@ module _ (p : ℕ) (given : Passed) (all : List Script) (each : AsksFor p all (g
 
 -- ---- all phases
 
-flat_blocks : (phases : List JobsPhase) → blocks_of (map block_phase_of phases) ≡ blocks_all (flat_map (λ (phase : JobsPhase). phase.callers) phases)
+flat_blocks : (phases : List JobsPhase)
+    → blocks_of (map block_phase_of phases) ≡ blocks_all (flat_map (λ (phase : JobsPhase). phase.callers) phases)
 flat_blocks [] = refl
 flat_blocks (phase ∷ phases) =
-    ap (λ (bs : List Block). map block_of phase.callers ++ bs) (flat_blocks phases) ∙ sym (map_append block_of phase.callers (flat_map (λ (x : JobsPhase). x.callers) phases))
+    ap (λ (bs : List Block). map block_of phase.callers ++ bs) (flat_blocks phases)
+    ∙ sym (map_append block_of phase.callers (flat_map (λ (x : JobsPhase). x.callers) phases))
 
-blocks_same : (phases : List JobsPhase) → flat_map (λ (phase : JobsPhase). map block_of phase.callers) phases ≡ blocks_all (flat_map (λ (phase : JobsPhase). phase.callers) phases)
+blocks_same : (phases : List JobsPhase)
+    → flat_map (λ (phase : JobsPhase). map block_of phase.callers) phases
+    ≡ blocks_all (flat_map (λ (phase : JobsPhase). phase.callers) phases)
 blocks_same [] = refl
 blocks_same (phase ∷ phases) =
-    ap (λ (bs : List Block). map block_of phase.callers ++ bs) (blocks_same phases) ∙ sym (map_append block_of phase.callers (flat_map (λ (x : JobsPhase). x.callers) phases))
+    ap (λ (bs : List Block). map block_of phase.callers ++ bs) (blocks_same phases)
+    ∙ sym (map_append block_of phase.callers (flat_map (λ (x : JobsPhase). x.callers) phases))
 
-scripts_flat : (p : ℕ) (phases : List JobsPhase) → flat_map (λ (phase : JobsPhase). filter (is_on p) phase.callers) phases ≡ filter (is_on p) (flat_map (λ (phase : JobsPhase). phase.callers) phases)
+scripts_flat : (p : ℕ) (phases : List JobsPhase)
+    → flat_map (λ (phase : JobsPhase). filter (is_on p) phase.callers) phases
+    ≡ filter (is_on p) (flat_map (λ (phase : JobsPhase). phase.callers) phases)
 scripts_flat p [] = refl
 scripts_flat p (phase ∷ phases) =
-    ap (λ (ss : List Script). filter (is_on p) phase.callers ++ ss) (scripts_flat p phases) ∙ sym (filter-append (is_on p) phase.callers (flat_map (λ (x : JobsPhase). x.callers) phases))
+    ap (λ (ss : List Script). filter (is_on p) phase.callers ++ ss) (scripts_flat p phases)
+    ∙ sym (filter-append (is_on p) phase.callers (flat_map (λ (x : JobsPhase). x.callers) phases))
 
-characters_same : (given : Passed) (all before : List Block) (phases : List BlockPhase) (p : ℕ) → character_count p (passed_phases_after given all before phases) ≡ sum_by (λ phase. arrival_count (slice_index_or phase.lines p [])) phases
+characters_same : (given : Passed) (all before : List Block) (phases : List BlockPhase) (p : ℕ)
+    → character_count p (passed_phases_after given all before phases)
+    ≡ sum_by (λ phase. arrival_count (slice_index_or phase.lines p [])) phases
 characters_same given all before [] p = refl
 characters_same given all before (phase ∷ phases) p =
-    let first : PlainPhase = record { lines = phase.lines; ticks = phase.ticks; callers = passed_scripts given all before phase.blocks } in
+    let first : PlainPhase =
+    record { lines = phase.lines; ticks = phase.ticks; callers = passed_scripts given all before phase.blocks } in
     omega (
       arith,
       characters_same given all (before ++ phase.blocks) phases p,
-      sum_by-cons (λ (x : PlainPhase). arrival_count (line_on p x)) first (passed_phases_after given all (before ++ phase.blocks) phases),
+      sum_by-cons (λ (x : PlainPhase). arrival_count (line_on p x)) first
+          (passed_phases_after given all (before ++ phase.blocks) phases),
       sum_by-cons (λ (x : BlockPhase). arrival_count (slice_index_or x.lines p [])) phase phases,
     )
 
-module _ (session : JobsSession) (given : Passed) (p : ℕ) (within : ArePassedWithin given) (of : AreOfCalls p session (given p)) where
+module _ (session : JobsSession) (given : Passed) (p : ℕ) (within : ArePassedWithin given)
+    (of : AreOfCalls p session (given p)) where
   abbrev all_scripts : List Script
   all_scripts = flat_map (λ (phase : JobsPhase). phase.callers) session.phases
 
   asks_for : AsksFor p all_scripts (given p)
   asks_for c step call is =
       let here : job_call_at p session c step ≡ Some call =
-      ap (λ (bs : List Block). numbered_call (names_on p bs) (scripts_over p session) c step) (blocks_same session.phases)
-      ∙ (ap (λ (ss : List Script). numbered_call (names_on p (blocks_all all_scripts)) ss c step) (scripts_flat p session.phases) ∙ is) in
+      ap (λ (bs : List Block). numbered_call (names_on p bs) (scripts_over p session) c step)
+      (blocks_same session.phases)
+      ∙ (ap (λ (ss : List Script). numbered_call (names_on p (blocks_all all_scripts)) ss c step)
+      (scripts_flat p session.phases)
+      ∙ is) in
       few_ask call (calls_at (by_caller c (given p)) step) (within.single p c step)
-      (subst (λ (o : Option JobCall). All (IsFrom o) (calls_at (by_caller c (given p)) step)) here (at_step (job_call_at p session) c step (given p) of))
+      (subst (λ (o : Option JobCall). All (IsFrom o) (calls_at (by_caller c (given p)) step)) here
+      (at_step (job_call_at p session) c step (given p) of))
 
-  scripts_ask : sum_by plain_asks (plain_scripts_over p (passed_phases given (block_phases session))) ≤ sum_by script_asks (scripts_over p session)
+  scripts_ask : sum_by plain_asks (plain_scripts_over p (passed_phases given (block_phases session)))
+      ≤ sum_by script_asks (scripts_over p session)
   scripts_ask =
       let blocks = blocks_of (block_phases session) in
       let over = over_phases given blocks [] (block_phases session) p in
-      let flat = ap (λ (bs : List Block). filter (on_port p) (passed_scripts given bs [] bs)) (flat_blocks session.phases) in
+      let flat =
+      ap (λ (bs : List Block). filter (on_port p) (passed_scripts given bs [] bs)) (flat_blocks session.phases) in
       omega (
         arith,
         ap (λ (ss : List PlainScript). sum_by plain_asks ss) (over ∙ flat),
@@ -268,7 +365,10 @@ module _ (session : JobsSession) (given : Passed) (p : ℕ) (within : ArePassedW
         ap (λ (ss : List Script). sum_by script_asks ss) (scripts_flat p session.phases),
       )
 
-pub asks_no_more : (session : JobsSession) (given : Passed) (played : PlainSession) (p : ℕ) → played.phases ≡ passed_phases given (block_phases session) → ArePassedWithin given → AreOfCalls p session (given p)
+pub asks_no_more : (session : JobsSession) (given : Passed) (played : PlainSession) (p : ℕ)
+    → played.phases ≡ passed_phases given (block_phases session)
+    → ArePassedWithin given
+    → AreOfCalls p session (given p)
     → asked_of p played.phases ≤ asked_on p session
 asks_no_more session given played p are within of =
     let phases = passed_phases given (block_phases session) in

@@ -13,13 +13,18 @@ ghost use Rattle.job_asked.specs.Asked.{asked_on, AreOfCalls};
 
 /// A law: a text is as long as what its session asks of a port, but for one letter.
 pub fn a_text_is_as_long_as_its_session_asks()
-    ensures { (text : List ℕ) (session : JobsSession) (p : ℕ) → jobs_in text ≡ Ok session → asked_on p session ≤ length text + 1 }
+    ensures { (text : List ℕ) (session : JobsSession) (p : ℕ)
+        → jobs_in text ≡ Ok session
+        → asked_on p session ≤ length text + 1 }
 {}
 
 /// A law: what a port was passed asks no more than the session, where at most one call was passed for each call, that
 /// call or one that hands nothing over. So it is with what a log passes down.
 pub fn what_is_passed_asks_no_more()
-    ensures asks { (session : JobsSession) (passed : Passed) (played : PlainSession) (p : ℕ) → played.phases ≡ passed_phases passed (block_phases session)
-        → ArePassedWithin passed → AreOfCalls p session (passed p) → asked_of p played.phases ≤ asked_on p session }
+    ensures asks { (session : JobsSession) (passed : Passed) (played : PlainSession) (p : ℕ)
+        → played.phases ≡ passed_phases passed (block_phases session)
+        → ArePassedWithin passed
+        → AreOfCalls p session (passed p)
+        → asked_of p played.phases ≤ asked_on p session }
     ensures logged { (session : JobsSession) (log : JobLog) (p : ℕ) → AreOfCalls p session (passings_on session log p) }
 {}

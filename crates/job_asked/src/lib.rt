@@ -1,5 +1,5 @@
-//! How much a session of processes asks of a port: no more than its text is long, and what the ports were passed asks no
-//! more than the session.
+//! How much a session of processes asks of a port: no more than its text is long, and what the ports were passed asks
+//! no more than the session.
 #![tactic(auto)]
 
 mod laws;

@@ -1,5 +1,6 @@
 -- How many numbers of a range pass a test.
-use Rattle.std.proofs.Common.{◌≡◌, ℕ, zero, suc, ◌+◌, ◌-◌, ◌<◌, ◌≤◌, Bool, true, false, cond, not, length, ◌&&◌, ◌||◌, List, [], ◌∷◌, ⊎_elim, refl, ap, zero-add, arith}
+use Rattle.std.proofs.Common.{◌≡◌, ℕ, zero, suc, ◌+◌, ◌-◌, ◌<◌, ◌≤◌, Bool, true, false, cond, not}
+use Rattle.std.proofs.Common.{length, ◌&&◌, ◌||◌, List, [], ◌∷◌, ⊎_elim, refl, ap, zero-add, arith}
 use Rattle.std.specs.Prelude.{◌==◌, count_by}
 use Rattle.std.specs.List.{list_any, range_with_len}
 use Rattle.std.proofs.lemmas.List.Sums.{sum_by-cons, count_by-le-length}
@@ -20,7 +21,10 @@ range_step i n lt =
     rw e refl
 
 -- at the end of a range nothing is left to count
-pub counted_over : (f : ℕ → Bool) (i n count total : ℕ) → n ≤ i → count + count_by f (range_with_len i (n - i)) ≡ total → count ≡ total
+pub counted_over : (f : ℕ → Bool) (i n count total : ℕ)
+    → n ≤ i
+    → count + count_by f (range_with_len i (n - i)) ≡ total
+    → count ≡ total
 counted_over f i n count total over told =
     let none : n - i ≡ 0 = omega (arith, over) in
     let rest : count_by f (range_with_len i (n - i)) ≡ 0 = ap (λ m. count_by f (range_with_len i m)) none in
@@ -33,7 +37,8 @@ some_head false rest n e = rw (zero-add n) e
 
 pub list_any_count : {X : Type 0} (f : X → Bool) (xs : List X) → list_any f xs ≡ not (count_by f xs == 0)
 list_any_count f [] = refl
-list_any_count f (x ∷ xs) = rw (count_cons f x xs) (some_head (f x) (list_any f xs) (count_by f xs) (list_any_count f xs))
+list_any_count f (x ∷ xs) =
+    rw (count_cons f x xs) (some_head (f x) (list_any f xs) (count_by f xs) (list_any_count f xs))
 
 -- a test that is parted into two parts the count
 pub count_parted :
@@ -68,16 +73,23 @@ alone_same f q p e =
 none_alone : (f : ℕ → Bool) (q a m : ℕ) → q < a → count_by (alone f q) (range_with_len a m) ≡ 0
 none_alone f q a zero lt = refl
 none_alone f q a (suc m) lt =
-    let step : count_by (alone f q) (a ∷ range_with_len (a + 1) m) ≡ one_if (alone f q a) + count_by (alone f q) (range_with_len (a + 1) m) = count_cons (alone f q) a (range_with_len (a + 1) m) in
+    let step : count_by (alone f q) (a ∷ range_with_len (a + 1) m)
+    ≡ one_if (alone f q a) + count_by (alone f q) (range_with_len (a + 1) m) =
+    count_cons (alone f q) a (range_with_len (a + 1) m) in
     let ne : a ≡ q → ⊥ = λ e. omega arith in
     let head : one_if (alone f q a) ≡ 0 = alone_other f q a ne in
     let rest : count_by (alone f q) (range_with_len (a + 1) m) ≡ 0 = none_alone f q (a + 1) m (omega arith) in
     omega (arith, step, head, rest)
 
-pub count_alone : (f : ℕ → Bool) (q a m : ℕ) → a ≤ q → q < a + m → count_by (alone f q) (range_with_len a m) ≡ one_if (f q)
+pub count_alone : (f : ℕ → Bool) (q a m : ℕ)
+    → a ≤ q
+    → q < a + m
+    → count_by (alone f q) (range_with_len a m) ≡ one_if (f q)
 count_alone f q a zero le lt = absurd (omega arith)
 count_alone f q a (suc m) le lt =
-    let step : count_by (alone f q) (a ∷ range_with_len (a + 1) m) ≡ one_if (alone f q a) + count_by (alone f q) (range_with_len (a + 1) m) = count_cons (alone f q) a (range_with_len (a + 1) m) in
+    let step : count_by (alone f q) (a ∷ range_with_len (a + 1) m)
+    ≡ one_if (alone f q a) + count_by (alone f q) (range_with_len (a + 1) m) =
+    count_cons (alone f q) a (range_with_len (a + 1) m) in
     ⊎_elim
     (λ e.
     let head : one_if (alone f q a) ≡ one_if (f q) = alone_same f q a e in
@@ -85,12 +97,15 @@ count_alone f q a (suc m) le lt =
     omega (arith, step, head, rest))
     (λ ne.
     let head : one_if (alone f q a) ≡ 0 = alone_other f q a ne in
-    let rest : count_by (alone f q) (range_with_len (a + 1) m) ≡ one_if (f q) = count_alone f q (a + 1) m (omega arith) (omega arith) in
+    let rest : count_by (alone f q) (range_with_len (a + 1) m) ≡ one_if (f q) =
+    count_alone f q (a + 1) m (omega arith) (omega arith) in
     omega (arith, step, head, rest))
     (cases_eq a q)
 
 -- the first place of a range, and the rest
-pub count_step : (f : ℕ → Bool) (i n : ℕ) → i < n → count_by f (range_with_len i (n - i)) ≡ one_if (f i) + count_by f (range_with_len (i + 1) (n - (i + 1)))
+pub count_step : (f : ℕ → Bool) (i n : ℕ)
+    → i < n
+    → count_by f (range_with_len i (n - i)) ≡ one_if (f i) + count_by f (range_with_len (i + 1) (n - (i + 1)))
 count_step f i n lt = rw (range_step i n lt) (count_cons f i (range_with_len (i + 1) (n - (i + 1))))
 
 pub count_past : (f : ℕ → Bool) (i n : ℕ) → n ≤ i → count_by f (range_with_len i (n - i)) ≡ 0
@@ -98,7 +113,8 @@ count_past f i n le = let e : n - i ≡ 0 = omega arith in rw e refl
 
 pub count_few : (f : ℕ → Bool) (i n : ℕ) → count_by f (range_with_len i n) ≤ n
 count_few f i n =
-    let most : count_by f (range_with_len i n) ≤ length (range_with_len i n) = count_by-le-length f (range_with_len i n) in
+    let most : count_by f (range_with_len i n) ≤ length (range_with_len i n) =
+    count_by-le-length f (range_with_len i n) in
     let long : length (range_with_len i n) ≡ n = length-range_with_len i n in
     omega (arith, most, long)
 
@@ -106,24 +122,36 @@ pub count_whole : (f : ℕ → Bool) (n : ℕ) → count_by f (range_with_len 0 
 count_whole f n = let e : n - 0 ≡ n = omega arith in rw e refl
 
 -- a count that has come so far, with the rest of the range, is the whole: one more place is looked at
-pub counted_more :
-    (f : ℕ → Bool) (i n old new one total : ℕ) → i < n → one_if (f i) ≡ one → new ≡ old + one
-    → old + count_by f (range_with_len i (n - i)) ≡ total → new + count_by f (range_with_len (i + 1) (n - (i + 1))) ≡ total
+pub counted_more : (f : ℕ → Bool) (i n old new one total : ℕ)
+    → i < n
+    → one_if (f i) ≡ one
+    → new ≡ old + one
+    → old + count_by f (range_with_len i (n - i)) ≡ total
+    → new + count_by f (range_with_len (i + 1) (n - (i + 1))) ≡ total
 counted_more f i n old new one total lt here is before =
-    let step : count_by f (range_with_len i (n - i)) ≡ one_if (f i) + count_by f (range_with_len (i + 1) (n - (i + 1))) = count_step f i n lt in
+    let step : count_by f (range_with_len i (n - i))
+    ≡ one_if (f i) + count_by f (range_with_len (i + 1) (n - (i + 1))) = count_step f i n lt in
     omega (arith, step, here, is, before)
 
-pub counted_all : (f : ℕ → Bool) (i n old total : ℕ) → n ≤ i → old + count_by f (range_with_len i (n - i)) ≡ total → old ≡ total
+pub counted_all : (f : ℕ → Bool) (i n old total : ℕ)
+    → n ≤ i
+    → old + count_by f (range_with_len i (n - i)) ≡ total
+    → old ≡ total
 counted_all f i n old total le before =
     let rest : count_by f (range_with_len i (n - i)) ≡ 0 = count_past f i n le in
     omega (arith, rest, before)
 
-pub counted_none : (f : ℕ → Bool) (n old : ℕ) → old ≡ 0 → old + count_by f (range_with_len 0 (n - 0)) ≡ count_by f (range_with_len 0 n)
+pub counted_none : (f : ℕ → Bool) (n old : ℕ)
+    → old ≡ 0
+    → old + count_by f (range_with_len 0 (n - 0)) ≡ count_by f (range_with_len 0 n)
 counted_none f n old none =
     let whole : count_by f (range_with_len 0 (n - 0)) ≡ count_by f (range_with_len 0 n) = count_whole f n in
     omega (arith, whole, none)
 
-pub counted_few : (f : ℕ → Bool) (i n old : ℕ) → n ≤ 1024 → old + count_by f (range_with_len i (n - i)) ≡ count_by f (range_with_len 0 n) → old < 65535
+pub counted_few : (f : ℕ → Bool) (i n old : ℕ)
+    → n ≤ 1024
+    → old + count_by f (range_with_len i (n - i)) ≡ count_by f (range_with_len 0 n)
+    → old < 65535
 counted_few f i n old few before =
     let most : count_by f (range_with_len 0 n) ≤ n = count_few f 0 n in
     omega (arith, most, before)

@@ -1,6 +1,8 @@
 -- Job control of a port: which session holds it, which group is in the foreground, and what each call makes of that
 -- (termios(3), tcsetpgrp(3), ioctl_tty(2)).
-use Rattle.std.specs.Prelude.{ℕ, ◌==◌, Bool, true, false, not, ◌&&◌, Option, None, Some, Result, Ok, Err, List, length, slice_get, slice_index_or, slice_set, replicate, option_map, option_and_then, is_none, ok_or, ◌||◌, if◌then◌else◌}
+use Rattle.std.specs.Prelude.{ℕ, ◌==◌, Bool, true, false, not, ◌&&◌, Option, None, Some, Result, Ok}
+use Rattle.std.specs.Prelude.{Err, List, length, slice_get, slice_index_or, slice_set, replicate}
+use Rattle.std.specs.Prelude.{option_map, option_and_then, is_none, ok_or, ◌||◌, if◌then◌else◌}
 use Rattle.std.specs.Option.{option_map_or}
 use Rattle.job_control.specs.declared.processes.Proc.{Proc}
 use Rattle.job_control.specs.declared.jobs.Holder.{Holder}
@@ -32,7 +34,8 @@ first_jobs procs = record {
 
 -- the port is the controlling terminal of a process
 abbrev pub is_controlled : JobState → ℕ → Holder → Bool
-is_controlled state p holder = (holder.session == session_at state.procs p) && not (slice_index_or state.given_up p false)
+is_controlled state p holder =
+    (holder.session == session_at state.procs p) && not (slice_index_or state.given_up p false)
 
 abbrev pub controls : JobState → ℕ → Bool
 controls state p = option_map_or (is_controlled state p) state.holder false
@@ -40,7 +43,8 @@ controls state p = option_map_or (is_controlled state p) state.holder false
 -- it is, and the group of the process is not in the foreground
 abbrev pub in_background : JobState → ℕ → Bool
 in_background state p =
-    option_map_or (λ holder. is_controlled state p holder && not (holder.foreground == group_at state.procs p)) state.holder false
+    option_map_or (λ holder. is_controlled state p holder && not (holder.foreground == group_at state.procs p))
+    state.holder false
 
 -- the process leads the session that holds the port
 abbrev pub leads_holder : JobState → ℕ → Bool
@@ -124,7 +128,9 @@ in_front group holder = record holder { foreground = group }
 
 abbrev pub after_spgrp : JobState → ℕ → (group : ℕ) → JobState
 after_spgrp state p group =
-    if is_none (spgrp_refusal state p group) then record state { holder = option_map (in_front group) state.holder } else state
+    if is_none (spgrp_refusal state p group)
+    then record state { holder = option_map (in_front group) state.holder }
+    else state
 
 -- a process ends, and where it leads the session that holds the port, nobody holds it
 abbrev pub after_exit : JobState → ℕ → JobState

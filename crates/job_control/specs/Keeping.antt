@@ -1,5 +1,7 @@
 -- What `Jobs` keeps beside its state, so that no call looks through all processes: for private functions alone.
-use Rattle.std.specs.Prelude.{◌≡◌, ℕ, ◌+◌, ◌*◌, ◌==◌, ◌<◌, ◌≤◌, Bool, false, not, ◌&&◌, ◌||◌, List, [], ◌∷◌, ◌++◌, Option, None, Some, filter, length, slice_index, slice_index_or, slice_set, count_by, nat_eq, unwrap_or, if◌then◌else◌}
+use Rattle.std.specs.Prelude.{◌≡◌, ℕ, ◌+◌, ◌*◌, ◌==◌, ◌<◌, ◌≤◌, Bool, false, not, ◌&&◌, ◌||◌, List}
+use Rattle.std.specs.Prelude.{[], ◌∷◌, ◌++◌, Option, None, Some, filter, length, slice_index}
+use Rattle.std.specs.Prelude.{slice_index_or, slice_set, count_by, nat_eq, unwrap_or, if◌then◌else◌}
 use Rattle.std.specs.HashMap.{get}
 use Rattle.std.specs.Option.{option_map_or}
 use Rattle.job_control.specs.declared.processes.Proc.{Proc}
@@ -54,7 +56,8 @@ children_of procs parent = filter (is_child procs parent) (places_of procs)
 -- the lists with one child more; a process is no child of its own
 abbrev pub with_child : List (List ℕ) → (parent : Option ℕ) → (p : ℕ) → List (List ℕ)
 with_child lists None p = lists
-with_child lists (Some parent) p = if parent == p then lists else slice_set lists parent (slice_index_or lists parent [] ++ p ∷ [])
+with_child lists (Some parent) p =
+    if parent == p then lists else slice_set lists parent (slice_index_or lists parent [] ++ p ∷ [])
 
 -- a list for each process, of its children
 abbrev pub AreChildren : List Proc → List (List ℕ) → Type 0
@@ -66,7 +69,8 @@ one_at key k = if key == k then 1 else 0
 
 -- the numbers that are kept are those counts, the lists those of children, the list of exits has a place for each
 -- process, and no mark is ahead of the number of times that the port was taken
-pub record IsKept (procs : List Proc) (exited : List Bool) (given_up_at : List ℕ) (taken : ℕ) (ties living : Census) (children : List (List ℕ)) : Type 0 where
+pub record IsKept (procs : List Proc) (exited : List Bool) (given_up_at : List ℕ) (taken : ℕ) (ties living : Census)
+    (children : List (List ℕ)) : Type 0 where
   pub few : length procs ≤ 1024
   pub groups_fit : (p : ℕ) → group_at procs p < 65536
   pub exits_fit : length exited ≡ length procs

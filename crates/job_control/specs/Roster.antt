@@ -1,6 +1,7 @@
 -- The processes of a port, named by their places; and which of them keep a group from being orphaned (termios(3),
 -- setpgid(2)).
-use Rattle.std.specs.Prelude.{ℕ, ◌==◌, Bool, true, false, not, ◌&&◌, Option, None, List, length, slice_get, slice_index_or}
+use Rattle.std.specs.Prelude.{ℕ, ◌==◌, Bool, true, false, not, ◌&&◌, Option}
+use Rattle.std.specs.Prelude.{None, List, length, slice_get, slice_index_or}
 use Rattle.std.specs.List.{list_any, range_with_len}
 use Rattle.std.specs.Option.{option_map_or}
 use Rattle.job_control.specs.declared.processes.Proc.{Proc}

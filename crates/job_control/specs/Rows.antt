@@ -4,10 +4,26 @@ use Rattle.job_control.specs.declared.processes.Proc.{Proc}
 use Rattle.job_control.specs.Control.{JobState, first_jobs, after_sctty, after_spgrp}
 
 abbrev pub leader_proc : Proc
-leader_proc = record { name = record { bytes = []; spare = [] }; session = 1; group = 1; parent = None; leader = true; nottin = false; nottou = false }
+leader_proc = record {
+  name = record { bytes = []; spare = [] };
+  session = 1;
+  group = 1;
+  parent = None;
+  leader = true;
+  nottin = false;
+  nottou = false;
+}
 
 abbrev pub member_of : (group : ℕ) → (parent : Option ℕ) → Proc
-member_of group parent = record { name = record { bytes = []; spare = [] }; session = 1; group = group; parent = parent; leader = false; nottin = false; nottou = false }
+member_of group parent = record {
+  name = record { bytes = []; spare = [] };
+  session = 1;
+  group = group;
+  parent = parent;
+  leader = false;
+  nottin = false;
+  nottou = false;
+}
 
 abbrev pub family : List Proc
 family = leader_proc ∷ member_of 2 (Some 0) ∷ member_of 2 (Some 1) ∷ []

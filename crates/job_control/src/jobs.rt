@@ -1,9 +1,13 @@
 //! Who holds a port, which group is in the foreground, and what each call of job control does.
 
-ghost use Rattle.std.specs.Prelude.{◌≡◌, ◌==◌, ◌<◌, ◌≤◌, ℕ, false, true, length, map, slice_get, slice_index, slice_index_or, slice_set, replicate, EachIndex, IfOk};
+ghost use Rattle.std.specs.Prelude.{◌≡◌, ◌==◌, ◌<◌, ◌≤◌, ℕ, false, true, length, map, slice_get};
+ghost use Rattle.std.specs.Prelude.{slice_index, slice_index_or, slice_set, replicate, EachIndex, IfOk};
 ghost use Rattle.std.specs.Option.{option_map_or};
 ghost use Rattle.job_control.specs.Roster.{group_at, has_living};
-ghost use Rattle.job_control.specs.Control.{first_jobs, controls, in_background, leads_holder, ignores_ttin, ignores_ttou, is_orphan, change_judged, judged, done_unless, sctty_refusal, after_sctty, no_terminal, let_go, after_notty, foreground_of, gpgrp_answer, spgrp_refusal, after_spgrp, after_exit, leader_of};
+ghost use Rattle.job_control.specs.Control.{first_jobs, controls, in_background, leads_holder, ignores_ttin};
+ghost use Rattle.job_control.specs.Control.{ignores_ttou, is_orphan, change_judged, judged, done_unless, sctty_refusal};
+ghost use Rattle.job_control.specs.Control.{after_sctty, no_terminal, let_go, after_notty, foreground_of, gpgrp_answer};
+ghost use Rattle.job_control.specs.Control.{spgrp_refusal, after_spgrp, after_exit, leader_of};
 
 use super::census::Census;
 use super::processes::{JobAct, JobRefusal, JobSignal, Judged, Proc};
@@ -54,7 +58,8 @@ impl Model for Jobs {
       holder = j.holder;
     } };
 
-    ghost invariant = { λ j. IsKept j.procs.items j.exited.items j.given_up_at.items j.taken j.ties j.living (map (λ list. list.items) j.children.items) };
+    ghost invariant = { λ j. IsKept j.procs.items j.exited.items j.given_up_at.items j.taken j.ties j.living
+        (map (λ list. list.items) j.children.items) };
 }
 
 impl Jobs {

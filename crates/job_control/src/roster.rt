@@ -1,8 +1,11 @@
 //! What is asked of a list of processes, by place.
 
-ghost use Rattle.std.specs.Prelude.{◌≡◌, ℕ, ◌-◌, ◌+◌, ◌≤◌, ◌<◌, ◌==◌, [], ◌∷◌, ◌++◌, count_by, length, map, replicate, slice_index_or, slice_set, IfOk, OnOk};
-ghost use Rattle.job_control.specs.Roster.{session_at, group_at, parent_at, leads_at, has_exited, ties_to, is_tied, places_of};
-ghost use Rattle.job_control.specs.Keeping.{AreChildren, children_of, counted, key_of, key_at, life_of, looses, tie_of, ties_count, living_count, with_child};
+ghost use Rattle.std.specs.Prelude.{◌≡◌, ℕ, ◌-◌, ◌+◌, ◌≤◌, ◌<◌, ◌==◌, [], ◌∷◌, ◌++◌, count_by};
+ghost use Rattle.std.specs.Prelude.{length, map, replicate, slice_index_or, slice_set, IfOk, OnOk};
+ghost use Rattle.job_control.specs.Roster.{session_at, group_at, parent_at, leads_at};
+ghost use Rattle.job_control.specs.Roster.{has_exited, ties_to, is_tied, places_of};
+ghost use Rattle.job_control.specs.Keeping.{AreChildren, children_of, counted, key_of, key_at, life_of};
+ghost use Rattle.job_control.specs.Keeping.{looses, tie_of, ties_count, living_count, with_child};
 
 use super::census::Census;
 use super::processes::Proc;
@@ -122,7 +125,9 @@ pub(crate) fn end_life(living: &mut Census, procs: &[Proc], exited: &[bool], gon
 pub(crate) fn untie(ties: &mut Census, procs: &[Proc], exited: &[bool], children: &[u16], gone: u16)
     requires children { children.now ≡ children_of procs.now gone }
     requires within { gone < length procs.now }
-    ensures { (group : ℕ) → counted ties.new group ≡ counted ties.old group - count_by (looses procs.now exited.now gone group) (places_of procs.now) }
+    ensures { (group : ℕ)
+        → counted ties.new group
+        ≡ counted ties.old group - count_by (looses procs.now exited.now gone group) (places_of procs.now) }
 {
     untie_one(ties, procs, exited, gone);
     for child in children {
@@ -162,7 +167,8 @@ fn empty_lists(alloc: Global, count: usize) -> Result<Vec<Vec<u16>>, NoMemory>
 
 /// Adds a process to its parent's list. It is no child of its own.
 fn add_child(lists: &mut Vec<Vec<u16>>, parent: Option<u16>, place: u16) -> Result<(), NoMemory>
-    ensures { OnOk result (map (λ list. list.items) lists.new.items ≡ with_child (map (λ list. list.items) lists.old.items) parent place) }
+    ensures { OnOk result (map (λ list. list.items) lists.new.items
+        ≡ with_child (map (λ list. list.items) lists.old.items) parent place) }
 {
     match parent {
         None => Ok(()),
@@ -177,7 +183,8 @@ fn add_child(lists: &mut Vec<Vec<u16>>, parent: Option<u16>, place: u16) -> Resu
 
 fn add_at(lists: &mut [Vec<u16>], at: usize, place: u16) -> Result<(), NoMemory>
     ensures { OnOk result (map (λ list. list.items) lists.new
-        ≡ slice_set (map (λ list. list.items) lists.old) at (slice_index_or (map (λ list. list.items) lists.old) at [] ++ place ∷ [])) }
+        ≡ slice_set (map (λ list. list.items) lists.old) at
+        (slice_index_or (map (λ list. list.items) lists.old) at [] ++ place ∷ [])) }
 {
     if at < lists.len() {
         lists[at].push(place)?;

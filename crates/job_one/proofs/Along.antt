@@ -1,5 +1,6 @@
 -- The desk goes along with the line of a phase.
-use Rattle.std.proofs.Common.{◌≡◌, ◌≤◌, ℕ, ◌+◌, Bool, true, false, List, [], ◌∷◌, ◌++◌, IsTrue, if◌then◌else◌, length, drop, refl, sym, ap, ◌∙◌, subst, arith, append-nil, length-drop}
+use Rattle.std.proofs.Common.{◌≡◌, ◌≤◌, ℕ, ◌+◌, Bool, true, false, List, [], ◌∷◌, ◌++◌, IsTrue, if◌then◌else◌}
+use Rattle.std.proofs.Common.{length, drop, refl, sym, ap, ◌∙◌, subst, arith, append-nil, length-drop}
 use Rattle.std.specs.Prelude.{All}
 use Rattle.std.proofs.lemmas.Bool.{false≢true}
 use Rattle.std.proofs.lemmas.List.Elements.{All-head}
@@ -11,9 +12,11 @@ use Rattle.uart_line.specs.LineState.{LineState}
 use Rattle.tty_calls.specs.declared.answers.Denied.{Denied}
 use Rattle.tty_calls.specs.declared.answers.Denied.TheVariants.{NoMemory, Full}
 use Rattle.tty_calls.specs.declared.journals.Who.TheVariants.{Line}
-use Rattle.tty_calls.specs.Plain.{PlainEvent, answered, parted, waited, flushed, ticked, line_ended, clock_ended, caller_ended, phase_ended, hung_up, PlainEntry, is_caller}
+use Rattle.tty_calls.specs.Plain.{PlainEvent, answered, parted, waited, flushed, ticked, line_ended}
+use Rattle.tty_calls.specs.Plain.{clock_ended, caller_ended, phase_ended, hung_up, PlainEntry, is_caller}
 use Rattle.tty_terminal.specs.Terminals.{Terminal, caller_at, has_begun}
-use Rattle.tty_terminal.specs.Standing.{Standing, standing_of, standing_in, standing_after, standing_after_own, standing_after_other, at_first}
+use Rattle.tty_terminal.specs.Standing.{Standing, standing_of, standing_in, standing_after}
+use Rattle.tty_terminal.specs.Standing.{standing_after_own, standing_after_other, at_first}
 use Rattle.tty_terminal.specs.Runs.{Grows, is_flush}
 use Rattle.tty_terminal.proofs.StandingLaws.{run_stands}
 use Rattle.port_core.specs.Flips.{after_meeting}
@@ -90,41 +93,65 @@ either_kept : (b : Bool) (x y q : Standing) → IsBegunAs x q → IsBegunAs y q 
 either_kept true x y q h k = h
 either_kept false x y q h k = k
 
-in_more : (c : ℕ) (es : List PlainEntry) (e : PlainEntry) (q : Standing) → standing_in c (es ++ e ∷ []) q ≡ standing_after c e (standing_in c es q)
+in_more : (c : ℕ) (es : List PlainEntry) (e : PlainEntry) (q : Standing)
+    → standing_in c (es ++ e ∷ []) q ≡ standing_after c e (standing_in c es q)
 in_more c [] e q = refl
 in_more c (x ∷ es) e q = in_more c es e (standing_after c x q)
 
 -- by one entry of no call
-pub kept_by : (v w : PortValue) (e : PlainEntry) → IsPort v → IsPort w → w.journal ≡ v.journal ++ e ∷ [] → keeps e.event ≡ true → (c : ℕ) → IsBegunAs (standing_of (caller_at w.terminal c)) (standing_of (caller_at v.terminal c))
+pub kept_by : (v w : PortValue) (e : PlainEntry)
+    → IsPort v
+    → IsPort w
+    → w.journal ≡ v.journal ++ e ∷ []
+    → keeps e.event ≡ true
+    → (c : ℕ)
+    → IsBegunAs (standing_of (caller_at w.terminal c)) (standing_of (caller_at v.terminal c))
 kept_by v w e port later added keeps_it c =
-    let was : standing_of (caller_at v.terminal c) ≡ standing_in c v.journal at_first = run_stands (call_in v.kept) v.counts v.flip.capacity v.journal v.terminal port.run c in
+    let was : standing_of (caller_at v.terminal c) ≡ standing_in c v.journal at_first =
+    run_stands (call_in v.kept) v.counts v.flip.capacity v.journal v.terminal port.run c in
     let is : standing_of (caller_at w.terminal c) ≡ standing_after c e (standing_of (caller_at v.terminal c)) =
     run_stands (call_in w.kept) w.counts w.flip.capacity w.journal w.terminal later.run c
-    ∙ (ap (λ (es : List PlainEntry). standing_in c es at_first) added ∙ (in_more c v.journal e at_first ∙ ap (standing_after c e) (sym was))) in
+    ∙ (ap (λ (es : List PlainEntry). standing_in c es at_first) added
+    ∙ (in_more c v.journal e at_first ∙ ap (standing_after c e) (sym was))) in
     let q : Standing = standing_of (caller_at v.terminal c) in
     subst (λ (s : Standing). IsBegunAs s q) (sym is)
-    (either_kept (is_caller e.who c) (standing_after_own e.event e.generation q) (standing_after_other e.event q) q (own_kept e.event e.generation q keeps_it) (other_kept e.event q))
+    (either_kept (is_caller e.who c) (standing_after_own e.event e.generation q) (standing_after_other e.event q) q
+    (own_kept e.event e.generation q keeps_it) (other_kept e.event q))
 
-pub had_by : (v w : PortValue) (e : PlainEntry) → IsPort v → IsPort w → w.journal ≡ v.journal ++ e ∷ [] → keeps e.event ≡ true → (c : ℕ) → HadBegun v w c
+pub had_by : (v w : PortValue) (e : PlainEntry)
+    → IsPort v
+    → IsPort w
+    → w.journal ≡ v.journal ++ e ∷ []
+    → keeps e.event ≡ true
+    → (c : ℕ)
+    → HadBegun v w c
 had_by v w e port later added keeps_it c begun =
     let kept = kept_by v w e port later added keeps_it c in
     (sym kept.0 ∙ begun, kept.1)
 
 -- where the callers are as before
 had_same : (v w : PortValue) → w.terminal ≡ v.terminal → (c : ℕ) → HadBegun v w c
-had_same v w same c begun =
-    (ap (λ (t : Terminal). has_begun (caller_at t c)) (sym same) ∙ begun, ap (λ (t : Terminal). (caller_at t c).next) same)
+had_same v w same c begun = (
+  ap (λ (t : Terminal). has_begun (caller_at t c)) (sym same) ∙ begun,
+  ap (λ (t : Terminal). (caller_at t c).next) same,
+)
 
 pub same_kept : (v w : PortValue) → w.kept ≡ v.kept → Grows (call_in v.kept) (call_in w.kept)
 same_kept v w same = subst (λ ks. Grows (call_in v.kept) (call_in ks)) (sym same) (λ c step call is. is)
 
 -- ---- a flush at most, and the signals behind it
 
-pub stands_on : (first : Scene) (session : JobsSession) (v w : PortValue) (part : List PlainEntry) (d : DeskState) → ComesBy v w part → ((c : ℕ) → HadBegun v w c) → StandsAt first session v d → StandsAt first session w d
-stands_on first session v w part d by had h = record { number = h.number; desk = desk_stays first session d.log v w part d.jobs d.next d.sent [] by had h.desk }
+pub stands_on : (first : Scene) (session : JobsSession) (v w : PortValue) (part : List PlainEntry) (d : DeskState)
+    → ComesBy v w part
+    → ((c : ℕ) → HadBegun v w c)
+    → StandsAt first session v d
+    → StandsAt first session w d
+stands_on first session v w part d by had h =
+    record { number = h.number; desk = desk_stays first session d.log v w part d.jobs d.next d.sent [] by had h.desk }
 
 no_new : (w : PortValue) (d : DeskState) → length (signals_of w.terminal) ≤ d.sent → new_sent_on w d ≡ d
-no_new w d few = ap (λ (ss : List Signal). all_sent_on w ss d) (empty (drop d.sent (signals_of w.terminal)) (omega (arith, few, length-drop d.sent (signals_of w.terminal))))
+no_new w d few = ap (λ (ss : List Signal). all_sent_on w ss d)
+    (empty (drop d.sent (signals_of w.terminal)) (omega (arith, few, length-drop d.sent (signals_of w.terminal))))
   where
     empty : (ss : List Signal) → length ss ≡ 0 → ss ≡ []
     empty [] e = refl
@@ -134,33 +161,67 @@ alone_new : (w : PortValue) (d : DeskState) → SendsAlone d (new_sent_on w d)
 alone_new w d = record { same = same_desk w d; passes = λ session. all_pass session w d }
 
 pub alone_none : (d : DeskState) → SendsAlone d d
-alone_none d = record { same = record { number = refl; callers = refl; jobs = refl; next = refl }; passes = λ session. refl }
+alone_none d =
+    record { same = record { number = refl; callers = refl; jobs = refl; next = refl }; passes = λ session. refl }
 
-flush_stands : (v w : PortValue) (part : List PlainEntry) → IsPort v → IsPort w → (h : FlushesOnce v w) → h.part ≡ part → length part ≤ 1
-    → (first : Scene) (session : JobsSession) (d : DeskState) → StandsAt first session v d → StandsAt first session w d
+flush_stands : (v w : PortValue) (part : List PlainEntry)
+    → IsPort v
+    → IsPort w
+    → (h : FlushesOnce v w)
+    → h.part ≡ part
+    → length part ≤ 1
+    → (first : Scene) (session : JobsSession) (d : DeskState)
+    → StandsAt first session v d
+    → StandsAt first session w d
 flush_stands v w [] port later h is few first session d stands =
-    stands_on first session v w [] d (record { added = h.added ∙ ap (λ (es : List PlainEntry). v.journal ++ es) is; grows = same_kept v w h.kept; counts = h.counts; capacity = h.capacity })
+    stands_on first session v w [] d
+    (record {
+      added = h.added ∙ ap (λ (es : List PlainEntry). v.journal ++ es) is;
+      grows = same_kept v w h.kept;
+      counts = h.counts;
+      capacity = h.capacity;
+    })
     (had_same v w (h.stays is)) stands
 flush_stands v w (e ∷ []) port later h is few first session d stands =
     let added : w.journal ≡ v.journal ++ e ∷ [] = h.added ∙ ap (λ (es : List PlainEntry). v.journal ++ es) is in
-    let one : IsTrue (is_flush e.event) = All-head (λ (x : PlainEntry). IsTrue (is_flush x.event)) e [] (subst (λ (es : List PlainEntry). All (λ x. IsTrue (is_flush x.event)) es) is h.flushes) in
-    stands_on first session v w (e ∷ []) d (record { added = added; grows = same_kept v w h.kept; counts = h.counts; capacity = h.capacity })
+    let one : IsTrue (is_flush e.event) =
+    All-head (λ (x : PlainEntry). IsTrue (is_flush x.event)) e []
+    (subst (λ (es : List PlainEntry). All (λ x. IsTrue (is_flush x.event)) es) is h.flushes) in
+    stands_on first session v w (e ∷ []) d
+    (record { added = added; grows = same_kept v w h.kept; counts = h.counts; capacity = h.capacity })
     (had_by v w e port later added (flush_keeps e.event one)) stands
 flush_stands v w (e ∷ x ∷ part) port later h is few first session d stands = absurd (omega (arith, few))
 
 -- no call was begun
-flush_begun : (v w : PortValue) (part : List PlainEntry) → IsPort v → IsPort w → (h : FlushesOnce v w) → h.part ≡ part → length part ≤ 1 → (c : ℕ) → HadBegun v w c
+flush_begun : (v w : PortValue) (part : List PlainEntry)
+    → IsPort v
+    → IsPort w
+    → (h : FlushesOnce v w)
+    → h.part ≡ part
+    → length part ≤ 1
+    → (c : ℕ)
+    → HadBegun v w c
 flush_begun v w [] port later h is few c = had_same v w (h.stays is) c
 flush_begun v w (e ∷ []) port later h is few c =
     let added : w.journal ≡ v.journal ++ e ∷ [] = h.added ∙ ap (λ (es : List PlainEntry). v.journal ++ es) is in
-    let one : IsTrue (is_flush e.event) = All-head (λ (x : PlainEntry). IsTrue (is_flush x.event)) e [] (subst (λ (es : List PlainEntry). All (λ x. IsTrue (is_flush x.event)) es) is h.flushes) in
+    let one : IsTrue (is_flush e.event) =
+    All-head (λ (x : PlainEntry). IsTrue (is_flush x.event)) e []
+    (subst (λ (es : List PlainEntry). All (λ x. IsTrue (is_flush x.event)) es) is h.flushes) in
     had_by v w e port later added (flush_keeps e.event one) c
 flush_begun v w (e ∷ x ∷ part) port later h is few c = absurd (omega (arith, few))
 
-flush_dates : (v w : PortValue) (part : List PlainEntry) → IsPort v → IsPort w → (h : FlushesOnce v w) → h.part ≡ part → length part ≤ 1
-    → (first : Scene) (session : JobsSession) (d : DeskState) → IsUpToDate first session v d → IsUpToDate first session w (new_sent_on w d)
+flush_dates : (v w : PortValue) (part : List PlainEntry)
+    → IsPort v
+    → IsPort w
+    → (h : FlushesOnce v w)
+    → h.part ≡ part
+    → length part ≤ 1
+    → (first : Scene) (session : JobsSession) (d : DeskState)
+    → IsUpToDate first session v d
+    → IsUpToDate first session w (new_sent_on w d)
 flush_dates v w [] port later h is few first session d up =
-    let none : length (signals_of w.terminal) ≤ d.sent = subst (λ (t : Terminal). length (signals_of t) ≤ d.sent) (sym (h.stays is)) up.all_sent in
+    let none : length (signals_of w.terminal) ≤ d.sent =
+    subst (λ (t : Terminal). length (signals_of t) ≤ d.sent) (sym (h.stays is)) up.all_sent in
     subst (λ (x : DeskState). IsUpToDate first session w x) (sym (no_new w d none))
     (record { stands = flush_stands v w [] port later h is few first session d up.stands; all_sent = none })
 flush_dates v w (e ∷ []) port later h is few first session d up =
@@ -172,17 +233,36 @@ flush_dates v w (e ∷ []) port later h is few first session d up =
       by = record { added = added; grows = same_kept v w h.kept; counts = h.counts; capacity = h.capacity };
       fresh = up.all_sent;
     } in
-    record { stands = all_stand first session w d later raised (flush_stands v w (e ∷ []) port later h is few first session d up.stands); all_sent = sent_up w d }
+    record {
+      stands = all_stand first session w d later raised
+          (flush_stands v w (e ∷ []) port later h is few first session d up.stands);
+      all_sent = sent_up w d;
+    }
 flush_dates v w (e ∷ x ∷ part) port later h is few first session d up = absurd (omega (arith, few))
 
-pub flush_sends : (v w : PortValue) (d x : DeskState) → IsPort v → IsPort w → FlushesOnce v w → x ≡ new_sent_on w d → SendsAlong v w d x
+pub flush_sends : (v w : PortValue) (d x : DeskState)
+    → IsPort v
+    → IsPort w
+    → FlushesOnce v w
+    → x ≡ new_sent_on w d
+    → SendsAlong v w d x
 flush_sends v w d x port later h is =
     subst (λ (y : DeskState). SendsAlong v w d y) (sym is)
-    (record { alone = alone_new w d; kept = h.kept; begun = flush_begun v w h.part port later h refl h.few; each = λ first session up. flush_dates v w h.part port later h refl h.few first session d up })
+    (record {
+      alone = alone_new w d;
+      kept = h.kept;
+      begun = flush_begun v w h.part port later h refl h.few;
+      each = λ first session up. flush_dates v w h.part port later h refl h.few first session d up;
+    })
 
 pub flush_stops : (v w : PortValue) (d : DeskState) → IsPort v → IsPort w → FlushesOnce v w → StopsAlong v w d d
 flush_stops v w d port later h =
-    record { alone = alone_none d; kept = h.kept; begun = flush_begun v w h.part port later h refl h.few; each = λ first session up. flush_stands v w h.part port later h refl h.few first session d up.stands }
+    record {
+      alone = alone_none d;
+      kept = h.kept;
+      begun = flush_begun v w h.part port later h refl h.few;
+      each = λ first session up. flush_stands v w h.part port later h refl h.few first session d up.stands;
+    }
 
 pub stops_by : (denied : Denied) (v w : PortValue) (d x : DeskState) → StopsAlong v w d x → StopsBy denied v w d x
 stops_by NoMemory v w d x h = tt
@@ -198,7 +278,9 @@ alone_more d x y h k = record {
     jobs = k.same.jobs ∙ h.same.jobs;
     next = k.same.next ∙ h.same.next;
   };
-  passes = λ session. subst (λ (p : ℕ). passings_on session y.log p ≡ passings_on session x.log p) h.same.number (k.passes session) ∙ h.passes session;
+  passes = λ session.
+      subst (λ (p : ℕ). passings_on session y.log p ≡ passings_on session x.log p) h.same.number (k.passes session)
+      ∙ h.passes session;
 }
 
 had_more : (u v w : PortValue) (c : ℕ) → HadBegun u v c → HadBegun v w c → HadBegun u w c
@@ -208,37 +290,70 @@ pub sends_none : (v : PortValue) (d : DeskState) → SendsAlong v v d d
 sends_none v d = record { alone = alone_none d; kept = refl; begun = λ c is. (is, refl); each = λ first session up. up }
 
 pub sends_more : (u v w : PortValue) (d x y : DeskState) → SendsAlong u v d x → SendsAlong v w x y → SendsAlong u w d y
-sends_more u v w d x y h k = record { alone = alone_more d x y h.alone k.alone; kept = k.kept ∙ h.kept; begun = λ c. had_more u v w c (h.begun c) (k.begun c); each = λ first session up. k.each first session (h.each first session up) }
+sends_more u v w d x y h k = record {
+  alone = alone_more d x y h.alone k.alone;
+  kept = k.kept ∙ h.kept;
+  begun = λ c. had_more u v w c (h.begun c) (k.begun c);
+  each = λ first session up. k.each first session (h.each first session up);
+}
 
-pub stops_more : (denied : Denied) (u v w : PortValue) (d x y : DeskState) → SendsAlong u v d x → StopsBy denied v w x y → StopsBy denied u w d y
+pub stops_more : (denied : Denied) (u v w : PortValue) (d x y : DeskState)
+    → SendsAlong u v d x
+    → StopsBy denied v w x y
+    → StopsBy denied u w d y
 stops_more NoMemory u v w d x y h k = tt
-stops_more Full u v w d x y h k = record { alone = alone_more d x y h.alone k.alone; kept = k.kept ∙ h.kept; begun = λ c. had_more u v w c (h.begun c) (k.begun c); each = λ first session up. k.each first session (h.each first session up) }
+stops_more Full u v w d x y h k = record {
+  alone = alone_more d x y h.alone k.alone;
+  kept = k.kept ∙ h.kept;
+  begun = λ c. had_more u v w c (h.begun c) (k.begun c);
+  each = λ first session up. k.each first session (h.each first session up);
+}
 
 -- want of memory tells nothing
 pub memory_stops : (denied : Denied) (v w : PortValue) (d x : DeskState) → denied ≡ NoMemory → StopsBy denied v w d x
 memory_stops denied v w d x is = subst (λ (y : Denied). StopsBy y v w d x) (sym is) tt
 
-pub memory_steps : (denied : Denied) (steps : List LineStep) (v w : PortValue) (putter now : PutterState Flagged) (line next : LineState) (run : ℕ) → denied ≡ NoMemory → StopsSteps denied steps v w putter now line next run
+pub memory_steps : (denied : Denied) (steps : List LineStep) (v w : PortValue) (putter now : PutterState Flagged)
+    (line next : LineState) (run : ℕ)
+    → denied ≡ NoMemory
+    → StopsSteps denied steps v w putter now line next run
 memory_steps denied steps v w putter now line next run is =
-    subst (λ (y : Denied). StopsSteps y steps v w putter now line next run) (sym is) (record { each = λ b done left script i. tt })
+    subst (λ (y : Denied). StopsSteps y steps v w putter now line next run) (sym is)
+    (record { each = λ b done left script i. tt })
 
 -- ---- the ends of the line
 
 -- both ends of the flip buffer meet
-pub meeting_sends : (v w : PortValue) (putter : PutterState Flagged) (d : DeskState) → w ≡ record v { flip = after_meeting v.flip putter } → SendsAlong v w d d
+pub meeting_sends : (v w : PortValue) (putter : PutterState Flagged) (d : DeskState)
+    → w ≡ record v { flip = after_meeting v.flip putter }
+    → SendsAlong v w d d
 meeting_sends v w putter d is =
     let met : PortValue = record v { flip = after_meeting v.flip putter } in
-    let by : ComesBy v met [] = record { added = sym (append-nil v.journal); grows = λ c step call at. at; counts = refl; capacity = refl } in
+    let by : ComesBy v met [] =
+    record { added = sym (append-nil v.journal); grows = λ c step call at. at; counts = refl; capacity = refl } in
     subst (λ (x : PortValue). SendsAlong v x d d) (sym is)
-    (record { alone = alone_none d; kept = refl; begun = had_same v met refl; each = λ first session up. record { stands = stands_on first session v met [] d by (had_same v met refl) up.stands; all_sent = up.all_sent } })
+    (record {
+      alone = alone_none d;
+      kept = refl;
+      begun = had_same v met refl;
+      each = λ first session up. record {
+        stands = stands_on first session v met [] d by (had_same v met refl) up.stands;
+        all_sent = up.all_sent;
+      };
+    })
 
 -- the line's end is noted in the journal
-pub line_end_sends : (v w : PortValue) (putter now : PutterState Flagged) (d : DeskState) → IsPort v → IsPort w → EndsLine v w putter now → SendsAlong v w d d
+pub line_end_sends : (v w : PortValue) (putter now : PutterState Flagged) (d : DeskState)
+    → IsPort v
+    → IsPort w
+    → EndsLine v w putter now
+    → SendsAlong v w d d
 line_end_sends v w putter now d port later ends =
     let e : PlainEntry = phase_entry v Line (line_ended (length putter.sent)) in
     let appended = ends.appends.appended in
     let added : w.journal ≡ v.journal ++ e ∷ [] = ap (λ (x : PortValue). x.journal) appended in
-    let still : signals_of w.terminal ≡ signals_of v.terminal = ap (λ (x : PortValue). signals_of x.terminal) appended ∙ entry_still (call_in v.kept) v.terminal e refl in
+    let still : signals_of w.terminal ≡ signals_of v.terminal =
+    ap (λ (x : PortValue). signals_of x.terminal) appended ∙ entry_still (call_in v.kept) v.terminal e refl in
     let by : ComesBy v w (e ∷ []) = record {
       added = added;
       grows = same_kept v w (ap (λ (x : PortValue). x.kept) appended);
@@ -259,4 +374,5 @@ line_end_sends v w putter now d port later ends =
 pub line_end_stops : (denied : Denied) (v w : PortValue) (d : DeskState) → Denies denied v w → StopsBy denied v w d d
 line_end_stops NoMemory v w d h = tt
 line_end_stops Full v w d h =
-    subst (λ (x : PortValue). StopsAlong v x d d) (sym h.1) (record { alone = alone_none d; kept = refl; begun = λ c is. (is, refl); each = λ first session up. up.stands })
+    subst (λ (x : PortValue). StopsAlong v x d d) (sym h.1)
+    (record { alone = alone_none d; kept = refl; begun = λ c is. (is, refl); each = λ first session up. up.stands })

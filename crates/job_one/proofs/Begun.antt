@@ -1,11 +1,14 @@
 -- Where a call of a caller first stands in the journal.
-use Rattle.std.proofs.Common.{◌≡◌, ◌≤◌, ◌<◌, ℕ, suc, ◌+◌, Bool, true, false, not, ◌&&◌, ◌==◌, List, [], ◌∷◌, ◌++◌, Option, None, Some, length, cond, if◌then◌else◌, refl, sym, ap, ◌∙◌, subst, arith, length-append, append_assoc}
+use Rattle.std.proofs.Common.{◌≡◌, ◌≤◌, ◌<◌, ℕ, suc, ◌+◌, Bool, true, false, not, ◌&&◌, ◌==◌, List}
+use Rattle.std.proofs.Common.{[], ◌∷◌, ◌++◌, Option, None, Some, length, cond, if◌then◌else◌, refl}
+use Rattle.std.proofs.Common.{sym, ap, ◌∙◌, subst, arith, length-append, append_assoc}
 use Rattle.std.specs.Prelude.{position, unwrap_or, nat_lt, sum}
 use Rattle.std.specs.List.{position_or_len}
 use Rattle.std.proofs.lemmas.Bool.{false≢true, and_parts, eqb-true}
 use Rattle.std.proofs.lemmas.Bool.Decides.{nat_tests}
 use Rattle.tty_calls.specs.declared.journals.Who.{Who}
-use Rattle.tty_calls.specs.Plain.{PlainCall, PlainEvent, answered, parted, waited, flushed, ticked, line_ended, clock_ended, caller_ended, phase_ended, hung_up, PlainEntry, is_caller}
+use Rattle.tty_calls.specs.Plain.{PlainCall, PlainEvent, answered, parted, waited, flushed, ticked, line_ended}
+use Rattle.tty_calls.specs.Plain.{clock_ended, caller_ended, phase_ended, hung_up, PlainEntry, is_caller}
 use Rattle.tty_terminal.specs.Terminals.{Terminal, caller_at, begun_of, has_begun, opening}
 use Rattle.tty_terminal.specs.Steps.{Allowed, after}
 use Rattle.tty_terminal.specs.Makers.{IsOfCall, IsByItsMaker}
@@ -27,17 +30,24 @@ not_true : (b : Bool) → (b ≡ true → ⊥) → b ≡ false
 not_true true h = absurd (h refl)
 not_true false h = refl
 
-pub not_kept : (t : Terminal) (ks : List PlainKept) (c step : ℕ) → AllBegun t ks → begun_of (caller_at t c) ≤ step → call_in ks c step ≡ None
+pub not_kept : (t : Terminal) (ks : List PlainKept) (c step : ℕ)
+    → AllBegun t ks
+    → begun_of (caller_at t c) ≤ step
+    → call_in ks c step ≡ None
 not_kept t [] c step begun le = refl
 not_kept t (k ∷ ks) c step begun le =
     let other : ((k.caller == c) && (k.step == step)) ≡ false =
     not_both (k.caller == c) (k.step == step) (λ e.
     let parts = and_parts (k.caller == c) (k.step == step) e in
-    let lt : k.step < begun_of (caller_at t c) = subst (λ (d : ℕ). k.step < begun_of (caller_at t d)) (eqb-true k.caller c parts.0) begun.0 in
+    let lt : k.step < begun_of (caller_at t c) =
+    subst (λ (d : ℕ). k.step < begun_of (caller_at t d)) (eqb-true k.caller c parts.0) begun.0 in
     omega (arith, lt, le, eqb-true k.step step parts.1)) in
     ap (λ (b : Bool). if b then Some k.call else call_in ks c step) other ∙ not_kept t ks c step begun.1 le
 
-maker_of : (f : ℕ → ℕ → Option PlainCall) (n : ℕ) (who : Who) (step : ℕ) (event : PlainEvent) → IsByItsMaker f n who step event → is_of_call event ≡ true → IsOfCall f n who step
+maker_of : (f : ℕ → ℕ → Option PlainCall) (n : ℕ) (who : Who) (step : ℕ) (event : PlainEvent)
+    → IsByItsMaker f n who step event
+    → is_of_call event ≡ true
+    → IsOfCall f n who step
 maker_of f n who step (answered a dropped) h e = h
 maker_of f n who step (parted taken) h e = h
 maker_of f n who step waited h e = h
@@ -52,24 +62,36 @@ maker_of f n who step (hung_up dropped) h e = absurd (false≢true e)
 none_some : (call : PlainCall) → None ≡ Some call → ⊥
 none_some call e = absurd (cc)
 
-not_of_step : (f : ℕ → ℕ → Option PlainCall) (counts : List ℕ) (t : Terminal) (e : PlainEntry) (c step : ℕ) → Allowed f counts t e → f c step ≡ None → is_of_step c step e ≡ false
+not_of_step : (f : ℕ → ℕ → Option PlainCall) (counts : List ℕ) (t : Terminal) (e : PlainEntry) (c step : ℕ)
+    → Allowed f counts t e
+    → f c step ≡ None
+    → is_of_step c step e ≡ false
 not_of_step f counts t e c step allowed none =
     not_true (is_of_step c step e) (λ is.
     let parts = and_parts (is_of_call e.event && is_caller e.who c) (e.step == step) is in
     let front = and_parts (is_of_call e.event) (is_caller e.who c) parts.0 in
     let made = maker_of f (length t.callers) e.who e.step e.event (step_maker f counts t e allowed) front.0 in
-    let same : made.caller ≡ c = eqb-true made.caller c (ap (λ (w : Who). is_caller w c) (sym made.by_caller) ∙ front.1) in
-    let there : f c step ≡ Some made.call = (λ i. f (sym same i) (sym (eqb-true e.step step parts.1) i)) ∙ made.called in
+    let same : made.caller ≡ c =
+    eqb-true made.caller c (ap (λ (w : Who). is_caller w c) (sym made.by_caller) ∙ front.1) in
+    let there : f c step ≡ Some made.call =
+    (λ i. f (sym same i) (sym (eqb-true e.step step parts.1) i)) ∙ made.called in
     none_some made.call (sym none ∙ there))
 
 -- ---- the first of some
 
-no_entry : (f : ℕ → ℕ → Option PlainCall) (counts : List ℕ) (t : Terminal) (es : List PlainEntry) (u : Terminal) (c step : ℕ) → Run f counts t es u → f c step ≡ None
-    → (e : PlainEntry) (rest : List PlainEntry) → is_of_step c step e ≡ true → position_or_len (is_of_step c step) (es ++ e ∷ rest) ≡ length es
-no_entry f counts t [] u c step run none e rest is = ap (λ (b : Bool). cond (not b) (1 + position_or_len (is_of_step c step) rest) 0) is
+no_entry : (f : ℕ → ℕ → Option PlainCall) (counts : List ℕ) (t : Terminal) (es : List PlainEntry) (u : Terminal)
+    (c step : ℕ)
+    → Run f counts t es u
+    → f c step ≡ None
+    → (e : PlainEntry) (rest : List PlainEntry)
+    → is_of_step c step e ≡ true
+    → position_or_len (is_of_step c step) (es ++ e ∷ rest) ≡ length es
+no_entry f counts t [] u c step run none e rest is =
+    ap (λ (b : Bool). cond (not b) (1 + position_or_len (is_of_step c step) rest) 0) is
 no_entry f counts t (x ∷ es) u c step run none e rest is =
     let one : 1 + length es ≡ suc (length es) = omega arith in
-    ap (λ (b : Bool). cond (not b) (1 + position_or_len (is_of_step c step) (es ++ e ∷ rest)) 0) (not_of_step f counts t x c step run.0 none)
+    ap (λ (b : Bool). cond (not b) (1 + position_or_len (is_of_step c step) (es ++ e ∷ rest)) 0)
+    (not_of_step f counts t x c step run.0 none)
     ∙ (ap (λ (n : ℕ). 1 + n) (no_entry f counts (after f t x) es u c step run.1 none e rest is) ∙ one)
 
 is_lt : (n len : ℕ) → n < len → nat_lt n len ≡ true
@@ -83,15 +105,25 @@ begun_none true n e = absurd (false≢true (sym e))
 begun_none false n e = refl
 
 -- the first entry of a call that has not begun is the next one
-pub first_next : (v w : PortValue) (e : PlainEntry) (part : List PlainEntry) (c : ℕ) (j : Journal) → IsPort v → has_begun (caller_at v.terminal c) ≡ false → ComesBy v w (e ∷ part)
-    → is_of_step c (caller_at v.terminal c).next e ≡ true → IsLater w j → first_place j c (caller_at v.terminal c).next ≡ length v.journal
+pub first_next : (v w : PortValue) (e : PlainEntry) (part : List PlainEntry) (c : ℕ) (j : Journal)
+    → IsPort v
+    → has_begun (caller_at v.terminal c) ≡ false
+    → ComesBy v w (e ∷ part)
+    → is_of_step c (caller_at v.terminal c).next e ≡ true
+    → IsLater w j
+    → first_place j c (caller_at v.terminal c).next ≡ length v.journal
 first_next v w e part c j port rest by is later =
     let step = (caller_at v.terminal c).next in
-    let none : call_in v.kept c step ≡ None = not_kept v.terminal v.kept c step port.begun (omega (arith, begun_none (has_begun (caller_at v.terminal c)) step rest)) in
+    let none : call_in v.kept c step ≡ None =
+    not_kept v.terminal v.kept c step port.begun
+    (omega (arith, begun_none (has_begun (caller_at v.terminal c)) step rest)) in
     let entries : j.entries ≡ v.journal ++ e ∷ (part ++ later.rest) =
-    later.entries ∙ (ap (λ (es : List PlainEntry). es ++ later.rest) by.added ∙ append_assoc v.journal (e ∷ part) later.rest) in
+    later.entries
+    ∙ (ap (λ (es : List PlainEntry). es ++ later.rest) by.added ∙ append_assoc v.journal (e ∷ part) later.rest) in
     let count = length-append v.journal (e ∷ (part ++ later.rest)) in
     ap (λ (es : List PlainEntry). unwrap_or (position (is_of_step c step) es) (length es)) entries
-    ∙ (ap (λ (n : ℕ). unwrap_or (cond (nat_lt n (length (v.journal ++ e ∷ (part ++ later.rest)))) (Some n) None) (length (v.journal ++ e ∷ (part ++ later.rest))))
-    (no_entry (call_in v.kept) v.counts (opening (sum v.counts) v.flip.capacity) v.journal v.terminal c step port.run none e (part ++ later.rest) is)
+    ∙ (ap (λ (n : ℕ). unwrap_or (cond (nat_lt n (length (v.journal ++ e ∷ (part ++ later.rest)))) (Some n) None)
+    (length (v.journal ++ e ∷ (part ++ later.rest))))
+    (no_entry (call_in v.kept) v.counts (opening (sum v.counts) v.flip.capacity) v.journal v.terminal c step port.run
+    none e (part ++ later.rest) is)
     ∙ found_at (length v.journal) (length (v.journal ++ e ∷ (part ++ later.rest))) (omega (arith, count)))

@@ -1,10 +1,14 @@
 -- The desk of a port, event by event and entry by entry.
-use Rattle.std.proofs.Common.{◌≡◌, ◌≤◌, inl, inr, ℕ, ◌+◌, Bool, true, false, List, [], ◌∷◌, ◌++◌, IsTrue, Option, Some, length, refl, sym, ap, ◌∙◌, subst, arith, get_or-set_other}
+use Rattle.std.proofs.Common.{◌≡◌, ◌≤◌, inl, inr, ℕ, ◌+◌, Bool, true, false, List, [], ◌∷◌, ◌++◌, IsTrue}
+use Rattle.std.proofs.Common.{Option, Some, length, refl, sym, ap, ◌∙◌, subst, arith, get_or-set_other}
 use Rattle.std.specs.Prelude.{slice_get, slice_index_or, slice_set}
 use Rattle.std.proofs.lemmas.Bool.{cases_eq, false≢true}
 use Rattle.tty_base.specs.declared.counters.Signal.{Signal}
 use Rattle.tty_calls.specs.declared.sessions.Script.{Script}
-use Rattle.tty_calls.specs.Plain.{PlainCall, opens, closes, reads, writes, gets_modes, sets_modes, gets_disc, sets_disc, flushes, steers, counts_input, counts_output, excludes, admits, drains, gets_counts, hangs_up, sends_packet, takes_packet, PlainAnswer, done, count_is, got, number_is, modes_are, counts_are, refused, idle, PlainEntry}
+use Rattle.tty_calls.specs.Plain.{PlainCall, opens, closes, reads, writes, gets_modes, sets_modes, gets_disc}
+use Rattle.tty_calls.specs.Plain.{sets_disc, flushes, steers, counts_input, counts_output, excludes, admits}
+use Rattle.tty_calls.specs.Plain.{drains, gets_counts, hangs_up, sends_packet, takes_packet, PlainAnswer, done}
+use Rattle.tty_calls.specs.Plain.{count_is, got, number_is, modes_are, counts_are, refused, idle, PlainEntry}
 use Rattle.tty_terminal.specs.Terminals.{caller_at, has_begun}
 use Rattle.port_core.specs.Ports.{PortValue, IsPort}
 use Rattle.one_thread.specs.Order.{is_of_consoles}
@@ -24,19 +28,25 @@ use Rattle.passed_calls.specs.Journals.{Journal}
 use Rattle.passed_calls.specs.Scripts.{plain}
 use Rattle.job_text.specs.Events.{JobEvent, own, passed, passed_down, sent, JobLog}
 use Rattle.job_text.specs.Sessions.{JobCall, JobsSession}
-use Rattle.job_steps.specs.Steps.{JobsState, next_of, next_call, with_jobs, answered_for, after_own, after_passed, after_event, outcome_of, is_own, is_of_step, judged_call, job_signal, foreground_target}
+use Rattle.job_steps.specs.Steps.{JobsState, next_of, next_call, with_jobs, answered_for}
+use Rattle.job_steps.specs.Steps.{after_own, after_passed, after_event, outcome_of, is_own}
+use Rattle.job_steps.specs.Steps.{is_of_step, judged_call, job_signal, foreground_target}
 use Rattle.job_one.specs.Later.{port_with, IsLater, ComesBy, HasLogged, HasGoneOn, WasAnswered}
 use Rattle.job_one.specs.Ordered.{HasOrdered}
 use Rattle.job_one.specs.Desk.{proc_in, call_after, signals_of, IsDeskAt, jobs_passed, due_passed, HadBegun}
-use Rattle.job_one.proofs.Logging.{log_stays, logs_own, logs_passed, logs_due, logs_down, logs_raised, own_comes, due_comes, down_comes, raised_comes}
+use Rattle.job_one.proofs.Logging.{log_stays, logs_own, logs_passed, logs_due, logs_down}
+use Rattle.job_one.proofs.Logging.{logs_raised, own_comes, due_comes, down_comes, raised_comes}
 use Rattle.job_one.proofs.Gone.{gone_begins, gone_stays, gone_behind}
 use Rattle.job_one.proofs.Ordering.{ordered_stays, ordered_sent, ordered_down, ordered_own, ordered_passed}
 
 -- ---- what is due
 
-pub desk_sends : (first : Scene) (session : JobsSession) (log : JobLog) (v : PortValue) (jobs : JobState) (next : List ℕ) (signals : ℕ) (signal : JobSignal) (target : Target) (rest : List JobEvent)
+pub desk_sends : (first : Scene) (session : JobsSession) (log : JobLog) (v : PortValue) (jobs : JobState)
+    (next : List ℕ) (signals : ℕ) (signal : JobSignal) (target : Target) (rest : List JobEvent)
     → IsDeskAt first session log v jobs next signals (sent signal target ∷ rest)
-    → IsDeskAt first session (log ++ record { port = first.port; at = length v.journal; event = sent signal target } ∷ []) v jobs next signals rest
+    → IsDeskAt first session
+    (log ++ record { port = first.port; at = length v.journal; event = sent signal target } ∷ [])
+    v jobs next signals rest
 desk_sends first session log v jobs next signals signal target rest h =
     let u = h.state in
     let n = length v.journal in
@@ -46,7 +56,9 @@ desk_sends first session log v jobs next signals signal target rest h =
       at = record {
         logged = logs_due first.port session log v u signal target rest h.at.logged h.due_are;
         ordered = ordered_sent first session log v u signal target h.at.logged h.at.ordered;
-        gone_on = λ c begun. gone_behind first.port session v u then (sent signal target) c (caller_at v.terminal c).next (due_comes first.port session v u signal target rest h.due_are) refl (h.at.gone_on c begun);
+        gone_on = λ c begun. gone_behind first.port session v u then (sent signal target) c
+            (caller_at v.terminal c).next (due_comes first.port session v u signal target rest h.due_are) refl
+            (h.at.gone_on c begun);
       };
       jobs_are = h.jobs_are;
       next_are = h.next_are;
@@ -54,9 +66,13 @@ desk_sends first session log v jobs next signals signal target rest h =
       due_are = refl;
     }
 
-pub desk_hangs_up : (first : Scene) (session : JobsSession) (log : JobLog) (v : PortValue) (jobs : JobState) (next : List ℕ) (signals : ℕ) (c step handle : ℕ) (rest : List JobEvent)
-    → IsDeskAt first session log v jobs next signals (passed_down c handle ∷ rest) → WasAnswered v c step done
-    → IsDeskAt first session (log ++ record { port = first.port; at = length v.journal; event = passed_down c handle } ∷ []) v jobs next signals rest
+pub desk_hangs_up : (first : Scene) (session : JobsSession) (log : JobLog) (v : PortValue) (jobs : JobState)
+    (next : List ℕ) (signals : ℕ) (c step handle : ℕ) (rest : List JobEvent)
+    → IsDeskAt first session log v jobs next signals (passed_down c handle ∷ rest)
+    → WasAnswered v c step done
+    → IsDeskAt first session
+    (log ++ record { port = first.port; at = length v.journal; event = passed_down c handle } ∷ [])
+    v jobs next signals rest
 desk_hangs_up first session log v jobs next signals c step handle rest h was =
     let u = h.state in
     let n = length v.journal in
@@ -66,7 +82,9 @@ desk_hangs_up first session log v jobs next signals c step handle rest h was =
       at = record {
         logged = logs_down first.port session log v u c step handle rest h.at.logged h.due_are was;
         ordered = ordered_down first session log v u c handle h.at.logged h.at.ordered;
-        gone_on = λ d begun. gone_behind first.port session v u then (passed_down c handle) d (caller_at v.terminal d).next (down_comes first.port session v u c handle rest h.due_are) refl (h.at.gone_on d begun);
+        gone_on = λ d begun. gone_behind first.port session v u then (passed_down c handle) d
+            (caller_at v.terminal d).next (down_comes first.port session v u c handle rest h.due_are) refl
+            (h.at.gone_on d begun);
       };
       jobs_are = h.jobs_are;
       next_are = h.next_are;
@@ -76,92 +94,157 @@ desk_hangs_up first session log v jobs next signals c step handle rest h was =
 
 -- ---- a signal that a flush has raised
 
-pub desk_raises : (first : Scene) (session : JobsSession) (log : JobLog) (old v : PortValue) (e : PlainEntry) (jobs : JobState) (next : List ℕ) (signals : ℕ) (signal : Signal)
-    → IsPort old → IsPort v → ComesBy old v (e ∷ []) → IsDeskAt first session log v jobs next signals [] → length (signals_of old.terminal) ≤ signals → slice_get (signals_of v.terminal) signals ≡ Some signal
-    → IsDeskAt first session (log ++ record { port = first.port; at = length v.journal; event = sent (job_signal signal) (foreground_target jobs) } ∷ []) v jobs next (signals + 1) []
+pub desk_raises : (first : Scene) (session : JobsSession) (log : JobLog) (old v : PortValue) (e : PlainEntry)
+    (jobs : JobState) (next : List ℕ) (signals : ℕ) (signal : Signal)
+    → IsPort old
+    → IsPort v
+    → ComesBy old v (e ∷ [])
+    → IsDeskAt first session log v jobs next signals []
+    → length (signals_of old.terminal) ≤ signals
+    → slice_get (signals_of v.terminal) signals ≡ Some signal
+    → IsDeskAt first session
+    (log
+    ++ record { port = first.port; at = length v.journal; event = sent (job_signal signal) (foreground_target jobs) }
+    ∷ []) v jobs next (signals + 1) []
 desk_raises first session log old v e jobs next signals signal was port by h fresh is =
     let u = h.state in
     let n = length v.journal in
     let target : Target = foreground_target u.now.jobs in
     let then : JobsState = record (with_jobs u n u.now.jobs) { signals = u.signals + 1; due = [] } in
     let few : length (signals_of old.terminal) ≤ u.signals = omega (arith, fresh, h.signals_are) in
-    let there : slice_get (signals_of v.terminal) u.signals ≡ Some signal = ap (slice_get (signals_of v.terminal)) h.signals_are ∙ is in
-    let made : IsDeskAt first session (log ++ record { port = first.port; at = n; event = sent (job_signal signal) target } ∷ []) v jobs next (signals + 1) [] = record {
+    let there : slice_get (signals_of v.terminal) u.signals ≡ Some signal =
+    ap (slice_get (signals_of v.terminal)) h.signals_are ∙ is in
+    let made : IsDeskAt first session
+    (log ++ record { port = first.port; at = n; event = sent (job_signal signal) target } ∷ []) v jobs next
+    (signals + 1) [] = record {
       state = then;
       at = record {
         logged = logs_raised first.port session log old v e u signal was port by h.at.logged h.due_are few there;
         ordered = ordered_sent first session log v u (job_signal signal) target h.at.logged h.at.ordered;
-        gone_on = λ c begun. gone_behind first.port session v u then (sent (job_signal signal) target) c (caller_at v.terminal c).next (raised_comes first.port session v u (job_signal signal) target h.due_are) refl (h.at.gone_on c begun);
+        gone_on = λ c begun. gone_behind first.port session v u then (sent (job_signal signal) target) c
+            (caller_at v.terminal c).next (raised_comes first.port session v u (job_signal signal) target h.due_are)
+            refl (h.at.gone_on c begun);
       };
       jobs_are = h.jobs_are;
       next_are = h.next_are;
       signals_are = ap (λ (i : ℕ). i + 1) h.signals_are;
       due_are = refl;
     } in
-    subst (λ (state : JobState). IsDeskAt first session (log ++ record { port = first.port; at = n; event = sent (job_signal signal) (foreground_target state) } ∷ []) v jobs next (signals + 1) []) h.jobs_are made
+    subst (λ (state : JobState). IsDeskAt first session
+    (log ++ record { port = first.port; at = n; event = sent (job_signal signal) (foreground_target state) } ∷ []) v
+    jobs next (signals + 1) []) h.jobs_are made
 
 -- ---- a call that is answered without the port
 
 -- the next step of another caller
-next_elsewhere : (next : List ℕ) (c d n : ℕ) → (d ≡ c → ⊥) → slice_index_or (slice_set next c n) d 0 ≡ slice_index_or next d 0
+next_elsewhere : (next : List ℕ) (c d n : ℕ)
+    → (d ≡ c → ⊥)
+    → slice_index_or (slice_set next c n) d 0 ≡ slice_index_or next d 0
 next_elsewhere next c d n other = get_or-set_other next c d n 0 other
 
-pub desk_answers : (first : Scene) (session : JobsSession) (log : JobLog) (scripts : Scene → List Script) (roles : List Role) (start v : PortValue) (ticks : ℕ) (stand : Stand) (place : ℕ) (r : Role)
-    (jobs : JobState) (next : List ℕ) (signals : ℕ) (call : JobCall) (d : Journal)
-    → PlaysEach first scripts roles start v ticks stand → IsTurn (is_of_consoles first.session) v (role_numbers roles) stand.going (turn.Call place) → slice_get roles place ≡ Some r
-    → IsPort v → IsDeskAt first session log v jobs next signals [] → length (signals_of v.terminal) ≤ signals → has_begun (caller_at v.terminal r.number) ≡ false
-    → call_after session first.port next r.number ≡ Some call → IsTrue (is_own jobs v.terminal (proc_in session first.port r.number) call)
+pub desk_answers : (first : Scene) (session : JobsSession) (log : JobLog) (scripts : Scene → List Script)
+    (roles : List Role) (start v : PortValue) (ticks : ℕ) (stand : Stand) (place : ℕ) (r : Role) (jobs : JobState)
+    (next : List ℕ) (signals : ℕ) (call : JobCall) (d : Journal)
+    → PlaysEach first scripts roles start v ticks stand
+    → IsTurn (is_of_consoles first.session) v (role_numbers roles) stand.going (turn.Call place)
+    → slice_get roles place ≡ Some r
+    → IsPort v
+    → IsDeskAt first session log v jobs next signals []
+    → length (signals_of v.terminal) ≤ signals
+    → has_begun (caller_at v.terminal r.number) ≡ false
+    → call_after session first.port next r.number ≡ Some call
+    → IsTrue (is_own jobs v.terminal (proc_in session first.port r.number) call)
     → IsDeskAt first session
-    (log ++ record { port = first.port; at = length v.journal; event = own r.number (slice_index_or next r.number 0) (outcome_of jobs v.terminal (proc_in session first.port r.number) r.number call).answer } ∷ []) v
-    (outcome_of jobs v.terminal (proc_in session first.port r.number) r.number call).left
+    (log
+    ++ record {
+      port = first.port;
+      at = length v.journal;
+      event = own r.number (slice_index_or next r.number 0)
+          (outcome_of jobs v.terminal (proc_in session first.port r.number) r.number call).answer;
+    } ∷ []) v (outcome_of jobs v.terminal (proc_in session first.port r.number) r.number call).left
     (slice_set next r.number (slice_index_or next r.number 0 + 1)) signals
     (outcome_of jobs v.terminal (proc_in session first.port r.number) r.number call).due
-desk_answers first session log scripts roles start v ticks stand place r jobs next signals call d each whose is port h few rest has its =
+desk_answers first session log scripts roles start v ticks stand place r jobs
+    next signals call d each whose is port h few rest has its =
     let u = h.state in
     let n = length v.journal in
     let c = r.number in
     let p = first.port in
     let proc : ℕ = proc_in session p c in
     let then : JobsState = answered_for (after_own v.terminal proc c u n (Some call)) c in
-    let now_has : next_call (port_with p session d) u c ≡ Some call = ap (λ (ns : List ℕ). call_after session p ns c) h.next_are ∙ has in
-    let now_its : IsTrue (is_own u.now.jobs v.terminal proc call) = subst (λ (state : JobState). IsTrue (is_own state v.terminal proc call)) (sym h.jobs_are) its in
+    let now_has : next_call (port_with p session d) u c ≡ Some call =
+    ap (λ (ns : List ℕ). call_after session p ns c) h.next_are ∙ has in
+    let now_its : IsTrue (is_own u.now.jobs v.terminal proc call) =
+    subst (λ (state : JobState). IsTrue (is_own state v.terminal proc call)) (sym h.jobs_are) its in
     let answer : JobAnswer = (outcome_of u.now.jobs v.terminal proc c call).answer in
     let sent_on : length (signals_of v.terminal) ≤ u.signals = omega (arith, few, h.signals_are) in
-    let made : IsDeskAt first session (log ++ record { port = p; at = n; event = own c (next_of u c) answer } ∷ []) v (outcome_of u.now.jobs v.terminal proc c call).left (slice_set u.next c (next_of u c + 1)) signals (outcome_of u.now.jobs v.terminal proc c call).due = record {
+    let made : IsDeskAt first session (log ++ record { port = p; at = n; event = own c (next_of u c) answer } ∷ []) v
+    (outcome_of u.now.jobs v.terminal proc c call).left (slice_set u.next c (next_of u c + 1))
+    signals (outcome_of u.now.jobs v.terminal proc c call).due = record {
       state = then;
       at = record {
         logged = logs_own p session log v u d c call answer port h.at.logged h.due_are now_has now_its refl;
-        ordered = ordered_own first session log scripts roles start v ticks stand place r u (next_of u c) answer each whose is port h.at.logged h.at.ordered sent_on;
+        ordered = ordered_own first session log scripts roles start v ticks stand place r u (next_of u c)
+            answer each whose is port h.at.logged h.at.ordered sent_on;
         gone_on = λ x begun.
-            let other : x ≡ c → ⊥ = λ same. false≢true (sym rest ∙ (ap (λ (y : ℕ). has_begun (caller_at v.terminal y)) (sym same) ∙ begun)) in
-            gone_behind p session v u then (own c (next_of u c) answer) x (caller_at v.terminal x).next (own_comes p session v u d c call answer port now_has) (next_elsewhere u.next c x (next_of u c + 1) other) (h.at.gone_on x begun);
+            let other : x ≡ c → ⊥ = λ same.
+            false≢true (sym rest ∙ (ap (λ (y : ℕ). has_begun (caller_at v.terminal y)) (sym same) ∙ begun)) in
+            gone_behind p session v u then (own c (next_of u c) answer) x (caller_at v.terminal x).next
+            (own_comes p session v u d c call answer port now_has) (next_elsewhere u.next c x (next_of u c + 1) other)
+            (h.at.gone_on x begun);
       };
       jobs_are = refl;
       next_are = refl;
       signals_are = h.signals_are;
       due_are = refl;
     } in
-    let by_jobs = subst (λ (state : JobState). IsDeskAt first session (log ++ record { port = p; at = n; event = own c (next_of u c) (outcome_of state v.terminal proc c call).answer } ∷ []) v (outcome_of state v.terminal proc c call).left (slice_set u.next c (next_of u c + 1)) signals (outcome_of state v.terminal proc c call).due) h.jobs_are made in
-    subst (λ (ns : List ℕ). IsDeskAt first session (log ++ record { port = p; at = n; event = own c (slice_index_or ns c 0) (outcome_of jobs v.terminal proc c call).answer } ∷ []) v (outcome_of jobs v.terminal proc c call).left (slice_set ns c (slice_index_or ns c 0 + 1)) signals (outcome_of jobs v.terminal proc c call).due) h.next_are by_jobs
+    let by_jobs = subst (λ (state : JobState). IsDeskAt first session
+    (log ++ record { port = p; at = n; event = own c (next_of u c) (outcome_of state v.terminal proc c call).answer }
+    ∷ []) v (outcome_of state v.terminal proc c call).left (slice_set u.next c (next_of u c + 1))
+    signals (outcome_of state v.terminal proc c call).due) h.jobs_are made in
+    subst (λ (ns : List ℕ). IsDeskAt first session
+    (log
+    ++ record {
+      port = p;
+      at = n;
+      event = own c (slice_index_or ns c 0) (outcome_of jobs v.terminal proc c call).answer;
+    } ∷ []) v (outcome_of jobs v.terminal proc c call).left (slice_set ns c (slice_index_or ns c 0 + 1))
+    signals (outcome_of jobs v.terminal proc c call).due) h.next_are by_jobs
 
 -- ---- the port makes an entry
 
 -- the call that a caller has begun, or begins with it, went on to the port
-begins_here : (first : Scene) (session : JobsSession) (log : JobLog) (v w : PortValue) (e : PlainEntry) (c : ℕ) (jobs : JobState) (next : List ℕ) (signals : ℕ) (due : List JobEvent) (call : PlainCall) (d : Journal)
-    → IsPort v → ComesBy v w (e ∷ []) → (h : IsDeskAt first session log v jobs next signals due) → is_of_step c (caller_at v.terminal c).next e ≡ true
-    → call_after session first.port next c ≡ Some (plain call) → (has_begun (caller_at v.terminal c) ≡ false → judged_call jobs v.terminal (proc_in session first.port c) call ≡ Pass)
+begins_here : (first : Scene) (session : JobsSession) (log : JobLog) (v w : PortValue) (e : PlainEntry) (c : ℕ)
+    (jobs : JobState) (next : List ℕ) (signals : ℕ) (due : List JobEvent) (call : PlainCall) (d : Journal)
+    → IsPort v
+    → ComesBy v w (e ∷ [])
+    → (h : IsDeskAt first session log v jobs next signals due)
+    → is_of_step c (caller_at v.terminal c).next e ≡ true
+    → call_after session first.port next c ≡ Some (plain call)
+    → (has_begun (caller_at v.terminal c) ≡ false
+    → judged_call jobs v.terminal (proc_in session first.port c) call ≡ Pass)
     → HasGoneOn first.port session w h.state c (caller_at v.terminal c).next
-begins_here first session log v w e c jobs next signals due call d port by h of_step has passes = by_case (has_begun (caller_at v.terminal c)) refl
+begins_here first session log v w e c jobs next signals due call d port by h of_step has passes =
+    by_case (has_begun (caller_at v.terminal c)) refl
   where
-    by_case : (b : Bool) → has_begun (caller_at v.terminal c) ≡ b → HasGoneOn first.port session w h.state c (caller_at v.terminal c).next
-    by_case true begun = gone_stays first.port session v w (e ∷ []) h.state c (caller_at v.terminal c).next by (h.at.gone_on c begun)
+    by_case : (b : Bool)
+        → has_begun (caller_at v.terminal c) ≡ b
+        → HasGoneOn first.port session w h.state c (caller_at v.terminal c).next
+    by_case true begun =
+        gone_stays first.port session v w (e ∷ []) h.state c (caller_at v.terminal c).next by (h.at.gone_on c begun)
     by_case false rest =
-        gone_begins first.port session log v w e [] h.state d c call port by h.at.logged (ap (λ (ns : List ℕ). call_after session first.port ns c) h.next_are ∙ has)
-        (ap (λ (state : JobState). judged_call state v.terminal (proc_in session first.port c) call) h.jobs_are ∙ passes rest) rest of_step
+        gone_begins first.port session log v w e [] h.state d c call port by h.at.logged
+        (ap (λ (ns : List ℕ). call_after session first.port ns c) h.next_are ∙ has)
+        (ap (λ (state : JobState). judged_call state v.terminal (proc_in session first.port c) call) h.jobs_are
+        ∙ passes rest) rest of_step
 
 -- an entry that begins no call
-pub desk_stays : (first : Scene) (session : JobsSession) (log : JobLog) (v w : PortValue) (part : List PlainEntry) (jobs : JobState) (next : List ℕ) (signals : ℕ) (due : List JobEvent)
-    → ComesBy v w part → ((c : ℕ) → HadBegun v w c) → IsDeskAt first session log v jobs next signals due → IsDeskAt first session log w jobs next signals due
+pub desk_stays : (first : Scene) (session : JobsSession) (log : JobLog) (v w : PortValue) (part : List PlainEntry)
+    (jobs : JobState) (next : List ℕ) (signals : ℕ) (due : List JobEvent)
+    → ComesBy v w part
+    → ((c : ℕ) → HadBegun v w c)
+    → IsDeskAt first session log v jobs next signals due
+    → IsDeskAt first session log w jobs next signals due
 desk_stays first session log v w part jobs next signals due by had h = record {
   state = h.state;
   at = record {
@@ -169,7 +252,8 @@ desk_stays first session log v w part jobs next signals due by had h = record {
     ordered = ordered_stays first session log v w part by h.at.ordered;
     gone_on = λ c begun.
         let was = had c begun in
-        subst (λ (n : ℕ). HasGoneOn first.port session w h.state c n) (sym was.1) (gone_stays first.port session v w part h.state c (caller_at v.terminal c).next by (h.at.gone_on c was.0));
+        subst (λ (n : ℕ). HasGoneOn first.port session w h.state c n) (sym was.1)
+        (gone_stays first.port session v w part h.state c (caller_at v.terminal c).next by (h.at.gone_on c was.0));
   };
   jobs_are = h.jobs_are;
   next_are = h.next_are;
@@ -178,22 +262,32 @@ desk_stays first session log v w part jobs next signals due by had h = record {
 }
 
 -- an entry of a call that is not answered by it
-pub desk_begins : (first : Scene) (session : JobsSession) (log : JobLog) (v w : PortValue) (e : PlainEntry) (c : ℕ) (jobs : JobState) (next : List ℕ) (signals : ℕ) (due : List JobEvent) (call : PlainCall) (d : Journal)
-    → IsPort v → ComesBy v w (e ∷ []) → ((x : ℕ) → (x ≡ c → ⊥) → HadBegun v w x) → (caller_at w.terminal c).next ≡ (caller_at v.terminal c).next → is_of_step c (caller_at v.terminal c).next e ≡ true
-    → call_after session first.port next c ≡ Some (plain call) → (has_begun (caller_at v.terminal c) ≡ false → judged_call jobs v.terminal (proc_in session first.port c) call ≡ Pass)
-    → IsDeskAt first session log v jobs next signals due → IsDeskAt first session log w jobs next signals due
+pub desk_begins : (first : Scene) (session : JobsSession) (log : JobLog) (v w : PortValue) (e : PlainEntry) (c : ℕ)
+    (jobs : JobState) (next : List ℕ) (signals : ℕ) (due : List JobEvent) (call : PlainCall) (d : Journal)
+    → IsPort v
+    → ComesBy v w (e ∷ [])
+    → ((x : ℕ) → (x ≡ c → ⊥) → HadBegun v w x)
+    → (caller_at w.terminal c).next ≡ (caller_at v.terminal c).next
+    → is_of_step c (caller_at v.terminal c).next e ≡ true
+    → call_after session first.port next c ≡ Some (plain call)
+    → (has_begun (caller_at v.terminal c) ≡ false
+    → judged_call jobs v.terminal (proc_in session first.port c) call ≡ Pass)
+    → IsDeskAt first session log v jobs next signals due
+    → IsDeskAt first session log w jobs next signals due
 desk_begins first session log v w e c jobs next signals due call d port by had same of_step has passes h = record {
   state = h.state;
   at = record {
     logged = log_stays first.port session log v w (e ∷ []) h.state by h.at.logged;
     ordered = ordered_stays first session log v w (e ∷ []) by h.at.ordered;
     gone_on = λ x begun. elim (cases_eq x c) [
-      | inl own_one ↦ subst (λ (y : ℕ). HasGoneOn first.port session w h.state y (caller_at w.terminal y).next) (sym own_one)
+      | inl own_one ↦
+          subst (λ (y : ℕ). HasGoneOn first.port session w h.state y (caller_at w.terminal y).next) (sym own_one)
           (subst (λ (n : ℕ). HasGoneOn first.port session w h.state c n) (sym same)
           (begins_here first session log v w e c jobs next signals due call d port by h of_step has passes))
       | inr other ↦
           let was = had x other begun in
-          subst (λ (n : ℕ). HasGoneOn first.port session w h.state x n) (sym was.1) (gone_stays first.port session v w (e ∷ []) h.state x (caller_at v.terminal x).next by (h.at.gone_on x was.0))
+          subst (λ (n : ℕ). HasGoneOn first.port session w h.state x n) (sym was.1)
+          (gone_stays first.port session v w (e ∷ []) h.state x (caller_at v.terminal x).next by (h.at.gone_on x was.0))
     ];
   };
   jobs_are = h.jobs_are;
@@ -211,13 +305,17 @@ record IsAfterAnswer (s then : JobsState) (call : PlainCall) (answer : PlainAnsw
   signals : then.signals ≡ s.signals
   due : then.due ≡ due_passed s.now.jobs call answer
 
-after_answer : (s : JobsState) (at : ℕ) (call : PlainCall) (answer : PlainAnswer) → s.due ≡ [] → IsAfterAnswer s (after_passed s at (Some (plain call)) answer) call answer
-after_answer s at (opens h access nonblock) answer none = record { jobs = refl; next = refl; signals = refl; due = none }
+after_answer : (s : JobsState) (at : ℕ) (call : PlainCall) (answer : PlainAnswer)
+    → s.due ≡ []
+    → IsAfterAnswer s (after_passed s at (Some (plain call)) answer) call answer
+after_answer s at (opens h access nonblock) answer none =
+    record { jobs = refl; next = refl; signals = refl; due = none }
 after_answer s at (closes h) answer none = record { jobs = refl; next = refl; signals = refl; due = none }
 after_answer s at (reads h n) answer none = record { jobs = refl; next = refl; signals = refl; due = none }
 after_answer s at (writes h bytes) answer none = record { jobs = refl; next = refl; signals = refl; due = none }
 after_answer s at (gets_modes h) answer none = record { jobs = refl; next = refl; signals = refl; due = none }
-after_answer s at (sets_modes h when words) answer none = record { jobs = refl; next = refl; signals = refl; due = none }
+after_answer s at (sets_modes h when words) answer none =
+    record { jobs = refl; next = refl; signals = refl; due = none }
 after_answer s at (gets_disc h) answer none = record { jobs = refl; next = refl; signals = refl; due = none }
 after_answer s at (sets_disc h number) answer none = record { jobs = refl; next = refl; signals = refl; due = none }
 after_answer s at (flushes h queue) answer none = record { jobs = refl; next = refl; signals = refl; due = none }
@@ -235,22 +333,34 @@ after_answer s at (hangs_up h) (count_is taken) none = record { jobs = refl; nex
 after_answer s at (hangs_up h) (got bytes) none = record { jobs = refl; next = refl; signals = refl; due = none }
 after_answer s at (hangs_up h) (number_is n) none = record { jobs = refl; next = refl; signals = refl; due = none }
 after_answer s at (hangs_up h) (modes_are modes) none = record { jobs = refl; next = refl; signals = refl; due = none }
-after_answer s at (hangs_up h) (counts_are counts) none = record { jobs = refl; next = refl; signals = refl; due = none }
+after_answer s at (hangs_up h) (counts_are counts) none =
+    record { jobs = refl; next = refl; signals = refl; due = none }
 after_answer s at (hangs_up h) (refused errno) none = record { jobs = refl; next = refl; signals = refl; due = none }
 after_answer s at (hangs_up h) idle none = record { jobs = refl; next = refl; signals = refl; due = none }
 
-pub desk_passes : (first : Scene) (session : JobsSession) (log : JobLog) (old v : PortValue) (e : PlainEntry) (c : ℕ) (jobs : JobState) (next : List ℕ) (signals : ℕ) (call : PlainCall) (answer : PlainAnswer) (d : Journal)
-    → IsPort old → ComesBy old v (e ∷ []) → ((x : ℕ) → (x ≡ c → ⊥) → HadBegun old v x) → has_begun (caller_at v.terminal c) ≡ false → is_of_step c (caller_at old.terminal c).next e ≡ true
+pub desk_passes : (first : Scene) (session : JobsSession) (log : JobLog) (old v : PortValue) (e : PlainEntry) (c : ℕ)
+    (jobs : JobState) (next : List ℕ) (signals : ℕ) (call : PlainCall) (answer : PlainAnswer) (d : Journal)
+    → IsPort old
+    → ComesBy old v (e ∷ [])
+    → ((x : ℕ) → (x ≡ c → ⊥) → HadBegun old v x)
+    → has_begun (caller_at v.terminal c) ≡ false
+    → is_of_step c (caller_at old.terminal c).next e ≡ true
     → WasAnswered v c (caller_at old.terminal c).next answer
-    → call_after session first.port next c ≡ Some (plain call) → (has_begun (caller_at old.terminal c) ≡ false → judged_call jobs old.terminal (proc_in session first.port c) call ≡ Pass)
-    → IsDeskAt first session log old jobs next signals [] → length (signals_of old.terminal) ≤ signals
-    → IsDeskAt first session (log ++ record { port = first.port; at = length v.journal; event = passed c (slice_index_or next c 0) answer } ∷ []) v
-    (jobs_passed jobs call answer) (slice_set next c (slice_index_or next c 0 + 1)) signals (due_passed jobs call answer)
+    → call_after session first.port next c ≡ Some (plain call)
+    → (has_begun (caller_at old.terminal c) ≡ false
+    → judged_call jobs old.terminal (proc_in session first.port c) call ≡ Pass)
+    → IsDeskAt first session log old jobs next signals []
+    → length (signals_of old.terminal) ≤ signals
+    → IsDeskAt first session
+    (log ++ record { port = first.port; at = length v.journal; event = passed c (slice_index_or next c 0) answer } ∷ [])
+    v (jobs_passed jobs call answer) (slice_set next c (slice_index_or next c 0 + 1)) signals
+    (due_passed jobs call answer)
 desk_passes first session log old v e c jobs next signals call answer d port by had rest of_step was has passes h few =
     let u = h.state in
     let p = first.port in
     let n = length v.journal in
-    let here : next_call (port_with p session d) u c ≡ Some (plain call) = ap (λ (ns : List ℕ). call_after session p ns c) h.next_are ∙ has in
+    let here : next_call (port_with p session d) u c ≡ Some (plain call) =
+    ap (λ (ns : List ℕ). call_after session p ns c) h.next_are ∙ has in
     let gone = begins_here first session log old v e c jobs next signals [] call d port by h of_step has passes in
     let logged_now : HasLogged p session log v u = log_stays p session log old v (e ∷ []) u by h.at.logged in
     let ordered_now : HasOrdered first session log v = ordered_stays first session log old v (e ∷ []) by h.at.ordered in
@@ -259,20 +369,31 @@ desk_passes first session log old v e c jobs next signals call answer d port by 
     let is = after_answer u n call answer h.due_are in
     let entry : Logged JobEvent = record { port = p; at = n; event = passed c (next_of u c) answer } in
     let sent_on : length (signals_of old.terminal) ≤ u.signals = omega (arith, few, h.signals_are) in
-    let comes : (j : Journal) → IsLater v j → after_event (port_with p session j) u n (passed c (next_of u c) answer) ≡ then = λ j later. ap (λ (o : Option JobCall). answered_for (after_passed u n o answer) c) here in
-    let next_then : then.next ≡ slice_set u.next c (next_of u c + 1) = ap (λ (ns : List ℕ). slice_set ns c (slice_index_or ns c 0 + 1)) is.next in
-    let made : IsDeskAt first session (log ++ entry ∷ []) v (jobs_passed u.now.jobs call answer) (slice_set u.next c (next_of u c + 1)) signals (due_passed u.now.jobs call answer) = record {
+    let comes : (j : Journal)
+    → IsLater v j
+    → after_event (port_with p session j) u n (passed c (next_of u c) answer) ≡ then = λ j later.
+    ap (λ (o : Option JobCall). answered_for (after_passed u n o answer) c) here in
+    let next_then : then.next ≡ slice_set u.next c (next_of u c + 1) =
+    ap (λ (ns : List ℕ). slice_set ns c (slice_index_or ns c 0 + 1)) is.next in
+    let made : IsDeskAt first session (log ++ entry ∷ []) v (jobs_passed u.now.jobs call answer)
+    (slice_set u.next c (next_of u c + 1)) signals (due_passed u.now.jobs call answer) = record {
       state = then;
       at = record {
-        logged = subst (λ (o : Option JobCall). HasLogged p session (log ++ entry ∷ []) v (answered_for (after_passed u n o answer) c)) here
+        logged = subst (λ (o : Option JobCall).
+            HasLogged p session (log ++ entry ∷ []) v (answered_for (after_passed u n o answer) c)) here
             (logs_passed p session log v u d c (caller_at old.terminal c).next answer logged_now h.due_are was gone);
-        ordered = ordered_passed first session log old v e u c (next_of u c) answer port by logged_now ordered_now sent_on;
+        ordered =
+            ordered_passed first session log old v e u c (next_of u c) answer port by logged_now ordered_now sent_on;
         gone_on = λ x begun.
-            let other : x ≡ c → ⊥ = λ same. false≢true (sym rest ∙ (ap (λ (y : ℕ). has_begun (caller_at v.terminal y)) (sym same) ∙ begun)) in
+            let other : x ≡ c → ⊥ = λ same.
+            false≢true (sym rest ∙ (ap (λ (y : ℕ). has_begun (caller_at v.terminal y)) (sym same) ∙ begun)) in
             let before = had x other begun in
-            let stayed = gone_stays p session old v (e ∷ []) u x (caller_at old.terminal x).next by (h.at.gone_on x before.0) in
-            let step_same : next_of then x ≡ next_of u x = ap (λ (ns : List ℕ). slice_index_or ns x 0) next_then ∙ next_elsewhere u.next c x (next_of u c + 1) other in
-            gone_behind p session v u then (passed c (next_of u c) answer) x (caller_at v.terminal x).next comes step_same
+            let stayed =
+            gone_stays p session old v (e ∷ []) u x (caller_at old.terminal x).next by (h.at.gone_on x before.0) in
+            let step_same : next_of then x ≡ next_of u x =
+            ap (λ (ns : List ℕ). slice_index_or ns x 0) next_then ∙ next_elsewhere u.next c x (next_of u c + 1) other in
+            gone_behind p session v u then (passed c (next_of u c) answer)
+            x (caller_at v.terminal x).next comes step_same
             (subst (λ (m : ℕ). HasGoneOn p session v u x m) (sym before.1) stayed);
       };
       jobs_are = is.jobs;
@@ -280,5 +401,10 @@ desk_passes first session log old v e c jobs next signals call answer d port by 
       signals_are = is.signals ∙ h.signals_are;
       due_are = is.due;
     } in
-    let by_jobs = subst (λ (state : JobState). IsDeskAt first session (log ++ entry ∷ []) v (jobs_passed state call answer) (slice_set u.next c (next_of u c + 1)) signals (due_passed state call answer)) h.jobs_are made in
-    subst (λ (ns : List ℕ). IsDeskAt first session (log ++ record { port = p; at = n; event = passed c (slice_index_or ns c 0) answer } ∷ []) v (jobs_passed jobs call answer) (slice_set ns c (slice_index_or ns c 0 + 1)) signals (due_passed jobs call answer)) h.next_are by_jobs
+    let by_jobs = subst (λ (state : JobState). IsDeskAt first session (log ++ entry ∷ []) v
+    (jobs_passed state call answer) (slice_set u.next c (next_of u c + 1)) signals (due_passed state call answer))
+    h.jobs_are made in
+    subst (λ (ns : List ℕ). IsDeskAt first session
+    (log ++ record { port = p; at = n; event = passed c (slice_index_or ns c 0) answer } ∷ []) v
+    (jobs_passed jobs call answer) (slice_set ns c (slice_index_or ns c 0 + 1)) signals (due_passed jobs call answer))
+    h.next_are by_jobs

@@ -27,16 +27,22 @@ use Rattle.job_one.proofs.Passings.{early_same, for_rises, all_more, in_more_ste
 
 -- ---- a caller's calls are all that it has passed down
 
-pub calls_all : (p k : ℕ) (phases : List BlockPhase) (mine : ℕ → List Passing) (session : PlainSession) (c step : ℕ) → IsPassedBy p phases mine session → AreUpTo p phases k mine
+pub calls_all : (p k : ℕ) (phases : List BlockPhase) (mine : ℕ → List Passing) (session : PlainSession) (c step : ℕ)
+    → IsPassedBy p phases mine session
+    → AreUpTo p phases k mine
     → call_at p session c step ≡ slice_get (all_calls (mine c)) step
 calls_all p k phases mine session c step h upto =
     let o = slice_get (names_on p (blocks_of phases)) c in
-    let whole = in_more_steps 0 (begin_of p phases (k + 1) c) (steps_named p (blocks_of phases) o) (mine c) (first_within p (k + 1) phases o) (upto c) in
+    let whole = in_more_steps 0 (begin_of p phases (k + 1) c) (steps_named p (blocks_of phases) o) (mine c)
+    (first_within p (k + 1) phases o) (upto c) in
     call_is p phases mine session c step h
-    ∙ ap (λ (cs : List PlainCall). slice_get cs step) (passed_in_order (mine c) (steps_named p (blocks_of phases) o) whole)
+    ∙ ap (λ (cs : List PlainCall). slice_get cs step)
+    (passed_in_order (mine c) (steps_named p (blocks_of phases) o) whole)
 
 -- .. and before the next phase
-pub first_all : (p k : ℕ) (phases : List BlockPhase) (mine : ℕ → List Passing) (session : PlainSession) (c : ℕ) → IsPassedBy p phases mine session → AreUpTo p phases k mine
+pub first_all : (p k : ℕ) (phases : List BlockPhase) (mine : ℕ → List Passing) (session : PlainSession) (c : ℕ)
+    → IsPassedBy p phases mine session
+    → AreUpTo p phases k mine
     → first_step p session (k + 1) c ≡ length (all_calls (mine c))
 first_all p k phases mine session c h upto =
     first_is p phases mine session (k + 1) c h
@@ -44,14 +50,20 @@ first_all p k phases mine session c h upto =
 
 -- ---- what a passing more leaves as it was
 
-first_other : (p k : ℕ) (phases : List BlockPhase) (c : ℕ) (m : Passing) (mine more : ℕ → List Passing) (session later : PlainSession) (j d : ℕ) → GrowsBy p k phases c m mine more session later → (d ≡ c → ⊥)
+first_other : (p k : ℕ) (phases : List BlockPhase) (c : ℕ) (m : Passing) (mine more : ℕ → List Passing)
+    (session later : PlainSession) (j d : ℕ)
+    → GrowsBy p k phases c m mine more session later
+    → (d ≡ c → ⊥)
     → first_step p later j d ≡ first_step p session j d
 first_other p k phases c m mine more session later j d h other =
     first_is p phases more later j d h.then_by
     ∙ (ap (λ (ms : List Passing). length (calls_for ms 0 (begin_of p phases j d))) (h.passes.others d other)
     ∙ sym (first_is p phases mine session j d h.by))
 
-first_own : (p k : ℕ) (phases : List BlockPhase) (c : ℕ) (m : Passing) (mine more : ℕ → List Passing) (session later : PlainSession) (j : ℕ) → GrowsBy p k phases c m mine more session later → j ≤ k
+first_own : (p k : ℕ) (phases : List BlockPhase) (c : ℕ) (m : Passing) (mine more : ℕ → List Passing)
+    (session later : PlainSession) (j : ℕ)
+    → GrowsBy p k phases c m mine more session later
+    → j ≤ k
     → first_step p later j c ≡ first_step p session j c
 first_own p k phases c m mine more session later j h le =
     let o = slice_get (names_on p (blocks_of phases)) c in
@@ -61,48 +73,76 @@ first_own p k phases c m mine more session later j h le =
     ∙ (ap (λ (cs : List PlainCall). length cs) (early_same (mine c) m (begin_of p phases j c) 0 low)
     ∙ sym (first_is p phases mine session j c h.by)))
 
-first_stays : (p k : ℕ) (phases : List BlockPhase) (c : ℕ) (m : Passing) (mine more : ℕ → List Passing) (session later : PlainSession) (j d : ℕ) → GrowsBy p k phases c m mine more session later → j ≤ k
+first_stays : (p k : ℕ) (phases : List BlockPhase) (c : ℕ) (m : Passing) (mine more : ℕ → List Passing)
+    (session later : PlainSession) (j d : ℕ)
+    → GrowsBy p k phases c m mine more session later
+    → j ≤ k
     → first_step p later j d ≡ first_step p session j d
 first_stays p k phases c m mine more session later j d h le = elim (cases_eq d c) [
-  | inl same ↦ subst (λ (x : ℕ). first_step p later j x ≡ first_step p session j x) (sym same) (first_own p k phases c m mine more session later j h le)
+  | inl same ↦ subst (λ (x : ℕ). first_step p later j x ≡ first_step p session j x) (sym same)
+      (first_own p k phases c m mine more session later j h le)
   | inr other ↦ first_other p k phases c m mine more session later j d h other
 ]
 
-first_rises_own : (p k : ℕ) (phases : List BlockPhase) (c : ℕ) (m : Passing) (mine more : ℕ → List Passing) (session later : PlainSession) (j : ℕ) → GrowsBy p k phases c m mine more session later
+first_rises_own : (p k : ℕ) (phases : List BlockPhase) (c : ℕ) (m : Passing) (mine more : ℕ → List Passing)
+    (session later : PlainSession) (j : ℕ)
+    → GrowsBy p k phases c m mine more session later
     → first_step p session j c ≤ first_step p later j c
 first_rises_own p k phases c m mine more session later j h =
     let up = for_rises (mine c) m (begin_of p phases j c) 0 in
     let are = ap (λ (ms : List Passing). length (calls_for ms 0 (begin_of p phases j c))) h.passes.own in
     omega (arith, up, are, first_is p phases more later j c h.then_by, first_is p phases mine session j c h.by)
 
-first_more : (p k : ℕ) (phases : List BlockPhase) (c : ℕ) (m : Passing) (mine more : ℕ → List Passing) (session later : PlainSession) (j d : ℕ) → GrowsBy p k phases c m mine more session later
+first_more : (p k : ℕ) (phases : List BlockPhase) (c : ℕ) (m : Passing) (mine more : ℕ → List Passing)
+    (session later : PlainSession) (j d : ℕ)
+    → GrowsBy p k phases c m mine more session later
     → first_step p session j d ≤ first_step p later j d
 first_more p k phases c m mine more session later j d h = elim (cases_eq d c) [
-  | inl same ↦ subst (λ (x : ℕ). first_step p session j x ≤ first_step p later j x) (sym same) (first_rises_own p k phases c m mine more session later j h)
+  | inl same ↦ subst (λ (x : ℕ). first_step p session j x ≤ first_step p later j x) (sym same)
+      (first_rises_own p k phases c m mine more session later j h)
   | inr other ↦ (let same = first_other p k phases c m mine more session later j d h other in omega (arith, same))
 ]
 
-pub shape_of : (p k : ℕ) (phases : List BlockPhase) (c : ℕ) (m : Passing) (mine more : ℕ → List Passing) (session later : PlainSession) → GrowsBy p k phases c m mine more session later → HasShape p session later
+pub shape_of : (p k : ℕ) (phases : List BlockPhase) (c : ℕ) (m : Passing) (mine more : ℕ → List Passing)
+    (session later : PlainSession)
+    → GrowsBy p k phases c m mine more session later
+    → HasShape p session later
 shape_of p k phases c m mine more session later h =
-    same_shape p phases session later h.consoles h.flip (of_blocks p phases mine session h.by) (of_blocks p phases more later h.then_by)
+    same_shape p phases session later h.consoles h.flip (of_blocks p phases mine session h.by)
+    (of_blocks p phases more later h.then_by)
 
-then_within : (p k : ℕ) (phases : List BlockPhase) (c : ℕ) (m : Passing) (mine more : ℕ → List Passing) (session later : PlainSession) → GrowsBy p k phases c m mine more session later → k < length later.phases
+then_within : (p k : ℕ) (phases : List BlockPhase) (c : ℕ) (m : Passing) (mine more : ℕ → List Passing)
+    (session later : PlainSession)
+    → GrowsBy p k phases c m mine more session later
+    → k < length later.phases
 then_within p k phases c m mine more session later h =
     omega (arith, h.within, phases_same p session later (shape_of p k phases c m mine more session later h))
 
-calls_more : (p k : ℕ) (phases : List BlockPhase) (c : ℕ) (m : Passing) (mine more : ℕ → List Passing) (session later : PlainSession) → GrowsBy p k phases c m mine more session later → Grows (call_at p session) (call_at p later)
+calls_more : (p k : ℕ) (phases : List BlockPhase) (c : ℕ) (m : Passing) (mine more : ℕ → List Passing)
+    (session later : PlainSession)
+    → GrowsBy p k phases c m mine more session later
+    → Grows (call_at p session) (call_at p later)
 calls_more p k phases c m mine more session later h d step call is =
-    let was : slice_get (all_calls (mine d)) step ≡ Some call = sym (calls_all p k phases mine session d step h.by h.up_to) ∙ is in
+    let was : slice_get (all_calls (mine d)) step ≡ Some call =
+    sym (calls_all p k phases mine session d step h.by h.up_to) ∙ is in
     calls_all p k phases more later d step h.then_by h.then_up_to
     ∙ elim (cases_eq d c) [
-      | inl same ↦ subst (λ (x : ℕ). slice_get (all_calls (mine x)) step ≡ Some call → slice_get (all_calls (more x)) step ≡ Some call) (sym same)
-          (λ at. ap (λ (ms : List Passing). slice_get (all_calls ms) step) h.passes.own ∙ (ap (λ (cs : List PlainCall). slice_get cs step) (all_more (mine c) m) ∙ get_append (all_calls (mine c)) m.calls step call at)) was
+      | inl same ↦ subst
+          (λ (x : ℕ). slice_get (all_calls (mine x)) step ≡ Some call → slice_get (all_calls (more x)) step ≡ Some call)
+          (sym same)
+          (λ at.
+          ap (λ (ms : List Passing). slice_get (all_calls ms) step) h.passes.own
+          ∙ (ap (λ (cs : List PlainCall). slice_get cs step) (all_more (mine c) m)
+          ∙ get_append (all_calls (mine c)) m.calls step call at)) was
       | inr other ↦ ap (λ (ms : List Passing). slice_get (all_calls ms) step) (h.passes.others d other) ∙ was
     ]
 
 -- ---- it grew
 
-pub grew : (p k : ℕ) (phases : List BlockPhase) (c : ℕ) (m : Passing) (mine more : ℕ → List Passing) (session later : PlainSession) → GrowsBy p k phases c m mine more session later → Grew p k session later
+pub grew : (p k : ℕ) (phases : List BlockPhase) (c : ℕ) (m : Passing) (mine more : ℕ → List Passing)
+    (session later : PlainSession)
+    → GrowsBy p k phases c m mine more session later
+    → Grew p k session later
 grew p k phases c m mine more session later h =
     let then_in = then_within p k phases c m mine more session later h in
     let within = h.within in
@@ -125,8 +165,11 @@ grew p k phases c m mine more session later h =
     }
 
 -- who has ended has passed nothing more down
-pub keeps_ended : (p k : ℕ) (phases : List BlockPhase) (c : ℕ) (m : Passing) (mine more : ℕ → List Passing) (session later : PlainSession) (t : Terminal) → GrowsBy p k phases c m mine more session later
-    → (caller_at t c).over ≡ false → KeepsEnded p k session later t
+pub keeps_ended : (p k : ℕ) (phases : List BlockPhase) (c : ℕ) (m : Passing) (mine more : ℕ → List Passing)
+    (session later : PlainSession) (t : Terminal)
+    → GrowsBy p k phases c m mine more session later
+    → (caller_at t c).over ≡ false
+    → KeepsEnded p k session later t
 keeps_ended p k phases c m mine more session later t h on d over =
     let other : d ≡ c → ⊥ = λ e. false≢true (sym (ap (λ (x : ℕ). (caller_at t x).over) e ∙ on) ∙ over) in
     let here = first_other p k phases c m mine more session later k d h other in
@@ -137,13 +180,18 @@ keeps_ended p k phases c m mine more session later t h on d over =
 
 -- ---- and the port agrees with it
 
-pub agrees_then : (p : ℕ) (phases : List BlockPhase) (c : ℕ) (m : Passing) (mine more : ℕ → List Passing) (session later : PlainSession) (scripts : List Script) (roles : List Role) (v : PortValue) (stand : Stand)
-    → Plays (record { port = p; session = session }) scripts roles v stand → GrowsBy p v.terminal.phase phases c m mine more session later → (caller_at v.terminal c).over ≡ false
+pub agrees_then : (p : ℕ) (phases : List BlockPhase) (c : ℕ) (m : Passing) (mine more : ℕ → List Passing)
+    (session later : PlainSession) (scripts : List Script) (roles : List Role) (v : PortValue) (stand : Stand)
+    → Plays (record { port = p; session = session }) scripts roles v stand
+    → GrowsBy p v.terminal.phase phases c m mine more session later
+    → (caller_at v.terminal c).over ≡ false
     → Agrees (record { port = p; session = later }) v
 agrees_then p phases c m mine more session later scripts roles v stand plays h on =
     let k = v.terminal.phase in
     let grown = grew p k phases c m mine more session later h in
-    let run = grows p session later v.journal v.terminal grown (keeps_ended p k phases c m mine more session later v.terminal h on) plays.run plays.of_scene.in_phases plays.of_scene.turns in
+    let run = grows p session later v.journal v.terminal grown
+    (keeps_ended p k phases c m mine more session later v.terminal h on)
+    plays.run plays.of_scene.in_phases plays.of_scene.turns in
     record {
       known = λ d step call is. grown.calls d step call (plays.of_scene.known d step call is);
       in_phases = run.1;

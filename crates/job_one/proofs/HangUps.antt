@@ -1,5 +1,7 @@
 -- The hangup for a process that has ended.
-use Rattle.std.proofs.Common.{◌≡◌, ◌≤◌, ◌<◌, ℕ, ◌+◌, Bool, true, false, List, [], ◌∷◌, ◌++◌, Option, None, Some, IsTrue, is_some, length, map, get_or, if◌then◌else◌, refl, sym, ap, ◌∙◌, subst, arith, length-append}
+use Rattle.std.proofs.Common.{◌≡◌, ◌≤◌, ◌<◌, ℕ, ◌+◌, Bool, true, false, List, [], ◌∷◌, ◌++◌}
+use Rattle.std.proofs.Common.{Option, None, Some, IsTrue, is_some, length, map, get_or}
+use Rattle.std.proofs.Common.{if◌then◌else◌, refl, sym, ap, ◌∙◌, subst, arith, length-append}
 use Rattle.std.specs.Prelude.{◌&&◌, All, position, slice_get, slice_index_or}
 use Rattle.std.specs.Option.{option_to_list}
 use Rattle.std.proofs.lemmas.Bool.{false≢true}
@@ -63,7 +65,8 @@ use Rattle.job_one.proofs.Witnessed.{in_call}
 abbrev pub hangups : (c : ℕ) → Option ℕ → List JobEvent
 hangups c handle = map (passed_down c) (option_to_list handle)
 
-pub due_parts : (d : Due) (c : ℕ) (least : Option ℕ) → due_events d c least ≡ due_events d c None ++ hangups c (hangup_due d least)
+pub due_parts : (d : Due) (c : ℕ) (least : Option ℕ)
+    → due_events d c least ≡ due_events d c None ++ hangups c (hangup_due d least)
 due_parts due.Nothing c least = refl
 due_parts (due.Signal signal target) c least = refl
 due_parts (due.Left target) c least = refl
@@ -84,22 +87,29 @@ least_is (due.Ended target) least h e = e
 -- ---- the log behind its end
 
 -- signals tell nothing of steps
-latest_sent : (x : DeskState) (at : ℕ) (es : List JobEvent) → AreSent es → latest_on (all_noted x at es).log x.number ≡ latest_on x.log x.number
+latest_sent : (x : DeskState) (at : ℕ) (es : List JobEvent)
+    → AreSent es
+    → latest_on (all_noted x at es).log x.number ≡ latest_on x.log x.number
 latest_sent x at [] are = refl
 latest_sent x at (own c step answer ∷ es) are = absurd are
 latest_sent x at (passed c step answer ∷ es) are = absurd are
 latest_sent x at (passed_down c h ∷ es) are = absurd are
-latest_sent x at (sent signal target ∷ es) are = latest_sent (noted x at (sent signal target)) at es are ∙ latest_is x.log x.number at (sent signal target)
+latest_sent x at (sent signal target ∷ es) are =
+    latest_sent (noted x at (sent signal target)) at es are ∙ latest_is x.log x.number at (sent signal target)
 
-passings_sent : (session : JobsSession) (x : DeskState) (at : ℕ) (es : List JobEvent) → AreSent es → passings_on session (all_noted x at es).log x.number ≡ passings_on session x.log x.number
+passings_sent : (session : JobsSession) (x : DeskState) (at : ℕ) (es : List JobEvent)
+    → AreSent es
+    → passings_on session (all_noted x at es).log x.number ≡ passings_on session x.log x.number
 passings_sent session x at [] are = refl
 passings_sent session x at (own c step answer ∷ es) are = absurd are
 passings_sent session x at (passed c step answer ∷ es) are = absurd are
 passings_sent session x at (passed_down c h ∷ es) are = absurd are
 passings_sent session x at (sent signal target ∷ es) are =
-    passings_sent session (noted x at (sent signal target)) at es are ∙ logged_more session x.log x.number at (sent signal target) refl
+    passings_sent session (noted x at (sent signal target)) at es are
+    ∙ logged_more session x.log x.number at (sent signal target) refl
 
-module _ (d x : DeskState) (at c : ℕ) (answer : JobAnswer) (left : JobState) (es : List JobEvent) (are : AreSent es) (said : x ≡ all_noted (record (answered_own d at c answer) { jobs = left }) at es) where
+module _ (d x : DeskState) (at c : ℕ) (answer : JobAnswer) (left : JobState) (es : List JobEvent) (are : AreSent es)
+    (said : x ≡ all_noted (record (answered_own d at c answer) { jobs = left }) at es) where
   abbrev step : ℕ
   step = slice_index_or d.next c 0
 
@@ -111,13 +121,19 @@ module _ (d x : DeskState) (at c : ℕ) (answer : JobAnswer) (left : JobState) (
       ap (λ (q : ℕ). latest_on x.log q) number ∙ (ap (λ (z : DeskState). latest_on z.log d.number) said
       ∙ (latest_sent y at es are ∙ latest_is d.log d.number at (own c step answer)))
 
-  pub passings_own : (session : JobsSession) (p : ℕ) → p ≡ d.number → passings_on session x.log p ≡ passings_on session d.log p
+  pub passings_own : (session : JobsSession) (p : ℕ)
+      → p ≡ d.number
+      → passings_on session x.log p ≡ passings_on session d.log p
   passings_own session p number =
-      ap (λ (q : ℕ). passings_on session x.log q) number ∙ (ap (λ (z : DeskState). passings_on session z.log d.number) said
-      ∙ (passings_sent session y at es are ∙ (logged_more session d.log d.number at (own c step answer) refl ∙ ap (λ (q : ℕ). passings_on session d.log q) (sym number))))
+      ap (λ (q : ℕ). passings_on session x.log q) number
+      ∙ (ap (λ (z : DeskState). passings_on session z.log d.number) said
+      ∙ (passings_sent session y at es are
+      ∙ (logged_more session d.log d.number at (own c step answer) refl
+      ∙ ap (λ (q : ℕ). passings_on session d.log q) (sym number))))
 
   pub step_behind : c < length d.next → slice_index_or x.next c 0 ≡ step + 1
-  step_behind known = ap (λ (z : DeskState). slice_index_or z.next c 0) (said ∙ all_as y at es) ∙ step_own d.next c (step + 1) known
+  step_behind known =
+      ap (λ (z : DeskState). slice_index_or z.next c 0) (said ∙ all_as y at es) ∙ step_own d.next c (step + 1) known
 
 -- ---- the attempt
 
@@ -127,14 +143,22 @@ bound_none (Some b) now e = absurd (false≢true (sym e))
 
 live_does : (t : Terminal) (o : Option HandleState) (live : Outcome) → IsTrue (is_live o) → on_live t o live ≡ live
 live_does t None live is = absurd (false≢true is)
-live_does t (Some handle) live is = ap (λ (b : Bool). if b then live else on_live t (Some (record handle { live = false })) live) is
+live_does t (Some handle) live is =
+    ap (λ (b : Bool). if b then live else on_live t (Some (record handle { live = false })) live) is
 
 -- through a live handle it does what it is for
-hangup_is : (t : Terminal) (s : CallerState) (h : ℕ) → has_begun s ≡ false → IsTrue (is_live (handle_at t h)) → outcome t s (hangs_up h) ≡ gives done true (after_hangup t)
+hangup_is : (t : Terminal) (s : CallerState) (h : ℕ)
+    → has_begun s ≡ false
+    → IsTrue (is_live (handle_at t h))
+    → outcome t s (hangs_up h) ≡ gives done true (after_hangup t)
 hangup_is t s h rest live =
-    ap (λ (o : Option HandleState). on_live t o (hangup_outcome t)) (bound_none s.bound (handle_at t h) rest) ∙ live_does t (handle_at t h) (hangup_outcome t) live
+    ap (λ (o : Option HandleState). on_live t o (hangup_outcome t)) (bound_none s.bound (handle_at t h) rest)
+    ∙ live_does t (handle_at t h) (hangup_outcome t) live
 
-done_answer : (may : Bool) (left : Terminal) (answer : PlainAnswer) (o : Outcome) → o ≡ gives done true left → Answers may o answer → answer ≡ done
+done_answer : (may : Bool) (left : Terminal) (answer : PlainAnswer) (o : Outcome)
+    → o ≡ gives done true left
+    → Answers may o answer
+    → answer ≡ done
 done_answer may left answer o is h = subst (λ (x : Outcome). Answers may x answer) is h
 
 no_part : (left : Terminal) (n : ℕ) (o : Outcome) → o ≡ gives done true left → TakesPart o n → ⊥
@@ -143,21 +167,32 @@ no_part left n o is h = subst (λ (x : Outcome). TakesPart x n) is h
 no_wait : (left : Terminal) (o : Outcome) → o ≡ gives done true left → MustWait o → ⊥
 no_wait left o is h = subst MustWait is h
 
-module _ (old new : PortValue) (c h : ℕ) (rest : begun_at old c ≡ false) (live : IsTrue (is_live (handle_at old.terminal h))) (makes : MakesCall old new c (hangs_up h)) where
+module _ (old new : PortValue) (c h : ℕ) (rest : begun_at old c ≡ false)
+    (live : IsTrue (is_live (handle_at old.terminal h))) (makes : MakesCall old new c (hangs_up h)) where
   abbrev next : ℕ
   next = (caller_at old.terminal c).next
 
-  known : (v : PortValue) → new.kept ≡ v.kept → outcome_of old.terminal (caller_at old.terminal c) (call_in v.kept c next) ≡ gives done true (after_hangup old.terminal)
+  known : (v : PortValue)
+      → new.kept ≡ v.kept
+      → outcome_of old.terminal (caller_at old.terminal c) (call_in v.kept c next)
+      ≡ gives done true (after_hangup old.terminal)
   known v kept =
-      ap (λ (o : Option PlainCall). outcome_of old.terminal (caller_at old.terminal c) o) (ap (λ ks. call_in ks c next) (sym kept) ∙ makes.kept)
+      ap (λ (o : Option PlainCall). outcome_of old.terminal (caller_at old.terminal c) o)
+      (ap (λ ks. call_in ks c next) (sym kept) ∙ makes.kept)
       ∙ hangup_is old.terminal (caller_at old.terminal c) h rest live
 
   pub is_done : (tried : PlainTried) → Attempts old new c next (hangs_up h) tried → tried ≡ done_by done
   is_done (done_by answer) a =
       ap (λ (x : PlainAnswer). done_by x)
-      (done_answer (is_some (caller_at old.terminal c).waits && quiet old.counts old.terminal) (after_hangup old.terminal) answer _ (known (with_call old c next (hangs_up h)) (ap (λ (v : PortValue). v.kept) a.appends.appended)) a.appends.allowed.1.answer)
-  is_done took_part a = absurd (no_part (after_hangup old.terminal) a.count _ (known (with_call old c next (hangs_up h)) (ap (λ (v : PortValue). v.kept) a.appends.appended)) a.appends.allowed.1.takes)
-  is_done must_wait a = absurd (no_wait (after_hangup old.terminal) _ (hangup_is old.terminal (caller_at old.terminal c) h rest live) a.must)
+      (done_answer (is_some (caller_at old.terminal c).waits && quiet old.counts old.terminal)
+      (after_hangup old.terminal) answer _
+      (known (with_call old c next (hangs_up h)) (ap (λ (v : PortValue). v.kept) a.appends.appended))
+      a.appends.allowed.1.answer)
+  is_done took_part a = absurd (no_part (after_hangup old.terminal) a.count _
+      (known (with_call old c next (hangs_up h)) (ap (λ (v : PortValue). v.kept) a.appends.appended))
+      a.appends.allowed.1.takes)
+  is_done must_wait a = absurd
+      (no_wait (after_hangup old.terminal) _ (hangup_is old.terminal (caller_at old.terminal c) h rest live) a.must)
 
 -- ---- the turn
 
@@ -165,10 +200,18 @@ module _ (f : Frame) (roles : List Role) where
   abbrev p : ℕ
   p = f.first.port
 
-  pub hanging_up : (v : PortValue) (d x : DeskState) (stand : Stand) (place handle at : ℕ) (answer : JobAnswer) (left : JobState) (signals : Due) (job_call : JobCall) → IsFrameWithin f → IsAtTurn f roles v d stand → IsNextTurn f roles v stand (turn.Call place)
-      → IsPort v → (h : IsNextOf f roles d place job_call) → begun_at v h.role.number ≡ false
+  pub hanging_up : (v : PortValue) (d x : DeskState) (stand : Stand) (place handle at : ℕ) (answer : JobAnswer)
+      (left : JobState) (signals : Due) (job_call : JobCall)
+      → IsFrameWithin f
+      → IsAtTurn f roles v d stand
+      → IsNextTurn f roles v stand (turn.Call place)
+      → IsPort v
+      → (h : IsNextOf f roles d place job_call)
+      → begun_at v h.role.number ≡ false
       → hangup_due signals (position is_live v.terminal.handles) ≡ Some handle
-      → x ≡ all_noted (record (answered_own d at h.role.number answer) { jobs = left }) at (due_events signals h.role.number None)
+      → x
+      ≡ all_noted (record (answered_own d at h.role.number answer) { jobs = left }) at
+      (due_events signals h.role.number None)
       → IsOwing f roles v x stand (passed_down h.role.number handle ∷ [])
       → IsHangingUp f roles v x stand place handle
   hanging_up v d x stand place handle at answer left signals job_call frame was is port h rest hangs said owing =
@@ -177,14 +220,19 @@ module _ (f : Frame) (roles : List Role) where
       let are = signals_due signals c in
       let k = f.start.terminal.phase in
       let phase = phase_is f roles v d stand [] was in
-      let latest : latest_on x.log p ≡ slice_index_or d.next c 0 = latest_own d x at c answer left es are said p was.number in
-      let passings : passings_on f.session x.log p ≡ passings_on f.session d.log p = passings_own d x at c answer left es are said f.session p was.number in
-      let next : slice_index_or x.next c 0 ≡ slice_index_or d.next c 0 + 1 = step_behind d x at c answer left es are said h.known in
-      let found = position-Some is_live v.terminal.handles handle None (least_is signals (position is_live v.terminal.handles) handle hangs) in
+      let latest : latest_on x.log p ≡ slice_index_or d.next c 0 =
+      latest_own d x at c answer left es are said p was.number in
+      let passings : passings_on f.session x.log p ≡ passings_on f.session d.log p =
+      passings_own d x at c answer left es are said f.session p was.number in
+      let next : slice_index_or x.next c 0 ≡ slice_index_or d.next c 0 + 1 =
+      step_behind d x at c answer left es are said h.known in
+      let found = position-Some is_live v.terminal.handles handle None
+      (least_is signals (position is_live v.terminal.handles) handle hangs) in
       let few : handle < 32 = subst (λ (n : ℕ). handle < n) (are_numbers v port) found.0 in
       let before : AreLoggedBefore f.session x.log p c (latest_on x.log p) =
       subst (λ (n : ℕ). AreLoggedBefore f.session x.log p c n) (sym latest)
-      (subst (λ (ms : List Passing). All (λ m. m.step < slice_index_or d.next c 0) (by_caller c ms)) (sym passings) (was.playing.logged_before c)) in
+      (subst (λ (ms : List Passing). All (λ m. m.step < slice_index_or d.next c 0) (by_caller c ms)) (sym passings)
+      (was.playing.logged_before c)) in
       record {
         role = h.role;
         at_place = h.at_place;
@@ -193,31 +241,56 @@ module _ (f : Frame) (roles : List Role) where
         live = found.1;
         few = few;
         latest = omega (arith, latest, next);
-        calling = hangup_begins f.first f.session f.scripts roles f.start x.log v (record (value_at x) { due = passed_down c handle ∷ [] }) f.ticks stand place h.role handle owing.playing is h.at_place rest frame.of_blocks frame.blocks
+        calling = hangup_begins f.first f.session f.scripts roles f.start x.log v
+            (record (value_at x) { due = passed_down c handle ∷ [] }) f.ticks stand place h.role handle owing.playing
+            is h.at_place rest frame.of_blocks frame.blocks
             (record { handle = few; bytes = omega arith }) before
-            (subst (λ (j : ℕ). begin_of p (block_phases f.session) j c ≤ latest_on x.log p) (sym phase) (omega (arith, h.from, latest)))
-            (subst (λ (j : ℕ). latest_on x.log p < begin_of p (block_phases f.session) (j + 1) c) (sym phase) (omega (arith, h.to, latest)));
+            (subst (λ (j : ℕ). begin_of p (block_phases f.session) j c ≤ latest_on x.log p) (sym phase)
+            (omega (arith, h.from, latest)))
+            (subst (λ (j : ℕ). latest_on x.log p < begin_of p (block_phases f.session) (j + 1) c) (sym phase)
+            (omega (arith, h.to, latest)));
       }
 
-  pub in_hangup : (v : PortValue) (d : DeskState) (stand : Stand) (place handle : ℕ) → IsHangingUp f roles v d stand place handle → IsNextTurn f roles v stand (turn.Call place) → InCall roles v stand place (hangs_up handle)
+  pub in_hangup : (v : PortValue) (d : DeskState) (stand : Stand) (place handle : ℕ)
+      → IsHangingUp f roles v d stand place handle
+      → IsNextTurn f roles v stand (turn.Call place)
+      → InCall roles v stand place (hangs_up handle)
   in_hangup v d stand place handle h is =
-      in_call f.first (block_phases f.session) f.scripts roles f.start (hangup_with f.session d.log p (value_at d) v h.role.number handle) v f.ticks stand place (hangs_up handle) h.calling is
+      in_call f.first (block_phases f.session) f.scripts roles f.start
+      (hangup_with f.session d.log p (value_at d) v h.role.number handle) v f.ticks stand place (hangs_up handle)
+      h.calling is
 
-  pub takes_hangup : (old new : PortValue) (d x : DeskState) (was now : Stand) (place handle : ℕ) (tried : PlainTried) (r : Role) → (h : IsHangingUp f roles old d was place handle) → IsNextTurn f roles old was (turn.Call place)
-      → IsPort old → IsPort new → IsOpen old → TriesCall roles old new place (hangs_up handle) tried → PlaysCall roles old new was now place (hangs_up handle)
-      → x ≡ noted d (length new.journal) (passed_down (get_or roles place r).number handle) → TakesTurn f roles old new d x now
+  pub takes_hangup : (old new : PortValue) (d x : DeskState) (was now : Stand) (place handle : ℕ) (tried : PlainTried)
+      (r : Role) → (h : IsHangingUp f roles old d was place handle)
+      → IsNextTurn f roles old was (turn.Call place)
+      → IsPort old
+      → IsPort new
+      → IsOpen old
+      → TriesCall roles old new place (hangs_up handle) tried
+      → PlaysCall roles old new was now place (hangs_up handle)
+      → x ≡ noted d (length new.journal) (passed_down (get_or roles place r).number handle)
+      → TakesTurn f roles old new d x now
   takes_hangup old new d x was now place handle tried r h is port later room tries plays said =
       let c = h.role.number in
       let n = length new.journal in
       let call = hangs_up handle in
       let makes = makes_as roles old new place h.role call h.at_place tried tries in
-      let done_is : tried ≡ done_by done = is_done old new c handle h.rests h.live makes tried (attempts_as roles old new place h.role call h.at_place tried tries) in
-      let tries_done : TriesCall roles old new place call (done_by done) = subst (λ (t : PlainTried). TriesCall roles old new place call t) done_is tries in
+      let done_is : tried ≡ done_by done =
+      is_done old new c handle h.rests h.live makes tried
+      (attempts_as roles old new place h.role call h.at_place tried tries) in
+      let tries_done : TriesCall roles old new place call (done_by done) =
+      subst (λ (t : PlainTried). TriesCall roles old new place call t) done_is tries in
       let in_it = in_hangup old d was place handle h is in
-      let on : PlaysOnIn HasAnyOrder in_it.in_turn.scene in_it.in_turn.scripts roles old new was now = (plays.each in_it).on in
-      let going = hangup_goes_on f.first f.session f.scripts roles f.start d.log old new (record (value_at d) { due = passed_down c handle ∷ [] }) f.ticks was now place h.role handle h.owing.playing h.calling is h.at_place h.rests refl h.latest tries_done plays in
+      let on : PlaysOnIn HasAnyOrder in_it.in_turn.scene in_it.in_turn.scripts roles old new was now =
+      (plays.each in_it).on in
+      let going = hangup_goes_on f.first f.session f.scripts roles f.start d.log old new
+      (record (value_at d) { due = passed_down c handle ∷ [] }) f.ticks was now place h.role handle h.owing.playing
+      h.calling is h.at_place h.rests refl h.latest tries_done plays in
       let y : DeskState = noted d n (passed_down c handle) in
-      let y_is : x ≡ y = said ∙ ap (λ (q : Role). noted d n (passed_down q.number handle)) (get_or_from_slice_get roles place h.role r h.at_place) in
+      let y_is : x ≡ y =
+      said
+      ∙ ap (λ (q : Role). noted d n (passed_down q.number handle))
+      (get_or_from_slice_get roles place h.role r h.at_place) in
       let still : signals_of new.terminal ≡ signals_of old.terminal =
       signals_stay old new makes.entry port later
       (record {
@@ -228,18 +301,28 @@ module _ (f : Frame) (roles : List Role) where
       }) (call_no_flush makes.entry.event makes.of_call) in
       let at_y : IsAtTurn f roles new y now = record {
         number = h.owing.number;
-        playing = subst (λ (q : ℕ). IsPlayingJobs f.first f.session f.scripts roles f.start (d.log ++ record { port = q; at = n; event = passed_down c handle } ∷ []) new (value_at y) f.ticks now) h.owing.number going;
+        playing = subst (λ (q : ℕ). IsPlayingJobs f.first f.session f.scripts roles f.start
+            (d.log ++ record { port = q; at = n; event = passed_down c handle } ∷ []) new (value_at y) f.ticks now)
+            h.owing.number going;
         all_sent = subst (λ (ss : List Signal). length ss ≤ d.sent) (sym still) h.owing.all_sent;
       } in
       record {
         at = subst (λ (z : DeskState). IsAtTurn f roles new z now) (sym y_is) at_y;
-        desk = subst (λ (z : DeskState). Advances false 0 d z) (sym y_is) (record { callers = refl; procs = refl; next = refl });
-        over = λ q. over_call in_it.in_turn.scene old new on.adds q (call_is old new c call makes in_it.in_turn.scene on.adds);
-        gone = (omega (arith, room.0, in_it.in_turn.plays.of_scene.limit), ap (λ (es : List PlainEntry). length es) makes.added ∙ length-append old.journal (makes.entry ∷ []));
+        desk = subst (λ (z : DeskState). Advances false 0 d z) (sym y_is)
+            (record { callers = refl; procs = refl; next = refl });
+        over = λ q.
+            over_call in_it.in_turn.scene old new on.adds q (call_is old new c call makes in_it.in_turn.scene on.adds);
+        gone = (
+          omega (arith, room.0, in_it.in_turn.plays.of_scene.limit),
+          ap (λ (es : List PlainEntry). length es) makes.added ∙ length-append old.journal (makes.entry ∷ []),
+        );
       }
 
   -- behind the call that its process ended by
-  pub takes_exit : (old new : PortValue) (d y x : DeskState) (now : Stand) (place : ℕ) (r : Role) → slice_get roles place ≡ Some r → Advances true r.number d y → TakesTurn f roles old new y x now
+  pub takes_exit : (old new : PortValue) (d y x : DeskState) (now : Stand) (place : ℕ) (r : Role)
+      → slice_get roles place ≡ Some r
+      → Advances true r.number d y
+      → TakesTurn f roles old new y x now
       → TakesCall f roles place old new d x (record { answered = true; stand = now })
   takes_exit old new d y x now place r is advances h = record {
     at = h.at;
@@ -256,14 +339,23 @@ module _ (f : Frame) (roles : List Role) where
   pub record IsControlled (v : PortValue) (d x : DeskState) (stand : Stand) (c : ℕ) (signals : Due) : Type 0 where
     pub answer : JobAnswer
     pub left : JobState
-    pub said : x ≡ all_noted (record (answered_own d (length v.journal) c answer) { jobs = left }) (length v.journal) (due_events signals c None)
+    pub said : x
+        ≡ all_noted (record (answered_own d (length v.journal) c answer) { jobs = left }) (length v.journal)
+        (due_events signals c None)
     pub owing : IsOwing f roles v x stand (hangups c (hangup_due signals (position is_live v.terminal.handles)))
     pub advances : Advances true c d x
 
-  pub is_controlled : (v : PortValue) (d x : DeskState) (stand : Stand) (place : ℕ) (own_call : OwnCall) (r : Role) (signals : Due) → IsAtTurn f roles v d stand → IsNextTurn f roles v stand (turn.Call place) → IsPort v
+  pub is_controlled : (v : PortValue) (d x : DeskState) (stand : Stand) (place : ℕ) (own_call : OwnCall) (r : Role)
+      (signals : Due)
+      → IsAtTurn f roles v d stand
+      → IsNextTurn f roles v stand (turn.Call place)
+      → IsPort v
       → (h : IsNextOf f roles d place (further own_call))
-      → due_events signals (get_or roles place r).number (position is_live v.terminal.handles) ≡ (own_outcome d v (get_or roles place r).number own_call).due
-      → x ≡ controlled d v (get_or roles place r).number (own_outcome d v (get_or roles place r).number own_call) (due_events signals (get_or roles place r).number None)
+      → due_events signals (get_or roles place r).number (position is_live v.terminal.handles)
+      ≡ (own_outcome d v (get_or roles place r).number own_call).due
+      → x
+      ≡ controlled d v (get_or roles place r).number (own_outcome d v (get_or roles place r).number own_call)
+      (due_events signals (get_or roles place r).number None)
       → IsControlled v d x stand h.role.number signals
   is_controlled v d x stand place own_call r signals at is port h due_by said =
       let c = h.role.number in
@@ -273,31 +365,57 @@ module _ (f : Frame) (roles : List Role) where
       let out = comes_to d.jobs v.terminal (proc_in f.session p c) c (further own_call) in
       let es = due_events signals c None in
       let least = position is_live v.terminal.handles in
-      let out_is : own_outcome d v c own_call ≡ out = ap (λ (q : ℕ). comes_to d.jobs v.terminal q c (further own_call)) h.proc in
+      let out_is : own_outcome d v c own_call ≡ out =
+      ap (λ (q : ℕ). comes_to d.jobs v.terminal q c (further own_call)) h.proc in
       let due_here : due_events signals c least ≡ (own_outcome d v c own_call).due =
       subst (λ (z : Role). due_events signals z.number least ≡ (own_outcome d v z.number own_call).due) role due_by in
-      let due_is : out.due ≡ es ++ hangups c (hangup_due signals least) = sym (ap (λ (o : Came). o.due) out_is) ∙ (sym due_here ∙ due_parts signals c least) in
+      let due_is : out.due ≡ es ++ hangups c (hangup_due signals least) =
+      sym (ap (λ (o : Came). o.due) out_is) ∙ (sym due_here ∙ due_parts signals c least) in
       let said_is : x ≡ all_noted (record (answered_own d n c out.answer) { jobs = out.left }) n es =
-      said ∙ (ap (λ (z : Role). controlled d v z.number (own_outcome d v z.number own_call) (due_events signals z.number None)) role ∙ ap (λ (o : Came). controlled d v c o es) out_is) in
+      said
+      ∙ (ap
+      (λ (z : Role). controlled d v z.number (own_outcome d v z.number own_call) (due_events signals z.number None))
+      role
+      ∙ ap (λ (o : Came). controlled d v c o es) out_is) in
       record {
         answer = out.answer;
         left = out.left;
         said = said_is;
-        owing = own_owing f roles v d x stand place (further own_call) es (hangups c (hangup_due signals least)) at is port its (signals_due signals c) due_is said_is;
-        advances = own_advances f roles d x n c out.answer out.left es (procs_same d.jobs v.terminal (proc_in f.session p c) c (further own_call)) said_is;
+        owing = own_owing f roles v d x stand place (further own_call) es (hangups c (hangup_due signals least)) at is
+            port its (signals_due signals c) due_is said_is;
+        advances = own_advances f roles d x n c out.answer out.left es
+            (procs_same d.jobs v.terminal (proc_in f.session p c) c (further own_call)) said_is;
       }
 
-  pub takes_controlled : (v : PortValue) (d x : DeskState) (stand : Stand) (place : ℕ) (job_call : JobCall) (signals : Due) → (h : IsNextOf f roles d place job_call) → IsControlled v d x stand h.role.number signals
-      → hangup_due signals (position is_live v.terminal.handles) ≡ None → TakesCall f roles place v v d x (record { answered = true; stand = stand })
+  pub takes_controlled : (v : PortValue) (d x : DeskState) (stand : Stand) (place : ℕ) (job_call : JobCall)
+      (signals : Due) → (h : IsNextOf f roles d place job_call)
+      → IsControlled v d x stand h.role.number signals
+      → hangup_due signals (position is_live v.terminal.handles) ≡ None
+      → TakesCall f roles place v v d x (record { answered = true; stand = stand })
   takes_controlled v d x stand place job_call signals h done_so none =
-      takes_own f roles v d x stand place h.role h.at_place (subst (λ (o : Option ℕ). IsOwing f roles v x stand (hangups h.role.number o)) none done_so.owing) done_so.advances
+      takes_own f roles v d x stand place h.role h.at_place
+      (subst (λ (o : Option ℕ). IsOwing f roles v x stand (hangups h.role.number o)) none done_so.owing)
+      done_so.advances
 
-  pub hangs_controlled : (v : PortValue) (d x : DeskState) (stand : Stand) (place handle : ℕ) (own_call : OwnCall) (signals : Due) → IsFrameWithin f → IsAtTurn f roles v d stand → IsNextTurn f roles v stand (turn.Call place)
-      → IsPort v → (h : IsNextOf f roles d place (further own_call)) → IsControlled v d x stand h.role.number signals → hangup_due signals (position is_live v.terminal.handles) ≡ Some handle → IsHangingUp f roles v x stand place handle
+  pub hangs_controlled : (v : PortValue) (d x : DeskState) (stand : Stand) (place handle : ℕ) (own_call : OwnCall)
+      (signals : Due)
+      → IsFrameWithin f
+      → IsAtTurn f roles v d stand
+      → IsNextTurn f roles v stand (turn.Call place)
+      → IsPort v
+      → (h : IsNextOf f roles d place (further own_call))
+      → IsControlled v d x stand h.role.number signals
+      → hangup_due signals (position is_live v.terminal.handles) ≡ Some handle
+      → IsHangingUp f roles v x stand place handle
   hangs_controlled v d x stand place handle own_call signals frame at is port h done_so hangs =
-      hanging_up v d x stand place handle (length v.journal) done_so.answer done_so.left signals (further own_call) frame at is port h (rests_own f roles v d stand h.role.number own_call at h.has) hangs done_so.said
+      hanging_up v d x stand place handle (length v.journal) done_so.answer done_so.left signals (further own_call)
+      frame at is port h (rests_own f roles v d stand h.role.number own_call at h.has) hangs done_so.said
       (subst (λ (o : Option ℕ). IsOwing f roles v x stand (hangups h.role.number o)) hangs done_so.owing)
 
-  pub takes_hung_up : (old new : PortValue) (d y x : DeskState) (was now : Stand) (place : ℕ) (job_call : JobCall) (signals : Due) → (h : IsNextOf f roles d place job_call) → IsControlled old d y was h.role.number signals
-      → TakesTurn f roles old new y x now → TakesCall f roles place old new d x (record { answered = true; stand = now })
-  takes_hung_up old new d y x was now place job_call signals h done_so t = takes_exit old new d y x now place h.role h.at_place done_so.advances t
+  pub takes_hung_up : (old new : PortValue) (d y x : DeskState) (was now : Stand) (place : ℕ) (job_call : JobCall)
+      (signals : Due) → (h : IsNextOf f roles d place job_call)
+      → IsControlled old d y was h.role.number signals
+      → TakesTurn f roles old new y x now
+      → TakesCall f roles place old new d x (record { answered = true; stand = now })
+  takes_hung_up old new d y x was now place job_call signals h done_so t =
+      takes_exit old new d y x now place h.role h.at_place done_so.advances t

@@ -1,5 +1,7 @@
 -- One event more in the log of a port whose journal still grows.
-use Rattle.std.proofs.Common.{◌≡◌, ◌≤◌, ◌<◌, ℕ, zero, suc, ◌+◌, ◌-◌, Bool, true, false, List, [], ◌∷◌, ◌++◌, IsTrue, Option, None, Some, length, if◌then◌else◌, map, filter, take, cond, refl, sym, ap, ◌∙◌, subst, arith, length-append, append_assoc}
+use Rattle.std.proofs.Common.{◌≡◌, ◌≤◌, ◌<◌, ℕ, zero, suc, ◌+◌, ◌-◌, Bool, true, false, List, [], ◌∷◌}
+use Rattle.std.proofs.Common.{◌++◌, IsTrue, Option, None, Some, length, if◌then◌else◌, map, filter}
+use Rattle.std.proofs.Common.{take, cond, refl, sym, ap, ◌∙◌, subst, arith, length-append, append_assoc}
 use Rattle.std.specs.Prelude.{slice_get, sum, nat_le, option_map, ◌==◌}
 use Rattle.std.proofs.lemmas.Bool.{eq-eqb}
 use Rattle.std.proofs.lemmas.Bool.Decides.{nat_tests}
@@ -7,7 +9,10 @@ use Rattle.std.proofs.lemmas.List.Elements.{filter-append}
 use Rattle.std.proofs.lemmas.List.{length-map}
 use Rattle.journal_check.proofs.NameLemmas.{get_past}
 use Rattle.tty_base.specs.declared.counters.Signal.{Signal}
-use Rattle.tty_calls.specs.Plain.{PlainCall, opens, closes, reads, writes, gets_modes, sets_modes, gets_disc, sets_disc, flushes, steers, counts_input, counts_output, excludes, admits, drains, gets_counts, hangs_up, sends_packet, takes_packet, PlainAnswer, done, count_is, got, number_is, modes_are, counts_are, refused, idle, PlainEntry}
+use Rattle.tty_calls.specs.Plain.{PlainCall, opens, closes, reads, writes, gets_modes, sets_modes, gets_disc}
+use Rattle.tty_calls.specs.Plain.{sets_disc, flushes, steers, counts_input, counts_output, excludes, admits}
+use Rattle.tty_calls.specs.Plain.{drains, gets_counts, hangs_up, sends_packet, takes_packet, PlainAnswer, done}
+use Rattle.tty_calls.specs.Plain.{count_is, got, number_is, modes_are, counts_are, refused, idle, PlainEntry}
 use Rattle.tty_terminal.specs.Terminals.{Terminal, opening}
 use Rattle.tty_terminal.specs.Steps.{after}
 use Rattle.tty_terminal.specs.Runs.{Grows, Leads as Run}
@@ -23,12 +28,18 @@ use Rattle.passed_calls.specs.Scripts.{plain, further}
 use Rattle.passed_calls.specs.Logs.{logged_on}
 use Rattle.job_text.specs.Events.{JobEvent, own, passed, passed_down, sent, JobLog}
 use Rattle.job_text.specs.Sessions.{JobCall, JobsSession}
-use Rattle.job_steps.specs.Steps.{Port, Moment, JobsState, procs_of, first_state, jobs_among, jobs_before, proc_of, next_of, next_call, with_jobs, answered_for, after_own, after_passed, after_event, rest_of, outcome_of, is_own, OwnAnswer, GoesOn, first_place, job_signal, raised_at, foreground_target, IsSent, IsAllowed, Leads}
+use Rattle.job_steps.specs.Steps.{Port, Moment, JobsState, procs_of, first_state, jobs_among, jobs_before}
+use Rattle.job_steps.specs.Steps.{proc_of, next_of, next_call, with_jobs, answered_for, after_own, after_passed}
+use Rattle.job_steps.specs.Steps.{after_event, rest_of, outcome_of, is_own, OwnAnswer, GoesOn, first_place}
+use Rattle.job_steps.specs.Steps.{job_signal, raised_at, foreground_target, IsSent, IsAllowed, Leads}
 use Rattle.job_one.specs.Later.{port_with, IsLater, ComesBy, HasLogged, HasGoneOn, WasAnswered}
 
 -- ---- journals to which a port can come
 
-pub later_before : (v w : PortValue) (part : List PlainEntry) (j : Journal) → ComesBy v w part → IsLater w j → IsLater v j
+pub later_before : (v w : PortValue) (part : List PlainEntry) (j : Journal)
+    → ComesBy v w part
+    → IsLater w j
+    → IsLater v j
 later_before v w part j by h =
     record {
       opens = h.opens ∙ (λ i. opening (sum (by.counts i)) (by.capacity i));
@@ -37,29 +48,41 @@ later_before v w part j by h =
       entries = h.entries ∙ (ap (λ (es : List PlainEntry). es ++ h.rest) by.added ∙ append_assoc v.journal part h.rest);
     }
 
-pub run_after : (f g : ℕ → ℕ → Option PlainCall) (counts : List ℕ) (t : Terminal) (es : List PlainEntry) (u : Terminal) → Grows f g → Run f counts t es u → terminal_after g t es ≡ u
+pub run_after : (f g : ℕ → ℕ → Option PlainCall) (counts : List ℕ) (t : Terminal) (es : List PlainEntry) (u : Terminal)
+    → Grows f g
+    → Run f counts t es u
+    → terminal_after g t es ≡ u
 run_after f g counts t [] u grows h = sym h
 run_after f g counts t (e ∷ es) u grows h =
-    ap (λ (s : Terminal). terminal_after g s es) (after_grown f g counts t e grows h.0).1 ∙ run_after f g counts (after f t e) es u grows h.1
+    ap (λ (s : Terminal). terminal_after g s es) (after_grown f g counts t e grows h.0).1
+    ∙ run_after f g counts (after f t e) es u grows h.1
 
 pub front : (xs ys : List PlainEntry) → take (length xs) (xs ++ ys) ≡ xs
 front [] ys = refl
 front (x ∷ xs) ys = ap (λ (es : List PlainEntry). x ∷ es) (front xs ys)
 
 -- there its terminal is the port's
-pub terminal_now : (v : PortValue) (j : Journal) → IsPort v → IsLater v j → terminal_at j (length v.journal) ≡ v.terminal
+pub terminal_now : (v : PortValue) (j : Journal)
+    → IsPort v
+    → IsLater v j
+    → terminal_at j (length v.journal) ≡ v.terminal
 terminal_now v j port h =
     ap (λ (es : List PlainEntry). terminal_after j.calls j.opening (take (length v.journal) es)) h.entries
     ∙ (ap (λ (es : List PlainEntry). terminal_after j.calls j.opening es) (front v.journal h.rest)
     ∙ (ap (λ (t : Terminal). terminal_after j.calls t v.journal) h.opens
-    ∙ run_after (call_in v.kept) j.calls v.counts (opening (sum v.counts) v.flip.capacity) v.journal v.terminal h.calls port.run))
+    ∙ run_after (call_in v.kept) j.calls v.counts (opening (sum v.counts) v.flip.capacity)
+    v.journal v.terminal h.calls port.run))
 
 long_enough : (v : PortValue) (j : Journal) → IsLater v j → length v.journal ≤ length j.entries
 long_enough v j h = omega (arith, ap (λ (es : List PlainEntry). length es) h.entries, length-append v.journal h.rest)
 
 -- ---- the log grows
 
-pub leads_more : (port : Port) (s u : JobsState) (log : JobLog) (l : Logged JobEvent) → Leads port s log u → u.now.at ≤ l.at → l.at ≤ length port.journal.entries → IsAllowed port u l.at l.event
+pub leads_more : (port : Port) (s u : JobsState) (log : JobLog) (l : Logged JobEvent)
+    → Leads port s log u
+    → u.now.at ≤ l.at
+    → l.at ≤ length port.journal.entries
+    → IsAllowed port u l.at l.event
     → Leads port s (log ++ l ∷ []) (after_event port u l.at l.event)
 leads_more port s u [] l h low high allowed = (
   subst (λ (x : JobsState). x.now.at ≤ l.at) h low,
@@ -67,34 +90,48 @@ leads_more port s u [] l h low high allowed = (
   subst (λ (x : JobsState). IsAllowed port x l.at l.event) h allowed,
   ap (λ (x : JobsState). after_event port x l.at l.event) h,
 )
-leads_more port s u (x ∷ log) l h low high allowed = (h.0, h.1, h.2, leads_more port (after_event port s x.at x.event) u log l h.3 low high allowed)
+leads_more port s u (x ∷ log) l h low high allowed =
+    (h.0, h.1, h.2, leads_more port (after_event port s x.at x.event) u log l h.3 low high allowed)
 
-one_on : (p n : ℕ) (event : JobEvent) → logged_on p (record { port = p; at = n; event = event } ∷ []) ≡ record { port = p; at = n; event = event } ∷ []
+one_on : (p n : ℕ) (event : JobEvent)
+    → logged_on p (record { port = p; at = n; event = event } ∷ []) ≡ record { port = p; at = n; event = event } ∷ []
 one_on p n event =
     ap (λ (b : Bool). cond b (record { port = p; at = n; event = event } ∷ []) []) (eq-eqb p p refl)
 
-pub on_more : (p n : ℕ) (event : JobEvent) (log : JobLog) → logged_on p (log ++ record { port = p; at = n; event = event } ∷ []) ≡ logged_on p log ++ record { port = p; at = n; event = event } ∷ []
+pub on_more : (p n : ℕ) (event : JobEvent) (log : JobLog)
+    → logged_on p (log ++ record { port = p; at = n; event = event } ∷ [])
+    ≡ logged_on p log ++ record { port = p; at = n; event = event } ∷ []
 on_more p n event log =
     filter-append (λ (l : Logged JobEvent). l.port == p) log (record { port = p; at = n; event = event } ∷ [])
     ∙ ap (λ (ls : JobLog). logged_on p log ++ ls) (one_on p n event)
 
 -- by an event that is allowed now, whatever comes
-pub logs : (p : ℕ) (session : JobsSession) (log : JobLog) (v : PortValue) (u next : JobsState) (event : JobEvent) → HasLogged p session log v u
+pub logs : (p : ℕ) (session : JobsSession) (log : JobLog) (v : PortValue) (u next : JobsState) (event : JobEvent)
+    → HasLogged p session log v u
     → ((j : Journal) → IsLater v j → IsAllowed (port_with p session j) u (length v.journal) event)
-    → ((j : Journal) → IsLater v j → after_event (port_with p session j) u (length v.journal) event ≡ next) → next.now.at ≤ length v.journal
+    → ((j : Journal) → IsLater v j → after_event (port_with p session j) u (length v.journal) event ≡ next)
+    → next.now.at ≤ length v.journal
     → HasLogged p session (log ++ record { port = p; at = length v.journal; event = event } ∷ []) v next
 logs p session log v u next event h allowed comes low =
     record {
       leads = λ j later.
           let port = port_with p session j in
           subst (λ (es : JobLog). Leads port (first_state port) es next) (sym (on_more p (length v.journal) event log))
-          (subst (λ (x : JobsState). Leads port (first_state port) (logged_on p log ++ record { port = p; at = length v.journal; event = event } ∷ []) x) (comes j later)
-          (leads_more port (first_state port) u (logged_on p log) (record { port = p; at = length v.journal; event = event }) (h.leads j later) h.at (long_enough v j later) (allowed j later)));
+          (subst (λ (x : JobsState). Leads port (first_state port)
+          (logged_on p log ++ record { port = p; at = length v.journal; event = event } ∷ []) x)
+          (comes j later)
+          (leads_more port (first_state port) u (logged_on p log)
+          (record { port = p; at = length v.journal; event = event }) (h.leads j later) h.at (long_enough v j later)
+          (allowed j later)));
       at = low;
     }
 
 -- by an entry of the port alone
-pub log_stays : (p : ℕ) (session : JobsSession) (log : JobLog) (v w : PortValue) (part : List PlainEntry) (u : JobsState) → ComesBy v w part → HasLogged p session log v u → HasLogged p session log w u
+pub log_stays : (p : ℕ) (session : JobsSession) (log : JobLog) (v w : PortValue) (part : List PlainEntry)
+    (u : JobsState)
+    → ComesBy v w part
+    → HasLogged p session log v u
+    → HasLogged p session log w u
 log_stays p session log v w part u by h =
     record {
       leads = λ j later. h.leads j (later_before v w part j by later);
@@ -103,7 +140,9 @@ log_stays p session log v w part u by h =
 
 -- ---- helpers
 
-get_map : (xs : List Signal) (i : ℕ) (x : Signal) → slice_get xs i ≡ Some x → slice_get (map job_signal xs) i ≡ Some (job_signal x)
+get_map : (xs : List Signal) (i : ℕ) (x : Signal)
+    → slice_get xs i ≡ Some x
+    → slice_get (map job_signal xs) i ≡ Some (job_signal x)
 get_map [] i x h = absurd (cc)
 get_map (y ∷ xs) zero x h = ap (λ (o : Option Signal). option_map job_signal o) h
 get_map (y ∷ xs) (suc i) x h = get_map xs i x h
@@ -116,25 +155,37 @@ later_not a b lt = grind (arith, nat_tests)
 is_le : (a b : ℕ) → a ≤ b → nat_le a b ≡ true
 is_le a b le = grind (arith, nat_tests)
 
-at_or_before : (m : Moment) (ms : List Moment) (place : ℕ) (first : JobState) → place < m.at → jobs_among (m ∷ ms) place first ≡ jobs_among ms place first
-at_or_before m ms place first lt = ap (λ (b : Bool). if b then m.jobs else jobs_among ms place first) (later_not m.at place lt)
+at_or_before : (m : Moment) (ms : List Moment) (place : ℕ) (first : JobState)
+    → place < m.at
+    → jobs_among (m ∷ ms) place first ≡ jobs_among ms place first
+at_or_before m ms place first lt =
+    ap (λ (b : Bool). if b then m.jobs else jobs_among ms place first) (later_not m.at place lt)
 
-among_now : (m : Moment) (ms : List Moment) (place : ℕ) (first : JobState) → m.at ≤ place → jobs_among (m ∷ ms) place first ≡ m.jobs
+among_now : (m : Moment) (ms : List Moment) (place : ℕ) (first : JobState)
+    → m.at ≤ place
+    → jobs_among (m ∷ ms) place first ≡ m.jobs
 among_now m ms place first le = ap (λ (b : Bool). if b then m.jobs else jobs_among ms place first) (is_le m.at place le)
 
 pub now_before : (port : Port) (s : JobsState) (place : ℕ) → s.now.at ≤ place → jobs_before port s place ≡ s.now.jobs
 now_before port s place le = among_now s.now s.past place _ le
 
 -- an event behind an entry says nothing of before
-behind : (port : Port) (s : JobsState) (at place : ℕ) (jobs : JobState) → place < at → jobs_before port (with_jobs s at jobs) place ≡ jobs_before port s place
+behind : (port : Port) (s : JobsState) (at place : ℕ) (jobs : JobState)
+    → place < at
+    → jobs_before port (with_jobs s at jobs) place ≡ jobs_before port s place
 behind port s at place jobs lt = at_or_before (record { at = at; jobs = jobs }) (s.now ∷ s.past) place _ lt
 
-own_behind : (port : Port) (t : Terminal) (p c : ℕ) (s : JobsState) (at place : ℕ) (call : Option JobCall) → place < at → jobs_before port (after_own t p c s at call) place ≡ jobs_before port s place
+own_behind : (port : Port) (t : Terminal) (p c : ℕ) (s : JobsState) (at place : ℕ) (call : Option JobCall)
+    → place < at
+    → jobs_before port (after_own t p c s at call) place ≡ jobs_before port s place
 own_behind port t p c s at place None lt = refl
 own_behind port t p c s at place (Some call) lt = behind port s at place _ lt
 
 -- after an answer of the port job control stands from this place on
-after_passed_now : (s : JobsState) (at : ℕ) (call : Option JobCall) (answer : PlainAnswer) → ((after_passed s at call answer).now.at ≡ at) × ((after_passed s at call answer).now ∷ (after_passed s at call answer).past ≡ (after_passed s at call answer).now ∷ s.now ∷ s.past)
+after_passed_now : (s : JobsState) (at : ℕ) (call : Option JobCall) (answer : PlainAnswer)
+    → ((after_passed s at call answer).now.at ≡ at)
+    × ((after_passed s at call answer).now ∷ (after_passed s at call answer).past
+    ≡ (after_passed s at call answer).now ∷ s.now ∷ s.past)
 after_passed_now s at None answer = (refl, refl)
 after_passed_now s at (Some (further call)) answer = (refl, refl)
 after_passed_now s at (Some (plain (opens h access nonblock))) answer = (refl, refl)
@@ -164,18 +215,25 @@ after_passed_now s at (Some (plain (hangs_up h))) (counts_are counts) = (refl, r
 after_passed_now s at (Some (plain (hangs_up h))) (refused errno) = (refl, refl)
 after_passed_now s at (Some (plain (hangs_up h))) idle = (refl, refl)
 
-passed_at : (s : JobsState) (at : ℕ) (call : Option JobCall) (answer : PlainAnswer) → (after_passed s at call answer).now.at ≤ at
+passed_at : (s : JobsState) (at : ℕ) (call : Option JobCall) (answer : PlainAnswer)
+    → (after_passed s at call answer).now.at ≤ at
 passed_at s at call answer = omega (arith, (after_passed_now s at call answer).0)
 
-passed_behind : (port : Port) (s : JobsState) (at place : ℕ) (call : Option JobCall) (answer : PlainAnswer) → place < at → jobs_before port (after_passed s at call answer) place ≡ jobs_before port s place
+passed_behind : (port : Port) (s : JobsState) (at place : ℕ) (call : Option JobCall) (answer : PlainAnswer)
+    → place < at
+    → jobs_before port (after_passed s at call answer) place ≡ jobs_before port s place
 passed_behind port s at place call answer lt =
     let n = after_passed_now s at call answer in
     let first : JobState = first_jobs (procs_of port) in
     ap (λ (ms : List Moment). jobs_among ms place first) n.1
-    ∙ at_or_before (after_passed s at call answer).now (s.now ∷ s.past) place first (subst (λ (i : ℕ). place < i) (sym n.0) lt)
+    ∙ at_or_before (after_passed s at call answer).now (s.now ∷ s.past) place first
+    (subst (λ (i : ℕ). place < i) (sym n.0) lt)
 
-pub event_behind : (port : Port) (s : JobsState) (at place : ℕ) (event : JobEvent) → place < at → jobs_before port (after_event port s at event) place ≡ jobs_before port s place
-event_behind port s at place (own c step answer) lt = own_behind port (terminal_at port.journal at) (proc_of port c) c s at place (next_call port s c) lt
+pub event_behind : (port : Port) (s : JobsState) (at place : ℕ) (event : JobEvent)
+    → place < at
+    → jobs_before port (after_event port s at event) place ≡ jobs_before port s place
+event_behind port s at place (own c step answer) lt =
+    own_behind port (terminal_at port.journal at) (proc_of port c) c s at place (next_call port s c) lt
 event_behind port s at place (passed c step answer) lt = passed_behind port s at place (next_call port s c) answer lt
 event_behind port s at place (passed_down c h) lt = behind port s at place s.now.jobs lt
 event_behind port s at place (sent signal target) lt = behind port s at place s.now.jobs lt
@@ -183,90 +241,149 @@ event_behind port s at place (sent signal target) lt = behind port s at place s.
 -- ---- each kind of event
 
 -- what each kind of event makes, whatever comes
-pub own_comes : (p : ℕ) (session : JobsSession) (v : PortValue) (u : JobsState) (d : Journal) (c : ℕ) (call : JobCall) (answer : JobAnswer) → IsPort v → next_call (port_with p session d) u c ≡ Some call
-    → (j : Journal) → IsLater v j → after_event (port_with p session j) u (length v.journal) (own c (next_of u c) answer)
+pub own_comes : (p : ℕ) (session : JobsSession) (v : PortValue) (u : JobsState) (d : Journal) (c : ℕ) (call : JobCall)
+    (answer : JobAnswer)
+    → IsPort v
+    → next_call (port_with p session d) u c ≡ Some call
+    → (j : Journal)
+    → IsLater v j
+    → after_event (port_with p session j) u (length v.journal) (own c (next_of u c) answer)
     ≡ answered_for (after_own v.terminal (proc_of (port_with p session d) c) c u (length v.journal) (Some call)) c
 own_comes p session v u d c call answer port is j later =
-    λ i. answered_for (after_own (terminal_now v j port later i) (proc_of (port_with p session d) c) c u (length v.journal) (is i)) c
+    λ i. answered_for
+    (after_own (terminal_now v j port later i) (proc_of (port_with p session d) c) c u (length v.journal) (is i)) c
 
-pub due_comes : (p : ℕ) (session : JobsSession) (v : PortValue) (u : JobsState) (signal : JobSignal) (target : Target) (rest : List JobEvent) → u.due ≡ sent signal target ∷ rest
-    → (j : Journal) → IsLater v j → after_event (port_with p session j) u (length v.journal) (sent signal target) ≡ record (with_jobs u (length v.journal) u.now.jobs) { signals = u.signals; due = rest }
+pub due_comes : (p : ℕ) (session : JobsSession) (v : PortValue) (u : JobsState) (signal : JobSignal) (target : Target)
+    (rest : List JobEvent)
+    → u.due ≡ sent signal target ∷ rest
+    → (j : Journal)
+    → IsLater v j
+    → after_event (port_with p session j) u (length v.journal) (sent signal target)
+    ≡ record (with_jobs u (length v.journal) u.now.jobs) { signals = u.signals; due = rest }
 due_comes p session v u signal target rest is j later =
     let n = length v.journal in
-    ap (λ (es : List JobEvent). record (with_jobs u n u.now.jobs) { signals = if nat_le (length es) 0 then u.signals + 1 else u.signals; due = rest_of es }) is
-    ∙ ap (λ (b : Bool). record (with_jobs u n u.now.jobs) { signals = if b then u.signals + 1 else u.signals; due = rest }) (later_not (length (sent signal target ∷ rest)) 0 (omega arith))
+    ap (λ (es : List JobEvent). record (with_jobs u n u.now.jobs) {
+      signals = if nat_le (length es) 0 then u.signals + 1 else u.signals;
+      due = rest_of es;
+    }) is
+    ∙ ap
+    (λ (b : Bool). record (with_jobs u n u.now.jobs) { signals = if b then u.signals + 1 else u.signals; due = rest })
+    (later_not (length (sent signal target ∷ rest)) 0 (omega arith))
 
-pub down_comes : (p : ℕ) (session : JobsSession) (v : PortValue) (u : JobsState) (c handle : ℕ) (rest : List JobEvent) → u.due ≡ passed_down c handle ∷ rest
-    → (j : Journal) → IsLater v j → after_event (port_with p session j) u (length v.journal) (passed_down c handle) ≡ record (with_jobs u (length v.journal) u.now.jobs) { due = rest }
-down_comes p session v u c handle rest is j later = ap (λ (es : List JobEvent). record (with_jobs u (length v.journal) u.now.jobs) { due = rest_of es }) is
+pub down_comes : (p : ℕ) (session : JobsSession) (v : PortValue) (u : JobsState) (c handle : ℕ) (rest : List JobEvent)
+    → u.due ≡ passed_down c handle ∷ rest
+    → (j : Journal)
+    → IsLater v j
+    → after_event (port_with p session j) u (length v.journal) (passed_down c handle)
+    ≡ record (with_jobs u (length v.journal) u.now.jobs) { due = rest }
+down_comes p session v u c handle rest is j later =
+    ap (λ (es : List JobEvent). record (with_jobs u (length v.journal) u.now.jobs) { due = rest_of es }) is
 
-pub raised_comes : (p : ℕ) (session : JobsSession) (v : PortValue) (u : JobsState) (signal : JobSignal) (target : Target) → u.due ≡ []
-    → (j : Journal) → IsLater v j → after_event (port_with p session j) u (length v.journal) (sent signal target) ≡ record (with_jobs u (length v.journal) u.now.jobs) { signals = u.signals + 1; due = [] }
+pub raised_comes : (p : ℕ) (session : JobsSession) (v : PortValue) (u : JobsState) (signal : JobSignal)
+    (target : Target)
+    → u.due ≡ []
+    → (j : Journal)
+    → IsLater v j
+    → after_event (port_with p session j) u (length v.journal) (sent signal target)
+    ≡ record (with_jobs u (length v.journal) u.now.jobs) { signals = u.signals + 1; due = [] }
 raised_comes p session v u signal target none j later =
-    ap (λ (es : List JobEvent). record (with_jobs u (length v.journal) u.now.jobs) { signals = if nat_le (length es) 0 then u.signals + 1 else u.signals; due = rest_of es }) none
+    ap (λ (es : List JobEvent). record (with_jobs u (length v.journal) u.now.jobs) {
+      signals = if nat_le (length es) 0 then u.signals + 1 else u.signals;
+      due = rest_of es;
+    }) none
 
 -- a call that is answered without the port
-pub logs_own : (p : ℕ) (session : JobsSession) (log : JobLog) (v : PortValue) (u : JobsState) (d : Journal) (c : ℕ) (call : JobCall) (answer : JobAnswer) → IsPort v → HasLogged p session log v u → u.due ≡ []
-    → next_call (port_with p session d) u c ≡ Some call → IsTrue (is_own u.now.jobs v.terminal (proc_of (port_with p session d) c) call)
+pub logs_own : (p : ℕ) (session : JobsSession) (log : JobLog) (v : PortValue) (u : JobsState) (d : Journal) (c : ℕ)
+    (call : JobCall) (answer : JobAnswer)
+    → IsPort v
+    → HasLogged p session log v u
+    → u.due ≡ []
+    → next_call (port_with p session d) u c ≡ Some call
+    → IsTrue (is_own u.now.jobs v.terminal (proc_of (port_with p session d) c) call)
     → answer ≡ (outcome_of u.now.jobs v.terminal (proc_of (port_with p session d) c) c call).answer
     → HasLogged p session (log ++ record { port = p; at = length v.journal; event = own c (next_of u c) answer } ∷ []) v
     (answered_for (after_own v.terminal (proc_of (port_with p session d) c) c u (length v.journal) (Some call)) c)
 logs_own p session log v u d c call answer port h none is its said =
     let n = length v.journal in
-    logs p session log v u (answered_for (after_own v.terminal (proc_of (port_with p session d) c) c u n (Some call)) c) (own c (next_of u c) answer) h
+    logs p session log v u (answered_for (after_own v.terminal (proc_of (port_with p session d) c) c u n (Some call)) c)
+    (own c (next_of u c) answer) h
     (λ j later. record {
       nothing_due = none;
       next = refl;
-      answers = subst (λ (t : Terminal). OwnAnswer u.now.jobs t (proc_of (port_with p session d) c) c (next_call (port_with p session d) u c) answer) (sym (terminal_now v j port later))
-          (subst (λ (o : Option JobCall). OwnAnswer u.now.jobs v.terminal (proc_of (port_with p session d) c) c o answer) (sym is) (its, said));
+      answers = subst (λ (t : Terminal).
+          OwnAnswer u.now.jobs t (proc_of (port_with p session d) c) c (next_call (port_with p session d) u c) answer)
+          (sym (terminal_now v j port later))
+          (subst
+          (λ (o : Option JobCall). OwnAnswer u.now.jobs v.terminal (proc_of (port_with p session d) c) c o answer)
+          (sym is) (its, said));
     })
     (own_comes p session v u d c call answer port is)
     (omega arith)
 
 -- the answer of the port to a call that went on
-pub logs_passed : (p : ℕ) (session : JobsSession) (log : JobLog) (v : PortValue) (u : JobsState) (d : Journal) (c step : ℕ) (answer : PlainAnswer) → HasLogged p session log v u → u.due ≡ []
-    → WasAnswered v c step answer → HasGoneOn p session v u c step
-    → HasLogged p session (log ++ record { port = p; at = length v.journal; event = passed c (next_of u c) answer } ∷ []) v
+pub logs_passed : (p : ℕ) (session : JobsSession) (log : JobLog) (v : PortValue) (u : JobsState) (d : Journal)
+    (c step : ℕ) (answer : PlainAnswer)
+    → HasLogged p session log v u
+    → u.due ≡ []
+    → WasAnswered v c step answer
+    → HasGoneOn p session v u c step
+    → HasLogged p session
+    (log ++ record { port = p; at = length v.journal; event = passed c (next_of u c) answer } ∷ []) v
     (answered_for (after_passed u (length v.journal) (next_call (port_with p session d) u c) answer) c)
 logs_passed p session log v u d c step answer h none was gone =
     let n = length v.journal in
-    let count : n ≡ length was.before + 1 = ap (λ (es : List PlainEntry). length es) was.last ∙ length-append was.before (was.entry ∷ []) in
-    logs p session log v u (answered_for (after_passed u n (next_call (port_with p session d) u c) answer) c) (passed c (next_of u c) answer) h
+    let count : n ≡ length was.before + 1 =
+    ap (λ (es : List PlainEntry). length es) was.last ∙ length-append was.before (was.entry ∷ []) in
+    logs p session log v u (answered_for (after_passed u n (next_call (port_with p session d) u c) answer) c)
+    (passed c (next_of u c) answer) h
     (λ j later. record {
       nothing_due = none;
       next = refl;
       entry = record {
         entry = was.entry;
         some = omega (arith, count);
-        stands = ap (λ (es : List PlainEntry). slice_get es (n - 1)) (later.entries ∙ (ap (λ (es : List PlainEntry). es ++ later.rest) was.last ∙ append_assoc was.before (was.entry ∷ []) later.rest))
+        stands = ap (λ (es : List PlainEntry). slice_get es (n - 1)) (later.entries
+            ∙ (ap (λ (es : List PlainEntry). es ++ later.rest) was.last
+            ∙ append_assoc was.before (was.entry ∷ []) later.rest))
             ∙ get_past was.before (was.entry ∷ later.rest) (n - 1) 0 (omega (arith, count));
         is_answer = was.is_answer;
       };
-      goes_on = subst (λ (n : ℕ). GoesOn (port_with p session j) u (first_place j c n) c (next_call (port_with p session j) u c)) (sym was.of_step)
-          (subst (λ (place : ℕ). GoesOn (port_with p session j) u place c (next_call (port_with p session j) u c)) (sym (gone.is_first j later)) (gone.goes_on j later));
+      goes_on = subst
+          (λ (n : ℕ). GoesOn (port_with p session j) u (first_place j c n) c (next_call (port_with p session j) u c))
+          (sym was.of_step)
+          (subst (λ (place : ℕ). GoesOn (port_with p session j) u place c (next_call (port_with p session j) u c))
+          (sym (gone.is_first j later)) (gone.goes_on j later));
     })
     (λ j later. refl)
     (passed_at u n (next_call (port_with p session d) u c) answer)
 
 -- the first that is due: a signal
-pub logs_due : (p : ℕ) (session : JobsSession) (log : JobLog) (v : PortValue) (u : JobsState) (signal : JobSignal) (target : Target) (rest : List JobEvent) → HasLogged p session log v u → u.due ≡ sent signal target ∷ rest
+pub logs_due : (p : ℕ) (session : JobsSession) (log : JobLog) (v : PortValue) (u : JobsState) (signal : JobSignal)
+    (target : Target) (rest : List JobEvent)
+    → HasLogged p session log v u
+    → u.due ≡ sent signal target ∷ rest
     → HasLogged p session (log ++ record { port = p; at = length v.journal; event = sent signal target } ∷ []) v
     (record (with_jobs u (length v.journal) u.now.jobs) { signals = u.signals; due = rest })
 logs_due p session log v u signal target rest h is =
     let n = length v.journal in
-    logs p session log v u (record (with_jobs u n u.now.jobs) { signals = u.signals; due = rest }) (sent signal target) h
+    logs p session log v u (record (with_jobs u n u.now.jobs) { signals = u.signals; due = rest }) (sent signal target)
+    h
     (λ j later. subst (λ (es : List JobEvent). IsSent (port_with p session j) u n signal target es) (sym is) refl)
     (due_comes p session v u signal target rest is)
     (omega arith)
 
 -- .. or the hangup of a process that has ended, which the port has answered
-pub logs_down : (p : ℕ) (session : JobsSession) (log : JobLog) (v : PortValue) (u : JobsState) (c step handle : ℕ) (rest : List JobEvent) → HasLogged p session log v u → u.due ≡ passed_down c handle ∷ rest
+pub logs_down : (p : ℕ) (session : JobsSession) (log : JobLog) (v : PortValue) (u : JobsState) (c step handle : ℕ)
+    (rest : List JobEvent)
+    → HasLogged p session log v u
+    → u.due ≡ passed_down c handle ∷ rest
     → WasAnswered v c step done
     → HasLogged p session (log ++ record { port = p; at = length v.journal; event = passed_down c handle } ∷ []) v
     (record (with_jobs u (length v.journal) u.now.jobs) { due = rest })
 logs_down p session log v u c step handle rest h is was =
     let n = length v.journal in
-    let count : n ≡ length was.before + 1 = ap (λ (es : List PlainEntry). length es) was.last ∙ length-append was.before (was.entry ∷ []) in
+    let count : n ≡ length was.before + 1 =
+    ap (λ (es : List PlainEntry). length es) was.last ∙ length-append was.before (was.entry ∷ []) in
     logs p session log v u (record (with_jobs u n u.now.jobs) { due = rest }) (passed_down c handle) h
     (λ j later. record {
       rest = rest;
@@ -274,7 +391,9 @@ logs_down p session log v u c step handle rest h is was =
       entry = record {
         entry = was.entry;
         some = omega (arith, count);
-        stands = ap (λ (es : List PlainEntry). slice_get es (n - 1)) (later.entries ∙ (ap (λ (es : List PlainEntry). es ++ later.rest) was.last ∙ append_assoc was.before (was.entry ∷ []) later.rest))
+        stands = ap (λ (es : List PlainEntry). slice_get es (n - 1)) (later.entries
+            ∙ (ap (λ (es : List PlainEntry). es ++ later.rest) was.last
+            ∙ append_assoc was.before (was.entry ∷ []) later.rest))
             ∙ get_past was.before (was.entry ∷ later.rest) (n - 1) 0 (omega (arith, count));
         is_answer = was.is_answer;
       };
@@ -283,22 +402,43 @@ logs_down p session log v u c step handle rest h is was =
     (omega arith)
 
 -- a signal that the entry before has raised
-pub logs_raised : (p : ℕ) (session : JobsSession) (log : JobLog) (old v : PortValue) (e : PlainEntry) (u : JobsState) (signal : Signal) → IsPort old → IsPort v → ComesBy old v (e ∷ []) → HasLogged p session log v u → u.due ≡ []
-    → length old.terminal.tally.signals.items ≤ u.signals → slice_get v.terminal.tally.signals.items u.signals ≡ Some signal
-    → HasLogged p session (log ++ record { port = p; at = length v.journal; event = sent (job_signal signal) (foreground_target u.now.jobs) } ∷ []) v
-    (record (with_jobs u (length v.journal) u.now.jobs) { signals = u.signals + 1; due = [] })
+pub logs_raised : (p : ℕ) (session : JobsSession) (log : JobLog) (old v : PortValue) (e : PlainEntry) (u : JobsState)
+    (signal : Signal)
+    → IsPort old
+    → IsPort v
+    → ComesBy old v (e ∷ [])
+    → HasLogged p session log v u
+    → u.due ≡ []
+    → length old.terminal.tally.signals.items ≤ u.signals
+    → slice_get v.terminal.tally.signals.items u.signals ≡ Some signal
+    → HasLogged p session
+    (log ++ record { port = p; at = length v.journal; event = sent (job_signal signal) (foreground_target u.now.jobs) }
+    ∷ []) v (record (with_jobs u (length v.journal) u.now.jobs) { signals = u.signals + 1; due = [] })
 logs_raised p session log old v e u signal was port by h none fresh is =
     let n = length v.journal in
-    let count : n ≡ length old.journal + 1 = ap (λ (es : List PlainEntry). length es) by.added ∙ length-append old.journal (e ∷ []) in
+    let count : n ≡ length old.journal + 1 =
+    ap (λ (es : List PlainEntry). length es) by.added ∙ length-append old.journal (e ∷ []) in
     let before : n - 1 ≡ length old.journal = omega (arith, count) in
-    logs p session log v u (record (with_jobs u n u.now.jobs) { signals = u.signals + 1; due = [] }) (sent (job_signal signal) (foreground_target u.now.jobs)) h
+    logs p session log v u (record (with_jobs u n u.now.jobs) { signals = u.signals + 1; due = [] })
+    (sent (job_signal signal) (foreground_target u.now.jobs)) h
     (λ j later.
     let then_at = later_before old v (e ∷ []) j by later in
-    subst (λ (es : List JobEvent). IsSent (port_with p session j) u n (job_signal signal) (foreground_target u.now.jobs) es) (sym none) (record {
+    subst
+    (λ (es : List JobEvent). IsSent (port_with p session j) u n (job_signal signal) (foreground_target u.now.jobs) es)
+    (sym none) (record {
       nothing_due = none;
       some = omega (arith, count);
-      raised = ap (λ (t : Terminal). slice_get (map job_signal t.tally.signals.items) u.signals) (terminal_now v j port later) ∙ get_map v.terminal.tally.signals.items u.signals signal is;
-      fresh = omega (arith, fresh, ap (λ (i : ℕ). length (raised_at j i)) before, ap (λ (t : Terminal). length (map job_signal t.tally.signals.items)) (terminal_now old j was then_at), length-map old.terminal.tally.signals.items job_signal);
+      raised =
+          ap (λ (t : Terminal). slice_get (map job_signal t.tally.signals.items) u.signals)
+          (terminal_now v j port later)
+          ∙ get_map v.terminal.tally.signals.items u.signals signal is;
+      fresh = omega (
+        arith,
+        fresh,
+        ap (λ (i : ℕ). length (raised_at j i)) before,
+        ap (λ (t : Terminal). length (map job_signal t.tally.signals.items)) (terminal_now old j was then_at),
+        length-map old.terminal.tally.signals.items job_signal,
+      );
       goes_to = refl;
     }))
     (raised_comes p session v u (job_signal signal) (foreground_target u.now.jobs) none)

@@ -1,6 +1,9 @@
 -- Scripts whose calls are taken one by one: those for the port, and those of job control at their places.
-use Rattle.std.proofs.Common.{◌≡◌, ◌≤◌, ◌<◌, ◌⊎◌, inl, inr, ℕ, zero, suc, ◌+◌, ◌-◌, ◌==◌, Bool, true, false, cond, not, ◌&&◌, List, [], ◌∷◌, ◌++◌, Option, None, Some, length, map, filter, take, drop, if◌then◌else◌, refl, sym, ap, ◌∙◌, subst, arith, append-nil, append_assoc}
-use Rattle.std.specs.Prelude.{All, IfSome, MatchOption, nat_lt, option_map, position, slice_get, slice_index_or, slice_set}
+use Rattle.std.proofs.Common.{◌≡◌, ◌≤◌, ◌<◌, ◌⊎◌, inl, inr, ℕ, zero, suc, ◌+◌, ◌-◌, ◌==◌, Bool, true, false, cond}
+use Rattle.std.proofs.Common.{not, ◌&&◌, List, [], ◌∷◌, ◌++◌, Option, None, Some, length, map, filter, take, drop}
+use Rattle.std.proofs.Common.{if◌then◌else◌, refl, sym, ap, ◌∙◌, subst, arith, append-nil, append_assoc}
+use Rattle.std.specs.Prelude.{All, IfSome, MatchOption, nat_lt, option_map}
+use Rattle.std.specs.Prelude.{position, slice_get, slice_index_or, slice_set}
 use Rattle.std.specs.List.{position_or_len}
 use Rattle.std.proofs.lemmas.Bool.{eq-eqb, ne_eqb}
 use Rattle.std.proofs.lemmas.List.Elements.{All-nil, All-cons, All-head, All-tail, All-push}
@@ -15,7 +18,8 @@ use Rattle.job_text.specs.declared.calls.OwnCall.{OwnCall}
 use Rattle.job_text.specs.Sessions.{JobCall}
 use Rattle.job_one.specs.declared.remaining.NextCall.{NextCall}
 use Rattle.job_one.specs.declared.remaining.Cursor.{Cursor}
-use Rattle.job_one.specs.Remaining.{IsMarked, job_call_of, after_next, calls_from, calls_of_port, first_call, own_from, passed_cursor, place_of, plain_from}
+use Rattle.job_one.specs.Remaining.{IsMarked, job_call_of, after_next, calls_from, calls_of_port}
+use Rattle.job_one.specs.Remaining.{first_call, own_from, passed_cursor, place_of, plain_from}
 
 abbrev Own : Type 0
 Own = PlacedCall OwnCall
@@ -38,16 +42,22 @@ glued_none : (k : ℕ) (o : Own) (os : List Own) → glued k [] o os ≡ further
 glued_none zero o os = refl
 glued_none (suc k) o os = refl
 
-none_before : (n : ℕ) (calls : List PlainCall) (o : Own) (os : List Own) → o.place ≤ n → mixed n calls (o ∷ os) ≡ further o.call ∷ mixed (o.place + 1) calls os
-none_before n calls o os le = (let none : o.place - n ≡ 0 = omega (arith, le) in ap (λ (k : ℕ). glued k calls o os) none)
+none_before : (n : ℕ) (calls : List PlainCall) (o : Own) (os : List Own)
+    → o.place ≤ n
+    → mixed n calls (o ∷ os) ≡ further o.call ∷ mixed (o.place + 1) calls os
+none_before n calls o os le =
+    (let none : o.place - n ≡ 0 = omega (arith, le) in ap (λ (k : ℕ). glued k calls o os) none)
 
-one_before : (n : ℕ) (c : PlainCall) (cs : List PlainCall) (o : Own) (os : List Own) → n < o.place → mixed n (c ∷ cs) (o ∷ os) ≡ plain c ∷ mixed (n + 1) cs (o ∷ os)
+one_before : (n : ℕ) (c : PlainCall) (cs : List PlainCall) (o : Own) (os : List Own)
+    → n < o.place
+    → mixed n (c ∷ cs) (o ∷ os) ≡ plain c ∷ mixed (n + 1) cs (o ∷ os)
 one_before n c cs o os lt =
     let more : o.place - n ≡ suc (o.place - (n + 1)) = omega (arith, lt) in
     ap (λ k. glued k (c ∷ cs) o os) more
 
 -- the next call
-pub first_is : (n : ℕ) (calls : List PlainCall) (os : List Own) → slice_get (mixed n calls os) 0 ≡ first_call n (slice_get calls 0) (slice_get os 0)
+pub first_is : (n : ℕ) (calls : List PlainCall) (os : List Own)
+    → slice_get (mixed n calls os) 0 ≡ first_call n (slice_get calls 0) (slice_get os 0)
 first_is n [] [] = refl
 first_is n (c ∷ cs) [] = refl
 first_is n [] (o ∷ os) = ap (λ (xs : List JobCall). slice_get xs 0) (glued_none (o.place - n) o os)
@@ -62,13 +72,18 @@ first_is n (c ∷ cs) (o ∷ os) =
     ]
 
 -- what is left behind it
-behind_own : (n : ℕ) (calls : List PlainCall) (o : Own) (os : List Own) → (calls ≡ []) ⊎ (o.place ≤ n) → after_next (mixed n calls (o ∷ os)) ≡ mixed (o.place + 1) calls os
+behind_own : (n : ℕ) (calls : List PlainCall) (o : Own) (os : List Own)
+    → (calls ≡ []) ⊎ (o.place ≤ n)
+    → after_next (mixed n calls (o ∷ os)) ≡ mixed (o.place + 1) calls os
 behind_own n calls o os (inl none) =
     ap (λ (cs : List PlainCall). after_next (mixed n cs (o ∷ os))) none
-    ∙ (ap after_next (glued_none (o.place - n) o os) ∙ ap (λ (cs : List PlainCall). mixed (o.place + 1) cs os) (sym none))
+    ∙ (ap after_next (glued_none (o.place - n) o os)
+    ∙ ap (λ (cs : List PlainCall). mixed (o.place + 1) cs os) (sym none))
 behind_own n calls o os (inr le) = ap after_next (none_before n calls o os le)
 
-behind_plain : (n : ℕ) (c : PlainCall) (cs : List PlainCall) (os : List Own) → ((o : Own) (rest : List Own) → os ≡ o ∷ rest → n < o.place) → after_next (mixed n (c ∷ cs) os) ≡ mixed (n + 1) cs os
+behind_plain : (n : ℕ) (c : PlainCall) (cs : List PlainCall) (os : List Own)
+    → ((o : Own) (rest : List Own) → os ≡ o ∷ rest → n < o.place)
+    → after_next (mixed n (c ∷ cs) os) ≡ mixed (n + 1) cs os
 behind_plain n c cs [] before = refl
 behind_plain n c cs (o ∷ os) before = ap after_next (one_before n c cs o os (before o os refl))
 
@@ -80,7 +95,8 @@ one_later y x xs i = (let same : suc (i + 1) ≡ suc i + 1 = omega arith in ap (
 drop_one : {X : Type 0} (xs : List X) (i : ℕ) → i < length xs → (x : X) × (drop i xs ≡ x ∷ drop (i + 1) xs)
 drop_one [] i lt = absurd (omega (arith, lt))
 drop_one (x ∷ xs) zero lt = (x, refl)
-drop_one (x ∷ xs) (suc i) lt = (let rest = drop_one xs i (omega (arith, lt)) in (rest.0, rest.1 ∙ one_later rest.0 x xs i))
+drop_one (x ∷ xs) (suc i) lt =
+    (let rest = drop_one xs i (omega (arith, lt)) in (rest.0, rest.1 ∙ one_later rest.0 x xs i))
 
 drop_none : {X : Type 0} (xs : List X) (i : ℕ) → length xs ≤ i → drop i xs ≡ []
 drop_none [] zero le = refl
@@ -97,40 +113,59 @@ none_some x e = absurd (cc)
 some_is : {X : Type 0} (x y : X) → Some x ≡ Some y → x ≡ y
 some_is x y e = cc
 
-part_one : {X : Type 0} (xs : List X) (first end : ℕ) (x : X) → first < end → slice_get (part first end xs) 0 ≡ Some x → part first end xs ≡ x ∷ part (first + 1) end xs
+part_one : {X : Type 0} (xs : List X) (first end : ℕ) (x : X)
+    → first < end
+    → slice_get (part first end xs) 0 ≡ Some x
+    → part first end xs ≡ x ∷ part (first + 1) end xs
 part_one xs first end x lt is =
     let more : end - first ≡ suc (end - (first + 1)) = omega (arith, lt) in
-    let taken : part first end xs ≡ take (suc (end - (first + 1))) (drop first xs) = ap (λ k. take k (drop first xs)) more in
+    let taken : part first end xs ≡ take (suc (end - (first + 1))) (drop first xs) =
+    ap (λ k. take k (drop first xs)) more in
     elim (below_or first (length xs)) [
       | inl within ↦
           let one = drop_one xs first within in
-          let parts : part first end xs ≡ one.0 ∷ part (first + 1) end xs = taken ∙ ap (λ ys. take (suc (end - (first + 1))) ys) one.1 in
+          let parts : part first end xs ≡ one.0 ∷ part (first + 1) end xs =
+          taken ∙ ap (λ ys. take (suc (end - (first + 1))) ys) one.1 in
           let same : one.0 ≡ x = some_is one.0 x (sym (ap (λ ys. slice_get ys 0) parts) ∙ is) in
           parts ∙ ap (λ y. y ∷ part (first + 1) end xs) same
       | inr past ↦
-          let none : part first end xs ≡ [] = taken ∙ ap (λ ys. take (suc (end - (first + 1))) ys) (drop_none xs first past) in
+          let none : part first end xs ≡ [] =
+          taken ∙ ap (λ ys. take (suc (end - (first + 1))) ys) (drop_none xs first past) in
           absurd (none_some x (sym (ap (λ ys. slice_get ys 0) none) ∙ is))
     ]
 
 -- ---- a call was taken
 
 -- one of job control, before which no call for the port stands
-pub own_taken : (all : List PlainCall) (placed : List Own) (n taken first end : ℕ) (o : Own) → first < end → slice_get (part first end placed) 0 ≡ Some o
-    → (taken < length all → o.place ≤ n) → mixed (o.place + 1) (drop taken all) (part (first + 1) end placed) ≡ after_next (mixed n (drop taken all) (part first end placed))
+pub own_taken : (all : List PlainCall) (placed : List Own) (n taken first end : ℕ) (o : Own)
+    → first < end
+    → slice_get (part first end placed) 0 ≡ Some o
+    → (taken < length all → o.place ≤ n)
+    → mixed (o.place + 1) (drop taken all) (part (first + 1) end placed)
+    ≡ after_next (mixed n (drop taken all) (part first end placed))
 own_taken all placed n taken first end o lt is before =
     let parts = part_one placed first end o lt is in
-    let how : (drop taken all ≡ []) ⊎ (o.place ≤ n) = elim (below_or taken (length all)) [ inl within ↦ inr (before within) | inr past ↦ inl (drop_none all taken past) ] in
-    sym (ap (λ os. after_next (mixed n (drop taken all) os)) parts ∙ behind_own n (drop taken all) o (part (first + 1) end placed) how)
+    let how : (drop taken all ≡ []) ⊎ (o.place ≤ n) =
+    elim (below_or taken (length all))
+    [ inl within ↦ inr (before within) | inr past ↦ inl (drop_none all taken past) ] in
+    sym (ap (λ os. after_next (mixed n (drop taken all) os)) parts
+    ∙ behind_own n (drop taken all) o (part (first + 1) end placed) how)
 
 -- one for the port, which stands before the next one of job control
-pub plain_taken : (all : List PlainCall) (n taken : ℕ) (os : List Own) → taken < length all → ((o : Own) → slice_get os 0 ≡ Some o → n < o.place)
+pub plain_taken : (all : List PlainCall) (n taken : ℕ) (os : List Own)
+    → taken < length all
+    → ((o : Own) → slice_get os 0 ≡ Some o → n < o.place)
     → mixed (n + 1) (drop (taken + 1) all) os ≡ after_next (mixed n (drop taken all) os)
 plain_taken all n taken os within before =
     let one = drop_one all taken within in
-    sym (ap (λ cs. after_next (mixed n cs os)) one.1 ∙ behind_plain n one.0 (drop (taken + 1) all) os (λ o rest is. before o (ap (λ ys. slice_get ys 0) is)))
+    sym (ap (λ cs. after_next (mixed n cs os)) one.1
+    ∙ behind_plain n one.0 (drop (taken + 1) all) os (λ o rest is. before o (ap (λ ys. slice_get ys 0) is)))
 
 -- none is left
-pub none_taken : (all : List PlainCall) (n taken : ℕ) (os : List Own) → length all ≤ taken → slice_get os 0 ≡ None → mixed n (drop taken all) os ≡ after_next (mixed n (drop taken all) os)
+pub none_taken : (all : List PlainCall) (n taken : ℕ) (os : List Own)
+    → length all ≤ taken
+    → slice_get os 0 ≡ None
+    → mixed n (drop taken all) os ≡ after_next (mixed n (drop taken all) os)
 none_taken all n taken [] past none =
     let empty = drop_none all taken past in
     ap (λ cs. mixed n cs []) empty ∙ sym (ap (λ cs. after_next (mixed n cs [])) empty)
@@ -138,17 +173,23 @@ none_taken all n taken (o ∷ os) past none = absurd (none_some o (sym none))
 
 -- ---- as a call is handed out
 
-pub told : (next : Option NextCall) (calls : List JobCall) → option_map job_call_of next ≡ slice_get calls 0 → MatchOption next (calls ≡ []) (λ call. slice_get calls 0 ≡ Some (job_call_of call))
+pub told : (next : Option NextCall) (calls : List JobCall)
+    → option_map job_call_of next ≡ slice_get calls 0
+    → MatchOption next (calls ≡ []) (λ call. slice_get calls 0 ≡ Some (job_call_of call))
 told None [] is = refl
 told None (c ∷ cs) is = absurd (none_some c is)
 told (Some next) calls is = sym is
 
-pub at_place : {X : Type 0} (f : X → List JobCall) (xs : List X) (i : ℕ) (x : X) → slice_get xs i ≡ Some x → slice_index_or (map f xs) i [] ≡ f x
+pub at_place : {X : Type 0} (f : X → List JobCall) (xs : List X) (i : ℕ) (x : X)
+    → slice_get xs i ≡ Some x
+    → slice_index_or (map f xs) i [] ≡ f x
 at_place f [] i x is = absurd (none_some x is)
 at_place f (y ∷ xs) zero x is = ap f (some_is y x is)
 at_place f (y ∷ xs) (suc i) x is = at_place f xs i x is
 
-pub past_place : {X : Type 0} (f : X → List JobCall) (xs : List X) (i : ℕ) → slice_get xs i ≡ None → slice_index_or (map f xs) i [] ≡ []
+pub past_place : {X : Type 0} (f : X → List JobCall) (xs : List X) (i : ℕ)
+    → slice_get xs i ≡ None
+    → slice_index_or (map f xs) i [] ≡ []
 past_place f [] i is = refl
 past_place f (y ∷ xs) zero is = absurd (none_some y (sym is))
 past_place f (y ∷ xs) (suc i) is = past_place f xs i is
@@ -179,38 +220,62 @@ all_plain scripts c = calls_in (slice_get scripts c.script)
 abbrev plain_next : Cursor → Cursor
 plain_next c = record c { taken = c.taken + 1 }
 
-plain_step : (scripts : List Script) (placed : List Own) (c : Cursor) → IsMarked c → c.taken < length (all_plain scripts c) → ((o : Own) → slice_get (own_from placed c) 0 ≡ Some o → place_of c < o.place)
+plain_step : (scripts : List Script) (placed : List Own) (c : Cursor)
+    → IsMarked c
+    → c.taken < length (all_plain scripts c)
+    → ((o : Own) → slice_get (own_from placed c) 0 ≡ Some o → place_of c < o.place)
     → calls_from scripts placed (plain_next c) ≡ after_next (calls_from scripts placed c)
 plain_step scripts placed c marked within before =
     let at : place_of (plain_next c) ≡ place_of c + 1 = omega (arith, marked) in
     ap (λ n. mixed n (plain_from scripts (plain_next c)) (own_from placed c)) at
     ∙ plain_taken (all_plain scripts c) (place_of c) c.taken (own_from placed c) within before
 
-none_step : (scripts : List Script) (placed : List Own) (c : Cursor) → IsMarked c → slice_get (own_from placed c) 0 ≡ None → (b : Bool) → nat_lt c.taken (length (all_plain scripts c)) ≡ b
+none_step : (scripts : List Script) (placed : List Own) (c : Cursor)
+    → IsMarked c
+    → slice_get (own_from placed c) 0 ≡ None
+    → (b : Bool)
+    → nat_lt c.taken (length (all_plain scripts c)) ≡ b
     → calls_from scripts placed (if b then plain_next c else c) ≡ after_next (calls_from scripts placed c)
-none_step scripts placed c marked none true is = plain_step scripts placed c marked (lt_of c.taken (length (all_plain scripts c)) is) (λ o at. absurd (none_some o (sym none ∙ at)))
-none_step scripts placed c marked none false is = none_taken (all_plain scripts c) (place_of c) c.taken (own_from placed c) (ge_of c.taken (length (all_plain scripts c)) is) none
+none_step scripts placed c marked none true is = plain_step scripts placed c marked
+    (lt_of c.taken (length (all_plain scripts c)) is) (λ o at. absurd (none_some o (sym none ∙ at)))
+none_step scripts placed c marked none false is = none_taken (all_plain scripts c) (place_of c) c.taken
+    (own_from placed c) (ge_of c.taken (length (all_plain scripts c)) is) none
 
-some_step : (scripts : List Script) (placed : List Own) (c : Cursor) (o : Own) → IsMarked c → c.first < c.end → slice_get (own_from placed c) 0 ≡ Some o → (b : Bool)
+some_step : (scripts : List Script) (placed : List Own) (c : Cursor) (o : Own)
+    → IsMarked c
+    → c.first < c.end
+    → slice_get (own_from placed c) 0 ≡ Some o
+    → (b : Bool)
     → nat_lt c.taken (length (all_plain scripts c)) && nat_lt (place_of c) o.place ≡ b
-    → calls_from scripts placed (if b then plain_next c else record c { mark = c.taken; last = Some o.place; first = c.first + 1 }) ≡ after_next (calls_from scripts placed c)
+    → calls_from scripts placed
+    (if b then plain_next c else record c { mark = c.taken; last = Some o.place; first = c.first + 1 })
+    ≡ after_next (calls_from scripts placed c)
 some_step scripts placed c o marked within is true both =
     let parts = both_true (nat_lt c.taken (length (all_plain scripts c))) (nat_lt (place_of c) o.place) both in
     plain_step scripts placed c marked (lt_of c.taken (length (all_plain scripts c)) parts.0)
     (λ x at. subst (λ (y : Own). place_of c < y.place) (some_is o x (sym is ∙ at)) (lt_of (place_of c) o.place parts.1))
 some_step scripts placed c o marked within is false not_both =
-    let at : place_of (record c { mark = c.taken; last = Some o.place; first = c.first + 1 }) ≡ o.place + 1 = omega arith in
+    let at : place_of (record c { mark = c.taken; last = Some o.place; first = c.first + 1 }) ≡ o.place + 1 =
+    omega arith in
     ap (λ n. mixed n (plain_from scripts c) (part (c.first + 1) c.end placed)) at
     ∙ own_taken (all_plain scripts c) placed (place_of c) c.taken c.first c.end o within is
-    (λ lt. ge_of (place_of c) o.place (not_second (nat_lt c.taken (length (all_plain scripts c))) (nat_lt (place_of c) o.place) not_both (is_lt c.taken (length (all_plain scripts c)) lt)))
+    (λ lt. ge_of (place_of c) o.place
+    (not_second (nat_lt c.taken (length (all_plain scripts c))) (nat_lt (place_of c) o.place) not_both
+    (is_lt c.taken (length (all_plain scripts c)) lt)))
 
-pub steps_on : (scripts : List Script) (placed : List Own) (c : Cursor) (count : ℕ) (own : Option Own) → IsMarked c → count ≡ length (all_plain scripts c) → own ≡ slice_get (own_from placed c) 0 → IfSome own (λ o. c.first < c.end)
+pub steps_on : (scripts : List Script) (placed : List Own) (c : Cursor) (count : ℕ) (own : Option Own)
+    → IsMarked c
+    → count ≡ length (all_plain scripts c)
+    → own ≡ slice_get (own_from placed c) 0
+    → IfSome own (λ o. c.first < c.end)
     → calls_from scripts placed (passed_cursor count own c) ≡ after_next (calls_from scripts placed c)
 steps_on scripts placed c count None marked many is within =
-    ap (λ n. calls_from scripts placed (passed_cursor n None c)) many ∙ none_step scripts placed c marked (sym is) (nat_lt c.taken (length (all_plain scripts c))) refl
+    ap (λ n. calls_from scripts placed (passed_cursor n None c)) many
+    ∙ none_step scripts placed c marked (sym is) (nat_lt c.taken (length (all_plain scripts c))) refl
 steps_on scripts placed c count (Some o) marked many is within =
     ap (λ n. calls_from scripts placed (passed_cursor n (Some o) c)) many
-    ∙ some_step scripts placed c o marked within (sym is) (nat_lt c.taken (length (all_plain scripts c)) && nat_lt (place_of c) o.place) refl
+    ∙ some_step scripts placed c o marked within (sym is)
+    (nat_lt c.taken (length (all_plain scripts c)) && nat_lt (place_of c) o.place) refl
 
 one_marked : (b : Bool) (c d : Cursor) → IsMarked c → IsMarked d → IsMarked (if b then c else d)
 one_marked true c d p q = p
@@ -219,7 +284,8 @@ one_marked false c d p q = q
 pub stays_marked : (count : ℕ) (own : Option Own) (c : Cursor) → IsMarked c → IsMarked (passed_cursor count own c)
 stays_marked count None c marked = one_marked (nat_lt c.taken count) (plain_next c) c (omega (arith, marked)) marked
 stays_marked count (Some o) c marked =
-    one_marked (nat_lt c.taken count && nat_lt (place_of c) o.place) (plain_next c) (record c { mark = c.taken; last = Some o.place; first = c.first + 1 }) (omega (arith, marked)) (omega arith)
+    one_marked (nat_lt c.taken count && nat_lt (place_of c) o.place) (plain_next c)
+    (record c { mark = c.taken; last = Some o.place; first = c.first + 1 }) (omega (arith, marked)) (omega arith)
 
 -- ---- the scripts of a port, one after the other
 
@@ -229,10 +295,14 @@ One = CallerScript JobCall
 abbrev its_calls : ℕ → List One → List (List JobCall)
 its_calls p ss = map (λ s. s.calls) (filter (λ s. s.port == p) ss)
 
-script_at : (xs : List Script) (i : ℕ) (x : Script) → i < length xs → x ≡ slice_index_or xs i x → (slice_get xs i ≡ Some x) × (drop i xs ≡ x ∷ drop (i + 1) xs)
+script_at : (xs : List Script) (i : ℕ) (x : Script)
+    → i < length xs
+    → x ≡ slice_index_or xs i x
+    → (slice_get xs i ≡ Some x) × (drop i xs ≡ x ∷ drop (i + 1) xs)
 script_at [] i x lt is = absurd (omega (arith, lt))
 script_at (y ∷ xs) zero x lt is = (ap (λ (z : Script). Some z) (sym is), ap (λ (z : Script). z ∷ xs) (sym is))
-script_at (y ∷ xs) (suc i) x lt is = (let rest = script_at xs i x (omega (arith, lt)) is in (rest.0, rest.1 ∙ one_later x y xs i))
+script_at (y ∷ xs) (suc i) x lt is =
+    (let rest = script_at xs i x (omega (arith, lt)) is in (rest.0, rest.1 ∙ one_later x y xs i))
 
 abbrev none_own : List Own
 none_own = []
@@ -244,59 +314,95 @@ none_left (suc n) = refl
 drop_more : (a b : ℕ) (xs : List Own) → drop b (drop a xs) ≡ drop (a + b) xs
 drop_more zero b xs = (let same : b ≡ 0 + b = omega arith in ap (λ (n : ℕ). drop n xs) same)
 drop_more (suc a) b [] = none_left b ∙ sym (none_left (suc a + b))
-drop_more (suc a) b (x ∷ xs) = (let same : suc (a + b) ≡ suc a + b = omega arith in drop_more a b xs ∙ ap (λ (n : ℕ). drop n (x ∷ xs)) same)
+drop_more (suc a) b (x ∷ xs) =
+    (let same : suc (a + b) ≡ suc a + b = omega arith in drop_more a b xs ∙ ap (λ (n : ℕ). drop n (x ∷ xs)) same)
 
 -- the first of so many scripts, with its cursor
 abbrev pub starts : ℕ → ℕ → ℕ → Cursor
 starts place first end = record { script = place; taken = 0; mark = 0; last = None; first = first; end = end }
 
-pub starts_with_all : (scripts : List Script) (placed : List Own) (place first count : ℕ) (s : Script) → slice_get scripts place ≡ Some s
-    → calls_from scripts placed (starts place first (first + count)) ≡ mixed 0 s.calls.items (take count (drop first placed))
+pub starts_with_all : (scripts : List Script) (placed : List Own) (place first count : ℕ) (s : Script)
+    → slice_get scripts place ≡ Some s
+    → calls_from scripts placed (starts place first (first + count))
+    ≡ mixed 0 s.calls.items (take count (drop first placed))
 starts_with_all scripts placed place first count s is =
     let many : (first + count) - first ≡ count = omega arith in
     λ i. mixed 0 (calls_in (is i)) (take (many i) (drop first placed))
 
-one_more : (p : ℕ) (b : Bool) (s : One) (ss : List One) → (s.port == p) ≡ b → its_calls p (s ∷ ss) ≡ (if b then s.calls ∷ its_calls p ss else its_calls p ss)
-one_more p b s ss is = ap (λ (t : Bool). map (λ (x : One). x.calls) (cond t (s ∷ filter (λ x. x.port == p) ss) (filter (λ x. x.port == p) ss))) is ∙ either b s ss
+one_more : (p : ℕ) (b : Bool) (s : One) (ss : List One)
+    → (s.port == p) ≡ b
+    → its_calls p (s ∷ ss) ≡ (if b then s.calls ∷ its_calls p ss else its_calls p ss)
+one_more p b s ss is =
+    ap (λ (t : Bool).
+    map (λ (x : One). x.calls) (cond t (s ∷ filter (λ x. x.port == p) ss) (filter (λ x. x.port == p) ss))) is
+    ∙ either b s ss
   where
-    either : (b : Bool) (s : One) (ss : List One) → map (λ (x : One). x.calls) (cond b (s ∷ filter (λ x. x.port == p) ss) (filter (λ x. x.port == p) ss)) ≡ (if b then s.calls ∷ its_calls p ss else its_calls p ss)
+    either : (b : Bool) (s : One) (ss : List One)
+        → map (λ (x : One). x.calls) (cond b (s ∷ filter (λ x. x.port == p) ss) (filter (λ x. x.port == p) ss))
+        ≡ (if b then s.calls ∷ its_calls p ss else its_calls p ss)
     either true s ss = refl
     either false s ss = refl
 
 -- what a walk over the scripts has: cursors for those before a place, and those from there on
-pub record HasCursors (p : ℕ) (scripts : List Script) (placed : List Own) (cursors : List Cursor) (place first : ℕ) : Type 0 where
-  pub all : map (calls_from scripts placed) cursors ++ its_calls p (mixed_scripts place (map script_of (drop place scripts)) (drop first placed)) ≡ calls_of_port p scripts placed
+pub record HasCursors (p : ℕ) (scripts : List Script) (placed : List Own) (cursors : List Cursor)
+    (place first : ℕ) : Type 0 where
+  pub all : map (calls_from scripts placed) cursors
+      ++ its_calls p (mixed_scripts place (map script_of (drop place scripts)) (drop first placed))
+      ≡ calls_of_port p scripts placed
   pub marked : All IsMarked cursors
   pub within : first ≤ length placed
 
-pub no_cursors : (p : ℕ) (scripts : List Script) (placed : List Own) (cursors : List Cursor) → cursors ≡ [] → HasCursors p scripts placed cursors 0 0
+pub no_cursors : (p : ℕ) (scripts : List Script) (placed : List Own) (cursors : List Cursor)
+    → cursors ≡ []
+    → HasCursors p scripts placed cursors 0 0
 no_cursors p scripts placed cursors none =
-    subst (λ (cs : List Cursor). HasCursors p scripts placed cs 0 0) (sym none) (record { all = refl; marked = All-nil IsMarked; within = omega arith })
+    subst (λ (cs : List Cursor). HasCursors p scripts placed cs 0 0) (sym none)
+    (record { all = refl; marked = All-nil IsMarked; within = omega arith })
 
 map_more : {X Y : Type 0} (f : X → Y) (xs : List X) (x : X) → map f (xs ++ x ∷ []) ≡ map f xs ++ f x ∷ []
 map_more f [] x = refl
 map_more f (y ∷ xs) x = λ i. f y ∷ map_more f xs x i
 
 abbrev rest_calls : ℕ → List Script → List Own → (place first : ℕ) → List (List JobCall)
-rest_calls p scripts placed place first = its_calls p (mixed_scripts place (map script_of (drop place scripts)) (drop first placed))
+rest_calls p scripts placed place first =
+    its_calls p (mixed_scripts place (map script_of (drop place scripts)) (drop first placed))
 
 -- the script at a place, and those behind it
-rest_at : (p : ℕ) (scripts : List Script) (placed : List Own) (place first count : ℕ) (s : Script) (b : Bool) → drop place scripts ≡ s ∷ drop (place + 1) scripts → count ≡ count_in place (drop first placed) → (s.port == p) ≡ b
-    → rest_calls p scripts placed place first ≡ (if b then mixed 0 s.calls.items (take count (drop first placed)) ∷ rest_calls p scripts placed (place + 1) (first + count) else rest_calls p scripts placed (place + 1) (first + count))
+rest_at : (p : ℕ) (scripts : List Script) (placed : List Own) (place first count : ℕ) (s : Script) (b : Bool)
+    → drop place scripts ≡ s ∷ drop (place + 1) scripts
+    → count ≡ count_in place (drop first placed)
+    → (s.port == p) ≡ b
+    → rest_calls p scripts placed place first
+    ≡ (if b
+    then mixed 0 s.calls.items (take count (drop first placed))
+    ∷ rest_calls p scripts placed (place + 1) (first + count)
+    else rest_calls p scripts placed (place + 1) (first + count))
 rest_at p scripts placed place first count s b at many is =
     let rest = drop first placed in
-    let here : One = record { port = s.port; name = s.name.bytes; calls = mixed 0 s.calls.items (take (count_in place rest) rest) } in
+    let here : One =
+    record { port = s.port; name = s.name.bytes; calls = mixed 0 s.calls.items (take (count_in place rest) rest) } in
     let less = sym many in
-    let later = mixed_scripts (place + 1) (map script_of (drop (place + 1) scripts)) (drop (count_in place rest) rest) in
-    let behind_it : drop (count_in place rest) rest ≡ drop (first + count) placed = ap (λ n. drop n rest) (sym many) ∙ drop_more first count placed in
+    let later =
+    mixed_scripts (place + 1) (map script_of (drop (place + 1) scripts)) (drop (count_in place rest) rest) in
+    let behind_it : drop (count_in place rest) rest ≡ drop (first + count) placed =
+    ap (λ n. drop n rest) (sym many) ∙ drop_more first count placed in
     ap (λ (ss : List Script). its_calls p (mixed_scripts place (map script_of ss) rest)) at
     ∙ (one_more p b here later is
-    ∙ λ i. if b then mixed 0 s.calls.items (take (less i) rest) ∷ its_calls p (mixed_scripts (place + 1) (map script_of (drop (place + 1) scripts)) (behind_it i))
+    ∙ λ i. if b then mixed 0 s.calls.items (take (less i) rest) ∷ its_calls p
+    (mixed_scripts (place + 1) (map script_of (drop (place + 1) scripts)) (behind_it i))
     else its_calls p (mixed_scripts (place + 1) (map script_of (drop (place + 1) scripts)) (behind_it i)))
 
-pub own_cursor : (p : ℕ) (scripts : List Script) (placed : List Own) (cursors more : List Cursor) (place first end : ℕ) (s : Script) (c : Cursor) → HasCursors p scripts placed cursors place first
-    → place < length scripts → s ≡ slice_index_or scripts place s → end ≡ first + count_in place (drop first placed) → end ≤ length placed → s.port ≡ p
-    → c ≡ starts place first end → more ≡ cursors ++ c ∷ [] → HasCursors p scripts placed more (place + 1) end
+pub own_cursor : (p : ℕ) (scripts : List Script) (placed : List Own) (cursors more : List Cursor) (place first end : ℕ)
+    (s : Script) (c : Cursor)
+    → HasCursors p scripts placed cursors place first
+    → place < length scripts
+    → s ≡ slice_index_or scripts place s
+    → end ≡ first + count_in place (drop first placed)
+    → end ≤ length placed
+    → s.port ≡ p
+    → c ≡ starts place first end
+    → more ≡ cursors ++ c ∷ []
+    → HasCursors p scripts placed more (place + 1) end
 own_cursor p scripts placed cursors more place first end s c h lt is ends within same starts_it added =
     let count = count_in place (drop first placed) in
     let at = script_at scripts place s lt is in
@@ -304,33 +410,55 @@ own_cursor p scripts placed cursors more place first end s c h lt is ends within
     let first_part = map (calls_from scripts placed) cursors in
     let cursor_is : c ≡ starts place first (first + count) = starts_it ∙ ap (starts place first) ends in
     record {
-      all = ap (λ (cs : List Cursor). map (calls_from scripts placed) cs ++ rest_calls p scripts placed (place + 1) end) added
-          ∙ (ap (λ (xs : List (List JobCall)). xs ++ rest_calls p scripts placed (place + 1) end) (map_more (calls_from scripts placed) cursors c)
+      all = ap (λ (cs : List Cursor). map (calls_from scripts placed) cs ++ rest_calls p scripts placed (place + 1) end)
+          added
+          ∙ (ap (λ (xs : List (List JobCall)). xs ++ rest_calls p scripts placed (place + 1) end)
+          (map_more (calls_from scripts placed) cursors c)
           ∙ (append_assoc first_part (calls_from scripts placed c ∷ []) (rest_calls p scripts placed (place + 1) end)
-          ∙ ((λ i. first_part ++ (ap (calls_from scripts placed) cursor_is ∙ starts_with_all scripts placed place first count s at.0) i ∷ rest_calls p scripts placed (place + 1) (ends i))
-          ∙ (ap (λ (xs : List (List JobCall)). first_part ++ xs) (sym (rest_at p scripts placed place first count s true at.1 refl (eq-eqb s.port p same))) ∙ h.all))));
-      marked = subst (All IsMarked) (sym added) (All-push IsMarked cursors c h.marked (subst IsMarked (sym starts_it) (omega arith)));
+          ∙ ((λ i.
+          first_part
+          ++ (ap (calls_from scripts placed) cursor_is ∙ starts_with_all scripts placed place first count s at.0) i
+          ∷ rest_calls p scripts placed (place + 1) (ends i))
+          ∙ (ap (λ (xs : List (List JobCall)). first_part ++ xs)
+          (sym (rest_at p scripts placed place first count s true at.1 refl (eq-eqb s.port p same)))
+          ∙ h.all))));
+      marked = subst (All IsMarked) (sym added)
+          (All-push IsMarked cursors c h.marked (subst IsMarked (sym starts_it) (omega arith)));
       within = within;
     }
 
-pub other_script : (p : ℕ) (scripts : List Script) (placed : List Own) (cursors more : List Cursor) (place first end : ℕ) (s : Script) → HasCursors p scripts placed cursors place first
-    → place < length scripts → s ≡ slice_index_or scripts place s → end ≡ first + count_in place (drop first placed) → end ≤ length placed → (s.port ≡ p → ⊥)
-    → more ≡ cursors → HasCursors p scripts placed more (place + 1) end
+pub other_script : (p : ℕ) (scripts : List Script) (placed : List Own) (cursors more : List Cursor)
+    (place first end : ℕ) (s : Script)
+    → HasCursors p scripts placed cursors place first
+    → place < length scripts
+    → s ≡ slice_index_or scripts place s
+    → end ≡ first + count_in place (drop first placed)
+    → end ≤ length placed
+    → (s.port ≡ p → ⊥)
+    → more ≡ cursors
+    → HasCursors p scripts placed more (place + 1) end
 other_script p scripts placed cursors more place first end s h lt is ends within other same =
     let count = count_in place (drop first placed) in
     let at = script_at scripts place s lt is in
     record {
       all = (λ i. map (calls_from scripts placed) (same i) ++ rest_calls p scripts placed (place + 1) (ends i))
-          ∙ (ap (λ (xs : List (List JobCall)). map (calls_from scripts placed) cursors ++ xs) (sym (rest_at p scripts placed place first count s false at.1 refl (ne_eqb s.port p other))) ∙ h.all);
+          ∙ (ap (λ (xs : List (List JobCall)). map (calls_from scripts placed) cursors ++ xs)
+          (sym (rest_at p scripts placed place first count s false at.1 refl (ne_eqb s.port p other)))
+          ∙ h.all);
       marked = subst (All IsMarked) (sym same) h.marked;
       within = within;
     }
 
-pub all_cursors : (p : ℕ) (scripts : List Script) (placed : List Own) (cursors : List Cursor) (place first : ℕ) → HasCursors p scripts placed cursors place first → length scripts ≤ place
+pub all_cursors : (p : ℕ) (scripts : List Script) (placed : List Own) (cursors : List Cursor) (place first : ℕ)
+    → HasCursors p scripts placed cursors place first
+    → length scripts ≤ place
     → map (calls_from scripts placed) cursors ≡ calls_of_port p scripts placed
 all_cursors p scripts placed cursors place first h past =
     let calls = map (calls_from scripts placed) cursors in
-    sym (ap (λ (ss : List Script). calls ++ its_calls p (mixed_scripts place (map script_of ss) (drop first placed))) (drop_none scripts place past) ∙ append-nil calls) ∙ h.all
+    sym (ap (λ (ss : List Script). calls ++ its_calls p (mixed_scripts place (map script_of ss) (drop first placed)))
+    (drop_none scripts place past)
+    ∙ append-nil calls)
+    ∙ h.all
 
 -- ---- the count of a script's calls of job control
 
@@ -344,17 +472,22 @@ found p xs n h =
     some_then true place n e = (refl, some_is place n e)
     some_then false place n e = absurd (none_some n e)
 
-pub count_within : (script : ℕ) (placed : List Own) (n : ℕ) → position (λ o. not (o.script == script)) placed ≡ Some n → n ≤ length placed
+pub count_within : (script : ℕ) (placed : List Own) (n : ℕ)
+    → position (λ o. not (o.script == script)) placed ≡ Some n
+    → n ≤ length placed
 count_within script placed n is = (let lt = found (λ o. not (o.script == script)) placed n is in omega (arith, lt))
 
 -- ---- a place of the list
 
-pub set_map : (f : Cursor → List JobCall) (xs : List Cursor) (i : ℕ) (x : Cursor) → map f (slice_set xs i x) ≡ slice_set (map f xs) i (f x)
+pub set_map : (f : Cursor → List JobCall) (xs : List Cursor) (i : ℕ) (x : Cursor)
+    → map f (slice_set xs i x) ≡ slice_set (map f xs) i (f x)
 set_map f [] i x = refl
 set_map f (y ∷ xs) zero x = refl
 set_map f (y ∷ xs) (suc i) x = λ j. f y ∷ set_map f xs i x j
 
-pub set_none : (f : Cursor → List JobCall) (xs : List Cursor) (i : ℕ) (x : List JobCall) → slice_get xs i ≡ None → slice_set (map f xs) i x ≡ map f xs
+pub set_none : (f : Cursor → List JobCall) (xs : List Cursor) (i : ℕ) (x : List JobCall)
+    → slice_get xs i ≡ None
+    → slice_set (map f xs) i x ≡ map f xs
 set_none f [] i x is = refl
 set_none f (y ∷ xs) zero x is = absurd (none_some y (sym is))
 set_none f (y ∷ xs) (suc i) x is = λ j. f y ∷ set_none f xs i x is j
@@ -364,10 +497,14 @@ marked_at [] i c h is = absurd (none_some c is)
 marked_at (d ∷ cs) zero c h is = subst IsMarked (some_is d c is) (All-head IsMarked d cs h)
 marked_at (d ∷ cs) (suc i) c h is = marked_at cs i c (All-tail IsMarked d cs h) is
 
-pub marked_set : (cs : List Cursor) (i : ℕ) (c : Cursor) → All IsMarked cs → IsMarked c → All IsMarked (slice_set cs i c)
+pub marked_set : (cs : List Cursor) (i : ℕ) (c : Cursor)
+    → All IsMarked cs
+    → IsMarked c
+    → All IsMarked (slice_set cs i c)
 marked_set [] i c h m = h
 marked_set (d ∷ cs) zero c h m = All-cons IsMarked c cs m (All-tail IsMarked d cs h)
-marked_set (d ∷ cs) (suc i) c h m = All-cons IsMarked d (slice_set cs i c) (All-head IsMarked d cs h) (marked_set cs i c (All-tail IsMarked d cs h) m)
+marked_set (d ∷ cs) (suc i) c h m =
+    All-cons IsMarked d (slice_set cs i c) (All-head IsMarked d cs h) (marked_set cs i c (All-tail IsMarked d cs h) m)
 
 pub within_at : (cs : List Cursor) (i : ℕ) (c : Cursor) → slice_get cs i ≡ Some c → i < length cs
 within_at [] i c is = absurd (none_some c is)

@@ -30,25 +30,33 @@ none_passed q = []
 none_some : (call : PlainCall) → None ≡ Some call → ⊥
 none_some call e = absurd (cc)
 
-pub opens_with_none : (first : Scene) (phases : List BlockPhase) (station : Station) → IsBeforePhase first 0 station 0 → IsPort station.port → IsOfBlocks first.port phases first.session
-    → AreBlocksWithin first.session.ports first.session.flips phases → HasPassed first phases (λ c. []) station.port
+pub opens_with_none : (first : Scene) (phases : List BlockPhase) (station : Station)
+    → IsBeforePhase first 0 station 0
+    → IsPort station.port
+    → IsOfBlocks first.port phases first.session
+    → AreBlocksWithin first.session.ports first.session.flips phases
+    → HasPassed first phases (λ c. []) station.port
 opens_with_none first phases station h port blocks limits =
     let p = first.port in
     let v = station.port in
     let session : PlainSession = record first.session { phases = passed_phases none_passed phases } in
     let by : IsPassedBy p phases (λ c. []) session = record { passed = none_passed; are = refl; by = λ c. refl } in
-    let within : ArePassedWithin none_passed = record { calls = λ q. All-nil (λ (m : Passing). All IsCallWithin m.calls); single = λ q c step. omega arith } in
+    let within : ArePassedWithin none_passed =
+    record { calls = λ q. All-nil (λ (m : Passing). All IsCallWithin m.calls); single = λ q c step. omega arith } in
     let empty = nothing_yet v.journal h.played.played.up_to in
-    let nothing_begun : (c : ℕ) → begun_of (caller_at v.terminal c) ≡ 0 = λ c. ap begun_of (h.at_phase.callers c) ∙ first_none p first.session c in
+    let nothing_begun : (c : ℕ) → begun_of (caller_at v.terminal c) ≡ 0 = λ c.
+    ap begun_of (h.at_phase.callers c) ∙ first_none p first.session c in
     record {
       session = session;
       by = by;
       within = within;
       ports = refl;
       flips = refl;
-      like = like_first first phases (λ c. []) session blocks by refl refl (within_limits phases none_passed session refl limits within);
+      like = like_first first phases (λ c. []) session blocks by refl refl
+          (within_limits phases none_passed session refl limits within);
       agrees = record {
-        known = λ c step call is. absurd (none_some call (sym (not_kept v.terminal v.kept c step port.begun (omega (arith, nothing_begun c))) ∙ is));
+        known = λ c step call is. absurd
+            (none_some call (sym (not_kept v.terminal v.kept c step port.begun (omega (arith, nothing_begun c))) ∙ is));
         in_phases = subst (λ (es : List PlainEntry). AreInPhases p session 0 es) (sym empty) tt;
       };
     }

@@ -1,5 +1,6 @@
 -- Signals come of flushes alone.
-use Rattle.std.proofs.Common.{◌≡◌, ℕ, ◌==◌, Bool, true, false, not, List, Option, None, Some, if◌then◌else◌, length, drop, refl, sym}
+use Rattle.std.proofs.Common.{◌≡◌, ℕ, ◌==◌, Bool, true, false, not, List, Option}
+use Rattle.std.proofs.Common.{None, Some, if◌then◌else◌, length, drop, refl, sym}
 use Rattle.std.specs.Prelude.{is_some, nat_lt}
 use Rattle.std.proofs.lemmas.Bool.{false≢true}
 use Rattle.tty_base.specs.declared.counters.Errno.TheVariants.{EBADF, EAGAIN, EIO, EMSGSIZE}
@@ -13,7 +14,10 @@ use Rattle.tty_calls.specs.declared.calls.Act.TheVariants as act
 use Rattle.tty_calls.specs.declared.journals.Who.{Who}
 use Rattle.tty_calls.specs.declared.journals.Who.TheVariants.{Caller, Flusher, Line, Clock, Session}
 use Rattle.tty_base.specs.declared.counters.Errno.{Errno}
-use Rattle.tty_calls.specs.Plain.{PlainCall, opens, closes, reads, writes, gets_modes, sets_modes, gets_disc, sets_disc, flushes, steers, counts_input, counts_output, excludes, admits, drains, gets_counts, hangs_up, sends_packet, takes_packet, PlainEvent, answered, parted, waited, flushed, ticked, line_ended, clock_ended, caller_ended, phase_ended, hung_up, PlainEntry}
+use Rattle.tty_calls.specs.Plain.{PlainCall, opens, closes, reads, writes, gets_modes, sets_modes, gets_disc, sets_disc}
+use Rattle.tty_calls.specs.Plain.{flushes, steers, counts_input, counts_output, excludes, admits, drains, gets_counts}
+use Rattle.tty_calls.specs.Plain.{hangs_up, sends_packet, takes_packet, PlainEvent, answered, parted, waited, flushed}
+use Rattle.tty_calls.specs.Plain.{ticked, line_ended, clock_ended, caller_ended, phase_ended, hung_up, PlainEntry}
 use Rattle.tty_modes.specs.Settings.{Settings, character}
 use Rattle.tty_modes.specs.declared.places.TheConstants.{VSTART, VSTOP}
 use Rattle.flow_control.specs.Output.{room_of}
@@ -28,7 +32,8 @@ use Rattle.tty_terminal.specs.declared.callers.CallerState.{CallerState}
 use Rattle.tty_terminal.specs.Terminals.{Terminal, handle_at, handle_for, caller_at}
 use Rattle.tty_terminal.specs.Outcomes.{Outcome, waits, takes, refuses, does, on_live, on_access, may_read, may_write}
 use Rattle.tty_terminal.specs.Opening.{is_last_live, closing_outcome}
-use Rattle.tty_terminal.specs.Transfers.{since_or, has_parts, is_outlived, write_refusal, read_outcome, reading_outcome, part_outcome, with_piece_posted, write_outcome, writing_outcome}
+use Rattle.tty_terminal.specs.Transfers.{since_or, has_parts, is_outlived, write_refusal, read_outcome, reading_outcome}
+use Rattle.tty_terminal.specs.Transfers.{part_outcome, with_piece_posted, write_outcome, writing_outcome}
 use Rattle.tty_terminal.specs.Modes.{is_drained, modes_outcome}
 use Rattle.tty_terminal.specs.Switching.{number_of, change_outcome}
 use Rattle.tty_terminal.specs.Flow.{flush_outcome, after_act}
@@ -46,7 +51,10 @@ either t true x y p q = p
 either t false x y p q = q
 
 -- the rule for ixoff follows an answer
-both : (t : Terminal) (b : Bool) (u w : Terminal) → signals_of u ≡ signals_of t → signals_of w ≡ signals_of t → signals_of (if b then u else w) ≡ signals_of t
+both : (t : Terminal) (b : Bool) (u w : Terminal)
+    → signals_of u ≡ signals_of t
+    → signals_of w ≡ signals_of t
+    → signals_of (if b then u else w) ≡ signals_of t
 both t true u w p q = p
 both t false u w p q = q
 
@@ -54,9 +62,12 @@ live : (t : Terminal) (handle : Option HandleState) (x : Outcome) → IsStill t 
 live t None x p = refl
 live t (Some handle) x p = either t handle.live x _ p refl
 
-access : (may : Access → Bool) (t : Terminal) (handle : Option HandleState) (x : Outcome) → IsStill t x → IsStill t (on_access may t handle x)
+access : (may : Access → Bool) (t : Terminal) (handle : Option HandleState) (x : Outcome)
+    → IsStill t x
+    → IsStill t (on_access may t handle x)
 access may t None x p = refl
-access may t (Some handle) x p = either t (may handle.access) (on_live t (Some handle) x) _ (live t (Some handle) x p) refl
+access may t (Some handle) x p =
+    either t (may handle.access) (on_live t (Some handle) x) _ (live t (Some handle) x p) refl
 
 closing : (t : Terminal) (h : ℕ) (handle : Option HandleState) → IsStill t (closing_outcome t h handle)
 closing t h None = refl
@@ -65,29 +76,40 @@ closing t h (Some handle) = both t (is_last_live t handle) _ _ refl refl
 refusal : (t : Terminal) (s : CallerState) (errno : Errno) → IsStill t (write_refusal t s errno)
 refusal t s errno = either t (has_parts s) _ _ refl refl
 
-reading_by : (t : Terminal) (s : CallerState) (nonblock : Bool) (n : ℕ) (d : Disc) → IsStill t (read_outcome t s nonblock n d)
+reading_by : (t : Terminal) (s : CallerState) (nonblock : Bool) (n : ℕ) (d : Disc)
+    → IsStill t (read_outcome t s nonblock n d)
 reading_by t s nonblock n (disc.Slip slip) = refl
 reading_by t s nonblock n (disc.Tty tty) =
-    either t (is_readable t.modes nonblock n (since_or s.waits t.tick) t.tick tty) _ (if nonblock then refuses EAGAIN t else waits) refl (either t nonblock (refuses EAGAIN t) waits refl refl)
+    either t (is_readable t.modes nonblock n (since_or s.waits t.tick) t.tick tty) _
+    (if nonblock then refuses EAGAIN t else waits) refl (either t nonblock (refuses EAGAIN t) waits refl refl)
 
-reading : (t : Terminal) (s : CallerState) (n : ℕ) (handle : Option HandleState) → IsStill t (reading_outcome t s n handle)
+reading : (t : Terminal) (s : CallerState) (n : ℕ) (handle : Option HandleState)
+    → IsStill t (reading_outcome t s n handle)
 reading t s n None = refl
 reading t s n (Some handle) =
-    either t (not (may_read handle.access)) _ _ refl (either t (not handle.live) _ _ refl (reading_by t s handle.nonblock n t.disc))
+    either t (not (may_read handle.access)) _ _ refl
+    (either t (not handle.live) _ _ refl (reading_by t s handle.nonblock n t.disc))
 
-parting : (t : Terminal) (s : CallerState) (nonblock : Bool) (left fit : ℕ) (u : Terminal) → signals_of u ≡ signals_of t → IsStill t (part_outcome t s nonblock left fit u)
+parting : (t : Terminal) (s : CallerState) (nonblock : Bool) (left fit : ℕ) (u : Terminal)
+    → signals_of u ≡ signals_of t
+    → IsStill t (part_outcome t s nonblock left fit u)
 parting t s nonblock left fit u same =
-    either t (fit == left) _ _ same (either t (nat_lt 0 fit) (takes fit u) _ same (either t nonblock _ waits (refusal t s EAGAIN) refl))
+    either t (fit == left) _ _ same
+    (either t (nat_lt 0 fit) (takes fit u) _ same (either t nonblock _ waits (refusal t s EAGAIN) refl))
 
-writing_by : (t : Terminal) (s : CallerState) (nonblock : Bool) (rest : List ℕ) (d : Disc) → IsStill t (write_outcome t s nonblock rest d)
+writing_by : (t : Terminal) (s : CallerState) (nonblock : Bool) (rest : List ℕ) (d : Disc)
+    → IsStill t (write_outcome t s nonblock rest d)
 writing_by t s nonblock rest (disc.Slip slip) = refusal t s EIO
-writing_by t s nonblock rest (disc.Tty tty) = parting t s nonblock (length rest) (piece_size t.modes tty t.output rest) (with_piece_posted t tty rest) refl
+writing_by t s nonblock rest (disc.Tty tty) =
+    parting t s nonblock (length rest) (piece_size t.modes tty t.output rest) (with_piece_posted t tty rest) refl
 
-writing : (t : Terminal) (s : CallerState) (bytes : List ℕ) (handle : Option HandleState) → IsStill t (writing_outcome t s bytes handle)
+writing : (t : Terminal) (s : CallerState) (bytes : List ℕ) (handle : Option HandleState)
+    → IsStill t (writing_outcome t s bytes handle)
 writing t s bytes None = refusal t s EBADF
 writing t s bytes (Some handle) =
     either t (not (may_write handle.access)) _ _ (refusal t s EBADF)
-    (either t (not handle.live) _ _ (refusal t s EIO) (either t (is_outlived t s) _ _ refl (writing_by t s handle.nonblock (drop s.taken bytes) t.disc)))
+    (either t (not handle.live) _ _ (refusal t s EIO)
+    (either t (is_outlived t s) _ _ refl (writing_by t s handle.nonblock (drop s.taken bytes) t.disc)))
 
 setting : (t : Terminal) (moment : When) (new : Settings) → IsStill t (modes_outcome t moment new)
 setting t when.Now new = refl
@@ -112,8 +134,12 @@ steering t act.Ion = both t (character t.modes VSTART == 0) _ _ refl refl
 sending : (t : Terminal) (bytes : List ℕ) (d : Disc) → IsStill t (sending_outcome t bytes d)
 sending t bytes (disc.Tty tty) = refl
 sending t bytes (disc.Slip slip) =
-    either t (nat_lt max_packet (length bytes)) (refuses EMSGSIZE t) (if nat_lt (room_of t.output) (length (spelling_of bytes)) then refuses EAGAIN t else does (with_packet_sent t bytes)) refl
-    (either t (nat_lt (room_of t.output) (length (spelling_of bytes))) (refuses EAGAIN t) (does (with_packet_sent t bytes)) refl refl)
+    either t (nat_lt max_packet (length bytes)) (refuses EMSGSIZE t)
+    (if nat_lt (room_of t.output) (length (spelling_of bytes))
+    then refuses EAGAIN t
+    else does (with_packet_sent t bytes)) refl
+    (either t (nat_lt (room_of t.output) (length (spelling_of bytes))) (refuses EAGAIN t)
+    (does (with_packet_sent t bytes)) refl refl)
 
 taking : (t : Terminal) (d : Disc) → IsStill t (taking_outcome t d)
 taking t (disc.Tty tty) = refl
@@ -146,7 +172,9 @@ asked_still t s None = refl
 asked_still t s (Some call) = call_still t s call
 
 -- an entry that is no flush
-event_still : (calls : ℕ → ℕ → Option PlainCall) (t : Terminal) (who : Who) (step part : ℕ) (event : PlainEvent) → is_flush event ≡ false → signals_of (after_event calls t who step part event) ≡ signals_of t
+event_still : (calls : ℕ → ℕ → Option PlainCall) (t : Terminal) (who : Who) (step part : ℕ) (event : PlainEvent)
+    → is_flush event ≡ false
+    → signals_of (after_event calls t who step part event) ≡ signals_of t
 event_still calls t (Caller c) step part (answered a dropped) e = asked_still t (caller_at t c) (calls c step)
 event_still calls t Flusher step part (answered a dropped) e = refl
 event_still calls t Line step part (answered a dropped) e = refl
@@ -174,5 +202,7 @@ event_still calls t Session step part caller_ended e = refl
 event_still calls t who step part phase_ended e = refl
 event_still calls t who step part (hung_up dropped) e = refl
 
-pub entry_still : (calls : ℕ → ℕ → Option PlainCall) (t : Terminal) (e : PlainEntry) → is_flush e.event ≡ false → signals_of (after calls t e) ≡ signals_of t
+pub entry_still : (calls : ℕ → ℕ → Option PlainCall) (t : Terminal) (e : PlainEntry)
+    → is_flush e.event ≡ false
+    → signals_of (after calls t e) ≡ signals_of t
 entry_still calls t e none = event_still calls t e.who e.step e.part e.event none

@@ -1,5 +1,7 @@
 -- A player of a session of processes, turn by turn.
-use Rattle.std.proofs.Common.{◌≡◌, ◌≤◌, ◌<◌, ◌⊎◌, inl, inr, ℕ, ◌+◌, ◌==◌, ◌||◌, Bool, true, false, List, [], ◌∷◌, ◌++◌, IsTrue, Option, Some, length, if◌then◌else◌, refl, sym, ap, ◌∙◌, subst, arith, append-nil, length-append}
+use Rattle.std.proofs.Common.{◌≡◌, ◌≤◌, ◌<◌, ◌⊎◌, inl, inr, ℕ, ◌+◌, ◌==◌, ◌||◌, Bool, true, false}
+use Rattle.std.proofs.Common.{List, [], ◌∷◌, ◌++◌, IsTrue, Option, Some, length, if◌then◌else◌}
+use Rattle.std.proofs.Common.{refl, sym, ap, ◌∙◌, subst, arith, append-nil, length-append}
 use Rattle.std.specs.Prelude.{All, slice_get, slice_index_or, slice_set}
 use Rattle.std.proofs.lemmas.Bool.{cases_eq, false≢true, ne_eqb, eq-eqb}
 use Rattle.std.proofs.lemmas.List.Elements.{All-append, All-cons, All-nil}
@@ -37,18 +39,23 @@ use Rattle.job_one.specs.Witness.{scene_on, IsPlaying, IsCalling}
 use Rattle.job_one.specs.Later.{ComesBy}
 use Rattle.job_one.specs.Latest.{latest_on}
 use Rattle.job_one.specs.Desk.{proc_in, call_after, signals_of, IsDeskAt, jobs_passed, due_passed, HadBegun}
-use Rattle.job_one.specs.Playing.{DeskValue, step_at, next_passing, passings_with, begun_at, begun_with, hangup_of, hangup_with, AreLoggedBefore, IsPlayingJobs}
+use Rattle.job_one.specs.Playing.{DeskValue, step_at, next_passing, passings_with, begun_at}
+use Rattle.job_one.specs.Playing.{begun_with, hangup_of, hangup_with, AreLoggedBefore, IsPlayingJobs}
 use Rattle.job_one.proofs.Witnessed.{in_turn, in_call, in_last, turn_on, calls_next, call_on, last_on, same_entry}
 use Rattle.job_one.proofs.Nexts.{next_of_call}
 use Rattle.job_one.proofs.Growing.{calls_all}
 use Rattle.job_one.proofs.Passings.{all_more, in_steps_more}
 use Rattle.job_one.proofs.BegunBefore.{begun_same, begun_still, begun_elsewhere, begun_by_none}
-use Rattle.job_one.proofs.Attempted.{makes_as, attempts_as, begins, other_is, of_step_is, begins_by_wait, begins_by_part, begun_now, was_answered, ended_now}
-use Rattle.job_one.proofs.Mine.{logged_more, by_own, by_other, tail, tail_same, tail_none, tail_one, step_own, step_other, step_rises, before_more, none_at, in_steps_below}
-use Rattle.job_one.proofs.DeskEvents.{desk_sends, desk_hangs_up, desk_raises, desk_answers, desk_stays, desk_begins, desk_passes}
+use Rattle.job_one.proofs.Attempted.{makes_as, attempts_as, begins, other_is, of_step_is}
+use Rattle.job_one.proofs.Attempted.{begins_by_wait, begins_by_part, begun_now, was_answered, ended_now}
+use Rattle.job_one.proofs.Mine.{logged_more, by_own, by_other, tail, tail_same, tail_none, tail_one}
+use Rattle.job_one.proofs.Mine.{step_own, step_other, step_rises, before_more, none_at, in_steps_below}
+use Rattle.job_one.proofs.DeskEvents.{desk_sends, desk_hangs_up, desk_raises}
+use Rattle.job_one.proofs.DeskEvents.{desk_answers, desk_stays, desk_begins, desk_passes}
 use Rattle.journal_check.proofs.NameLemmas.{get_past}
 
-module _ (first : Scene) (session : JobsSession) (scripts : Scene → List Script) (roles : List Role) (start : PortValue) where
+module _ (first : Scene) (session : JobsSession) (scripts : Scene → List Script) (roles : List Role)
+    (start : PortValue) where
   abbrev p : ℕ
   p = first.port
 
@@ -56,15 +63,35 @@ module _ (first : Scene) (session : JobsSession) (scripts : Scene → List Scrip
   phases = block_phases session
 
   -- the same passings of each caller
-  plays_as : (f g : ℕ → List Passing) (v : PortValue) (ticks : ℕ) (stand : Stand) → ((c : ℕ) → f c ≡ g c) → IsPlaying first phases scripts roles start f v ticks stand → IsPlaying first phases scripts roles start g v ticks stand
-  plays_as f g v ticks stand same h = subst (λ (mine : ℕ → List Passing). IsPlaying first phases scripts roles start mine v ticks stand) (λ i. λ c. same c i) h
+  plays_as : (f g : ℕ → List Passing) (v : PortValue) (ticks : ℕ) (stand : Stand)
+      → ((c : ℕ) → f c ≡ g c)
+      → IsPlaying first phases scripts roles start f v ticks stand
+      → IsPlaying first phases scripts roles start g v ticks stand
+  plays_as f g v ticks stand same h = subst
+      (λ (mine : ℕ → List Passing). IsPlaying first phases scripts roles start mine v ticks stand) (λ i. λ c. same c i)
+      h
 
-  calls_as : (f g : ℕ → List Passing) (v : PortValue) (ticks : ℕ) (stand : Stand) (place : ℕ) (call : PlainCall) → ((c : ℕ) → f c ≡ g c) → IsCalling first phases scripts roles start f v ticks stand place call → IsCalling first phases scripts roles start g v ticks stand place call
-  calls_as f g v ticks stand place call same h = subst (λ (mine : ℕ → List Passing). IsCalling first phases scripts roles start mine v ticks stand place call) (λ i. λ c. same c i) h
+  calls_as : (f g : ℕ → List Passing) (v : PortValue) (ticks : ℕ) (stand : Stand) (place : ℕ) (call : PlainCall)
+      → ((c : ℕ) → f c ≡ g c)
+      → IsCalling first phases scripts roles start f v ticks stand place call
+      → IsCalling first phases scripts roles start g v ticks stand place call
+  calls_as f g v ticks stand place call same h = subst
+      (λ (mine : ℕ → List Passing). IsCalling first phases scripts roles start mine v ticks stand place call)
+      (λ i. λ c. same c i) h
 
   -- a port of the scene comes to another one of it
-  comes : (s : Scene) (v w : PortValue) (part : List PlainEntry) → IsOfSceneIn HasAnyOrder s v → IsOfSceneIn HasAnyOrder s w → w.journal ≡ v.journal ++ part → Grows (call_in v.kept) (call_in w.kept) → ComesBy v w part
-  comes s v w part was now added grows = record { added = added; grows = grows; counts = now.counts ∙ sym was.counts; capacity = now.capacity ∙ sym was.capacity }
+  comes : (s : Scene) (v w : PortValue) (part : List PlainEntry)
+      → IsOfSceneIn HasAnyOrder s v
+      → IsOfSceneIn HasAnyOrder s w
+      → w.journal ≡ v.journal ++ part
+      → Grows (call_in v.kept) (call_in w.kept)
+      → ComesBy v w part
+  comes s v w part was now added grows = record {
+    added = added;
+    grows = grows;
+    counts = now.counts ∙ sym was.counts;
+    capacity = now.capacity ∙ sym was.capacity;
+  }
 
   kept_grows : (v w : PortValue) → w.kept ≡ v.kept → Grows (call_in v.kept) (call_in w.kept)
   kept_grows v w same = subst (λ ks. Grows (call_in v.kept) (call_in ks)) (sym same) (λ c step call is. is)
@@ -72,8 +99,11 @@ module _ (first : Scene) (session : JobsSession) (scripts : Scene → List Scrip
   -- ---- a flush, a tick, or the end of the clock
 
   pub turn_goes_on : (log : JobLog) (old new : PortValue) (d : DeskValue) (ticks : ℕ) (was now : Stand) (next : Turn)
-      → IsPlayingJobs first session scripts roles start log old d ticks was → IsTurn (is_of_consoles first.session) old (role_numbers roles) was.going next
-      → ((c : ℕ) → is_caller (who_of (role_numbers roles) next) c ≡ false) → PlaysTurn roles old new was now next → AddsEntry old new
+      → IsPlayingJobs first session scripts roles start log old d ticks was
+      → IsTurn (is_of_consoles first.session) old (role_numbers roles) was.going next
+      → ((c : ℕ) → is_caller (who_of (role_numbers roles) next) c ≡ false)
+      → PlaysTurn roles old new was now next
+      → AddsEntry old new
       → IsPlayingJobs first session scripts roles start log new d ticks now
   turn_goes_on log old new d ticks was now next h is none plays adds =
       let mine = passings_with session log p d (begun_at old) in
@@ -83,12 +113,16 @@ module _ (first : Scene) (session : JobsSession) (scripts : Scene → List Scrip
       let on = takes.on in
       let who = takes.who in
       let other : (c : ℕ) → is_caller on.adds.entry.who c ≡ false = λ c. ap (λ (w : Who). is_caller w c) who ∙ none c in
-      let by : ComesBy old new (on.adds.entry ∷ []) = comes s old new (on.adds.entry ∷ []) at.plays.of_scene on.plays.of_scene on.adds.added (kept_grows old new adds.kept) in
+      let by : ComesBy old new (on.adds.entry ∷ []) =
+      comes s old new (on.adds.entry ∷ []) at.plays.of_scene on.plays.of_scene on.adds.added
+      (kept_grows old new adds.kept) in
       record {
         playing = plays_as mine (passings_with session log p d (begun_at new)) new ticks now
-            (λ c. ap (λ (b : Bool). by_caller c (passings_on session log p) ++ tail b (next_passing session p d c)) (sym (begun_same s old new on.adds c (other c))))
+            (λ c. ap (λ (b : Bool). by_caller c (passings_on session log p) ++ tail b (next_passing session p d c))
+            (sym (begun_same s old new on.adds c (other c))))
             (turn_on first phases scripts roles start mine old new ticks was now next h.playing is none plays adds);
-        desk = desk_stays first session log old new (on.adds.entry ∷ []) d.jobs d.next d.signals d.due by (λ c. begun_elsewhere s old new on.adds c (other c)) h.desk;
+        desk = desk_stays first session log old new (on.adds.entry ∷ []) d.jobs d.next d.signals d.due by
+            (λ c. begun_elsewhere s old new on.adds c (other c)) h.desk;
         logged_before = h.logged_before;
       }
 
@@ -96,43 +130,87 @@ module _ (first : Scene) (session : JobsSession) (scripts : Scene → List Scrip
 
   -- by an event that passes nothing down, beside which each next step stays
   logged_same : (log : JobLog) (v : PortValue) (d late : DeskValue) (ticks : ℕ) (stand : Stand) (event : JobEvent)
-      → passings_on session (log ++ record { port = p; at = length v.journal; event = event } ∷ []) p ≡ passings_on session log p → late.next ≡ d.next
+      → passings_on session (log ++ record { port = p; at = length v.journal; event = event } ∷ []) p
+      ≡ passings_on session log p
+      → late.next ≡ d.next
       → IsPlayingJobs first session scripts roles start log v d ticks stand
-      → IsDeskAt first session (log ++ record { port = p; at = length v.journal; event = event } ∷ []) v late.jobs late.next late.signals late.due
-      → IsPlayingJobs first session scripts roles start (log ++ record { port = p; at = length v.journal; event = event } ∷ []) v late ticks stand
+      → IsDeskAt first session (log ++ record { port = p; at = length v.journal; event = event } ∷ [])
+      v late.jobs late.next late.signals late.due
+      → IsPlayingJobs first session scripts roles start
+      (log ++ record { port = p; at = length v.journal; event = event } ∷ []) v late ticks stand
   logged_same log v d late ticks stand event same next h desk =
       let more = log ++ record { port = p; at = length v.journal; event = event } ∷ [] in
       record {
-        playing = plays_as (passings_with session log p d (begun_at v)) (passings_with session more p late (begun_at v)) v ticks stand
-            (λ c. λ i. by_caller c (sym same i) ++ tail (begun_at v c) (record { caller = c; step = slice_index_or (sym next i) c 0; calls = plain_call (call_after session p (sym next i) c) })) h.playing;
+        playing = plays_as (passings_with session log p d (begun_at v)) (passings_with session more p late (begun_at v))
+            v ticks stand
+            (λ c. λ i.
+            by_caller c (sym same i)
+            ++ tail (begun_at v c) (record {
+              caller = c;
+              step = slice_index_or (sym next i) c 0;
+              calls = plain_call (call_after session p (sym next i) c);
+            })) h.playing;
         desk = desk;
-        logged_before = λ c. subst (λ (ns : List ℕ). AreLoggedBefore session more p c (slice_index_or ns c 0)) (sym next) (subst (λ (ms : List Passing). All (λ m. m.step < step_at d c) (by_caller c ms)) (sym same) (h.logged_before c));
+        logged_before = λ c. subst (λ (ns : List ℕ). AreLoggedBefore session more p c (slice_index_or ns c 0))
+            (sym next)
+            (subst (λ (ms : List Passing). All (λ m. m.step < step_at d c) (by_caller c ms)) (sym same)
+            (h.logged_before c));
       }
 
-  pub due_goes_on : (log : JobLog) (v : PortValue) (d : DeskValue) (ticks : ℕ) (stand : Stand) (signal : JobSignal) (target : Target) (rest : List JobEvent)
-      → IsPlayingJobs first session scripts roles start log v d ticks stand → d.due ≡ sent signal target ∷ rest
-      → IsPlayingJobs first session scripts roles start (log ++ record { port = p; at = length v.journal; event = sent signal target } ∷ []) v (record d { due = rest }) ticks stand
+  pub due_goes_on : (log : JobLog) (v : PortValue) (d : DeskValue) (ticks : ℕ) (stand : Stand) (signal : JobSignal)
+      (target : Target) (rest : List JobEvent)
+      → IsPlayingJobs first session scripts roles start log v d ticks stand
+      → d.due ≡ sent signal target ∷ rest
+      → IsPlayingJobs first session scripts roles start
+      (log ++ record { port = p; at = length v.journal; event = sent signal target } ∷ []) v (record d { due = rest })
+      ticks stand
   due_goes_on log v d ticks stand signal target rest h is =
-      logged_same log v d (record d { due = rest }) ticks stand (sent signal target) (logged_more session log p (length v.journal) (sent signal target) refl) refl h
-      (desk_sends first session log v d.jobs d.next d.signals signal target rest (subst (λ (es : List JobEvent). IsDeskAt first session log v d.jobs d.next d.signals es) is h.desk))
+      logged_same log v d (record d { due = rest }) ticks stand (sent signal target)
+      (logged_more session log p (length v.journal) (sent signal target) refl) refl h
+      (desk_sends first session log v d.jobs d.next d.signals signal target rest
+      (subst (λ (es : List JobEvent). IsDeskAt first session log v d.jobs d.next d.signals es) is h.desk))
 
-  pub signal_goes_on : (log : JobLog) (old v : PortValue) (e : PlainEntry) (d : DeskValue) (ticks : ℕ) (stand : Stand) (signal : Signal)
-      → IsPort old → IsPort v → ComesBy old v (e ∷ []) → IsPlayingJobs first session scripts roles start log v d ticks stand → d.due ≡ []
-      → length (signals_of old.terminal) ≤ d.signals → slice_get (signals_of v.terminal) d.signals ≡ Some signal
-      → IsPlayingJobs first session scripts roles start (log ++ record { port = p; at = length v.journal; event = sent (job_signal signal) (foreground_target d.jobs) } ∷ []) v (record d { signals = d.signals + 1; due = [] }) ticks stand
+  pub signal_goes_on : (log : JobLog) (old v : PortValue) (e : PlainEntry) (d : DeskValue) (ticks : ℕ) (stand : Stand)
+      (signal : Signal)
+      → IsPort old
+      → IsPort v
+      → ComesBy old v (e ∷ [])
+      → IsPlayingJobs first session scripts roles start log v d ticks stand
+      → d.due ≡ []
+      → length (signals_of old.terminal) ≤ d.signals
+      → slice_get (signals_of v.terminal) d.signals ≡ Some signal
+      → IsPlayingJobs first session scripts roles start
+      (log ++ record { port = p; at = length v.journal; event = sent (job_signal signal) (foreground_target d.jobs) }
+      ∷ []) v (record d { signals = d.signals + 1; due = [] }) ticks stand
   signal_goes_on log old v e d ticks stand signal was port by h none fresh is =
-      logged_same log v d (record d { signals = d.signals + 1; due = [] }) ticks stand (sent (job_signal signal) (foreground_target d.jobs))
+      logged_same log v d (record d { signals = d.signals + 1; due = [] }) ticks stand
+      (sent (job_signal signal) (foreground_target d.jobs))
       (logged_more session log p (length v.journal) (sent (job_signal signal) (foreground_target d.jobs)) refl) refl h
-      (desk_raises first session log old v e d.jobs d.next d.signals signal was port by (subst (λ (es : List JobEvent). IsDeskAt first session log v d.jobs d.next d.signals es) none h.desk) fresh is)
+      (desk_raises first session log old v e d.jobs d.next d.signals signal was port by
+      (subst (λ (es : List JobEvent). IsDeskAt first session log v d.jobs d.next d.signals es) none h.desk) fresh is)
 
   -- ---- a call that is answered without the port
 
-  pub own_goes_on : (log : JobLog) (v : PortValue) (d : DeskValue) (ticks : ℕ) (stand : Stand) (place : ℕ) (r : Role) (call : JobCall) (j : Journal)
-      → IsPlayingJobs first session scripts roles start log v d ticks stand → IsTurn (is_of_consoles first.session) v (role_numbers roles) stand.going (turn.Call place) → slice_get roles place ≡ Some r
-      → IsPort v → d.due ≡ [] → length (signals_of v.terminal) ≤ d.signals → begun_at v r.number ≡ false → r.number < length d.next
-      → call_after session p d.next r.number ≡ Some call → IsTrue (is_own d.jobs v.terminal (proc_in session p r.number) call)
+  pub own_goes_on : (log : JobLog) (v : PortValue) (d : DeskValue) (ticks : ℕ) (stand : Stand) (place : ℕ) (r : Role)
+      (call : JobCall) (j : Journal)
+      → IsPlayingJobs first session scripts roles start log v d ticks stand
+      → IsTurn (is_of_consoles first.session) v (role_numbers roles) stand.going (turn.Call place)
+      → slice_get roles place ≡ Some r
+      → IsPort v
+      → d.due ≡ []
+      → length (signals_of v.terminal) ≤ d.signals
+      → begun_at v r.number ≡ false
+      → r.number < length d.next
+      → call_after session p d.next r.number ≡ Some call
+      → IsTrue (is_own d.jobs v.terminal (proc_in session p r.number) call)
       → IsPlayingJobs first session scripts roles start
-      (log ++ record { port = p; at = length v.journal; event = own r.number (step_at d r.number) (outcome_of d.jobs v.terminal (proc_in session p r.number) r.number call).answer } ∷ []) v
+      (log
+      ++ record {
+        port = p;
+        at = length v.journal;
+        event = own r.number (step_at d r.number)
+            (outcome_of d.jobs v.terminal (proc_in session p r.number) r.number call).answer;
+      } ∷ []) v
       (record {
         jobs = (outcome_of d.jobs v.terminal (proc_in session p r.number) r.number call).left;
         next = slice_set d.next r.number (step_at d r.number + 1);
@@ -144,20 +222,29 @@ module _ (first : Scene) (session : JobsSession) (scripts : Scene → List Scrip
       let out = outcome_of d.jobs v.terminal (proc_in session p c) c call in
       let event : JobEvent = own c (step_at d c) out.answer in
       let more = log ++ record { port = p; at = length v.journal; event = event } ∷ [] in
-      let late : DeskValue = record { jobs = out.left; next = slice_set d.next c (step_at d c + 1); signals = d.signals; due = out.due } in
+      let late : DeskValue =
+      record { jobs = out.left; next = slice_set d.next c (step_at d c + 1); signals = d.signals; due = out.due } in
       let same = logged_more session log p (length v.journal) event refl in
       let steps : (x : ℕ) → begun_at v x ≡ true → next_passing session p d x ≡ next_passing session p late x =
       λ x begun.
       let other : x ≡ c → ⊥ = λ e. false≢true (sym rest ∙ (ap (begun_at v) (sym e) ∙ begun)) in
-      ap (λ (n : ℕ). record { caller = x; step = n; calls = plain_call (job_call_at p session x n) }) (sym (step_other d.next c x (step_at d c + 1) other)) in
+      ap (λ (n : ℕ). record { caller = x; step = n; calls = plain_call (job_call_at p session x n) })
+      (sym (step_other d.next c x (step_at d c + 1) other)) in
       record {
-        playing = plays_as (passings_with session log p d (begun_at v)) (passings_with session more p late (begun_at v)) v ticks stand
+        playing = plays_as (passings_with session log p d (begun_at v)) (passings_with session more p late (begun_at v))
+            v ticks stand
             (λ x. (λ i. by_caller x (sym same i) ++ tail (begun_at v x) (next_passing session p d x))
-            ∙ ap (λ (ms : List Passing). by_caller x (passings_on session more p) ++ ms) (tail_same (begun_at v x) (next_passing session p d x) (next_passing session p late x) (steps x))) h.playing;
-        desk = desk_answers first session log scripts roles start v ticks stand place r d.jobs d.next d.signals call j h.playing.each is at port
-            (subst (λ (es : List JobEvent). IsDeskAt first session log v d.jobs d.next d.signals es) none h.desk) few rest has its;
-        logged_before = λ x. before_more (by_caller x (passings_on session more p)) (step_at d x) (step_at late x) (step_rises d.next c x known)
-            (subst (λ (ms : List Passing). All (λ m. m.step < step_at d x) (by_caller x ms)) (sym same) (h.logged_before x));
+            ∙ ap (λ (ms : List Passing). by_caller x (passings_on session more p) ++ ms)
+            (tail_same (begun_at v x) (next_passing session p d x) (next_passing session p late x) (steps x)))
+            h.playing;
+        desk = desk_answers first session log scripts roles start v ticks stand place
+            r d.jobs d.next d.signals call j h.playing.each is at port
+            (subst (λ (es : List JobEvent). IsDeskAt first session log v d.jobs d.next d.signals es) none h.desk)
+            few rest has its;
+        logged_before = λ x. before_more (by_caller x (passings_on session more p)) (step_at d x) (step_at late x)
+            (step_rises d.next c x known)
+            (subst (λ (ms : List Passing). All (λ m. m.step < step_at d x) (by_caller x ms)) (sym same)
+            (h.logged_before x));
       }
 
   -- ---- a call that is passed down
@@ -187,11 +274,18 @@ module _ (first : Scene) (session : JobsSession) (scripts : Scene → List Scrip
   one_call o call is = ap plain_call is
 
   -- a new one
-  pub call_begins : (log : JobLog) (v : PortValue) (d : DeskValue) (ticks : ℕ) (stand : Stand) (place : ℕ) (r : Role) (call : PlainCall)
-      → IsPlayingJobs first session scripts roles start log v d ticks stand → IsTurn (is_of_consoles first.session) v (role_numbers roles) stand.going (turn.Call place) → slice_get roles place ≡ Some r
-      → begun_at v r.number ≡ false → IsOfBlocks p phases first.session → AreBlocksWithin first.session.ports first.session.flips phases → IsCallWithin call
+  pub call_begins : (log : JobLog) (v : PortValue) (d : DeskValue) (ticks : ℕ) (stand : Stand) (place : ℕ) (r : Role)
+      (call : PlainCall)
+      → IsPlayingJobs first session scripts roles start log v d ticks stand
+      → IsTurn (is_of_consoles first.session) v (role_numbers roles) stand.going (turn.Call place)
+      → slice_get roles place ≡ Some r
+      → begun_at v r.number ≡ false
+      → IsOfBlocks p phases first.session
+      → AreBlocksWithin first.session.ports first.session.flips phases
+      → IsCallWithin call
       → call_after session p d.next r.number ≡ Some (plain call)
-      → begin_of p phases v.terminal.phase r.number ≤ step_at d r.number → step_at d r.number < begin_of p phases (v.terminal.phase + 1) r.number
+      → begin_of p phases v.terminal.phase r.number ≤ step_at d r.number
+      → step_at d r.number < begin_of p phases (v.terminal.phase + 1) r.number
       → IsCalling first phases scripts roles start (with_call log d v r.number) v ticks stand place call
   call_begins log v d ticks stand place r call h is at rest blocks limits good has low high =
       let c = r.number in
@@ -199,23 +293,32 @@ module _ (first : Scene) (session : JobsSession) (scripts : Scene → List Scrip
       let mine = passings_with session log p d (begun_at v) in
       let more = with_call log d v c in
       let ms = by_caller c (passings_on session log p) in
-      let own_mine : mine c ≡ ms = ap (λ (t : List Passing). ms ++ t) (tail_none (begun_at v c) m rest) ∙ append-nil ms in
-      let own_more : more c ≡ ms ++ m ∷ [] = ap (λ (t : List Passing). ms ++ t) (tail_one (begun_with v c c) m (begun_here v c)) in
+      let own_mine : mine c ≡ ms =
+      ap (λ (t : List Passing). ms ++ t) (tail_none (begun_at v c) m rest) ∙ append-nil ms in
+      let own_more : more c ≡ ms ++ m ∷ [] =
+      ap (λ (t : List Passing). ms ++ t) (tail_one (begun_with v c c) m (begun_here v c)) in
       let passes : PassesMore c m mine more = record {
         own = own_more ∙ ap (λ (xs : List Passing). xs ++ m ∷ []) (sym own_mine);
-        others = λ x other. ap (λ (b : Bool). by_caller x (passings_on session log p) ++ tail b (next_passing session p d x)) (begun_elsewhere_too v c x other);
+        others = λ x other. ap
+            (λ (b : Bool). by_caller x (passings_on session log p) ++ tail b (next_passing session p d x))
+            (begun_elsewhere_too v c x other);
       } in
-      let in_phase : AreInSteps 0 (begin_of p phases (v.terminal.phase + 1) c) ms = subst (λ (xs : List Passing). AreInSteps 0 (begin_of p phases (v.terminal.phase + 1) c) xs) own_mine (h.playing.up_to c) in
+      let in_phase : AreInSteps 0 (begin_of p phases (v.terminal.phase + 1) c) ms =
+      subst (λ (xs : List Passing). AreInSteps 0 (begin_of p phases (v.terminal.phase + 1) c) xs) own_mine
+      (h.playing.up_to c) in
       let own_steps : AreInSteps 0 (begin_of p phases (v.terminal.phase + 1) c) (more c) =
       subst (λ (xs : List Passing). AreInSteps 0 (begin_of p phases (v.terminal.phase + 1) c) xs) (sym own_more)
       (in_steps_more 0 (step_at d c) (begin_of p phases (v.terminal.phase + 1) c) ms m (omega arith) (omega arith) high
       (in_steps_below 0 (begin_of p phases (v.terminal.phase + 1) c) (step_at d c) ms in_phase (h.logged_before c))) in
       let up_to : AreUpTo p phases v.terminal.phase more =
       λ x. elim (cases_eq x c) [
-        | inl same ↦ subst (λ (y : ℕ). AreInSteps 0 (begin_of p phases (v.terminal.phase + 1) y) (more y)) (sym same) own_steps
-        | inr other ↦ subst (λ (xs : List Passing). AreInSteps 0 (begin_of p phases (v.terminal.phase + 1) x) xs) (sym (passes.others x other)) (h.playing.up_to x)
+        | inl same ↦
+            subst (λ (y : ℕ). AreInSteps 0 (begin_of p phases (v.terminal.phase + 1) y) (more y)) (sym same) own_steps
+        | inr other ↦ subst (λ (xs : List Passing). AreInSteps 0 (begin_of p phases (v.terminal.phase + 1) x) xs)
+            (sym (passes.others x other)) (h.playing.up_to x)
       ] in
-      calls_next first phases scripts roles start mine more m v ticks stand place r call h.playing is at rest blocks limits passes refl (one_call (call_after session p d.next c) call has) good
+      calls_next first phases scripts roles start mine more m v ticks stand place r call h.playing is at rest blocks
+      limits passes refl (one_call (call_after session p d.next c) call has) good
       (ap (λ (xs : List Passing). calls_at xs m.step) own_mine ∙ none_at ms (step_at d c) (h.logged_before c)) low up_to
 
   made_begun : (b : Bool) (n : ℕ) → b ≡ true → (if b then n + 1 else n) ≡ n + 1
@@ -223,8 +326,11 @@ module _ (first : Scene) (session : JobsSession) (scripts : Scene → List Scrip
   made_begun false n e = absurd (false≢true e)
 
   -- .. or the one that it has begun
-  pub call_continues : (log : JobLog) (v : PortValue) (d : DeskValue) (ticks : ℕ) (stand : Stand) (place : ℕ) (r : Role) (call : PlainCall)
-      → IsPlayingJobs first session scripts roles start log v d ticks stand → slice_get roles place ≡ Some r → begun_at v r.number ≡ true
+  pub call_continues : (log : JobLog) (v : PortValue) (d : DeskValue) (ticks : ℕ) (stand : Stand) (place : ℕ) (r : Role)
+      (call : PlainCall)
+      → IsPlayingJobs first session scripts roles start log v d ticks stand
+      → slice_get roles place ≡ Some r
+      → begun_at v r.number ≡ true
       → call_after session p d.next r.number ≡ Some (plain call)
       → IsCalling first phases scripts roles start (with_call log d v r.number) v ticks stand place call
   call_continues log v d ticks stand place r call h at begun has =
@@ -238,9 +344,13 @@ module _ (first : Scene) (session : JobsSession) (scripts : Scene → List Scrip
       let next = (standing_at v c).next in
       let own_mine : mine c ≡ ms ++ m ∷ [] = ap (λ (t : List Passing). ms ++ t) (tail_one (begun_at v c) m begun) in
       let are : all_calls (mine c) ≡ all_calls ms ++ call ∷ [] =
-      ap all_calls own_mine ∙ (all_more ms m ∙ ap (λ (cs : List PlainCall). all_calls ms ++ cs) (one_call (call_after session p d.next c) call has)) in
-      let made : length (all_calls (mine c)) ≡ next + 1 = h.playing.made c ∙ made_begun (standing_at v c).begun next begun in
-      let longer : length (all_calls (mine c)) ≡ length (all_calls ms) + 1 = ap (λ (cs : List PlainCall). length cs) are ∙ length-append (all_calls ms) (call ∷ []) in
+      ap all_calls own_mine
+      ∙ (all_more ms m
+      ∙ ap (λ (cs : List PlainCall). all_calls ms ++ cs) (one_call (call_after session p d.next c) call has)) in
+      let made : length (all_calls (mine c)) ≡ next + 1 =
+      h.playing.made c ∙ made_begun (standing_at v c).begun next begun in
+      let longer : length (all_calls (mine c)) ≡ length (all_calls ms) + 1 =
+      ap (λ (cs : List PlainCall). length cs) are ∙ length-append (all_calls ms) (call ∷ []) in
       let behind : next ≡ length (all_calls ms) + 0 = omega (arith, made, longer) in
       let known =
       calls_all p v.terminal.phase phases mine h.playing.has.session c next h.playing.has.by h.playing.up_to
@@ -249,7 +359,8 @@ module _ (first : Scene) (session : JobsSession) (scripts : Scene → List Scrip
       λ x. elim (cases_eq x c) [
         | inl own_one ↦ subst (λ (y : ℕ). mine y ≡ more y) (sym own_one)
             (ap (λ (b : Bool). ms ++ tail b m) (begun ∙ sym (begun_here v c)))
-        | inr other ↦ ap (λ (b : Bool). by_caller x (passings_on session log p) ++ tail b (next_passing session p d x)) (sym (begun_elsewhere_too v c x other))
+        | inr other ↦ ap (λ (b : Bool). by_caller x (passings_on session log p) ++ tail b (next_passing session p d x))
+            (sym (begun_elsewhere_too v c x other))
       ] in
       calls_as mine more v ticks stand place call same (record {
         each = h.playing.each;
@@ -259,16 +370,23 @@ module _ (first : Scene) (session : JobsSession) (scripts : Scene → List Scrip
         at_place = at;
         own = made;
         others = λ x other. h.playing.made x;
-        next = next_of_call s (scripts s) roles v stand place r call plays at known ((plays.callers.in_roles place r at).calling begun);
+        next = next_of_call s (scripts s) roles v stand place r call plays at known
+            ((plays.callers.in_roles place r at).calling begun);
       })
 
   -- an attempt that is not answered: the call has begun
-  pub call_waits : (log : JobLog) (old new : PortValue) (d : DeskValue) (ticks : ℕ) (was now : Stand) (place : ℕ) (r : Role) (call : PlainCall) (tried : PlainTried) (j : Journal)
-      → IsPlayingJobs first session scripts roles start log old d ticks was → IsCalling first phases scripts roles start (with_call log d old r.number) old ticks was place call
-      → IsTurn (is_of_consoles first.session) old (role_numbers roles) was.going (turn.Call place) → slice_get roles place ≡ Some r
-      → IsPort old → call_after session p d.next r.number ≡ Some (plain call)
+  pub call_waits : (log : JobLog) (old new : PortValue) (d : DeskValue) (ticks : ℕ) (was now : Stand) (place : ℕ)
+      (r : Role) (call : PlainCall) (tried : PlainTried) (j : Journal)
+      → IsPlayingJobs first session scripts roles start log old d ticks was
+      → IsCalling first phases scripts roles start (with_call log d old r.number) old ticks was place call
+      → IsTurn (is_of_consoles first.session) old (role_numbers roles) was.going (turn.Call place)
+      → slice_get roles place ≡ Some r
+      → IsPort old
+      → call_after session p d.next r.number ≡ Some (plain call)
       → (begun_at old r.number ≡ false → judged_call d.jobs old.terminal (proc_in session p r.number) call ≡ Pass)
-      → (tried ≡ must_wait) ⊎ (tried ≡ took_part) → TriesCall roles old new place call tried → PlaysCall roles old new was now place call
+      → (tried ≡ must_wait) ⊎ (tried ≡ took_part)
+      → TriesCall roles old new place call tried
+      → PlaysCall roles old new was now place call
       → IsPlayingJobs first session scripts roles start log new d ticks now
   call_waits log old new d ticks was now place r call tried j h calling is at port has passes waits tries plays =
       let c = r.number in
@@ -278,34 +396,60 @@ module _ (first : Scene) (session : JobsSession) (scripts : Scene → List Scrip
       let on : PlaysOnIn HasAnyOrder s (scripts s) roles old new was now = (plays.each in_it).on in
       let makes = makes_as roles old new place r call at tried tries in
       let attempts = attempts_as roles old new place r call at tried tries in
-      let by : ComesBy old new (on.adds.entry ∷ []) = comes s old new (on.adds.entry ∷ []) in_it.in_turn.plays.of_scene on.plays.of_scene on.adds.added makes.grows in
+      let by : ComesBy old new (on.adds.entry ∷ []) =
+      comes s old new (on.adds.entry ∷ []) in_it.in_turn.plays.of_scene on.plays.of_scene on.adds.added makes.grows in
       let begins_it : begins on.adds.entry.event ≡ true = elim waits [
-        | inl wait ↦ begins_by_wait old new c call makes s on.adds (subst (λ (t : PlainTried). Attempts old new c (caller_at old.terminal c).next call t) wait attempts)
-        | inr part ↦ begins_by_part old new c call makes s on.adds (subst (λ (t : PlainTried). Attempts old new c (caller_at old.terminal c).next call t) part attempts)
+        | inl wait ↦ begins_by_wait old new c call makes s on.adds
+            (subst (λ (t : PlainTried). Attempts old new c (caller_at old.terminal c).next call t) wait attempts)
+        | inr part ↦ begins_by_part old new c call makes s on.adds
+            (subst (λ (t : PlainTried). Attempts old new c (caller_at old.terminal c).next call t) part attempts)
       ] in
       let begun = begun_now old new c call makes s on.adds begins_it in
       let same : (x : ℕ) → more x ≡ passings_with session log p d (begun_at new) x =
-      λ x. ap (λ (b : Bool). by_caller x (passings_on session log p) ++ tail b (next_passing session p d x)) (elim (cases_eq x c) [
-        | inl own_one ↦ subst (λ (y : ℕ). begun_with old c y ≡ begun_at new y) (sym own_one) (begun_here old c ∙ sym begun.0)
-        | inr other ↦ begun_elsewhere_too old c x other ∙ sym (begun_same s old new on.adds x (other_is old new c call makes s on.adds x other))
+      λ x. ap (λ (b : Bool). by_caller x (passings_on session log p) ++ tail b (next_passing session p d x))
+      (elim (cases_eq x c) [
+        | inl own_one ↦
+            subst (λ (y : ℕ). begun_with old c y ≡ begun_at new y) (sym own_one) (begun_here old c ∙ sym begun.0)
+        | inr other ↦
+            begun_elsewhere_too old c x other
+            ∙ sym (begun_same s old new on.adds x (other_is old new c call makes s on.adds x other))
       ]) in
       record {
-        playing = plays_as more (passings_with session log p d (begun_at new)) new ticks now same (call_on first phases scripts roles start more old new ticks was now place call tried calling is tries plays);
+        playing = plays_as more (passings_with session log p d (begun_at new)) new ticks now same
+            (call_on first phases scripts roles start more old
+            new ticks was now place call tried calling is tries plays);
         desk = desk_begins first session log old new on.adds.entry c d.jobs d.next d.signals d.due call j port by
-            (λ x other. begun_elsewhere s old new on.adds x (other_is old new c call makes s on.adds x other)) begun.1 (of_step_is old new c call makes s on.adds) has passes h.desk;
+            (λ x other. begun_elsewhere s old new on.adds x (other_is old new c call makes s on.adds x other)) begun.1
+            (of_step_is old new c call makes s on.adds) has passes h.desk;
         logged_before = h.logged_before;
       }
 
   -- .. and one that is
-  pub call_answered : (log : JobLog) (old new : PortValue) (d : DeskValue) (ticks : ℕ) (was now : Stand) (place : ℕ) (r : Role) (call : PlainCall) (answer : PlainAnswer) (j : Journal)
-      → IsPlayingJobs first session scripts roles start log old d ticks was → IsCalling first phases scripts roles start (with_call log d old r.number) old ticks was place call
-      → IsTurn (is_of_consoles first.session) old (role_numbers roles) was.going (turn.Call place) → slice_get roles place ≡ Some r
-      → IsPort old → d.due ≡ [] → length (signals_of old.terminal) ≤ d.signals → r.number < length d.next → call_after session p d.next r.number ≡ Some (plain call)
+  pub call_answered : (log : JobLog) (old new : PortValue) (d : DeskValue) (ticks : ℕ) (was now : Stand) (place : ℕ)
+      (r : Role) (call : PlainCall) (answer : PlainAnswer) (j : Journal)
+      → IsPlayingJobs first session scripts roles start log old d ticks was
+      → IsCalling first phases scripts roles start (with_call log d old r.number) old ticks was place call
+      → IsTurn (is_of_consoles first.session) old (role_numbers roles) was.going (turn.Call place)
+      → slice_get roles place ≡ Some r
+      → IsPort old
+      → d.due ≡ []
+      → length (signals_of old.terminal) ≤ d.signals
+      → r.number < length d.next
+      → call_after session p d.next r.number ≡ Some (plain call)
       → (begun_at old r.number ≡ false → judged_call d.jobs old.terminal (proc_in session p r.number) call ≡ Pass)
-      → TriesCall roles old new place call (done_by answer) → PlaysCall roles old new was now place call
-      → IsPlayingJobs first session scripts roles start (log ++ record { port = p; at = length new.journal; event = passed r.number (step_at d r.number) answer } ∷ []) new
-      (record { jobs = jobs_passed d.jobs call answer; next = slice_set d.next r.number (step_at d r.number + 1); signals = d.signals; due = due_passed d.jobs call answer }) ticks now
-  call_answered log old new d ticks was now place r call answer j h calling is at port none few known has passes tries plays =
+      → TriesCall roles old new place call (done_by answer)
+      → PlaysCall roles old new was now place call
+      → IsPlayingJobs first session scripts roles start
+      (log ++ record { port = p; at = length new.journal; event = passed r.number (step_at d r.number) answer } ∷ [])
+      new
+      (record {
+        jobs = jobs_passed d.jobs call answer;
+        next = slice_set d.next r.number (step_at d r.number + 1);
+        signals = d.signals;
+        due = due_passed d.jobs call answer;
+      }) ticks now
+  call_answered log old new d ticks was now place r call answer
+      j h calling is at port none few known has passes tries plays =
       let c = r.number in
       let tried = done_by answer in
       let more = with_call log d old c in
@@ -313,65 +457,106 @@ module _ (first : Scene) (session : JobsSession) (scripts : Scene → List Scrip
       let ms = by_caller c (passings_on session log p) in
       let event : JobEvent = passed c (step_at d c) answer in
       let later = log ++ record { port = p; at = length new.journal; event = event } ∷ [] in
-      let late : DeskValue = record { jobs = jobs_passed d.jobs call answer; next = slice_set d.next c (step_at d c + 1); signals = d.signals; due = due_passed d.jobs call answer } in
+      let late : DeskValue = record {
+        jobs = jobs_passed d.jobs call answer;
+        next = slice_set d.next c (step_at d c + 1);
+        signals = d.signals;
+        due = due_passed d.jobs call answer;
+      } in
       let s = scene_on p calling.has.session in
       let in_it = in_call first phases scripts roles start more old ticks was place call calling is in
       let on : PlaysOnIn HasAnyOrder s (scripts s) roles old new was now = (plays.each in_it).on in
       let makes = makes_as roles old new place r call at tried tries in
       let attempts = attempts_as roles old new place r call at tried tries in
-      let by : ComesBy old new (on.adds.entry ∷ []) = comes s old new (on.adds.entry ∷ []) in_it.in_turn.plays.of_scene on.plays.of_scene on.adds.added makes.grows in
+      let by : ComesBy old new (on.adds.entry ∷ []) =
+      comes s old new (on.adds.entry ∷ []) in_it.in_turn.plays.of_scene on.plays.of_scene on.adds.added makes.grows in
       let rest : begun_at new c ≡ false = ended_now old new c call makes s on.adds answer attempts in
-      let own_then : by_caller c (passings_on session later p) ≡ ms ++ m ∷ [] = by_own session log p (length new.journal) c event m refl refl in
-      let other_then : (x : ℕ) → (x ≡ c → ⊥) → by_caller x (passings_on session later p) ≡ by_caller x (passings_on session log p) =
+      let own_then : by_caller c (passings_on session later p) ≡ ms ++ m ∷ [] =
+      by_own session log p (length new.journal) c event m refl refl in
+      let other_then : (x : ℕ)
+      → (x ≡ c → ⊥)
+      → by_caller x (passings_on session later p) ≡ by_caller x (passings_on session log p) =
       λ x other. by_other session log p (length new.journal) x event m refl (λ e. other (sym e)) in
       let elsewhere : (x : ℕ) → (x ≡ c → ⊥) → more x ≡ passings_with session later p late (begun_at new) x =
       λ x other.
-      ap (λ (b : Bool). by_caller x (passings_on session log p) ++ tail b (next_passing session p d x)) (begun_elsewhere_too old c x other ∙ sym (begun_same s old new on.adds x (other_is old new c call makes s on.adds x other)))
-      ∙ ((λ i. sym (other_then x other) i ++ tail (begun_at new x) (record { caller = x; step = sym (step_other d.next c x (step_at d c + 1) other) i; calls = plain_call (job_call_at p session x (sym (step_other d.next c x (step_at d c + 1) other) i)) }))) in
+      ap (λ (b : Bool). by_caller x (passings_on session log p) ++ tail b (next_passing session p d x))
+      (begun_elsewhere_too old c x other
+      ∙ sym (begun_same s old new on.adds x (other_is old new c call makes s on.adds x other)))
+      ∙ ((λ i.
+      sym (other_then x other) i
+      ++ tail (begun_at new x) (record {
+        caller = x;
+        step = sym (step_other d.next c x (step_at d c + 1) other) i;
+        calls = plain_call (job_call_at p session x (sym (step_other d.next c x (step_at d c + 1) other) i));
+      }))) in
       let here : more c ≡ passings_with session later p late (begun_at new) c =
       ap (λ (t : List Passing). ms ++ t) (tail_one (begun_with old c c) m (begun_here old c))
-      ∙ sym (ap (λ (t : List Passing). by_caller c (passings_on session later p) ++ t) (tail_none (begun_at new c) (next_passing session p late c) rest) ∙ (append-nil (by_caller c (passings_on session later p)) ∙ own_then)) in
+      ∙ sym
+      (ap (λ (t : List Passing). by_caller c (passings_on session later p) ++ t)
+      (tail_none (begun_at new c) (next_passing session p late c) rest)
+      ∙ (append-nil (by_caller c (passings_on session later p)) ∙ own_then)) in
       record {
         playing = plays_as more (passings_with session later p late (begun_at new)) new ticks now
             (λ x. elim (cases_eq x c) [
-              | inl own_one ↦ subst (λ (y : ℕ). more y ≡ passings_with session later p late (begun_at new) y) (sym own_one) here
+              | inl own_one ↦
+                  subst (λ (y : ℕ). more y ≡ passings_with session later p late (begun_at new) y) (sym own_one) here
               | inr other ↦ elsewhere x other
-            ]) (call_on first phases scripts roles start more old new ticks was now place call tried calling is tries plays);
+            ]) (call_on first phases scripts roles start more old
+            new ticks was now place call tried calling is tries plays);
         desk = desk_passes first session log old new on.adds.entry c d.jobs d.next d.signals call answer j port by
-            (λ x other. begun_elsewhere s old new on.adds x (other_is old new c call makes s on.adds x other)) rest (of_step_is old new c call makes s on.adds)
-            (was_answered old new c call makes s on.adds answer attempts) has passes (subst (λ (es : List JobEvent). IsDeskAt first session log old d.jobs d.next d.signals es) none h.desk) few;
+            (λ x other. begun_elsewhere s old new on.adds x (other_is old new c call makes s on.adds x other)) rest
+            (of_step_is old new c call makes s on.adds)
+            (was_answered old new c call makes s on.adds answer attempts) has passes
+            (subst (λ (es : List JobEvent). IsDeskAt first session log old d.jobs d.next d.signals es) none h.desk) few;
         logged_before = λ x. elim (cases_eq x c) [
           | inl own_one ↦ subst (λ (y : ℕ). AreLoggedBefore session later p y (step_at late y)) (sym own_one)
-              (subst (λ (n : ℕ). All (λ m. m.step < n) (by_caller c (passings_on session later p))) (sym (step_own d.next c (step_at d c + 1) known))
+              (subst (λ (n : ℕ). All (λ m. m.step < n) (by_caller c (passings_on session later p)))
+              (sym (step_own d.next c (step_at d c + 1) known))
               (subst (λ (xs : List Passing). All (λ m. m.step < step_at d c + 1) xs) (sym own_then)
-              (All-append (λ (x : Passing). x.step < step_at d c + 1) ms (m ∷ []) (before_more ms (step_at d c) (step_at d c + 1) (omega arith) (h.logged_before c))
-              (All-cons (λ (x : Passing). x.step < step_at d c + 1) m [] (omega arith) (All-nil (λ (x : Passing). x.step < step_at d c + 1))))))
-          | inr other ↦ subst (λ (n : ℕ). All (λ m. m.step < n) (by_caller x (passings_on session later p))) (sym (step_other d.next c x (step_at d c + 1) other))
-              (subst (λ (xs : List Passing). All (λ m. m.step < step_at d x) xs) (sym (other_then x other)) (h.logged_before x))
+              (All-append (λ (x : Passing). x.step < step_at d c + 1) ms (m ∷ [])
+              (before_more ms (step_at d c) (step_at d c + 1) (omega arith) (h.logged_before c))
+              (All-cons (λ (x : Passing). x.step < step_at d c + 1) m [] (omega arith)
+              (All-nil (λ (x : Passing). x.step < step_at d c + 1))))))
+          | inr other ↦ subst (λ (n : ℕ). All (λ m. m.step < n) (by_caller x (passings_on session later p)))
+              (sym (step_other d.next c x (step_at d c + 1) other))
+              (subst (λ (xs : List Passing). All (λ m. m.step < step_at d x) xs) (sym (other_then x other))
+              (h.logged_before x))
         ];
       }
 
   -- ---- the end of a caller's calls
 
-  pub last_goes_on : (log : JobLog) (old new : PortValue) (d : DeskValue) (ticks : ℕ) (was now : Stand) (place : ℕ) (r : Role)
-      → IsPlayingJobs first session scripts roles start log old d ticks was → IsTurn (is_of_consoles first.session) old (role_numbers roles) was.going (turn.Call place) → slice_get roles place ≡ Some r
-      → begun_at old r.number ≡ false → EndsCalls roles old new place → PlaysLast roles old new was now place
+  pub last_goes_on : (log : JobLog) (old new : PortValue) (d : DeskValue) (ticks : ℕ) (was now : Stand) (place : ℕ)
+      (r : Role)
+      → IsPlayingJobs first session scripts roles start log old d ticks was
+      → IsTurn (is_of_consoles first.session) old (role_numbers roles) was.going (turn.Call place)
+      → slice_get roles place ≡ Some r
+      → begun_at old r.number ≡ false
+      → EndsCalls roles old new place
+      → PlaysLast roles old new was now place
       → IsPlayingJobs first session scripts roles start log new d ticks now
   last_goes_on log old new d ticks was now place r h is at rest ends plays =
       let mine = passings_with session log p d (begun_at old) in
       let s = scene_on p h.playing.has.session in
       let in_it = in_last first phases scripts roles start mine old ticks was place r h.playing is at rest in
       let on : PlaysOnIn HasAnyOrder s (scripts s) roles old new was now = (plays.each in_it).on in
-      let added : new.journal ≡ old.journal ++ end_entry old ends.role.number ∷ [] = ap (λ (v : PortValue). v.journal) ends.appends.appended in
-      let entry : end_entry old ends.role.number ≡ on.adds.entry = same_entry old.journal (end_entry old ends.role.number) on.adds.entry (sym added ∙ on.adds.added) in
+      let added : new.journal ≡ old.journal ++ end_entry old ends.role.number ∷ [] =
+      ap (λ (v : PortValue). v.journal) ends.appends.appended in
+      let entry : end_entry old ends.role.number ≡ on.adds.entry =
+      same_entry old.journal (end_entry old ends.role.number) on.adds.entry (sym added ∙ on.adds.added) in
       let none : is_of_call on.adds.entry.event ≡ false = sym (ap (λ (e : PlainEntry). is_of_call e.event) entry) in
       let kept : new.kept ≡ old.kept = ap (λ (v : PortValue). v.kept) ends.appends.appended in
-      let by : ComesBy old new (on.adds.entry ∷ []) = comes s old new (on.adds.entry ∷ []) in_it.in_turn.plays.of_scene on.plays.of_scene on.adds.added (kept_grows old new kept) in
+      let by : ComesBy old new (on.adds.entry ∷ []) =
+      comes s old new (on.adds.entry ∷ []) in_it.in_turn.plays.of_scene on.plays.of_scene on.adds.added
+      (kept_grows old new kept) in
       record {
         playing = plays_as mine (passings_with session log p d (begun_at new)) new ticks now
-            (λ c. ap (λ (b : Bool). by_caller c (passings_on session log p) ++ tail b (next_passing session p d c)) (sym (begun_still s old new on.adds c none)))
-            (last_on first phases scripts roles start mine old new ticks was now place r h.playing is at rest ends plays);
-        desk = desk_stays first session log old new (on.adds.entry ∷ []) d.jobs d.next d.signals d.due by (λ c. begun_by_none s old new on.adds c none) h.desk;
+            (λ c. ap (λ (b : Bool). by_caller c (passings_on session log p) ++ tail b (next_passing session p d c))
+            (sym (begun_still s old new on.adds c none)))
+            (last_on first phases scripts roles start mine old
+            new ticks was now place r h.playing is at rest ends plays);
+        desk = desk_stays first session log old new (on.adds.entry ∷ []) d.jobs d.next d.signals d.due by
+            (λ c. begun_by_none s old new on.adds c none) h.desk;
         logged_before = h.logged_before;
       }
 
@@ -380,25 +565,43 @@ module _ (first : Scene) (session : JobsSession) (scripts : Scene → List Scrip
   abbrev with_hangup : JobLog → DeskValue → PortValue → (c h : ℕ) → ℕ → List Passing
   with_hangup log d v c h = hangup_with session log p d v c h
 
-  hangup_elsewhere : (log : JobLog) (d : DeskValue) (v : PortValue) (c h x : ℕ) → (x ≡ c → ⊥) → with_hangup log d v c h x ≡ passings_with session log p d (begun_at v) x
+  hangup_elsewhere : (log : JobLog) (d : DeskValue) (v : PortValue) (c h x : ℕ)
+      → (x ≡ c → ⊥)
+      → with_hangup log d v c h x ≡ passings_with session log p d (begun_at v) x
   hangup_elsewhere log d v c h x other =
-      ap (λ (t : List Passing). passings_with session log p d (begun_at v) x ++ t) (tail_none (x == c) (hangup_of log p c h) (ne_eqb x c other)) ∙ append-nil (passings_with session log p d (begun_at v) x)
+      ap (λ (t : List Passing). passings_with session log p d (begun_at v) x ++ t)
+      (tail_none (x == c) (hangup_of log p c h) (ne_eqb x c other))
+      ∙ append-nil (passings_with session log p d (begun_at v) x)
 
-  hangup_here : (log : JobLog) (d : DeskValue) (v : PortValue) (c h : ℕ) → with_hangup log d v c h c ≡ passings_with session log p d (begun_at v) c ++ hangup_of log p c h ∷ []
+  hangup_here : (log : JobLog) (d : DeskValue) (v : PortValue) (c h : ℕ)
+      → with_hangup log d v c h c ≡ passings_with session log p d (begun_at v) c ++ hangup_of log p c h ∷ []
   hangup_here log d v c h =
-      ap (λ (t : List Passing). passings_with session log p d (begun_at v) c ++ t) (tail_one (c == c) (hangup_of log p c h) (eq-eqb c c refl))
+      ap (λ (t : List Passing). passings_with session log p d (begun_at v) c ++ t)
+      (tail_one (c == c) (hangup_of log p c h) (eq-eqb c c refl))
 
   -- what was logged is of earlier steps than the end
-  rests_at : (log : JobLog) (d : DeskValue) (v : PortValue) (c : ℕ) → begun_at v c ≡ false → passings_with session log p d (begun_at v) c ≡ by_caller c (passings_on session log p)
+  rests_at : (log : JobLog) (d : DeskValue) (v : PortValue) (c : ℕ)
+      → begun_at v c ≡ false
+      → passings_with session log p d (begun_at v) c ≡ by_caller c (passings_on session log p)
   rests_at log d v c rest =
-      ap (λ (t : List Passing). by_caller c (passings_on session log p) ++ t) (tail_none (begun_at v c) (next_passing session p d c) rest) ∙ append-nil (by_caller c (passings_on session log p))
+      ap (λ (t : List Passing). by_caller c (passings_on session log p) ++ t)
+      (tail_none (begun_at v c) (next_passing session p d c) rest)
+      ∙ append-nil (by_caller c (passings_on session log p))
 
-  pub hangup_begins : (log : JobLog) (v : PortValue) (d : DeskValue) (ticks : ℕ) (stand : Stand) (place : ℕ) (r : Role) (handle : ℕ)
-      → IsPlayingJobs first session scripts roles start log v d ticks stand → IsTurn (is_of_consoles first.session) v (role_numbers roles) stand.going (turn.Call place) → slice_get roles place ≡ Some r
-      → begun_at v r.number ≡ false → IsOfBlocks p phases first.session → AreBlocksWithin first.session.ports first.session.flips phases → IsCallWithin (hangs_up handle)
+  pub hangup_begins : (log : JobLog) (v : PortValue) (d : DeskValue) (ticks : ℕ) (stand : Stand) (place : ℕ) (r : Role)
+      (handle : ℕ)
+      → IsPlayingJobs first session scripts roles start log v d ticks stand
+      → IsTurn (is_of_consoles first.session) v (role_numbers roles) stand.going (turn.Call place)
+      → slice_get roles place ≡ Some r
+      → begun_at v r.number ≡ false
+      → IsOfBlocks p phases first.session
+      → AreBlocksWithin first.session.ports first.session.flips phases
+      → IsCallWithin (hangs_up handle)
       → AreLoggedBefore session log p r.number (latest_on log p)
-      → begin_of p phases v.terminal.phase r.number ≤ latest_on log p → latest_on log p < begin_of p phases (v.terminal.phase + 1) r.number
-      → IsCalling first phases scripts roles start (with_hangup log d v r.number handle) v ticks stand place (hangs_up handle)
+      → begin_of p phases v.terminal.phase r.number ≤ latest_on log p
+      → latest_on log p < begin_of p phases (v.terminal.phase + 1) r.number
+      → IsCalling first phases scripts roles start (with_hangup log d v r.number handle) v ticks stand place
+      (hangs_up handle)
   hangup_begins log v d ticks stand place r handle h is at rest blocks limits good before low high =
       let c = r.number in
       let m = hangup_of log p c handle in
@@ -406,30 +609,46 @@ module _ (first : Scene) (session : JobsSession) (scripts : Scene → List Scrip
       let more = with_hangup log d v c handle in
       let ms = by_caller c (passings_on session log p) in
       let own_mine : mine c ≡ ms = rests_at log d v c rest in
-      let own_more : more c ≡ ms ++ m ∷ [] = hangup_here log d v c handle ∙ ap (λ (xs : List Passing). xs ++ m ∷ []) own_mine in
+      let own_more : more c ≡ ms ++ m ∷ [] =
+      hangup_here log d v c handle ∙ ap (λ (xs : List Passing). xs ++ m ∷ []) own_mine in
       let passes : PassesMore c m mine more = record {
         own = hangup_here log d v c handle;
         others = λ x other. hangup_elsewhere log d v c handle x other;
       } in
-      let in_phase : AreInSteps 0 (begin_of p phases (v.terminal.phase + 1) c) ms = subst (λ (xs : List Passing). AreInSteps 0 (begin_of p phases (v.terminal.phase + 1) c) xs) own_mine (h.playing.up_to c) in
+      let in_phase : AreInSteps 0 (begin_of p phases (v.terminal.phase + 1) c) ms =
+      subst (λ (xs : List Passing). AreInSteps 0 (begin_of p phases (v.terminal.phase + 1) c) xs) own_mine
+      (h.playing.up_to c) in
       let own_steps : AreInSteps 0 (begin_of p phases (v.terminal.phase + 1) c) (more c) =
       subst (λ (xs : List Passing). AreInSteps 0 (begin_of p phases (v.terminal.phase + 1) c) xs) (sym own_more)
-      (in_steps_more 0 (latest_on log p) (begin_of p phases (v.terminal.phase + 1) c) ms m (omega arith) (omega arith) high
+      (in_steps_more 0 (latest_on log p) (begin_of p phases (v.terminal.phase + 1) c) ms m (omega arith) (omega arith)
+      high
       (in_steps_below 0 (begin_of p phases (v.terminal.phase + 1) c) (latest_on log p) ms in_phase before)) in
       let up_to : AreUpTo p phases v.terminal.phase more =
       λ x. elim (cases_eq x c) [
-        | inl same ↦ subst (λ (y : ℕ). AreInSteps 0 (begin_of p phases (v.terminal.phase + 1) y) (more y)) (sym same) own_steps
-        | inr other ↦ subst (λ (xs : List Passing). AreInSteps 0 (begin_of p phases (v.terminal.phase + 1) x) xs) (sym (passes.others x other)) (h.playing.up_to x)
+        | inl same ↦
+            subst (λ (y : ℕ). AreInSteps 0 (begin_of p phases (v.terminal.phase + 1) y) (more y)) (sym same) own_steps
+        | inr other ↦ subst (λ (xs : List Passing). AreInSteps 0 (begin_of p phases (v.terminal.phase + 1) x) xs)
+            (sym (passes.others x other)) (h.playing.up_to x)
       ] in
-      calls_next first phases scripts roles start mine more m v ticks stand place r (hangs_up handle) h.playing is at rest blocks limits passes refl refl good
+      calls_next first phases scripts roles start mine more m v ticks stand place r (hangs_up handle)
+      h.playing is at rest blocks limits passes refl refl good
       (ap (λ (xs : List Passing). calls_at xs m.step) own_mine ∙ none_at ms (latest_on log p) before) low up_to
 
-  pub hangup_goes_on : (log : JobLog) (old new : PortValue) (d : DeskValue) (ticks : ℕ) (was now : Stand) (place : ℕ) (r : Role) (handle : ℕ)
-      → IsPlayingJobs first session scripts roles start log old d ticks was → IsCalling first phases scripts roles start (with_hangup log d old r.number handle) old ticks was place (hangs_up handle)
-      → IsTurn (is_of_consoles first.session) old (role_numbers roles) was.going (turn.Call place) → slice_get roles place ≡ Some r
-      → begun_at old r.number ≡ false → d.due ≡ passed_down r.number handle ∷ [] → latest_on log p < step_at d r.number
-      → TriesCall roles old new place (hangs_up handle) (done_by done) → PlaysCall roles old new was now place (hangs_up handle)
-      → IsPlayingJobs first session scripts roles start (log ++ record { port = p; at = length new.journal; event = passed_down r.number handle } ∷ []) new (record d { due = [] }) ticks now
+  pub hangup_goes_on : (log : JobLog) (old new : PortValue) (d : DeskValue) (ticks : ℕ) (was now : Stand) (place : ℕ)
+      (r : Role) (handle : ℕ)
+      → IsPlayingJobs first session scripts roles start log old d ticks was
+      → IsCalling first phases scripts roles start (with_hangup log d old r.number handle) old ticks was place
+      (hangs_up handle)
+      → IsTurn (is_of_consoles first.session) old (role_numbers roles) was.going (turn.Call place)
+      → slice_get roles place ≡ Some r
+      → begun_at old r.number ≡ false
+      → d.due ≡ passed_down r.number handle ∷ []
+      → latest_on log p < step_at d r.number
+      → TriesCall roles old new place (hangs_up handle) (done_by done)
+      → PlaysCall roles old new was now place (hangs_up handle)
+      → IsPlayingJobs first session scripts roles start
+      (log ++ record { port = p; at = length new.journal; event = passed_down r.number handle } ∷ []) new
+      (record d { due = [] }) ticks now
   hangup_goes_on log old new d ticks was now place r handle h calling is at idle is_due below tries plays =
       let c = r.number in
       let call = hangs_up handle in
@@ -445,16 +664,22 @@ module _ (first : Scene) (session : JobsSession) (scripts : Scene → List Scrip
       let on : PlaysOnIn HasAnyOrder s (scripts s) roles old new was now = (plays.each in_it).on in
       let makes = makes_as roles old new place r call at tried tries in
       let attempts = attempts_as roles old new place r call at tried tries in
-      let by : ComesBy old new (on.adds.entry ∷ []) = comes s old new (on.adds.entry ∷ []) in_it.in_turn.plays.of_scene on.plays.of_scene on.adds.added makes.grows in
+      let by : ComesBy old new (on.adds.entry ∷ []) =
+      comes s old new (on.adds.entry ∷ []) in_it.in_turn.plays.of_scene on.plays.of_scene on.adds.added makes.grows in
       let rest : begun_at new c ≡ false = ended_now old new c call makes s on.adds done attempts in
-      let own_then : by_caller c (passings_on session later p) ≡ ms ++ m ∷ [] = by_own session log p (length new.journal) c event m refl refl in
-      let other_then : (x : ℕ) → (x ≡ c → ⊥) → by_caller x (passings_on session later p) ≡ by_caller x (passings_on session log p) =
+      let own_then : by_caller c (passings_on session later p) ≡ ms ++ m ∷ [] =
+      by_own session log p (length new.journal) c event m refl refl in
+      let other_then : (x : ℕ)
+      → (x ≡ c → ⊥)
+      → by_caller x (passings_on session later p) ≡ by_caller x (passings_on session log p) =
       λ x other. by_other session log p (length new.journal) x event m refl (λ e. other (sym e)) in
       let elsewhere : (x : ℕ) → (x ≡ c → ⊥) → more x ≡ passings_with session later p late (begun_at new) x =
       λ x other.
       hangup_elsewhere log d old c handle x other
-      ∙ (ap (λ (b : Bool). by_caller x (passings_on session log p) ++ tail b (next_passing session p d x)) (sym (begun_same s old new on.adds x (other_is old new c call makes s on.adds x other)))
-      ∙ ap (λ (xs : List Passing). xs ++ tail (begun_at new x) (next_passing session p d x)) (sym (other_then x other))) in
+      ∙ (ap (λ (b : Bool). by_caller x (passings_on session log p) ++ tail b (next_passing session p d x))
+      (sym (begun_same s old new on.adds x (other_is old new c call makes s on.adds x other)))
+      ∙ ap (λ (xs : List Passing). xs ++ tail (begun_at new x) (next_passing session p d x)) (sym (other_then x other)))
+      in
       let here : more c ≡ passings_with session later p late (begun_at new) c =
       hangup_here log d old c handle ∙ (ap (λ (xs : List Passing). xs ++ m ∷ []) (rests_at log d old c idle)
       ∙ (sym own_then ∙ sym (rests_at later late new c rest))) in
@@ -466,18 +691,23 @@ module _ (first : Scene) (session : JobsSession) (scripts : Scene → List Scrip
       record {
         playing = plays_as more (passings_with session later p late (begun_at new)) new ticks now
             (λ x. elim (cases_eq x c) [
-              | inl own_one ↦ subst (λ (y : ℕ). more y ≡ passings_with session later p late (begun_at new) y) (sym own_one) here
+              | inl own_one ↦
+                  subst (λ (y : ℕ). more y ≡ passings_with session later p late (begun_at new) y) (sym own_one) here
               | inr other ↦ elsewhere x other
-            ]) (call_on first phases scripts roles start more old new ticks was now place call tried calling is tries plays);
+            ]) (call_on first phases scripts roles start more old
+            new ticks was now place call tried calling is tries plays);
         desk = desk_hangs_up first session log new d.jobs d.next d.signals c (caller_at old.terminal c).next handle []
-            (desk_stays first session log old new (on.adds.entry ∷ []) d.jobs d.next d.signals (passed_down c handle ∷ []) by had
+            (desk_stays first session log old new (on.adds.entry ∷ []) d.jobs d.next d.signals
+            (passed_down c handle ∷ []) by had
             (subst (λ (es : List JobEvent). IsDeskAt first session log old d.jobs d.next d.signals es) is_due h.desk))
             (was_answered old new c call makes s on.adds done attempts);
         logged_before = λ x. elim (cases_eq x c) [
           | inl own_one ↦ subst (λ (y : ℕ). AreLoggedBefore session later p y (step_at late y)) (sym own_one)
               (subst (λ (xs : List Passing). All (λ m. m.step < step_at d c) xs) (sym own_then)
               (All-append (λ (x : Passing). x.step < step_at d c) ms (m ∷ []) (h.logged_before c)
-              (All-cons (λ (x : Passing). x.step < step_at d c) m [] below (All-nil (λ (x : Passing). x.step < step_at d c)))))
-          | inr other ↦ subst (λ (xs : List Passing). All (λ m. m.step < step_at d x) xs) (sym (other_then x other)) (h.logged_before x)
+              (All-cons (λ (x : Passing). x.step < step_at d c) m [] below
+              (All-nil (λ (x : Passing). x.step < step_at d c)))))
+          | inr other ↦ subst (λ (xs : List Passing). All (λ m. m.step < step_at d x) xs) (sym (other_then x other))
+              (h.logged_before x)
         ];
       }

@@ -1,5 +1,6 @@
 -- The acts of a player whose session is only known as its callers pass calls down.
-use Rattle.std.proofs.Common.{◌≡◌, ◌≤◌, ◌<◌, ℕ, ◌+◌, Bool, true, false, List, [], ◌∷◌, ◌++◌, None, Some, length, if◌then◌else◌, refl, sym, ap, ◌∙◌, subst, arith, length-append}
+use Rattle.std.proofs.Common.{◌≡◌, ◌≤◌, ◌<◌, ℕ, ◌+◌, Bool, true, false, List, [], ◌∷◌, ◌++◌, None, Some}
+use Rattle.std.proofs.Common.{length, if◌then◌else◌, refl, sym, ap, ◌∙◌, subst, arith, length-append}
 use Rattle.std.specs.Prelude.{slice_get}
 use Rattle.std.proofs.lemmas.Bool.{false≢true}
 use Rattle.std.proofs.lemmas.Option.{same_Some}
@@ -21,7 +22,8 @@ use Rattle.one_thread.specs.Order.{is_of_consoles}
 use Rattle.one_thread.specs.Roles.{Scene}
 use Rattle.one_thread.specs.Stages.{HasAnyOrder}
 use Rattle.one_thread.specs.Turns.{role_numbers, who_of, standing_at, IsTurn, IsNextCall, Plays, PlaysOnIn, PlaysOn}
-use Rattle.one_thread.specs.Acts.{BeginsLine, PlaysItsLine, AddsEntry, InTurn, InOrder, PlaysTurn, InCall, TriesCall, PlaysCall, EndsCalls, InLast, PlaysLast, PlaysEnd}
+use Rattle.one_thread.specs.Acts.{BeginsLine, PlaysItsLine, AddsEntry, InTurn, InOrder, PlaysTurn}
+use Rattle.one_thread.specs.Acts.{InCall, TriesCall, PlaysCall, EndsCalls, InLast, PlaysLast, PlaysEnd}
 use Rattle.one_thread.specs.declared.roles.Role.{Role}
 use Rattle.one_thread.specs.declared.after_line.Stand.{Stand}
 use Rattle.one_thread.specs.declared.after_line.Turn.{Turn}
@@ -31,7 +33,8 @@ use Rattle.one_thread.proofs.Orders.{any_line, any_turn}
 use Rattle.order_laws.specs.Agreed.{Agrees, IsLike, IsBeforeEach, AreRolesOfEach, EndsEach}
 use Rattle.order_laws.proofs.InEach.{turn_each, call_each, last_each, end_each, line_each}
 use Rattle.order_laws.proofs.Shapes.{phases_same, at_phase}
-use Rattle.job_one.specs.Passed.{begin_of, IsPassedBy, AreBefore, AreUpTo, PassesMore, GrowsBy, IsOfBlocks, passed_more, with_passing}
+use Rattle.job_one.specs.Passed.{begin_of, IsPassedBy, AreBefore, AreUpTo, PassesMore}
+use Rattle.job_one.specs.Passed.{GrowsBy, IsOfBlocks, passed_more, with_passing}
 use Rattle.passed_calls.specs.Within.{AreBlocksWithin, ArePassedWithin}
 use Rattle.tty_calls.specs.Limits.{IsCallWithin}
 use Rattle.passed_calls.proofs.Limits.{within_limits}
@@ -45,12 +48,18 @@ use Rattle.job_one.proofs.Passings.{all_more, in_more_steps, first_rises}
 
 -- ---- the session that is played
 
-pub consoles_in : (first s : Scene) (roles : List Role) (v : PortValue) (stand : Stand) (next : Turn) → IsLike first s → IsTurn (is_of_consoles first.session) v (role_numbers roles) stand.going next
+pub consoles_in : (first s : Scene) (roles : List Role) (v : PortValue) (stand : Stand) (next : Turn)
+    → IsLike first s
+    → IsTurn (is_of_consoles first.session) v (role_numbers roles) stand.going next
     → IsTurn (is_of_consoles s.session) v (role_numbers roles) stand.going next
-consoles_in first s roles v stand next like is = subst (λ (b : Bool). IsTurn b v (role_numbers roles) stand.going next) (sym like.shape.consoles) is
+consoles_in first s roles v stand next like is =
+    subst (λ (b : Bool). IsTurn b v (role_numbers roles) stand.going next) (sym like.shape.consoles) is
 
-abbrev pub in_order : (first : Scene) (phases : List BlockPhase) (scripts : Scene → List Script) (roles : List Role) (start : PortValue) (mine : ℕ → List Passing) (v : PortValue) (ticks : ℕ) (stand : Stand) (next : Turn)
-    → IsPlaying first phases scripts roles start mine v ticks stand → IsTurn (is_of_consoles first.session) v (role_numbers roles) stand.going next → InOrder roles v stand next
+abbrev pub in_order : (first : Scene) (phases : List BlockPhase) (scripts : Scene → List Script) (roles : List Role)
+    (start : PortValue) (mine : ℕ → List Passing) (v : PortValue) (ticks : ℕ) (stand : Stand) (next : Turn)
+    → IsPlaying first phases scripts roles start mine v ticks stand
+    → IsTurn (is_of_consoles first.session) v (role_numbers roles) stand.going next
+    → InOrder roles v stand next
 in_order first phases scripts roles start mine v ticks stand next h is =
     record {
       scene = scene_on first.port h.has.session;
@@ -59,24 +68,40 @@ in_order first phases scripts roles start mine v ticks stand next h is =
       is_turn = consoles_in first (scene_on first.port h.has.session) roles v stand next h.has.like is;
     }
 
-abbrev pub in_turn : (first : Scene) (phases : List BlockPhase) (scripts : Scene → List Script) (roles : List Role) (start : PortValue) (mine : ℕ → List Passing) (v : PortValue) (ticks : ℕ) (stand : Stand) (next : Turn)
-    → IsPlaying first phases scripts roles start mine v ticks stand → IsTurn (is_of_consoles first.session) v (role_numbers roles) stand.going next → InTurn roles v stand next
-in_turn first phases scripts roles start mine v ticks stand next h is = any_turn roles v stand next (in_order first phases scripts roles start mine v ticks stand next h is)
+abbrev pub in_turn : (first : Scene) (phases : List BlockPhase) (scripts : Scene → List Script) (roles : List Role)
+    (start : PortValue) (mine : ℕ → List Passing) (v : PortValue) (ticks : ℕ) (stand : Stand) (next : Turn)
+    → IsPlaying first phases scripts roles start mine v ticks stand
+    → IsTurn (is_of_consoles first.session) v (role_numbers roles) stand.going next
+    → InTurn roles v stand next
+in_turn first phases scripts roles start mine v ticks stand next h is =
+    any_turn roles v stand next (in_order first phases scripts roles start mine v ticks stand next h is)
 
-agrees_on : {HasOrder : Scene → List PlainEntry → Type 0} (s : Scene) (scripts : List Script) (roles : List Role) (v w : PortValue) (stand now : Stand) → PlaysOnIn HasOrder s scripts roles v w stand now → Agrees s w
-agrees_on s scripts roles v w stand now h = record { known = h.plays.of_scene.known; in_phases = h.plays.of_scene.in_phases }
+agrees_on : {HasOrder : Scene → List PlainEntry → Type 0} (s : Scene) (scripts : List Script) (roles : List Role)
+    (v w : PortValue) (stand now : Stand)
+    → PlaysOnIn HasOrder s scripts roles v w stand now
+    → Agrees s w
+agrees_on s scripts roles v w stand now h =
+    record { known = h.plays.of_scene.known; in_phases = h.plays.of_scene.in_phases }
 
-phase_on : (p : ℕ) (phases : List BlockPhase) (mine : ℕ → List Passing) (j k : ℕ) → k ≡ j → AreUpTo p phases j mine → AreUpTo p phases k mine
+phase_on : (p : ℕ) (phases : List BlockPhase) (mine : ℕ → List Passing) (j k : ℕ)
+    → k ≡ j
+    → AreUpTo p phases j mine
+    → AreUpTo p phases k mine
 phase_on p phases mine j k same h = subst (λ (i : ℕ). AreUpTo p phases i mine) (sym same) h
 
 made_between : (b : Bool) (n : ℕ) → b ≡ false → (if b then n + 1 else n) ≡ n
 made_between true n e = absurd (false≢true (sym e))
 made_between false n e = refl
 
-own_more : (mine more : ℕ → List Passing) (c : ℕ) (m : Passing) (call : PlainCall) (n : ℕ) → PassesMore c m mine more → m.calls ≡ call ∷ [] → length (all_calls (mine c)) ≡ n → length (all_calls (more c)) ≡ n + 1
+own_more : (mine more : ℕ → List Passing) (c : ℕ) (m : Passing) (call : PlainCall) (n : ℕ)
+    → PassesMore c m mine more
+    → m.calls ≡ call ∷ []
+    → length (all_calls (mine c)) ≡ n
+    → length (all_calls (more c)) ≡ n + 1
 own_more mine more c m call n h one were =
     ap (λ (ms : List Passing). length (all_calls ms)) h.own
-    ∙ (ap (λ (cs : List PlainCall). length cs) (all_more (mine c) m ∙ ap (λ (cs : List PlainCall). all_calls (mine c) ++ cs) one)
+    ∙ (ap (λ (cs : List PlainCall). length cs)
+    (all_more (mine c) m ∙ ap (λ (cs : List PlainCall). all_calls (mine c) ++ cs) one)
     ∙ (length-append (all_calls (mine c)) (call ∷ []) ∙ ap (λ (i : ℕ). i + 1) were))
 
 abbrev last_or : PlainEntry → List PlainEntry → PlainEntry
@@ -92,17 +117,29 @@ same_entry es e f same = sym (last_is e es e) ∙ (ap (last_or e) same ∙ last_
 
 -- ---- a flush, a tick, or the end of the clock
 
-pub turn_on : (first : Scene) (phases : List BlockPhase) (scripts : Scene → List Script) (roles : List Role) (start : PortValue) (mine : ℕ → List Passing) (old new : PortValue) (ticks : ℕ) (was now : Stand) (next : Turn)
-    → IsPlaying first phases scripts roles start mine old ticks was → IsTurn (is_of_consoles first.session) old (role_numbers roles) was.going next
+pub turn_on : (first : Scene) (phases : List BlockPhase) (scripts : Scene → List Script) (roles : List Role)
+    (start : PortValue) (mine : ℕ → List Passing) (old new : PortValue) (ticks : ℕ) (was now : Stand) (next : Turn)
+    → IsPlaying first phases scripts roles start mine old ticks was
+    → IsTurn (is_of_consoles first.session) old (role_numbers roles) was.going next
     → ((c : ℕ) → is_caller (who_of (role_numbers roles) next) c ≡ false)
-    → PlaysTurn roles old new was now next → AddsEntry old new → IsPlaying first phases scripts roles start mine new ticks now
+    → PlaysTurn roles old new was now next
+    → AddsEntry old new
+    → IsPlaying first phases scripts roles start mine new ticks now
 turn_on first phases scripts roles start mine old new ticks was now next h is none plays adds =
     let s = scene_on first.port h.has.session in
     let at = in_order first phases scripts roles start mine old ticks was next h is in
     let on : PlaysOn s (scripts s) roles old new was now = plays.in_order at in
     record {
       each = turn_each first scripts roles start old new ticks was now next h.each is plays adds;
-      has = record { session = h.has.session; by = h.has.by; within = h.has.within; ports = h.has.ports; flips = h.has.flips; like = h.has.like; agrees = agrees_on s (scripts s) roles old new was now on };
+      has = record {
+        session = h.has.session;
+        by = h.has.by;
+        within = h.has.within;
+        ports = h.has.ports;
+        flips = h.has.flips;
+        like = h.has.like;
+        agrees = agrees_on s (scripts s) roles old new was now on;
+      };
       up_to = phase_on first.port phases mine old.terminal.phase new.terminal.phase on.adds.phase h.up_to;
       made = made_in_turn s (scripts s) roles old new was now next mine at.plays at.is_turn none on h.made;
     }
@@ -114,9 +151,14 @@ made_begun true n e = refl
 made_begun false n e = absurd (false≢true e)
 
 -- the one that it has begun
-pub calls_begun : (first : Scene) (phases : List BlockPhase) (scripts : Scene → List Script) (roles : List Role) (start : PortValue) (mine : ℕ → List Passing) (v : PortValue) (ticks : ℕ) (stand : Stand) (place : ℕ) (r : Role) (call : PlainCall)
-    → IsPlaying first phases scripts roles start mine v ticks stand → slice_get roles place ≡ Some r
-    → (standing_at v r.number).begun ≡ true → call_in v.kept r.number (standing_at v r.number).next ≡ Some call → IsCalling first phases scripts roles start mine v ticks stand place call
+pub calls_begun : (first : Scene) (phases : List BlockPhase) (scripts : Scene → List Script) (roles : List Role)
+    (start : PortValue) (mine : ℕ → List Passing) (v : PortValue) (ticks : ℕ) (stand : Stand) (place : ℕ) (r : Role)
+    (call : PlainCall)
+    → IsPlaying first phases scripts roles start mine v ticks stand
+    → slice_get roles place ≡ Some r
+    → (standing_at v r.number).begun ≡ true
+    → call_in v.kept r.number (standing_at v r.number).next ≡ Some call
+    → IsCalling first phases scripts roles start mine v ticks stand place call
 calls_begun first phases scripts roles start mine v ticks stand place r call h is begun kept =
     let s = scene_on first.port h.has.session in
     record {
@@ -127,28 +169,46 @@ calls_begun first phases scripts roles start mine v ticks stand place r call h i
       at_place = is;
       own = h.made r.number ∙ made_begun (standing_at v r.number).begun (standing_at v r.number).next begun;
       others = λ d other. h.made d;
-      next = next_begun s (scripts s) roles v stand place r call (h.each.each s h.has.like h.has.agrees).plays is begun kept;
+      next = next_begun s (scripts s) roles v stand place r call
+          (h.each.each s h.has.like h.has.agrees).plays is begun kept;
     }
 
 -- a new one, which it passes down
-pub calls_next : (first : Scene) (phases : List BlockPhase) (scripts : Scene → List Script) (roles : List Role) (start : PortValue) (mine more : ℕ → List Passing) (m : Passing) (v : PortValue) (ticks : ℕ) (stand : Stand) (place : ℕ) (r : Role) (call : PlainCall)
-    → IsPlaying first phases scripts roles start mine v ticks stand → IsTurn (is_of_consoles first.session) v (role_numbers roles) stand.going (turn.Call place) → slice_get roles place ≡ Some r
-    → (standing_at v r.number).begun ≡ false → IsOfBlocks first.port phases first.session → AreBlocksWithin first.session.ports first.session.flips phases
-    → PassesMore r.number m mine more → m.caller ≡ r.number → m.calls ≡ call ∷ [] → IsCallWithin call → calls_at (mine r.number) m.step ≡ []
-    → begin_of first.port phases v.terminal.phase r.number ≤ m.step → AreUpTo first.port phases v.terminal.phase more
+pub calls_next : (first : Scene) (phases : List BlockPhase) (scripts : Scene → List Script) (roles : List Role)
+    (start : PortValue) (mine more : ℕ → List Passing) (m : Passing) (v : PortValue) (ticks : ℕ) (stand : Stand)
+    (place : ℕ) (r : Role) (call : PlainCall)
+    → IsPlaying first phases scripts roles start mine v ticks stand
+    → IsTurn (is_of_consoles first.session) v (role_numbers roles) stand.going (turn.Call place)
+    → slice_get roles place ≡ Some r
+    → (standing_at v r.number).begun ≡ false
+    → IsOfBlocks first.port phases first.session
+    → AreBlocksWithin first.session.ports first.session.flips phases
+    → PassesMore r.number m mine more
+    → m.caller ≡ r.number
+    → m.calls ≡ call ∷ []
+    → IsCallWithin call
+    → calls_at (mine r.number) m.step ≡ []
+    → begin_of first.port phases v.terminal.phase r.number ≤ m.step
+    → AreUpTo first.port phases v.terminal.phase more
     → IsCalling first phases scripts roles start more v ticks stand place call
-calls_next first phases scripts roles start mine more m v ticks stand place r call h whose is rest blocks limits passes caller one good none from up_to =
+calls_next first phases scripts roles start mine more m v ticks stand place r call h whose
+    is rest blocks limits passes caller one good none from up_to =
     let p = first.port in
     let k = v.terminal.phase in
     let session = h.has.session in
-    let then_passes : PassesMore m.caller m mine more = subst (λ (c : ℕ). PassesMore c m mine more) (sym caller) passes in
+    let then_passes : PassesMore m.caller m mine more =
+    subst (λ (c : ℕ). PassesMore c m mine more) (sym caller) passes in
     let later = with_passing p phases m h.has.by.passed session in
     let by : IsPassedBy p phases more later = passes_then p phases mine more m session h.has.by then_passes in
     let within : ArePassedWithin (passed_more p m h.has.by.passed) =
     more_within p m call h.has.by.passed h.has.within one good
-    (ap (λ (c : ℕ). calls_at (by_caller c (h.has.by.passed p)) m.step) caller ∙ (ap (λ (ms : List Passing). calls_at ms m.step) (h.has.by.by r.number) ∙ none)) in
-    let like : IsLike first (scene_on p later) = like_first first phases more later blocks by (h.has.like.shape.consoles) (h.has.like.shape.flip)
-    (within_limits phases (passed_more p m h.has.by.passed) later refl (blocks_same first.session.ports first.session.flips session.ports session.flips phases h.has.ports h.has.flips limits) within) in
+    (ap (λ (c : ℕ). calls_at (by_caller c (h.has.by.passed p)) m.step) caller
+    ∙ (ap (λ (ms : List Passing). calls_at ms m.step) (h.has.by.by r.number) ∙ none)) in
+    let like : IsLike first (scene_on p later) =
+    like_first first phases more later blocks by (h.has.like.shape.consoles) (h.has.like.shape.flip)
+    (within_limits phases (passed_more p m h.has.by.passed) later refl
+    (blocks_same first.session.ports first.session.flips session.ports
+    session.flips phases h.has.ports h.has.flips limits) within) in
     let s = scene_on p session in
     let z = scene_on p later in
     let at = in_order first phases scripts roles start mine v ticks stand (turn.Call place) h whose in
@@ -164,23 +224,40 @@ calls_next first phases scripts roles start mine more m v ticks stand place r ca
       consoles = like.shape.consoles ∙ sym h.has.like.shape.consoles;
       flip = like.shape.flip ∙ sym h.has.like.shape.flip;
     } in
-    let on = (may_act s (scripts s) roles v stand place r at.plays is (any_turn roles v stand (turn.Call place) at).possible).not_over in
-    let agrees : Agrees z v = agrees_then p phases r.number m mine more session later (scripts s) roles v stand at.plays grows on in
+    let on = (may_act s (scripts s) roles v stand place r at.plays
+    is (any_turn roles v stand (turn.Call place) at).possible).not_over in
+    let agrees : Agrees z v =
+    agrees_then p phases r.number m mine more session later (scripts s) roles v stand at.plays grows on in
     let plays : Plays z (scripts z) roles v stand = (h.each.each z like agrees).plays in
-    let next : IsNextCall (scripts z) roles v place call = next_passed p phases m mine more session later (scripts z) roles v stand place r call plays is grows one h.made rest in
+    let next : IsNextCall (scripts z) roles v place call =
+    next_passed p phases m mine more session later (scripts z)
+    roles v stand place r call plays is grows one h.made rest in
     record {
       each = h.each;
-      has = record { session = later; by = by; within = within_by p phases mine more m session h.has.by then_passes within; ports = h.has.ports; flips = h.has.flips; like = like; agrees = agrees };
+      has = record {
+        session = later;
+        by = by;
+        within = within_by p phases mine more m session h.has.by then_passes within;
+        ports = h.has.ports;
+        flips = h.has.flips;
+        like = like;
+        agrees = agrees;
+      };
       up_to = up_to;
       role = r;
       at_place = is;
-      own = own_more mine more r.number m call (standing_at v r.number).next passes one (h.made r.number ∙ made_between (standing_at v r.number).begun (standing_at v r.number).next rest);
+      own = own_more mine more r.number m call (standing_at v r.number).next passes one
+          (h.made r.number ∙ made_between (standing_at v r.number).begun (standing_at v r.number).next rest);
       others = λ d other. ap (λ (ms : List Passing). length (all_calls ms)) (passes.others d other) ∙ h.made d;
       next = next;
     }
 
-abbrev pub in_call : (first : Scene) (phases : List BlockPhase) (scripts : Scene → List Script) (roles : List Role) (start : PortValue) (more : ℕ → List Passing) (v : PortValue) (ticks : ℕ) (stand : Stand) (place : ℕ) (call : PlainCall)
-    → IsCalling first phases scripts roles start more v ticks stand place call → IsTurn (is_of_consoles first.session) v (role_numbers roles) stand.going (turn.Call place) → InCall roles v stand place call
+abbrev pub in_call : (first : Scene) (phases : List BlockPhase) (scripts : Scene → List Script) (roles : List Role)
+    (start : PortValue) (more : ℕ → List Passing) (v : PortValue) (ticks : ℕ) (stand : Stand) (place : ℕ)
+    (call : PlainCall)
+    → IsCalling first phases scripts roles start more v ticks stand place call
+    → IsTurn (is_of_consoles first.session) v (role_numbers roles) stand.going (turn.Call place)
+    → InCall roles v stand place call
 in_call first phases scripts roles start more v ticks stand place call h is =
     record {
       in_turn = any_turn roles v stand (turn.Call place) (record {
@@ -192,58 +269,102 @@ in_call first phases scripts roles start more v ticks stand place call h is =
       next = h.next;
     }
 
-pub call_on : (first : Scene) (phases : List BlockPhase) (scripts : Scene → List Script) (roles : List Role) (start : PortValue) (more : ℕ → List Passing) (old new : PortValue) (ticks : ℕ) (was now : Stand) (place : ℕ) (call : PlainCall) (tried : PlainTried)
-    → IsCalling first phases scripts roles start more old ticks was place call → IsTurn (is_of_consoles first.session) old (role_numbers roles) was.going (turn.Call place)
-    → TriesCall roles old new place call tried → PlaysCall roles old new was now place call → IsPlaying first phases scripts roles start more new ticks now
+pub call_on : (first : Scene) (phases : List BlockPhase) (scripts : Scene → List Script) (roles : List Role)
+    (start : PortValue) (more : ℕ → List Passing) (old new : PortValue) (ticks : ℕ) (was now : Stand) (place : ℕ)
+    (call : PlainCall) (tried : PlainTried)
+    → IsCalling first phases scripts roles start more old ticks was place call
+    → IsTurn (is_of_consoles first.session) old (role_numbers roles) was.going (turn.Call place)
+    → TriesCall roles old new place call tried
+    → PlaysCall roles old new was now place call
+    → IsPlaying first phases scripts roles start more new ticks now
 call_on first phases scripts roles start more old new ticks was now place call tried h is tries plays =
     let s = scene_on first.port h.has.session in
     let at = in_call first phases scripts roles start more old ticks was place call h is in
     let on : PlaysOnIn HasAnyOrder s (scripts s) roles old new was now = (plays.each at).on in
     let makes = tries.makes in
     let same : tries.role ≡ h.role = same_Some tries.role h.role (sym tries.at_place ∙ h.at_place) in
-    let entry : makes.entry ≡ on.adds.entry = same_entry old.journal makes.entry on.adds.entry (sym makes.added ∙ on.adds.added) in
-    let who : on.adds.entry.who ≡ Caller h.role.number = ap (λ (e : PlainEntry). e.who) (sym entry) ∙ (makes.who ∙ ap (λ (r : Role). Caller r.number) same) in
-    let of_call : is_of_call on.adds.entry.event ≡ true = ap (λ (e : PlainEntry). is_of_call e.event) (sym entry) ∙ makes.of_call in
+    let entry : makes.entry ≡ on.adds.entry =
+    same_entry old.journal makes.entry on.adds.entry (sym makes.added ∙ on.adds.added) in
+    let who : on.adds.entry.who ≡ Caller h.role.number =
+    ap (λ (e : PlainEntry). e.who) (sym entry) ∙ (makes.who ∙ ap (λ (r : Role). Caller r.number) same) in
+    let of_call : is_of_call on.adds.entry.event ≡ true =
+    ap (λ (e : PlainEntry). is_of_call e.event) (sym entry) ∙ makes.of_call in
     record {
       each = call_each first scripts roles start old new ticks was now place call tried h.each is tries plays;
-      has = record { session = h.has.session; by = h.has.by; within = h.has.within; ports = h.has.ports; flips = h.has.flips; like = h.has.like; agrees = agrees_on s (scripts s) roles old new was now on };
+      has = record {
+        session = h.has.session;
+        by = h.has.by;
+        within = h.has.within;
+        ports = h.has.ports;
+        flips = h.has.flips;
+        like = h.has.like;
+        agrees = agrees_on s (scripts s) roles old new was now on;
+      };
       up_to = phase_on first.port phases more old.terminal.phase new.terminal.phase on.adds.phase h.up_to;
       made = made_by_call s old new more on.adds h.role.number who of_call h.own h.others;
     }
 
 -- ---- the end of a caller's calls
 
-abbrev pub in_last : (first : Scene) (phases : List BlockPhase) (scripts : Scene → List Script) (roles : List Role) (start : PortValue) (mine : ℕ → List Passing) (v : PortValue) (ticks : ℕ) (stand : Stand) (place : ℕ) (r : Role)
-    → IsPlaying first phases scripts roles start mine v ticks stand → IsTurn (is_of_consoles first.session) v (role_numbers roles) stand.going (turn.Call place) → slice_get roles place ≡ Some r
-    → (standing_at v r.number).begun ≡ false → InLast roles v stand place
+abbrev pub in_last : (first : Scene) (phases : List BlockPhase) (scripts : Scene → List Script) (roles : List Role)
+    (start : PortValue) (mine : ℕ → List Passing) (v : PortValue) (ticks : ℕ) (stand : Stand) (place : ℕ) (r : Role)
+    → IsPlaying first phases scripts roles start mine v ticks stand
+    → IsTurn (is_of_consoles first.session) v (role_numbers roles) stand.going (turn.Call place)
+    → slice_get roles place ≡ Some r
+    → (standing_at v r.number).begun ≡ false
+    → InLast roles v stand place
 in_last first phases scripts roles start mine v ticks stand place r h whose is rest =
     record {
       in_turn = in_turn first phases scripts roles start mine v ticks stand (turn.Call place) h whose;
-      none = none_left first.port phases mine h.has.session (scripts (scene_on first.port h.has.session)) roles v stand place r
-          (h.each.each (scene_on first.port h.has.session) h.has.like h.has.agrees).plays is h.has.by h.up_to h.made rest;
+      none = none_left first.port phases mine h.has.session (scripts (scene_on first.port h.has.session))
+          roles v stand place r
+          (h.each.each (scene_on first.port h.has.session) h.has.like h.has.agrees).plays
+          is h.has.by h.up_to h.made rest;
     }
 
-pub last_on : (first : Scene) (phases : List BlockPhase) (scripts : Scene → List Script) (roles : List Role) (start : PortValue) (mine : ℕ → List Passing) (old new : PortValue) (ticks : ℕ) (was now : Stand) (place : ℕ) (r : Role)
-    → IsPlaying first phases scripts roles start mine old ticks was → IsTurn (is_of_consoles first.session) old (role_numbers roles) was.going (turn.Call place) → slice_get roles place ≡ Some r
-    → (standing_at old r.number).begun ≡ false → EndsCalls roles old new place → PlaysLast roles old new was now place → IsPlaying first phases scripts roles start mine new ticks now
+pub last_on : (first : Scene) (phases : List BlockPhase) (scripts : Scene → List Script) (roles : List Role)
+    (start : PortValue) (mine : ℕ → List Passing) (old new : PortValue) (ticks : ℕ) (was now : Stand) (place : ℕ)
+    (r : Role)
+    → IsPlaying first phases scripts roles start mine old ticks was
+    → IsTurn (is_of_consoles first.session) old (role_numbers roles) was.going (turn.Call place)
+    → slice_get roles place ≡ Some r
+    → (standing_at old r.number).begun ≡ false
+    → EndsCalls roles old new place
+    → PlaysLast roles old new was now place
+    → IsPlaying first phases scripts roles start mine new ticks now
 last_on first phases scripts roles start mine old new ticks was now place r h whose is rest ends plays =
     let s = scene_on first.port h.has.session in
     let at = in_last first phases scripts roles start mine old ticks was place r h whose is rest in
     let on : PlaysOnIn HasAnyOrder s (scripts s) roles old new was now = (plays.each at).on in
-    let added : new.journal ≡ old.journal ++ end_entry old ends.role.number ∷ [] = ap (λ (v : PortValue). v.journal) ends.appends.appended in
-    let entry : end_entry old ends.role.number ≡ on.adds.entry = same_entry old.journal (end_entry old ends.role.number) on.adds.entry (sym added ∙ on.adds.added) in
+    let added : new.journal ≡ old.journal ++ end_entry old ends.role.number ∷ [] =
+    ap (λ (v : PortValue). v.journal) ends.appends.appended in
+    let entry : end_entry old ends.role.number ≡ on.adds.entry =
+    same_entry old.journal (end_entry old ends.role.number) on.adds.entry (sym added ∙ on.adds.added) in
     record {
       each = last_each first scripts roles start old new ticks was now place h.each whose ends plays;
-      has = record { session = h.has.session; by = h.has.by; within = h.has.within; ports = h.has.ports; flips = h.has.flips; like = h.has.like; agrees = agrees_on s (scripts s) roles old new was now on };
+      has = record {
+        session = h.has.session;
+        by = h.has.by;
+        within = h.has.within;
+        ports = h.has.ports;
+        flips = h.has.flips;
+        like = h.has.like;
+        agrees = agrees_on s (scripts s) roles old new was now on;
+      };
       up_to = phase_on first.port phases mine old.terminal.phase new.terminal.phase on.adds.phase h.up_to;
       made = made_same s old new mine on.adds (sym (ap (λ (e : PlainEntry). is_of_call e.event) entry)) h.made;
     }
 
 -- ---- the end of the phase
 
-pub end_on : (first : Scene) (phases : List BlockPhase) (scripts : Scene → List Script) (roles : List Role) (start : PortValue) (mine : ℕ → List Passing) (old new : PortValue) (putter now : PutterState Flagged) (ticks : ℕ) (stand : Stand) (run : ℕ)
-    → IsPlaying first phases scripts roles start mine old ticks stand → IsTurn (is_of_consoles first.session) old (role_numbers roles) stand.going turn.End
-    → PlaysEnd roles old new putter now stand run → AddsEntry old new → EndsEach first start new putter now run × HasPassed first phases mine new
+pub end_on : (first : Scene) (phases : List BlockPhase) (scripts : Scene → List Script) (roles : List Role)
+    (start : PortValue) (mine : ℕ → List Passing) (old new : PortValue) (putter now : PutterState Flagged) (ticks : ℕ)
+    (stand : Stand) (run : ℕ)
+    → IsPlaying first phases scripts roles start mine old ticks stand
+    → IsTurn (is_of_consoles first.session) old (role_numbers roles) stand.going turn.End
+    → PlaysEnd roles old new putter now stand run
+    → AddsEntry old new
+    → EndsEach first start new putter now run × HasPassed first phases mine new
 end_on first phases scripts roles start mine old new putter now ticks stand run h is plays adds =
     let s = scene_on first.port h.has.session in
     let playing = h.each.each s h.has.like h.has.agrees in
@@ -253,32 +374,57 @@ end_on first phases scripts roles start mine old new putter now ticks stand run 
       ticks = ticks;
       playing = playing;
       is_turn = consoles_in first s roles old stand turn.End h.has.like is;
-      ticks_are = h.each.ticks_are ∙ sym (at_phase (ticks_on first.port) first.session s.session start.terminal.phase h.has.like.ticks);
+      ticks_are =
+          h.each.ticks_are
+          ∙ sym (at_phase (ticks_on first.port) first.session s.session start.terminal.phase h.has.like.ticks);
     }) in (
       end_each first scripts roles start old new putter now ticks stand run h.each is plays adds,
-      record { session = h.has.session; by = h.has.by; within = h.has.within; ports = h.has.ports; flips = h.has.flips; like = h.has.like; agrees = record { known = ends.of_scene.known; in_phases = ends.of_scene.in_phases } },
+      record {
+        session = h.has.session;
+        by = h.has.by;
+        within = h.has.within;
+        ports = h.has.ports;
+        flips = h.has.flips;
+        like = h.has.like;
+        agrees = record { known = ends.of_scene.known; in_phases = ends.of_scene.in_phases };
+      },
     )
 
 -- ---- the beginning of a phase
 
-abbrev pub begins_line : (first : Scene) (phases : List BlockPhase) (mine : ℕ → List Passing) (lines : List LineStep) (v : PortValue) (putter : PutterState Flagged) (line : LineState) (run : ℕ)
-    → IsBeforeEach first v putter line run → HasPassed first phases mine v → v.terminal.phase < length first.session.phases → lines ≡ line_on first.port (phase_at first.session v.terminal.phase)
+abbrev pub begins_line : (first : Scene) (phases : List BlockPhase) (mine : ℕ → List Passing) (lines : List LineStep)
+    (v : PortValue) (putter : PutterState Flagged) (line : LineState) (run : ℕ)
+    → IsBeforeEach first v putter line run
+    → HasPassed first phases mine v
+    → v.terminal.phase < length first.session.phases
+    → lines ≡ line_on first.port (phase_at first.session v.terminal.phase)
     → BeginsLine lines v putter line run
 begins_line first phases mine lines v putter line run h has within is =
     any_line lines v putter line run (record {
       scene = scene_on first.port has.session;
       begins = (h.each (scene_on first.port has.session) has.like has.agrees).0;
-      within = subst (λ (n : ℕ). v.terminal.phase < n) (sym (phases_same first.port first.session has.session has.like.shape)) within;
-      steps_are = is ∙ sym (at_phase (line_on first.port) first.session has.session v.terminal.phase has.like.shape.lines);
+      within = subst (λ (n : ℕ). v.terminal.phase < n)
+          (sym (phases_same first.port first.session has.session has.like.shape)) within;
+      steps_are =
+          is ∙ sym (at_phase (line_on first.port) first.session has.session v.terminal.phase has.like.shape.lines);
     })
 
-pub begins_playing : (first : Scene) (phases : List BlockPhase) (scripts : Scene → List Script) (roles : List Role) (mine : ℕ → List Passing) (lines : List LineStep) (old mid : PortValue) (putter now : PutterState Flagged) (line played : LineState) (run later ticks : ℕ)
-    → IsBeforeEach first old putter line run → HasPassed first phases mine old → AreBefore first.port phases old.terminal.phase mine
+pub begins_playing : (first : Scene) (phases : List BlockPhase) (scripts : Scene → List Script) (roles : List Role)
+    (mine : ℕ → List Passing) (lines : List LineStep) (old mid : PortValue) (putter now : PutterState Flagged)
+    (line played : LineState) (run later ticks : ℕ)
+    → IsBeforeEach first old putter line run
+    → HasPassed first phases mine old
+    → AreBefore first.port phases old.terminal.phase mine
     → PlaysItsLine lines old mid putter now line played run later
-    → old.terminal.phase < length first.session.phases → lines ≡ line_on first.port (phase_at first.session old.terminal.phase)
-    → ticks ≡ ticks_on first.port (phase_at first.session old.terminal.phase) → IsPort mid → AreRolesOfEach first scripts roles old.terminal.phase mid
-    → IsPlaying first phases scripts roles mid mine mid ticks (record { run = later; part = 0; ticks = ticks; going = None })
-begins_playing first phases scripts roles mine lines old mid putter now line played run later ticks h has before plays within is ticks_is port are =
+    → old.terminal.phase < length first.session.phases
+    → lines ≡ line_on first.port (phase_at first.session old.terminal.phase)
+    → ticks ≡ ticks_on first.port (phase_at first.session old.terminal.phase)
+    → IsPort mid
+    → AreRolesOfEach first scripts roles old.terminal.phase mid
+    → IsPlaying first phases scripts roles mid mine mid ticks
+    (record { run = later; part = 0; ticks = ticks; going = None })
+begins_playing first phases scripts roles mine lines old mid putter now line played run
+    later ticks h has before plays within is ticks_is port are =
     let p = first.port in
     let k = old.terminal.phase in
     let s = scene_on p has.session in
@@ -286,10 +432,21 @@ begins_playing first phases scripts roles mine lines old mid putter now line pla
     let on = plays.each b in
     let after = on.after_line in
     let up_to : AreUpTo p phases k mine =
-    λ c. in_more_steps 0 (begin_of p phases k c) (begin_of p phases (k + 1) c) (mine c) (first_rises p k (k + 1) phases (slice_get (names_on p (blocks_of phases)) c) (omega arith)) (before c) in
+    λ c. in_more_steps 0 (begin_of p phases k c) (begin_of p phases (k + 1) c) (mine c)
+    (first_rises p k (k + 1) phases (slice_get (names_on p (blocks_of phases)) c) (omega arith)) (before c) in
     record {
-      each = line_each first scripts roles lines old mid putter now line played run later ticks h b plays within is ticks_is port are;
-      has = record { session = has.session; by = has.by; within = has.within; ports = has.ports; flips = has.flips; like = has.like; agrees = record { known = after.of_scene.known; in_phases = after.of_scene.in_phases } };
+      each = line_each first scripts roles lines old mid putter now line
+          played run later ticks h b plays within is ticks_is port are;
+      has = record {
+        session = has.session;
+        by = has.by;
+        within = has.within;
+        ports = has.ports;
+        flips = has.flips;
+        like = has.like;
+        agrees = record { known = after.of_scene.known; in_phases = after.of_scene.in_phases };
+      };
       up_to = phase_on p phases mine k mid.terminal.phase on.phase up_to;
-      made = made_at_first p mid.terminal.phase phases mine has.session mid has.by (subst (λ (i : ℕ). AreBefore p phases i mine) (sym on.phase) before) after.callers;
+      made = made_at_first p mid.terminal.phase phases mine has.session mid has.by
+          (subst (λ (i : ℕ). AreBefore p phases i mine) (sym on.phase) before) after.callers;
     }

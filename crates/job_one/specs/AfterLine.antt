@@ -38,7 +38,8 @@ pub record HasProcs (p : ℕ) (session : JobsSession) (d : DeskState) : Type 0 w
   pub known : (c : ℕ) → c < length d.callers → slice_index_or d.callers c 0 < length d.jobs.procs
 
 -- behind the line
-pub record BeginsTurns (f : Frame) (roles : List Role) (v : PortValue) (d : DeskState) (stand : Stand) (left : List (List JobCall)) : Type 0 where
+pub record BeginsTurns (f : Frame) (roles : List Role) (v : PortValue) (d : DeskState) (stand : Stand)
+    (left : List (List JobCall)) : Type 0 where
   pub at : IsAtTurn f roles v d stand
   pub frame : IsFrameWithin f
   pub procs : HasProcs f.first.port f.session d
@@ -46,7 +47,8 @@ pub record BeginsTurns (f : Frame) (roles : List Role) (v : PortValue) (d : Desk
   pub calls : AreLeft f.first.port f.start.terminal.phase f.session roles d.next left
 
 -- up to the end of the phase: the last entry ends it, and each caller is at its first step of the next phase
-pub record EndsTurns (f : Frame) (roles : List Role) (new : PortValue) (putter now : PutterState Flagged) (d : DeskState) (run : ℕ) : Type 0 where
+pub record EndsTurns (f : Frame) (roles : List Role) (new : PortValue) (putter now : PutterState Flagged)
+    (d : DeskState) (run : ℕ) : Type 0 where
   pub last : PortValue
   pub stand : Stand
   pub at : IsAtTurn f roles last d stand
@@ -56,14 +58,16 @@ pub record EndsTurns (f : Frame) (roles : List Role) (new : PortValue) (putter n
   pub was_port : IsPort last
   pub is_port : IsPort new
   pub procs : HasProcs f.first.port f.session d
-  pub steps : (c : ℕ) → slice_index_or d.next c 0 ≡ begin_of f.first.port (block_phases f.session) (f.start.terminal.phase + 1) c
+  pub steps : (c : ℕ)
+      → slice_index_or d.next c 0 ≡ begin_of f.first.port (block_phases f.session) (f.start.terminal.phase + 1) c
 
 -- as far as it went, where the journal is full; then the hangup of a process that has ended may still be due
 pub record FillsTurns (f : Frame) (roles : List Role) (v : PortValue) (d : DeskState) : Type 0 where
   pub number : f.first.port ≡ d.number
   pub stand : Stand
   pub due : List JobEvent
-  pub playing : IsPlayingJobs f.first f.session f.scripts roles f.start d.log v (record (value_at d) { due = due }) f.ticks stand
+  pub playing : IsPlayingJobs f.first f.session f.scripts roles f.start d.log v (record (value_at d) { due = due })
+      f.ticks stand
   pub full : length v.journal ≡ v.limit
 
 abbrev pub StopsTurns : Denied → Frame → List Role → PortValue → DeskState → Type 0

@@ -24,7 +24,8 @@ abbrev pub passed_by : JobsSession → (p : ℕ) → DeskState → ℕ → List 
 passed_by session p d c = by_caller c (passings_on session d.log p)
 
 -- port, putter, line and desk at the beginning of a phase: each caller is at its first step there
-pub record IsBeforeJobs (first : Scene) (session : JobsSession) (v : PortValue) (putter : PutterState Flagged) (line : LineState) (run : ℕ) (d : DeskState) : Type 0 where
+pub record IsBeforeJobs (first : Scene) (session : JobsSession) (v : PortValue) (putter : PutterState Flagged)
+    (line : LineState) (run : ℕ) (d : DeskState) : Type 0 where
   pub each : IsBeforeEach first v putter line run
   pub has : HasPassed first (block_phases session) (passed_by session first.port d) v
   pub before : AreBefore first.port (block_phases session) v.terminal.phase (passed_by session first.port d)

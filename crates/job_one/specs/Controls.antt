@@ -36,7 +36,8 @@ refused_or jobs (Some answer) outcome = leaves answer jobs
 
 -- a call of job control came to this
 abbrev pub came_to : Terminal → (c : ℕ) → JobAnswer → JobState → Due → Outcome
-came_to t c answer left due = record { answer = answer; left = left; due = due_events due c (position is_live t.handles) }
+came_to t c answer left due =
+    record { answer = answer; left = left; due = due_events due c (position is_live t.handles) }
 
 -- the handle of the hangup that is due, where this is the least live one
 abbrev pub hangup_due : Due → (least : Option ℕ) → Option ℕ

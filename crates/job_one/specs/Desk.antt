@@ -17,7 +17,8 @@ use Rattle.job_one.specs.Ordered.{HasOrdered}
 -- the process of a caller
 abbrev pub proc_in : JobsSession → (p c : ℕ) → ℕ
 proc_in session p c =
-    unwrap_or (proc_named (slice_index_or session.procs p []) (slice_get (names_on p (blocks_in session)) c)) (length (slice_index_or session.procs p []))
+    unwrap_or (proc_named (slice_index_or session.procs p []) (slice_get (names_on p (blocks_in session)) c))
+    (length (slice_index_or session.procs p []))
 
 -- the next call of a caller, by the next steps of all
 abbrev pub call_after : JobsSession → (p : ℕ) → (next : List ℕ) → (c : ℕ) → Option JobCall
@@ -27,13 +28,17 @@ abbrev pub signals_of : Terminal → List Signal
 signals_of t = t.tally.signals.items
 
 -- The log led to this state, each event in its turn; and each call that has begun went on to the port.
-pub record IsLoggedAt (first : Scene) (session : JobsSession) (log : JobLog) (v : PortValue) (u : JobsState) : Type 0 where
+pub record IsLoggedAt (first : Scene) (session : JobsSession) (log : JobLog) (v : PortValue)
+    (u : JobsState) : Type 0 where
   pub logged : HasLogged first.port session log v u
   pub ordered : HasOrdered first session log v
-  pub gone_on : (c : ℕ) → has_begun (caller_at v.terminal c) ≡ true → HasGoneOn first.port session v u c (caller_at v.terminal c).next
+  pub gone_on : (c : ℕ)
+      → has_begun (caller_at v.terminal c) ≡ true
+      → HasGoneOn first.port session v u c (caller_at v.terminal c).next
 
 -- .. with this job control, these next steps, so many signals sent on, and these events due
-pub record IsDeskAt (first : Scene) (session : JobsSession) (log : JobLog) (v : PortValue) (jobs : JobState) (next : List ℕ) (signals : ℕ) (due : List JobEvent) : Type 0 where
+pub record IsDeskAt (first : Scene) (session : JobsSession) (log : JobLog) (v : PortValue) (jobs : JobState)
+    (next : List ℕ) (signals : ℕ) (due : List JobEvent) : Type 0 where
   pub state : JobsState
   pub at : IsLoggedAt first session log v state
   pub jobs_are : state.now.jobs ≡ jobs

@@ -1,5 +1,6 @@
 -- What is noted at the desk of a port.
-use Rattle.std.specs.Prelude.{◌≡◌, ◌≤◌, ◌+◌, ℕ, All, Bool, true, false, if◌then◌else◌, Option, None, Some, List, [], ◌∷◌, ◌++◌, length, drop, slice_index_or, slice_set, unwrap_or}
+use Rattle.std.specs.Prelude.{◌≡◌, ◌≤◌, ◌+◌, ℕ, All, Bool, true, false, if◌then◌else◌, Option, None, Some}
+use Rattle.std.specs.Prelude.{List, [], ◌∷◌, ◌++◌, length, drop, slice_index_or, slice_set, unwrap_or}
 use Rattle.tty_base.specs.declared.counters.Signal.{Signal}
 use Rattle.tty_calls.specs.Plain.{PlainCall, hangs_up, PlainAnswer, done, PlainEntry}
 use Rattle.tty_calls.specs.declared.calls.Access.{Access}
@@ -18,7 +19,8 @@ use Rattle.job_text.specs.Events.{JobEvent, own, passed, passed_down, sent, JobL
 use Rattle.job_text.specs.Sessions.{JobsSession}
 use Rattle.passed_calls.specs.Scripts.{further}
 use Rattle.job_text.specs.declared.calls.OwnCall.{OwnCall}
-use Rattle.job_steps.specs.Steps.{Outcome, any_access, judged_answer, outcome_of, sent_by_stop, job_signal, foreground_target}
+use Rattle.job_steps.specs.Steps.{Outcome, any_access, judged_answer, outcome_of}
+use Rattle.job_steps.specs.Steps.{sent_by_stop, job_signal, foreground_target}
 use Rattle.job_one.specs.Later.{ComesBy}
 use Rattle.job_one.specs.Desk.{signals_of, IsDeskAt}
 
@@ -70,12 +72,14 @@ own_outcome d v c call = outcome_of d.jobs v.terminal (slice_index_or d.callers 
 
 -- it is answered so, and these signals are sent
 abbrev pub controlled : DeskState → PortValue → (c : ℕ) → Outcome → (signals : List JobEvent) → DeskState
-controlled d v c outcome signals = all_noted (record (answered_own d (length v.journal) c outcome.answer) { jobs = outcome.left }) (length v.journal) signals
+controlled d v c outcome signals = all_noted
+    (record (answered_own d (length v.journal) c outcome.answer) { jobs = outcome.left }) (length v.journal) signals
 
 -- a call from the background is answered as it was judged, and where it is stopped its group is told
 abbrev pub stopped : DeskState → (at c : ℕ) → Judged → DeskState
 stopped d at c judged =
-    all_noted (answered_own d at c (unwrap_or (judged_answer judged) told.Done)) at (sent_by_stop d.jobs (slice_index_or d.callers c 0) judged)
+    all_noted (answered_own d at c (unwrap_or (judged_answer judged) told.Done)) at
+    (sent_by_stop d.jobs (slice_index_or d.callers c 0) judged)
 
 -- the port has answered it
 abbrev pub answered_by_port : DeskState → (at c : ℕ) → PlainAnswer → DeskState
@@ -84,7 +88,8 @@ answered_by_port d at c answer = after_call (noted d at (passed c (slice_index_o
 -- nobody holds the port any more, and the leader of the session that held it is told
 abbrev pub told_at : DeskState → (at : ℕ) → Option ℕ → DeskState
 told_at d at None = d
-told_at d at (Some leader) = noted (noted d at (sent Hup (towards.Process leader))) at (sent Cont (towards.Process leader))
+told_at d at (Some leader) =
+    noted (noted d at (sent Hup (towards.Process leader))) at (sent Cont (towards.Process leader))
 
 abbrev pub leader_told : DeskState → (at : ℕ) → DeskState
 leader_told d at = told_at (record d { jobs = let_go d.jobs }) at (leader_of d.jobs)
@@ -97,11 +102,14 @@ is_hangup_done call answer = false
 -- the port has answered this call
 abbrev pub answered : DeskState → (at c : ℕ) → PlainCall → PlainAnswer → DeskState
 answered d at c call answer =
-    if is_hangup_done call answer then leader_told (answered_by_port d at c answer) at else answered_by_port d at c answer
+    if is_hangup_done call answer
+    then leader_told (answered_by_port d at c answer) at
+    else answered_by_port d at c answer
 
 -- a signal of the port goes to the foreground
 abbrev pub sent_on : PortValue → Signal → DeskState → DeskState
-sent_on v signal d = record (noted d (length v.journal) (sent (job_signal signal) (foreground_target d.jobs))) { sent = d.sent + 1 }
+sent_on v signal d =
+    record (noted d (length v.journal) (sent (job_signal signal) (foreground_target d.jobs))) { sent = d.sent + 1 }
 
 abbrev pub all_sent_on : PortValue → List Signal → DeskState → DeskState
 all_sent_on v [] d = d

@@ -22,7 +22,8 @@ later_scripts (s ∷ ss) = ss
 abbrev pub filled : ℕ → List Script → List PlainScript → List Script
 filled p [] scripts = []
 filled p (c ∷ cs) scripts =
-    (if c.port == p then with_calls c (first_calls scripts) else c) ∷ filled p cs (if c.port == p then later_scripts scripts else scripts)
+    (if c.port == p then with_calls c (first_calls scripts) else c)
+    ∷ filled p cs (if c.port == p then later_scripts scripts else scripts)
 
 -- the scripts of phase k, with the calls of a scene
 abbrev pub scripts_in : ℕ → List Script → (k : ℕ) → Scene → List Script

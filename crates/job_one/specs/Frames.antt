@@ -1,5 +1,6 @@
 -- A phase of a port of processes, behind its line, as the player's functions speak of it.
-use Rattle.std.specs.Prelude.{◌≡◌, ◌≤◌, ◌<◌, ◌-◌, ◌^◌, ℕ, IsTrue, List, [], ◌∷◌, false, Some, length, slice_get, slice_index_or}
+use Rattle.std.specs.Prelude.{◌≡◌, ◌≤◌, ◌<◌, ◌-◌, ◌^◌, ℕ, IsTrue, List, [], ◌∷◌}
+use Rattle.std.specs.Prelude.{false, Some, length, slice_get, slice_index_or}
 use Rattle.tty_calls.specs.declared.sessions.Script.{Script}
 use Rattle.tty_calls.specs.Plain.{PlainCall, hangs_up}
 use Rattle.tty_terminal.specs.Terminals.{handle_at}
@@ -34,9 +35,11 @@ pub record Frame : Type 0 where
   pub ticks : ℕ
 
 -- the desk is that of this port, where each of its signals was sent on, and these events are due
-pub record IsOwing (f : Frame) (roles : List Role) (v : PortValue) (d : DeskState) (stand : Stand) (due : List JobEvent) : Type 0 where
+pub record IsOwing (f : Frame) (roles : List Role) (v : PortValue) (d : DeskState) (stand : Stand)
+    (due : List JobEvent) : Type 0 where
   pub number : f.first.port ≡ d.number
-  pub playing : IsPlayingJobs f.first f.session f.scripts roles f.start d.log v (record (value_at d) { due = due }) f.ticks stand
+  pub playing : IsPlayingJobs f.first f.session f.scripts roles f.start d.log v (record (value_at d) { due = due })
+      f.ticks stand
   pub all_sent : length (signals_of v.terminal) ≤ d.sent
 
 -- between two turns: nothing is due
@@ -48,17 +51,21 @@ IsNextTurn f roles v stand next = IsTurn (is_of_consoles f.first.session) v (rol
 
 -- A call of the caller at a place, whose turn it is, for the port: the one that it has begun, or a new one that goes on
 -- by the background check; and with it the session that is played has this call next.
-pub record IsForPort (f : Frame) (roles : List Role) (v : PortValue) (d : DeskState) (stand : Stand) (place : ℕ) (call : PlainCall) : Type 0 where
+pub record IsForPort (f : Frame) (roles : List Role) (v : PortValue) (d : DeskState) (stand : Stand) (place : ℕ)
+    (call : PlainCall) : Type 0 where
   pub role : Role
   pub at_place : slice_get roles place ≡ Some role
   pub known : role.number < length d.next
   pub few : slice_index_or d.next role.number 0 < 2 ^ 32 - 1
   pub has : call_after f.session f.first.port d.next role.number ≡ Some (plain call)
-  pub goes_on : begun_at v role.number ≡ false → judged_call d.jobs v.terminal (proc_in f.session f.first.port role.number) call ≡ Pass
-  pub calling : IsCalling f.first (block_phases f.session) f.scripts roles f.start (passings_with f.session d.log f.first.port (value_at d) (begun_with v role.number)) v f.ticks stand place call
+  pub goes_on : begun_at v role.number ≡ false
+      → judged_call d.jobs v.terminal (proc_in f.session f.first.port role.number) call ≡ Pass
+  pub calling : IsCalling f.first (block_phases f.session) f.scripts roles f.start
+      (passings_with f.session d.log f.first.port (value_at d) (begun_with v role.number)) v f.ticks stand place call
 
 -- a call of the caller at a place, whose turn it is, that is answered without the port
-pub record IsOwnCall (f : Frame) (roles : List Role) (v : PortValue) (d : DeskState) (place : ℕ) (call : JobCall) : Type 0 where
+pub record IsOwnCall (f : Frame) (roles : List Role) (v : PortValue) (d : DeskState) (place : ℕ)
+    (call : JobCall) : Type 0 where
   pub role : Role
   pub at_place : slice_get roles place ≡ Some role
   pub known : role.number < length d.next
@@ -70,7 +77,8 @@ pub record IsOwnCall (f : Frame) (roles : List Role) (v : PortValue) (d : DeskSt
   pub its : IsTrue (is_own d.jobs v.terminal (proc_in f.session f.first.port role.number) call)
 
 -- the hangup of the process of the caller at a place, which has ended in its turn
-pub record IsHangingUp (f : Frame) (roles : List Role) (v : PortValue) (d : DeskState) (stand : Stand) (place handle : ℕ) : Type 0 where
+pub record IsHangingUp (f : Frame) (roles : List Role) (v : PortValue) (d : DeskState) (stand : Stand)
+    (place handle : ℕ) : Type 0 where
   pub role : Role
   pub at_place : slice_get roles place ≡ Some role
   pub owing : IsOwing f roles v d stand (passed_down role.number handle ∷ [])
@@ -78,4 +86,6 @@ pub record IsHangingUp (f : Frame) (roles : List Role) (v : PortValue) (d : Desk
   pub live : IsTrue (is_live (handle_at v.terminal handle))
   pub few : handle < 32
   pub latest : latest_on d.log f.first.port < slice_index_or d.next role.number 0
-  pub calling : IsCalling f.first (block_phases f.session) f.scripts roles f.start (hangup_with f.session d.log f.first.port (value_at d) v role.number handle) v f.ticks stand place (hangs_up handle)
+  pub calling : IsCalling f.first (block_phases f.session) f.scripts roles f.start
+      (hangup_with f.session d.log f.first.port (value_at d) v role.number handle) v f.ticks stand place
+      (hangs_up handle)

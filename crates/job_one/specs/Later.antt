@@ -29,7 +29,9 @@ pub record ComesBy (old new : PortValue) (part : List PlainEntry) : Type 0 where
 
 -- the log so far, and where it leads, whatever comes
 pub record HasLogged (p : ℕ) (session : JobsSession) (log : JobLog) (v : PortValue) (u : JobsState) : Type 0 where
-  pub leads : (journal : Journal) → IsLater v journal → Leads (port_with p session journal) (first_state (port_with p session journal)) (logged_on p log) u
+  pub leads : (journal : Journal)
+      → IsLater v journal
+      → Leads (port_with p session journal) (first_state (port_with p session journal)) (logged_on p log) u
   pub at : u.now.at ≤ length v.journal
 
 -- the call that a caller has begun went on to the port as it began, and an entry of it stands in the journal
@@ -37,7 +39,9 @@ pub record HasGoneOn (p : ℕ) (session : JobsSession) (v : PortValue) (u : Jobs
   pub place : ℕ
   pub is_first : (journal : Journal) → IsLater v journal → first_place journal c step ≡ place
   pub within : place + 1 ≤ length v.journal
-  pub goes_on : (journal : Journal) → IsLater v journal → GoesOn (port_with p session journal) u place c (next_call (port_with p session journal) u c)
+  pub goes_on : (journal : Journal)
+      → IsLater v journal
+      → GoesOn (port_with p session journal) u place c (next_call (port_with p session journal) u c)
 
 -- the last entry is this answer to a caller's call of this step
 pub record WasAnswered (v : PortValue) (c step : ℕ) (answer : PlainAnswer) : Type 0 where

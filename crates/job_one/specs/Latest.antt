@@ -20,6 +20,7 @@ latest_on log p = latest_after 0 (events_on p log)
 -- what an event passes down
 abbrev pub passings_by : (calls : ℕ → ℕ → Option JobCall) → (latest : ℕ) → JobEvent → List Passing
 passings_by calls latest (own c step answer) = []
-passings_by calls latest (passed c step answer) = record { caller = c; step = step; calls = plain_call (calls c step) } ∷ []
+passings_by calls latest (passed c step answer) =
+    record { caller = c; step = step; calls = plain_call (calls c step) } ∷ []
 passings_by calls latest (passed_down c h) = record { caller = c; step = latest; calls = hangs_up h ∷ [] } ∷ []
 passings_by calls latest (sent signal target) = []

@@ -13,5 +13,10 @@ use Rattle.job_one.specs.Witness.{scene_on}
 use Rattle.job_one.specs.Later.{port_with, IsLater}
 
 pub record HasOrdered (first : Scene) (session : JobsSession) (log : JobLog) (v : PortValue) : Type 0 where
-  pub turns : (played : PlainSession) → IsLike first (scene_on first.port played) → Agrees (scene_on first.port played) v → (journal : Journal) → IsLater v journal
-      → AreEventsInTurn played (port_with first.port session journal) (first_state (port_with first.port session journal)) (logged_on first.port log)
+  pub turns : (played : PlainSession)
+      → IsLike first (scene_on first.port played)
+      → Agrees (scene_on first.port played) v
+      → (journal : Journal)
+      → IsLater v journal
+      → AreEventsInTurn played (port_with first.port session journal)
+      (first_state (port_with first.port session journal)) (logged_on first.port log)

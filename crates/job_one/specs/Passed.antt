@@ -1,9 +1,11 @@
 -- A session that was played, by what each caller of a port has passed down so far.
-use Rattle.std.specs.Prelude.{◌≡◌, ◌≤◌, ◌<◌, ◌+◌, ◌==◌, ℕ, List, [], ◌∷◌, ◌++◌, Option, None, Some, if◌then◌else◌, length, map, take, slice_get, slice_index_or}
+use Rattle.std.specs.Prelude.{◌≡◌, ◌≤◌, ◌<◌, ◌+◌, ◌==◌, ℕ, List, [], ◌∷◌, ◌++◌, Option, None}
+use Rattle.std.specs.Prelude.{Some, if◌then◌else◌, length, map, take, slice_get, slice_index_or}
 use Rattle.tty_calls.specs.Sessions.{PlainSession, line_on, ticks_on}
 use Rattle.tty_terminal.specs.Standing.{Standing}
 use Rattle.passed_calls.specs.Blocks.{Block, blocks_on, names_on, steps_under}
-use Rattle.passed_calls.specs.Derived.{Passing, Passed, BlockPhase, AreInSteps, blocks_of, by_caller, all_calls, passed_phases}
+use Rattle.passed_calls.specs.Derived.{Passing, Passed, BlockPhase, AreInSteps}
+use Rattle.passed_calls.specs.Derived.{blocks_of, by_caller, all_calls, passed_phases}
 use Rattle.journal_check.specs.Legal.{flip_on}
 use Rattle.port_core.specs.Ports.{PortValue}
 use Rattle.one_thread.specs.Order.{is_of_consoles}
@@ -30,7 +32,8 @@ pub record IsOfBlocks (p : ℕ) (phases : List BlockPhase) (session : PlainSessi
   pub names : map (names_in p) session.phases ≡ map (λ phase. map (λ b. b.name) (blocks_on p phase.blocks)) phases
 
 -- the session in which these were passed down by each caller of the port
-pub record IsPassedBy (p : ℕ) (phases : List BlockPhase) (mine : ℕ → List Passing) (session : PlainSession) : Type 0 where
+pub record IsPassedBy (p : ℕ) (phases : List BlockPhase) (mine : ℕ → List Passing)
+    (session : PlainSession) : Type 0 where
   pub passed : Passed
   pub are : session.phases ≡ passed_phases passed phases
   pub by : (c : ℕ) → by_caller c (passed p) ≡ mine c
@@ -61,7 +64,8 @@ pub record PassesMore (c : ℕ) (m : Passing) (mine more : ℕ → List Passing)
   pub others : (d : ℕ) → (d ≡ c → ⊥) → more d ≡ mine d
 
 -- a caller passes something more down in phase k: the sessions before and after it
-pub record GrowsBy (p k : ℕ) (phases : List BlockPhase) (c : ℕ) (m : Passing) (mine more : ℕ → List Passing) (session later : PlainSession) : Type 0 where
+pub record GrowsBy (p k : ℕ) (phases : List BlockPhase) (c : ℕ) (m : Passing) (mine more : ℕ → List Passing)
+    (session later : PlainSession) : Type 0 where
   pub by : IsPassedBy p phases mine session
   pub then_by : IsPassedBy p phases more later
   pub passes : PassesMore c m mine more

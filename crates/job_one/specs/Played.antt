@@ -1,5 +1,6 @@
 -- What playing a session of processes comes to.
-use Rattle.std.specs.Prelude.{◌≡◌, ◌≢◌, ◌<◌, ◌+◌, ◌==◌, ℕ, List, [], ◌∷◌, ◌++◌, Bool, false, Some, if◌then◌else◌, length, flat_map, slice_get, sum, option_map, unwrap_or}
+use Rattle.std.specs.Prelude.{◌≡◌, ◌≢◌, ◌<◌, ◌+◌, ◌==◌, ℕ, List, [], ◌∷◌, ◌++◌, Bool, false, Some}
+use Rattle.std.specs.Prelude.{if◌then◌else◌, length, flat_map, slice_get, sum, option_map, unwrap_or}
 use Rattle.std.specs.List.{range_with_len}
 use Rattle.tty_calls.specs.declared.answers.PortEnd.{PortEnd}
 use Rattle.tty_calls.specs.declared.journals.PortRun.{PortRun}
@@ -35,12 +36,17 @@ answered_by c events = sum (flat_map (λ e. if is_answer_to c e then 1 ∷ [] el
 abbrev pub begun_by : JobsSession → JobLog → (p c : ℕ) → Standing → List Passing
 begun_by session log p c q =
     if q.begun
-    then record { caller = c; step = answered_by c (events_on p log); calls = plain_call (job_call_at p session c (answered_by c (events_on p log))) } ∷ []
+    then record {
+      caller = c;
+      step = answered_by c (events_on p log);
+      calls = plain_call (job_call_at p session c (answered_by c (events_on p log)));
+    } ∷ []
     else []
 
 abbrev pub begun_in : JobsSession → JobLog → (p : ℕ) → List PlainEntry → List Passing
 begun_in session log p journal =
-    flat_map (λ c. begun_by session log p c (standing_in c journal at_first)) (range_with_len 0 (length (names_on p (blocks_in session))))
+    flat_map (λ c. begun_by session log p c (standing_in c journal at_first))
+    (range_with_len 0 (length (names_on p (blocks_in session))))
 
 -- the entries of a port
 abbrev pub journal_on : List PortRun → ℕ → List PlainEntry
@@ -52,7 +58,8 @@ derived_with session log runs = record {
   version = session.version;
   ports = session.ports;
   flips = session.flips;
-  phases = passed_phases (λ p. passings_on session log p ++ begun_in session log p (journal_on runs p)) (block_phases session);
+  phases = passed_phases (λ p. passings_on session log p ++ begun_in session log p (journal_on runs p))
+      (block_phases session);
 }
 
 -- ---- a port that was played
@@ -82,7 +89,8 @@ pub record IsLoggedWhole (port : Port) (log : JobLog) : Type 0 where
       → next_of run.last c ≡ steps_named port.number (blocks_in port.session) (slice_get (names_of_port port) c)
 
 -- its run is one of the session that was played, in the order of one thread, and legal unless its journal is full
-pub record IsJobPlayedOn (p : ℕ) (session : JobsSession) (played : PlainSession) (log : JobLog) (run : PortRun) (end : PortEnd) : Type 0 where
+pub record IsJobPlayedOn (p : ℕ) (session : JobsSession) (played : PlainSession) (log : JobLog) (run : PortRun)
+    (end : PortEnd) : Type 0 where
   pub played_on : IsPlayedOn p played run end
   pub in_order : IsRunInOrder p played run
   pub logged : IsLogged played (port_in session played p run.journal.items) log
@@ -93,9 +101,13 @@ abbrev pub AreNotFull : List PortRun → Type 0
 AreNotFull runs = (p : ℕ) (run : PortRun) → slice_get runs p ≡ Some run → length run.journal.items ≢ 4194304
 
 -- each port of a session of processes was played, and this is the session that they were played
-pub record AreJobsPlayed (session : JobsSession) (log : JobLog) (runs : List PortRun) (ends : List PortEnd) (played : PlainSession) : Type 0 where
+pub record AreJobsPlayed (session : JobsSession) (log : JobLog) (runs : List PortRun) (ends : List PortEnd)
+    (played : PlainSession) : Type 0 where
   pub runs_of_all : length runs ≡ session.ports
   pub ends_of_all : length ends ≡ session.ports
   pub is_played : played ≡ derived_with session log runs
   pub is_derived : AreNotFull runs → played ≡ derived session log
-  pub each : (p : ℕ) (run : PortRun) (end : PortEnd) → slice_get runs p ≡ Some run → slice_get ends p ≡ Some end → IsJobPlayedOn p session played log run end
+  pub each : (p : ℕ) (run : PortRun) (end : PortEnd)
+      → slice_get runs p ≡ Some run
+      → slice_get ends p ≡ Some end
+      → IsJobPlayedOn p session played log run end

@@ -28,11 +28,13 @@ step_at d c = slice_index_or d.next c 0
 
 -- a caller's next call, as it is passed down
 abbrev pub next_passing : JobsSession → (p : ℕ) → DeskValue → (c : ℕ) → Passing
-next_passing session p d c = record { caller = c; step = step_at d c; calls = plain_call (call_after session p d.next c) }
+next_passing session p d c =
+    record { caller = c; step = step_at d c; calls = plain_call (call_after session p d.next c) }
 
 -- what each caller has passed down: what was logged, and behind it the call that it has begun
 abbrev pub passings_with : JobsSession → JobLog → (p : ℕ) → DeskValue → (begun : ℕ → Bool) → ℕ → List Passing
-passings_with session log p d begun c = by_caller c (passings_on session log p) ++ (if begun c then next_passing session p d c ∷ [] else [])
+passings_with session log p d begun c =
+    by_caller c (passings_on session log p) ++ (if begun c then next_passing session p d c ∷ [] else [])
 
 -- a caller has begun a call; or is the one that makes one now
 abbrev pub begun_at : PortValue → ℕ → Bool
@@ -46,7 +48,8 @@ abbrev pub hangup_of : JobLog → (p c h : ℕ) → Passing
 hangup_of log p c h = record { caller = c; step = latest_on log p; calls = hangs_up h ∷ [] }
 
 abbrev pub hangup_with : JobsSession → JobLog → (p : ℕ) → DeskValue → PortValue → (c h : ℕ) → ℕ → List Passing
-hangup_with session log p d v c h x = passings_with session log p d (begun_at v) x ++ (if x == c then hangup_of log p c h ∷ [] else [])
+hangup_with session log p d v c h x =
+    passings_with session log p d (begun_at v) x ++ (if x == c then hangup_of log p c h ∷ [] else [])
 
 -- what was logged of a caller is of steps before this one
 abbrev pub AreLoggedBefore : JobsSession → JobLog → (p c step : ℕ) → Type 0
@@ -54,7 +57,9 @@ AreLoggedBefore session log p c step = All (λ m. m.step < step) (by_caller c (p
 
 -- Some session is played, and each that agrees with the port; the desk stands where the log leads; and no caller has
 -- passed anything down for a later step than its next.
-pub record IsPlayingJobs (first : Scene) (session : JobsSession) (scripts : Scene → List Script) (roles : List Role) (start : PortValue) (log : JobLog) (v : PortValue) (d : DeskValue) (ticks : ℕ) (stand : Stand) : Type 0 where
-  pub playing : IsPlaying first (block_phases session) scripts roles start (passings_with session log first.port d (begun_at v)) v ticks stand
+pub record IsPlayingJobs (first : Scene) (session : JobsSession) (scripts : Scene → List Script) (roles : List Role)
+    (start : PortValue) (log : JobLog) (v : PortValue) (d : DeskValue) (ticks : ℕ) (stand : Stand) : Type 0 where
+  pub playing : IsPlaying first (block_phases session) scripts roles start
+      (passings_with session log first.port d (begun_at v)) v ticks stand
   pub desk : IsDeskAt first session log v d.jobs d.next d.signals d.due
   pub logged_before : (c : ℕ) → AreLoggedBefore session log first.port c (step_at d c)

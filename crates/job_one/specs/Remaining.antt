@@ -1,5 +1,6 @@
 -- What the callers of a phase have still to call.
-use Rattle.std.specs.Prelude.{◌≡◌, ◌≤◌, ◌<◌, ◌+◌, ◌-◌, ◌==◌, ℕ, List, [], ◌∷◌, Option, None, Some, ◌&&◌, if◌then◌else◌, drop, take, filter, nat_lt, length, map, slice_get, slice_index_or}
+use Rattle.std.specs.Prelude.{◌≡◌, ◌≤◌, ◌<◌, ◌+◌, ◌-◌, ◌==◌, ℕ, List, [], ◌∷◌, Option, None, Some, ◌&&◌}
+use Rattle.std.specs.Prelude.{if◌then◌else◌, drop, take, filter, nat_lt, length, map, slice_get, slice_index_or}
 use Rattle.tty_calls.specs.declared.sessions.Script.{Script}
 use Rattle.tty_calls.specs.Plain.{PlainCall, call_of}
 use Rattle.tty_calls.specs.Sessions.{script_of}
@@ -58,7 +59,8 @@ first_call n (Some call) (Some o) = if nat_lt n o.place then Some (plain call) e
 
 -- the calls of each script of a port, in the text's order
 abbrev pub calls_of_port : ℕ → List Script → List (PlacedCall OwnCall) → List (List JobCall)
-calls_of_port p scripts placed = map (λ s. s.calls) (filter (λ s. s.port == p) (mixed_scripts 0 (map script_of scripts) placed))
+calls_of_port p scripts placed =
+    map (λ s. s.calls) (filter (λ s. s.port == p) (mixed_scripts 0 (map script_of scripts) placed))
 
 abbrev pub left_at : List (List JobCall) → ℕ → List JobCall
 left_at left place = slice_index_or left place []
@@ -77,7 +79,8 @@ pub record IsLeftTo (p k : ℕ) (session : JobsSession) (next : List ℕ) (c : �
   pub few : slice_index_or next c 0 + length calls ≤ 65536
 
 -- to the callers of phase k by their roles; who is absent has none
-pub record AreLeft (p k : ℕ) (session : JobsSession) (roles : List Role) (next : List ℕ) (left : List (List JobCall)) : Type 0 where
+pub record AreLeft (p k : ℕ) (session : JobsSession) (roles : List Role) (next : List ℕ)
+    (left : List (List JobCall)) : Type 0 where
   pub many : length left ≡ length roles
   pub each : (i : ℕ) (r : Role) → slice_get roles i ≡ Some r → IsLeftTo p k session next r.number (left_at left i)
   pub others : (c : ℕ) → IsAbsent roles c → slice_index_or next c 0 ≡ begin_of p (block_phases session) (k + 1) c

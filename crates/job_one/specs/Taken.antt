@@ -1,5 +1,6 @@
 -- What a turn of a phase of processes leaves.
-use Rattle.std.specs.Prelude.{◌≡◌, ◌≤◌, ◌<◌, ◌+◌, ◌-◌, ◌^◌, ℕ, Bool, true, false, not, is_none, IsTrue, List, [], ◌∷◌, Some, if◌then◌else◌, length, slice_get, slice_index_or, slice_set}
+use Rattle.std.specs.Prelude.{◌≡◌, ◌≤◌, ◌<◌, ◌+◌, ◌-◌, ◌^◌, ℕ, Bool, true, false, not, is_none, IsTrue, List}
+use Rattle.std.specs.Prelude.{[], ◌∷◌, Some, if◌then◌else◌, length, slice_get, slice_index_or, slice_set}
 use Rattle.tty_terminal.specs.Terminals.{caller_at}
 use Rattle.port_core.specs.Ports.{PortValue}
 use Rattle.one_thread.specs.declared.roles.Role.{Role}
@@ -33,14 +34,16 @@ HasGone true old new = length old.journal ≤ length new.journal
 HasGone false old new = (length old.journal < 4194304) × (length new.journal ≡ length old.journal + 1)
 
 -- what a turn of the caller at a place comes to
-pub record TakesCall (f : Frame) (roles : List Role) (place : ℕ) (old new : PortValue) (d x : DeskState) (taken : Taken) : Type 0 where
+pub record TakesCall (f : Frame) (roles : List Role) (place : ℕ) (old new : PortValue) (d x : DeskState)
+    (taken : Taken) : Type 0 where
   pub at : IsAtTurn f roles new x taken.stand
   pub desk : (r : Role) → slice_get roles place ≡ Some r → Advances taken.answered r.number d x
   pub over : (c : ℕ) → WereOver old new c
   pub gone : HasGone taken.answered old new
 
 -- what a turn of nobody's call comes to
-pub record TakesTurn (f : Frame) (roles : List Role) (old new : PortValue) (d x : DeskState) (now : Stand) : Type 0 where
+pub record TakesTurn (f : Frame) (roles : List Role) (old new : PortValue) (d x : DeskState)
+    (now : Stand) : Type 0 where
   pub at : IsAtTurn f roles new x now
   pub desk : Advances false 0 d x
   pub over : (c : ℕ) → WereOver old new c
@@ -61,16 +64,22 @@ pub record IsNextOf (f : Frame) (roles : List Role) (d : DeskState) (place : ℕ
   pub proc : slice_index_or d.callers role.number 0 ≡ proc_in f.session f.first.port role.number
   pub exists : slice_index_or d.callers role.number 0 < length d.jobs.procs
   pub has : call_after f.session f.first.port d.next role.number ≡ Some call
-  pub from : begin_of f.first.port (block_phases f.session) f.start.terminal.phase role.number ≤ slice_index_or d.next role.number 0
-  pub to : slice_index_or d.next role.number 0 < begin_of f.first.port (block_phases f.session) (f.start.terminal.phase + 1) role.number
+  pub from : begin_of f.first.port (block_phases f.session) f.start.terminal.phase role.number
+      ≤ slice_index_or d.next role.number 0
+  pub to : slice_index_or d.next role.number 0
+      < begin_of f.first.port (block_phases f.session) (f.start.terminal.phase + 1) role.number
 
 -- between two turns of the phase: whose calls are over has none left
-pub record IsBetweenTurns (f : Frame) (roles : List Role) (v : PortValue) (d : DeskState) (stand : Stand) (left : List (List JobCall)) : Type 0 where
+pub record IsBetweenTurns (f : Frame) (roles : List Role) (v : PortValue) (d : DeskState) (stand : Stand)
+    (left : List (List JobCall)) : Type 0 where
   pub at : IsAtTurn f roles v d stand
   pub frame : IsFrameWithin f
   pub procs : HasProcs f.first.port f.session d
   pub calls : AreLeft f.first.port f.start.terminal.phase f.session roles d.next left
-  pub over : (i : ℕ) (r : Role) → slice_get roles i ≡ Some r → (caller_at v.terminal r.number).over ≡ true → left_at left i ≡ []
+  pub over : (i : ℕ) (r : Role)
+      → slice_get roles i ≡ Some r
+      → (caller_at v.terminal r.number).over ≡ true
+      → left_at left i ≡ []
 
 -- how many calls are left, and how many entries with them the journal may still have: each turn takes some
 abbrev pub count_left : List (List JobCall) → ℕ

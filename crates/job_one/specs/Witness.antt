@@ -29,14 +29,17 @@ pub record HasPassed (first : Scene) (phases : List BlockPhase) (mine : ℕ → 
   pub agrees : Agrees (scene_on first.port session) v
 
 -- since the line's end of a phase, where callers have made just what they have passed down
-pub record IsPlaying (first : Scene) (phases : List BlockPhase) (scripts : Scene → List Script) (roles : List Role) (start : PortValue) (mine : ℕ → List Passing) (v : PortValue) (ticks : ℕ) (stand : Stand) : Type 0 where
+pub record IsPlaying (first : Scene) (phases : List BlockPhase) (scripts : Scene → List Script) (roles : List Role)
+    (start : PortValue) (mine : ℕ → List Passing) (v : PortValue) (ticks : ℕ) (stand : Stand) : Type 0 where
   pub each : PlaysEach first scripts roles start v ticks stand
   pub has : HasPassed first phases mine v
   pub up_to : AreUpTo first.port phases v.terminal.phase mine
   pub made : AreMade mine v
 
 -- .. where the caller at a place is to make a call, which it has passed down last
-pub record IsCalling (first : Scene) (phases : List BlockPhase) (scripts : Scene → List Script) (roles : List Role) (start : PortValue) (more : ℕ → List Passing) (v : PortValue) (ticks : ℕ) (stand : Stand) (place : ℕ) (call : PlainCall) : Type 0 where
+pub record IsCalling (first : Scene) (phases : List BlockPhase) (scripts : Scene → List Script) (roles : List Role)
+    (start : PortValue) (more : ℕ → List Passing) (v : PortValue) (ticks : ℕ) (stand : Stand) (place : ℕ)
+    (call : PlainCall) : Type 0 where
   pub each : PlaysEach first scripts roles start v ticks stand
   pub has : HasPassed first phases more v
   pub up_to : AreUpTo first.port phases v.terminal.phase more

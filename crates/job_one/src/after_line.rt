@@ -1,6 +1,8 @@
 //! What comes after the line of a phase: flushes, callers at the desk, and the clock, up to the end of the phase.
 
-ghost use Rattle.std.specs.Prelude.{◌≡◌, ◌≢◌, ◌<◌, ◌-◌, [], Some, true, false, not, is_none, IfOk, IfErr, IsTrue, MatchBool, OnErr, OnOk, if◌then◌else◌, length, slice_get, slice_index_or, slice_set, sum};
+ghost use Rattle.std.specs.Prelude.{◌≡◌, ◌≢◌, ◌<◌, ◌-◌, [], Some, true, false, not, is_none};
+ghost use Rattle.std.specs.Prelude.{IfOk, IfErr, IsTrue, MatchBool, OnErr, OnOk, if◌then◌else◌};
+ghost use Rattle.std.specs.Prelude.{length, slice_get, slice_index_or, slice_set, sum};
 ghost use Rattle.tty_calls.specs.Plain.{call_of};
 ghost use Rattle.tty_terminal.specs.Terminals.{caller_at, has_begun};
 ghost use Rattle.one_thread.specs.Order.{is_of_consoles};
@@ -44,7 +46,8 @@ fn passes(judged: Judged) -> bool
 fn goes_to_port(port: &Port, desk: &Desk, caller: u16, call: &Call) -> bool
     requires known { caller < sum port.now.counts }
     requires caller { caller < length desk.now.callers }
-    ensures { GoesToPort result (has_begun (caller_at port.now.terminal caller)) (judged_call desk.now.jobs port.now.terminal (slice_index_or desk.now.callers caller 0) (call_of call.now)) }
+    ensures { GoesToPort result (has_begun (caller_at port.now.terminal caller))
+        (judged_call desk.now.jobs port.now.terminal (slice_index_or desk.now.callers caller 0) (call_of call.now)) }
 {
     if has_begun(port, caller) {
         return true;
@@ -125,7 +128,8 @@ fn take_last(
 }
 
 fn pass_if(answered: bool, calls: &mut Remaining, place: usize)
-    ensures { calls.new ≡ (if answered then slice_set calls.old place (after_next (left_at calls.old place)) else calls.old) }
+    ensures { calls.new
+        ≡ (if answered then slice_set calls.old place (after_next (left_at calls.old place)) else calls.old) }
 {
     if answered {
         calls.pass(place);

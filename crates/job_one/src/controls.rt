@@ -3,9 +3,11 @@
 ghost use Rattle.std.specs.Prelude.{◌≡◌, ◌<◌, ℕ, Option, IsTrue, length, position};
 ghost use Rattle.handle_table.specs.Handles.{is_live};
 ghost use Rattle.tty_terminal.specs.Terminals.{handle_at};
-ghost use Rattle.job_control.specs.Control.{JobState, after_sctty, sctty_refusal, no_terminal, after_notty, gpgrp_answer, after_spgrp, spgrp_refusal, after_exit};
+ghost use Rattle.job_control.specs.Control.{JobState, after_sctty, sctty_refusal, no_terminal, after_notty};
+ghost use Rattle.job_control.specs.Control.{gpgrp_answer, after_spgrp, spgrp_refusal, after_exit};
 ghost use Rattle.job_control.specs.declared.answers.JobAnswer.TheVariants as told;
-ghost use Rattle.job_steps.specs.Steps.{Outcome, done_or, number_or, outcome_of, refusal_answer, foreground_target, notty_due, spgrp_outcome, through};
+ghost use Rattle.job_steps.specs.Steps.{Outcome, done_or, number_or, outcome_of, refusal_answer};
+ghost use Rattle.job_steps.specs.Steps.{foreground_target, notty_due, spgrp_outcome, through};
 ghost use Rattle.job_text.specs.declared.calls.OwnCall.TheVariants as own;
 ghost use Rattle.passed_calls.specs.Scripts.{further};
 ghost use Rattle.job_one.specs.Controls.{came_to, due_events, ended_due, hangup_due, told_by, refused_or};
@@ -62,7 +64,8 @@ pub fn foreground(jobs: &Jobs) -> Target
 
 /// Why a call through a handle is refused: there is none, or it is dead.
 pub fn refusal_through(port: &Port, h: u8, dead: Errno) -> Option<JobAnswer>
-    ensures { (jobs : JobState) (outcome : Outcome) → through jobs (handle_at port.now.terminal h) (told.Refused dead) outcome ≡ refused_or jobs result outcome }
+    ensures { (jobs : JobState) (outcome : Outcome)
+        → through jobs (handle_at port.now.terminal h) (told.Refused dead) outcome ≡ refused_or jobs result outcome }
 {
     match port.handle(h) {
         None => Some(JobAnswer::Refused(Errno::EBADF)),
@@ -136,7 +139,9 @@ pub fn exit(jobs: &mut Jobs, proc: u16) -> Due
 /// A call of job control by a process.
 pub fn control(jobs: &mut Jobs, port: &Port, proc: u16, call: OwnCall) -> (JobAnswer, Due)
     requires { proc < length jobs.old.procs }
-    ensures { (c : ℕ) → outcome_of jobs.old port.now.terminal proc c (further call) ≡ came_to port.now.terminal c result.0 jobs.new result.1 }
+    ensures { (c : ℕ)
+        → outcome_of jobs.old port.now.terminal proc c (further call)
+        ≡ came_to port.now.terminal c result.0 jobs.new result.1 }
 {
     match call {
         OwnCall::Sctty { h } => sctty_through(jobs, port, proc, h),
@@ -148,7 +153,9 @@ pub fn control(jobs: &mut Jobs, port: &Port, proc: u16, call: OwnCall) -> (JobAn
 }
 
 fn sctty_through(jobs: &mut Jobs, port: &Port, proc: u16, h: u8) -> (JobAnswer, Due)
-    ensures { (c : ℕ) → outcome_of jobs.old port.now.terminal proc c (further (own.Sctty h)) ≡ came_to port.now.terminal c result.0 jobs.new result.1 }
+    ensures { (c : ℕ)
+        → outcome_of jobs.old port.now.terminal proc c (further (own.Sctty h))
+        ≡ came_to port.now.terminal c result.0 jobs.new result.1 }
 {
     match refusal_through(port, h, Errno::EIO) {
         Some(answer) => (answer, Due::Nothing),
@@ -158,7 +165,9 @@ fn sctty_through(jobs: &mut Jobs, port: &Port, proc: u16, h: u8) -> (JobAnswer, 
 
 fn notty_through(jobs: &mut Jobs, port: &Port, proc: u16, h: u8) -> (JobAnswer, Due)
     requires { proc < length jobs.old.procs }
-    ensures { (c : ℕ) → outcome_of jobs.old port.now.terminal proc c (further (own.Notty h)) ≡ came_to port.now.terminal c result.0 jobs.new result.1 }
+    ensures { (c : ℕ)
+        → outcome_of jobs.old port.now.terminal proc c (further (own.Notty h))
+        ≡ came_to port.now.terminal c result.0 jobs.new result.1 }
 {
     match refusal_through(port, h, Errno::EIO) {
         Some(answer) => (answer, Due::Nothing),
@@ -167,7 +176,9 @@ fn notty_through(jobs: &mut Jobs, port: &Port, proc: u16, h: u8) -> (JobAnswer, 
 }
 
 fn gpgrp_through(jobs: &Jobs, port: &Port, proc: u16, h: u8) -> (JobAnswer, Due)
-    ensures { (c : ℕ) → outcome_of jobs.now port.now.terminal proc c (further (own.Gpgrp h)) ≡ came_to port.now.terminal c result.0 jobs.now result.1 }
+    ensures { (c : ℕ)
+        → outcome_of jobs.now port.now.terminal proc c (further (own.Gpgrp h))
+        ≡ came_to port.now.terminal c result.0 jobs.now result.1 }
 {
     match refusal_through(port, h, Errno::EIO) {
         Some(answer) => (answer, Due::Nothing),
@@ -176,7 +187,9 @@ fn gpgrp_through(jobs: &Jobs, port: &Port, proc: u16, h: u8) -> (JobAnswer, Due)
 }
 
 fn spgrp_through(jobs: &mut Jobs, port: &Port, proc: u16, h: u8, group: u16) -> (JobAnswer, Due)
-    ensures { (c : ℕ) → outcome_of jobs.old port.now.terminal proc c (further (own.Spgrp h group)) ≡ came_to port.now.terminal c result.0 jobs.new result.1 }
+    ensures { (c : ℕ)
+        → outcome_of jobs.old port.now.terminal proc c (further (own.Spgrp h group))
+        ≡ came_to port.now.terminal c result.0 jobs.new result.1 }
 {
     match refusal_through(port, h, Errno::ENOTTY) {
         Some(answer) => (answer, Due::Nothing),
@@ -186,7 +199,8 @@ fn spgrp_through(jobs: &mut Jobs, port: &Port, proc: u16, h: u8, group: u16) -> 
 
 /// It is a change of the port: so the background check comes before the group is looked for.
 fn spgrp_checked(jobs: &mut Jobs, port: &Port, proc: u16, group: u16) -> (JobAnswer, Due)
-    ensures { (c : ℕ) → spgrp_outcome jobs.old port.now.terminal proc group ≡ came_to port.now.terminal c result.0 jobs.new result.1 }
+    ensures { (c : ℕ)
+        → spgrp_outcome jobs.old port.now.terminal proc group ≡ came_to port.now.terminal c result.0 jobs.new result.1 }
 {
     if !jobs.controls(proc) {
         return (JobAnswer::Refused(Errno::ENOTTY), Due::Nothing);

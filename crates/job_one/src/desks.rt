@@ -1,13 +1,16 @@
 //! The desk of a port: job control beside it, and what is noted of it.
 
-ghost use Rattle.std.specs.Prelude.{◌≡◌, ◌<◌, ◌-◌, ◌^◌, [], ◌∷◌, ◌++◌, length, map, position, slice_get, slice_index_or, ℕ, None, IfErr, IfOk, OnErr, OnOk};
+ghost use Rattle.std.specs.Prelude.{◌≡◌, ◌<◌, ◌-◌, ◌^◌, [], ◌∷◌, ◌++◌, length, map, position};
+ghost use Rattle.std.specs.Prelude.{slice_get, slice_index_or, ℕ, None, IfErr, IfOk, OnErr, OnOk};
 ghost use Rattle.handle_table.specs.Handles.{is_live};
 ghost use Rattle.job_text.specs.Events.{event_of, logged_of, passed_down, sent};
 ghost use Rattle.tty_calls.specs.Plain.{answer_of, call_of};
 ghost use Rattle.job_steps.specs.Steps.{checks, job_signal, judged_if, judged_call};
 ghost use Rattle.job_one.specs.Controls.{due_events};
 ghost use Rattle.job_one.specs.Desk.{signals_of};
-ghost use Rattle.job_one.specs.Events.{AreOn, needs_of, noted, all_noted, own_outcome, controlled, stopped, leader_told, is_hangup_done, answered, answered_own, answered_by_port, sent_on, new_sent_on};
+ghost use Rattle.job_one.specs.Events.{AreOn, needs_of, noted, all_noted, own_outcome, controlled};
+ghost use Rattle.job_one.specs.Events.{stopped, leader_told, is_hangup_done, answered};
+ghost use Rattle.job_one.specs.Events.{answered_own, answered_by_port, sent_on, new_sent_on};
 ghost use Rattle.tty_calls.specs.declared.answers.Denied.TheVariants as denied;
 
 use crate::controls::{Due, control, foreground};
@@ -74,7 +77,10 @@ fn push_event(log: &mut Vec<JobLog>, logged: JobLog) -> Result<(), NoMemory>
 fn add_event(log: &mut Vec<JobLog>, logged: JobLog) -> Result<(), Denied>
     ensures ok { OnOk result (log.new.items ≡ log.old.items ++ logged ∷ []) }
     ensures err { IfErr result (λ d. d ≡ denied.NoMemory) }
-    ensures own { (p : ℕ) → logged.port ≡ p → AreOn p (map logged_of log.old.items) → AreOn p (map logged_of log.new.items) }
+    ensures own { (p : ℕ)
+        → logged.port ≡ p
+        → AreOn p (map logged_of log.old.items)
+        → AreOn p (map logged_of log.new.items) }
 {
     match push_event(log, logged) {
         Ok(()) => Ok(()),
@@ -106,7 +112,8 @@ fn is_hangup(call: &Call, answer: &Answer) -> bool
 impl Desk {
     /// A desk for the callers of these processes, at which nothing was logged.
     pub fn new(alloc: Global, number: u8, callers: Vec<u16>, next: Vec<u32>, jobs: Jobs) -> Desk
-        ensures { result ≡ record { number = number; callers = callers.items; jobs = jobs; next = next.items; sent = 0; log = [] } }
+        ensures { result
+            ≡ record { number = number; callers = callers.items; jobs = jobs; next = next.items; sent = 0; log = [] } }
     {
         Desk {
             number,
@@ -137,7 +144,9 @@ impl Desk {
     /// What a call that is for the port meets before the port is asked.
     pub fn judge(&self, port: &Port, caller: u16, call: &Call) -> Judged
         requires { caller < length self.now.callers }
-        ensures { result ≡ judged_call self.now.jobs port.now.terminal (slice_index_or self.now.callers caller 0) (call_of call.now) }
+        ensures { result
+            ≡ judged_call self.now.jobs port.now.terminal (slice_index_or self.now.callers caller 0)
+            (call_of call.now) }
     {
         let proc = self.callers[usize::from(caller)];
         match call {
@@ -194,7 +203,9 @@ impl Desk {
     ) -> Result<(), Denied>
         requires known { caller < length self.old.next }
         requires few { slice_index_or self.old.next caller 0 < 2 ^ 32 - 1 }
-        ensures ok { OnOk result (self.new ≡ all_noted (answered_own self.old (length port.now.journal) caller answer) (length port.now.journal) (due_events due caller None)) }
+        ensures ok { OnOk result (self.new
+            ≡ all_noted (answered_own self.old (length port.now.journal) caller answer) (length port.now.journal)
+            (due_events due caller None)) }
         ensures err { IfErr result (λ d. d ≡ denied.NoMemory) }
     {
         self.answer(port, caller, answer)?;
@@ -202,7 +213,8 @@ impl Desk {
     }
 
     fn send_due(&mut self, port: &Port, caller: u16, due: Due) -> Result<(), Denied>
-        ensures ok { OnOk result (self.new ≡ all_noted self.old (length port.now.journal) (due_events due caller None)) }
+        ensures ok { OnOk result
+            (self.new ≡ all_noted self.old (length port.now.journal) (due_events due caller None)) }
         ensures err { IfErr result (λ d. d ≡ denied.NoMemory) }
     {
         match due {
@@ -216,15 +228,20 @@ impl Desk {
         }
     }
 
-    /// A caller's call of job control is made and answered, and the signals that are due then are sent. It gives what was
-    /// due.
+    /// A caller's call of job control is made and answered, and the signals that are due then are sent. It gives what
+    /// was due.
     pub fn control(&mut self, port: &Port, caller: u16, call: OwnCall) -> Result<Due, Denied>
         requires known { caller < length self.old.next }
         requires few { slice_index_or self.old.next caller 0 < 2 ^ 32 - 1 }
         requires caller { caller < length self.old.callers }
         requires proc { slice_index_or self.old.callers caller 0 < length self.old.jobs.procs }
-        ensures due { IfOk result (λ due. due_events due caller (position is_live port.now.terminal.handles) ≡ (own_outcome self.old port.now caller call).due) }
-        ensures ok { IfOk result (λ due. self.new ≡ controlled self.old port.now caller (own_outcome self.old port.now caller call) (due_events due caller None)) }
+        ensures due { IfOk result (λ due.
+            due_events due caller (position is_live port.now.terminal.handles)
+            ≡ (own_outcome self.old port.now caller call).due) }
+        ensures ok { IfOk result (λ due.
+            self.new
+            ≡ controlled self.old port.now caller (own_outcome self.old port.now caller call)
+            (due_events due caller None)) }
         ensures err { IfErr result (λ d. d ≡ denied.NoMemory) }
     {
         let proc = self.callers[usize::from(caller)];
@@ -267,7 +284,8 @@ impl Desk {
     pub fn pass(&mut self, port: &Port, caller: u16, answer: Answer) -> Result<(), Denied>
         requires known { caller < length self.old.next }
         requires few { slice_index_or self.old.next caller 0 < 2 ^ 32 - 1 }
-        ensures ok { OnOk result (self.new ≡ answered_by_port self.old (length port.now.journal) caller (answer_of answer)) }
+        ensures ok { OnOk result
+            (self.new ≡ answered_by_port self.old (length port.now.journal) caller (answer_of answer)) }
         ensures err { IfErr result (λ d. d ≡ denied.NoMemory) }
     {
         let step = self.next[usize::from(caller)];
@@ -309,7 +327,8 @@ impl Desk {
     ) -> Result<(), Denied>
         requires known { caller < length self.old.next }
         requires few { slice_index_or self.old.next caller 0 < 2 ^ 32 - 1 }
-        ensures ok { OnOk result (self.new ≡ answered self.old (length port.now.journal) caller (call_of call.now) (answer_of answer)) }
+        ensures ok { OnOk result
+            (self.new ≡ answered self.old (length port.now.journal) caller (call_of call.now) (answer_of answer)) }
         ensures err { IfErr result (λ d. d ≡ denied.NoMemory) }
     {
         let has_hung_up = is_hangup(call, &answer);

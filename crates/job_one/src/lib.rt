@@ -1,5 +1,6 @@
-//! Parts of a player of sessions of processes on one thread: what callers pass down to a port, its log and its desk, the
-//! line of a phase with its signals, and what comes after it up to the end of the phase. The player itself is not here.
+//! Parts of a player of sessions of processes on one thread: what callers pass down to a port, its log and its desk,
+//! the line of a phase with its signals, and what comes after it up to the end of the phase. The player itself is not
+//! here.
 #![tactic(auto)]
 
 mod acts;

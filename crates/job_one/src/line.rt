@@ -1,6 +1,7 @@
 //! The line of a phase, with the signals that it raises sent on behind each flush.
 
-ghost use Rattle.std.specs.Prelude.{◌≡◌, ◌≤◌, ◌<◌, ◌+◌, ◌-◌, ◌^◌, [], ◌∷◌, IsTrue, IfOk, IfErr, OnOk, All, length, map, take};
+ghost use Rattle.std.specs.Prelude.{◌≡◌, ◌≤◌, ◌<◌, ◌+◌, ◌-◌, ◌^◌, [], ◌∷◌, IsTrue};
+ghost use Rattle.std.specs.Prelude.{IfOk, IfErr, OnOk, All, length, map, take};
 ghost use Rattle.tty_base.specs.Lines.{arrival, is_step};
 ghost use Rattle.line_steps.specs.Steps.{rx_step, steps_of as steps_of_part};
 ghost use Rattle.uart_line.specs.GoodSteps.{good_steps};
@@ -31,8 +32,10 @@ pub fn play_line(
 ) -> Result<u32, Denied>
     requires begins { BeginsLine steps.now.items port.old putter.old line.old run }
     requires good { All (λ step. IsTrue (is_step step)) steps.now.items }
-    ensures ok { IfOk result (λ next. PlaysItsLine steps.now.items port.old port.new putter.old putter.new line.old line.new run next) }
-    ensures err { IfErr result (λ d. StopsItsLine d steps.now.items port.old port.new putter.old putter.new line.old line.new run) }
+    ensures ok { IfOk result
+        (λ next. PlaysItsLine steps.now.items port.old port.new putter.old putter.new line.old line.new run next) }
+    ensures err { IfErr result
+        (λ d. StopsItsLine d steps.now.items port.old port.new putter.old putter.new line.old line.new run) }
     ensures sends { OnOk result (SendsAlong port.old port.new desk.old desk.new) }
     ensures stops { IfErr result (λ d. StopsBy d port.old port.new desk.old desk.new) }
 {
@@ -56,8 +59,10 @@ fn play_steps(
 ) -> Result<u32, Denied>
     requires good { All (λ step. IsTrue (is_step step)) steps.now.items }
     requires stands { StandsBefore (closed_script steps.now.items) port.old putter.old line.old run }
-    ensures ok { IfOk result (λ next. PlaysSteps (closed_script steps.now.items) port.old port.new putter.old putter.new line.old line.new run next) }
-    ensures err { IfErr result (λ d. StopsSteps d (closed_script steps.now.items) port.old port.new putter.old putter.new line.old line.new run) }
+    ensures ok { IfOk result (λ next.
+        PlaysSteps (closed_script steps.now.items) port.old port.new putter.old putter.new line.old line.new run next) }
+    ensures err { IfErr result (λ d.
+        StopsSteps d (closed_script steps.now.items) port.old port.new putter.old putter.new line.old line.new run) }
     ensures sends { OnOk result (SendsAlong port.old port.new desk.old desk.new) }
     ensures stops { IfErr result (λ d. StopsBy d port.old port.new desk.old desk.new) }
 {
@@ -78,8 +83,10 @@ fn close(
     run: u32,
 ) -> Result<u32, Denied>
     requires stands { StandsBefore (closed_script []) port.old putter.old line.old run }
-    ensures ok { IfOk result (λ next. PlaysSteps (closed_script []) port.old port.new putter.old putter.new line.old line.new run next) }
-    ensures err { IfErr result (λ d. StopsSteps d (closed_script []) port.old port.new putter.old putter.new line.old line.new run) }
+    ensures ok { IfOk result
+        (λ next. PlaysSteps (closed_script []) port.old port.new putter.old putter.new line.old line.new run next) }
+    ensures err { IfErr result
+        (λ d. StopsSteps d (closed_script []) port.old port.new putter.old putter.new line.old line.new run) }
     ensures sends { OnOk result (SendsAlong port.old port.new desk.old desk.new) }
     ensures stops { IfErr result (λ d. StopsBy d port.old port.new desk.old desk.new) }
 {
@@ -105,8 +112,10 @@ fn play_part(
 ) -> Result<u32, Denied>
     requires good { All (λ step. IsTrue (is_step step)) (steps_of_part part.now) }
     requires stands { StandsBefore (steps_of_part part.now) port.old putter.old line.old run }
-    ensures ok { IfOk result (λ next. PlaysSteps (steps_of_part part.now) port.old port.new putter.old putter.new line.old line.new run next) }
-    ensures err { IfErr result (λ d. StopsSteps d (steps_of_part part.now) port.old port.new putter.old putter.new line.old line.new run) }
+    ensures ok { IfOk result (λ next.
+        PlaysSteps (steps_of_part part.now) port.old port.new putter.old putter.new line.old line.new run next) }
+    ensures err { IfErr result
+        (λ d. StopsSteps d (steps_of_part part.now) port.old port.new putter.old putter.new line.old line.new run) }
     ensures sends { OnOk result (SendsAlong port.old port.new desk.old desk.new) }
     ensures stops { IfErr result (λ d. StopsBy d port.old port.new desk.old desk.new) }
 {
@@ -135,8 +144,10 @@ fn play_run(
     run: u32,
 ) -> Result<u32, Denied>
     requires stands { StandsBefore (good_steps bytes.now) port.old putter.old line.old run }
-    ensures ok { IfOk result (λ next. PlaysSteps (good_steps bytes.now) port.old port.new putter.old putter.new line.old line.new run next) }
-    ensures err { IfErr result (λ d. StopsSteps d (good_steps bytes.now) port.old port.new putter.old putter.new line.old line.new run) }
+    ensures ok { IfOk result
+        (λ next. PlaysSteps (good_steps bytes.now) port.old port.new putter.old putter.new line.old line.new run next) }
+    ensures err { IfErr result
+        (λ d. StopsSteps d (good_steps bytes.now) port.old port.new putter.old putter.new line.old line.new run) }
     ensures sends { OnOk result (SendsAlong port.old port.new desk.old desk.new) }
     ensures stops { IfErr result (λ d. StopsBy d port.old port.new desk.old desk.new) }
 {
@@ -163,8 +174,10 @@ fn play_flagged(
 ) -> Result<u32, Denied>
     requires good { All (λ step. IsTrue (is_step step)) (map (rx_step flag) bytes.now) }
     requires stands { StandsBefore (map (rx_step flag) bytes.now) port.old putter.old line.old run }
-    ensures ok { IfOk result (λ next. PlaysSteps (map (rx_step flag) bytes.now) port.old port.new putter.old putter.new line.old line.new run next) }
-    ensures err { IfErr result (λ d. StopsSteps d (map (rx_step flag) bytes.now) port.old port.new putter.old putter.new line.old line.new run) }
+    ensures ok { IfOk result (λ next.
+        PlaysSteps (map (rx_step flag) bytes.now) port.old port.new putter.old putter.new line.old line.new run next) }
+    ensures err { IfErr result (λ d.
+        StopsSteps d (map (rx_step flag) bytes.now) port.old port.new putter.old putter.new line.old line.new run) }
     ensures sends { OnOk result (SendsAlong port.old port.new desk.old desk.new) }
     ensures stops { IfErr result (λ d. StopsBy d port.old port.new desk.old desk.new) }
 {
@@ -194,8 +207,10 @@ fn send_window(
     requires run { BeginsRun run port.old }
     ensures some { IfOk result (λ passed. 0 < passed.steps) }
     ensures within { IfOk result (λ passed. passed.steps ≤ length bytes.now) }
-    ensures ok { IfOk result (λ passed. PlaysSteps (take passed.steps (good_steps bytes.now)) port.old port.new putter.old putter.new line.old line.new run passed.run) }
-    ensures err { IfErr result (λ d. StopsSteps d (good_steps bytes.now) port.old port.new putter.old putter.new line.old line.new run) }
+    ensures ok { IfOk result (λ passed. PlaysSteps (take passed.steps (good_steps bytes.now)) port.old port.new
+        putter.old putter.new line.old line.new run passed.run) }
+    ensures err { IfErr result
+        (λ d. StopsSteps d (good_steps bytes.now) port.old port.new putter.old putter.new line.old line.new run) }
     ensures sends { OnOk result (SendsAlong port.old port.new desk.old desk.new) }
     ensures stops { IfErr result (λ d. StopsBy d port.old port.new desk.old desk.new) }
 {
@@ -221,8 +236,10 @@ fn send_step(
     requires put { line.old.most ≤ (2 ^ 63 - length putter.old.sent) + line.old.handed }
     requires ring { putter.old.ring ≡ port.old.flip.ring }
     requires run { BeginsRun run port.old }
-    ensures ok { IfOk result (λ next. PlaysSteps (step ∷ []) port.old port.new putter.old putter.new line.old line.new run next) }
-    ensures err { IfErr result (λ d. StopsSteps d (step ∷ []) port.old port.new putter.old putter.new line.old line.new run) }
+    ensures ok { IfOk result
+        (λ next. PlaysSteps (step ∷ []) port.old port.new putter.old putter.new line.old line.new run next) }
+    ensures err { IfErr result
+        (λ d. StopsSteps d (step ∷ []) port.old port.new putter.old putter.new line.old line.new run) }
     ensures sends { OnOk result (SendsAlong port.old port.new desk.old desk.new) }
     ensures stops { IfErr result (λ d. StopsBy d port.old port.new desk.old desk.new) }
 {

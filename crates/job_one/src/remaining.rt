@@ -1,10 +1,12 @@
 //! What the callers of a phase have still to call.
 
-ghost use Rattle.std.specs.Prelude.{◌≡◌, ◌+◌, ◌<◌, ◌≤◌, ◌==◌, [], Some, None, IfOk, IfSome, All, MatchOption, drop, length, map, nat_lt, not, option_map, position, slice_get, slice_set};
+ghost use Rattle.std.specs.Prelude.{◌≡◌, ◌+◌, ◌<◌, ◌≤◌, ◌==◌, [], Some, None, IfOk, IfSome, All, MatchOption};
+ghost use Rattle.std.specs.Prelude.{drop, length, map, nat_lt, not, option_map, position, slice_get, slice_set};
 ghost use Rattle.one_thread.specs.Roles.{calls_in};
 ghost use Rattle.tty_calls.specs.Plain.{call_of};
 ghost use Rattle.passed_calls.specs.Scripts.{count_in};
-ghost use Rattle.job_one.specs.Remaining.{IsMarked, after_next, calls_from, calls_of_port, first_call, job_call_of, left_at, own_from, passed_cursor, place_of, plain_from};
+ghost use Rattle.job_one.specs.Remaining.{IsMarked, after_next, calls_from, calls_of_port, first_call};
+ghost use Rattle.job_one.specs.Remaining.{job_call_of, left_at, own_from, passed_cursor, place_of, plain_from};
 
 use job_text::OwnCall;
 use passed_calls::PlacedCall;
@@ -191,7 +193,8 @@ impl<'a> Remaining<'a> {
 
     /// The next call of the script at a place.
     pub fn next(&self, place: usize) -> Option<NextCall<'a>>
-        ensures { MatchOption result (left_at self.now place ≡ []) (λ call. slice_get (left_at self.now place) 0 ≡ Some (job_call_of call)) }
+        ensures { MatchOption result (left_at self.now place ≡ [])
+            (λ call. slice_get (left_at self.now place) 0 ≡ Some (job_call_of call)) }
     {
         match cursor_at(self.cursors.as_slice(), place) {
             None => None,
@@ -233,7 +236,8 @@ fn cursors_of(
     placed: &[PlacedCall<OwnCall>],
     port: u8,
 ) -> Result<Vec<Cursor>, NoMemory>
-    ensures calls { IfOk result (λ cursors. map (calls_from scripts.now placed.now) cursors.items ≡ calls_of_port port scripts.now placed.now) }
+    ensures calls { IfOk result
+        (λ cursors. map (calls_from scripts.now placed.now) cursors.items ≡ calls_of_port port scripts.now placed.now) }
     ensures marked { IfOk result (λ cursors. All IsMarked cursors.items) }
 {
     let mut cursors = Vec::new(alloc);

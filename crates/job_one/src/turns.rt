@@ -62,8 +62,8 @@ pub fn take_pass(
     Ok(now)
 }
 
-/// An attempt of a caller's call that is for the port. Where the port answers it, that is logged, and a hangup tells the
-/// leader of the session.
+/// An attempt of a caller's call that is for the port. Where the port answers it, that is logged, and a hangup tells
+/// the leader of the session.
 pub fn take_call(
     port: &mut Port,
     desk: &mut Desk,

@@ -1,10 +1,12 @@
 -- What a phase is played of: the roles of its callers, and what they have to call.
-use Rattle.std.proofs.Common.{◌≡◌, ◌≤◌, ◌<◌, inl, inr, ℕ, zero, suc, ◌+◌, ◌==◌, List, [], ◌∷◌, ◌++◌, Option, Some, length, map, filter, sum, refl, sym, ap, ◌∙◌, subst, arith}
+use Rattle.std.proofs.Common.{◌≡◌, ◌≤◌, ◌<◌, inl, inr, ℕ, zero, suc, ◌+◌, ◌==◌, List, [], ◌∷◌, ◌++◌}
+use Rattle.std.proofs.Common.{Option, Some, length, map, filter, sum, refl, sym, ap, ◌∙◌, subst, arith}
 use Rattle.std.specs.Prelude.{All, slice_get, slice_index_or, slice_set}
 use Rattle.std.proofs.lemmas.Bool.{cases_eq}
 use Rattle.tty_calls.specs.declared.sessions.Script.{Script}
 use Rattle.tty_calls.specs.declared.sessions.Session.{Session}
-use Rattle.tty_calls.specs.Sessions.{PlainScript, PlainPhase, PlainSession, session_of, script_of, scripts_on, scripts_over, names_of, counts_on}
+use Rattle.tty_calls.specs.Sessions.{PlainScript, PlainPhase, PlainSession, session_of}
+use Rattle.tty_calls.specs.Sessions.{script_of, scripts_on, scripts_over, names_of, counts_on}
 use Rattle.tty_terminal.specs.Terminals.{Terminal, caller_at}
 use Rattle.journal_check.specs.Legal.{phase_at}
 use Rattle.port_core.specs.Ports.{PortValue}
@@ -45,44 +47,62 @@ Placed = List (PlacedCall OwnCall)
 abbrev scene_in : ℕ → PlainSession → Scene
 scene_in p base = record { port = p; session = base }
 
-pub scene_of_session : (p : ℕ) (base : PlainSession) (procs : List PortProc) (parts : List Placed) → IsSceneOf (scene_in p base) (session_with base procs parts)
-scene_of_session p base procs parts = record { version = refl; ports = refl; flips = refl; of_blocks = plain_of_blocks p base procs parts }
+pub scene_of_session : (p : ℕ) (base : PlainSession) (procs : List PortProc) (parts : List Placed)
+    → IsSceneOf (scene_in p base) (session_with base procs parts)
+scene_of_session p base procs parts =
+    record { version = refl; ports = refl; flips = refl; of_blocks = plain_of_blocks p base procs parts }
 
 -- ---- names
 
 abbrev none_passed : Passed
 none_passed q = []
 
-pub names_too : (p : ℕ) (base : PlainSession) (procs : List PortProc) (parts : List Placed) → names_in (scene_in p base) ≡ names_on p (blocks_of (block_phases (session_with base procs parts)))
+pub names_too : (p : ℕ) (base : PlainSession) (procs : List PortProc) (parts : List Placed)
+    → names_in (scene_in p base) ≡ names_on p (blocks_of (block_phases (session_with base procs parts)))
 names_too p base procs parts =
     let phases = block_phases (session_with base procs parts) in
     let empty : PlainSession = record base { phases = passed_phases none_passed phases } in
     let by : IsPassedBy p phases (λ c. []) empty = record { passed = none_passed; are = refl; by = λ c. refl } in
-    let shape = same_shape p phases base empty refl refl (plain_of_blocks p base procs parts) (of_blocks p phases (λ c. []) empty by) in
+    let shape = same_shape p phases base empty refl refl (plain_of_blocks p base procs parts)
+    (of_blocks p phases (λ c. []) empty by) in
     sym (names_same p base empty shape) ∙ names_stay none_passed phases p
 
-pub names_are : (p : ℕ) (base : PlainSession) (procs : List PortProc) (parts : List Placed) → names_in (scene_in p base) ≡ names_on p (blocks_in (session_with base procs parts))
-names_are p base procs parts = names_too p base procs parts ∙ ap (names_on p) (blocks_same (session_with base procs parts).phases)
+pub names_are : (p : ℕ) (base : PlainSession) (procs : List PortProc) (parts : List Placed)
+    → names_in (scene_in p base) ≡ names_on p (blocks_in (session_with base procs parts))
+names_are p base procs parts =
+    names_too p base procs parts ∙ ap (names_on p) (blocks_same (session_with base procs parts).phases)
 
 -- ---- phases
 
-found_from : (parts : List Placed) (n k : ℕ) (phases : List PlainPhase) (d : PlainPhase) → k < length phases
-    → slice_get (phases_with phase_with [] parts n phases) k ≡ Some (phase_with (slice_index_or phases k d) (slice_index_or parts (n + k) []))
+found_from : (parts : List Placed) (n k : ℕ) (phases : List PlainPhase) (d : PlainPhase)
+    → k < length phases
+    → slice_get (phases_with phase_with [] parts n phases) k
+    ≡ Some (phase_with (slice_index_or phases k d) (slice_index_or parts (n + k) []))
 found_from parts n k [] d lt = absurd (omega (arith, lt))
-found_from parts n zero (phase ∷ phases) d lt = (let same : n ≡ n + 0 = omega arith in ap (λ (m : ℕ). Some (phase_with phase (slice_index_or parts m []))) same)
+found_from parts n zero (phase ∷ phases) d lt =
+    (let same : n ≡ n + 0 = omega arith in ap (λ (m : ℕ). Some (phase_with phase (slice_index_or parts m []))) same)
 found_from parts n (suc k) (phase ∷ phases) d lt =
     let same : (n + 1) + k ≡ n + suc k = omega arith in
-    found_from parts (n + 1) k phases d (omega (arith, lt)) ∙ ap (λ (m : ℕ). Some (phase_with (slice_index_or phases k d) (slice_index_or parts m []))) same
+    found_from parts (n + 1) k phases d (omega (arith, lt))
+    ∙ ap (λ (m : ℕ). Some (phase_with (slice_index_or phases k d) (slice_index_or parts m []))) same
 
-phase_found : (base : PlainSession) (procs : List PortProc) (parts : List Placed) (k : ℕ) → k < length base.phases → slice_get (session_with base procs parts).phases k ≡ Some (phase_with (phase_at base k) (slice_index_or parts k []))
+phase_found : (base : PlainSession) (procs : List PortProc) (parts : List Placed) (k : ℕ)
+    → k < length base.phases
+    → slice_get (session_with base procs parts).phases k
+    ≡ Some (phase_with (phase_at base k) (slice_index_or parts k []))
 phase_found base procs parts k lt =
     let same : 0 + k ≡ k = omega arith in
-    found_from parts 0 k base.phases (record { lines = []; ticks = []; callers = [] }) lt ∙ ap (λ (m : ℕ). Some (phase_with (phase_at base k) (slice_index_or parts m []))) same
+    found_from parts 0 k base.phases (record { lines = []; ticks = []; callers = [] }) lt
+    ∙ ap (λ (m : ℕ). Some (phase_with (phase_at base k) (slice_index_or parts m []))) same
 
 -- ---- what is left to the callers of a phase
 
-pub calls_left : (p k : ℕ) (base : PlainSession) (procs : List PortProc) (parts : List Placed) (scripts : List Script) (placed : Placed) (steps : List ℕ) (roles : List Role) (run : ℕ) (at : JobStation)
-    → IsJobsSessionWithin (session_with base procs parts) → k < length base.phases → map script_of scripts ≡ (phase_at base k).callers → placed ≡ slice_index_or parts k []
+pub calls_left : (p k : ℕ) (base : PlainSession) (procs : List PortProc) (parts : List Placed) (scripts : List Script)
+    (placed : Placed) (steps : List ℕ) (roles : List Role) (run : ℕ) (at : JobStation)
+    → IsJobsSessionWithin (session_with base procs parts)
+    → k < length base.phases
+    → map script_of scripts ≡ (phase_at base k).callers
+    → placed ≡ slice_index_or parts k []
     → IsBetween (scene_in p base) (session_with base procs parts) k run at
     → map (role_in scripts) roles ≡ cast_of (names_in (scene_in p base)) steps p (map script_of scripts)
     → AreLeft p k (session_with base procs parts) roles at.desk.next (calls_of_port p scripts placed)
@@ -91,24 +111,33 @@ calls_left p k base procs parts scripts placed steps roles run at limits lt call
     let session = session_with base procs parts in
     let names = names_in first in
     let phase = phase_with (phase_at base k) (slice_index_or parts k []) in
-    let mixed_is : mixed_scripts 0 (map script_of scripts) placed ≡ phase.callers = λ i. mixed_scripts 0 (callers i) (beside i) in
+    let mixed_is : mixed_scripts 0 (map script_of scripts) placed ≡ phase.callers = λ i.
+    mixed_scripts 0 (callers i) (beside i) in
     let shares : HasShares p k session (map script_of scripts) names phase at.desk.next = record {
       limits = limits;
       at_phase = phase_found base procs parts k lt;
-      same_names = mixed_names 0 (phase_at base k).callers (slice_index_or parts k []) p ∙ ap (λ (ss : List PlainScript). map (λ (s : PlainScript). s.name) (own_scripts p ss)) (sym callers);
-      numbered = subst (λ (ss : List PlainScript). All (IsNumbered names) (own_scripts p ss)) (sym callers) (phase_numbered first k lt);
+      same_names =
+          mixed_names 0 (phase_at base k).callers (slice_index_or parts k []) p
+          ∙ ap (λ (ss : List PlainScript). map (λ (s : PlainScript). s.name) (own_scripts p ss)) (sym callers);
+      numbered = subst (λ (ss : List PlainScript). All (IsNumbered names) (own_scripts p ss)) (sym callers)
+          (phase_numbered first k lt);
       names_are = names_are p base procs parts;
       names_too = names_too p base procs parts;
       own_places = λ c name is. number_at (scripts_over p base.phases) name c is;
       next_many = h.procs.next ∙ sym (ap (λ (ns : List (List ℕ)). length ns) (names_are p base procs parts));
-      next_are = subst (λ (j : ℕ). (c : ℕ) → slice_index_or at.desk.next c 0 ≡ begin_of p (block_phases session) j c) h.phase h.before.steps;
+      next_are = subst (λ (j : ℕ). (c : ℕ) → slice_index_or at.desk.next c 0 ≡ begin_of p (block_phases session) j c)
+          h.phase h.before.steps;
     } in
-    subst (λ (ss : List One). AreLeft p k session roles at.desk.next (map (λ (s : One). s.calls) (filter (λ s. s.port == p) ss))) (sym mixed_is)
+    subst (λ (ss : List One).
+    AreLeft p k session roles at.desk.next (map (λ (s : One). s.calls) (filter (λ s. s.port == p) ss)))
+    (sym mixed_is)
     (are_left p k session scripts names steps phase at.desk.next roles shares cast)
 
 -- ---- the next steps of callers
 
-pub callers_known : (p k run : ℕ) (base : PlainSession) (session : JobsSession) (at : JobStation) → IsBetween (scene_in p base) session k run at → length at.names ≤ sum at.station.port.counts
+pub callers_known : (p k run : ℕ) (base : PlainSession) (session : JobsSession) (at : JobStation)
+    → IsBetween (scene_in p base) session k run at
+    → length at.names ≤ sum at.station.port.counts
 callers_known p k run base session at h =
     let has = h.before.has in
     let there = (h.before.each.each (record { port = p; session = has.session }) has.like has.agrees).0 in
@@ -126,15 +155,26 @@ pub record HasNoted (t : Terminal) (count : ℕ) (steps : List ℕ) : Type 0 whe
 set_same : (xs : List ℕ) (i x : ℕ) → i < length xs → slice_index_or (slice_set xs i x) i 0 ≡ x
 set_same xs i x lt = step_own xs i x lt
 
-pub noted_more : (t : Terminal) (count : ℕ) (steps more : List ℕ) (step : ℕ) → HasNoted t count steps → count < length steps → step ≡ (caller_at t count).next → more ≡ slice_set steps count step → HasNoted t (count + 1) more
+pub noted_more : (t : Terminal) (count : ℕ) (steps more : List ℕ) (step : ℕ)
+    → HasNoted t count steps
+    → count < length steps
+    → step ≡ (caller_at t count).next
+    → more ≡ slice_set steps count step
+    → HasNoted t (count + 1) more
 noted_more t count steps more step h lt is set_it =
     subst (HasNoted t (count + 1)) (sym set_it)
     (record {
       each = λ c below. elim (cases_eq c count) [
-        | inl same ↦ ap (λ (n : ℕ). slice_index_or (slice_set steps count step) n 0) same ∙ (set_same steps count step lt ∙ (is ∙ ap (λ (n : ℕ). (caller_at t n).next) (sym same)))
+        | inl same ↦
+            ap (λ (n : ℕ). slice_index_or (slice_set steps count step) n 0) same
+            ∙ (set_same steps count step lt ∙ (is ∙ ap (λ (n : ℕ). (caller_at t n).next) (sym same)))
         | inr other ↦ step_other steps count c step other ∙ h.each c (omega (arith, below, other))
       ];
     })
 
-pub all_noted : (t : Terminal) (count many : ℕ) (steps : List ℕ) → HasNoted t count steps → length steps ≡ many → many ≤ count → AreNextSteps t many steps
+pub all_noted : (t : Terminal) (count many : ℕ) (steps : List ℕ)
+    → HasNoted t count steps
+    → length steps ≡ many
+    → many ≤ count
+    → AreNextSteps t many steps
 all_noted t count many steps h same past = record { many = same; each = λ c lt. h.each c (omega (arith, lt, past)) }

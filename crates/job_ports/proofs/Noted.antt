@@ -1,11 +1,16 @@
--- What a log that was read tells of its port: how many calls of each caller were answered, and how many signals were sent.
-use Rattle.std.proofs.Common.{◌≡◌, ◌≤◌, ◌<◌, ℕ, zero, suc, ◌+◌, ◌==◌, Bool, true, false, inl, inr, List, [], ◌∷◌, ◌++◌, Option, None, Some, length, map, if◌then◌else◌, refl, sym, ap, ◌∙◌, subst, arith}
+-- What a log that was read tells of its port: how many calls of each caller were answered, and how many signals were
+-- sent.
+use Rattle.std.proofs.Common.{◌≡◌, ◌≤◌, ◌<◌, ℕ, zero, suc, ◌+◌, ◌==◌, Bool, true, false, inl, inr, List, [], ◌∷◌}
+use Rattle.std.proofs.Common.{◌++◌, Option, None, Some, length, map, if◌then◌else◌, refl, sym, ap, ◌∙◌, subst, arith}
 use Rattle.std.specs.Prelude.{nat_le, slice_get, slice_set, slice_index_or, sum, flat_map}
 use Rattle.std.proofs.lemmas.Bool.{cases_eq, eq-eqb, ne_eqb}
 use Rattle.std.proofs.lemmas.Bool.Decides.{nat_tests}
 use Rattle.std.proofs.lemmas.List.Sums.{sum_by-cons}
 use Rattle.tty_terminal.specs.Terminals.{Terminal}
-use Rattle.tty_calls.specs.Plain.{PlainCall, opens, closes, reads, writes, gets_modes, sets_modes, gets_disc, sets_disc, flushes, steers, counts_input, counts_output, excludes, admits, drains, gets_counts, hangs_up, sends_packet, takes_packet, PlainAnswer, done, count_is, got, number_is, modes_are, counts_are, refused, idle}
+use Rattle.tty_calls.specs.Plain.{PlainCall, opens, closes, reads, writes, gets_modes, sets_modes, gets_disc}
+use Rattle.tty_calls.specs.Plain.{sets_disc, flushes, steers, counts_input, counts_output, excludes, admits}
+use Rattle.tty_calls.specs.Plain.{drains, gets_counts, hangs_up, sends_packet, takes_packet, PlainAnswer}
+use Rattle.tty_calls.specs.Plain.{done, count_is, got, number_is, modes_are, counts_are, refused, idle}
 use Rattle.passed_calls.specs.Scripts.{plain, further}
 use Rattle.passed_calls.specs.declared.logs.Logged.{Logged}
 use Rattle.passed_calls.specs.Journals.{terminal_at}
@@ -14,7 +19,8 @@ use Rattle.job_control.specs.declared.answers.Target.{Target}
 use Rattle.job_control.specs.declared.processes.JobSignal.{JobSignal}
 use Rattle.job_text.specs.Events.{JobEvent, own, passed, passed_down, sent, JobLog}
 use Rattle.job_text.specs.Sessions.{JobCall}
-use Rattle.job_steps.specs.Steps.{Port, JobsState, proc_of, next_of, next_call, raised_at, IsSent, IsAllowed, after_own, answered_for, after_passed, after_event, Leads}
+use Rattle.job_steps.specs.Steps.{Port, JobsState, proc_of, next_of, next_call, raised_at, IsSent}
+use Rattle.job_steps.specs.Steps.{IsAllowed, after_own, answered_for, after_passed, after_event, Leads}
 use Rattle.job_one.specs.Played.{is_answer_to, answered_by}
 use Rattle.job_one.proofs.Mine.{step_own, step_other}
 use Rattle.job_ports.proofs.Rising.{raised_rise}
@@ -25,11 +31,13 @@ pub record Keeps (s u : JobsState) : Type 0 where
   pub next : u.next ≡ s.next
   pub signals : u.signals ≡ s.signals
 
-own_keeps : (t : Terminal) (p c : ℕ) (s : JobsState) (at : ℕ) (call : Option JobCall) → Keeps s (after_own t p c s at call)
+own_keeps : (t : Terminal) (p c : ℕ) (s : JobsState) (at : ℕ) (call : Option JobCall)
+    → Keeps s (after_own t p c s at call)
 own_keeps t p c s at None = record { next = refl; signals = refl }
 own_keeps t p c s at (Some call) = record { next = refl; signals = refl }
 
-passed_keeps : (s : JobsState) (at : ℕ) (call : Option JobCall) (answer : PlainAnswer) → Keeps s (after_passed s at call answer)
+passed_keeps : (s : JobsState) (at : ℕ) (call : Option JobCall) (answer : PlainAnswer)
+    → Keeps s (after_passed s at call answer)
 passed_keeps s at None answer = record { next = refl; signals = refl }
 passed_keeps s at (Some (further call)) answer = record { next = refl; signals = refl }
 passed_keeps s at (Some (plain (opens h access nonblock))) answer = record { next = refl; signals = refl }
@@ -65,37 +73,56 @@ abbrev one_if : Bool → ℕ
 one_if b = if b then 1 else 0
 
 -- a caller's next step once one caller's call was answered
-stepped : (ns : List ℕ) (d c : ℕ) → c < length ns → slice_index_or (slice_set ns d (slice_index_or ns d 0 + 1)) c 0 ≡ slice_index_or ns c 0 + one_if (d == c)
+stepped : (ns : List ℕ) (d c : ℕ)
+    → c < length ns
+    → slice_index_or (slice_set ns d (slice_index_or ns d 0 + 1)) c 0 ≡ slice_index_or ns c 0 + one_if (d == c)
 stepped ns d c known =
     elim (cases_eq c d) [
       | inl same ↦
-          subst (λ (x : ℕ). slice_index_or (slice_set ns x (slice_index_or ns x 0 + 1)) c 0 ≡ slice_index_or ns c 0 + one_if (x == c)) same
-          (step_own ns c (slice_index_or ns c 0 + 1) known ∙ ap (λ (b : Bool). slice_index_or ns c 0 + one_if b) (sym (eq-eqb c c refl)))
+          subst (λ (x : ℕ).
+          slice_index_or (slice_set ns x (slice_index_or ns x 0 + 1)) c 0 ≡ slice_index_or ns c 0 + one_if (x == c))
+          same
+          (step_own ns c (slice_index_or ns c 0 + 1) known
+          ∙ ap (λ (b : Bool). slice_index_or ns c 0 + one_if b) (sym (eq-eqb c c refl)))
       | inr other ↦
           step_other ns d c (slice_index_or ns d 0 + 1) other
           ∙ (let none : one_if (d == c) ≡ 0 = ap one_if (ne_eqb d c (λ e. other (sym e))) in omega (arith, none))
     ]
 
-answered_next : (s u : JobsState) (d c : ℕ) → Keeps s u → c < length s.next → next_of (answered_for u d) c ≡ next_of s c + one_if (d == c)
+answered_next : (s u : JobsState) (d c : ℕ)
+    → Keeps s u
+    → c < length s.next
+    → next_of (answered_for u d) c ≡ next_of s c + one_if (d == c)
 answered_next s u d c keeps known =
-    subst (λ (ns : List ℕ). slice_index_or (slice_set ns d (slice_index_or ns d 0 + 1)) c 0 ≡ next_of s c + one_if (d == c)) (sym keeps.next) (stepped s.next d c known)
+    subst
+    (λ (ns : List ℕ). slice_index_or (slice_set ns d (slice_index_or ns d 0 + 1)) c 0 ≡ next_of s c + one_if (d == c))
+    (sym keeps.next) (stepped s.next d c known)
 
 set_length : (ns : List ℕ) (i x : ℕ) → length (slice_set ns i x) ≡ length ns
 set_length [] i x = refl
 set_length (n ∷ ns) zero x = refl
 set_length (n ∷ ns) (suc i) x = ap suc (set_length ns i x)
 
-many_next : (port : Port) (s : JobsState) (at : ℕ) (event : JobEvent) → length (after_event port s at event).next ≡ length s.next
+many_next : (port : Port) (s : JobsState) (at : ℕ) (event : JobEvent)
+    → length (after_event port s at event).next ≡ length s.next
 many_next port s at (own d step answer) =
-    set_length _ d _ ∙ ap (λ (ns : List ℕ). length ns) (own_keeps (terminal_at port.journal at) (proc_of port d) d s at (next_call port s d)).next
-many_next port s at (passed d step answer) = set_length _ d _ ∙ ap (λ (ns : List ℕ). length ns) (passed_keeps s at (next_call port s d) answer).next
+    set_length _ d _
+    ∙ ap (λ (ns : List ℕ). length ns)
+    (own_keeps (terminal_at port.journal at) (proc_of port d) d s at (next_call port s d)).next
+many_next port s at (passed d step answer) =
+    set_length _ d _ ∙ ap (λ (ns : List ℕ). length ns) (passed_keeps s at (next_call port s d) answer).next
 many_next port s at (passed_down d h) = refl
 many_next port s at (sent signal target) = refl
 
-event_next : (port : Port) (s : JobsState) (at : ℕ) (event : JobEvent) (c : ℕ) → c < length s.next → next_of (after_event port s at event) c ≡ next_of s c + one_if (is_answer_to c event)
+event_next : (port : Port) (s : JobsState) (at : ℕ) (event : JobEvent) (c : ℕ)
+    → c < length s.next
+    → next_of (after_event port s at event) c ≡ next_of s c + one_if (is_answer_to c event)
 event_next port s at (own d step answer) c known =
-    answered_next s (after_own (terminal_at port.journal at) (proc_of port d) d s at (next_call port s d)) d c (own_keeps (terminal_at port.journal at) (proc_of port d) d s at (next_call port s d)) known
-event_next port s at (passed d step answer) c known = answered_next s (after_passed s at (next_call port s d) answer) d c (passed_keeps s at (next_call port s d) answer) known
+    answered_next s (after_own (terminal_at port.journal at) (proc_of port d) d s at (next_call port s d)) d c
+    (own_keeps (terminal_at port.journal at) (proc_of port d) d s at (next_call port s d)) known
+event_next port s at (passed d step answer) c known =
+    answered_next s (after_passed s at (next_call port s d) answer) d c (passed_keeps s at (next_call port s d) answer)
+    known
 event_next port s at (passed_down d h) c known = omega arith
 event_next port s at (sent signal target) c known = omega arith
 
@@ -107,14 +134,18 @@ abbrev events_in : JobLog → List JobEvent
 events_in log = map (λ l. l.event) log
 
 -- each caller's next step counts its calls that were answered
-pub answers_counted : (port : Port) (s u : JobsState) (log : JobLog) (c : ℕ) → Leads port s log u → c < length s.next → next_of u c ≡ next_of s c + answered_by c (events_in log)
+pub answers_counted : (port : Port) (s u : JobsState) (log : JobLog) (c : ℕ)
+    → Leads port s log u
+    → c < length s.next
+    → next_of u c ≡ next_of s c + answered_by c (events_in log)
 answers_counted port s u [] c leads known = ap (λ (x : JobsState). next_of x c) leads ∙ omega arith
 answers_counted port s u (l ∷ log) c leads known =
     let next = after_event port s l.at l.event in
     let many = many_next port s l.at l.event in
     let rest = answers_counted port next u log c leads.3 (omega (arith, known, many)) in
     let here = event_next port s l.at l.event c known in
-    let more = answers_more (is_answer_to c l.event) (flat_map (λ e. if is_answer_to c e then 1 ∷ [] else []) (events_in log)) in
+    let more =
+    answers_more (is_answer_to c l.event) (flat_map (λ e. if is_answer_to c e then 1 ∷ [] else []) (events_in log)) in
     omega (arith, rest, here, more)
 
 -- ---- signals
@@ -127,22 +158,37 @@ below_if (y ∷ ys) (suc i) x is = let rest = below_if ys i x is in omega (arith
 not_none : (n : ℕ) → nat_le (suc n) 0 ≡ false
 not_none n = grind (arith, nat_tests)
 
-sent_more : (port : Port) (s : JobsState) (at : ℕ) (signal : JobSignal) (target : Target) (due : List JobEvent) → IsSent port s at signal target due → at ≤ length port.journal.entries
-    → s.signals ≤ length (raised_at port.journal (length port.journal.entries)) → (if nat_le (length due) 0 then s.signals + 1 else s.signals) ≤ length (raised_at port.journal (length port.journal.entries))
+sent_more : (port : Port) (s : JobsState) (at : ℕ) (signal : JobSignal) (target : Target) (due : List JobEvent)
+    → IsSent port s at signal target due
+    → at ≤ length port.journal.entries
+    → s.signals ≤ length (raised_at port.journal (length port.journal.entries))
+    → (if nat_le (length due) 0 then s.signals + 1 else s.signals)
+    ≤ length (raised_at port.journal (length port.journal.entries))
 sent_more port s at signal target [] is within few =
     let below = below_if (raised_at port.journal at) s.signals signal is.raised in
     let rise = raised_rise port.journal at (length port.journal.entries) within in
     omega (arith, below, rise)
-sent_more port s at signal target (e ∷ rest) is within few = (let same = ap (λ (b : Bool). if b then s.signals + 1 else s.signals) (not_none (length rest)) in omega (arith, few, same))
+sent_more port s at signal target (e ∷ rest) is within few =
+    (let same = ap (λ (b : Bool). if b then s.signals + 1 else s.signals) (not_none (length rest)) in
+    omega (arith, few, same))
 
-event_few : (port : Port) (s : JobsState) (at : ℕ) (event : JobEvent) → IsAllowed port s at event → at ≤ length port.journal.entries → s.signals ≤ length (raised_at port.journal (length port.journal.entries))
+event_few : (port : Port) (s : JobsState) (at : ℕ) (event : JobEvent)
+    → IsAllowed port s at event
+    → at ≤ length port.journal.entries
+    → s.signals ≤ length (raised_at port.journal (length port.journal.entries))
     → (after_event port s at event).signals ≤ length (raised_at port.journal (length port.journal.entries))
-event_few port s at (own d step answer) allowed within few = omega (arith, few, (own_keeps (terminal_at port.journal at) (proc_of port d) d s at (next_call port s d)).signals)
-event_few port s at (passed d step answer) allowed within few = omega (arith, few, (passed_keeps s at (next_call port s d) answer).signals)
+event_few port s at (own d step answer) allowed within few =
+    omega (arith, few, (own_keeps (terminal_at port.journal at) (proc_of port d) d s at (next_call port s d)).signals)
+event_few port s at (passed d step answer) allowed within few =
+    omega (arith, few, (passed_keeps s at (next_call port s d) answer).signals)
 event_few port s at (passed_down d h) allowed within few = few
 event_few port s at (sent signal target) allowed within few = sent_more port s at signal target s.due allowed within few
 
 -- no more signals were sent than the port has raised
-pub signals_few : (port : Port) (s u : JobsState) (log : JobLog) → Leads port s log u → s.signals ≤ length (raised_at port.journal (length port.journal.entries)) → u.signals ≤ length (raised_at port.journal (length port.journal.entries))
+pub signals_few : (port : Port) (s u : JobsState) (log : JobLog)
+    → Leads port s log u
+    → s.signals ≤ length (raised_at port.journal (length port.journal.entries))
+    → u.signals ≤ length (raised_at port.journal (length port.journal.entries))
 signals_few port s u [] leads few = omega (arith, few, ap (λ (x : JobsState). x.signals) leads)
-signals_few port s u (l ∷ log) leads few = signals_few port (after_event port s l.at l.event) u log leads.3 (event_few port s l.at l.event leads.2 leads.1 few)
+signals_few port s u (l ∷ log) leads few =
+    signals_few port (after_event port s l.at l.event) u log leads.3 (event_few port s l.at l.event leads.2 leads.1 few)

@@ -1,5 +1,6 @@
 -- A phase of a port of processes: from its beginning to its end, or as far as it went.
-use Rattle.std.proofs.Common.{◌≡◌, ◌≤◌, ◌<◌, ℕ, ◌+◌, Bool, true, false, List, [], ◌∷◌, ◌++◌, Option, None, length, map, if◌then◌else◌, refl, sym, ap, ◌∙◌, subst, arith, append_assoc, append-nil}
+use Rattle.std.proofs.Common.{◌≡◌, ◌≤◌, ◌<◌, ℕ, ◌+◌, Bool, true, false, List, [], ◌∷◌, ◌++◌, Option, None, length}
+use Rattle.std.proofs.Common.{map, if◌then◌else◌, refl, sym, ap, ◌∙◌, subst, arith, append_assoc, append-nil}
 use Rattle.std.specs.Prelude.{Result, Ok, Err, IfErr, IfOk, OnErr, slice_index_or}
 use Rattle.std.proofs.lemmas.Bool.{false≢true}
 use Rattle.tty_base.specs.declared.characters.Flagged.{Flagged}
@@ -52,39 +53,65 @@ use Rattle.job_ports.specs.Between.{IsBetween, IsStoppedBy, Setting, AreCastIn, 
 
 -- ---- the line
 
-abbrev pub line_begins : (s : Setting) (roles : List Role) (at : JobStation) (run : ℕ) (left : List (List JobCall)) (steps : List LineStep) (ticks : ℕ) (clock : Bool) → BeginsPhase s roles at at.station.port.terminal.phase run left steps ticks clock
+abbrev pub line_begins : (s : Setting) (roles : List Role) (at : JobStation) (run : ℕ) (left : List (List JobCall))
+    (steps : List LineStep) (ticks : ℕ) (clock : Bool)
+    → BeginsPhase s roles at at.station.port.terminal.phase run left steps ticks clock
     → BeginsLine steps at.station.port at.station.putter at.station.line run
 line_begins s roles at run left steps ticks clock h =
     let b = h.between.before in
-    begins_line s.first (block_phases s.session) (passed_by s.session s.first.port at.desk) steps at.station.port at.station.putter at.station.line run b.each b.has h.phase h.steps_are
+    begins_line s.first (block_phases s.session) (passed_by s.session s.first.port at.desk) steps at.station.port
+    at.station.putter at.station.line run b.each b.has h.phase h.steps_are
 
 -- a port in which no caller has begun a call, since none had before
-nothing_begun : (v w : PortValue) → ((c : ℕ) → HadBegun v w c) → ((c : ℕ) → begun_at v c ≡ false) → (c : ℕ) → begun_at w c ≡ false
+nothing_begun : (v w : PortValue)
+    → ((c : ℕ) → HadBegun v w c)
+    → ((c : ℕ) → begun_at v c ≡ false)
+    → (c : ℕ)
+    → begun_at w c ≡ false
 nothing_begun v w had none c = by_cases (begun_at w c) refl
   where
     by_cases : (b : Bool) → begun_at w c ≡ b → b ≡ false
     by_cases true is = absurd (false≢true (sym (none c) ∙ (had c is).0))
     by_cases false is = refl
 
-idle_first : (first : Scene) (session : JobsSession) (v : PortValue) (putter : PutterState Flagged) (line : LineState) (run : ℕ) (d : DeskState) → IsBeforeJobs first session v putter line run d → (c : ℕ) → begun_at v c ≡ false
+idle_first : (first : Scene) (session : JobsSession) (v : PortValue) (putter : PutterState Flagged) (line : LineState)
+    (run : ℕ) (d : DeskState)
+    → IsBeforeJobs first session v putter line run d
+    → (c : ℕ)
+    → begun_at v c ≡ false
 idle_first first session v putter line run d b c =
-    ap (λ (q : CallerState). has_begun q) ((b.each.each (scene_on first.port b.has.session) b.has.like b.has.agrees).0.callers c)
+    ap (λ (q : CallerState). has_begun q)
+    ((b.each.each (scene_on first.port b.has.session) b.has.like b.has.agrees).0.callers c)
 
 -- with nothing begun all that was passed down is logged
-only_logged : (session : JobsSession) (p : ℕ) (v : PortValue) (d x : DeskState) → ((c : ℕ) → begun_at v c ≡ false) → passings_on session x.log p ≡ passings_on session d.log p → (c : ℕ)
+only_logged : (session : JobsSession) (p : ℕ) (v : PortValue) (d x : DeskState)
+    → ((c : ℕ) → begun_at v c ≡ false)
+    → passings_on session x.log p ≡ passings_on session d.log p
+    → (c : ℕ)
     → passed_by session p d c ≡ passings_with session x.log p (value_at x) (begun_at v) c
 only_logged session p v d x none same c =
-    sym (ap (λ (b : Bool). by_caller c (passings_on session x.log p) ++ (if b then next_passing session p (value_at x) c ∷ [] else [])) (none c)
+    sym (ap (λ (b : Bool).
+    by_caller c (passings_on session x.log p) ++ (if b then next_passing session p (value_at x) c ∷ [] else []))
+    (none c)
     ∙ (append-nil (by_caller c (passings_on session x.log p)) ∙ ap (by_caller c) same))
 
 -- the same steps in a scene like it
-its_steps : (s : Setting) (at : JobStation) (k : ℕ) (steps : List LineStep) (z : Scene) → IsLike s.first z → steps ≡ line_on s.first.port (phase_at s.first.session k) → steps ≡ line_on z.port (phase_at z.session k)
+its_steps : (s : Setting) (at : JobStation) (k : ℕ) (steps : List LineStep) (z : Scene)
+    → IsLike s.first z
+    → steps ≡ line_on s.first.port (phase_at s.first.session k)
+    → steps ≡ line_on z.port (phase_at z.session k)
 its_steps s at k steps z like is =
-    is ∙ (sym (at_phase (line_on s.first.port) s.first.session z.session k like.shape.lines) ∙ λ i. line_on (sym like.port i) (phase_at z.session k))
+    is
+    ∙ (sym (at_phase (line_on s.first.port) s.first.session z.session k like.shape.lines)
+    ∙ λ i. line_on (sym like.port i) (phase_at z.session k))
 
-line_full : (s : Setting) (roles : List Role) (at : JobStation) (run : ℕ) (left : List (List JobCall)) (steps : List LineStep) (ticks : ℕ) (clock : Bool) (v : PortValue) (putter : PutterState Flagged) (line : LineState) (x : DeskState)
+line_full : (s : Setting) (roles : List Role) (at : JobStation) (run : ℕ) (left : List (List JobCall))
+    (steps : List LineStep) (ticks : ℕ) (clock : Bool) (v : PortValue) (putter : PutterState Flagged) (line : LineState)
+    (x : DeskState)
     → BeginsPhase s roles at at.station.port.terminal.phase run left steps ticks clock
-    → StopsItsLine Full steps at.station.port v at.station.putter putter at.station.line line run → StopsAlong at.station.port v at.desk x → IsPort v
+    → StopsItsLine Full steps at.station.port v at.station.putter putter at.station.line line run
+    → StopsAlong at.station.port v at.desk x
+    → IsPort v
     → IsJobsFull s.first s.session v putter line x
 line_full s roles at run left steps ticks clock v putter line x h stops along port =
     let first = s.first in
@@ -97,8 +124,11 @@ line_full s roles at run left steps ticks clock v putter line x h stops along po
     let begins = line_begins s roles at run left steps ticks clock h in
     let stopped = stops.each begins in
     let number : p ≡ d.number = b.date.stands.number in
-    let same : passings_on s.session x.log p ≡ passings_on s.session d.log p = subst (λ (n : ℕ). passings_on s.session x.log n ≡ passings_on s.session d.log n) (sym number) (along.alone.passes s.session) in
-    let none = nothing_begun old v along.begun (idle_first first s.session old at.station.putter at.station.line run d b) in
+    let same : passings_on s.session x.log p ≡ passings_on s.session d.log p =
+    subst (λ (n : ℕ). passings_on s.session x.log n ≡ passings_on s.session d.log n) (sym number)
+    (along.alone.passes s.session) in
+    let none =
+    nothing_begun old v along.begun (idle_first first s.session old at.station.putter at.station.line run d b) in
     let mine = only_logged s.session p v d x none same in
     record {
       port = port;
@@ -107,50 +137,82 @@ line_full s roles at run left steps ticks clock v putter line x h stops along po
       due = [];
       desk = (along.each first s.session b.date).desk;
       has = subst (λ (m : ℕ → List Passing). HasPassed first (block_phases s.session) m v) (λ i. λ c. mine c i)
-          (record { session = has.session; by = has.by; within = has.within; ports = has.ports; flips = has.flips; like = has.like; agrees = record { known = stopped.of_scene.known; in_phases = stopped.of_scene.in_phases } });
+          (record {
+            session = has.session;
+            by = has.by;
+            within = has.within;
+            ports = has.ports;
+            flips = has.flips;
+            like = has.like;
+            agrees = record { known = stopped.of_scene.known; in_phases = stopped.of_scene.in_phases };
+          });
       full = λ z like agrees.
           let agreed = before_all z old v stopped.part (stops.each begins).added (same_kept old v along.kept) agrees in
           let there = b.each.each z like agreed in
-          let within : k < length z.session.phases = subst (λ (n : ℕ). k < n) (sym (phases_same p first.session z.session like.shape)) h.phase in
+          let within : k < length z.session.phases =
+          subst (λ (n : ℕ). k < n) (sym (phases_same p first.session z.session like.shape)) h.phase in
           let at_line : BeginsInOrder steps old at.station.putter at.station.line run = record {
             scene = z;
             begins = there.0;
             within = within;
             steps_are = its_steps s at k steps z like h.steps_are;
           } in
-          stopped_in_line Full z k old v at.station.putter putter at.station.line line run within there.0 there.1 (stops.in_order at_line);
+          stopped_in_line Full z k old v at.station.putter putter at.station.line line run within there.0 there.1
+          (stops.in_order at_line);
     }
 
 -- ---- behind the line
 
 -- the phase as the player's functions speak of it
 abbrev pub frame_of : Setting → PortValue → (ticks : ℕ) → Frame
-frame_of s v ticks = record { first = s.first; session = s.session; scripts = scripts_in s.first.port s.callers v.terminal.phase; start = v; ticks = ticks }
+frame_of s v ticks = record {
+  first = s.first;
+  session = s.session;
+  scripts = scripts_in s.first.port s.callers v.terminal.phase;
+  start = v;
+  ticks = ticks;
+}
 
-same_procs : (p : ℕ) (session : JobsSession) (d x : DeskState) → IsSameDesk d x → HasProcs p session d → HasProcs p session x
+same_procs : (p : ℕ) (session : JobsSession) (d x : DeskState)
+    → IsSameDesk d x
+    → HasProcs p session d
+    → HasProcs p session x
 same_procs p session d x same h =
     let callers = same.callers in
     record {
       callers = ap (λ (cs : List ℕ). length cs) callers ∙ h.callers;
       next = ap (λ (ns : List ℕ). length ns) same.next ∙ h.next;
-      each = subst (λ (cs : List ℕ). (c : ℕ) → c < length cs → slice_index_or cs c 0 ≡ proc_in session p c) (sym callers) h.each;
-      known = subst (λ js. (c : ℕ) → c < length x.callers → slice_index_or x.callers c 0 < length js.procs) (sym same.jobs)
-          (subst (λ (cs : List ℕ). (c : ℕ) → c < length cs → slice_index_or cs c 0 < length d.jobs.procs) (sym callers) h.known);
+      each = subst (λ (cs : List ℕ). (c : ℕ) → c < length cs → slice_index_or cs c 0 ≡ proc_in session p c)
+          (sym callers) h.each;
+      known =
+          subst (λ js. (c : ℕ) → c < length x.callers → slice_index_or x.callers c 0 < length js.procs) (sym same.jobs)
+          (subst (λ (cs : List ℕ). (c : ℕ) → c < length cs → slice_index_or cs c 0 < length d.jobs.procs) (sym callers)
+          h.known);
     }
 
-roles_of_each : (s : Setting) (roles : List Role) (at : JobStation) (run : ℕ) (left : List (List JobCall)) (steps : List LineStep) (ticks : ℕ) (clock : Bool) (mid : PortValue) (putter : PutterState Flagged) (line : LineState) (later : ℕ)
+roles_of_each : (s : Setting) (roles : List Role) (at : JobStation) (run : ℕ) (left : List (List JobCall))
+    (steps : List LineStep) (ticks : ℕ) (clock : Bool) (mid : PortValue) (putter : PutterState Flagged)
+    (line : LineState) (later : ℕ)
     → BeginsPhase s roles at at.station.port.terminal.phase run left steps ticks clock
     → PlaysItsLine steps at.station.port mid at.station.putter putter at.station.line line run later
-    → AreRolesOfEach s.first (scripts_in s.first.port s.callers at.station.port.terminal.phase) roles at.station.port.terminal.phase mid
+    → AreRolesOfEach s.first (scripts_in s.first.port s.callers at.station.port.terminal.phase)
+    roles at.station.port.terminal.phase mid
 roles_of_each s roles at run left steps ticks clock mid putter line later h plays =
     let cast = h.roles_are in
-    roles_each s.first s.callers (names_in s.first) cast.steps roles steps at.station.port mid at.station.putter putter at.station.line line run later h.between.before.each
+    roles_each s.first s.callers (names_in s.first) cast.steps roles steps at.station.port mid at.station.putter
+    putter at.station.line line run later h.between.before.each
     (line_begins s roles at run left steps ticks clock h) plays h.phase h.own refl cast.next cast.cast
 
-pub turns_begin : (s : Setting) (roles : List Role) (at : JobStation) (run : ℕ) (left : List (List JobCall)) (steps : List LineStep) (ticks : ℕ) (clock : Bool) (mid : PortValue) (putter : PutterState Flagged) (line : LineState) (later : ℕ) (x : DeskState)
+pub turns_begin : (s : Setting) (roles : List Role) (at : JobStation) (run : ℕ) (left : List (List JobCall))
+    (steps : List LineStep) (ticks : ℕ) (clock : Bool) (mid : PortValue) (putter : PutterState Flagged)
+    (line : LineState) (later : ℕ) (x : DeskState)
     → BeginsPhase s roles at at.station.port.terminal.phase run left steps ticks clock
-    → PlaysItsLine steps at.station.port mid at.station.putter putter at.station.line line run later → SendsAlong at.station.port mid at.desk x → IsPort mid
-    → BeginsTurns (frame_of s mid ticks) roles mid x (record { run = later; part = 0; ticks = ticks; going = None }) left × (putter.ring ≡ mid.flip.ring)
+    → PlaysItsLine steps at.station.port mid at.station.putter putter at.station.line line run later
+    → SendsAlong at.station.port mid at.desk x
+    → IsPort mid
+    → BeginsTurns (frame_of s mid ticks) roles mid x (record { run = later; part = 0; ticks = ticks; going = None })
+    left
+    × (putter.ring ≡ mid.flip.ring)
 turns_begin s roles at run left steps ticks clock mid putter line later x h plays along port =
     let first = s.first in
     let p = first.port in
@@ -161,22 +223,27 @@ turns_begin s roles at run left steps ticks clock mid putter line later x h play
     let on = plays.each (line_begins s roles at run left steps ticks clock h) in
     let phase : mid.terminal.phase ≡ k = on.phase in
     let scripts : (j : ℕ) → Scene → List Script = scripts_in p s.callers in
-    let plays_first = phase_begins first s.session (scripts k) roles steps old mid at.station.putter putter at.station.line line run later ticks d x b plays along h.phase h.steps_are h.ticks_are port
+    let plays_first = phase_begins first s.session (scripts k) roles steps old mid at.station.putter putter
+    at.station.line line run later ticks d x b plays along h.phase h.steps_are h.ticks_are port
     (roles_of_each s roles at run left steps ticks clock mid putter line later h plays) in (
       record {
         at = record {
           number = b.date.stands.number ∙ sym along.alone.same.number;
-          playing = subst (λ (j : ℕ). IsPlayingJobs first s.session (scripts j) roles mid x.log mid (value_at x) ticks (record { run = later; part = 0; ticks = ticks; going = None })) (sym phase) plays_first;
+          playing = subst (λ (j : ℕ). IsPlayingJobs first s.session (scripts j) roles mid x.log mid (value_at x) ticks
+              (record { run = later; part = 0; ticks = ticks; going = None }))
+              (sym phase) plays_first;
           all_sent = (along.each first s.session b.date).all_sent;
         };
         frame = record {
           within = h.within;
           of_blocks = h.scene.of_blocks;
-          blocks = blocks_same s.session.ports s.session.flips first.session.ports first.session.flips (block_phases s.session) h.scene.ports h.scene.flips h.within.blocks;
+          blocks = blocks_same s.session.ports s.session.flips first.session.ports first.session.flips
+              (block_phases s.session) h.scene.ports h.scene.flips h.within.blocks;
         };
         procs = same_procs p s.session d x along.alone.same h.between.procs;
         none_over = λ c. ap (λ (q : CallerState). q.over) (on.after_line.callers c);
-        calls = subst (λ (j : ℕ). AreLeft p j s.session roles x.next left) (sym phase) (subst (λ (ns : List ℕ). AreLeft p k s.session roles ns left) (sym along.alone.same.next) h.calls);
+        calls = subst (λ (j : ℕ). AreLeft p j s.session roles x.next left) (sym phase)
+            (subst (λ (ns : List ℕ). AreLeft p k s.session roles ns left) (sym along.alone.same.next) h.calls);
       },
       on.has_put.ring,
     )
@@ -184,8 +251,10 @@ turns_begin s roles at run left steps ticks clock mid putter line later x h play
 -- ---- up to the end of the phase
 
 -- the scene that the port has played, at the end of the phase
-pub phase_over : (s : Setting) (roles : List Role) (at : JobStation) (run : ℕ) (left : List (List JobCall)) (steps : List LineStep) (ticks : ℕ) (clock : Bool) (mid : PortValue) (putter : PutterState Flagged) (line : LineState) (later : ℕ) (x : DeskState)
-    (new : PortValue) (now : PutterState Flagged) (y : DeskState) (next : ℕ)
+pub phase_over : (s : Setting) (roles : List Role) (at : JobStation) (run : ℕ) (left : List (List JobCall))
+    (steps : List LineStep) (ticks : ℕ) (clock : Bool) (mid : PortValue) (putter : PutterState Flagged)
+    (line : LineState) (later : ℕ) (x : DeskState) (new : PortValue) (now : PutterState Flagged) (y : DeskState)
+    (next : ℕ)
     → BeginsPhase s roles at at.station.port.terminal.phase run left steps ticks clock
     → PlaysItsLine steps at.station.port mid at.station.putter putter at.station.line line run later
     → EndsTurns (frame_of s mid ticks) roles new putter now y next
@@ -202,11 +271,13 @@ phase_over s roles at run left steps ticks clock mid putter line later x new now
     let v = ends.last in
     let phases = block_phases s.session in
     let mine = passings_with s.session y.log p (value_at y) (begun_at v) in
-    let both = end_on first phases scripts roles mid mine v new putter now ticks ends.stand next ends.at.playing.playing ends.is_end ends.ends ends.adds in
+    let both = end_on first phases scripts roles mid mine v new putter now ticks ends.stand
+    next ends.at.playing.playing ends.is_end ends.ends ends.adds in
     let z = scene_on p both.1.session in
     let ended : EndsAfterLine z mid new putter now next = both.0.each z both.1.like both.1.agrees in
     let agrees_mid = before_all z mid new (ended.part ++ ended.last ∷ []) ended.added both.0.grows both.1.agrees in
-    let agrees_old = before_all z old mid (on.flushes ++ on.last ∷ []) on.added (same_kept old mid on.kept) agrees_mid in
+    let agrees_old =
+    before_all z old mid (on.flushes ++ on.last ∷ []) on.added (same_kept old mid on.kept) agrees_mid in
     let at_old : IsAtPhase z k old at.station.putter at.station.line run = (b.each.each z both.1.like agrees_old).0 in
     let here : PlaysLine z k old mid putter at.station.line line later = plays.in_order (record {
       scene = z;
@@ -214,19 +285,26 @@ phase_over s roles at run left steps ticks clock mid putter line later x new now
       within = subst (λ (n : ℕ). k < n) (sym (phases_same p first.session z.session both.1.like.shape)) h.phase;
       steps_are = h.steps_are ∙ sym (at_phase (line_on p) first.session z.session k both.1.like.shape.lines);
     }) in
-    let steps_then : (c : ℕ) → slice_index_or y.next c 0 ≡ begin_of p phases (k + 1) c = λ c. ends.steps c ∙ ap (λ (j : ℕ). begin_of p phases (j + 1) c) on.phase in (
-      phase_ends first s.session scripts roles steps old mid v new at.station.putter putter now at.station.line line run later next ticks ends.stand d y b plays h.phase h.steps_are ends.at.playing ends.at.number ends.at.all_sent ends.is_end ends.ends ends.adds
+    let steps_then : (c : ℕ) → slice_index_or y.next c 0 ≡ begin_of p phases (k + 1) c = λ c.
+    ends.steps c ∙ ap (λ (j : ℕ). begin_of p phases (j + 1) c) on.phase in (
+      phase_ends first s.session scripts roles steps old mid v new at.station.putter putter now at.station.line line run
+          later next ticks ends.stand d y b plays h.phase h.steps_are ends.at.playing ends.at.number
+          ends.at.all_sent ends.is_end ends.ends ends.adds
           ends.was_port ends.is_port steps_then,
-      (at_next_phase z k old mid new at.station.putter putter now at.station.line line run later next at_old here ended).phase,
+      (at_next_phase z k old mid new at.station.putter putter
+          now at.station.line line run later next at_old here ended).phase,
     )
 
 -- ---- as far as it went
 
-pub turns_full : (s : Setting) (roles : List Role) (at : JobStation) (run : ℕ) (left : List (List JobCall)) (steps : List LineStep) (ticks : ℕ) (clock : Bool) (mid : PortValue) (putter : PutterState Flagged) (line : LineState) (later : ℕ)
-    (v : PortValue) (now : PutterState Flagged) (y : DeskState)
+pub turns_full : (s : Setting) (roles : List Role) (at : JobStation) (run : ℕ) (left : List (List JobCall))
+    (steps : List LineStep) (ticks : ℕ) (clock : Bool) (mid : PortValue) (putter : PutterState Flagged)
+    (line : LineState) (later : ℕ) (v : PortValue) (now : PutterState Flagged) (y : DeskState)
     → BeginsPhase s roles at at.station.port.terminal.phase run left steps ticks clock
     → PlaysItsLine steps at.station.port mid at.station.putter putter at.station.line line run later
-    → FillsTurns (frame_of s mid ticks) roles v y → now ≡ putter → IsPort v
+    → FillsTurns (frame_of s mid ticks) roles v y
+    → now ≡ putter
+    → IsPort v
     → IsJobsFull s.first s.session v now line y
 turns_full s roles at run left steps ticks clock mid putter line later v now y h plays fills same port =
     let first = s.first in
@@ -237,7 +315,8 @@ turns_full s roles at run left steps ticks clock mid putter line later v now y h
     let on = plays.each (line_begins s roles at run left steps ticks clock h) in
     let playing = fills.playing.playing in
     let has = playing.has in
-    let mine : Playing (scene_on p has.session) _ roles mid v ticks fills.stand = playing.each.each (scene_on p has.session) has.like has.agrees in
+    let mine : Playing (scene_on p has.session) _ roles mid v ticks fills.stand =
+    playing.each.each (scene_on p has.session) has.like has.agrees in
     record {
       port = port;
       number = fills.number;
@@ -248,9 +327,11 @@ turns_full s roles at run left steps ticks clock mid putter line later v now y h
       full = λ z like agrees.
           let its = playing.each.each z like agrees in
           let agrees_mid = before_all z mid v its.part its.added playing.each.grows agrees in
-          let agrees_old = before_all z old mid (on.flushes ++ on.last ∷ []) on.added (same_kept old mid on.kept) agrees_mid in
+          let agrees_old =
+          before_all z old mid (on.flushes ++ on.last ∷ []) on.added (same_kept old mid on.kept) agrees_mid in
           let there = b.each.each z like agrees_old in
-          let within : k < length z.session.phases = subst (λ (n : ℕ). k < n) (sym (phases_same p first.session z.session like.shape)) h.phase in
+          let within : k < length z.session.phases =
+          subst (λ (n : ℕ). k < n) (sym (phases_same p first.session z.session like.shape)) h.phase in
           let here : PlaysLine z k old mid putter at.station.line line later = plays.in_order (record {
             scene = z;
             begins = there.0;
@@ -259,7 +340,9 @@ turns_full s roles at run left steps ticks clock mid putter line later v now y h
           }) in
           let tick = its.tick in
           let ticks_same : ticks ≡ ticks_on z.port (phase_at z.session mid.terminal.phase) =
-          playing.each.ticks_are ∙ sym ((λ i. ticks_on (like.port i) (phase_at z.session mid.terminal.phase)) ∙ at_phase (ticks_on p) first.session z.session mid.terminal.phase like.ticks) in
+          playing.each.ticks_are
+          ∙ sym ((λ i. ticks_on (like.port i) (phase_at z.session mid.terminal.phase))
+          ∙ at_phase (ticks_on p) first.session z.session mid.terminal.phase like.ticks) in
           let stops : StopsAfterLine z mid v Full = record {
             part = its.part;
             added = its.added;
@@ -270,30 +353,53 @@ turns_full s roles at run left steps ticks clock mid putter line later v now y h
             full = fills.full;
             ring = its.ring;
           } in
-          stopped_after_line Full z k old mid v at.station.putter putter now at.station.line line run later within there.0 there.1 here stops same;
+          stopped_after_line Full z k old mid v at.station.putter putter now at.station.line
+          line run later within there.0 there.1 here stops same;
     }
 
 -- whatever it was denied for
-pub turns_stop : (denied : Denied) (s : Setting) (roles : List Role) (at : JobStation) (run : ℕ) (left : List (List JobCall)) (steps : List LineStep) (ticks : ℕ) (clock : Bool) (mid : PortValue) (putter : PutterState Flagged) (line : LineState) (later : ℕ)
-    (then_at : JobStation) (v : PortValue) (now : PutterState Flagged) (y : DeskState)
+pub turns_stop : (denied : Denied) (s : Setting) (roles : List Role) (at : JobStation) (run : ℕ)
+    (left : List (List JobCall)) (steps : List LineStep) (ticks : ℕ) (clock : Bool) (mid : PortValue)
+    (putter : PutterState Flagged) (line : LineState) (later : ℕ) (then_at : JobStation) (v : PortValue)
+    (now : PutterState Flagged) (y : DeskState)
     → BeginsPhase s roles at at.station.port.terminal.phase run left steps ticks clock
     → PlaysItsLine steps at.station.port mid at.station.putter putter at.station.line line run later
-    → StopsTurns denied (frame_of s mid ticks) roles v y → now ≡ putter → IsPort v
-    → then_at.station.port ≡ v → then_at.station.putter ≡ now → then_at.station.line ≡ line → then_at.desk ≡ y → IsStoppedBy denied s.first s.session then_at
-turns_stop NoMemory s roles at run left steps ticks clock mid putter line later then_at v now y h plays stops same port a b c e = tt
-turns_stop Full s roles at run left steps ticks clock mid putter line later then_at v now y h plays stops same port a b c e =
+    → StopsTurns denied (frame_of s mid ticks) roles v y
+    → now ≡ putter
+    → IsPort v
+    → then_at.station.port ≡ v
+    → then_at.station.putter ≡ now
+    → then_at.station.line ≡ line
+    → then_at.desk ≡ y
+    → IsStoppedBy denied s.first s.session then_at
+turns_stop NoMemory s roles at run left steps ticks clock mid putter
+    line later then_at v now y h plays stops same port a b c e = tt
+turns_stop Full s roles at run left steps ticks clock mid putter
+    line later then_at v now y h plays stops same port a b c e =
     let full = turns_full s roles at run left steps ticks clock mid putter line later v now y h plays stops same port in
-    subst (λ (q : PortValue). IsJobsFull s.first s.session q then_at.station.putter then_at.station.line then_at.desk) (sym a)
+    subst (λ (q : PortValue). IsJobsFull s.first s.session q then_at.station.putter then_at.station.line then_at.desk)
+    (sym a)
     (subst (λ (q : PutterState Flagged). IsJobsFull s.first s.session v q then_at.station.line then_at.desk) (sym b)
-    (subst (λ (q : LineState). IsJobsFull s.first s.session v now q then_at.desk) (sym c) (subst (λ (q : DeskState). IsJobsFull s.first s.session v now line q) (sym e) full)))
+    (subst (λ (q : LineState). IsJobsFull s.first s.session v now q then_at.desk) (sym c)
+    (subst (λ (q : DeskState). IsJobsFull s.first s.session v now line q) (sym e) full)))
 
-pub line_stops : (denied : Denied) (s : Setting) (roles : List Role) (at : JobStation) (run : ℕ) (left : List (List JobCall)) (steps : List LineStep) (ticks : ℕ) (clock : Bool) (then_at : JobStation) (v : PortValue) (putter : PutterState Flagged) (line : LineState) (x : DeskState)
+pub line_stops : (denied : Denied) (s : Setting) (roles : List Role) (at : JobStation) (run : ℕ)
+    (left : List (List JobCall)) (steps : List LineStep) (ticks : ℕ) (clock : Bool) (then_at : JobStation)
+    (v : PortValue) (putter : PutterState Flagged) (line : LineState) (x : DeskState)
     → BeginsPhase s roles at at.station.port.terminal.phase run left steps ticks clock
-    → StopsItsLine denied steps at.station.port v at.station.putter putter at.station.line line run → StopsBy denied at.station.port v at.desk x → IsPort v
-    → then_at.station.port ≡ v → then_at.station.putter ≡ putter → then_at.station.line ≡ line → then_at.desk ≡ x → IsStoppedBy denied s.first s.session then_at
+    → StopsItsLine denied steps at.station.port v at.station.putter putter at.station.line line run
+    → StopsBy denied at.station.port v at.desk x
+    → IsPort v
+    → then_at.station.port ≡ v
+    → then_at.station.putter ≡ putter
+    → then_at.station.line ≡ line
+    → then_at.desk ≡ x
+    → IsStoppedBy denied s.first s.session then_at
 line_stops NoMemory s roles at run left steps ticks clock then_at v putter line x h stops along port a b c e = tt
 line_stops Full s roles at run left steps ticks clock then_at v putter line x h stops along port a b c e =
     let full = line_full s roles at run left steps ticks clock v putter line x h stops along port in
-    subst (λ (q : PortValue). IsJobsFull s.first s.session q then_at.station.putter then_at.station.line then_at.desk) (sym a)
+    subst (λ (q : PortValue). IsJobsFull s.first s.session q then_at.station.putter then_at.station.line then_at.desk)
+    (sym a)
     (subst (λ (q : PutterState Flagged). IsJobsFull s.first s.session v q then_at.station.line then_at.desk) (sym b)
-    (subst (λ (q : LineState). IsJobsFull s.first s.session v putter q then_at.desk) (sym c) (subst (λ (q : DeskState). IsJobsFull s.first s.session v putter line q) (sym e) full)))
+    (subst (λ (q : LineState). IsJobsFull s.first s.session v putter q then_at.desk) (sym c)
+    (subst (λ (q : DeskState). IsJobsFull s.first s.session v putter line q) (sym e) full)))

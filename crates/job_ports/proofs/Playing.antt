@@ -1,5 +1,7 @@
 -- A session that was played, and the port that it agrees with: hung up after all phases, or full.
-use Rattle.std.proofs.Common.{◌≡◌, ◌≢◌, ◌≤◌, ◌<◌, ◌⊎◌, inl, inr, ℕ, zero, suc, ◌+◌, ◌==◌, Bool, true, false, List, [], ◌∷◌, ◌++◌, Option, length, map, take, sum, flat_map, refl, sym, ap, ◌∙◌, subst, arith, append-nil, length-append}
+use Rattle.std.proofs.Common.{◌≡◌, ◌≢◌, ◌≤◌, ◌<◌, ◌⊎◌, inl, inr, ℕ, zero, suc, ◌+◌, ◌==◌, Bool}
+use Rattle.std.proofs.Common.{true, false, List, [], ◌∷◌, ◌++◌, Option, length, map, take, sum}
+use Rattle.std.proofs.Common.{flat_map, refl, sym, ap, ◌∙◌, subst, arith, append-nil, length-append}
 use Rattle.std.specs.Prelude.{slice_get, slice_index_or}
 use Rattle.std.proofs.lemmas.List.{length-map}
 use Rattle.tty_base.specs.declared.characters.Flagged.{Flagged}
@@ -54,17 +56,32 @@ use Rattle.job_ports.proofs.Started.{mine_is, nothing_begun, within_of}
 
 -- ---- a session that was played so
 
-passed_then : (session : JobsSession) (p : ℕ) (ms : List Passing) (mine : ℕ → List Passing) (played : PlainSession) → ((c : ℕ) → by_caller c ms ≡ mine c) → IsPlayedWith session p ms played → IsPassedBy p (block_phases session) mine played
-passed_then session p ms mine played same h = record { passed = h.passed.passed; are = h.passed.are; by = λ c. h.passed.by c ∙ same c }
+passed_then : (session : JobsSession) (p : ℕ) (ms : List Passing) (mine : ℕ → List Passing) (played : PlainSession)
+    → ((c : ℕ) → by_caller c ms ≡ mine c)
+    → IsPlayedWith session p ms played
+    → IsPassedBy p (block_phases session) mine played
+passed_then session p ms mine played same h =
+    record { passed = h.passed.passed; are = h.passed.are; by = λ c. h.passed.by c ∙ same c }
 
-like_played : (first : Scene) (session : JobsSession) (ms : List Passing) (mine : ℕ → List Passing) (played : PlainSession) → ((c : ℕ) → by_caller c ms ≡ mine c) → IsSceneOf first session → IsPlayedWith session first.port ms played
+like_played : (first : Scene) (session : JobsSession) (ms : List Passing) (mine : ℕ → List Passing)
+    (played : PlainSession)
+    → ((c : ℕ) → by_caller c ms ≡ mine c)
+    → IsSceneOf first session
+    → IsPlayedWith session first.port ms played
     → IsLike first (scene_on first.port played)
 like_played first session ms mine played same scene h =
-    like_first first (block_phases session) mine played scene.of_blocks (passed_then session first.port ms mine played same h)
-    (ap (λ n. n == 0) (h.version ∙ sym scene.version)) (ap (λ (ns : List ℕ). slice_index_or ns first.port 0) (h.flips ∙ sym scene.flips)) h.limits
+    like_first first (block_phases session) mine played scene.of_blocks
+    (passed_then session first.port ms mine played same h)
+    (ap (λ n. n == 0) (h.version ∙ sym scene.version))
+    (ap (λ (ns : List ℕ). slice_index_or ns first.port 0) (h.flips ∙ sym scene.flips)) h.limits
 
-agrees_played : (first : Scene) (session : JobsSession) (v : PortValue) (ms : List Passing) (mine : ℕ → List Passing) (played : PlainSession) → ((c : ℕ) → by_caller c ms ≡ mine c) → IsSceneOf first session
-    → HasPassed first (block_phases session) mine v → IsPlayedWith session first.port ms played → Agrees (scene_on first.port played) v
+agrees_played : (first : Scene) (session : JobsSession) (v : PortValue) (ms : List Passing) (mine : ℕ → List Passing)
+    (played : PlainSession)
+    → ((c : ℕ) → by_caller c ms ≡ mine c)
+    → IsSceneOf first session
+    → HasPassed first (block_phases session) mine v
+    → IsPlayedWith session first.port ms played
+    → Agrees (scene_on first.port played) v
 agrees_played first session v ms mine played same scene has h =
     let p = first.port in
     let phases = block_phases session in
@@ -72,15 +89,19 @@ agrees_played first session v ms mine played same scene has h =
     let shape = (like_played first session ms mine played same scene h).shape in
     let consoles = shape.consoles ∙ sym has.like.shape.consoles in
     let flip = shape.flip ∙ sym has.like.shape.flip in
-    agrees_alike p phases mine has.session played v (same_shape p phases has.session played consoles flip (of_blocks p phases mine has.session has.by) (of_blocks p phases mine played then)) has.by then has.agrees
+    agrees_alike p phases mine has.session played v
+    (same_shape p phases has.session played consoles flip (of_blocks p phases mine has.session has.by)
+    (of_blocks p phases mine played then)) has.by then has.agrees
 
 -- ---- the journal once the port was hung up
 
-standing_more : (c : ℕ) (es : List PlainEntry) (e : PlainEntry) (q : Standing) → standing_in c (es ++ e ∷ []) q ≡ standing_after c e (standing_in c es q)
+standing_more : (c : ℕ) (es : List PlainEntry) (e : PlainEntry) (q : Standing)
+    → standing_in c (es ++ e ∷ []) q ≡ standing_after c e (standing_in c es q)
 standing_more c [] e q = refl
 standing_more c (x ∷ es) e q = standing_more c es e (standing_after c x q)
 
-after_append : (f : ℕ → ℕ → Option PlainCall) (t : Terminal) (es : List PlainEntry) (e : PlainEntry) → terminal_after f t (es ++ e ∷ []) ≡ after f (terminal_after f t es) e
+after_append : (f : ℕ → ℕ → Option PlainCall) (t : Terminal) (es : List PlainEntry) (e : PlainEntry)
+    → terminal_after f t (es ++ e ∷ []) ≡ after f (terminal_after f t es) e
 after_append f t [] e = refl
 after_append f t (x ∷ es) e = after_append f (after f t x) es e
 
@@ -89,31 +110,49 @@ take_all [] = refl
 take_all (x ∷ xs) = λ i. x ∷ take_all xs i
 
 -- nobody has begun a call in it, where nobody has before
-idle_then : (v : PortValue) (journal : List PlainEntry) (c : ℕ) → IsPort v → EndsJournal v journal → has_begun (caller_at v.terminal c) ≡ false → (standing_in c journal at_first).begun ≡ false
+idle_then : (v : PortValue) (journal : List PlainEntry) (c : ℕ)
+    → IsPort v
+    → EndsJournal v journal
+    → has_begun (caller_at v.terminal c) ≡ false
+    → (standing_in c journal at_first).begun ≡ false
 idle_then v journal c port (inl same) idle =
     ap (λ (es : List PlainEntry). (standing_in c es at_first).begun) same
-    ∙ (sym (ap (λ (q : Standing). q.begun) (run_stands (call_in v.kept) v.counts v.flip.capacity v.journal v.terminal port.run c)) ∙ idle)
+    ∙ (sym (ap (λ (q : Standing). q.begun)
+    (run_stands (call_in v.kept) v.counts v.flip.capacity v.journal v.terminal port.run c))
+    ∙ idle)
 idle_then v journal c port (inr h) idle =
     ap (λ (es : List PlainEntry). (standing_in c es at_first).begun) h.1
     ∙ (ap (λ (q : Standing). q.begun) (standing_more c v.journal (hangup_entry v h.0) at_first)
-    ∙ (sym (ap (λ (q : Standing). q.begun) (run_stands (call_in v.kept) v.counts v.flip.capacity v.journal v.terminal port.run c)) ∙ idle))
+    ∙ (sym (ap (λ (q : Standing). q.begun)
+    (run_stands (call_in v.kept) v.counts v.flip.capacity v.journal v.terminal port.run c))
+    ∙ idle))
 
 -- the port can come to it
-later_then : (v : PortValue) (journal : List PlainEntry) → EndsJournal v journal → (rest : List PlainEntry) × (journal ≡ v.journal ++ rest)
+later_then : (v : PortValue) (journal : List PlainEntry)
+    → EndsJournal v journal
+    → (rest : List PlainEntry) × (journal ≡ v.journal ++ rest)
 later_then v journal (inl same) = ([], same ∙ sym (append-nil v.journal))
 later_then v journal (inr h) = (hangup_entry v h.0 ∷ [], h.1)
 
 -- and it has raised no more signals
-raised_then : (v : PortValue) (j : Journal) → IsPort v → IsLater v j → EndsJournal v j.entries → length (raised_at j (length j.entries)) ≡ length (signals_of v.terminal)
+raised_then : (v : PortValue) (j : Journal)
+    → IsPort v
+    → IsLater v j
+    → EndsJournal v j.entries
+    → length (raised_at j (length j.entries)) ≡ length (signals_of v.terminal)
 raised_then v j port later (inl same) =
     length-map (signals_of (terminal_at j (length j.entries))) job_signal
-    ∙ ap (λ (t : Terminal). length (signals_of t)) (ap (λ (es : List PlainEntry). terminal_at j (length es)) same ∙ terminal_now v j port later)
+    ∙ ap (λ (t : Terminal). length (signals_of t))
+    (ap (λ (es : List PlainEntry). terminal_at j (length es)) same ∙ terminal_now v j port later)
 raised_then v j port later (inr h) =
     let e = hangup_entry v h.0 in
-    let first : take (length v.journal) j.entries ≡ v.journal = ap (λ (es : List PlainEntry). take (length v.journal) es) h.1 ∙ front v.journal (e ∷ []) in
-    let was : terminal_after j.calls j.opening v.journal ≡ v.terminal = ap (λ (es : List PlainEntry). terminal_after j.calls j.opening es) (sym first) ∙ terminal_now v j port later in
+    let first : take (length v.journal) j.entries ≡ v.journal =
+    ap (λ (es : List PlainEntry). take (length v.journal) es) h.1 ∙ front v.journal (e ∷ []) in
+    let was : terminal_after j.calls j.opening v.journal ≡ v.terminal =
+    ap (λ (es : List PlainEntry). terminal_after j.calls j.opening es) (sym first) ∙ terminal_now v j port later in
     let total : terminal_at j (length j.entries) ≡ after j.calls v.terminal e =
-    ap (λ (es : List PlainEntry). terminal_after j.calls j.opening es) (take_all j.entries ∙ h.1) ∙ (after_append j.calls j.opening v.journal e ∙ ap (λ (t : Terminal). after j.calls t e) was) in
+    ap (λ (es : List PlainEntry). terminal_after j.calls j.opening es) (take_all j.entries ∙ h.1)
+    ∙ (after_append j.calls j.opening v.journal e ∙ ap (λ (t : Terminal). after j.calls t e) was) in
     length-map (signals_of (terminal_at j (length j.entries))) job_signal
     ∙ ap (λ (ss : List Signal). length ss) (ap signals_of total ∙ entry_still j.calls v.terminal e refl)
 
@@ -121,9 +160,16 @@ raised_then v j port later (inr h) =
 
 -- the journal of a port in the session that was played
 abbrev journal_in : ℕ → PlainSession → List PlainEntry → Journal
-journal_in p played journal = record { entries = journal; calls = call_at p played; opening = opening (sum (counts_on p played)) (flip_on p played) }
+journal_in p played journal = record {
+  entries = journal;
+  calls = call_at p played;
+  opening = opening (sum (counts_on p played)) (flip_on p played);
+}
 
-is_later : (s : Scene) (v : PortValue) (journal rest : List PlainEntry) → IsOfScene s v → journal ≡ v.journal ++ rest → IsLater v (journal_in s.port s.session journal)
+is_later : (s : Scene) (v : PortValue) (journal rest : List PlainEntry)
+    → IsOfScene s v
+    → journal ≡ v.journal ++ rest
+    → IsLater v (journal_in s.port s.session journal)
 is_later s v journal rest of entries =
     record {
       opens = λ i. opening (sum (sym of.counts i)) (sym of.capacity i);
@@ -133,8 +179,13 @@ is_later s v journal rest of entries =
     }
 
 -- its log is one of it
-logged_in : (first : Scene) (session : JobsSession) (played : PlainSession) (v : PortValue) (d : DeskState) (due : List JobEvent) (journal rest : List PlainEntry) → IsDeskAt first session d.log v d.jobs d.next d.sent due
-    → IsLike first (scene_on first.port played) → Agrees (scene_on first.port played) v → IsOfScene (scene_on first.port played) v → journal ≡ v.journal ++ rest
+logged_in : (first : Scene) (session : JobsSession) (played : PlainSession) (v : PortValue) (d : DeskState)
+    (due : List JobEvent) (journal rest : List PlainEntry)
+    → IsDeskAt first session d.log v d.jobs d.next d.sent due
+    → IsLike first (scene_on first.port played)
+    → Agrees (scene_on first.port played) v
+    → IsOfScene (scene_on first.port played) v
+    → journal ≡ v.journal ++ rest
     → IsLogged played (port_in session played first.port journal) d.log
 logged_in first session played v d due journal rest desk like agrees of entries =
     let p = first.port in
@@ -147,28 +198,41 @@ logged_in first session played v d due journal rest desk like agrees of entries 
 
 -- ---- all phases
 
-pub blocks_same : (phases : List JobsPhase) → blocks_of (map block_phase_of phases) ≡ flat_map (λ (phase : JobsPhase). map block_of phase.callers) phases
+pub blocks_same : (phases : List JobsPhase)
+    → blocks_of (map block_phase_of phases) ≡ flat_map (λ (phase : JobsPhase). map block_of phase.callers) phases
 blocks_same [] = refl
 blocks_same (phase ∷ phases) = ap (λ (bs : List Block). map block_of phase.callers ++ bs) (blocks_same phases)
 
-phases_many : (first : Scene) (session : JobsSession) → IsSceneOf first session → length first.session.phases ≡ length (block_phases session)
+phases_many : (first : Scene) (session : JobsSession)
+    → IsSceneOf first session
+    → length first.session.phases ≡ length (block_phases session)
 phases_many first session scene =
     sym (length-map first.session.phases (line_on first.port))
-    ∙ (ap (λ (xs : List (List _)). length xs) scene.of_blocks.lines ∙ length-map (block_phases session) (λ (phase : BlockPhase). slice_index_or phase.lines first.port []))
+    ∙ (ap (λ (xs : List (List _)). length xs) scene.of_blocks.lines
+    ∙ length-map (block_phases session) (λ (phase : BlockPhase). slice_index_or phase.lines first.port []))
 
 -- behind the last phase each caller stands past all its calls
-steps_over : (first : Scene) (session : JobsSession) (k c : ℕ) → IsSceneOf first session → k ≡ length first.session.phases
-    → begin_of first.port (block_phases session) k c ≡ steps_named first.port (blocks_in session) (slice_get (names_on first.port (blocks_in session)) c)
+steps_over : (first : Scene) (session : JobsSession) (k c : ℕ)
+    → IsSceneOf first session
+    → k ≡ length first.session.phases
+    → begin_of first.port (block_phases session) k c
+    ≡ steps_named first.port (blocks_in session) (slice_get (names_on first.port (blocks_in session)) c)
 steps_over first session k c scene last =
     let p = first.port in
     let phases = block_phases session in
-    let whole : take k phases ≡ phases = ap (λ n. take n phases) (last ∙ phases_many first session scene) ∙ take_all phases in
+    let whole : take k phases ≡ phases =
+    ap (λ n. take n phases) (last ∙ phases_many first session scene) ∙ take_all phases in
     ap (λ (ps : List BlockPhase). steps_named p (blocks_of ps) (slice_get (names_on p (blocks_of phases)) c)) whole
     ∙ ap (λ (bs : List Block). steps_named p bs (slice_get (names_on p bs) c)) (blocks_same session.phases)
 
 -- the log is whole
-whole_in : (first : Scene) (session : JobsSession) (played : PlainSession) (v : PortValue) (putter : PutterState Flagged) (line : LineState) (run : ℕ) (d : DeskState) (journal : List PlainEntry) → IsSceneOf first session
-    → IsJobsEnd first session v putter line run d → IsOfScene (scene_on first.port played) v → EndsJournal v journal → IsLoggedWhole (port_in session played first.port journal) d.log
+whole_in : (first : Scene) (session : JobsSession) (played : PlainSession) (v : PortValue)
+    (putter : PutterState Flagged) (line : LineState) (run : ℕ) (d : DeskState) (journal : List PlainEntry)
+    → IsSceneOf first session
+    → IsJobsEnd first session v putter line run d
+    → IsOfScene (scene_on first.port played) v
+    → EndsJournal v journal
+    → IsLoggedWhole (port_in session played first.port journal) d.log
 whole_in first session played v putter line run d journal scene ends of_it left =
     let p = first.port in
     let desk = ends.before.date.stands.desk in
@@ -182,14 +246,28 @@ whole_in first session played v putter line run d journal scene ends of_it left 
     let enough = ends.before.date.all_sent in
     let sent = desk.signals_are in
     record {
-      run = record { last = desk.state; leads = leads; nothing_due = desk.due_are; all_sent = omega (arith, few, raised, enough, sent) };
-      answered = λ c known. ap (λ (ns : List ℕ). slice_index_or ns c 0) desk.next_are ∙ (ends.before.steps c ∙ steps_over first session v.terminal.phase c scene ends.phase);
+      run = record {
+        last = desk.state;
+        leads = leads;
+        nothing_due = desk.due_are;
+        all_sent = omega (arith, few, raised, enough, sent);
+      };
+      answered = λ c known.
+          ap (λ (ns : List ℕ). slice_index_or ns c 0) desk.next_are
+          ∙ (ends.before.steps c ∙ steps_over first session v.terminal.phase c scene ends.phase);
     }
 
-pub hung_up_played : (first : Scene) (session : JobsSession) (v : PortValue) (putter : PutterState Flagged) (line : LineState) (run : ℕ) (d : DeskState) (left : PortRun) (end : PortEnd)
-    → IsSceneOf first session → IsJobsEnd first session v putter line run d → EndsJournal v left.journal.items
+pub hung_up_played : (first : Scene) (session : JobsSession) (v : PortValue) (putter : PutterState Flagged)
+    (line : LineState) (run : ℕ) (d : DeskState) (left : PortRun) (end : PortEnd)
+    → IsSceneOf first session
+    → IsJobsEnd first session v putter line run d
+    → EndsJournal v left.journal.items
     → ((s : Scene) → IsAtEnd s v putter line → IsPlayedOn s.port s.session left end)
-    → ((s : Scene) → IsOfScene s v → v.terminal.phase ≡ length s.session.phases → HaveSeenAll s v.journal line.report.overruns.items → IsRunInOrder s.port s.session left)
+    → ((s : Scene)
+    → IsOfScene s v
+    → v.terminal.phase ≡ length s.session.phases
+    → HaveSeenAll s v.journal line.report.overruns.items
+    → IsRunInOrder s.port s.session left)
     → IsPortPlayed first.port session d.log left end
 hung_up_played first session v putter line run d left end scene ends journal plays order =
     let p = first.port in
@@ -197,9 +275,12 @@ hung_up_played first session v putter line run d left end scene ends journal pla
     let has = before.has in
     let ms = all_passed session d.log p left.journal.items in
     let here = (before.each.each (scene_on p has.session) has.like has.agrees).0 in
-    let none = nothing_begun session d.log p left.journal.items (λ c. idle_then v left.journal.items c ends.port journal (ap (λ (q : CallerState). has_begun q) (here.callers c))) in
+    let none = nothing_begun session d.log p left.journal.items (λ c.
+    idle_then v left.journal.items c ends.port journal (ap (λ (q : CallerState). has_begun q) (here.callers c))) in
     let same : (c : ℕ) → by_caller c ms ≡ passed_by session p d c =
-    λ c. ap (λ (xs : List Passing). by_caller c (passings_on session d.log p ++ xs)) none ∙ ap (λ (xs : List Passing). by_caller c xs) (append-nil (passings_on session d.log p)) in
+    λ c.
+    ap (λ (xs : List Passing). by_caller c (passings_on session d.log p ++ xs)) none
+    ∙ ap (λ (xs : List Passing). by_caller c xs) (append-nil (passings_on session d.log p)) in
     record {
       within = within_of first (block_phases session) (passed_by session p d) v ms has same;
       none_begun = λ not_full. none;
@@ -208,22 +289,30 @@ hung_up_played first session v putter line run d left end scene ends journal pla
           let like = like_played first session ms (passed_by session p d) played same scene h in
           let agrees = agrees_played first session v ms (passed_by session p d) played same scene has h in
           let at = before.each.each s like agrees in
-          let phase : v.terminal.phase ≡ length played.phases = ends.phase ∙ sym (phases_same p first.session played like.shape) in
-          let there : IsAtPhase s (length played.phases) v putter line run = subst (λ k. IsAtPhase s k v putter line run) phase at.0 in
-          let played_all : HavePlayedInOrder s (length played.phases) v.journal line.report.overruns.items = subst (λ k. HavePlayedInOrder s k v.journal line.report.overruns.items) phase at.1 in
+          let phase : v.terminal.phase ≡ length played.phases =
+          ends.phase ∙ sym (phases_same p first.session played like.shape) in
+          let there : IsAtPhase s (length played.phases) v putter line run =
+          subst (λ k. IsAtPhase s k v putter line run) phase at.0 in
+          let played_all : HavePlayedInOrder s (length played.phases) v.journal line.report.overruns.items =
+          subst (λ k. HavePlayedInOrder s k v.journal line.report.overruns.items) phase at.1 in
           let then = later_then v left.journal.items journal in
           record {
             played_on = plays s (at_end_of s v putter line run there played_all.played);
             in_order = order s at.0.of_scene phase at.1.see_all;
-            logged = logged_in first session played v d [] left.journal.items then.0 before.date.stands.desk like agrees at.0.of_scene then.1;
-            whole = λ not_full. whole_in first session played v putter line run d left.journal.items scene ends at.0.of_scene journal;
+            logged = logged_in first session played v d [] left.journal.items then.0
+                before.date.stands.desk like agrees at.0.of_scene then.1;
+            whole = λ not_full.
+                whole_in first session played v putter line run d left.journal.items scene ends at.0.of_scene journal;
           };
     }
 
 -- ---- a full journal
 
-pub full_played : (first : Scene) (session : JobsSession) (v : PortValue) (putter : PutterState Flagged) (line : LineState) (d : DeskState) (left : PortRun) (end : PortEnd)
-    → IsSceneOf first session → IsJobsFull first session v putter line d → left.journal.items ≡ v.journal
+pub full_played : (first : Scene) (session : JobsSession) (v : PortValue) (putter : PutterState Flagged)
+    (line : LineState) (d : DeskState) (left : PortRun) (end : PortEnd)
+    → IsSceneOf first session
+    → IsJobsFull first session v putter line d
+    → left.journal.items ≡ v.journal
     → ((s : Scene) → IsPortOf s v → IsFullRun s v putter line → IsPlayedOn s.port s.session left end)
     → IsPortPlayed first.port session d.log left end
 full_played first session v putter line d left end scene full journal plays =
@@ -232,7 +321,9 @@ full_played first session v putter line d left end scene full journal plays =
     let mine = passings_with session d.log p (value_at d) (begun_at v) in
     let ms = all_passed session d.log p left.journal.items in
     let same : (c : ℕ) → by_caller c ms ≡ mine c =
-    λ c. ap (λ (es : List PlainEntry). by_caller c (all_passed session d.log p es)) journal ∙ mine_is first session v d full.due full.port full.desk c in
+    λ c.
+    ap (λ (es : List PlainEntry). by_caller c (all_passed session d.log p es)) journal
+    ∙ mine_is first session v d full.due full.port full.desk c in
     let here = full.full (scene_on p has.session) has.like has.agrees in
     let long : length left.journal.items ≡ 4194304 = ap (λ (es : List PlainEntry). length es) journal ∙ here.1.full in
     record {
@@ -246,7 +337,8 @@ full_played first session v putter line d left end scene full journal plays =
           record {
             played_on = plays s (port_of_scene s v at.0) at.1;
             in_order = full_in_order s v left at.0 journal at.1.full;
-            logged = logged_in first session played v d full.due left.journal.items [] full.desk like agrees at.0 (journal ∙ sym (append-nil v.journal));
+            logged = logged_in first session played v d full.due left.journal.items [] full.desk like agrees at.0
+                (journal ∙ sym (append-nil v.journal));
             whole = λ not_full. absurd (not_full long);
           };
     }

@@ -1,5 +1,7 @@
 -- The calls of the callers of a phase, among all calls of their session.
-use Rattle.std.proofs.Common.{◌≡◌, ◌≢◌, ◌≤◌, ◌<◌, ◌⊎◌, inl, inr, ℕ, zero, suc, ◌+◌, ◌==◌, ◌||◌, Bool, true, false, cond, List, [], ◌∷◌, ◌++◌, Option, None, Some, length, map, filter, take, drop, if◌then◌else◌, refl, sym, ap, ◌∙◌, subst, arith, append-nil, append_assoc, length-append}
+use Rattle.std.proofs.Common.{◌≡◌, ◌≢◌, ◌≤◌, ◌<◌, ◌⊎◌, inl, inr, ℕ, zero, suc, ◌+◌, ◌==◌, ◌||◌, Bool, true, false}
+use Rattle.std.proofs.Common.{cond, List, [], ◌∷◌, ◌++◌, Option, None, Some, length, map, filter, take, drop}
+use Rattle.std.proofs.Common.{if◌then◌else◌, refl, sym, ap, ◌∙◌, subst, arith, append-nil, append_assoc, length-append}
 use Rattle.std.specs.Prelude.{All, flat_map, sum_by, slice_get, slice_index_or}
 use Rattle.std.specs.Str.{bytes_eq}
 use Rattle.std.proofs.lemmas.Bool.{false≢true}
@@ -24,14 +26,21 @@ over p phases = flat_map (λ phase. filter (λ s. s.port == p) phase.callers) ph
 
 -- ---- their blocks
 
-blocks_if : (b : Bool) (s : One) (p : ℕ) (ss : List One) → (s.port == p) ≡ b → blocks_on p (map block_of ss) ≡ map block_of (filter (λ s. s.port == p) ss)
-    → cond (s.port == p) (block_of s ∷ blocks_on p (map block_of ss)) (blocks_on p (map block_of ss)) ≡ map block_of (cond (s.port == p) (s ∷ filter (λ s. s.port == p) ss) (filter (λ s. s.port == p) ss))
+blocks_if : (b : Bool) (s : One) (p : ℕ) (ss : List One)
+    → (s.port == p) ≡ b
+    → blocks_on p (map block_of ss) ≡ map block_of (filter (λ s. s.port == p) ss)
+    → cond (s.port == p) (block_of s ∷ blocks_on p (map block_of ss)) (blocks_on p (map block_of ss))
+    ≡ map block_of (cond (s.port == p) (s ∷ filter (λ s. s.port == p) ss) (filter (λ s. s.port == p) ss))
 blocks_if true s p ss is rest =
     ap (λ (b : Bool). cond b (block_of s ∷ blocks_on p (map block_of ss)) (blocks_on p (map block_of ss))) is
-    ∙ (ap (λ (bs : List Block). block_of s ∷ bs) rest ∙ sym (ap (λ (b : Bool). map block_of (cond b (s ∷ filter (λ s. s.port == p) ss) (filter (λ s. s.port == p) ss))) is))
+    ∙ (ap (λ (bs : List Block). block_of s ∷ bs) rest
+    ∙ sym
+    (ap (λ (b : Bool). map block_of (cond b (s ∷ filter (λ s. s.port == p) ss) (filter (λ s. s.port == p) ss))) is))
 blocks_if false s p ss is rest =
     ap (λ (b : Bool). cond b (block_of s ∷ blocks_on p (map block_of ss)) (blocks_on p (map block_of ss))) is
-    ∙ (rest ∙ sym (ap (λ (b : Bool). map block_of (cond b (s ∷ filter (λ s. s.port == p) ss) (filter (λ s. s.port == p) ss))) is))
+    ∙ (rest
+    ∙ sym
+    (ap (λ (b : Bool). map block_of (cond b (s ∷ filter (λ s. s.port == p) ss) (filter (λ s. s.port == p) ss))) is))
 
 pub blocks_one : (p : ℕ) (ss : List One) → blocks_on p (map block_of ss) ≡ map block_of (filter (λ s. s.port == p) ss)
 blocks_one p [] = refl
@@ -41,11 +50,13 @@ map_append : (xs ys : List One) → map block_of (xs ++ ys) ≡ map block_of xs 
 map_append [] ys = refl
 map_append (x ∷ xs) ys = ap (λ (bs : List Block). block_of x ∷ bs) (map_append xs ys)
 
-pub blocks_over : (p : ℕ) (phases : List JobsPhase) → blocks_on p (blocks_of (map block_phase_of phases)) ≡ map block_of (over p phases)
+pub blocks_over : (p : ℕ) (phases : List JobsPhase)
+    → blocks_on p (blocks_of (map block_phase_of phases)) ≡ map block_of (over p phases)
 blocks_over p [] = refl
 blocks_over p (phase ∷ phases) =
     filter-append (λ (b : Block). b.port == p) (map block_of phase.callers) (blocks_of (map block_phase_of phases))
-    ∙ ((λ i. blocks_one p phase.callers i ++ blocks_over p phases i) ∙ sym (map_append (filter (λ s. s.port == p) phase.callers) (over p phases)))
+    ∙ ((λ i. blocks_one p phase.callers i ++ blocks_over p phases i)
+    ∙ sym (map_append (filter (λ s. s.port == p) phase.callers) (over p phases)))
 
 -- ---- calls under a name
 
@@ -62,14 +73,16 @@ named_length name (s ∷ ss) =
     let here = one_length (bytes_eq s.name name) s.calls in
     let rest = named_length name ss in
     let both = length-append (if bytes_eq s.name name then s.calls else []) (named name ss) in
-    let more = sum_by-cons (λ (b : Block). if bytes_eq b.name name then b.steps else 0) (block_of s) (map block_of ss) in
+    let more =
+    sum_by-cons (λ (b : Block). if bytes_eq b.name name then b.steps else 0) (block_of s) (map block_of ss) in
     omega (arith, here, rest, both, more)
 
 pub named_append : (name : List ℕ) (xs ys : List One) → named name (xs ++ ys) ≡ named name xs ++ named name ys
 named_append name [] ys = refl
 named_append name (x ∷ xs) ys =
     let here : List JobCall = if bytes_eq x.name name then x.calls else [] in
-    ap (λ (cs : List JobCall). here ++ cs) (named_append name xs ys) ∙ sym (append_assoc here (named name xs) (named name ys))
+    ap (λ (cs : List JobCall). here ++ cs) (named_append name xs ys)
+    ∙ sym (append_assoc here (named name xs) (named name ys))
 
 over_append : (p : ℕ) (xs ys : List JobsPhase) → over p (xs ++ ys) ≡ over p xs ++ over p ys
 over_append p [] ys = refl
@@ -95,35 +108,47 @@ take_map (suc k) [] = refl
 take_map (suc k) (phase ∷ phases) = ap (λ (ps : List BlockPhase). block_phase_of phase ∷ ps) (take_map k phases)
 
 -- a caller's first step in a phase counts its calls before
-pub begin_named : (p : ℕ) (session : JobsSession) (k c : ℕ) (name : List ℕ) → slice_get (names_on p (blocks_of (block_phases session))) c ≡ Some name
+pub begin_named : (p : ℕ) (session : JobsSession) (k c : ℕ) (name : List ℕ)
+    → slice_get (names_on p (blocks_of (block_phases session))) c ≡ Some name
     → begin_of p (block_phases session) k c ≡ length (named name (over p (take k session.phases)))
 begin_named p session k c name is =
     ap (λ (o : Option (List ℕ)). steps_named p (blocks_of (take k (block_phases session))) o) is
     ∙ (ap (λ (ps : List BlockPhase). steps_under name (blocks_on p (blocks_of ps))) (take_map k session.phases)
-    ∙ (ap (steps_under name) (blocks_over p (take k session.phases)) ∙ sym (named_length name (over p (take k session.phases)))))
+    ∙ (ap (steps_under name) (blocks_over p (take k session.phases))
+    ∙ sym (named_length name (over p (take k session.phases)))))
 
-pub begin_nobody : (p : ℕ) (session : JobsSession) (k c : ℕ) → slice_get (names_on p (blocks_of (block_phases session))) c ≡ None → begin_of p (block_phases session) k c ≡ 0
-begin_nobody p session k c is = ap (λ (o : Option (List ℕ)). steps_named p (blocks_of (take k (block_phases session))) o) is
+pub begin_nobody : (p : ℕ) (session : JobsSession) (k c : ℕ)
+    → slice_get (names_on p (blocks_of (block_phases session))) c ≡ None
+    → begin_of p (block_phases session) k c ≡ 0
+begin_nobody p session k c is =
+    ap (λ (o : Option (List ℕ)). steps_named p (blocks_of (take k (block_phases session))) o) is
 
-pub begin_next : (p : ℕ) (session : JobsSession) (k c : ℕ) (name : List ℕ) (phase : JobsPhase) → slice_get (names_on p (blocks_of (block_phases session))) c ≡ Some name → slice_get session.phases k ≡ Some phase
-    → begin_of p (block_phases session) (k + 1) c ≡ begin_of p (block_phases session) k c + length (named name (filter (λ s. s.port == p) phase.callers))
+pub begin_next : (p : ℕ) (session : JobsSession) (k c : ℕ) (name : List ℕ) (phase : JobsPhase)
+    → slice_get (names_on p (blocks_of (block_phases session))) c ≡ Some name
+    → slice_get session.phases k ≡ Some phase
+    → begin_of p (block_phases session) (k + 1) c
+    ≡ begin_of p (block_phases session) k c + length (named name (filter (λ s. s.port == p) phase.callers))
 begin_next p session k c name phase is at =
     let before = take k session.phases in
     let own = filter (λ s. s.port == p) phase.callers in
     let first = begin_named p session k c name is in
     let next = begin_named p session (k + 1) c name is in
     let later : suc k ≡ k + 1 = omega arith in
-    let grown : take (k + 1) session.phases ≡ before ++ phase ∷ [] = ap (λ (n : ℕ). take n session.phases) (sym later) ∙ take_more session.phases k phase at in
+    let grown : take (k + 1) session.phases ≡ before ++ phase ∷ [] =
+    ap (λ (n : ℕ). take n session.phases) (sym later) ∙ take_more session.phases k phase at in
     let whole : named name (over p (take (k + 1) session.phases)) ≡ named name (over p before) ++ named name own =
     ap (λ (ps : List JobsPhase). named name (over p ps)) grown
-    ∙ (ap (named name) (over_append p before (phase ∷ []) ∙ ap (λ (ss : List One). over p before ++ ss) (append-nil own)) ∙ named_append name (over p before) own) in
+    ∙ (ap (named name)
+    (over_append p before (phase ∷ []) ∙ ap (λ (ss : List One). over p before ++ ss) (append-nil own))
+    ∙ named_append name (over p before) own) in
     let many = ap (λ (cs : List JobCall). length cs) whole in
     let both = length-append (named name (over p before)) (named name own) in
     omega (arith, first, next, many, both)
 
 get_later : {X : Type 0} (xs ys : List X) (i : ℕ) → slice_get (xs ++ ys) (length xs + i) ≡ slice_get ys i
 get_later [] ys i = (let same : 0 + i ≡ i = omega arith in ap (λ (n : ℕ). slice_get ys n) same)
-get_later (x ∷ xs) ys i = (let same : suc (length xs) + i ≡ suc (length xs + i) = omega arith in ap (λ (n : ℕ). slice_get (x ∷ (xs ++ ys)) n) same ∙ get_later xs ys i)
+get_later (x ∷ xs) ys i = (let same : suc (length xs) + i ≡ suc (length xs + i) = omega arith in
+    ap (λ (n : ℕ). slice_get (x ∷ (xs ++ ys)) n) same ∙ get_later xs ys i)
 
 get_first : {X : Type 0} (xs ys : List X) (i : ℕ) → i < length xs → slice_get (xs ++ ys) i ≡ slice_get xs i
 get_first [] ys i lt = absurd (omega (arith, lt))
@@ -131,21 +156,31 @@ get_first (x ∷ xs) ys zero lt = refl
 get_first (x ∷ xs) ys (suc i) lt = get_first xs ys i (omega (arith, lt))
 
 -- a caller's call by its step in a phase
-pub call_of_phase : (p : ℕ) (session : JobsSession) (k c i : ℕ) (name : List ℕ) (phase : JobsPhase) → slice_get (names_on p (blocks_in session)) c ≡ Some name → names_on p (blocks_in session) ≡ names_on p (blocks_of (block_phases session))
-    → slice_get session.phases k ≡ Some phase → i < length (named name (filter (λ s. s.port == p) phase.callers))
-    → job_call_at p session c (begin_of p (block_phases session) k c + i) ≡ slice_get (named name (filter (λ s. s.port == p) phase.callers)) i
+pub call_of_phase : (p : ℕ) (session : JobsSession) (k c i : ℕ) (name : List ℕ) (phase : JobsPhase)
+    → slice_get (names_on p (blocks_in session)) c ≡ Some name
+    → names_on p (blocks_in session) ≡ names_on p (blocks_of (block_phases session))
+    → slice_get session.phases k ≡ Some phase
+    → i < length (named name (filter (λ s. s.port == p) phase.callers))
+    → job_call_at p session c (begin_of p (block_phases session) k c + i)
+    ≡ slice_get (named name (filter (λ s. s.port == p) phase.callers)) i
 call_of_phase p session k c i name phase is same at lt =
     let before = take k session.phases in
     let own = filter (λ s. s.port == p) phase.callers in
     let later = drop (suc k) session.phases in
-    let there : slice_get (names_on p (blocks_of (block_phases session))) c ≡ Some name = ap (λ (ns : List (List ℕ)). slice_get ns c) (sym same) ∙ is in
+    let there : slice_get (names_on p (blocks_of (block_phases session))) c ≡ Some name =
+    ap (λ (ns : List (List ℕ)). slice_get ns c) (sym same) ∙ is in
     let first = begin_named p session k c name there in
-    let whole : scripts_over p session ≡ over p before ++ (own ++ over p later) = ap (over p) (parts session.phases k phase at) ∙ over_append p before (phase ∷ later) in
-    let calls : named name (scripts_over p session) ≡ named name (over p before) ++ (named name own ++ named name (over p later)) =
-    ap (named name) whole ∙ (named_append name (over p before) (own ++ over p later) ∙ ap (λ (cs : List JobCall). named name (over p before) ++ cs) (named_append name own (over p later))) in
+    let whole : scripts_over p session ≡ over p before ++ (own ++ over p later) =
+    ap (over p) (parts session.phases k phase at) ∙ over_append p before (phase ∷ later) in
+    let calls : named name (scripts_over p session)
+    ≡ named name (over p before) ++ (named name own ++ named name (over p later)) =
+    ap (named name) whole
+    ∙ (named_append name (over p before) (own ++ over p later)
+    ∙ ap (λ (cs : List JobCall). named name (over p before) ++ cs) (named_append name own (over p later))) in
     (λ j. slice_get (calls_named (is j) (scripts_over p session)) (first j + i))
     ∙ (ap (λ (cs : List JobCall). slice_get cs (length (named name (over p before)) + i)) calls
-    ∙ (get_later (named name (over p before)) (named name own ++ named name (over p later)) i ∙ get_first (named name own) (named name (over p later)) i lt))
+    ∙ (get_later (named name (over p before)) (named name own ++ named name (over p later)) i
+    ∙ get_first (named name own) (named name (over p later)) i lt))
 
 -- ---- names differ in a phase
 
@@ -175,10 +210,15 @@ Own ss = HaveOwnNames (map (λ (s : One). bare (block_of s)) ss)
 
 has_at : (ss : List One) (i : ℕ) (s : One) → slice_get ss i ≡ Some s → has ss s.name ≡ true
 has_at [] i s is = absurd (cc)
-has_at (x ∷ ss) zero s is = (let same : x ≡ s = cc in or_true (bytes_eq x.name s.name) (has ss s.name) (ap (λ (y : One). bytes_eq y.name s.name) same ∙ same_name s.name))
+has_at (x ∷ ss) zero s is = (let same : x ≡ s = cc in
+    or_true (bytes_eq x.name s.name) (has ss s.name) (ap (λ (y : One). bytes_eq y.name s.name) same ∙ same_name s.name))
 has_at (x ∷ ss) (suc i) s is = or_later (bytes_eq x.name s.name) (has ss s.name) (has_at ss i s is)
 
-other_name : (x s : One) (ss : List One) (b : Bool) → bytes_eq x.name s.name ≡ b → has ss x.name ≡ false → has ss s.name ≡ true → b ≡ false
+other_name : (x s : One) (ss : List One) (b : Bool)
+    → bytes_eq x.name s.name ≡ b
+    → has ss x.name ≡ false
+    → has ss s.name ≡ true
+    → b ≡ false
 other_name x s ss true is none there = absurd (false≢true (sym none ∙ (ap (has ss) (eq_name x.name s.name is) ∙ there)))
 other_name x s ss false is none there = refl
 
@@ -187,6 +227,9 @@ own_named [] i s own is = absurd (cc)
 own_named (x ∷ ss) zero s own is =
     let same : x ≡ s = cc in
     subst (λ (y : One). named y.name (x ∷ ss) ≡ y.calls) same
-    (ap (λ (b : Bool). (if b then x.calls else []) ++ named x.name ss) (same_name x.name) ∙ (ap (λ (cs : List JobCall). x.calls ++ cs) (none_named ss x.name own.0) ∙ append-nil x.calls))
+    (ap (λ (b : Bool). (if b then x.calls else []) ++ named x.name ss) (same_name x.name)
+    ∙ (ap (λ (cs : List JobCall). x.calls ++ cs) (none_named ss x.name own.0) ∙ append-nil x.calls))
 own_named (x ∷ ss) (suc i) s own is =
-    ap (λ (b : Bool). (if b then x.calls else []) ++ named s.name ss) (other_name x s ss (bytes_eq x.name s.name) refl own.0 (has_at ss i s is)) ∙ own_named ss i s own.1 is
+    ap (λ (b : Bool). (if b then x.calls else []) ++ named s.name ss)
+    (other_name x s ss (bytes_eq x.name s.name) refl own.0 (has_at ss i s is))
+    ∙ own_named ss i s own.1 is

@@ -1,5 +1,7 @@
 -- The calls that a port has begun and not answered, and all that it was passed.
-use Rattle.std.proofs.Common.{◌≡◌, ◌≤◌, ◌<◌, ◌⊎◌, inl, inr, ℕ, zero, suc, ◌+◌, ◌==◌, Bool, true, false, cond, List, [], ◌∷◌, ◌++◌, Option, None, Some, length, map, filter, sum, if◌then◌else◌, refl, sym, ap, ◌∙◌, subst, arith, append-nil}
+use Rattle.std.proofs.Common.{◌≡◌, ◌≤◌, ◌<◌, ◌⊎◌, inl, inr, ℕ, zero, suc, ◌+◌, ◌==◌, Bool, true, false}
+use Rattle.std.proofs.Common.{cond, List, [], ◌∷◌, ◌++◌, Option, None, Some, length, map, filter, sum}
+use Rattle.std.proofs.Common.{if◌then◌else◌, refl, sym, ap, ◌∙◌, subst, arith, append-nil}
 use Rattle.std.specs.Prelude.{All, flat_map, slice_get, slice_index_or, replicate}
 use Rattle.std.specs.List.{range_with_len}
 use Rattle.std.proofs.lemmas.Bool.{false≢true, eq-eqb, ne_eqb}
@@ -50,33 +52,55 @@ equal_or a b le = grind arith
 abbrev ones : (begun : ℕ → Bool) (of : ℕ → Passing) → (from n : ℕ) → List Passing
 ones begun of from n = flat_map (λ c. one_if (begun c) (of c)) (range_with_len from n)
 
-none_of : (begun : ℕ → Bool) (of : ℕ → Passing) (from n c : ℕ) → ((d : ℕ) → (of d).caller ≡ d) → c < from → by_caller c (ones begun of from n) ≡ []
+none_of : (begun : ℕ → Bool) (of : ℕ → Passing) (from n c : ℕ)
+    → ((d : ℕ) → (of d).caller ≡ d)
+    → c < from
+    → by_caller c (ones begun of from n) ≡ []
 none_of begun of from zero c own lt = refl
 none_of begun of from (suc n) c own lt =
     filter-append (λ (m : Passing). m.caller == c) (one_if (begun from) (of from)) (ones begun of (from + 1) n)
-    ∙ (λ i. by_other (begun from) (of from) c (λ e. omega (arith, lt, own from, e)) i ++ none_of begun of (from + 1) n c own (omega (arith, lt)) i)
+    ∙ (λ i.
+    by_other (begun from) (of from) c (λ e. omega (arith, lt, own from, e)) i
+    ++ none_of begun of (from + 1) n c own (omega (arith, lt)) i)
 
-some_of : (begun : ℕ → Bool) (of : ℕ → Passing) (from n c : ℕ) → ((d : ℕ) → (of d).caller ≡ d) → from ≤ c → c < from + n → by_caller c (ones begun of from n) ≡ one_if (begun c) (of c)
+some_of : (begun : ℕ → Bool) (of : ℕ → Passing) (from n c : ℕ)
+    → ((d : ℕ) → (of d).caller ≡ d)
+    → from ≤ c
+    → c < from + n
+    → by_caller c (ones begun of from n) ≡ one_if (begun c) (of c)
 some_of begun of from zero c own le lt = absurd (omega (arith, le, lt))
 some_of begun of from (suc n) c own le lt =
     filter-append (λ (m : Passing). m.caller == c) (one_if (begun from) (of from)) (ones begun of (from + 1) n)
     ∙ elim (equal_or from c le) [
       | inl same ↦
-          (λ i. by_own (begun from) (of from) c (own from ∙ same) i ++ none_of begun of (from + 1) n c own (omega (arith, same)) i)
+          (λ i.
+          by_own (begun from) (of from) c (own from ∙ same) i
+          ++ none_of begun of (from + 1) n c own (omega (arith, same)) i)
           ∙ (append-nil (one_if (begun from) (of from)) ∙ ap (λ (d : ℕ). one_if (begun d) (of d)) same)
       | inr more ↦
-          λ i. by_other (begun from) (of from) c (λ e. omega (arith, more, own from, e)) i ++ some_of begun of (from + 1) n c own (omega (arith, more)) (omega (arith, lt)) i
+          λ i.
+          by_other (begun from) (of from) c (λ e. omega (arith, more, own from, e)) i
+          ++ some_of begun of (from + 1) n c own (omega (arith, more)) (omega (arith, lt)) i
     ]
 
-past_of : (begun : ℕ → Bool) (of : ℕ → Passing) (from n c : ℕ) → ((d : ℕ) → (of d).caller ≡ d) → from + n ≤ c → by_caller c (ones begun of from n) ≡ []
+past_of : (begun : ℕ → Bool) (of : ℕ → Passing) (from n c : ℕ)
+    → ((d : ℕ) → (of d).caller ≡ d)
+    → from + n ≤ c
+    → by_caller c (ones begun of from n) ≡ []
 past_of begun of from zero c own le = refl
 past_of begun of from (suc n) c own le =
     filter-append (λ (m : Passing). m.caller == c) (one_if (begun from) (of from)) (ones begun of (from + 1) n)
-    ∙ (λ i. by_other (begun from) (of from) c (λ e. omega (arith, le, own from, e)) i ++ past_of begun of (from + 1) n c own (omega (arith, le)) i)
+    ∙ (λ i.
+    by_other (begun from) (of from) c (λ e. omega (arith, le, own from, e)) i
+    ++ past_of begun of (from + 1) n c own (omega (arith, le)) i)
 
-none_begun : (begun : ℕ → Bool) (of : ℕ → Passing) (from n : ℕ) → ((c : ℕ) → begun c ≡ false) → ones begun of from n ≡ []
+none_begun : (begun : ℕ → Bool) (of : ℕ → Passing) (from n : ℕ)
+    → ((c : ℕ) → begun c ≡ false)
+    → ones begun of from n ≡ []
 none_begun begun of from zero none = refl
-none_begun begun of from (suc n) none = ap (λ (b : Bool). one_if b (of from) ++ ones begun of (from + 1) n) (none from) ∙ none_begun begun of (from + 1) n none
+none_begun begun of from (suc n) none =
+    ap (λ (b : Bool). one_if b (of from) ++ ones begun of (from + 1) n) (none from)
+    ∙ none_begun begun of (from + 1) n none
 
 -- ---- what a caller has begun
 
@@ -87,14 +111,20 @@ true_or_false false = inr refl
 pub below_or : (a b : ℕ) → (a < b) ⊎ (b ≤ a)
 below_or a b = grind arith
 
-named : (port : Port) (s : JobsState) (place c : ℕ) (names : List (List ℕ)) (scripts : List (CallerScript JobCall)) (step : ℕ) (o : Option (List ℕ)) → slice_get names c ≡ o
-    → GoesOn port s place c (slice_get (calls_named o scripts) step) → c < length names
+named : (port : Port) (s : JobsState) (place c : ℕ) (names : List (List ℕ)) (scripts : List (CallerScript JobCall))
+    (step : ℕ) (o : Option (List ℕ))
+    → slice_get names c ≡ o
+    → GoesOn port s place c (slice_get (calls_named o scripts) step)
+    → c < length names
 named port s place c names scripts step None is goes = absurd goes
 named port s place c names scripts step (Some name) is goes = below_if names c name is
 
 -- who has begun a call has a name
-has_name : (port : Port) (s : JobsState) (place c : ℕ) → GoesOn port s place c (next_call port s c) → c < length (names_of_port port)
-has_name port s place c goes = named port s place c (names_of_port port) (scripts_over port.number port.session) (next_of s c) (slice_get (names_of_port port) c) refl goes
+has_name : (port : Port) (s : JobsState) (place c : ℕ)
+    → GoesOn port s place c (next_call port s c)
+    → c < length (names_of_port port)
+has_name port s place c goes = named port s place c (names_of_port port) (scripts_over port.number port.session)
+    (next_of s c) (slice_get (names_of_port port) c) refl goes
 
 abbrev pub zeros : ℕ → List ℕ
 zeros n = replicate n 0
@@ -116,11 +146,19 @@ pub is_now : (v : PortValue) → IsLater v (now_of v)
 is_now v = record { opens = refl; calls = λ c step call is. is; rest = []; entries = sym (append-nil v.journal) }
 
 abbrev begun_passing : JobsSession → JobLog → (p c : ℕ) → Passing
-begun_passing session log p c = record { caller = c; step = answered_by c (events_on p log); calls = plain_call (job_call_at p session c (answered_by c (events_on p log))) }
+begun_passing session log p c = record {
+  caller = c;
+  step = answered_by c (events_on p log);
+  calls = plain_call (job_call_at p session c (answered_by c (events_on p log)));
+}
 
 -- what each caller was passed down is all that its port was passed of it
-pub mine_is : (first : Scene) (session : JobsSession) (v : PortValue) (d : DeskState) (due : List JobEvent) → IsPort v → IsDeskAt first session d.log v d.jobs d.next d.sent due → (c : ℕ)
-    → by_caller c (all_passed session d.log first.port v.journal) ≡ passings_with session d.log first.port (value_at d) (begun_at v) c
+pub mine_is : (first : Scene) (session : JobsSession) (v : PortValue) (d : DeskState) (due : List JobEvent)
+    → IsPort v
+    → IsDeskAt first session d.log v d.jobs d.next d.sent due
+    → (c : ℕ)
+    → by_caller c (all_passed session d.log first.port v.journal)
+    ≡ passings_with session d.log first.port (value_at d) (begun_at v) c
 mine_is first session v d due port desk c =
     let p = first.port in
     let j = now_of v in
@@ -129,28 +167,37 @@ mine_is first session v d due port desk c =
     let n = length (names_on p (blocks_in session)) in
     let begun : ℕ → Bool = λ x. (standing_in x v.journal at_first).begun in
     let of : ℕ → Passing = begun_passing session d.log p in
-    let same : begun c ≡ begun_at v c = sym (ap (λ (q : Standing). q.begun) (run_stands (call_in v.kept) v.counts v.flip.capacity v.journal v.terminal port.run c)) in
+    let same : begun c ≡ begun_at v c =
+    sym (ap (λ (q : Standing). q.begun)
+    (run_stands (call_in v.kept) v.counts v.flip.capacity v.journal v.terminal port.run c)) in
     let counted = answers_counted at (first_state at) u (logged_on p d.log) c (desk.at.logged.leads j (is_now v)) in
     let front : List Passing = by_caller c (passings_on session d.log p) in
     filter-append (λ (m : Passing). m.caller == c) (passings_on session d.log p) (ones begun of 0 n)
     ∙ ap (λ (ms : List Passing). front ++ ms) (elim (below_or c n) [
       | inl lt ↦
           let first_none = zeros_at n c in
-          let next : slice_index_or u.next c 0 ≡ slice_index_or d.next c 0 = ap (λ (ns : List ℕ). slice_index_or ns c 0) desk.next_are in
+          let next : slice_index_or u.next c 0 ≡ slice_index_or d.next c 0 =
+          ap (λ (ns : List ℕ). slice_index_or ns c 0) desk.next_are in
           let count = counted (omega (arith, lt, zeros_long n)) in
-          let step : answered_by c (events_on p d.log) ≡ slice_index_or d.next c 0 = omega (arith, first_none, next, count) in
+          let step : answered_by c (events_on p d.log) ≡ slice_index_or d.next c 0 =
+          omega (arith, first_none, next, count) in
           some_of begun of 0 n c (λ x. refl) (omega arith) (omega (arith, lt))
-          ∙ λ i. one_if (same i) (record { caller = c; step = step i; calls = plain_call (job_call_at p session c (step i)) })
+          ∙ λ i.
+          one_if (same i) (record { caller = c; step = step i; calls = plain_call (job_call_at p session c (step i)) })
       | inr le ↦
           past_of begun of 0 n c (λ x. refl) (omega (arith, le))
           ∙ elim (true_or_false (begun_at v c)) [
-            | inl yes_begun ↦ absurd (let gone = desk.at.gone_on c yes_begun in let known = has_name at u gone.place c (gone.goes_on j (is_now v)) in omega (arith, le, known))
+            | inl yes_begun ↦ absurd (let gone = desk.at.gone_on c yes_begun in
+                let known = has_name at u gone.place c (gone.goes_on j (is_now v)) in omega (arith, le, known))
             | inr not_begun ↦ sym (ap (λ (b : Bool). one_if b (next_passing session p (value_at d) c)) not_begun)
           ]
     ])
 
-pub nothing_begun : (session : JobsSession) (log : JobLog) (p : ℕ) (journal : List PlainEntry) → ((c : ℕ) → (standing_in c journal at_first).begun ≡ false) → begun_in session log p journal ≡ []
-nothing_begun session log p journal none = none_begun (λ c. (standing_in c journal at_first).begun) (begun_passing session log p) 0 (length (names_on p (blocks_in session))) none
+pub nothing_begun : (session : JobsSession) (log : JobLog) (p : ℕ) (journal : List PlainEntry)
+    → ((c : ℕ) → (standing_in c journal at_first).begun ≡ false)
+    → begun_in session log p journal ≡ []
+nothing_begun session log p journal none = none_begun (λ c. (standing_in c journal at_first).begun)
+    (begun_passing session log p) 0 (length (names_on p (blocks_in session))) none
 
 -- ---- limits
 
@@ -162,15 +209,22 @@ all_of_callers : (P : Passing → Type 0) (ms : List Passing) → ((c : ℕ) →
 all_of_callers P [] h = All-nil P
 all_of_callers P (m ∷ ms) h =
     All-cons P m ms
-    (All-head P m (by_caller m.caller ms) (subst (λ (b : Bool). All P (cond b (m ∷ by_caller m.caller ms) (by_caller m.caller ms))) (eq-eqb m.caller m.caller refl) (h m.caller)))
+    (All-head P m (by_caller m.caller ms)
+    (subst (λ (b : Bool). All P (cond b (m ∷ by_caller m.caller ms) (by_caller m.caller ms)))
+    (eq-eqb m.caller m.caller refl) (h m.caller)))
     (all_of_callers P ms (λ c. tail_of P (m.caller == c) m (by_caller c ms) (h c)))
 
-pub within_of : (first : Scene) (phases : List BlockPhase) (mine : ℕ → List Passing) (v : PortValue) (ms : List Passing) → HasPassed first phases mine v → ((c : ℕ) → by_caller c ms ≡ mine c) → ArePassingsWithin ms
+pub within_of : (first : Scene) (phases : List BlockPhase) (mine : ℕ → List Passing) (v : PortValue) (ms : List Passing)
+    → HasPassed first phases mine v
+    → ((c : ℕ) → by_caller c ms ≡ mine c)
+    → ArePassingsWithin ms
 within_of first phases mine v ms has same =
     let p = first.port in
     let passed : List Passing = has.by.passed p in
     let P : Passing → Type 0 = λ m. All IsCallWithin m.calls in
     record {
-      calls = all_of_callers P ms (λ c. All-same P (by_caller c ms) (by_caller c passed) (same c ∙ sym (has.by.by c)) (All-filter (λ (m : Passing). m.caller == c) P passed (has.within.calls p)));
-      single = λ c step. subst (λ (xs : List Passing). length (calls_at xs step) ≤ 1) (has.by.by c ∙ sym (same c)) (has.within.single p c step);
+      calls = all_of_callers P ms (λ c. All-same P (by_caller c ms) (by_caller c passed) (same c ∙ sym (has.by.by c))
+          (All-filter (λ (m : Passing). m.caller == c) P passed (has.within.calls p)));
+      single = λ c step. subst (λ (xs : List Passing). length (calls_at xs step) ≤ 1) (has.by.by c ∙ sym (same c))
+          (has.within.single p c step);
     }

@@ -49,15 +49,19 @@ pub record Setting : Type 0 where
 
 -- phase k of a port of a session that is kept
 abbrev pub setting_of : ℕ → KeptSession → ℕ → Setting
-setting_of p kept k = record { first = scene_of p kept.session; session = jobs_session_of kept; callers = scripts_at kept.session k }
+setting_of p kept k =
+    record { first = scene_of p kept.session; session = jobs_session_of kept; callers = scripts_at kept.session k }
 
 -- the roles of the phase's callers
 pub record AreCastIn (s : Setting) (v : PortValue) (roles : List Role) : Type 0 where
   pub steps : List ℕ
   pub next : AreNextSteps v.terminal (length (names_in s.first)) steps
-  pub cast : (others : List Script) → HaveSameCallers others s.callers → map (role_in others) roles ≡ cast_of (names_in s.first) steps s.first.port (map script_of others)
+  pub cast : (others : List Script)
+      → HaveSameCallers others s.callers
+      → map (role_in others) roles ≡ cast_of (names_in s.first) steps s.first.port (map script_of others)
 
-pub record BeginsPhase (s : Setting) (roles : List Role) (at : JobStation) (k run : ℕ) (left : List (List JobCall)) (steps : List LineStep) (ticks : ℕ) (clock_first : Bool) : Type 0 where
+pub record BeginsPhase (s : Setting) (roles : List Role) (at : JobStation) (k run : ℕ) (left : List (List JobCall))
+    (steps : List LineStep) (ticks : ℕ) (clock_first : Bool) : Type 0 where
   pub within : IsJobsSessionWithin s.session
   pub scene : IsSceneOf s.first s.session
   pub phase : k < length s.first.session.phases

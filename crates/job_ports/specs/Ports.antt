@@ -48,14 +48,20 @@ pub record IsPlayedWith (session : JobsSession) (p : ℕ) (passings : List Passi
 pub record IsPortPlayed (p : ℕ) (session : JobsSession) (log : JobLog) (run : PortRun) (end : PortEnd) : Type 0 where
   pub within : ArePassingsWithin (all_passed session log p run.journal.items)
   pub none_begun : length run.journal.items ≢ 4194304 → begun_in session log p run.journal.items ≡ []
-  pub each : (played : PlainSession) → IsPlayedWith session p (all_passed session log p run.journal.items) played → IsJobPlayedOn p session played log run end
+  pub each : (played : PlainSession)
+      → IsPlayedWith session p (all_passed session log p run.journal.items) played
+      → IsJobPlayedOn p session played log run end
 
 -- the first ports were, with the log of all of them
-pub record AreFirstPlayed (session : JobsSession) (count : ℕ) (log : JobLog) (runs : List PortRun) (ends : List PortEnd) : Type 0 where
+pub record AreFirstPlayed (session : JobsSession) (count : ℕ) (log : JobLog) (runs : List PortRun)
+    (ends : List PortEnd) : Type 0 where
   pub runs_of : length runs ≡ count
   pub ends_of : length ends ≡ count
   pub below : All (λ l. l.port < count) log
-  pub each : (p : ℕ) (run : PortRun) (end : PortEnd) → slice_get runs p ≡ Some run → slice_get ends p ≡ Some end → IsPortPlayed p session (logged_on p log) run end
+  pub each : (p : ℕ) (run : PortRun) (end : PortEnd)
+      → slice_get runs p ≡ Some run
+      → slice_get ends p ≡ Some end
+      → IsPortPlayed p session (logged_on p log) run end
 
 -- ---- a port that is played
 
@@ -67,13 +73,15 @@ pub record IsSceneOf (first : Scene) (session : JobsSession) : Type 0 where
   pub of_blocks : IsOfBlocks first.port (block_phases session) first.session
 
 -- all phases were played
-pub record IsJobsEnd (first : Scene) (session : JobsSession) (v : PortValue) (putter : PutterState Flagged) (line : LineState) (run : ℕ) (d : DeskState) : Type 0 where
+pub record IsJobsEnd (first : Scene) (session : JobsSession) (v : PortValue) (putter : PutterState Flagged)
+    (line : LineState) (run : ℕ) (d : DeskState) : Type 0 where
   pub before : IsBeforeJobs first session v putter line run d
   pub phase : v.terminal.phase ≡ length first.session.phases
   pub port : IsPort v
 
 -- the journal is full, in the line of a phase or behind it; and something may still be due at the desk
-pub record IsJobsFull (first : Scene) (session : JobsSession) (v : PortValue) (putter : PutterState Flagged) (line : LineState) (d : DeskState) : Type 0 where
+pub record IsJobsFull (first : Scene) (session : JobsSession) (v : PortValue) (putter : PutterState Flagged)
+    (line : LineState) (d : DeskState) : Type 0 where
   pub port : IsPort v
   pub number : first.port ≡ d.number
   pub ring : putter.ring ≡ v.flip.ring

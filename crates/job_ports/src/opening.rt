@@ -1,6 +1,7 @@
 //! The desk of a port at its opening: its processes, and which of them its callers are.
 
-ghost use Rattle.std.specs.Prelude.{◌≡◌, ◌++◌, ◌<◌, ◌≤◌, ◌==◌, [], ◌∷◌, Some, IfOk, OnOk, if◌then◌else◌, length, slice_get};
+ghost use Rattle.std.specs.Prelude.{◌≡◌, ◌++◌, ◌<◌, ◌≤◌, ◌==◌, [], ◌∷◌, Some};
+ghost use Rattle.std.specs.Prelude.{IfOk, OnOk, if◌then◌else◌, length, slice_get};
 ghost use Rattle.job_text.specs.Sessions.{proc_place, procs_on};
 ghost use Rattle.job_ports.specs.Between.{IsDeskOpened};
 ghost use Rattle.job_ports.specs.Callers.{AreCallers, caller_of};
@@ -20,8 +21,10 @@ pub(crate) fn open_desk(
     names: &Names,
 ) -> Result<Desk, NoMemory>
     requires { length (procs_on number session.now.procs.items) ≤ 1024 }
-    ensures opened { IfOk result (λ desk. IsDeskOpened number (procs_on number session.now.procs.items) desk.callers desk) }
-    ensures callers { IfOk result (λ desk. AreCallers (procs_on number session.now.procs.items) names.now (length names.now) desk.callers) }
+    ensures opened { IfOk result
+        (λ desk. IsDeskOpened number (procs_on number session.now.procs.items) desk.callers desk) }
+    ensures callers { IfOk result
+        (λ desk. AreCallers (procs_on number session.now.procs.items) names.now (length names.now) desk.callers) }
 {
     let procs = procs_on(alloc, session.procs.as_slice(), number)?;
     let callers = callers_of(alloc, procs.as_slice(), names)?;
@@ -43,7 +46,8 @@ fn procs_on(alloc: Global, procs: &[PortProc], port: u8) -> Result<Vec<Proc>, No
 
 /// Adds a process, where it is one of this port.
 fn add_proc(found: &mut Vec<Proc>, proc: &PortProc, port: u8) -> Result<(), NoMemory>
-    ensures { OnOk result (found.new.items ≡ found.old.items ++ (if proc.now.port == port then proc.now.proc ∷ [] else [])) }
+    ensures { OnOk result
+        (found.new.items ≡ found.old.items ++ (if proc.now.port == port then proc.now.proc ∷ [] else [])) }
 {
     if proc.port == port {
         found.push(proc.proc)?;

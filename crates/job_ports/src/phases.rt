@@ -1,6 +1,7 @@
 //! The phases of a session of processes on a port.
 
-ghost use Rattle.std.specs.Prelude.{◌≡◌, ◌+◌, ◌<◌, ◌≤◌, List, [], IfOk, IfErr, length, map, slice_index_or, slice_set, sum};
+ghost use Rattle.std.specs.Prelude.{◌≡◌, ◌+◌, ◌<◌, ◌≤◌, List, [], IfOk, IfErr};
+ghost use Rattle.std.specs.Prelude.{length, map, slice_index_or, slice_set, sum};
 ghost use Rattle.tty_calls.specs.declared.answers.Denied.TheVariants as denied;
 ghost use Rattle.tty_calls.specs.declared.sessions.Script.{Script};
 ghost use Rattle.tty_calls.specs.Sessions.{script_of, session_of};
@@ -46,8 +47,10 @@ pub(crate) fn play_phase(
     requires port { number < (session_of session.now.session).ports }
     requires phase { k < length (session_of session.now.session).phases }
     requires before { IsBetween (scene_of number session.now.session) (jobs_session_of session.now) k run at.old }
-    ensures ok { IfOk result (λ next. IsBetween (scene_of number session.now.session) (jobs_session_of session.now) (k + 1) next at.new) }
-    ensures err { IfErr result (λ d. IsStoppedBy d (scene_of number session.now.session) (jobs_session_of session.now) at.new) }
+    ensures ok { IfOk result
+        (λ next. IsBetween (scene_of number session.now.session) (jobs_session_of session.now) (k + 1) next at.new) }
+    ensures err { IfErr result
+        (λ d. IsStoppedBy d (scene_of number session.now.session) (jobs_session_of session.now) at.new) }
 {
     let port = usize::from(number);
     let scripts = scripts_of(&session.session, k);
@@ -77,7 +80,10 @@ fn cast_in(
     requires numbered { AreNumbered names.now port (map script_of scripts.now) }
     requires few { length names.now < 65536 }
     requires steps { length steps.now ≡ length names.now }
-    ensures ok { IfOk result (λ roles. (others : List Script) → HaveSameCallers others scripts.now → map (role_in others) roles.items ≡ cast_of names.now steps.now port (map script_of others)) }
+    ensures ok { IfOk result (λ roles.
+        (others : List Script)
+        → HaveSameCallers others scripts.now
+        → map (role_in others) roles.items ≡ cast_of names.now steps.now port (map script_of others)) }
     ensures err { IfErr result (λ d. d ≡ denied.NoMemory) }
 {
     match cast(alloc, scripts, port, names, steps) {
@@ -113,8 +119,10 @@ fn play_parts(
     clock_first: bool,
 ) -> Result<u32, Denied>
     ghost setting: { Setting }
-    requires { BeginsPhase setting roles.now at.old at.old.station.port.terminal.phase run calls.old steps.now.items ticks clock_first }
-    ensures ok { IfOk result (λ next. IsBetween setting.first setting.session (at.old.station.port.terminal.phase + 1) next at.new) }
+    requires { BeginsPhase setting roles.now at.old at.old.station.port.terminal.phase
+        run calls.old steps.now.items ticks clock_first }
+    ensures ok { IfOk result
+        (λ next. IsBetween setting.first setting.session (at.old.station.port.terminal.phase + 1) next at.new) }
     ensures err { IfErr result (λ d. IsStoppedBy d setting.first setting.session at.new) }
 {
     let played = play_line(

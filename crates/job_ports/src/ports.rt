@@ -54,8 +54,10 @@ fn play_phases(
     requires within { IsJobsSessionWithin (jobs_session_of session.now) }
     requires port { number < (session_of session.now.session).ports }
     requires before { IsBetween (scene_of number session.now.session) (jobs_session_of session.now) 0 0 at.old }
-    ensures ok { IfOk result (λ run. IsBetween (scene_of number session.now.session) (jobs_session_of session.now) (length (session_of session.now.session).phases) run at.new) }
-    ensures err { IfErr result (λ d. IsStoppedBy d (scene_of number session.now.session) (jobs_session_of session.now) at.new) }
+    ensures ok { IfOk result (λ run. IsBetween (scene_of number session.now.session) (jobs_session_of session.now)
+        (length (session_of session.now.session).phases) run at.new) }
+    ensures err { IfErr result
+        (λ d. IsStoppedBy d (scene_of number session.now.session) (jobs_session_of session.now) at.new) }
 {
     let mut run = 0;
     for k in 0..session.session.phases.len() {
@@ -69,8 +71,11 @@ fn end(at: JobStation) -> Result<PortPlayed, NoMemory>
     requires after { at.station.port.terminal.phase ≡ length at.station.port.counts }
     requires ring { at.station.putter.ring ≡ at.station.port.flip.ring }
     requires sent { at.station.port.terminal.sent ≡ length at.station.putter.sent }
-    ensures played { (first : Scene) (session : PlainJobsSession) (run : ℕ) → IsSceneOf first session → IsJobsEnd first session at.station.port at.station.putter at.station.line run at.desk
-        → IfOk result (λ played. IsPortPlayed first.port session (map logged_of played.log.items) played.run played.end) }
+    ensures played { (first : Scene) (session : PlainJobsSession) (run : ℕ)
+        → IsSceneOf first session
+        → IsJobsEnd first session at.station.port at.station.putter at.station.line run at.desk
+        → IfOk result
+        (λ played. IsPortPlayed first.port session (map logged_of played.log.items) played.run played.end) }
     ensures own { IfOk result (λ played. AreOn at.desk.number (map logged_of played.log.items)) }
 {
     let JobStation {
@@ -86,7 +91,9 @@ fn end(at: JobStation) -> Result<PortPlayed, NoMemory>
 /// A port whose journal is full, as far as it went.
 fn cut(at: JobStation) -> PortPlayed
     requires { at.station.putter.ring ≡ at.station.port.flip.ring }
-    ensures played { (first : Scene) (session : PlainJobsSession) → IsSceneOf first session → IsJobsFull first session at.station.port at.station.putter at.station.line at.desk
+    ensures played { (first : Scene) (session : PlainJobsSession)
+        → IsSceneOf first session
+        → IsJobsFull first session at.station.port at.station.putter at.station.line at.desk
         → IsPortPlayed first.port session (map logged_of result.log.items) result.run result.end }
     ensures own { AreOn at.desk.number (map logged_of result.log.items) }
 {
@@ -108,7 +115,8 @@ pub(crate) fn play_port(
 ) -> Result<PortPlayed, NoMemory>
     requires within { IsJobsSessionWithin (jobs_session_of session.now) }
     requires port { number < (session_of session.now.session).ports }
-    ensures played { IfOk result (λ played. IsPortPlayed number (jobs_session_of session.now) (map logged_of played.log.items) played.run played.end) }
+    ensures played { IfOk result (λ played.
+        IsPortPlayed number (jobs_session_of session.now) (map logged_of played.log.items) played.run played.end) }
     ensures own { IfOk result (λ played. AreOn number (map logged_of played.log.items)) }
 {
     let mut at = open(alloc, session, number)?;

@@ -14,8 +14,8 @@ use std::alloc::Global;
 use tty_base::{Buffer, NoMemory};
 use tty_calls::{PortEnd, PortRun};
 
-/// What became of a session of processes: what was logged of its ports, and of each the run, and what a report prints of
-/// its end.
+/// What became of a session of processes: what was logged of its ports, and of each the run, and what a report prints
+/// of its end.
 #[derive(Drop)]
 pub struct JobsRan {
     pub log: Buffer<JobLog>,
@@ -27,9 +27,11 @@ pub struct JobsRan {
 /// journal is full is played no further.
 pub fn jobs_run(alloc: Global, session: &JobsSession) -> Result<JobsRan, NoMemory>
     requires { IsJobsSessionWithin (jobs_session_of session.now) }
-    ensures played { IfOk result (λ ran. AreJobsPlayed (jobs_session_of session.now) (map logged_of ran.log.items) ran.runs.items ran.ends.items
+    ensures played { IfOk result (λ ran. AreJobsPlayed (jobs_session_of session.now) (map logged_of ran.log.items)
+        ran.runs.items ran.ends.items
         (derived_with (jobs_session_of session.now) (map logged_of ran.log.items) ran.runs.items)) }
-    ensures within { IfOk result (λ ran. ArePassedWithin (λ p. passings_on (jobs_session_of session.now) (map logged_of ran.log.items) p
+    ensures within { IfOk result (λ ran. ArePassedWithin (λ p.
+        passings_on (jobs_session_of session.now) (map logged_of ran.log.items) p
         ++ begun_in (jobs_session_of session.now) (map logged_of ran.log.items) p (journal_on ran.runs.items p))) }
 {
     let ports = session.session.ports;

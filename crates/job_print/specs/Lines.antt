@@ -34,7 +34,10 @@ answer_text (Stopped signal) = codes "stopped " ++ signal_text signal
 -- the line of a call: its port, its caller, its place among the caller's calls, its verb and its answer
 abbrev pub answer_line : (port : ℕ) → (name : List ℕ) → (step : ℕ) → (verb : List ℕ) → JobAnswer → List ℕ
 answer_line port name step verb answer =
-    decimal port ++ (codes "." ++ (name ++ (codes "." ++ (decimal step ++ (codes " " ++ (verb ++ (codes " " ++ (answer_text answer ++ newline))))))))
+    decimal port
+    ++ (codes "."
+    ++ (name
+    ++ (codes "." ++ (decimal step ++ (codes " " ++ (verb ++ (codes " " ++ (answer_text answer ++ newline))))))))
 
 -- the name of a process, by its place
 abbrev pub name_at : List Proc → ℕ → List ℕ
@@ -47,4 +50,5 @@ target_text procs Nobody = codes " -"
 
 -- the line of a signal: its port, its name, and where it went
 abbrev pub signal_line : (port : ℕ) → List Proc → JobSignal → Target → List ℕ
-signal_line port procs signal target = codes "job " ++ (decimal port ++ (codes " " ++ (signal_text signal ++ (target_text procs target ++ newline))))
+signal_line port procs signal target =
+    codes "job " ++ (decimal port ++ (codes " " ++ (signal_text signal ++ (target_text procs target ++ newline))))

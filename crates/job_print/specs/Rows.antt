@@ -8,7 +8,15 @@ use Rattle.job_control.specs.declared.processes.Proc.{Proc}
 use Rattle.job_print.specs.Lines.{answer_line, signal_line}
 
 abbrev pub shell : Proc
-shell = record { name = record { bytes = codes "sh"; spare = [] }; session = 1; group = 1; parent = None; leader = true; nottin = false; nottou = false }
+shell = record {
+  name = record { bytes = codes "sh"; spare = [] };
+  session = 1;
+  group = 1;
+  parent = None;
+  leader = true;
+  nottin = false;
+  nottou = false;
+}
 
 abbrev pub worked_lines : List ℕ
 worked_lines =
@@ -17,7 +25,8 @@ worked_lines =
     ++ (answer_line 0 (codes "job") 0 (codes "read") (Stopped Ttin)
     ++ (answer_line 0 (codes "job") 1 (codes "modes") (Refused EIO)
     ++ (answer_line 0 (codes "job") 2 (codes "sctty") NotPermitted
-    ++ (signal_line 0 (shell ∷ []) Ttin (Group 2) ++ (signal_line 0 (shell ∷ []) Hup (Process 0) ++ signal_line 0 (shell ∷ []) Int Nobody))))))
+    ++ (signal_line 0 (shell ∷ []) Ttin (Group 2)
+    ++ (signal_line 0 (shell ∷ []) Hup (Process 0) ++ signal_line 0 (shell ∷ []) Int Nobody))))))
 
 abbrev pub worked_text : List ℕ
 worked_text =

@@ -2,7 +2,8 @@
 
 ghost use Rattle.std.specs.Prelude.{◌≡◌, ◌++◌, IfOk, OnOk, string_bytes};
 ghost use Rattle.session_print.specs.Words.{errno_name};
-ghost use Rattle.job_print.specs.Lines.{answer_line, answer_text as text_of_answer, name_at, signal_line, signal_text, target_text};
+ghost use Rattle.job_print.specs.Lines.{answer_line, answer_text as text_of_answer};
+ghost use Rattle.job_print.specs.Lines.{name_at, signal_line, signal_text, target_text};
 
 use job_control::{JobAnswer, JobSignal, Proc, Target};
 use std::alloc::Global;
@@ -18,7 +19,8 @@ pub fn put_answer(
     verb: &str,
     answer: JobAnswer,
 ) -> Result<(), NoMemory>
-    ensures { OnOk result (string_bytes text.new ≡ string_bytes text.old ++ answer_line port name.now step verb.now answer) }
+    ensures { OnOk result
+        (string_bytes text.new ≡ string_bytes text.old ++ answer_line port name.now step verb.now answer) }
 {
     write!(text, "{port}.{name}.{step} {verb} ")?;
     add_answer(text, answer)?;

@@ -14,7 +14,8 @@ use Rattle.job_steps.specs.Steps.{Port, JobsState, first_state, after_event, rai
 -- whose turn it is after so many entries
 abbrev pub turn_at : PlainSession → Port → (at : ℕ) → Who
 turn_at played port at =
-    turn port.number played (place_after (call_at port.number played) (first_place port.number played) (take at port.journal.entries))
+    turn port.number played
+    (place_after (call_at port.number played) (first_place port.number played) (take at port.journal.entries))
 
 -- the signals that the first entries raised were sent on
 abbrev pub AreSent : Port → JobsState → (at : ℕ) → Type 0

@@ -7,7 +7,8 @@ use Rattle.tty_modes.specs.declared.words.Word.TheVariants.{Raw}
 use Rattle.tty_calls.specs.declared.calls.Access.TheVariants.{Rw}
 use Rattle.tty_calls.specs.declared.calls.When.TheVariants.{Now}
 use Rattle.tty_calls.specs.declared.journals.Who.TheVariants.{Caller, Flusher, Line, Clock, Session}
-use Rattle.tty_calls.specs.Plain.{PlainCall, opens, reads, writes, sets_modes, hangs_up, done, count_is, refused, flushed, line_ended, clock_ended, caller_ended, phase_ended, hung_up, PlainEntry}
+use Rattle.tty_calls.specs.Plain.{PlainCall, opens, reads, writes, sets_modes, hangs_up, done, count_is, refused}
+use Rattle.tty_calls.specs.Plain.{flushed, line_ended, clock_ended, caller_ended, phase_ended, hung_up, PlainEntry}
 use Rattle.tty_calls.specs.Sessions.{PlainPhase, PlainSession, call_at, counts_on}
 use Rattle.tty_terminal.specs.Terminals.{opening}
 use Rattle.tty_terminal.specs.Rows.{whole, answers, normal}
@@ -27,19 +28,38 @@ use Rattle.job_steps.specs.Steps.{Port, JobsState, after_event}
 -- ---- sessions of one port, with a shell that leads session 1, and a job of it
 
 abbrev pub shell : Proc
-shell = record { name = record { bytes = codes "sh"; spare = [] }; session = 1; group = 1; parent = None; leader = true; nottin = false; nottou = false }
+shell = record {
+  name = record { bytes = codes "sh"; spare = [] };
+  session = 1;
+  group = 1;
+  parent = None;
+  leader = true;
+  nottin = false;
+  nottou = false;
+}
 
 abbrev pub job_of : (parent : Option ℕ) → Proc
-job_of parent = record { name = record { bytes = codes "job"; spare = [] }; session = 1; group = 2; parent = parent; leader = false; nottin = false; nottou = false }
+job_of parent = record {
+  name = record { bytes = codes "job"; spare = [] };
+  session = 1;
+  group = 2;
+  parent = parent;
+  leader = false;
+  nottin = false;
+  nottou = false;
+}
 
 abbrev pub phase_with : List LineStep → (name : List ℕ) → List JobCall → JobsPhase
-phase_with line name calls = record { lines = line ∷ []; ticks = 0 ∷ []; callers = record { port = 0; name = name; calls = calls } ∷ [] }
+phase_with line name calls =
+    record { lines = line ∷ []; ticks = 0 ∷ []; callers = record { port = 0; name = name; calls = calls } ∷ [] }
 
 abbrev pub session_with : (parent : Option ℕ) → List JobsPhase → JobsSession
-session_with parent phases = record { version = 1; ports = 1; flips = 4096 ∷ []; procs = (shell ∷ job_of parent ∷ []) ∷ []; phases = phases }
+session_with parent phases =
+    record { version = 1; ports = 1; flips = 4096 ∷ []; procs = (shell ∷ job_of parent ∷ []) ∷ []; phases = phases }
 
 abbrev pub played_phase : List LineStep → (name : List ℕ) → List PlainCall → PlainPhase
-played_phase line name calls = record { lines = line ∷ []; ticks = 0 ∷ []; callers = record { port = 0; name = name; calls = calls } ∷ [] }
+played_phase line name calls =
+    record { lines = line ∷ []; ticks = 0 ∷ []; callers = record { port = 0; name = name; calls = calls } ∷ [] }
 
 abbrev pub played_with : List PlainPhase → PlainSession
 played_with phases = record { version = 1; ports = 1; flips = 4096 ∷ []; phases = phases }
@@ -171,7 +191,8 @@ interrupt_unsent =
 abbrev pub shell_ends : JobsSession
 shell_ends = session_with None (
     phase_with [] (codes "sh") (plain (opens 0 Rw true) ∷ further (call.Sctty 0) ∷ [])
-    ∷ phase_with [] (codes "job") (plain (reads 0 8) ∷ plain (writes 0 (97 ∷ [])) ∷ plain (sets_modes 0 Now (Raw ∷ [])) ∷ further (call.Sctty 0) ∷ [])
+    ∷ phase_with [] (codes "job")
+    (plain (reads 0 8) ∷ plain (writes 0 (97 ∷ [])) ∷ plain (sets_modes 0 Now (Raw ∷ [])) ∷ further (call.Sctty 0) ∷ [])
     ∷ phase_with [] (codes "sh") (further call.Exit ∷ [])
     ∷ [])
 
@@ -217,7 +238,9 @@ shell_ends_journal =
 
 -- the orphaned group is stopped
 abbrev pub orphan_stopped : JobLog
-orphan_stopped = logged 2 (passed 0 0 done) ∷ logged 2 (own 0 1 told.Done) ∷ logged 6 (own 1 0 (told.Stopped Ttin)) ∷ logged 6 (sent Ttin (towards.Group 2)) ∷ []
+orphan_stopped =
+    logged 2 (passed 0 0 done) ∷ logged 2 (own 0 1 told.Done) ∷ logged 6 (own 1 0 (told.Stopped Ttin))
+    ∷ logged 6 (sent Ttin (towards.Group 2)) ∷ []
 
 -- the leader ends, and nothing is hung up
 abbrev pub not_hung_up : JobLog

@@ -1,5 +1,7 @@
 -- The step of a port with job control: which event may be logged next, and what it does.
-use Rattle.std.specs.Prelude.{◌≡◌, ℕ, ◌+◌, ◌-◌, ◌==◌, ◌≤◌, ◌<◌, nat_le, Bool, true, false, not, ◌&&◌, IsTrue, Option, None, Some, Result, Ok, Err, is_none, unwrap_or, List, [], ◌∷◌, map, filter, length, position, replicate, slice_get, slice_index_or, slice_set, if◌then◌else◌}
+use Rattle.std.specs.Prelude.{◌≡◌, ℕ, ◌+◌, ◌-◌, ◌==◌, ◌≤◌, ◌<◌, nat_le, Bool, true, false, not, ◌&&◌, IsTrue}
+use Rattle.std.specs.Prelude.{Option, None, Some, Result, Ok, Err, is_none, unwrap_or, List, [], ◌∷◌, map, filter}
+use Rattle.std.specs.Prelude.{length, position, replicate, slice_get, slice_index_or, slice_set, if◌then◌else◌}
 use Rattle.std.specs.Option.{option_to_list}
 use Rattle.tty_base.specs.declared.counters.Errno.TheVariants.{EBADF, EIO, ENOTTY}
 use Rattle.tty_base.specs.declared.counters.Signal.{Signal}
@@ -7,7 +9,8 @@ use Rattle.tty_base.specs.declared.counters.Signal.TheVariants as raised
 use Rattle.tty_modes.specs.Settings.{has_flag}
 use Rattle.tty_modes.specs.declared.places.TheConstants.{TOSTOP}
 use Rattle.tty_calls.specs.declared.calls.Access.{Access}
-use Rattle.tty_calls.specs.Plain.{PlainCall, reads, writes, sets_modes, sets_disc, flushes, steers, drains, hangs_up, handle_of, PlainAnswer, done, PlainEntry, is_caller}
+use Rattle.tty_calls.specs.Plain.{PlainCall, reads, writes, sets_modes, sets_disc, flushes, steers}
+use Rattle.tty_calls.specs.Plain.{drains, hangs_up, handle_of, PlainAnswer, done, PlainEntry, is_caller}
 use Rattle.handle_table.specs.declared.HandleState.{HandleState}
 use Rattle.handle_table.specs.Handles.{is_live}
 use Rattle.tty_terminal.specs.Terminals.{Terminal, handle_at}
@@ -23,7 +26,9 @@ use Rattle.job_control.specs.declared.processes.Judged.TheVariants.{Pass, Eio, S
 use Rattle.job_control.specs.declared.processes.JobRefusal.{JobRefusal}
 use Rattle.job_control.specs.declared.processes.JobRefusal.TheVariants as refusals
 use Rattle.job_control.specs.Roster.{group_at}
-use Rattle.job_control.specs.Control.{JobState, first_jobs, leads_holder, judged, sctty_refusal, after_sctty, no_terminal, controls, let_go, after_notty, foreground_of, gpgrp_answer, spgrp_refusal, after_spgrp, after_exit, leader_of}
+use Rattle.job_control.specs.Control.{JobState, first_jobs, leads_holder, judged, sctty_refusal, after_sctty}
+use Rattle.job_control.specs.Control.{no_terminal, controls, let_go, after_notty, foreground_of}
+use Rattle.job_control.specs.Control.{gpgrp_answer, spgrp_refusal, after_spgrp, after_exit, leader_of}
 use Rattle.passed_calls.specs.Blocks.{names_on}
 use Rattle.passed_calls.specs.Journals.{Journal, terminal_at, IsAnswerAt}
 use Rattle.job_control.specs.declared.answers.JobAnswer.{JobAnswer}
@@ -123,7 +128,8 @@ is_usable needs (Some handle) = handle.live && needs handle.access
 -- what a process meets with a call before the port is asked: a call through another handle goes on unchanged
 abbrev pub judged_if : JobState → Terminal → (p : ℕ) → (h : ℕ) → Checked → Judged
 judged_if jobs t p h unchecked = Pass
-judged_if jobs t p h (checks act needs) = if is_usable needs (handle_at t h) then judged jobs p act (has_flag t.modes TOSTOP) else Pass
+judged_if jobs t p h (checks act needs) =
+    if is_usable needs (handle_at t h) then judged jobs p act (has_flag t.modes TOSTOP) else Pass
 
 abbrev pub judged_call : JobState → Terminal → (p : ℕ) → PlainCall → Judged
 judged_call jobs t p call = judged_if jobs t p (handle_of call) (checked call)
@@ -188,11 +194,14 @@ exit_due jobs t p c =
 abbrev pub spgrp_judged : JobState → (p group : ℕ) → Judged → Outcome
 spgrp_judged jobs p group Pass = leaves (done_or (spgrp_refusal jobs p group)) (after_spgrp jobs p group)
 spgrp_judged jobs p group Eio = leaves (told.Refused ENOTTY) jobs
-spgrp_judged jobs p group (Stop signal) = record { answer = told.Stopped signal; left = jobs; due = sent_by_stop jobs p (Stop signal) }
+spgrp_judged jobs p group (Stop signal) =
+    record { answer = told.Stopped signal; left = jobs; due = sent_by_stop jobs p (Stop signal) }
 
 abbrev pub spgrp_outcome : JobState → Terminal → (p group : ℕ) → Outcome
 spgrp_outcome jobs t p group =
-    if controls jobs p then spgrp_judged jobs p group (judged jobs p Change (has_flag t.modes TOSTOP)) else leaves (told.Refused ENOTTY) jobs
+    if controls jobs p
+    then spgrp_judged jobs p group (judged jobs p Change (has_flag t.modes TOSTOP))
+    else leaves (told.Refused ENOTTY) jobs
 
 -- EBADF without a handle; through a dead one EIO, and of spgrp ENOTTY
 abbrev pub through : JobState → Option HandleState → (dead : JobAnswer) → Outcome → Outcome
@@ -206,13 +215,17 @@ outcome_of jobs t p c (plain call) = record {
   left = jobs;
   due = sent_by_stop jobs p (judged_call jobs t p call);
 }
-outcome_of jobs t p c (further (call.Sctty h)) = through jobs (handle_at t h) (told.Refused EIO) (leaves (done_or (sctty_refusal jobs p)) (after_sctty jobs p))
+outcome_of jobs t p c (further (call.Sctty h)) =
+    through jobs (handle_at t h) (told.Refused EIO) (leaves (done_or (sctty_refusal jobs p)) (after_sctty jobs p))
 outcome_of jobs t p c (further (call.Notty h)) =
     through jobs (handle_at t h) (told.Refused EIO)
     (record { answer = done_or (no_terminal jobs p); left = after_notty jobs p; due = notty_due jobs p })
-outcome_of jobs t p c (further (call.Gpgrp h)) = through jobs (handle_at t h) (told.Refused EIO) (leaves (number_or (gpgrp_answer jobs p)) jobs)
-outcome_of jobs t p c (further (call.Spgrp h group)) = through jobs (handle_at t h) (told.Refused ENOTTY) (spgrp_outcome jobs t p group)
-outcome_of jobs t p c (further call.Exit) = record { answer = told.Done; left = after_exit jobs p; due = exit_due jobs t p c }
+outcome_of jobs t p c (further (call.Gpgrp h)) =
+    through jobs (handle_at t h) (told.Refused EIO) (leaves (number_or (gpgrp_answer jobs p)) jobs)
+outcome_of jobs t p c (further (call.Spgrp h group)) =
+    through jobs (handle_at t h) (told.Refused ENOTTY) (spgrp_outcome jobs t p group)
+outcome_of jobs t p c (further call.Exit) =
+    record { answer = told.Done; left = after_exit jobs p; due = exit_due jobs t p c }
 
 -- ---- the step
 
@@ -240,7 +253,8 @@ first_place journal c step = unwrap_or (position (is_of_step c step) journal.ent
 
 -- the call went on to the port: by the background check as the call began
 abbrev pub GoesOn : Port → JobsState → (place c : ℕ) → Option JobCall → Type 0
-GoesOn port s place c (Some (plain call)) = judged_call (jobs_before port s place) (terminal_at port.journal place) (proc_of port c) call ≡ Pass
+GoesOn port s place c (Some (plain call)) =
+    judged_call (jobs_before port s place) (terminal_at port.journal place) (proc_of port c) call ≡ Pass
 GoesOn port s place c other = ⊥
 
 pub record IsPassed (port : Port) (s : JobsState) (at c step : ℕ) (answer : PlainAnswer) : Type 0 where
@@ -293,7 +307,8 @@ answered_for s c = record s { next = slice_set s.next c (next_of s c + 1) }
 
 abbrev pub after_own : Terminal → (p c : ℕ) → JobsState → (at : ℕ) → Option JobCall → JobsState
 after_own t p c s at None = s
-after_own t p c s at (Some call) = record (with_jobs s at (outcome_of s.now.jobs t p c call).left) { due = (outcome_of s.now.jobs t p c call).due }
+after_own t p c s at (Some call) =
+    record (with_jobs s at (outcome_of s.now.jobs t p c call).left) { due = (outcome_of s.now.jobs t p c call).due }
 
 -- a caller's hangup tells the leader of the session, and nobody holds the port then
 abbrev pub told_leader : Option ℕ → List JobEvent
@@ -301,7 +316,8 @@ told_leader None = []
 told_leader (Some leader) = sent Hup (towards.Process leader) ∷ sent Cont (towards.Process leader) ∷ []
 
 abbrev pub after_passed : JobsState → (at : ℕ) → Option JobCall → PlainAnswer → JobsState
-after_passed s at (Some (plain (hangs_up h))) done = record (with_jobs s at (let_go s.now.jobs)) { due = told_leader (leader_of s.now.jobs) }
+after_passed s at (Some (plain (hangs_up h))) done =
+    record (with_jobs s at (let_go s.now.jobs)) { due = told_leader (leader_of s.now.jobs) }
 after_passed s at call answer = with_jobs s at s.now.jobs
 
 abbrev pub rest_of : List JobEvent → List JobEvent
@@ -309,17 +325,24 @@ rest_of [] = []
 rest_of (e ∷ rest) = rest
 
 abbrev pub after_event : Port → JobsState → (at : ℕ) → JobEvent → JobsState
-after_event port s at (own c step answer) = answered_for (after_own (terminal_at port.journal at) (proc_of port c) c s at (next_call port s c)) c
+after_event port s at (own c step answer) =
+    answered_for (after_own (terminal_at port.journal at) (proc_of port c) c s at (next_call port s c)) c
 after_event port s at (passed c step answer) = answered_for (after_passed s at (next_call port s c) answer) c
 after_event port s at (passed_down c h) = record (with_jobs s at s.now.jobs) { due = rest_of s.due }
 after_event port s at (sent signal target) =
-    record (with_jobs s at s.now.jobs) { signals = if nat_le (length s.due) 0 then s.signals + 1 else s.signals; due = rest_of s.due }
+    record (with_jobs s at s.now.jobs) {
+      signals = if nat_le (length s.due) 0 then s.signals + 1 else s.signals;
+      due = rest_of s.due;
+    }
 
 -- the events of a port are steps, one after the other, and lead from the one state to the other; the places never fall
 abbrev pub Leads : Port → JobsState → JobLog → JobsState → Type 0
 Leads port s [] u = u ≡ s
 Leads port s (l ∷ log) u =
-    (s.now.at ≤ l.at) × (l.at ≤ length port.journal.entries) × IsAllowed port s l.at l.event × Leads port (after_event port s l.at l.event) log u
+    (s.now.at ≤ l.at)
+    × (l.at ≤ length port.journal.entries)
+    × IsAllowed port s l.at l.event
+    × Leads port (after_event port s l.at l.event) log u
 
 -- at its end nothing is due, and each of the port's signals was sent on
 pub record IsJobsRun (port : Port) (log : JobLog) : Type 0 where

@@ -6,7 +6,10 @@ ghost use Rattle.std.specs.Prelude.{◌≡◌, []};
 ghost use Rattle.job_steps.specs.Derived.{derived};
 ghost use Rattle.job_steps.specs.Order.{IsInJobsOrder};
 ghost use Rattle.job_steps.specs.Steps.{IsJobsRun};
-ghost use Rattle.job_steps.specs.Rows.{port_of, read_passed, read_passed_journal, interrupt_to_shell, interrupt_unsent, orphan_stopped, not_hung_up, stopped_early, foreground_given, foreground_log, foreground_played, foreground_journal, shell_ends, shell_ends_log, shell_ends_played, shell_ends_journal};
+ghost use Rattle.job_steps.specs.Rows.{port_of, read_passed, read_passed_journal, interrupt_to_shell};
+ghost use Rattle.job_steps.specs.Rows.{interrupt_unsent, orphan_stopped, not_hung_up, stopped_early};
+ghost use Rattle.job_steps.specs.Rows.{foreground_given, foreground_log, foreground_played, foreground_journal};
+ghost use Rattle.job_steps.specs.Rows.{shell_ends, shell_ends_log, shell_ends_played, shell_ends_journal};
 
 /// A law: a read from the background is stopped, and in the foreground the job gets the interrupt.
 pub fn foreground_given()
@@ -24,7 +27,8 @@ pub fn shell_ends()
 /// to none, an orphaned group is stopped, or the end of a leader hangs nothing up.
 pub fn wrong_logs_are_none()
     ensures read_passed { IsJobsRun (port_of foreground_given read_passed read_passed_journal) read_passed → ⊥ }
-    ensures other_group { IsJobsRun (port_of foreground_given interrupt_to_shell foreground_journal) interrupt_to_shell → ⊥ }
+    ensures other_group { IsJobsRun (port_of foreground_given interrupt_to_shell foreground_journal) interrupt_to_shell
+        → ⊥ }
     ensures unsent { IsJobsRun (port_of foreground_given interrupt_unsent foreground_journal) interrupt_unsent → ⊥ }
     ensures orphan_stopped { IsJobsRun (port_of shell_ends orphan_stopped shell_ends_journal) orphan_stopped → ⊥ }
     ensures not_hung_up { IsJobsRun (port_of shell_ends not_hung_up shell_ends_journal) not_hung_up → ⊥ }

@@ -1,5 +1,6 @@
 -- What the line of a process says, or why it is wrong: how many words it has, and then each word from the left.
-use Rattle.std.specs.Prelude.{ℕ, ◌==◌, nat_lt, Bool, true, false, ◌&&◌, List, [], ◌∷◌, codes, filter, Option, None, Some, Ok, Err, if◌then◌else◌}
+use Rattle.std.specs.Prelude.{ℕ, ◌==◌, nat_lt, Bool, true, false, ◌&&◌, List, [], ◌∷◌}
+use Rattle.std.specs.Prelude.{codes, filter, Option, None, Some, Ok, Err, if◌then◌else◌}
 use Rattle.std.specs.Str.{bytes_eq}
 use Rattle.std.specs.List.{position_from}
 use Rattle.text_lines.specs.Values.{is_name}
@@ -42,9 +43,19 @@ few_flags flags = are_none (rest_of (rest_of (rest_of flags)))
 
 abbrev pub words_in : List (List ℕ) → Read ProcWords
 words_in words =
-    parted words >>= λ name. parted name.rest >>= λ port. parted port.rest >>= λ session. parted session.rest >>= λ group. parted group.rest >>= λ parent.
+    parted words
+    >>= λ name.
+    parted name.rest
+    >>= λ port. parted port.rest >>= λ session. parted session.rest >>= λ group. parted group.rest >>= λ parent.
     if few_flags parent.rest
-    then Ok (record { name = name.word; port = port.word; session = session.word; group = group.word; parent = parent.word; flags = parent.rest })
+    then Ok (record {
+      name = name.word;
+      port = port.word;
+      session = session.word;
+      group = group.word;
+      parent = parent.word;
+      flags = parent.rest;
+    })
     else Err Word
 
 -- ---- each word
@@ -54,7 +65,8 @@ name_in word = if is_name word then Ok word else Err Word
 
 -- the place of a process among those of its port
 abbrev pub place_named : List PortProc → (port : ℕ) → (name : List ℕ) → Option ℕ
-place_named procs port name = position_from (λ q. bytes_eq q.proc.name.bytes name) 0 (filter (λ q. q.port == port) procs)
+place_named procs port name =
+    position_from (λ q. bytes_eq q.proc.name.bytes name) 0 (filter (λ q. q.port == port) procs)
 
 -- one of the 1,024 that a port may have
 abbrev pub found : Option ℕ → Read (Option ℕ)
@@ -96,7 +108,9 @@ flags_in words =
 -- a process, of a session with so many ports and these processes before it
 abbrev pub proc_of : (ports : ℕ) → List PortProc → ProcWords → Read PortProc
 proc_of ports procs words =
-    name_in words.name >>= λ name. port_in ports words.port >>= λ port. group_in words.session >>= λ session. group_in words.group >>= λ group.
+    name_in words.name
+    >>= λ name.
+    port_in ports words.port >>= λ port. group_in words.session >>= λ session. group_in words.group >>= λ group.
     parent_in procs port words.parent >>= λ parent. flags_in words.flags >>= λ flags.
     Ok (record {
       port = port;

@@ -1,6 +1,7 @@
 -- Reading a text line by line: what stands beside the items of a session of ports, or the first wrong line. What is
 -- left of a text without processes and calls of job control is read as a session's.
-use Rattle.std.specs.Prelude.{ℕ, ◌-◌, ◌==◌, ◌&&◌, ◌||◌, nat_le, nat_lt, Bool, true, false, not, List, [], ◌∷◌, ◌++◌, length, count_by, Option, None, Some, is_some, is_none, Result, Ok, if◌then◌else◌}
+use Rattle.std.specs.Prelude.{ℕ, ◌-◌, ◌==◌, ◌&&◌, ◌||◌, nat_le, nat_lt, Bool, true, false, not, List, [], ◌∷◌, ◌++◌}
+use Rattle.std.specs.Prelude.{length, count_by, Option, None, Some, is_some, is_none, Result, Ok, if◌then◌else◌}
 use Rattle.std.specs.List.{list_any}
 use Rattle.std.specs.Option.{option_map_or}
 use Rattle.text_lines.specs.Lines.{first_is}
@@ -11,7 +12,8 @@ use Rattle.session_text.specs.Refusals.{next_line, lines_in}
 use Rattle.further_text.specs.declared.sorts.Sort.{Sort}
 use Rattle.further_text.specs.declared.sorts.Sort.TheVariants.{Ports, Caller, Border, Inside, Other}
 use Rattle.further_text.specs.Faults.{bad, wrong_if, wrong_unless, on_line, ◌>>=◌}
-use Rattle.further_text.specs.Reading.{BaseReading, first_base, at_start, in_open_phase, at_end, base_after_item, base_after_ports, base_after_step, base_at_end, spend, with_block, place_in}
+use Rattle.further_text.specs.Reading.{BaseReading, first_base, at_start, in_open_phase, at_end, base_after_item}
+use Rattle.further_text.specs.Reading.{base_after_ports, base_after_step, base_at_end, spend, with_block, place_in}
 use Rattle.further_text.specs.Sorts.{sort_of}
 use Rattle.job_text.specs.declared.verbs.JobVerb.{JobVerb}
 use Rattle.job_text.specs.declared.verbs.JobVerb.TheVariants as verb
@@ -39,7 +41,15 @@ pub record JobsReading : Type 0 where
   pub parts : List (List (PlacedCall OwnCall))
 
 abbrev pub first_jobs_reading : JobsReading
-first_jobs_reading = record { base = first_base; open_block = block.Another; procs = []; exited = []; scripts = []; own = []; parts = [] }
+first_jobs_reading = record {
+  base = first_base;
+  open_block = block.Another;
+  procs = [];
+  exited = [];
+  scripts = [];
+  own = [];
+  parts = [];
+}
 
 -- what is read with the session of ports
 abbrev pub with_base : JobsReading → Result BaseReading BadLine → Result JobsReading BadLine
@@ -94,7 +104,8 @@ abbrev pub place_of : JobsReading → (port : ℕ) → (name : List ℕ) → Opt
 place_of r port name = place_named r.procs port name
 
 -- the item that opens the block of a caller
-abbrev pub after_opening : JobsReading → ℕ → List ℕ → List (List ℕ) → (name : List ℕ) → (port : ℕ) → Result JobsReading BadLine
+abbrev pub after_opening : JobsReading → ℕ → List ℕ → List (List ℕ) → (name : List ℕ) → (port : ℕ)
+    → Result JobsReading BadLine
 after_opening r n word arguments name port =
     after_session_item r n word arguments >>= λ next. with_caller n port (place_of next port name) next
 
@@ -126,7 +137,8 @@ after_shared r n word arguments Other =
 
 -- a process stands once, and a session of a port has one leader
 abbrev pub has_stood : List PortProc → PortProc → Bool
-has_stood procs q = is_some (place_named procs q.port q.proc.name.bytes) || (q.proc.leader && list_any (leads_with q) procs)
+has_stood procs q =
+    is_some (place_named procs q.port q.proc.name.bytes) || (q.proc.leader && list_any (leads_with q) procs)
 
 -- one of 1,024 of its port
 abbrev pub with_proc : JobsReading → ℕ → PortProc → Result JobsReading BadLine
@@ -161,7 +173,8 @@ abbrev pub with_call : JobsReading → ℕ → OwnCall → Result JobsReading Ba
 with_call r n call = with_base (with_exit call (with_own r call)) (spend n r.base)
 
 abbrev pub after_call : JobsReading → ℕ → JobVerb → List (List ℕ) → Result JobsReading BadLine
-after_call r n v arguments = wrong_unless n Order (is_caller r.open_block) (on_line n (call_of v arguments) >>= with_call r n)
+after_call r n v arguments =
+    wrong_unless n Order (is_caller r.open_block) (on_line n (call_of v arguments) >>= with_call r n)
 
 -- ---- the text
 

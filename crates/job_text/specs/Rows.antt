@@ -86,17 +86,34 @@ refused_rows =
 
 abbrev pub shell_text : List ℕ
 shell_text =
-    codes "tty-session 1\nports 1\nproc sh 0 1 1 - leader\nproc job 0 1 2 sh nottin nottou\nphase\ncaller sh 0\nopen 0 rw nonblock\nsctty 0\n# who\ngpgrp 0\n"
+    codes
+    "tty-session 1\nports 1\nproc sh 0 1 1 - leader\nproc job 0 1 2 sh nottin nottou\nphase\ncaller sh 0\nopen 0 rw nonblock\nsctty 0\n# who\ngpgrp 0\n"
     ++ codes "phase\nline 0\nrx 03\ncaller job 0\nread 0 8\ncaller sh 0\nspgrp 0 2\nexit\nphase\ncaller sh 0\nend\n"
 
 abbrev pub phase_of : List (CallerScript JobCall) → JobsPhase
 phase_of callers = record { lines = [] ∷ []; ticks = 0 ∷ []; callers = callers }
 
 abbrev pub shell : Proc
-shell = record { name = record { bytes = codes "sh"; spare = [] }; session = 1; group = 1; parent = None; leader = true; nottin = false; nottou = false }
+shell = record {
+  name = record { bytes = codes "sh"; spare = [] };
+  session = 1;
+  group = 1;
+  parent = None;
+  leader = true;
+  nottin = false;
+  nottou = false;
+}
 
 abbrev pub a_job : Proc
-a_job = record { name = record { bytes = codes "job"; spare = [] }; session = 1; group = 2; parent = Some 0; leader = false; nottin = true; nottou = true }
+a_job = record {
+  name = record { bytes = codes "job"; spare = [] };
+  session = 1;
+  group = 2;
+  parent = Some 0;
+  leader = false;
+  nottin = true;
+  nottou = true;
+}
 
 abbrev pub shell_session : JobsSession
 shell_session = record {
@@ -105,7 +122,11 @@ shell_session = record {
   flips = 4096 ∷ [];
   procs = (shell ∷ a_job ∷ []) ∷ [];
   phases =
-      phase_of (record { port = 0; name = codes "sh"; calls = plain (opens 0 Rw true) ∷ further (call.Sctty 0) ∷ further (call.Gpgrp 0) ∷ [] } ∷ [])
+      phase_of (record {
+        port = 0;
+        name = codes "sh";
+        calls = plain (opens 0 Rw true) ∷ further (call.Sctty 0) ∷ further (call.Gpgrp 0) ∷ [];
+      } ∷ [])
       ∷ record {
         lines = (Rx (record { byte = 3; flag = Normal }) ∷ []) ∷ [];
         ticks = 0 ∷ [];

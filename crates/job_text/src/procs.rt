@@ -4,7 +4,8 @@ ghost use Rattle.std.specs.Prelude.{◌≡◌, ◌==◌, count_by, map};
 ghost use Rattle.std.specs.List.{list_any};
 ghost use Rattle.text_lines.specs.Lines.{words_of};
 ghost use Rattle.further_text.specs.Faults.{Reads};
-ghost use Rattle.job_text.specs.Procs.{after_flag, few_flags, flags_in, found, has_flag, name_in, parent_in, parted, place_named, proc_of, rest_of, words_in, leads_with};
+ghost use Rattle.job_text.specs.Procs.{after_flag, few_flags, flags_in, found, has_flag, name_in, parent_in};
+ghost use Rattle.job_text.specs.Procs.{parted, place_named, proc_of, rest_of, words_in, leads_with};
 ghost use Rattle.job_text.specs.Sessions.{bare};
 ghost use Rattle.job_text.specs.Views.{proc_words_of};
 
@@ -31,7 +32,8 @@ pub(crate) struct ProcWords<'a> {
 
 /// The first word, and what stands behind it.
 fn parted(line: &[u8]) -> Result<(&[u8], &[u8]), Reason>
-    ensures { Reads (λ parts. record { word = parts.0.now; rest = words_of parts.1.now }) result (parted (words_of line.now)) }
+    ensures { Reads (λ parts. record { word = parts.0.now; rest = words_of parts.1.now }) result
+        (parted (words_of line.now)) }
 {
     match split_word(line) {
         None => Err(Reason::Word),
@@ -163,7 +165,8 @@ pub(crate) struct Flags {
 }
 
 fn flags_in(line: &[u8]) -> Result<Flags, Reason>
-    ensures { Reads (λ f. record { leader = f.leader; nottin = f.nottin; nottou = f.nottou }) result (flags_in (words_of line.now)) }
+    ensures { Reads (λ f. record { leader = f.leader; nottin = f.nottin; nottou = f.nottou }) result
+        (flags_in (words_of line.now)) }
 {
     let (leader, rest) = take_flag(line, b"leader".as_slice());
     let (nottin, rest) = take_flag(rest, b"nottin".as_slice());

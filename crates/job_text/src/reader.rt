@@ -8,7 +8,11 @@ ghost use Rattle.session_text.specs.Reading.{Gives};
 ghost use Rattle.further_text.specs.Reading.{spend};
 ghost use Rattle.further_text.specs.Sorts.{sort_of};
 ghost use Rattle.job_text.specs.Sessions.{bare, bare_session_of};
-ghost use Rattle.job_text.specs.Reading.{after_call, after_item, after_line, after_opening, after_proc, after_session_item, after_shared, exits, first_jobs_reading, has_exited, has_stood, is_before_phases, is_nobody, is_same_process, is_stray, jobs_at_end, jobs_in, place_of, with_base, with_call, with_caller, with_exit, with_own, with_phase_closed, with_proc};
+ghost use Rattle.job_text.specs.Reading.{after_call, after_item, after_line, after_opening, after_proc};
+ghost use Rattle.job_text.specs.Reading.{after_session_item, after_shared, exits, first_jobs_reading};
+ghost use Rattle.job_text.specs.Reading.{has_exited, has_stood, is_before_phases, is_nobody, is_same_process};
+ghost use Rattle.job_text.specs.Reading.{is_stray, jobs_at_end, jobs_in, place_of, with_base, with_call};
+ghost use Rattle.job_text.specs.Reading.{with_caller, with_exit, with_own, with_phase_closed, with_proc};
 ghost use Rattle.job_text.specs.Views.{jobs_reading_of};
 
 use crate::calls::{OwnCall, call_of};
@@ -76,7 +80,8 @@ impl JobsReader {
 
     /// Reads the line with this number.
     fn read_line(&mut self, alloc: Global, number: u32, line: &[u8]) -> Result<(), TextFault>
-        ensures { Gives (λ _. jobs_reading_of self.new) result (after_line (jobs_reading_of self.old) number (words_of line.now)) }
+        ensures { Gives (λ _. jobs_reading_of self.new) result
+            (after_line (jobs_reading_of self.old) number (words_of line.now)) }
     {
         match split_word(line) {
             None => Ok(()),
@@ -96,7 +101,8 @@ impl JobsReader {
         word: &[u8],
         behind: &[u8],
     ) -> Result<(), TextFault>
-        ensures { Gives (λ _. jobs_reading_of self.new) result (after_item (jobs_reading_of self.old) number word.now (words_of behind.now)) }
+        ensures { Gives (λ _. jobs_reading_of self.new) result
+            (after_item (jobs_reading_of self.old) number word.now (words_of behind.now)) }
     {
         let arguments = FirstTwo::of(behind);
         if self.base.is_at_start() {
@@ -117,7 +123,8 @@ impl JobsReader {
         word: &[u8],
         arguments: &FirstTwo,
     ) -> Result<(), TextFault>
-        ensures { Gives (λ _. jobs_reading_of self.new) result (after_session_item (jobs_reading_of self.old) number word.now arguments.now) }
+        ensures { Gives (λ _. jobs_reading_of self.new) result
+            (after_session_item (jobs_reading_of self.old) number word.now arguments.now) }
     {
         self.base.read_item(alloc, number, word, arguments)
     }
@@ -130,7 +137,8 @@ impl JobsReader {
         word: &[u8],
         arguments: &FirstTwo,
     ) -> Result<(), TextFault>
-        ensures { Gives (λ _. jobs_reading_of self.new) result (after_shared (jobs_reading_of self.old) number word.now arguments.now (sort_of word.now)) }
+        ensures { Gives (λ _. jobs_reading_of self.new) result
+            (after_shared (jobs_reading_of self.old) number word.now arguments.now (sort_of word.now)) }
     {
         match sort_of(word) {
             Sort::Ports => self.base.read_ports(alloc, number, word, arguments),
@@ -152,7 +160,8 @@ impl JobsReader {
         word: &[u8],
         arguments: &FirstTwo,
     ) -> Result<(), TextFault>
-        ensures { Gives (λ _. jobs_reading_of self.new) result (after_shared (jobs_reading_of self.old) number word.now arguments.now Sort.Caller) }
+        ensures { Gives (λ _. jobs_reading_of self.new) result
+            (after_shared (jobs_reading_of self.old) number word.now arguments.now Sort.Caller) }
     {
         if !has_count(arguments, 2) {
             return self.read_by_session(alloc, number, word, arguments);
@@ -175,14 +184,16 @@ impl JobsReader {
         name: &[u8],
         port: u64,
     ) -> Result<(), TextFault>
-        ensures { Gives (λ _. jobs_reading_of self.new) result (after_opening (jobs_reading_of self.old) number word.now arguments.now name.now port) }
+        ensures { Gives (λ _. jobs_reading_of self.new) result
+            (after_opening (jobs_reading_of self.old) number word.now arguments.now name.now port) }
     {
         self.read_by_session(alloc, number, word, arguments)?;
         self.open_named(number, name, port)
     }
 
     fn open_named(&mut self, number: u32, name: &[u8], port: u64) -> Result<(), TextFault>
-        ensures { Gives (λ _. jobs_reading_of self.new) result (with_caller number port (place_of (jobs_reading_of self.old) port name.now) (jobs_reading_of self.old)) }
+        ensures { Gives (λ _. jobs_reading_of self.new) result
+            (with_caller number port (place_of (jobs_reading_of self.old) port name.now) (jobs_reading_of self.old)) }
     {
         let place = place_named(self.procs.as_slice(), port, name);
         self.open_caller(number, port, place)
@@ -208,7 +219,8 @@ impl JobsReader {
     }
 
     fn open_caller(&mut self, number: u32, port: u64, place: Option<usize>) -> Result<(), TextFault>
-        ensures { Gives (λ _. jobs_reading_of self.new) result (with_caller number port place (jobs_reading_of self.old)) }
+        ensures { Gives (λ _. jobs_reading_of self.new) result
+            (with_caller number port place (jobs_reading_of self.old)) }
     {
         match place {
             None => Err(bad(number, Reason::Order)),
@@ -231,7 +243,8 @@ impl JobsReader {
         word: &[u8],
         arguments: &FirstTwo,
     ) -> Result<(), TextFault>
-        ensures { Gives (λ _. jobs_reading_of self.new) result (after_shared (jobs_reading_of self.old) number word.now arguments.now Sort.Border) }
+        ensures { Gives (λ _. jobs_reading_of self.new) result
+            (after_shared (jobs_reading_of self.old) number word.now arguments.now Sort.Border) }
     {
         let is_open = self.base.is_in_phase();
         self.read_by_session(alloc, number, word, arguments)?;
@@ -259,7 +272,8 @@ impl JobsReader {
         word: &[u8],
         arguments: &FirstTwo,
     ) -> Result<(), TextFault>
-        ensures { Gives (λ _. jobs_reading_of self.new) result (after_shared (jobs_reading_of self.old) number word.now arguments.now Sort.Inside) }
+        ensures { Gives (λ _. jobs_reading_of self.new) result
+            (after_shared (jobs_reading_of self.old) number word.now arguments.now Sort.Inside) }
     {
         if matches!(self.block, Block::Exited) {
             return Err(bad(number, Reason::Order));
@@ -269,14 +283,16 @@ impl JobsReader {
 
     /// Counts a step.
     fn spend(&mut self, number: u32) -> Result<(), TextFault>
-        ensures { Gives (λ _. jobs_reading_of self.new) result (with_base (jobs_reading_of self.old) (spend number (jobs_reading_of self.old).base)) }
+        ensures { Gives (λ _. jobs_reading_of self.new) result
+            (with_base (jobs_reading_of self.old) (spend number (jobs_reading_of self.old).base)) }
     {
         self.base.spend(number)
     }
 
     /// Reads the line of a process.
     fn read_proc(&mut self, number: u32, line: &[u8]) -> Result<(), TextFault>
-        ensures { Gives (λ _. jobs_reading_of self.new) result (after_proc (jobs_reading_of self.old) number (words_of line.now)) }
+        ensures { Gives (λ _. jobs_reading_of self.new) result
+            (after_proc (jobs_reading_of self.old) number (words_of line.now)) }
     {
         if !self.is_before_phases() {
             return Err(bad(number, Reason::Order));
@@ -298,7 +314,8 @@ impl JobsReader {
     }
 
     fn take_proc(&mut self, number: u32, proc: PortProc) -> Result<(), TextFault>
-        ensures { Gives (λ _. jobs_reading_of self.new) result (with_proc (jobs_reading_of self.old) number (bare proc)) }
+        ensures { Gives (λ _. jobs_reading_of self.new) result
+            (with_proc (jobs_reading_of self.old) number (bare proc)) }
     {
         if has_stood(self.procs.as_slice(), &proc) {
             return Err(bad(number, Reason::Order));
@@ -311,7 +328,8 @@ impl JobsReader {
     }
 
     fn add_proc(&mut self, proc: PortProc) -> Result<(), NoMemory>
-        ensures { OnOk result (jobs_reading_of self.new ≡ record (jobs_reading_of self.old) { procs = (jobs_reading_of self.old).procs ++ bare proc ∷ [] }) }
+        ensures { OnOk result (jobs_reading_of self.new
+            ≡ record (jobs_reading_of self.old) { procs = (jobs_reading_of self.old).procs ++ bare proc ∷ [] }) }
     {
         self.procs.reserve(1)?;
         self.procs.add(proc);
@@ -325,7 +343,8 @@ impl JobsReader {
         verb: JobVerb,
         arguments: &FirstTwo,
     ) -> Result<(), TextFault>
-        ensures { Gives (λ _. jobs_reading_of self.new) result (after_call (jobs_reading_of self.old) number verb arguments.now) }
+        ensures { Gives (λ _. jobs_reading_of self.new) result
+            (after_call (jobs_reading_of self.old) number verb arguments.now) }
     {
         if !matches!(self.block, Block::Caller(_)) {
             return Err(bad(number, Reason::Order));
@@ -368,7 +387,8 @@ impl JobsReader {
     }
 
     fn exit(&mut self) -> Result<(), NoMemory>
-        ensures { OnOk result (jobs_reading_of self.new ≡ exits (jobs_reading_of self.old).open_block (jobs_reading_of self.old)) }
+        ensures { OnOk result
+            (jobs_reading_of self.new ≡ exits (jobs_reading_of self.old).open_block (jobs_reading_of self.old)) }
     {
         match self.block {
             Block::Caller(process) => {

@@ -1,7 +1,10 @@
 -- What a caller has spent of what its calls allow, in sixteenths of an entry: a number that each of its entries raises.
 use Rattle.std.proofs.Common.{◌≡◌, ℕ, ◌+◌, ◌*◌, ◌<◌, ◌≤◌, Bool, true, false, List, [], Option, None, Some, ap, arith}
 use Rattle.tty_base.specs.declared.characters.Flagged.{Flagged}
-use Rattle.tty_calls.specs.Plain.{PlainCall, opens, closes, reads, writes, gets_modes, sets_modes, gets_disc, sets_disc, flushes, steers, counts_input, counts_output, excludes, admits, drains, gets_counts, hangs_up, sends_packet, takes_packet, PlainAnswer, answered, parted, waited, caller_ended, phase_ended}
+use Rattle.tty_calls.specs.Plain.{PlainCall, opens, closes, reads, writes, gets_modes, sets_modes, gets_disc}
+use Rattle.tty_calls.specs.Plain.{sets_disc, flushes, steers, counts_input, counts_output, excludes, admits}
+use Rattle.tty_calls.specs.Plain.{drains, gets_counts, hangs_up, sends_packet, takes_packet, PlainAnswer}
+use Rattle.tty_calls.specs.Plain.{answered, parted, waited, caller_ended, phase_ended}
 use Rattle.tty_terminal.specs.Standing.{Standing, standing_after_own, standing_after_other}
 use Rattle.journal_bound.specs.Counts.{written_count}
 use Rattle.journal_bound.proofs.Totals.{total, total_next}
@@ -55,7 +58,9 @@ cost call = 31 * bytes_of call + 48 * known call
 
 -- a caller with these calls, which counts so much in each phase
 abbrev pub spent : (ℕ → Option PlainCall) → (ℕ → ℕ) → ℕ → Standing → ℕ
-spent calls own k s = total (λ i. cost (calls i)) s.next + pay (text_of (calls s.next)) s.taken + 16 * bit s.waits + 16 * bit s.over + 16 * total own k
+spent calls own k s =
+    total (λ i. cost (calls i)) s.next + pay (text_of (calls s.next)) s.taken + 16 * bit s.waits + 16 * bit s.over
+    + 16 * total own k
 
 -- no more was paid than its call has, a caller that waits has a call, and one whose calls are over is of the phase
 pub record IsSound (calls : ℕ → Option PlainCall) (own : ℕ → ℕ) (k : ℕ) (s : Standing) : Type 0 where
@@ -70,7 +75,10 @@ pub record IsMore (d room : ℕ) (calls : ℕ → Option PlainCall) (own : ℕ �
   pub sound : IsSound calls own l u
 
 module _ (calls : ℕ → Option PlainCall) (own : ℕ → ℕ) (k : ℕ) (s : Standing) (h : IsSound calls own k s) where
-  pub answer_more : (a : PlainAnswer) (dropped : List Flagged) (generation before after : ℕ) → known (calls s.next) ≡ 1 → before ≤ 16 → IsMore (16 + before) after calls own k k s (standing_after_own (answered a dropped) generation s)
+  pub answer_more : (a : PlainAnswer) (dropped : List Flagged) (generation before after : ℕ)
+      → known (calls s.next) ≡ 1
+      → before ≤ 16
+      → IsMore (16 + before) after calls own k k s (standing_after_own (answered a dropped) generation s)
   answer_more a dropped generation before after is_known few =
       record {
         least = omega (arith, h.paid, h.waits, is_known, total_next (λ i. cost (calls i)) s.next);
@@ -78,16 +86,26 @@ module _ (calls : ℕ → Option PlainCall) (own : ℕ → ℕ) (k : ℕ) (s : S
         sound = record { paid = omega arith; waits = omega arith; over = h.over };
       }
 
-  pub part_more : (n generation before after : ℕ) → 1 ≤ n → s.taken + n < bytes_of (calls s.next) → (32 + pay (text_of (calls s.next)) s.taken) + before ≤ pay (text_of (calls s.next)) (s.taken + n) + after
+  pub part_more : (n generation before after : ℕ)
+      → 1 ≤ n
+      → s.taken + n < bytes_of (calls s.next)
+      → (32 + pay (text_of (calls s.next)) s.taken) + before ≤ pay (text_of (calls s.next)) (s.taken + n) + after
       → IsMore (16 + before) after calls own k k s (standing_after_own (parted n) generation s)
   part_more n generation before after some within pays =
       record {
         least = omega (arith, some, bit_small s.waits, one_small (is_return_end (text_of (calls s.next)) s.taken));
         gain = omega (arith, some, pays, bit_small s.waits);
-        sound = record { paid = omega (arith, within, one_small (is_return_end (text_of (calls s.next)) (s.taken + n))); waits = omega arith; over = h.over };
+        sound = record {
+          paid = omega (arith, within, one_small (is_return_end (text_of (calls s.next)) (s.taken + n)));
+          waits = omega arith;
+          over = h.over;
+        };
       }
 
-  pub wait_more : (generation room : ℕ) → s.waits ≡ false → known (calls s.next) ≡ 1 → IsMore (16 + room) room calls own k k s (standing_after_own waited generation s)
+  pub wait_more : (generation room : ℕ)
+      → s.waits ≡ false
+      → known (calls s.next) ≡ 1
+      → IsMore (16 + room) room calls own k k s (standing_after_own waited generation s)
   wait_more generation room not_yet is_known =
       let none : bit s.waits ≡ 0 = ap bit not_yet in
       record {
@@ -96,7 +114,10 @@ module _ (calls : ℕ → Option PlainCall) (own : ℕ → ℕ) (k : ℕ) (s : S
         sound = record { paid = h.paid; waits = omega (arith, is_known); over = h.over };
       }
 
-  pub end_more : (generation room : ℕ) → s.over ≡ false → 1 ≤ own k → IsMore (16 + room) room calls own k k s (standing_after_own caller_ended generation s)
+  pub end_more : (generation room : ℕ)
+      → s.over ≡ false
+      → 1 ≤ own k
+      → IsMore (16 + room) room calls own k k s (standing_after_own caller_ended generation s)
   end_more generation room not_over of_phase =
       let none : bit s.over ≡ 0 = ap bit not_over in
       record {

@@ -1,5 +1,6 @@
 -- Sums over the first numbers.
-use Rattle.std.proofs.Common.{◌≡◌, inl, inr, ℕ, zero, suc, ◌+◌, ◌*◌, ◌<◌, ◌≤◌, List, [], ◌∷◌, Option, None, Some, refl, ap, subst, arith}
+use Rattle.std.proofs.Common.{◌≡◌, inl, inr, ℕ, zero, suc, ◌+◌, ◌*◌, ◌<◌, ◌≤◌, List}
+use Rattle.std.proofs.Common.{[], ◌∷◌, Option, None, Some, refl, ap, subst, arith}
 use Rattle.std.specs.Prelude.{slice_get, slice_index_or, sum_by}
 use Rattle.std.proofs.lemmas.Bool.{cases_lt}
 use Rattle.std.proofs.lemmas.List.Sums.{sum_by-cons}
@@ -16,7 +17,11 @@ total_least f g zero h = omega arith
 total_least f g (suc n) h = omega (arith, total_least f g n h, h n)
 
 -- where one of the numbers pays for what is added to both sums
-pub total_paid : (f g : ℕ → ℕ) (n c a b : ℕ) → c < n → ((i : ℕ) → f i ≤ g i) → f c + a ≤ g c + b → total f n + a ≤ total g n + b
+pub total_paid : (f g : ℕ → ℕ) (n c a b : ℕ)
+    → c < n
+    → ((i : ℕ) → f i ≤ g i)
+    → f c + a ≤ g c + b
+    → total f n + a ≤ total g n + b
 total_paid f g zero c a b below h more = absurd (omega (arith, below))
 total_paid f g (suc n) c a b below h more =
     elim (cases_lt c n) [
@@ -50,16 +55,22 @@ total_none f zero h = refl
 total_none f (suc n) h = omega (arith, total_none f n h, h n)
 
 -- over the places of a list, and past its end
-pub total_listed : {X : Type 0} (w : X → ℕ) (d : X) (xs : List X) (n : ℕ) → w d ≡ 0 → total (λ i. w (slice_index_or xs i d)) n ≤ sum_by w xs
+pub total_listed : {X : Type 0} (w : X → ℕ) (d : X) (xs : List X) (n : ℕ)
+    → w d ≡ 0
+    → total (λ i. w (slice_index_or xs i d)) n ≤ sum_by w xs
 total_listed w d [] n e = omega (arith, total_none (λ i. w (slice_index_or [] i d)) n (λ i. e))
 total_listed w d (x ∷ xs) zero e = omega arith
 total_listed w d (x ∷ xs) (suc n) e =
-    let first : total (λ i. w (slice_index_or (x ∷ xs) i d)) (suc n) ≡ w x + total (λ i. w (slice_index_or xs i d)) n = total_shift (λ i. w (slice_index_or (x ∷ xs) i d)) n in
+    let first : total (λ i. w (slice_index_or (x ∷ xs) i d)) (suc n) ≡ w x + total (λ i. w (slice_index_or xs i d)) n =
+    total_shift (λ i. w (slice_index_or (x ∷ xs) i d)) n in
     omega (arith, first, total_listed w d xs n e, sum_by-cons w x xs)
 
-pub total_found : {X : Type 0} (w : Option X → ℕ) (xs : List X) (n : ℕ) → w None ≡ 0 → total (λ i. w (slice_get xs i)) n ≤ sum_by (λ x. w (Some x)) xs
+pub total_found : {X : Type 0} (w : Option X → ℕ) (xs : List X) (n : ℕ)
+    → w None ≡ 0
+    → total (λ i. w (slice_get xs i)) n ≤ sum_by (λ x. w (Some x)) xs
 total_found w [] n e = omega (arith, total_none (λ i. w (slice_get [] i)) n (λ i. e))
 total_found w (x ∷ xs) zero e = omega arith
 total_found w (x ∷ xs) (suc n) e =
-    let first : total (λ i. w (slice_get (x ∷ xs) i)) (suc n) ≡ w (Some x) + total (λ i. w (slice_get xs i)) n = total_shift (λ i. w (slice_get (x ∷ xs) i)) n in
+    let first : total (λ i. w (slice_get (x ∷ xs) i)) (suc n) ≡ w (Some x) + total (λ i. w (slice_get xs i)) n =
+    total_shift (λ i. w (slice_get (x ∷ xs) i)) n in
     omega (arith, first, total_found w xs n e, sum_by-cons (λ y. w (Some y)) x xs)

@@ -18,15 +18,25 @@ ghost use Rattle.journal_bound.specs.Rows.{worked_phases};
 /// call or a character makes room there. So no port has a journal of 4,194,304 entries whose bytes
 /// written and characters, twice each, and calls, three times each, are at most so many.
 pub fn a_journal_is_bounded()
-    ensures by_its_session { (p : ℕ) (session : PlainSession) (run : PortRun) (t : Terminal) → IsWithinLimits session → IsCutShort p session run t
-        → 16 * length run.journal.items ≤ 31 * byte_count_on p session.phases + 48 * call_count_on p session.phases + 32 * character_count p session.phases + 16 * tick_count p session.phases + 19504 }
-    ensures never_full { (p : ℕ) (session : PlainSession) (run : PortRun) (t : Terminal) → IsWithinLimits session → IsCutShort p session run t
-        → 2 * byte_count_on p session.phases + 3 * call_count_on p session.phases + 2 * character_count p session.phases ≤ MOST_ENTRIES → length run.journal.items < MOST_ENTRIES }
+    ensures by_its_session { (p : ℕ) (session : PlainSession) (run : PortRun) (t : Terminal)
+        → IsWithinLimits session
+        → IsCutShort p session run t
+        → 16 * length run.journal.items
+        ≤ 31 * byte_count_on p session.phases + 48 * call_count_on p session.phases
+        + 32 * character_count p session.phases + 16 * tick_count p session.phases + 19504 }
+    ensures never_full { (p : ℕ) (session : PlainSession) (run : PortRun) (t : Terminal)
+        → IsWithinLimits session
+        → IsCutShort p session run t
+        → 2 * byte_count_on p session.phases + 3 * call_count_on p session.phases
+        + 2 * character_count p session.phases ≤ MOST_ENTRIES
+        → length run.journal.items < MOST_ENTRIES }
 {}
 
 /// A legal run is one of its session as far as it went, so that its journal is bounded too.
 pub fn a_legal_run_is_one_as_far_as_it_went()
-    ensures { (p : ℕ) (session : PlainSession) (run : PortRun) (t : Terminal) → IsLegal p session run t → IsCutShort p session run t }
+    ensures { (p : ℕ) (session : PlainSession) (run : PortRun) (t : Terminal)
+        → IsLegal p session run t
+        → IsCutShort p session run t }
 {}
 
 /// Of three bytes and two that are written on port 0, and a packet that is sent there, five are bytes

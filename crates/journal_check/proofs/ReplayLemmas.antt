@@ -1,10 +1,12 @@
 -- What a replay knows, entry by entry.
-use Rattle.std.proofs.Common.{◌≡◌, ℕ, ◌+◌, ◌^◌, ◌<◌, ◌≤◌, Bool, true, false, List, [], ◌∷◌, ◌++◌, Option, is_some, length, refl, sym, ◌∙◌, ap, subst, arith, append_assoc, append-nil, length-append}
+use Rattle.std.proofs.Common.{◌≡◌, ℕ, ◌+◌, ◌^◌, ◌<◌, ◌≤◌, Bool, true, false, List, [], ◌∷◌, ◌++◌, Option, is_some}
+use Rattle.std.proofs.Common.{length, refl, sym, ◌∙◌, ap, subst, arith, append_assoc, append-nil, length-append}
 use Rattle.std.specs.Prelude.{sum}
 use Rattle.std.proofs.lemmas.Bool.{false≢true, eqb-true, eq-eqb}
 use Rattle.tty_calls.specs.declared.journals.Who.{Who}
 use Rattle.tty_calls.specs.declared.journals.Who.TheVariants.{Caller, Flusher, Line, Clock, Session}
-use Rattle.tty_calls.specs.Plain.{PlainCall, PlainEvent, answered, parted, waited, flushed, ticked, line_ended, clock_ended, caller_ended, phase_ended, hung_up, PlainEntry, is_caller}
+use Rattle.tty_calls.specs.Plain.{PlainCall, PlainEvent, answered, parted, waited, flushed, ticked, line_ended}
+use Rattle.tty_calls.specs.Plain.{clock_ended, caller_ended, phase_ended, hung_up, PlainEntry, is_caller}
 use Rattle.tty_calls.specs.Sessions.{PlainSession, call_at, counts_on}
 use Rattle.ldisc_switch.specs.Disciplines.{column_in}
 use Rattle.tty_terminal.specs.Terminals.{Terminal, opening, caller_at}
@@ -26,17 +28,32 @@ use Rattle.journal_check.proofs.GenerationLemmas.{run_has, flush_stays, run_afte
 
 -- ---- fine entries, one more
 
-fine_more : (p : ℕ) (session : PlainSession) (before : List PlainEntry) (t : Terminal) (es : List PlainEntry) (u : Terminal) (e : PlainEntry) → AreFine p session before t es u → IsFine p session (before ++ es) u e → AreFine p session before t (es ++ e ∷ []) (after (call_at p session) u e)
+fine_more : (p : ℕ) (session : PlainSession) (before : List PlainEntry) (t : Terminal) (es : List PlainEntry)
+    (u : Terminal) (e : PlainEntry)
+    → AreFine p session before t es u
+    → IsFine p session (before ++ es) u e
+    → AreFine p session before t (es ++ e ∷ []) (after (call_at p session) u e)
 fine_more p session before t [] u e fine one =
-    let here : IsFine p session before t e = subst (λ (v : Terminal). IsFine p session before v e) fine (subst (λ (xs : List PlainEntry). IsFine p session xs u e) (append-nil before) one) in
+    let here : IsFine p session before t e =
+    subst (λ (v : Terminal). IsFine p session before v e) fine
+    (subst (λ (xs : List PlainEntry). IsFine p session xs u e) (append-nil before) one) in
     (here, ap (λ (v : Terminal). after (call_at p session) v e) fine)
-fine_more p session before t (x ∷ es) u e fine one =
-    (fine.0, fine_more p session (before ++ x ∷ []) (after (call_at p session) t x) es u e fine.1 (subst (λ (xs : List PlainEntry). IsFine p session xs u e) (sym (append_assoc before (x ∷ []) es)) one))
+fine_more p session before t (x ∷ es) u e fine one = (
+  fine.0,
+  fine_more p session (before ++ x ∷ []) (after (call_at p session) t x) es u e fine.1
+      (subst (λ (xs : List PlainEntry). IsFine p session xs u e) (sym (append_assoc before (x ∷ []) es)) one),
+)
 
 -- ---- generations
 
-caller_stays : (f : ℕ → ℕ → Option PlainCall) (counts : List ℕ) (callers capacity : ℕ) (es : List PlainEntry) (u : Terminal) (e : PlainEntry) (who : Who) → e.who ≡ who → Leads f counts (opening callers capacity) es u → OneGeneration (es ++ e ∷ []) → is_of_call e.event ≡ true
-    → ((c : ℕ) → who ≡ Caller c → e.step ≡ (caller_at u c).next) → CallStays u who e.generation
+caller_stays : (f : ℕ → ℕ → Option PlainCall) (counts : List ℕ) (callers capacity : ℕ) (es : List PlainEntry)
+    (u : Terminal) (e : PlainEntry) (who : Who)
+    → e.who ≡ who
+    → Leads f counts (opening callers capacity) es u
+    → OneGeneration (es ++ e ∷ [])
+    → is_of_call e.event ≡ true
+    → ((c : ℕ) → who ≡ Caller c → e.step ≡ (caller_at u c).next)
+    → CallStays u who e.generation
 caller_stays f counts callers capacity es u e (Caller c) by leads one of at = λ parts waits.
     call_stays f counts callers capacity es u e c leads one (record {
       of_call = of;
@@ -50,10 +67,18 @@ caller_stays f counts callers capacity es u e Line by leads one of at = tt
 caller_stays f counts callers capacity es u e Clock by leads one of at = tt
 caller_stays f counts callers capacity es u e Session by leads one of at = tt
 
-at_next : (f : ℕ → ℕ → Option PlainCall) (counts : List ℕ) (t : Terminal) (who : Who) (step part : ℕ) (event : PlainEvent) (c : ℕ) → IsAllowed f counts t who step part event → is_of_call event ≡ true → who ≡ Caller c → step ≡ (caller_at t c).next
-at_next f counts t who step part (answered a dropped) c h of by = (subst (λ (w : Who). IsAllowed f counts t w step part (answered a dropped)) by h).next.at_step
-at_next f counts t who step part (parted n) c h of by = (subst (λ (w : Who). IsAllowed f counts t w step part (parted n)) by h).next.at_step
-at_next f counts t who step part waited c h of by = (subst (λ (w : Who). IsAllowed f counts t w step part waited) by h).next.at_step
+at_next : (f : ℕ → ℕ → Option PlainCall) (counts : List ℕ) (t : Terminal) (who : Who) (step part : ℕ)
+    (event : PlainEvent) (c : ℕ)
+    → IsAllowed f counts t who step part event
+    → is_of_call event ≡ true
+    → who ≡ Caller c
+    → step ≡ (caller_at t c).next
+at_next f counts t who step part (answered a dropped) c h of by =
+    (subst (λ (w : Who). IsAllowed f counts t w step part (answered a dropped)) by h).next.at_step
+at_next f counts t who step part (parted n) c h of by =
+    (subst (λ (w : Who). IsAllowed f counts t w step part (parted n)) by h).next.at_step
+at_next f counts t who step part waited c h of by =
+    (subst (λ (w : Who). IsAllowed f counts t w step part waited) by h).next.at_step
 at_next f counts t who step part (flushed chars) c h of by = absurd (false≢true of)
 at_next f counts t who step part ticked c h of by = absurd (false≢true of)
 at_next f counts t who step part (line_ended n) c h of by = absurd (false≢true of)
@@ -63,7 +88,10 @@ at_next f counts t who step part phase_ended c h of by = absurd (false≢true of
 at_next f counts t who step part (hung_up dropped) c h of by = absurd (false≢true of)
 
 -- what of an event stays in its generation
-stays_by : (u : Terminal) (latest : ℕ) (who : Who) (part generation : ℕ) (event : PlainEvent) → (is_of_call event ≡ true → CallStays u who generation) → (is_flush event ≡ true → 0 < part → latest ≡ generation) → Stays u latest who part generation event
+stays_by : (u : Terminal) (latest : ℕ) (who : Who) (part generation : ℕ) (event : PlainEvent)
+    → (is_of_call event ≡ true → CallStays u who generation)
+    → (is_flush event ≡ true → 0 < part → latest ≡ generation)
+    → Stays u latest who part generation event
 stays_by u latest who part generation (answered a dropped) calls flushes = calls refl
 stays_by u latest who part generation (parted n) calls flushes = calls refl
 stays_by u latest who part generation waited calls flushes = calls refl
@@ -75,7 +103,10 @@ stays_by u latest who part generation caller_ended calls flushes = tt
 stays_by u latest who part generation phase_ended calls flushes = tt
 stays_by u latest who part generation (hung_up dropped) calls flushes = tt
 
-call_of_stays : (u : Terminal) (latest : ℕ) (who : Who) (part generation : ℕ) (event : PlainEvent) → Stays u latest who part generation event → is_of_call event ≡ true → CallStays u who generation
+call_of_stays : (u : Terminal) (latest : ℕ) (who : Who) (part generation : ℕ) (event : PlainEvent)
+    → Stays u latest who part generation event
+    → is_of_call event ≡ true
+    → CallStays u who generation
 call_of_stays u latest who part generation (answered a dropped) h of = h
 call_of_stays u latest who part generation (parted n) h of = h
 call_of_stays u latest who part generation waited h of = h
@@ -87,7 +118,11 @@ call_of_stays u latest who part generation caller_ended h of = absurd (false≢t
 call_of_stays u latest who part generation phase_ended h of = absurd (false≢true of)
 call_of_stays u latest who part generation (hung_up dropped) h of = absurd (false≢true of)
 
-flush_of_stays : (u : Terminal) (latest : ℕ) (who : Who) (part generation : ℕ) (event : PlainEvent) → Stays u latest who part generation event → is_flush event ≡ true → 0 < part → latest ≡ generation
+flush_of_stays : (u : Terminal) (latest : ℕ) (who : Who) (part generation : ℕ) (event : PlainEvent)
+    → Stays u latest who part generation event
+    → is_flush event ≡ true
+    → 0 < part
+    → latest ≡ generation
 flush_of_stays u latest who part generation (answered a dropped) h is = absurd (false≢true is)
 flush_of_stays u latest who part generation (parted n) h is = absurd (false≢true is)
 flush_of_stays u latest who part generation waited h is = absurd (false≢true is)
@@ -99,32 +134,48 @@ flush_of_stays u latest who part generation caller_ended h is = absurd (false≢
 flush_of_stays u latest who part generation phase_ended h is = absurd (false≢true is)
 flush_of_stays u latest who part generation (hung_up dropped) h is = absurd (false≢true is)
 
-caller_goes : (u : Terminal) (who : Who) (generation c : ℕ) → CallStays u who generation → is_caller who c ≡ true → 0 < (caller_at u c).parts → is_some (caller_at u c).waits ≡ false → (caller_at u c).generation ≡ generation
+caller_goes : (u : Terminal) (who : Who) (generation c : ℕ)
+    → CallStays u who generation
+    → is_caller who c ≡ true
+    → 0 < (caller_at u c).parts
+    → is_some (caller_at u c).waits ≡ false
+    → (caller_at u c).generation ≡ generation
 caller_goes u (Caller d) generation c h is parts waits =
-    subst (λ (x : ℕ). 0 < (caller_at u x).parts → is_some (caller_at u x).waits ≡ false → (caller_at u x).generation ≡ generation) (eqb-true d c is) h parts waits
+    subst (λ (x : ℕ).
+    0 < (caller_at u x).parts → is_some (caller_at u x).waits ≡ false → (caller_at u x).generation ≡ generation)
+    (eqb-true d c is) h parts waits
 caller_goes u Flusher generation c h is parts waits = absurd (false≢true is)
 caller_goes u Line generation c h is parts waits = absurd (false≢true is)
 caller_goes u Clock generation c h is parts waits = absurd (false≢true is)
 caller_goes u Session generation c h is parts waits = absurd (false≢true is)
 
 -- the entries so far lead from the opening terminal
-pub follows_leads : (p : ℕ) (session : PlainSession) (before : List PlainEntry) (r : Replay) → Follows p session before r → Leads (call_at p session) (counts_on p session) (opening_of p session) before r.terminal.terminal
-follows_leads p session before r h = Leads-from_fine p session [] (opening_of p session) before r.terminal.terminal h.fine
+pub follows_leads : (p : ℕ) (session : PlainSession) (before : List PlainEntry) (r : Replay)
+    → Follows p session before r
+    → Leads (call_at p session) (counts_on p session) (opening_of p session) before r.terminal.terminal
+follows_leads p session before r h =
+    Leads-from_fine p session [] (opening_of p session) before r.terminal.terminal h.fine
 
 -- an entry that is fine stays in its generation
-pub stays_if_fine : (p : ℕ) (session : PlainSession) (before : List PlainEntry) (r : Replay) (e : PlainEntry) → Follows p session before r → IsFine p session before r.terminal.terminal e → Stays r.terminal.terminal r.latest e.who e.part e.generation e.event
+pub stays_if_fine : (p : ℕ) (session : PlainSession) (before : List PlainEntry) (r : Replay) (e : PlainEntry)
+    → Follows p session before r
+    → IsFine p session before r.terminal.terminal e
+    → Stays r.terminal.terminal r.latest e.who e.part e.generation e.event
 stays_if_fine p session before r e h fine =
     let f = call_at p session in
     let counts = counts_on p session in
     let t = r.terminal.terminal in
     let leads = follows_leads p session before r h in
     stays_by t r.latest e.who e.part e.generation e.event
-    (λ of. caller_stays f counts (sum counts) (flip_on p session) before t e e.who refl leads fine.one of (λ c by. at_next f counts t e.who e.step e.part e.event c fine.step.1 of by))
+    (λ of. caller_stays f counts (sum counts) (flip_on p session) before t e e.who refl leads fine.one of
+    (λ c by. at_next f counts t e.who e.step e.part e.event c fine.step.1 of by))
     (λ is some. flush_stays f counts before t r.latest e h.run fine.step is fine.one some)
 
 -- ---- one more entry
 
-pub phase_more : (f : ℕ → ℕ → Option PlainCall) (t : Terminal) (who : Who) (step part : ℕ) (event : PlainEvent) → is_phase_end event ≡ true → (after_event f t who step part event).phase ≡ t.phase + 1
+pub phase_more : (f : ℕ → ℕ → Option PlainCall) (t : Terminal) (who : Who) (step part : ℕ) (event : PlainEvent)
+    → is_phase_end event ≡ true
+    → (after_event f t who step part event).phase ≡ t.phase + 1
 phase_more f t who step part (answered a dropped) is = absurd (false≢true is)
 phase_more f t who step part (parted n) is = absurd (false≢true is)
 phase_more f t who step part waited is = absurd (false≢true is)
@@ -161,15 +212,26 @@ phase_little phase_ended phase = omega arith
 phase_little (hung_up dropped) phase = omega arith
 
 -- an entry is at most the end of a phase
-pub next_small : (f : ℕ → ℕ → Option PlainCall) (counts : List ℕ) (t u : Terminal) (e : PlainEntry) → Allowed f counts t e → u ≡ after f t e → t.phase < 2 ^ 31 → u.phase ≤ 2 ^ 31
+pub next_small : (f : ℕ → ℕ → Option PlainCall) (counts : List ℕ) (t u : Terminal) (e : PlainEntry)
+    → Allowed f counts t e
+    → u ≡ after f t e
+    → t.phase < 2 ^ 31
+    → u.phase ≤ 2 ^ 31
 next_small f counts t u e allowed is small =
-    omega (arith, ap (λ (v : Terminal). v.phase) is, phase-after f counts t e allowed, phase_little e.event t.phase, small)
+    omega
+    (arith, ap (λ (v : Terminal). v.phase) is, phase-after f counts t e allowed, phase_little e.event t.phase, small)
 
 -- after the end of a phase the turns are those before the next
-pub next_idle : (p : ℕ) (session : PlainSession) (f : ℕ → ℕ → Option PlainCall) (t u : Terminal) (turns : List Turn) (who : Who) (step part : ℕ) (event : PlainEvent) → AreTurns p session t.phase turns → u ≡ after_event f t who step part event → is_phase_end event ≡ true
+pub next_idle : (p : ℕ) (session : PlainSession) (f : ℕ → ℕ → Option PlainCall) (t u : Terminal) (turns : List Turn)
+    (who : Who) (step part : ℕ) (event : PlainEvent)
+    → AreTurns p session t.phase turns
+    → u ≡ after_event f t who step part event
+    → is_phase_end event ≡ true
     → AreIdle p session u.phase turns
 next_idle p session f t u turns who step part event are now is =
-    subst (λ (k : ℕ). AreIdle p session k turns) (sym (ap (λ (v : Terminal). v.phase) now ∙ phase_more f t who step part event is)) (turns_idle p session t.phase turns are)
+    subst (λ (k : ℕ). AreIdle p session k turns)
+    (sym (ap (λ (v : Terminal). v.phase) now ∙ phase_more f t who step part event is))
+    (turns_idle p session t.phase turns are)
 
 -- what the tests of an entry found, and what was made of the replay
 pub record GoesBy (p : ℕ) (session : PlainSession) (r after : Replay) (e : PlainEntry) : Type 0 where
@@ -177,7 +239,8 @@ pub record GoesBy (p : ℕ) (session : PlainSession) (r after : Replay) (e : Pla
   pub in_phase : IsInPhase p session r.terminal.terminal.phase e.who e.step e.event
   pub stays : Stays r.terminal.terminal r.latest e.who e.part e.generation e.event
   pub allowed : IsAllowed (call_at p session) (counts_on p session) r.terminal.terminal e.who e.step e.part e.event
-  pub terminal : after.terminal.terminal ≡ after_event (call_at p session) r.terminal.terminal e.who e.step e.part e.event
+  pub terminal : after.terminal.terminal
+      ≡ after_event (call_at p session) r.terminal.terminal e.who e.step e.part e.event
   pub column : column_in after.terminal.terminal.disc ≤ column_in r.terminal.terminal.disc + 2 ^ 28
   pub latest : after.latest ≡ latest_after e.event e.generation r.latest
   pub names : after.names ≡ r.names
@@ -186,32 +249,48 @@ pub record GoesBy (p : ℕ) (session : PlainSession) (r after : Replay) (e : Pla
   pub begins : is_phase_end e.event ≡ true → AreTurns p session after.terminal.terminal.phase after.turns.items
   pub same : is_phase_end e.event ≡ false → after.turns.items ≡ r.turns.items
 
-turns_after : (p : ℕ) (session : PlainSession) (before : List PlainEntry) (r after : Replay) (e : PlainEntry) (b : Bool) → Follows p session before r → GoesBy p session r after e → is_phase_end e.event ≡ b → AreTurns p session after.terminal.terminal.phase after.turns.items
+turns_after : (p : ℕ) (session : PlainSession) (before : List PlainEntry) (r after : Replay) (e : PlainEntry) (b : Bool)
+    → Follows p session before r
+    → GoesBy p session r after e
+    → is_phase_end e.event ≡ b
+    → AreTurns p session after.terminal.terminal.phase after.turns.items
 turns_after p session before r after e true h by is = by.begins is
 turns_after p session before r after e false h by is =
     let phase : after.terminal.terminal.phase ≡ r.terminal.terminal.phase =
-    ap (λ (v : Terminal). v.phase) by.terminal ∙ phase-after (call_at p session) (counts_on p session) r.terminal.terminal e (by.generation, by.allowed) ∙ phase_same e.event r.terminal.terminal.phase is in
-    subst (λ (k : ℕ). AreTurns p session k after.turns.items) (sym phase) (subst (AreTurns p session r.terminal.terminal.phase) (sym (by.same is)) h.turns)
+    ap (λ (v : Terminal). v.phase) by.terminal
+    ∙ phase-after (call_at p session) (counts_on p session) r.terminal.terminal e (by.generation, by.allowed)
+    ∙ phase_same e.event r.terminal.terminal.phase is in
+    subst (λ (k : ℕ). AreTurns p session k after.turns.items) (sym phase)
+    (subst (AreTurns p session r.terminal.terminal.phase) (sym (by.same is)) h.turns)
 
-pub goes_on : (p : ℕ) (session : PlainSession) (before : List PlainEntry) (r after : Replay) (e : PlainEntry) → Follows p session before r → GoesBy p session r after e → IsFine p session before r.terminal.terminal e × Follows p session (before ++ e ∷ []) after
+pub goes_on : (p : ℕ) (session : PlainSession) (before : List PlainEntry) (r after : Replay) (e : PlainEntry)
+    → Follows p session before r
+    → GoesBy p session r after e
+    → IsFine p session before r.terminal.terminal e × Follows p session (before ++ e ∷ []) after
 goes_on p session before r now e h by =
     let f = call_at p session in
     let counts = counts_on p session in
     let t = r.terminal.terminal in
     let leads = follows_leads p session before r h in
     let allowed : Allowed f counts t e = (by.generation, by.allowed) in
-    let goes : GoesOnInGeneration t e = λ c of is parts waits. caller_goes t e.who e.generation c (call_of_stays t r.latest e.who e.part e.generation e.event by.stays of) is parts waits in
-    let flushes : is_flush e.event ≡ true → 0 < e.part → r.latest ≡ e.generation = flush_of_stays t r.latest e.who e.part e.generation e.event by.stays in
+    let goes : GoesOnInGeneration t e = λ c of is parts waits. caller_goes t e.who e.generation c
+    (call_of_stays t r.latest e.who e.part e.generation e.event by.stays of) is parts waits in
+    let flushes : is_flush e.event ≡ true → 0 < e.part → r.latest ≡ e.generation =
+    flush_of_stays t r.latest e.who e.part e.generation e.event by.stays in
     let one : OneGeneration (before ++ e ∷ []) =
-    one_more f counts (flip_on p session) before t e leads h.one allowed goes (λ is some. run_has f counts (opening_of p session) before t r.latest e leads h.run allowed is (flushes is)) in
+    one_more f counts (flip_on p session) before t e leads h.one allowed goes
+    (λ is some. run_has f counts (opening_of p session) before t r.latest e leads h.run allowed is (flushes is)) in
     let fine : IsFine p session before t e = record { step = allowed; one = one; in_phase = by.in_phase } in
     let does = step_does f counts t e allowed in (
       fine,
       record {
-        fine = subst (AreFineTo p session (before ++ e ∷ [])) (sym by.terminal) (fine_more p session [] (opening_of p session) before t e h.fine fine);
+        fine = subst (AreFineTo p session (before ++ e ∷ [])) (sym by.terminal)
+            (fine_more p session [] (opening_of p session) before t e h.fine fine);
         one = one;
         run = subst (λ (g : ℕ). IsRunOf (before ++ e ∷ []) now.terminal.terminal.flushed g) (sym by.latest)
-            (subst (λ (v : Terminal). IsRunOf (before ++ e ∷ []) v.flushed (latest_after e.event e.generation r.latest)) (sym by.terminal) (run_after f counts (opening_of p session) before t r.latest e leads h.run allowed flushes));
+            (subst (λ (v : Terminal). IsRunOf (before ++ e ∷ []) v.flushed (latest_after e.event e.generation r.latest))
+            (sym by.terminal)
+            (run_after f counts (opening_of p session) before t r.latest e leads h.run allowed flushes));
         turns = turns_after p session before r now e (is_phase_end e.event) h by refl;
         names = by.names ∙ h.names;
         counts = by.counts ∙ h.counts;

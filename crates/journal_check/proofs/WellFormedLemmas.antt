@@ -16,5 +16,6 @@ phase_formed ports phase h = record {
 
 pub within_limits_are_well_formed : (session : PlainSession) → IsWithinLimits session → IsWellFormed session
 within_limits_are_well_formed session h = record {
-  phases = All-weaker (IsPhaseWithin session.ports) IsPhaseWellFormed (phase_formed session.ports) session.phases h.phases;
+  phases =
+      All-weaker (IsPhaseWithin session.ports) IsPhaseWellFormed (phase_formed session.ports) session.phases h.phases;
 }

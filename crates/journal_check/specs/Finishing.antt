@@ -1,6 +1,7 @@
 -- A finished journal, read from its front: for private functions alone.
 use Rattle.std.specs.Prelude.{ℕ, ◌+◌, ◌==◌, ◌&&◌, nat_lt, Bool, true, false, if◌then◌else◌, List, [], ◌∷◌}
-use Rattle.tty_calls.specs.Plain.{PlainEvent, answered, parted, waited, flushed, ticked, line_ended, clock_ended, caller_ended, phase_ended, hung_up, PlainEntry}
+use Rattle.tty_calls.specs.Plain.{PlainEvent, answered, parted, waited, flushed, ticked, line_ended}
+use Rattle.tty_calls.specs.Plain.{clock_ended, caller_ended, phase_ended, hung_up, PlainEntry}
 use Rattle.tty_terminal.specs.Runs.{phase_after}
 
 -- whether an event may stand in a phase whose line sends so many characters by its end, and whose clock has so many
@@ -50,5 +51,6 @@ abbrev pub goes_well : (sents ticks : ℕ → ℕ) → (phases k passed : ℕ) �
 goes_well sents ticks phases k passed [] = false
 goes_well sents ticks phases k passed (e ∷ es) =
     if nat_lt k phases
-    then may_go e.event (sents k) (ticks k) passed && goes_well sents ticks phases (phase_after e.event k) (ticks_after e.event passed) es
+    then may_go e.event (sents k) (ticks k) passed
+    && goes_well sents ticks phases (phase_after e.event k) (ticks_after e.event passed) es
     else (is_hangup e.event && is_none es)

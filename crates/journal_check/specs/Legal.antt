@@ -1,5 +1,7 @@
 -- A legal run of a session on a port: what its journal and its line report must be.
-use Rattle.std.specs.Prelude.{◌≡◌, ◌≤◌, ◌<◌, ◌+◌, ◌==◌, ℕ, zero, suc, List, [], ◌∷◌, ◌++◌, Bool, true, false, IsTrue, Option, None, Some, if◌then◌else◌, length, map, take, replicate, flat_map, slice_get, slice_index_or}
+use Rattle.std.specs.Prelude.{◌≡◌, ◌≤◌, ◌<◌, ◌+◌, ◌==◌, ℕ, zero, suc, List, [], ◌∷◌, ◌++◌, Bool}
+use Rattle.std.specs.Prelude.{true, false, IsTrue, Option, None, Some, if◌then◌else◌, length}
+use Rattle.std.specs.Prelude.{map, take, replicate, flat_map, slice_get, slice_index_or}
 use Rattle.std.specs.Str.{bytes_eq}
 use Rattle.std.specs.List.{list_any, range_with_len}
 use Rattle.tty_base.specs.declared.characters.Flagged.{Flagged}
@@ -8,8 +10,10 @@ use Rattle.tty_base.specs.declared.lines.Overrun.{Overrun}
 use Rattle.tty_calls.specs.declared.journals.PortRun.{PortRun}
 use Rattle.tty_calls.specs.declared.journals.Who.{Who}
 use Rattle.tty_calls.specs.declared.journals.Who.TheVariants.{Caller, Flusher, Line, Clock, Session}
-use Rattle.tty_calls.specs.Plain.{PlainEvent, answered, parted, waited, flushed, ticked, line_ended, clock_ended, caller_ended, phase_ended, hung_up, PlainEntry, is_caller}
-use Rattle.tty_calls.specs.Sessions.{PlainScript, PlainPhase, PlainSession, line_on, ticks_on, scripts_on, scripts_over, names_of, calls_of, call_at, counts_on}
+use Rattle.tty_calls.specs.Plain.{PlainEvent, answered, parted, waited, flushed, ticked, line_ended}
+use Rattle.tty_calls.specs.Plain.{clock_ended, caller_ended, phase_ended, hung_up, PlainEntry, is_caller}
+use Rattle.tty_calls.specs.Sessions.{PlainScript, PlainPhase, PlainSession, line_on, ticks_on}
+use Rattle.tty_calls.specs.Sessions.{scripts_on, scripts_over, names_of, calls_of, call_at, counts_on}
 use Rattle.uart_line.specs.Received.{received_list, lost_count, script}
 use Rattle.tty_base.specs.Lines.{arrival_count}
 use Rattle.uart_line.specs.Offered.{kept_list, AreShown}
@@ -43,7 +47,8 @@ steps_in p session k c = length (calls_of (scripts_on p (phase_at session k)) (n
 
 -- a caller's step is of the phase
 abbrev pub IsCallOf : ℕ → PlainSession → ℕ → ℕ → ℕ → Type 0
-IsCallOf p session k c step = (first_step p session k c ≤ step) × (step < first_step p session k c + steps_in p session k c)
+IsCallOf p session k c step =
+    (first_step p session k c ≤ step) × (step < first_step p session k c + steps_in p session k c)
 
 abbrev pub is_caller_end : PlainEvent → Bool
 is_caller_end (answered a dropped) = false
@@ -71,7 +76,8 @@ IsInPhase p session k Session step event = Unit {0}
 -- each entry, from phase k on
 abbrev pub AreInPhases : ℕ → PlainSession → ℕ → List PlainEntry → Type 0
 AreInPhases p session k [] = Unit {0}
-AreInPhases p session k (e ∷ es) = IsInPhase p session k e.who e.step e.event × AreInPhases p session (phase_after e.event k) es
+AreInPhases p session k (e ∷ es) =
+    IsInPhase p session k e.who e.step e.event × AreInPhases p session (phase_after e.event k) es
 
 -- the line's steps in the first phases
 abbrev pub script_of_first : ℕ → PlainSession → ℕ → List LineStep
@@ -175,7 +181,8 @@ abbrev pub ticks_of : ℕ → List ClockMark
 ticks_of n = replicate n ticks
 
 -- the entries of phase k before its end
-pub record IsPhasePart (p : ℕ) (session : PlainSession) (overruns : List Overrun) (k : ℕ) (part : List PlainEntry) : Type 0 where
+pub record IsPhasePart (p : ℕ) (session : PlainSession) (overruns : List Overrun) (k : ℕ)
+    (part : List PlainEntry) : Type 0 where
   -- the line ends once, with the number of characters sent so far
   pub line : line_ends_in part ≡ sent_by p session overruns k ∷ []
   -- the clock has its ticks, and then ends once
@@ -184,7 +191,8 @@ pub record IsPhasePart (p : ℕ) (session : PlainSession) (overruns : List Overr
   pub inside : session_events_in part ≡ []
 
 -- the entries of phase k, its end, and what is left
-pub record EndsPhase (p : ℕ) (session : PlainSession) (overruns : List Overrun) (k : ℕ) (journal : List PlainEntry) (IsRest : List PlainEntry → Type 0) : Type 0 where
+pub record EndsPhase (p : ℕ) (session : PlainSession) (overruns : List Overrun) (k : ℕ) (journal : List PlainEntry)
+    (IsRest : List PlainEntry → Type 0) : Type 0 where
   pub part : List PlainEntry
   pub last : PlainEntry
   pub rest : List PlainEntry
@@ -233,7 +241,8 @@ before_phase (suc k) (e ∷ es) = e ∷ (if is_phase_end e.event then before_pha
 abbrev pub before_line_end : ℕ → List PlainEntry → List PlainEntry
 before_line_end k [] = []
 before_line_end zero (e ∷ es) = if length (line_ends e.event) == 0 then e ∷ before_line_end zero es else []
-before_line_end (suc k) (e ∷ es) = e ∷ (if is_phase_end e.event then before_line_end k es else before_line_end (suc k) es)
+before_line_end (suc k) (e ∷ es) =
+    e ∷ (if is_phase_end e.event then before_line_end k es else before_line_end (suc k) es)
 
 -- how many characters were received before phase k
 abbrev pub received_before : ℕ → PlainSession → ℕ → ℕ

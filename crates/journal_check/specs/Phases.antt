@@ -18,10 +18,13 @@ HasPlayed true first count next over = (next ≡ first + count) × (over ≡ tru
 HasPlayed false first count next over = (next ≡ first) × (over ≡ false)
 
 -- the terminal at the end of phase k of a session
-pub record CompletesPhase (p : ℕ) (session : PlainSession) (overruns : List Overrun) (k : ℕ) (t u : Terminal) : Type 0 where
+pub record CompletesPhase (p : ℕ) (session : PlainSession) (overruns : List Overrun) (k : ℕ)
+    (t u : Terminal) : Type 0 where
   pub line : u.line_over ≡ true
   pub sent : u.sent ≡ sent_by p session overruns k
   pub clock : u.clock_over ≡ true
   pub tick : u.tick ≡ t.tick + ticks_on p (phase_at session k)
   pub first : (c : ℕ) → (caller_at t c).next ≡ first_step p session k c
-  pub callers : (c : ℕ) → HasPlayed (has_script (scripts_on p (phase_at session k)) (name_at p session c)) (first_step p session k c) (steps_in p session k c) (caller_at u c).next (caller_at u c).over
+  pub callers : (c : ℕ)
+      → HasPlayed (has_script (scripts_on p (phase_at session k)) (name_at p session c)) (first_step p session k c)
+      (steps_in p session k c) (caller_at u c).next (caller_at u c).over

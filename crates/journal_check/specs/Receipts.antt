@@ -17,7 +17,8 @@ abbrev pub received_count : ℕ → PlainSession → ℕ → ℕ
 received_count p session phases = length (received_list (script_of_first p session phases))
 
 abbrev pub kept_count : ℕ → PlainSession → List Overrun → ℕ → ℕ
-kept_count p session overruns phases = length (kept_from 0 (received_list (script_of_first p session phases)) overruns).chars
+kept_count p session overruns phases =
+    length (kept_from 0 (received_list (script_of_first p session phases)) overruns).chars
 
 pub record IsReceived (p : ℕ) (session : PlainSession) (overruns : List Overrun) (r : Received) : Type 0 where
   pub kept : r.kept.items ≡ (kept_from 0 (received_list (script_on p session)) overruns).chars
@@ -29,7 +30,8 @@ pub record IsReceived (p : ℕ) (session : PlainSession) (overruns : List Overru
   pub fifo_lost : r.fifo_lost ≡ lost_count (script_on p session)
 
 -- what was done of the first phases: by the line, by the list of what it received, and by what was kept of that
-pub record HasReceived (p : ℕ) (session : PlainSession) (overruns : List Overrun) (phases : ℕ) (line : LineState) (chars : Contents Flagged) (r : Received) (next : ℕ) : Type 0 where
+pub record HasReceived (p : ℕ) (session : PlainSession) (overruns : List Overrun) (phases : ℕ) (line : LineState)
+    (chars : Contents Flagged) (r : Received) (next : ℕ) : Type 0 where
   pub done : HasDone line (script_of_first p session phases)
   pub none : line.report.overruns.items ≡ []
   pub arrived : line.report.arrived ≡ character_count p (take phases session.phases)

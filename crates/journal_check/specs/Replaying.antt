@@ -1,8 +1,10 @@
 -- What is kept of a journal while it is replayed.
-use Rattle.std.specs.Prelude.{◌≡◌, ℕ, ◌*◌, ◌^◌, ◌<◌, ◌≤◌, true, false, List, ◌∷◌, ◌++◌, Option, None, Some, is_some, length}
+use Rattle.std.specs.Prelude.{◌≡◌, ℕ, ◌*◌, ◌^◌, ◌<◌, ◌≤◌, true, false, List}
+use Rattle.std.specs.Prelude.{◌∷◌, ◌++◌, Option, None, Some, is_some, length}
 use Rattle.tty_calls.specs.declared.journals.Who.{Who}
 use Rattle.tty_calls.specs.declared.journals.Who.TheVariants.{Caller, Flusher, Line, Clock, Session}
-use Rattle.tty_calls.specs.Plain.{PlainEvent, answered, parted, waited, flushed, ticked, line_ended, clock_ended, caller_ended, phase_ended, hung_up, PlainEntry}
+use Rattle.tty_calls.specs.Plain.{PlainEvent, answered, parted, waited, flushed, ticked, line_ended}
+use Rattle.tty_calls.specs.Plain.{clock_ended, caller_ended, phase_ended, hung_up, PlainEntry}
 use Rattle.tty_calls.specs.Sessions.{PlainSession, scripts_over, names_of, counts_on}
 use Rattle.ldisc_switch.specs.Disciplines.{column_in}
 use Rattle.tty_terminal.specs.declared.callers.Piece.{Piece}

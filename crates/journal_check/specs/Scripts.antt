@@ -1,5 +1,6 @@
 -- Which scripts each caller has in a phase.
-use Rattle.std.specs.Prelude.{◌≡◌, ◌==◌, ℕ, ◌+◌, ◌<◌, ◌≤◌, List, [], Option, None, Some, MatchBool, if◌then◌else◌, filter, length, take, drop, slice_index_or, slice_set}
+use Rattle.std.specs.Prelude.{◌≡◌, ◌==◌, ℕ, ◌+◌, ◌<◌, ◌≤◌, List, [], Option, None, Some, MatchBool}
+use Rattle.std.specs.Prelude.{if◌then◌else◌, filter, length, take, drop, slice_index_or, slice_set}
 use Rattle.tty_calls.specs.Plain.{PlainCall}
 use Rattle.tty_calls.specs.Sessions.{PlainScript, PlainSession, scripts_over, names_of, calls_of}
 use Rattle.journal_check.specs.declared.turns.Turn.{Turn}
@@ -26,7 +27,8 @@ scripts_for p scripts = filter (λ s. s.port == p) scripts
 
 -- the caller's turn is of this phase, and has its calls among these scripts of the port, of which none stands before
 -- the turn's place
-pub record IsOpen (p : ℕ) (session : PlainSession) (k : ℕ) (scripts : List PlainScript) (c : ℕ) (t : Turn) : Type 0 where
+pub record IsOpen (p : ℕ) (session : PlainSession) (k : ℕ) (scripts : List PlainScript) (c : ℕ)
+    (t : Turn) : Type 0 where
   pub begun : t.begun ≡ k + 1
   pub first : t.first ≡ first_step p session k c
   pub steps : t.steps ≡ length (calls_of scripts (name_at p session c))
@@ -43,9 +45,12 @@ IsTurnBy p session k scripts c t =
     MatchBool (has_script scripts (name_at p session c)) (IsOpen p session k scripts c t) (IsIdle p session k c t)
 
 -- the turns where these are the first scripts of the phase
-pub record AreTurnsAmong (p : ℕ) (session : PlainSession) (k : ℕ) (scripts : List PlainScript) (turns : List Turn) : Type 0 where
+pub record AreTurnsAmong (p : ℕ) (session : PlainSession) (k : ℕ) (scripts : List PlainScript)
+    (turns : List Turn) : Type 0 where
   pub many : length (names_of (scripts_over p session.phases)) ≤ length turns
-  pub each : (c : ℕ) → c < length turns → IsTurnBy p session k (scripts_for p scripts) c (slice_index_or turns c no_turn)
+  pub each : (c : ℕ)
+      → c < length turns
+      → IsTurnBy p session k (scripts_for p scripts) c (slice_index_or turns c no_turn)
 
 -- the turns of phase k
 abbrev pub AreTurns : ℕ → PlainSession → ℕ → List Turn → Type 0

@@ -1,5 +1,6 @@
 -- How many characters were taken by when: for private functions alone.
-use Rattle.std.specs.Prelude.{ℕ, ◌+◌, ◌==◌, ◌&&◌, nat_lt, nat_le, Bool, true, List, [], ◌∷◌, if◌then◌else◌, length, drop, slice_index}
+use Rattle.std.specs.Prelude.{ℕ, ◌+◌, ◌==◌, ◌&&◌, nat_lt, nat_le, Bool, true, List}
+use Rattle.std.specs.Prelude.{[], ◌∷◌, if◌then◌else◌, length, drop, slice_index}
 use Rattle.tty_base.specs.declared.lines.Overrun.{Overrun}
 use Rattle.tty_calls.specs.Plain.{PlainEntry, chars_in}
 use Rattle.journal_check.specs.Legal.{is_phase_end, line_ends}
@@ -28,4 +29,6 @@ abbrev pub are_between : (ends starts stops : List ℕ) → ℕ → List Overrun
 are_between ends starts stops k [] = true
 are_between ends starts stops k (o ∷ os) =
     let phase = phase_from k (drop k ends) o.at in
-    nat_lt phase (length ends) && (nat_le (slice_index starts phase) o.seen && (nat_le o.seen (slice_index stops phase) && are_between ends starts stops phase os))
+    nat_lt phase (length ends)
+    && (nat_le (slice_index starts phase) o.seen
+    && (nat_le o.seen (slice_index stops phase) && are_between ends starts stops phase os))

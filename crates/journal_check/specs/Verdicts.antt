@@ -18,7 +18,8 @@ IsCountable run = length run.journal.items < 2 ^ 31
 -- An entry is fine after these entries, which lead to this terminal: it is a step of the terminal, it leaves each
 -- flush run and each call between its waits in one generation, and it is of its phase. It is wrong where one of these
 -- fails.
-pub record IsFine (p : ℕ) (session : PlainSession) (before : List PlainEntry) (t : Terminal) (e : PlainEntry) : Type 0 where
+pub record IsFine (p : ℕ) (session : PlainSession) (before : List PlainEntry) (t : Terminal)
+    (e : PlainEntry) : Type 0 where
   pub step : Allowed (call_at p session) (counts_on p session) t e
   pub one : OneGeneration (before ++ e ∷ [])
   pub in_phase : IsInPhase p session t.phase e.who e.step e.event

@@ -63,7 +63,8 @@ fn is_seen(
     requires received { IsReceived port (session_of session.now) run.now.line.overruns.items received.now }
     requires shown { AreShown (flip_on port (session_of session.now)) 0 0 run.now.line.overruns.items }
     requires kept { IsKept port (session_of session.now) run.now }
-    ensures { IfOk result (λ seen. IsTrue seen ↔ AreSeen port (session_of session.now) run.now.journal.items run.now.line.overruns.items) }
+    ensures { IfOk result (λ seen.
+        IsTrue seen ↔ AreSeen port (session_of session.now) run.now.journal.items run.now.line.overruns.items) }
 {
     let _ = session;
     let _ = port;

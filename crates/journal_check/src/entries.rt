@@ -1,13 +1,16 @@
 //! An entry tried on the terminal, by its kind and by who made it.
 
-ghost use Rattle.std.specs.Prelude.{◌≡◌, ◌↔◌, ℕ, Option, Some, true, false, ◌+◌, ◌≤◌, ◌<◌, ◌^◌, IsTrue, IfOk, OnOk, length};
+ghost use Rattle.std.specs.Prelude.{◌≡◌, ◌↔◌, ℕ, Option, Some, true, false, ◌+◌};
+ghost use Rattle.std.specs.Prelude.{◌≤◌, ◌<◌, ◌^◌, IsTrue, IfOk, OnOk, length};
 ghost use Rattle.tty_calls.specs.declared.journals.Who.TheVariants as who;
 ghost use Rattle.tty_calls.specs.Plain.{PlainCall, call_of, event_of};
 ghost use Rattle.tty_calls.specs.Sessions.{session_of, scripts_over, names_of, call_at};
 ghost use Rattle.tty_calls.specs.Limits.{byte_count};
 ghost use Rattle.ldisc_switch.specs.Disciplines.{column_in};
 ghost use Rattle.tty_terminal.specs.Receiving.{after_characters};
-ghost use Rattle.tty_terminal.specs.Steps.{IsFlush, IsNext, IsTick, IsLineEnd, IsCallerEnd, IsPhaseEnd, IsHangup, ByCaller, by_caller, IsAllowed, after_event, after_caller_end, next_phase, with_dropped};
+ghost use Rattle.tty_terminal.specs.Steps.{IsFlush, IsNext, IsTick, IsLineEnd, IsCallerEnd};
+ghost use Rattle.tty_terminal.specs.Steps.{IsPhaseEnd, IsHangup, ByCaller, by_caller, IsAllowed};
+ghost use Rattle.tty_terminal.specs.Steps.{after_event, after_caller_end, next_phase, with_dropped};
 ghost use Rattle.tty_terminal.specs.Generations.{after_hangup};
 ghost use Rattle.tty_terminal.specs.Runs.{is_of_call, is_flush};
 ghost use Rattle.journal_check.specs.Legal.{IsInPhase};
@@ -48,7 +51,9 @@ fn call_stays(terminal: &Terminal, callers: usize, who: Who, generation: u32) ->
 /// Whether an entry stays in the generation of its call, or of the latest flush run.
 pub(crate) fn stays(terminal: &Terminal, callers: usize, latest: u32, entry: &Entry) -> bool
     requires { callers ≡ length terminal.now.terminal.callers }
-    ensures { IsTrue result ↔ Stays terminal.now.terminal latest entry.now.who entry.now.part entry.now.generation (event_of entry.now.event) }
+    ensures { IsTrue result
+        ↔ Stays terminal.now.terminal latest entry.now.who entry.now.part entry.now.generation
+        (event_of entry.now.event) }
 {
     match entry.event {
         Event::Answer { .. } | Event::Part(_) | Event::Wait => {
@@ -88,7 +93,8 @@ fn try_clock_end(terminal: &mut Terminal, entry: &Entry) -> bool
 
 fn try_line_end(terminal: &mut Terminal, entry: &Entry, sent: u64) -> bool
     requires { IsSmall terminal.old.terminal }
-    ensures tries { Tries ((entry.now.who ≡ who.Line) × IsLineEnd terminal.old.terminal entry.now.step entry.now.part sent)
+    ensures tries { Tries
+        ((entry.now.who ≡ who.Line) × IsLineEnd terminal.old.terminal entry.now.step entry.now.part sent)
         (record terminal.old.terminal { sent = sent; line_over = true }) terminal.new.terminal result }
     ensures column { column_in terminal.new.terminal.disc ≡ column_in terminal.old.terminal.disc }
 {
@@ -101,8 +107,10 @@ fn try_line_end(terminal: &mut Terminal, entry: &Entry, sent: u64) -> bool
 
 fn try_caller_end(terminal: &mut Terminal, callers: usize, entry: &Entry) -> bool
     requires { callers ≡ length terminal.old.terminal.callers }
-    ensures tries { Tries (ByCaller entry.now.who (λ c. IsCallerEnd terminal.old.terminal c entry.now.step entry.now.part))
-        (by_caller entry.now.who terminal.old.terminal (after_caller_end terminal.old.terminal)) terminal.new.terminal result }
+    ensures tries { Tries
+        (ByCaller entry.now.who (λ c. IsCallerEnd terminal.old.terminal c entry.now.step entry.now.part))
+        (by_caller entry.now.who terminal.old.terminal (after_caller_end terminal.old.terminal))
+        terminal.new.terminal result }
     ensures column { column_in terminal.new.terminal.disc ≡ column_in terminal.old.terminal.disc }
 {
     let Who::Caller(caller) = entry.who else {
@@ -123,7 +131,8 @@ fn try_phase_end(
 ) -> Result<bool, NoMemory>
     requires small { IsSmall terminal.old.terminal }
     requires callers { callers ≡ length terminal.old.terminal.callers }
-    ensures tries { IfOk result (λ made. Tries ((entry.now.who ≡ who.Session) × IsPhaseEnd counts.now terminal.old.terminal entry.now.step entry.now.part)
+    ensures tries { IfOk result (λ made. Tries
+        ((entry.now.who ≡ who.Session) × IsPhaseEnd counts.now terminal.old.terminal entry.now.step entry.now.part)
         (next_phase terminal.old.terminal) terminal.new.terminal made) }
     ensures column { OnOk result (column_in terminal.new.terminal.disc ≡ column_in terminal.old.terminal.disc) }
 {
@@ -144,7 +153,8 @@ fn try_hangup(
     dropped: &[Flagged],
 ) -> Result<bool, NoMemory>
     requires { IsSmall terminal.old.terminal }
-    ensures tries { IfOk result (λ made. Tries ((entry.now.who ≡ who.Session) × IsHangup counts.now terminal.old.terminal entry.now.step entry.now.part dropped.now)
+    ensures tries { IfOk result (λ made. Tries ((entry.now.who ≡ who.Session)
+        × IsHangup counts.now terminal.old.terminal entry.now.step entry.now.part dropped.now)
         (with_dropped (after_hangup terminal.old.terminal) (length dropped.now)) terminal.new.terminal made) }
     ensures column { OnOk result (column_in terminal.new.terminal.disc ≤ column_in terminal.old.terminal.disc) }
 {
@@ -170,8 +180,12 @@ fn try_other(
     requires callers { callers ≡ length terminal.old.terminal.callers }
     requires other { is_of_call (event_of entry.now.event) ≡ false }
     requires no_flush { is_flush (event_of entry.now.event) ≡ false }
-    ensures tries { IfOk result (λ made. (calls : ℕ → ℕ → Option PlainCall) → Tries (IsAllowed calls counts.now terminal.old.terminal entry.now.who entry.now.step entry.now.part (event_of entry.now.event))
-        (after_event calls terminal.old.terminal entry.now.who entry.now.step entry.now.part (event_of entry.now.event)) terminal.new.terminal made) }
+    ensures tries { IfOk result (λ made.
+        (calls : ℕ → ℕ → Option PlainCall)
+        → Tries (IsAllowed calls counts.now terminal.old.terminal entry.now.who entry.now.step entry.now.part
+        (event_of entry.now.event))
+        (after_event calls terminal.old.terminal entry.now.who entry.now.step entry.now.part (event_of entry.now.event))
+        terminal.new.terminal made) }
     ensures column { OnOk result (column_in terminal.new.terminal.disc ≤ column_in terminal.old.terminal.disc) }
 {
     match &entry.event {
@@ -206,9 +220,13 @@ fn try_of_call(
     requires call { IsSmallCall (call_of call.now) }
     requires next { IsNext terminal.old.terminal caller entry.now.step entry.now.part }
     requires of_call { is_of_call (event_of entry.now.event) ≡ true }
-    ensures tries { IfOk result (λ made. (calls : ℕ → ℕ → Option PlainCall) → calls caller entry.now.step ≡ Some (call_of call.now)
-        → Tries (IsAllowed calls counts.now terminal.old.terminal (who.Caller caller) entry.now.step entry.now.part (event_of entry.now.event))
-        (after_event calls terminal.old.terminal (who.Caller caller) entry.now.step entry.now.part (event_of entry.now.event)) terminal.new.terminal made) }
+    ensures tries { IfOk result (λ made.
+        (calls : ℕ → ℕ → Option PlainCall)
+        → calls caller entry.now.step ≡ Some (call_of call.now)
+        → Tries (IsAllowed calls counts.now terminal.old.terminal (who.Caller caller) entry.now.step entry.now.part
+        (event_of entry.now.event))
+        (after_event calls terminal.old.terminal (who.Caller caller) entry.now.step entry.now.part
+        (event_of entry.now.event)) terminal.new.terminal made) }
     ensures column { OnOk result (column_in terminal.new.terminal.disc ≤ column_in terminal.old.terminal.disc + 4096) }
 {
     match &entry.event {
@@ -255,9 +273,12 @@ fn try_by_caller(
     requires many { length turns.now ≡ length terminal.old.terminal.callers }
     requires by_caller { entry.now.who ≡ who.Caller caller }
     requires of_call { is_of_call (event_of entry.now.event) ≡ true }
-    requires in_phase { IsInPhase port (session_of session.now) terminal.old.terminal.phase entry.now.who entry.now.step (event_of entry.now.event) }
-    ensures tries { IfOk result (λ made. Tries (IsAllowed (call_at port (session_of session.now)) counts.now terminal.old.terminal entry.now.who entry.now.step entry.now.part (event_of entry.now.event))
-        (after_event (call_at port (session_of session.now)) terminal.old.terminal entry.now.who entry.now.step entry.now.part (event_of entry.now.event)) terminal.new.terminal made) }
+    requires in_phase { IsInPhase port (session_of session.now) terminal.old.terminal.phase entry.now.who entry.now.step
+        (event_of entry.now.event) }
+    ensures tries { IfOk result (λ made. Tries (IsAllowed (call_at port (session_of session.now)) counts.now
+        terminal.old.terminal entry.now.who entry.now.step entry.now.part (event_of entry.now.event))
+        (after_event (call_at port (session_of session.now)) terminal.old.terminal entry.now.who entry.now.step
+        entry.now.part (event_of entry.now.event)) terminal.new.terminal made) }
     ensures column { OnOk result (column_in terminal.new.terminal.disc ≤ column_in terminal.old.terminal.disc + 4096) }
 {
     if !is_next(terminal, turns.len(), caller, entry.step, entry.part) {
@@ -275,9 +296,13 @@ fn try_by_caller(
 /// Tries a piece of a flush run.
 fn try_piece(terminal: &mut Terminal, entry: &Entry, chars: &[Flagged]) -> Result<bool, NoMemory>
     requires { IsSmall terminal.old.terminal }
-    ensures tries { IfOk result (λ made. Tries ((entry.now.who ≡ who.Flusher) × IsFlush terminal.old.terminal entry.now.step entry.now.part chars.now)
-        (record (after_characters terminal.old.terminal chars.now) { flushed = Some (record { run = entry.now.step; part = entry.now.part }) }) terminal.new.terminal made) }
-    ensures column { OnOk result (column_in terminal.new.terminal.disc ≤ column_in terminal.old.terminal.disc + 2 ^ 28) }
+    ensures tries { IfOk result (λ made. Tries
+        ((entry.now.who ≡ who.Flusher) × IsFlush terminal.old.terminal entry.now.step entry.now.part chars.now)
+        (record (after_characters terminal.old.terminal chars.now) {
+          flushed = Some (record { run = entry.now.step; part = entry.now.part });
+        }) terminal.new.terminal made) }
+    ensures column { OnOk result
+        (column_in terminal.new.terminal.disc ≤ column_in terminal.old.terminal.disc + 2 ^ 28) }
 {
     if entry.who != Who::Flusher {
         return Ok(false);
@@ -301,10 +326,14 @@ pub(crate) fn try_entry(
     requires small { IsSmall terminal.old.terminal }
     requires turns { AreTurns port (session_of session.now) terminal.old.terminal.phase turns.now }
     requires many { length turns.now ≡ length terminal.old.terminal.callers }
-    requires in_phase { IsInPhase port (session_of session.now) terminal.old.terminal.phase entry.now.who entry.now.step (event_of entry.now.event) }
-    ensures tries { IfOk result (λ made. Tries (IsAllowed (call_at port (session_of session.now)) counts.now terminal.old.terminal entry.now.who entry.now.step entry.now.part (event_of entry.now.event))
-        (after_event (call_at port (session_of session.now)) terminal.old.terminal entry.now.who entry.now.step entry.now.part (event_of entry.now.event)) terminal.new.terminal made) }
-    ensures column { OnOk result (column_in terminal.new.terminal.disc ≤ column_in terminal.old.terminal.disc + 2 ^ 28) }
+    requires in_phase { IsInPhase port (session_of session.now) terminal.old.terminal.phase entry.now.who entry.now.step
+        (event_of entry.now.event) }
+    ensures tries { IfOk result (λ made. Tries (IsAllowed (call_at port (session_of session.now)) counts.now
+        terminal.old.terminal entry.now.who entry.now.step entry.now.part (event_of entry.now.event))
+        (after_event (call_at port (session_of session.now)) terminal.old.terminal entry.now.who entry.now.step
+        entry.now.part (event_of entry.now.event)) terminal.new.terminal made) }
+    ensures column { OnOk result
+        (column_in terminal.new.terminal.disc ≤ column_in terminal.old.terminal.disc + 2 ^ 28) }
 {
     match &entry.event {
         Event::Answer { .. } | Event::Part(_) | Event::Wait => match entry.who {

@@ -5,7 +5,8 @@ ghost use Rattle.tty_calls.specs.Plain.{event_of};
 ghost use Rattle.tty_calls.specs.Sessions.{session_of, ticks_on};
 ghost use Rattle.tty_terminal.specs.Runs.{phase_after};
 ghost use Rattle.journal_check.specs.Legal.{phase_at};
-ghost use Rattle.journal_check.specs.Finishing.{may_go as may_stand, ticks_after, is_hangup as hangs_up, goes_well as goes_well_from};
+ghost use Rattle.journal_check.specs.Finishing.{may_go as may_stand, ticks_after};
+ghost use Rattle.journal_check.specs.Finishing.{is_hangup as hangs_up, goes_well as goes_well_from};
 
 use tty_calls::{Event, Journal, Session};
 
@@ -71,7 +72,9 @@ fn ticks_in(session: &Session, port: usize, phase: usize) -> u32
 /// phase's line, to a hangup after the last.
 pub(crate) fn goes_well(session: &Session, port: usize, sents: &[usize], journal: &Journal) -> bool
     requires { length sents.now ≡ length (session_of session.now).phases }
-    ensures { result ≡ goes_well_from (λ k. slice_index sents.now k) (λ k. ticks_on port (phase_at (session_of session.now) k)) (length (session_of session.now).phases) 0 0 journal.now.items }
+    ensures { result
+        ≡ goes_well_from (λ k. slice_index sents.now k) (λ k. ticks_on port (phase_at (session_of session.now) k))
+        (length (session_of session.now).phases) 0 0 journal.now.items }
 {
     let mut phase = 0;
     let mut passed = 0;

@@ -97,7 +97,8 @@ fn first_wrong_of(
     requires formed { IsWellFormed (session_of session.now) }
     requires few { length journal.now.items < 2 ^ 31 }
     requires first { Follows port (session_of session.now) [] replay.old }
-    ensures { IfOk result (λ found. MatchOption found (HasNoWrong port (session_of session.now) journal.now.items) (λ place. IsFirstWrong port (session_of session.now) journal.now.items place)) }
+    ensures { IfOk result (λ found. MatchOption found (HasNoWrong port (session_of session.now) journal.now.items)
+        (λ place. IsFirstWrong port (session_of session.now) journal.now.items place)) }
 {
     for place in 0..journal.len() {
         let entry = journal.at(place);
@@ -117,7 +118,8 @@ pub(crate) fn first_wrong(
 ) -> Result<Option<u32>, NoMemory>
     requires formed { IsWellFormed (session_of session.now) }
     requires few { length journal.now.items < 2 ^ 31 }
-    ensures { IfOk result (λ found. MatchOption found (HasNoWrong port (session_of session.now) journal.now.items) (λ place. IsFirstWrong port (session_of session.now) journal.now.items place)) }
+    ensures { IfOk result (λ found. MatchOption found (HasNoWrong port (session_of session.now) journal.now.items)
+        (λ place. IsFirstWrong port (session_of session.now) journal.now.items place)) }
 {
     let mut replay = begin(alloc, session, port)?;
     first_wrong_of(alloc, &mut replay, session, port, journal)

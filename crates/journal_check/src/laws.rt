@@ -21,23 +21,37 @@ pub fn a_session_within_the_limits_is_well_formed()
 
 /// No two verdicts fit the same runs.
 pub fn at_most_one_verdict_fits()
-    ensures { (session : PlainSession) (runs : List PortRun) (v w : Verdict) → Fits session runs v → Fits session runs w → v ≡ w }
+    ensures { (session : PlainSession) (runs : List PortRun) (v w : Verdict)
+        → Fits session runs v
+        → Fits session runs w
+        → v ≡ w }
 {}
 
 /// A legal run has no wrong entry, and its account is right.
 pub fn a_legal_run_has_no_wrong_entry()
-    ensures no_wrong { (p : ℕ) (session : PlainSession) (run : PortRun) → IsLegalOn p session run → HasNoWrong p session run.journal.items }
-    ensures accounted { (p : ℕ) (session : PlainSession) (run : PortRun) → IsLegalOn p session run → IsAccounted p session run }
+    ensures no_wrong { (p : ℕ) (session : PlainSession) (run : PortRun)
+        → IsLegalOn p session run
+        → HasNoWrong p session run.journal.items }
+    ensures accounted { (p : ℕ) (session : PlainSession) (run : PortRun)
+        → IsLegalOn p session run
+        → IsAccounted p session run }
 {}
 
 /// A run without a wrong entry whose account is right is legal.
 pub fn an_accounted_run_without_wrong_entries_is_legal()
-    ensures { (p : ℕ) (session : PlainSession) (run : PortRun) → HasNoWrong p session run.journal.items → IsAccounted p session run → IsLegalOn p session run }
+    ensures { (p : ℕ) (session : PlainSession) (run : PortRun)
+        → HasNoWrong p session run.journal.items
+        → IsAccounted p session run
+        → IsLegalOn p session run }
 {}
 
 /// The entries of a phase are those of a finished journal where the terminals at the phase's two ends say so.
 pub fn the_ends_of_a_phase_tell_its_part()
-    ensures { (p : ℕ) (session : PlainSession) (overruns : List Overrun) (k : ℕ) (t : Terminal) (part : List PlainEntry) (u : Terminal) →
-        Leads (call_at p session) (counts_on p session) t part u → session_events_in part ≡ []
-        → BeginsPhase t → CompletesPhase p session overruns k t u → IsPhasePart p session overruns k part }
+    ensures { (p : ℕ) (session : PlainSession) (overruns : List Overrun) (k : ℕ) (t : Terminal) (part : List PlainEntry)
+        (u : Terminal)
+        → Leads (call_at p session) (counts_on p session) t part u
+        → session_events_in part ≡ []
+        → BeginsPhase t
+        → CompletesPhase p session overruns k t u
+        → IsPhasePart p session overruns k part }
 {}

@@ -158,11 +158,14 @@ fn keep_phase(
     overruns: &[Overrun],
 ) -> Result<usize, NoMemory>
     requires place { place ≤ length chars.now }
-    ensures kept { OnOk result (received.new.kept.items ≡ received.old.kept.items ++ (kept_from place (drop place chars.now) overruns.now).chars) }
+    ensures kept { OnOk result (received.new.kept.items
+        ≡ received.old.kept.items ++ (kept_from place (drop place chars.now) overruns.now).chars) }
     ensures within { IfOk result (λ passed. passed ≤ length overruns.now) }
-    ensures rest { IfOk result (λ passed. drop passed overruns.now ≡ (kept_from place (drop place chars.now) overruns.now).overruns) }
+    ensures rest { IfOk result
+        (λ passed. drop passed overruns.now ≡ (kept_from place (drop place chars.now) overruns.now).overruns) }
     ensures ends { OnOk result (received.new.ends.items ≡ received.old.ends.items ++ length chars.now ∷ []) }
-    ensures sents { OnOk result (received.new.sents.items ≡ received.old.sents.items ++ length received.new.kept.items ∷ []) }
+    ensures sents { OnOk result
+        (received.new.sents.items ≡ received.old.sents.items ++ length received.new.kept.items ∷ []) }
 {
     let new = &chars[place..];
     received.kept.reserve(new.len())?;

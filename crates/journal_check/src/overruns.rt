@@ -7,7 +7,10 @@ use tty_base::Overrun;
 
 /// Whether an overrun is the k-th, at a place from `floor` on, and at a full buffer.
 fn is_shown(capacity: u32, k: u64, floor: u64, overrun: &Overrun) -> bool
-    ensures { IsTrue result ↔ ((floor ≤ overrun.now.at) × (overrun.now.sent + k ≡ overrun.now.at) × (overrun.now.sent ≡ overrun.now.seen + capacity)) }
+    ensures { IsTrue result
+        ↔ ((floor ≤ overrun.now.at)
+        × (overrun.now.sent + k ≡ overrun.now.at)
+        × (overrun.now.sent ≡ overrun.now.seen + capacity)) }
 {
     let at = u64::from(overrun.at);
     let capacity = u64::from(capacity);

@@ -1,6 +1,7 @@
 //! A journal replayed, entry by entry.
 
-ghost use Rattle.std.specs.Prelude.{◌≡◌, ℕ, List, ◌∷◌, [], ◌++◌, ◌+◌, ◌<◌, ◌≤◌, ◌^◌, true, false, MatchBool, IfOk, OnOk, length};
+ghost use Rattle.std.specs.Prelude.{◌≡◌, ℕ, List, ◌∷◌, [], ◌++◌, ◌+◌, ◌<◌, ◌≤◌, ◌^◌};
+ghost use Rattle.std.specs.Prelude.{true, false, MatchBool, IfOk, OnOk, length};
 ghost use Rattle.tty_calls.specs.Plain.{PlainEntry, entry_of, event_of};
 ghost use Rattle.tty_calls.specs.Sessions.{session_of, scripts_over, names_of};
 ghost use Rattle.journal_check.specs.Legal.{is_phase_end};
@@ -52,10 +53,17 @@ pub(crate) fn begin_phase(
 fn note(replay: &mut Replay, session: &Session, port: usize, entry: &Entry) -> Result<(), NoMemory>
     requires names { replay.old.names ≡ names_of (scripts_over port (session_of session.now).phases) }
     requires small { replay.old.terminal.terminal.phase ≤ 2 ^ 31 }
-    requires idle { is_phase_end (event_of entry.now.event) ≡ true → AreIdle port (session_of session.now) replay.old.terminal.terminal.phase replay.old.turns.items }
-    ensures same { OnOk result (replay.new ≡ record replay.old { turns = replay.new.turns; latest = latest_after (event_of entry.now.event) entry.now.generation replay.old.latest }) }
-    ensures begins { OnOk result (is_phase_end (event_of entry.now.event) ≡ true → AreTurns port (session_of session.now) replay.old.terminal.terminal.phase replay.new.turns.items) }
-    ensures stays { OnOk result (is_phase_end (event_of entry.now.event) ≡ false → replay.new.turns.items ≡ replay.old.turns.items) }
+    requires idle { is_phase_end (event_of entry.now.event) ≡ true
+        → AreIdle port (session_of session.now) replay.old.terminal.terminal.phase replay.old.turns.items }
+    ensures same { OnOk result (replay.new
+        ≡ record replay.old {
+          turns = replay.new.turns;
+          latest = latest_after (event_of entry.now.event) entry.now.generation replay.old.latest;
+        }) }
+    ensures begins { OnOk result (is_phase_end (event_of entry.now.event) ≡ true
+        → AreTurns port (session_of session.now) replay.old.terminal.terminal.phase replay.new.turns.items) }
+    ensures stays { OnOk result
+        (is_phase_end (event_of entry.now.event) ≡ false → replay.new.turns.items ≡ replay.old.turns.items) }
     ensures many { OnOk result (length replay.new.turns.items ≡ length replay.old.turns.items) }
 {
     match entry.event {
@@ -83,8 +91,12 @@ pub(crate) fn judge(
     entry: &Entry,
 ) -> Result<bool, NoMemory>
     requires { IsReady port (session_of session.now) replay.old }
-    ensures { IfOk result (λ fine. (before : List PlainEntry) → Follows port (session_of session.now) before replay.old
-        → MatchBool fine (IsFine port (session_of session.now) before replay.old.terminal.terminal (entry_of entry.now) × Follows port (session_of session.now) (before ++ entry_of entry.now ∷ []) replay.new)
+    ensures { IfOk result (λ fine.
+        (before : List PlainEntry)
+        → Follows port (session_of session.now) before replay.old
+        → MatchBool fine
+        (IsFine port (session_of session.now) before replay.old.terminal.terminal (entry_of entry.now)
+        × Follows port (session_of session.now) (before ++ entry_of entry.now ∷ []) replay.new)
         (IsFine port (session_of session.now) before replay.old.terminal.terminal (entry_of entry.now) → ⊥)) }
 {
     if entry.generation != replay.terminal.generation() {

@@ -1,6 +1,7 @@
 //! What the overruns of a line have seen taken.
 
-ghost use Rattle.std.specs.Prelude.{◌≡◌, ◌+◌, ◌≤◌, ◌<◌, ◌^◌, ◌∷◌, ◌++◌, [], IfOk, OnOk, ◌==◌, if◌then◌else◌, length, drop};
+ghost use Rattle.std.specs.Prelude.{◌≡◌, ◌+◌, ◌≤◌, ◌<◌, ◌^◌, ◌∷◌, ◌++◌, [], IfOk};
+ghost use Rattle.std.specs.Prelude.{OnOk, ◌==◌, if◌then◌else◌, length, drop};
 ghost use Rattle.tty_calls.specs.Plain.{event_of};
 ghost use Rattle.tty_terminal.specs.Runs.{chars_of};
 ghost use Rattle.journal_check.specs.Legal.{is_phase_end as ends_phase, line_ends};
@@ -57,7 +58,8 @@ pub(crate) fn taken_by(alloc: Global, journal: &Journal) -> Result<Taken, NoMemo
 
 /// Where a line ends, so many characters were taken by then.
 fn note_stop(stops: &mut Vec<usize>, event: &Event, count: usize) -> Result<(), NoMemory>
-    ensures { OnOk result (stops.new.items ≡ (if length (line_ends (event_of event.now)) == 0 then stops.old.items else stops.old.items ++ count ∷ [])) }
+    ensures { OnOk result (stops.new.items
+        ≡ (if length (line_ends (event_of event.now)) == 0 then stops.old.items else stops.old.items ++ count ∷ [])) }
 {
     if !is_no_line_end(event) {
         stops.push(count)?;
@@ -67,7 +69,8 @@ fn note_stop(stops: &mut Vec<usize>, event: &Event, count: usize) -> Result<(), 
 
 /// Where a phase ends, so many characters were taken before the next.
 fn note_start(starts: &mut Vec<usize>, event: &Event, count: usize) -> Result<(), NoMemory>
-    ensures { OnOk result (starts.new.items ≡ (if ends_phase (event_of event.now) then starts.old.items ++ count ∷ [] else starts.old.items)) }
+    ensures { OnOk result (starts.new.items
+        ≡ (if ends_phase (event_of event.now) then starts.old.items ++ count ∷ [] else starts.old.items)) }
 {
     if is_phase_end(event) {
         starts.push(count)?;

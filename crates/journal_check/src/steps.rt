@@ -1,6 +1,7 @@
 //! One entry of each kind on the terminal: whether it may stand, and what it does where it may.
 
-ghost use Rattle.std.specs.Prelude.{◌≡◌, ◌↔◌, List, ◌+◌, ◌-◌, ◌*◌, ◌^◌, ◌≤◌, ◌<◌, ◌&&◌, false, Some, is_some, IsTrue, IfOk, OnOk, length};
+ghost use Rattle.std.specs.Prelude.{◌≡◌, ◌↔◌, List, ◌+◌, ◌-◌, ◌*◌, ◌^◌, ◌≤◌, ◌<◌, ◌&&◌};
+ghost use Rattle.std.specs.Prelude.{false, Some, is_some, IsTrue, IfOk, OnOk, length};
 ghost use Rattle.tty_base.specs.declared.characters.Flagged.{Flagged};
 ghost use Rattle.tty_calls.specs.Plain.{call_of, answer_lent, handle_of, idle};
 ghost use Rattle.ldisc_switch.specs.Disciplines.{column_in};
@@ -8,7 +9,9 @@ ghost use Rattle.tty_terminal.specs.Terminals.{caller_at, live_count};
 ghost use Rattle.tty_terminal.specs.Receiving.{after_characters, AcceptsAll};
 ghost use Rattle.tty_terminal.specs.Calls.{outcome};
 ghost use Rattle.tty_terminal.specs.Meeting.{Meets, room_for_characters};
-ghost use Rattle.tty_terminal.specs.Steps.{IsNext, IsTick, IsLineEnd, IsCallerEnd, IsPhaseEnd, IsHangup, IsFlush, TakesPart, MustWait, DropsAt, callers_in, follows as piece_follows, left_by, is_wait, quiet_with, after_answer, after_wait, after_part, with_dropped};
+ghost use Rattle.tty_terminal.specs.Steps.{IsNext, IsTick, IsLineEnd, IsCallerEnd, IsPhaseEnd, IsHangup, IsFlush};
+ghost use Rattle.tty_terminal.specs.Steps.{TakesPart, MustWait, DropsAt, callers_in, follows as piece_follows, left_by};
+ghost use Rattle.tty_terminal.specs.Steps.{is_wait, quiet_with, after_answer, after_wait, after_part, with_dropped};
 ghost use Rattle.journal_check.specs.Trying.{Tries, IsSmall, IsSmallCall, IsAnsweredBy, BeginsWait};
 
 use crate::answers::is_same;
@@ -142,8 +145,14 @@ fn may_flush(terminal: &Terminal, run: u32, part: u32, count: usize) -> bool
     ensures some { IsTrue result → 0 < count }
     ensures few { IsTrue result → count ≤ 64 }
     ensures numbered { IsTrue result → IsTrue (piece_follows terminal.now.terminal.flushed run part) }
-    ensures sent { IsTrue result → IsTrue terminal.now.terminal.line_over → terminal.now.terminal.taken + count ≤ terminal.now.terminal.sent }
-    ensures not { result ≡ false → (chars : List Flagged) → length chars ≡ count → IsFlush terminal.now.terminal run part chars → ⊥ }
+    ensures sent { IsTrue result
+        → IsTrue terminal.now.terminal.line_over
+        → terminal.now.terminal.taken + count ≤ terminal.now.terminal.sent }
+    ensures not { result ≡ false
+        → (chars : List Flagged)
+        → length chars ≡ count
+        → IsFlush terminal.now.terminal run part chars
+        → ⊥ }
 {
     terminal.is_open()
         && count > 0
@@ -159,8 +168,10 @@ fn receive_all(terminal: &mut Terminal, chars: &[Flagged]) -> bool
     requires wire { room_for_characters terminal.old.terminal (length chars.now) ≤ terminal.old.wire_room }
     requires signals { length chars.now ≤ terminal.old.signal_room }
     requires column { column_in terminal.old.terminal.disc < 2 ^ 61 }
-    ensures tries { Tries (AcceptsAll terminal.old.terminal chars.now) (after_characters terminal.old.terminal chars.now) terminal.new.terminal result }
-    ensures column { column_in terminal.new.terminal.disc ≤ column_in terminal.old.terminal.disc + 2 ^ 22 * length chars.now }
+    ensures tries { Tries (AcceptsAll terminal.old.terminal chars.now)
+        (after_characters terminal.old.terminal chars.now) terminal.new.terminal result }
+    ensures column { column_in terminal.new.terminal.disc
+        ≤ column_in terminal.old.terminal.disc + 2 ^ 22 * length chars.now }
 {
     terminal.receive_all(chars) == chars.len()
 }
@@ -174,7 +185,9 @@ pub(crate) fn try_flush(
 ) -> Result<bool, NoMemory>
     requires { IsSmall terminal.old.terminal }
     ensures tries { IfOk result (λ made. Tries (IsFlush terminal.old.terminal run part chars.now)
-        (record (after_characters terminal.old.terminal chars.now) { flushed = Some (record { run = run; part = part }) }) terminal.new.terminal made) }
+        (record (after_characters terminal.old.terminal chars.now) {
+          flushed = Some (record { run = run; part = part });
+        }) terminal.new.terminal made) }
     ensures column { column_in terminal.new.terminal.disc ≤ column_in terminal.old.terminal.disc + 2 ^ 28 }
 {
     if !may_flush(terminal, run, part, chars.len()) {
@@ -201,8 +214,11 @@ fn meet_in_room(
     requires known { caller < length terminal.old.terminal.callers }
     requires small { IsSmall terminal.old.terminal }
     requires call { IsSmallCall (call_of call.now) }
-    ensures met { IfOk result (λ met. Meets (outcome terminal.old.terminal (caller_at terminal.old.terminal caller) (call_of call.now)) met) }
-    ensures left { OnOk result (terminal.new.terminal ≡ left_by (outcome terminal.old.terminal (caller_at terminal.old.terminal caller) (call_of call.now)) terminal.old.terminal) }
+    ensures met { IfOk result
+        (λ met. Meets (outcome terminal.old.terminal (caller_at terminal.old.terminal caller) (call_of call.now)) met) }
+    ensures left { OnOk result (terminal.new.terminal
+        ≡ left_by (outcome terminal.old.terminal (caller_at terminal.old.terminal caller) (call_of call.now))
+        terminal.old.terminal) }
     ensures column { OnOk result (column_in terminal.new.terminal.disc ≤ column_in terminal.old.terminal.disc + 4096) }
 {
     terminal.reserve(ROOM_FOR_CALL, 0)?;
@@ -242,7 +258,8 @@ fn may_be_idle(
 ) -> Result<bool, NoMemory>
     requires many { known ≡ length terminal.now.terminal.callers }
     requires known { caller < length terminal.now.terminal.callers }
-    ensures { IfOk result (λ may. may ≡ (is_some (caller_at terminal.now.terminal caller).waits && quiet_with callers terminal.now.terminal)) }
+    ensures { IfOk result (λ may.
+        may ≡ (is_some (caller_at terminal.now.terminal caller).waits && quiet_with callers terminal.now.terminal)) }
 {
     if terminal.caller(caller).waits.is_none() {
         return Ok(false);
@@ -263,9 +280,13 @@ fn try_idle(
     requires many { known ≡ length terminal.old.terminal.callers }
     requires known { caller < length terminal.old.terminal.callers }
     requires small { IsSmall terminal.old.terminal }
-    requires must { MustWait (outcome terminal.old.terminal (caller_at terminal.old.terminal caller) (call_of call.now)) }
-    ensures tries { IfOk result (λ made. Tries (IsAnsweredBy terminal.old.terminal callers caller (call_of call.now) (answer_lent answer.now) dropped)
-        (after_answer (with_dropped (left_by (outcome terminal.old.terminal (caller_at terminal.old.terminal caller) (call_of call.now)) terminal.old.terminal) dropped) caller) terminal.new.terminal made) }
+    requires must { MustWait
+        (outcome terminal.old.terminal (caller_at terminal.old.terminal caller) (call_of call.now)) }
+    ensures tries { IfOk result (λ made. Tries
+        (IsAnsweredBy terminal.old.terminal callers caller (call_of call.now) (answer_lent answer.now) dropped)
+        (after_answer (with_dropped (left_by
+        (outcome terminal.old.terminal (caller_at terminal.old.terminal caller) (call_of call.now))
+        terminal.old.terminal) dropped) caller) terminal.new.terminal made) }
     ensures column { OnOk result (column_in terminal.new.terminal.disc ≡ column_in terminal.old.terminal.disc) }
 {
     let _ = call;
@@ -290,9 +311,13 @@ fn try_given(
     requires known { caller < length terminal.old.terminal.callers }
     requires small { IsSmall terminal.old.terminal }
     requires call { IsSmallCall (call_of call.now) }
-    requires at_once { is_wait (outcome terminal.old.terminal (caller_at terminal.old.terminal caller) (call_of call.now)) ≡ false }
-    ensures tries { IfOk result (λ made. Tries (IsAnsweredBy terminal.old.terminal callers caller (call_of call.now) (answer_lent answer.now) dropped)
-        (after_answer (with_dropped (left_by (outcome terminal.old.terminal (caller_at terminal.old.terminal caller) (call_of call.now)) terminal.old.terminal) dropped) caller) terminal.new.terminal made) }
+    requires at_once { is_wait
+        (outcome terminal.old.terminal (caller_at terminal.old.terminal caller) (call_of call.now)) ≡ false }
+    ensures tries { IfOk result (λ made. Tries
+        (IsAnsweredBy terminal.old.terminal callers caller (call_of call.now) (answer_lent answer.now) dropped)
+        (after_answer (with_dropped (left_by
+        (outcome terminal.old.terminal (caller_at terminal.old.terminal caller) (call_of call.now))
+        terminal.old.terminal) dropped) caller) terminal.new.terminal made) }
     ensures column { OnOk result (column_in terminal.new.terminal.disc ≤ column_in terminal.old.terminal.disc + 4096) }
 {
     let _ = callers;
@@ -329,8 +354,11 @@ pub(crate) fn try_answer(
     requires known { caller < length terminal.old.terminal.callers }
     requires small { IsSmall terminal.old.terminal }
     requires call { IsSmallCall (call_of call.now) }
-    ensures tries { IfOk result (λ made. Tries (IsAnsweredBy terminal.old.terminal callers caller (call_of call.now) (answer_lent answer.now) dropped)
-        (after_answer (with_dropped (left_by (outcome terminal.old.terminal (caller_at terminal.old.terminal caller) (call_of call.now)) terminal.old.terminal) dropped) caller) terminal.new.terminal made) }
+    ensures tries { IfOk result (λ made. Tries
+        (IsAnsweredBy terminal.old.terminal callers caller (call_of call.now) (answer_lent answer.now) dropped)
+        (after_answer (with_dropped (left_by
+        (outcome terminal.old.terminal (caller_at terminal.old.terminal caller) (call_of call.now))
+        terminal.old.terminal) dropped) caller) terminal.new.terminal made) }
     ensures column { OnOk result (column_in terminal.new.terminal.disc ≤ column_in terminal.old.terminal.disc + 4096) }
 {
     if terminal.must_wait(caller, call) {
@@ -350,8 +378,10 @@ pub(crate) fn try_part(
     requires known { caller < length terminal.old.terminal.callers }
     requires small { IsSmall terminal.old.terminal }
     requires call { IsSmallCall (call_of call.now) }
-    ensures tries { IfOk result (λ made. Tries (TakesPart (outcome terminal.old.terminal (caller_at terminal.old.terminal caller) (call_of call.now)) count)
-        (after_part (left_by (outcome terminal.old.terminal (caller_at terminal.old.terminal caller) (call_of call.now)) terminal.old.terminal) caller (handle_of (call_of call.now)) count) terminal.new.terminal made) }
+    ensures tries { IfOk result (λ made. Tries
+        (TakesPart (outcome terminal.old.terminal (caller_at terminal.old.terminal caller) (call_of call.now)) count)
+        (after_part (left_by (outcome terminal.old.terminal (caller_at terminal.old.terminal caller) (call_of call.now))
+        terminal.old.terminal) caller (handle_of (call_of call.now)) count) terminal.new.terminal made) }
     ensures column { OnOk result (column_in terminal.new.terminal.disc ≤ column_in terminal.old.terminal.disc + 4096) }
 {
     match meet_in_room(alloc, terminal, caller, call)? {
@@ -372,7 +402,8 @@ pub(crate) fn try_wait(terminal: &mut Terminal, caller: u16, call: &Call) -> boo
     requires known { caller < length terminal.old.terminal.callers }
     requires small { IsSmall terminal.old.terminal }
     requires call { IsSmallCall (call_of call.now) }
-    ensures tries { Tries (BeginsWait terminal.old.terminal caller (call_of call.now)) (after_wait terminal.old.terminal caller (handle_of (call_of call.now))) terminal.new.terminal result }
+    ensures tries { Tries (BeginsWait terminal.old.terminal caller (call_of call.now))
+        (after_wait terminal.old.terminal caller (handle_of (call_of call.now))) terminal.new.terminal result }
     ensures column { column_in terminal.new.terminal.disc ≡ column_in terminal.old.terminal.disc }
 {
     if terminal.caller(caller).waits.is_some() || !terminal.must_wait(caller, call) {

@@ -1,9 +1,11 @@
 //! Which calls each caller has in a phase.
 
-ghost use Rattle.std.specs.Prelude.{◌≡◌, ◌↔◌, ℕ, ◌+◌, ◌≤◌, ◌<◌, ◌^◌, ◌==◌, ◌&&◌, Some, IsTrue, IfOk, OnOk, length, map, slice_get};
+ghost use Rattle.std.specs.Prelude.{◌≡◌, ◌↔◌, ℕ, ◌+◌, ◌≤◌, ◌<◌, ◌^◌, ◌==◌, ◌&&◌};
+ghost use Rattle.std.specs.Prelude.{Some, IsTrue, IfOk, OnOk, length, map, slice_get};
 ghost use Rattle.std.specs.Str.{bytes_eq};
 ghost use Rattle.tty_calls.specs.Plain.{call_of, event_of};
-ghost use Rattle.tty_calls.specs.Sessions.{PlainSession, script_of, session_of, scripts_on, scripts_over, names_of, number_in, call_at};
+ghost use Rattle.tty_calls.specs.Sessions.{PlainSession, script_of, session_of, scripts_on};
+ghost use Rattle.tty_calls.specs.Sessions.{scripts_over, names_of, number_in, call_at};
 ghost use Rattle.tty_terminal.specs.Runs.{is_of_call};
 ghost use Rattle.journal_check.specs.Legal.{phase_at, is_caller_end, IsInPhase};
 ghost use Rattle.journal_check.specs.Scripts.{turn_then, turns_with_next, AreTurns, AreIdle, IsOpen, calls_from};
@@ -77,7 +79,9 @@ fn open_script(
 ) -> Result<(), NoMemory>
     requires many { length names.now ≤ length turns.old }
     requires phase { phase ≤ 2 ^ 31 }
-    ensures { OnOk result (turns.new ≡ turns_with_next turns.old (number_in names.now script.now.name.bytes) phase (length script.now.calls.items) place) }
+    ensures { OnOk result (turns.new
+        ≡ turns_with_next turns.old (number_in names.now script.now.name.bytes) phase (length script.now.calls.items)
+        place) }
 {
     if let Some(caller) = names.number(&script.name) {
         turns[caller] = turn_with(turns[caller], phase, script.calls.len(), place)?;
@@ -128,10 +132,13 @@ pub(crate) fn is_in_phase(turns: &[Turn], phase: u32, entry: &Entry) -> bool
 
 /// Whether an entry of this step may be of a turn.
 fn is_in_turn(turn: &Turn, step: usize, event: &Event) -> bool
-    ensures calls { IsTrue result → IsTrue (is_of_call (event_of event.now)) → (turn.now.first ≤ step) × (step < turn.now.first + turn.now.steps) }
+    ensures calls { IsTrue result
+        → IsTrue (is_of_call (event_of event.now))
+        → (turn.now.first ≤ step) × (step < turn.now.first + turn.now.steps) }
     ensures end { IsTrue result → IsTrue (is_caller_end (event_of event.now)) → turn.now.first + turn.now.steps ≤ step }
     ensures may { (IsTrue (is_of_call (event_of event.now)) → (turn.now.first ≤ step) × (step < turn.now.first + turn.now.steps))
-        → (IsTrue (is_caller_end (event_of event.now)) → turn.now.first + turn.now.steps ≤ step) → IsTrue result }
+        → (IsTrue (is_caller_end (event_of event.now)) → turn.now.first + turn.now.steps ≤ step)
+        → IsTrue result }
 {
     match event {
         Event::Answer { .. } | Event::Part(_) | Event::Wait => {
@@ -185,7 +192,8 @@ pub(crate) fn call_in<'a>(
 ) -> Call<'a>
     requires phase { phase < length (session_of session.now).phases }
     requires names { names.now ≡ names_of (scripts_over port (session_of session.now).phases) }
-    requires open { IsOpen port (session_of session.now) phase (scripts_on port (phase_at (session_of session.now) phase)) caller turn }
+    requires open { IsOpen port (session_of session.now) phase
+        (scripts_on port (phase_at (session_of session.now) phase)) caller turn }
     requires first { turn.first ≤ step }
     requires within { step < turn.first + turn.steps }
     ensures { call_at port (session_of session.now) caller step ≡ Some (call_of result) }

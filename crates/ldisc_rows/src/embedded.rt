@@ -42,8 +42,8 @@ const EDITED: &[Step] = &[
     Step::Sends(b""),
 ];
 
-/// A line that comes in one call is edited, with its echo, as one that comes by single characters; raw bytes are kept as
-/// they are.
+/// A line that comes in one call is edited, with its echo, as one that comes by single characters; raw bytes are kept
+/// as they are.
 const IN_ONE_CALL: &[Step] = &[
     Step::Receives(b"ab\x7fc\r", 5),
     Step::Reads(b"ac\n"),

@@ -5,7 +5,8 @@ use Rattle.ldisc_switch.specs.declared.kinds.Kind.TheVariants as kind
 use Rattle.ldisc_switch.specs.declared.discipline.Disc.{Disc}
 use Rattle.ldisc_switch.specs.declared.discipline.Disc.TheVariants as disc
 use Rattle.ldisc_switch.specs.Disciplines.{kind_of, fresh_of}
-use Rattle.ldisc_switch.specs.Happenings.{Happening, character, read, write, flush, mode_change, ixoff_rule, packet_take, after_one, after_all}
+use Rattle.ldisc_switch.specs.Happenings.{Happening, character, read, write, flush, mode_change}
+use Rattle.ldisc_switch.specs.Happenings.{ixoff_rule, packet_take, after_one, after_all}
 
 kind_of_after : (state : Disc) (event : Happening) → kind_of (after_one state event) ≡ kind_of state
 kind_of_after (disc.Tty tty) (character conditions c) = refl

@@ -81,7 +81,8 @@ tty_on_port port = disc_on_port (disc.Tty port.tty) port.output port.tally
 
 -- receiving a character; the rule for ixoff follows
 abbrev pub after_character_of : Settings → (now : ℕ) → Flagged → Disc → Output → Tally → DiscOnPort
-after_character_of modes now c (disc.Tty tty) output tally = tty_on_port (after_character modes now c (on_port tty output tally))
+after_character_of modes now c (disc.Tty tty) output tally =
+    tty_on_port (after_character modes now c (on_port tty output tally))
 after_character_of modes now c (disc.Slip slip) output tally =
     disc_on_port (disc.Slip (after_slip_character slip c)) (after_ixoff_rule_of modes (disc.Slip slip) output)
     (record tally { counts = counts_after_character slip c tally.counts })
@@ -89,13 +90,15 @@ after_character_of modes now c (disc.Slip slip) output tally =
 -- after these characters, one after the other
 abbrev pub after_characters_of : Settings → (now : ℕ) → List Flagged → DiscOnPort → DiscOnPort
 after_characters_of modes now [] port = port
-after_characters_of modes now (c ∷ cs) port = after_characters_of modes now cs (after_character_of modes now c port.disc port.output port.tally)
+after_characters_of modes now (c ∷ cs) port =
+    after_characters_of modes now cs (after_character_of modes now c port.disc port.output port.tally)
 
 -- each of these is accepted in its turn
 abbrev pub AcceptsAllOf : Settings → (now : ℕ) → List Flagged → DiscOnPort → Type 0
 AcceptsAllOf modes now [] port = Unit {0}
 AcceptsAllOf modes now (c ∷ cs) port =
-    (accepts_of modes port.disc ≡ true) × AcceptsAllOf modes now cs (after_character_of modes now c port.disc port.output port.tally)
+    (accepts_of modes port.disc ≡ true)
+    × AcceptsAllOf modes now cs (after_character_of modes now c port.disc port.output port.tally)
 
 -- a discipline with its port as others see it: reserved room is no part of it
 abbrev pub disc_without_room : DiscOnPort → DiscOnPort

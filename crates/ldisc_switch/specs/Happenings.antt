@@ -46,7 +46,8 @@ characters_at modes now (c ∷ cs) port =
 
 -- a discipline after one event; bytes are read and written under N_TTY alone, and packets are under N_SLIP alone
 abbrev pub after_one : Disc → Happening → Disc
-after_one state (character conditions c) = (after_character_of conditions.modes conditions.tick c state conditions.output conditions.tally).disc
+after_one state (character conditions c) =
+    (after_character_of conditions.modes conditions.tick c state conditions.output conditions.tally).disc
 after_one (disc.Tty tty) (read modes n) = disc.Tty (after_read modes n tty)
 after_one (disc.Tty tty) (write modes output bytes) = disc.Tty (after_write modes output bytes tty)
 after_one (disc.Tty tty) flush = disc.Tty (without_input tty)

@@ -11,7 +11,8 @@ use Rattle.n_tty.specs.Receiving.{after_flagged}
 use Rattle.n_tty.specs.Writing.{piece_text}
 use Rattle.ldisc_switch.specs.declared.discipline.Disc.{Disc}
 use Rattle.ldisc_switch.specs.declared.discipline.Disc.TheVariants as disc
-use Rattle.ldisc_switch.specs.Happenings.{Conditions, Happening, character, read, write, flush, mode_change, ixoff_rule, packet_take, after_one}
+use Rattle.ldisc_switch.specs.Happenings.{Conditions, Happening, character, read, write, flush}
+use Rattle.ldisc_switch.specs.Happenings.{mode_change, ixoff_rule, packet_take, after_one}
 
 abbrev pub new_tally : Tally
 new_tally = record { counts = no_counts; signals = record { items = []; spare = 0 } }
@@ -28,7 +29,8 @@ kept_echo under on_idle = if under.tally.counts.echo == 0 then on_idle.output.wi
 -- what a character posts
 abbrev pub character_echo : Conditions → Flagged → NTtyState → List ℕ
 character_echo conditions c tty =
-    kept_echo (port_after_character conditions.modes conditions.tick c tty conditions.output) (port_after_character conditions.modes conditions.tick c tty idle_output)
+    kept_echo (port_after_character conditions.modes conditions.tick c tty conditions.output)
+    (port_after_character conditions.modes conditions.tick c tty idle_output)
 
 -- what one happening posts, each byte with whether iutf8 was set
 abbrev pub text_at : Disc → Happening → List PostedByte

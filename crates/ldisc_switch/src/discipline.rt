@@ -1,11 +1,15 @@
 //! A line discipline of either kind, with what both can do.
 
-ghost use Rattle.std.specs.Prelude.{◌≡◌, ◌+◌, ◌*◌, ◌^◌, ◌<◌, ◌≤◌, List, length, take, [], ◌∷◌, ◌++◌, IfOk, ℕ, true, false};
+ghost use Rattle.std.specs.Prelude.{◌≡◌, ◌+◌, ◌*◌, ◌^◌, ◌<◌, ◌≤◌, List, length};
+ghost use Rattle.std.specs.Prelude.{take, [], ◌∷◌, ◌++◌, IfOk, ℕ, true, false};
 ghost use Rattle.tty_base.specs.Sizes.{COUNT_END, MOST_HELD, MOST_LINE, MOST_UNREAD};
 ghost use Rattle.tty_modes.specs.Settings.{Settings};
 ghost use Rattle.flow_control.specs.declared.tally.Tally.{Tally};
-ghost use Rattle.ldisc_switch.specs.Disciplines.{kind_of, fresh_of, accepts_of, unread_of, Fits, column_in, last_in, pending_count_of, after_ixoff_rule_of, disc_on_port, after_character_of, after_characters_of, AcceptsAllOf};
-ghost use Rattle.ldisc_switch.specs.Happenings.{Conditions, Happening, character, characters_at, ixoff_rule, HasHappened};
+ghost use Rattle.ldisc_switch.specs.Disciplines.{kind_of, fresh_of, accepts_of, unread_of, Fits, column_in};
+ghost use Rattle.ldisc_switch.specs.Disciplines.{last_in, pending_count_of, after_ixoff_rule_of, disc_on_port};
+ghost use Rattle.ldisc_switch.specs.Disciplines.{after_character_of, after_characters_of, AcceptsAllOf};
+ghost use Rattle.ldisc_switch.specs.Happenings.{Conditions, Happening, character};
+ghost use Rattle.ldisc_switch.specs.Happenings.{characters_at, ixoff_rule, HasHappened};
 
 use crate::Kind;
 use flow_control::{Tally, Wire};
@@ -99,9 +103,12 @@ impl Disc {
         requires room { pending_count_of self.old wire.old + CHARACTER_ROOM ≤ wire.old.spare }
         requires signal { 0 < tally.old.signals.spare }
         requires column { column_in self.old < COUNT_END }
-        ensures after { disc_on_port self.new wire.new tally.new ≡ after_character_of modes.now now c self.old wire.old tally.old }
-        ensures happened { (kind : Kind) (events : List Happening) → HasHappened self.old kind events →
-            let conditions : Conditions = record { modes = modes.now; tick = now; output = wire.old; tally = tally.old } in
+        ensures after { disc_on_port self.new wire.new tally.new
+            ≡ after_character_of modes.now now c self.old wire.old tally.old }
+        ensures happened { (kind : Kind) (events : List Happening)
+            → HasHappened self.old kind events
+            → let conditions : Conditions =
+            record { modes = modes.now; tick = now; output = wire.old; tally = tally.old } in
             HasHappened self.new kind (events ++ character conditions c ∷ []) }
         ensures fits { Fits modes.now self.new }
         // So several characters need room for what is pending once, and `CHARACTER_ROOM` for each.
@@ -138,7 +145,8 @@ impl Disc {
         ensures within { result ≤ length chars.now }
         ensures after { disc_on_port self.new wire.new tally.new
             ≡ after_characters_of modes.now now (take result chars.now) (disc_on_port self.old wire.old tally.old) }
-        ensures accepted { AcceptsAllOf modes.now now (take result chars.now) (disc_on_port self.old wire.old tally.old) }
+        ensures accepted { AcceptsAllOf modes.now now (take result chars.now)
+            (disc_on_port self.old wire.old tally.old) }
         ensures stops { result < length chars.now → accepts_of modes.now self.new ≡ false }
         ensures happened { (kind : Kind) (events : List Happening) → HasHappened self.old kind events →
             HasHappened self.new kind

@@ -16,8 +16,10 @@ ghost use Rattle.n_slip.specs.Discipline.{Slip};
 ghost use Rattle.n_slip.specs.History.{HasSeen};
 ghost use Rattle.ldisc_switch.specs.declared.kinds.Kind.{Kind};
 ghost use Rattle.ldisc_switch.specs.declared.discipline.Disc.{Disc};
-ghost use Rattle.ldisc_switch.specs.Disciplines.{kind_of, fresh_of, after_ixoff_rule_of, after_character_of, disc_without_room};
-ghost use Rattle.ldisc_switch.specs.Happenings.{Happening, read, write, flush, mode_change, packet_take, after_one, after_all, HasHappened, slip_parts};
+ghost use Rattle.ldisc_switch.specs.Disciplines.{kind_of, fresh_of, after_ixoff_rule_of};
+ghost use Rattle.ldisc_switch.specs.Disciplines.{after_character_of, disc_without_room};
+ghost use Rattle.ldisc_switch.specs.Happenings.{Happening, read, write, flush, mode_change, packet_take};
+ghost use Rattle.ldisc_switch.specs.Happenings.{after_one, after_all, HasHappened, slip_parts};
 ghost use Rattle.ldisc_switch.specs.Posted.{text_of_all};
 
 /// A call of N_TTY is the happening of its name.
@@ -33,7 +35,8 @@ pub fn calls_of_n_tty()
 
 /// A call of N_SLIP is the happening of its name.
 pub fn calls_of_n_slip()
-    ensures take_packet { (slip : Slip) → after_one (Disc.Slip slip) packet_take ≡ Disc.Slip (record slip { packets = drop 1 slip.packets }) }
+    ensures take_packet { (slip : Slip)
+        → after_one (Disc.Slip slip) packet_take ≡ Disc.Slip (record slip { packets = drop 1 slip.packets }) }
     ensures flush_in { (slip : Slip) → after_one (Disc.Slip slip) flush ≡ Disc.Slip (record slip { packets = [] }) }
 {}
 
@@ -45,13 +48,16 @@ pub fn one_more()
 
 /// Under N_SLIP the rule for ixoff lets a sender that was told to stop go on, and else does nothing.
 pub fn rule_under_n_slip()
-    ensures { (slip : Slip) (modes : Settings) (output : Output) →
-        after_ixoff_rule_of modes (Disc.Slip slip) output ≡ (if output.noted then with_start_sent modes output else output) }
+    ensures { (slip : Slip) (modes : Settings) (output : Output)
+        → after_ixoff_rule_of modes (Disc.Slip slip) output
+        ≡ (if output.noted then with_start_sent modes output else output) }
 {}
 
 /// A discipline keeps its kind, whatever happens to it.
 pub fn kind_stays()
-    ensures { (state : Disc) (kind : Kind) (events : List Happening) → HasHappened state kind events → kind_of state ≡ kind }
+    ensures { (state : Disc) (kind : Kind) (events : List Happening)
+        → HasHappened state kind events
+        → kind_of state ≡ kind }
 {}
 
 /// The column of N_TTY is that of all the text that was posted since it was installed.

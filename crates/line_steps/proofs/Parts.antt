@@ -1,5 +1,6 @@
 -- Parts that are counted and added to.
-use Rattle.std.proofs.Common.{◌≡◌, ℕ, suc, zero, ◌+◌, ◌<◌, List, [], ◌∷◌, ◌++◌, length, take, drop, get_or, sym, ◌∙◌, ap, arith, append_assoc, append-nil, slice_set}
+use Rattle.std.proofs.Common.{◌≡◌, ℕ, suc, zero, ◌+◌, ◌<◌, List, [], ◌∷◌, ◌++◌, length, take, drop}
+use Rattle.std.proofs.Common.{get_or, sym, ◌∙◌, ap, arith, append_assoc, append-nil, slice_set}
 use Rattle.std.proofs.lemmas.List.{take_more}
 use Rattle.tty_base.specs.declared.lines.LineStep.{LineStep}
 use Rattle.line_steps.specs.declared.Part.{Part}

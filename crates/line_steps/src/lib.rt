@@ -2,7 +2,8 @@
 //! flag.
 #![tactic(auto)]
 
-ghost use Rattle.std.specs.Prelude.{◌≡◌, ◌≤◌, ◌-◌, ◌^◌, [], ◌∷◌, ◌++◌, if◌then◌else◌, IfOk, OnOk, OnErr, length, map, take, min};
+ghost use Rattle.std.specs.Prelude.{◌≡◌, ◌≤◌, ◌-◌, ◌^◌, [], ◌∷◌, ◌++◌, if◌then◌else◌};
+ghost use Rattle.std.specs.Prelude.{IfOk, OnOk, OnErr, length, map, take, min};
 ghost use Rattle.line_steps.specs.Steps.{rx_step, steps_of, steps_in};
 
 use std::alloc::Global;
@@ -114,7 +115,8 @@ impl Part {
 
     /// Adds the arrivals of these bytes, where it is a run of this flag, and answers whether it is.
     fn extend(&mut self, flag: Flag, bytes: &[u8]) -> Result<bool, NoMemory>
-        ensures ok { IfOk result (λ added. steps_of self.new ≡ steps_of self.old ++ (if added then map (rx_step flag) bytes.now else [])) }
+        ensures ok { IfOk result
+            (λ added. steps_of self.new ≡ steps_of self.old ++ (if added then map (rx_step flag) bytes.now else [])) }
         ensures err { OnErr result (steps_of self.new ≡ steps_of self.old) }
     {
         match self {
@@ -146,7 +148,8 @@ impl Part {
 /// Adds the arrivals of these bytes to the last part, where that is a run of this flag, and answers whether it
 /// is.
 fn add_to_last(parts: &mut [Part], flag: Flag, bytes: &[u8]) -> Result<bool, NoMemory>
-    ensures ok { IfOk result (λ added. steps_in parts.new ≡ steps_in parts.old ++ (if added then map (rx_step flag) bytes.now else [])) }
+    ensures ok { IfOk result
+        (λ added. steps_in parts.new ≡ steps_in parts.old ++ (if added then map (rx_step flag) bytes.now else [])) }
     ensures err { OnErr result (steps_in parts.new ≡ steps_in parts.old) }
 {
     let count = parts.len();

@@ -1,6 +1,8 @@
 -- All threads of a phase taken together, and all seats of its port.
 use Rattle.std.specs.Prelude.{MatchBool, IfOk, IfErr, OnOk, OnErr}
-use Rattle.std.proofs.Common.{◌≡◌, ◌⊎◌, inl, inr, ℕ, suc, ◌+◌, List, [], ◌∷◌, ◌++◌, Bool, true, false, ◌||◌, Option, Some, None, Result, Ok, Err, length, refl, sym, ◌∙◌, ap, subst, arith, zero-add, length-append}
+use Rattle.std.proofs.Common.{◌≡◌, ◌⊎◌, inl, inr, ℕ, suc, ◌+◌, List, [], ◌∷◌, ◌++◌, Bool}
+use Rattle.std.proofs.Common.{true, false, ◌||◌, Option, Some, None, Result, Ok, Err, length}
+use Rattle.std.proofs.Common.{refl, sym, ◌∙◌, ap, subst, arith, zero-add, length-append}
 use Rattle.tty_base.specs.declared.characters.Flagged.{Flagged}
 use Rattle.tty_base.specs.declared.lines.LineStep.{LineStep}
 use Rattle.word_ring.specs.Ends.{PutterState}
@@ -28,26 +30,38 @@ use Rattle.many_threads.specs.Parts.{StopsClock, PlaysClock, RunsLine, PlaysLine
 use Rattle.many_threads.specs.Callers.{EachCaller, IsBack, PlayedAs, SomeSawFull}
 use Rattle.many_threads.specs.Crew.{cast_of, CanRun, CrewComes, seats_of}
 use Rattle.many_threads.specs.Seats.{AreDealt}
-use Rattle.many_threads.specs.PhaseEnds.{AreSeats, AreBack, all_seats, end_of, IsNextTold, AreTaken, ArePlayed, AreStopped, Tells, ThreadsCome}
+use Rattle.many_threads.specs.PhaseEnds.{AreSeats, AreBack, all_seats, end_of, IsNextTold}
+use Rattle.many_threads.specs.PhaseEnds.{AreTaken, ArePlayed, AreStopped, Tells, ThreadsCome}
 use Rattle.many_threads.proofs.CrewLemmas.{cast_length, either_told}
 
 -- ---- seats in their places
 
-seats_of_callers : (p : SharedPort) (n : ℕ) (rs : List (Option PlainRole)) (ss : List PortSeat) → EachCaller (IsBack p) n rs ss → AreSeats p n ss
+seats_of_callers : (p : SharedPort) (n : ℕ) (rs : List (Option PlainRole)) (ss : List PortSeat)
+    → EachCaller (IsBack p) n rs ss
+    → AreSeats p n ss
 seats_of_callers p n [] [] h = tt
 seats_of_callers p n [] (s ∷ ss) h = absurd h
 seats_of_callers p n (r ∷ rs) [] h = absurd h
 seats_of_callers p n (r ∷ rs) (s ∷ ss) h = (h.0.here, seats_of_callers p (n + 1) rs ss h.1)
 
-each_length : (P : ℕ → Option PlainRole → PortSeat → Type 0) (n : ℕ) (rs : List (Option PlainRole)) (ss : List PortSeat) → EachCaller P n rs ss → length ss ≡ length rs
+each_length : (P : ℕ → Option PlainRole → PortSeat → Type 0) (n : ℕ) (rs : List (Option PlainRole)) (ss : List PortSeat)
+    → EachCaller P n rs ss
+    → length ss ≡ length rs
 each_length P n [] [] h = refl
 each_length P n [] (s ∷ ss) h = absurd h
 each_length P n (r ∷ rs) [] h = absurd h
 each_length P n (r ∷ rs) (s ∷ ss) h = ap (λ (k : ℕ). suc k) (each_length P (n + 1) rs ss h.1)
 
-seats_append : (p : SharedPort) (n : ℕ) (ss ts : List PortSeat) → AreSeats p n ss → AreSeats p (n + length ss) ts → AreSeats p n (ss ++ ts)
+seats_append : (p : SharedPort) (n : ℕ) (ss ts : List PortSeat)
+    → AreSeats p n ss
+    → AreSeats p (n + length ss) ts
+    → AreSeats p n (ss ++ ts)
 seats_append p n [] ts h k = subst (λ (j : ℕ). AreSeats p j ts) (let e : n + 0 ≡ n = omega arith in e) k
-seats_append p n (s ∷ ss) ts h k = (h.0, seats_append p (n + 1) ss ts h.1 (subst (λ (j : ℕ). AreSeats p j ts) (let e : n + suc (length ss) ≡ n + 1 + length ss = omega arith in e) k))
+seats_append p n (s ∷ ss) ts h k = (
+  h.0,
+  seats_append p (n + 1) ss ts h.1
+      (subst (λ (j : ℕ). AreSeats p j ts) (let e : n + suc (length ss) ≡ n + 1 + length ss = omega arith in e) k),
+)
 
 all_are_seats : (p : SharedPort) (seats : Seats) → AreBack p seats → AreSeats p 0 (all_seats seats)
 all_are_seats p seats h =
@@ -55,11 +69,15 @@ all_are_seats p seats h =
     let two : m + 2 ≡ m + 1 + 1 = omega arith in
     let three : m + 3 ≡ m + 1 + 1 + 1 = omega arith in
     let four : AreSeats p m (seats.flusher ∷ seats.line ∷ seats.clock ∷ seats.session ∷ []) =
-    (h.flusher, (h.line, (subst (λ (j : ℕ). IsHere p j seats.clock) two h.clock, (subst (λ (j : ℕ). IsHere p j seats.session) three h.session, tt)))) in
+    (h.flusher, (h.line, (subst (λ (j : ℕ). IsHere p j seats.clock) two h.clock, (subst (λ (j : ℕ). IsHere p j seats.session) three h.session, tt))))
+    in
     seats_append p 0 seats.callers.items (seats.flusher ∷ seats.line ∷ seats.clock ∷ seats.session ∷ []) h.callers
-    (subst (λ (j : ℕ). AreSeats p j (seats.flusher ∷ seats.line ∷ seats.clock ∷ seats.session ∷ [])) (sym h.count ∙ sym (zero-add (length seats.callers.items))) four)
+    (subst (λ (j : ℕ). AreSeats p j (seats.flusher ∷ seats.line ∷ seats.clock ∷ seats.session ∷ []))
+    (sym h.count ∙ sym (zero-add (length seats.callers.items))) four)
 
-each_here : (p : SharedPort) (n : ℕ) (ss : List PortSeat) → AreSeats p n ss → EachSeat (λ s. IsHere p (number_of s) s) ss
+each_here : (p : SharedPort) (n : ℕ) (ss : List PortSeat)
+    → AreSeats p n ss
+    → EachSeat (λ s. IsHere p (number_of s) s) ss
 each_here p n [] h = tt
 each_here p n (s ∷ ss) h = (subst (λ (k : ℕ). IsHere p k s) (sym h.0.number) h.0, each_here p (n + 1) ss h.1)
 
@@ -67,14 +85,27 @@ are_numbered : (p : SharedPort) (n : ℕ) (ss : List PortSeat) → AreSeats p n 
 are_numbered p n [] h = tt
 are_numbered p n (s ∷ ss) h = (h.0.number, are_numbered p (n + 1) ss h.1)
 
-pub gathered_here : (p : SharedPort) (seats : Seats) (all : List PortSeat) → AreBack p seats → all ≡ all_seats seats → EachSeat (λ s. IsHere p (number_of s) s) all
-gathered_here p seats all h is = subst (EachSeat (λ s. IsHere p (number_of s) s)) (sym is) (each_here p 0 (all_seats seats) (all_are_seats p seats h))
+pub gathered_here : (p : SharedPort) (seats : Seats) (all : List PortSeat)
+    → AreBack p seats
+    → all ≡ all_seats seats
+    → EachSeat (λ s. IsHere p (number_of s) s) all
+gathered_here p seats all h is = subst (EachSeat (λ s. IsHere p (number_of s) s)) (sym is)
+    (each_here p 0 (all_seats seats) (all_are_seats p seats h))
 
-pub gathered_all : (p : SharedPort) (seats : Seats) (all : List PortSeat) → AreBack p seats → all ≡ all_seats seats → HasAll ((name_of_port p).callers + 4) all
+pub gathered_all : (p : SharedPort) (seats : Seats) (all : List PortSeat)
+    → AreBack p seats
+    → all ≡ all_seats seats
+    → HasAll ((name_of_port p).callers + 4) all
 gathered_all p seats all h is =
-    let count : length (all_seats seats) ≡ (name_of_port p).callers + 4 = omega (arith, h.count, length-append seats.callers.items (seats.flusher ∷ seats.line ∷ seats.clock ∷ seats.session ∷ [])) in
+    let count : length (all_seats seats) ≡ (name_of_port p).callers + 4 =
+    omega (
+      arith,
+      h.count,
+      length-append seats.callers.items (seats.flusher ∷ seats.line ∷ seats.clock ∷ seats.session ∷ []),
+    ) in
     subst (HasAll ((name_of_port p).callers + 4)) (sym is)
-    (subst (λ (n : ℕ). HasAll n (all_seats seats)) count (has_numbered (all_seats seats) (are_numbered p 0 (all_seats seats) (all_are_seats p seats h))))
+    (subst (λ (n : ℕ). HasAll n (all_seats seats)) count
+    (has_numbered (all_seats seats) (are_numbered p 0 (all_seats seats) (all_are_seats p seats h))))
 
 -- ---- who saw a full journal
 
@@ -95,7 +126,11 @@ abbrev NextOr : Option ℕ → Type 0 → (ℕ → Type 0) → Type 0
 NextOr None A P = A
 NextOr (Some n) A P = P n
 
-next_or : (result : Result ℕ Denied) (next : Option ℕ) (P : ℕ → Type 0) (F : Denied → Type 0) → IsNextTold result next → IfOk result P → IfErr result F → NextOr next (F denied.Full) P
+next_or : (result : Result ℕ Denied) (next : Option ℕ) (P : ℕ → Type 0) (F : Denied → Type 0)
+    → IsNextTold result next
+    → IfOk result P
+    → IfErr result F
+    → NextOr next (F denied.Full) P
 next_or (Ok n) (Some next) P F told ok err = subst P (sym told) ok
 next_or (Ok n) None P F told ok err = absurd told
 next_or (Err denied.Full) (Some next) P F told ok err = absurd told
@@ -107,19 +142,28 @@ OverOr (Over n) A P = P n
 OverOr Full A P = A
 
 -- what all come to, where each that did not see a full journal played its part
-ends_told : (next : Option ℕ) (a b c : Bool) (A B C D P Q R X : Type 0) (S Y : ℕ → Type 0) → (A → X) → (B → X) → (C → X) → (D → X) → ((n : ℕ) → P → Q → R → S n → Y n)
-    → MatchBool a A P → MatchBool b B Q → MatchBool c C R → NextOr next D S → OverOr (end_of next (a || (b || c))) X Y
+ends_told : (next : Option ℕ) (a b c : Bool) (A B C D P Q R X : Type 0) (S Y : ℕ → Type 0) → (A → X) → (B → X) → (C → X)
+    → (D → X)
+    → ((n : ℕ) → P → Q → R → S n → Y n)
+    → MatchBool a A P
+    → MatchBool b B Q
+    → MatchBool c C R
+    → NextOr next D S
+    → OverOr (end_of next (a || (b || c))) X Y
 ends_told None a b c A B C D P Q R X S Y f g h i all p q r n = i n
 ends_told (Some k) true b c A B C D P Q R X S Y f g h i all p q r n = f p
 ends_told (Some k) false true c A B C D P Q R X S Y f g h i all p q r n = g q
 ends_told (Some k) false false true A B C D P Q R X S Y f g h i all p q r n = h r
 ends_told (Some k) false false false A B C D P Q R X S Y f g h i all p q r n = all k p q r n
 
-from_told : (p : SharedPort) (crew : Crew) (back : PhaseBack) (end : PhaseEnd) → OverOr end (AreStopped p crew back) (ArePlayed p crew back) → Tells p crew back end
+from_told : (p : SharedPort) (crew : Crew) (back : PhaseBack) (end : PhaseEnd)
+    → OverOr end (AreStopped p crew back) (ArePlayed p crew back)
+    → Tells p crew back end
 from_told p crew back (Over n) h = h
 from_told p crew back Full h = h
 
-module _ (p : SharedPort) (crew : Crew) (rest : PortSeat) (come : CrewBack) (back : PhaseBack) (can : CanRun p crew) (fresh : AreDealt p (seats_of crew rest)) (comes : CrewComes p crew come) (taken : AreTaken come rest back) where
+module _ (p : SharedPort) (crew : Crew) (rest : PortSeat) (come : CrewBack) (back : PhaseBack) (can : CanRun p crew)
+    (fresh : AreDealt p (seats_of crew rest)) (comes : CrewComes p crew come) (taken : AreTaken come rest back) where
   abbrev m : ℕ
   m = (name_of_port p).callers
 
@@ -153,7 +197,9 @@ module _ (p : SharedPort) (crew : Crew) (rest : PortSeat) (come : CrewBack) (bac
   are_back : AreBack p back.seats
   are_back = record {
     callers = seats_of_callers p 0 roles back.seats.callers.items callers_back;
-    count = each_length (IsBack p) 0 roles back.seats.callers.items callers_back ∙ (cast_length crew.callers.scripts.now crew.callers.cast.now ∙ (sym can.callers.count ∙ fresh.count));
+    count =
+        each_length (IsBack p) 0 roles back.seats.callers.items callers_back
+        ∙ (cast_length crew.callers.scripts.now crew.callers.cast.now ∙ (sym can.callers.count ∙ fresh.count));
     flusher = subst (IsHere p m) (sym taken.flusher_is) comes.flusher.here;
     line = subst (IsHere p (m + 1)) (sym taken.line_is) comes.line.here;
     clock = subst (IsHere p (m + 2)) (sym taken.clock_is) comes.clock.here;
@@ -174,10 +220,14 @@ module _ (p : SharedPort) (crew : Crew) (rest : PortSeat) (come : CrewBack) (bac
 
   line_plays : PlaysLine (m + 1) steps line played.line putter played.putter seen played.seat → LinePlays
   line_plays h =
-      subst (λ (xs : List (Stamped EntryWithCall)). PlaysLine (m + 1) steps line back.line putter back.putter xs back.seats.line) fresh.line.seen
-      (subst (λ (q : PutterState Flagged). PlaysLine (m + 1) steps line back.line putter q seen back.seats.line) (sym taken.putter_is)
-      (subst (λ (l : LineState). PlaysLine (m + 1) steps line l putter played.putter seen back.seats.line) (sym taken.played_is)
-      (subst (λ (s : PortSeat). PlaysLine (m + 1) steps line played.line putter played.putter seen s) (sym taken.line_is) h)))
+      subst (λ (xs : List (Stamped EntryWithCall)).
+      PlaysLine (m + 1) steps line back.line putter back.putter xs back.seats.line) fresh.line.seen
+      (subst (λ (q : PutterState Flagged). PlaysLine (m + 1) steps line back.line putter q seen back.seats.line)
+      (sym taken.putter_is)
+      (subst (λ (l : LineState). PlaysLine (m + 1) steps line l putter played.putter seen back.seats.line)
+      (sym taken.played_is)
+      (subst (λ (s : PortSeat). PlaysLine (m + 1) steps line played.line putter played.putter seen s)
+      (sym taken.line_is) h)))
 
   line_runs : RunsLine steps line played.line putter played.putter → LineRuns
   line_runs h =
@@ -214,19 +264,33 @@ module _ (p : SharedPort) (crew : Crew) (rest : PortSeat) (come : CrewBack) (bac
   limit = (name_of_port p).limit
 
   by_callers : SomeSawFull (name_of_port p) come.callers.seats.items → Stopped
-  by_callers h = stopped (saw_left (name_of_port p) back.seats.callers.items (back.seats.flusher ∷ back.seats.line ∷ back.seats.clock ∷ back.seats.session ∷ []) (subst (SomeSawFull (name_of_port p)) (sym taken.callers_are) h))
+  by_callers h = stopped (saw_left (name_of_port p) back.seats.callers.items
+      (back.seats.flusher ∷ back.seats.line ∷ back.seats.clock ∷ back.seats.session ∷ [])
+      (subst (SomeSawFull (name_of_port p)) (sym taken.callers_are) h))
 
   by_flusher : length (list_seen come.flusher.seat) ≡ limit → Stopped
-  by_flusher h = stopped (saw_right (name_of_port p) back.seats.callers.items (back.seats.flusher ∷ back.seats.line ∷ back.seats.clock ∷ back.seats.session ∷ []) (inl (ap (λ (s : PortSeat). length (list_seen s)) taken.flusher_is ∙ h)))
+  by_flusher h = stopped (saw_right (name_of_port p) back.seats.callers.items
+      (back.seats.flusher ∷ back.seats.line ∷ back.seats.clock ∷ back.seats.session ∷ [])
+      (inl (ap (λ (s : PortSeat). length (list_seen s)) taken.flusher_is ∙ h)))
 
   by_line : (length (list_seen played.seat) ≡ limit) × RunsLine steps line played.line putter played.putter → Stopped
-  by_line h = stopped (saw_right (name_of_port p) back.seats.callers.items (back.seats.flusher ∷ back.seats.line ∷ back.seats.clock ∷ back.seats.session ∷ []) (inr (inl (ap (λ (s : PortSeat). length (list_seen s)) taken.line_is ∙ h.0))))
+  by_line h = stopped (saw_right (name_of_port p) back.seats.callers.items
+      (back.seats.flusher ∷ back.seats.line ∷ back.seats.clock ∷ back.seats.session ∷ [])
+      (inr (inl (ap (λ (s : PortSeat). length (list_seen s)) taken.line_is ∙ h.0))))
 
-  by_clock : (length (list_seen come.clock.seat) ≡ limit) × StopsClock (m + 2) ticks (list_seen crew.clock.seat) come.clock.seat → Stopped
-  by_clock h = stopped (saw_right (name_of_port p) back.seats.callers.items (back.seats.flusher ∷ back.seats.line ∷ back.seats.clock ∷ back.seats.session ∷ []) (inr (inr (inl (ap (λ (s : PortSeat). length (list_seen s)) taken.clock_is ∙ h.0)))))
+  by_clock : (length (list_seen come.clock.seat) ≡ limit)
+      × StopsClock (m + 2) ticks (list_seen crew.clock.seat) come.clock.seat
+      → Stopped
+  by_clock h = stopped (saw_right (name_of_port p) back.seats.callers.items
+      (back.seats.flusher ∷ back.seats.line ∷ back.seats.clock ∷ back.seats.session ∷ [])
+      (inr (inr (inl (ap (λ (s : PortSeat). length (list_seen s)) taken.clock_is ∙ h.0)))))
 
-  all_played : (n : ℕ) → EachCaller (PlayedAs p) 0 roles come.callers.seats.items → PlaysLine (m + 1) steps line played.line putter played.putter seen played.seat → PlaysClock (m + 2) ticks (list_seen crew.clock.seat) come.clock.seat
-      → PlaysFlusher (name_of_port p) crew.flusher.run crew.flusher.seat n come.flusher.seat → ArePlayed p crew back n
+  all_played : (n : ℕ)
+      → EachCaller (PlayedAs p) 0 roles come.callers.seats.items
+      → PlaysLine (m + 1) steps line played.line putter played.putter seen played.seat
+      → PlaysClock (m + 2) ticks (list_seen crew.clock.seat) come.clock.seat
+      → PlaysFlusher (name_of_port p) crew.flusher.run crew.flusher.seat n come.flusher.seat
+      → ArePlayed p crew back n
   all_played n all l c f = record {
     callers = subst (EachCaller (PlayedAs p) 0 roles) (sym taken.callers_are) all;
     flusher = subst (PlaysFlusher (name_of_port p) crew.flusher.run crew.flusher.seat n) (sym taken.flusher_is) f;
@@ -234,18 +298,24 @@ module _ (p : SharedPort) (crew : Crew) (rest : PortSeat) (come : CrewBack) (bac
     clock = clock_plays c;
   }
 
-  told : OverOr (end_of taken.next (come.callers.full || (taken.line_full || taken.clock_full))) Stopped (ArePlayed p crew back)
+  told : OverOr (end_of taken.next (come.callers.full || (taken.line_full || taken.clock_full))) Stopped
+      (ArePlayed p crew back)
   told =
-      ends_told taken.next come.callers.full taken.line_full taken.clock_full _ _ _ _ _ _ _ Stopped _ (ArePlayed p crew back)
+      ends_told taken.next come.callers.full taken.line_full taken.clock_full _ _ _ _ _ _ _ Stopped _
+      (ArePlayed p crew back)
       by_callers by_line by_clock by_flusher all_played comes.callers.told
-      (either_told come.line.result taken.line_full _ _ (λ d. IsFull (name_of_port p) d (list_seen played.seat)) taken.line_told comes.line.ok comes.line.err comes.line.full)
-      (either_told come.clock.result taken.clock_full _ _ (λ d. IsFull (name_of_port p) d (list_seen come.clock.seat)) taken.clock_told comes.clock.ok comes.clock.err comes.clock.full)
-      (next_or come.flusher.result taken.next _ (λ d. IsFull (name_of_port p) d (list_seen come.flusher.seat)) taken.next_told comes.flusher.ok comes.flusher.full)
+      (either_told come.line.result taken.line_full _ _ (λ d. IsFull (name_of_port p) d (list_seen played.seat))
+      taken.line_told comes.line.ok comes.line.err comes.line.full)
+      (either_told come.clock.result taken.clock_full _ _ (λ d. IsFull (name_of_port p) d (list_seen come.clock.seat))
+      taken.clock_told comes.clock.ok comes.clock.err comes.clock.full)
+      (next_or come.flusher.result taken.next _ (λ d. IsFull (name_of_port p) d (list_seen come.flusher.seat))
+      taken.next_told comes.flusher.ok comes.flusher.full)
 
   pub threads_come : ThreadsCome p crew back
   threads_come = record {
     seats = are_back;
     callers = callers_back;
     session = ap list_seen taken.session_is ∙ fresh.session.seen;
-    told = from_told p crew back back.end (subst (λ (end : PhaseEnd). OverOr end Stopped (ArePlayed p crew back)) (sym taken.end_is) told);
+    told = from_told p crew back back.end
+        (subst (λ (end : PhaseEnd). OverOr end Stopped (ArePlayed p crew back)) (sym taken.end_is) told);
   }

@@ -7,7 +7,8 @@ use Rattle.word_ring.specs.Ends.{PutterState}
 use Rattle.uart_line.specs.LineState.{LineState}
 use Rattle.tty_calls.specs.declared.journals.Who.{Who}
 use Rattle.tty_calls.specs.declared.journals.Who.TheVariants.{Line}
-use Rattle.tty_calls.specs.Plain.{PlainCall, PlainEvent, answered, parted, waited, flushed, ticked, line_ended, clock_ended, caller_ended, phase_ended, hung_up, PlainEntry}
+use Rattle.tty_calls.specs.Plain.{PlainCall, PlainEvent, answered, parted, waited, flushed, ticked}
+use Rattle.tty_calls.specs.Plain.{line_ended, clock_ended, caller_ended, phase_ended, hung_up, PlainEntry}
 use Rattle.tty_terminal.specs.Makers.{IsByItsMaker}
 use Rattle.tty_terminal.specs.Runs.{chars_of}
 use Rattle.journal_check.specs.Legal.{line_ends, line_ends_in}
@@ -24,7 +25,10 @@ use Rattle.tty_port.proofs.Histories.{entries_append}
 use Rattle.tty_port.proofs.Keeping.{by_another}
 use Rattle.many_threads.specs.Parts.{PlaysLine}
 
-line_made : (m n : ℕ) (f : ℕ → ℕ → Option PlainCall) (who : Who) (step : ℕ) (event : PlainEvent) → IsByItsMaker f n who step event → seat_of m who ≢ m + 1 → line_ends event ≡ []
+line_made : (m n : ℕ) (f : ℕ → ℕ → Option PlainCall) (who : Who) (step : ℕ) (event : PlainEvent)
+    → IsByItsMaker f n who step event
+    → seat_of m who ≢ m + 1
+    → line_ends event ≡ []
 line_made m n f who step (answered a dropped) by other = refl
 line_made m n f who step (parted i) by other = refl
 line_made m n f who step waited by other = refl
@@ -36,23 +40,38 @@ line_made m n f who step caller_ended by other = refl
 line_made m n f who step phase_ended by other = refl
 line_made m n f who step (hung_up dropped) by other = refl
 
-pub none_of_line : (m n : ℕ) (xs : List (Stamped EntryWithCall)) → ArePlaced m n xs → histories.Each (λ i. i ≢ m + 1) xs → line_ends_in (entries_in xs) ≡ []
+pub none_of_line : (m n : ℕ) (xs : List (Stamped EntryWithCall))
+    → ArePlaced m n xs
+    → histories.Each (λ i. i ≢ m + 1) xs
+    → line_ends_in (entries_in xs) ≡ []
 none_of_line m n [] placed others = refl
 none_of_line m n (x ∷ xs) placed others =
     let e = x.what.entry in
-    ap (λ (ns : List ℕ). ns ++ line_ends_in (entries_in xs)) (line_made m n (λ (c step : ℕ). x.what.call) e.who e.step e.event placed.0.maker (λ i. others.0 (placed.0.seat ∙ i)))
+    ap (λ (ns : List ℕ). ns ++ line_ends_in (entries_in xs)) (line_made m n (λ (c step : ℕ). x.what.call) e.who e.step
+    e.event placed.0.maker (λ i. others.0 (placed.0.seat ∙ i)))
     ∙ none_of_line m n xs placed.1 others.1
 
 -- what was made before the line's end, and after it
-pub line_parts : (m n : ℕ) (steps : List LineStep) (line played : LineState) (putter now : PutterState Flagged) (xs ys : List (Stamped EntryWithCall)) (s : PortSeat) (whole : Keeps n xs ys) (h : PlaysLine (m + 1) steps line played putter now xs s) (k : Keeps (m + 1) (list_seen s) ys)
+pub line_parts : (m n : ℕ) (steps : List LineStep) (line played : LineState) (putter now : PutterState Flagged)
+    (xs ys : List (Stamped EntryWithCall)) (s : PortSeat) (whole : Keeps n xs ys)
+    (h : PlaysLine (m + 1) steps line played putter now xs s) (k : Keeps (m + 1) (list_seen s) ys)
     → whole.0 ≡ h.found.0 ++ h.last ∷ k.0
 line_parts m n steps line played putter now xs ys s whole h k =
-    let at : list_seen s ≡ xs ++ (h.found.0 ++ h.last ∷ []) = h.added ∙ (ap (λ (l : List (Stamped EntryWithCall)). l ++ h.last ∷ []) h.found.1 ∙ append_assoc xs h.found.0 (h.last ∷ [])) in
+    let at : list_seen s ≡ xs ++ (h.found.0 ++ h.last ∷ []) =
+    h.added
+    ∙ (ap (λ (l : List (Stamped EntryWithCall)). l ++ h.last ∷ []) h.found.1
+    ∙ append_assoc xs h.found.0 (h.last ∷ [])) in
     let all : xs ++ whole.0 ≡ xs ++ ((h.found.0 ++ h.last ∷ []) ++ k.0) =
-    sym whole.1 ∙ (k.1 ∙ (ap (λ (l : List (Stamped EntryWithCall)). l ++ k.0) at ∙ append_assoc xs (h.found.0 ++ h.last ∷ []) k.0)) in
+    sym whole.1
+    ∙ (k.1 ∙ (ap (λ (l : List (Stamped EntryWithCall)). l ++ k.0) at ∙ append_assoc xs (h.found.0 ++ h.last ∷ []) k.0))
+    in
     append_cancel_left xs whole.0 ((h.found.0 ++ h.last ∷ []) ++ k.0) all ∙ append_assoc h.found.0 (h.last ∷ []) k.0
 
 -- the characters that were taken before the line's end
-pub chars_before : (n : ℕ) (xs before : List (Stamped EntryWithCall)) (journal : List PlainEntry) (found : Keeps n xs before) → entries_in xs ≡ journal → chars_at before ≡ chars_of (journal ++ entries_in found.0)
+pub chars_before : (n : ℕ) (xs before : List (Stamped EntryWithCall)) (journal : List PlainEntry)
+    (found : Keeps n xs before)
+    → entries_in xs ≡ journal
+    → chars_at before ≡ chars_of (journal ++ entries_in found.0)
 chars_before n xs before journal found entries =
-    ap chars_at found.1 ∙ ap chars_of (entries_append xs found.0 ∙ ap (λ (es : List PlainEntry). es ++ entries_in found.0) entries)
+    ap chars_at found.1
+    ∙ ap chars_of (entries_append xs found.0 ∙ ap (λ (es : List PlainEntry). es ++ entries_in found.0) entries)

@@ -1,5 +1,6 @@
 -- The callers of a port in a phase: what each can play, and what comes of all.
-use Rattle.std.specs.Prelude.{◌≡◌, ◌⊎◌, ℕ, ◌+◌, ◌<◌, ◌^◌, List, [], ◌∷◌, Bool, true, false, Option, None, Some, Result, Ok, Err, MatchBool, All, length, map, sum}
+use Rattle.std.specs.Prelude.{◌≡◌, ◌⊎◌, ℕ, ◌+◌, ◌<◌, ◌^◌, List, [], ◌∷◌, Bool, true, false, Option}
+use Rattle.std.specs.Prelude.{None, Some, Result, Ok, Err, MatchBool, All, length, map, sum}
 use Rattle.tty_calls.specs.declared.answers.Denied.{Denied}
 use Rattle.tty_calls.specs.declared.answers.Denied.TheVariants.{NoMemory, Full}
 use Rattle.tty_calls.specs.declared.sessions.Script.{Script}
@@ -53,7 +54,9 @@ abbrev pub PlayedAs : SharedPort → ℕ → Option PlainRole → PortSeat → T
 PlayedAs p n None s = list_seen s ≡ opening_history p
 PlayedAs p n (Some r) s = PlaysCaller n r.first r.calls (opening_history p) s
 
-abbrev pub EachCaller : (ℕ → Option PlainRole → PortSeat → Type 0) → ℕ → List (Option PlainRole) → List PortSeat → Type 0
+abbrev pub EachCaller : (ℕ → Option PlainRole → PortSeat → Type 0)
+    → ℕ → List (Option PlainRole) → List PortSeat
+    → Type 0
 EachCaller P n [] [] = Unit {0}
 EachCaller P n [] (s ∷ ss) = ⊥
 EachCaller P n (r ∷ rs) [] = ⊥
@@ -66,7 +69,8 @@ SomeSawFull name (s ∷ ss) = (length (list_seen s) ≡ name.limit) ⊎ SomeSawF
 
 pub record CallersCome (p : SharedPort) (roles : List (Option PlainRole)) (back : CallersBack) : Type 0 where
   pub back_all : EachCaller (IsBack p) 0 roles back.seats.items
-  pub told : MatchBool back.full (SomeSawFull (name_of_port p) back.seats.items) (EachCaller (PlayedAs p) 0 roles back.seats.items)
+  pub told : MatchBool back.full (SomeSawFull (name_of_port p) back.seats.items)
+      (EachCaller (PlayedAs p) 0 roles back.seats.items)
 
 -- whether an outcome says that the journal is full; want of memory is told otherwise
 abbrev pub IsTold : Result (Unit {0}) Denied → Bool → Type 0

@@ -41,7 +41,11 @@ pub record CrewComes (p : SharedPort) (crew : Crew) (back : CrewBack) : Type 0 w
 -- who has which of these seats, and which part of the work
 abbrev pub crew_in : Seats → LineState → PutterState Flagged → PhaseWork → Crew
 crew_in seats line putter work = record {
-  line = record { receiver = record { seat = seats.line; line = line; putter = putter }; steps = work.steps; phase = work.phase };
+  line = record {
+    receiver = record { seat = seats.line; line = line; putter = putter };
+    steps = work.steps;
+    phase = work.phase;
+  };
   clock = record { seat = seats.clock; ticks = work.ticks };
   flusher = record { seat = seats.flusher; run = work.run };
   callers = record { seats = seats.callers; cast = work.cast; scripts = work.scripts };

@@ -28,9 +28,15 @@ pub record IsInPlay (s : Scene) (k : ℕ) (p : PortInPlay) : Type 0 where
 
 -- each of these ports, which begin with port 0
 abbrev pub AreInPlay : PlainSession → ℕ → List PortInPlay → Type 0
-AreInPlay session k ports = (p : ℕ) (port : PortInPlay) → slice_get ports p ≡ Some port → IsInPlay (record { port = p; session = session }) k port
+AreInPlay session k ports =
+    (p : ℕ) (port : PortInPlay)
+    → slice_get ports p ≡ Some port
+    → IsInPlay (record { port = p; session = session }) k port
 
 -- what a port is like that can be hung up, or is full
 abbrev pub CanEnd : Station → PhaseEnd → Type 0
-CanEnd station (Over run) = (station.port.terminal.phase ≡ length station.port.counts) × (station.putter.ring ≡ station.port.flip.ring) × (station.port.terminal.sent ≡ length station.putter.sent)
+CanEnd station (Over run) =
+    (station.port.terminal.phase ≡ length station.port.counts)
+    × (station.putter.ring ≡ station.port.flip.ring)
+    × (station.port.terminal.sent ≡ length station.putter.sent)
 CanEnd station Full = station.putter.ring ≡ station.port.flip.ring

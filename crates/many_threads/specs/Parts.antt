@@ -39,14 +39,16 @@ abbrev pub IsOfRole : (c first : ℕ) → List PlainCall → Stamped EntryWithCa
 IsOfRole c first calls x = IsOfCalls c first calls x ⊎ IsEntry c (Caller c) (first + length calls) caller_ended x
 
 -- whatever the caller made was of the calls, or their end
-pub record MakesInRole (c first : ℕ) (calls : List PlainCall) (start : List (Stamped EntryWithCall)) (new : PortSeat) : Type 0 where
+pub record MakesInRole (c first : ℕ) (calls : List PlainCall) (start : List (Stamped EntryWithCall))
+    (new : PortSeat) : Type 0 where
   pub begins : Begins start (list_seen new)
   pub made : List (Stamped EntryWithCall)
   pub adds : own_entries new ≡ entries_by c start ++ made
   pub of_role : Each (IsOfRole c first calls) made
 
 -- Each of these calls is answered, one after the other, and then the caller is over.
-pub record PlaysCaller (c first : ℕ) (calls : List PlainCall) (start : List (Stamped EntryWithCall)) (new : PortSeat) : Type 0 where
+pub record PlaysCaller (c first : ℕ) (calls : List PlainCall) (start : List (Stamped EntryWithCall))
+    (new : PortSeat) : Type 0 where
   pub in_role : MakesInRole c first calls start new
   -- the history as the caller saw it after its last call, and as it found it at its end
   pub seen : List (Stamped EntryWithCall)
@@ -90,8 +92,10 @@ pub record PlaysClock (seat n : ℕ) (start : List (Stamped EntryWithCall)) (new
 -- The line did these steps and the two that close them, and handed over to this putter all that they gave.
 pub record RunsLine (steps : List LineStep) (old new : LineState) (putter now : PutterState Flagged) : Type 0 where
   pub done : (before : List LineStep) → HasDone old before → HasDone new (before ++ closed_script steps)
-  pub hands_over : (before : List LineStep) → HasDone old before
-      → HandsOver putter.capacity (received_list before) (received_list (before ++ closed_script steps)) putter.sent now.sent putter.heads now.heads old.report.overruns.items new.report.overruns.items
+  pub hands_over : (before : List LineStep)
+      → HasDone old before
+      → HandsOver putter.capacity (received_list before) (received_list (before ++ closed_script steps)) putter.sent
+      now.sent putter.heads now.heads old.report.overruns.items new.report.overruns.items
   pub ring : now.ring ≡ putter.ring
   pub capacity : now.capacity ≡ putter.capacity
   pub most : new.most ≡ old.most
@@ -101,7 +105,8 @@ pub record RunsLine (steps : List LineStep) (old new : LineState) (putter now : 
 
 -- the line did these steps, was closed, and then, by the seat with this number, is over with the number of all that was
 -- put
-pub record PlaysLine (seat : ℕ) (steps : List LineStep) (line played : LineState) (putter now : PutterState Flagged) (start : List (Stamped EntryWithCall)) (new : PortSeat) : Type 0 where
+pub record PlaysLine (seat : ℕ) (steps : List LineStep) (line played : LineState) (putter now : PutterState Flagged)
+    (start : List (Stamped EntryWithCall)) (new : PortSeat) : Type 0 where
   pub met : PutterState Flagged
   pub runs : RunsLine steps line played putter met
   pub before : List (Stamped EntryWithCall)
@@ -124,7 +129,10 @@ pub record RunMade : Type 0 where
 abbrev pub FlushesRuns : Name → (run : ℕ) → PortSeat → List RunMade → ℕ → PortSeat → Type 0
 FlushesRuns name run start [] next new = (next ≡ run) × MakesNone start new
 FlushesRuns name run start (r ∷ runs) next new =
-    FlushesRuns name run start runs r.number r.before × FlushesRun name r.number r.count r.before r.after × (next ≡ run_past r.number r.count) × MakesNone r.after new
+    FlushesRuns name run start runs r.number r.before
+    × FlushesRun name r.number r.count r.before r.after
+    × (next ≡ run_past r.number r.count)
+    × MakesNone r.after new
 
 -- The last of the runs found nothing more to hand over, and the look after it that the phase may end.
 pub record PlaysFlusher (name : Name) (run : ℕ) (start : PortSeat) (next : ℕ) (new : PortSeat) : Type 0 where

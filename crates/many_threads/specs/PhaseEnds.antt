@@ -1,5 +1,6 @@
 -- What the threads of a phase leave: their seats, and the port that is whole again.
-use Rattle.std.specs.Prelude.{◌≡◌, ◌⊎◌, ◌≤◌, ◌+◌, ℕ, List, [], ◌∷◌, ◌++◌, Bool, true, false, ◌||◌, Option, None, Some, Result, Ok, Err, All, length}
+use Rattle.std.specs.Prelude.{◌≡◌, ◌⊎◌, ◌≤◌, ◌+◌, ℕ, List, [], ◌∷◌, ◌++◌, Bool, true, false}
+use Rattle.std.specs.Prelude.{◌||◌, Option, None, Some, Result, Ok, Err, All, length}
 use Rattle.tty_base.specs.declared.characters.Flagged.{Flagged}
 use Rattle.tty_base.specs.declared.lines.Overrun.{Overrun}
 use Rattle.word_ring.specs.Ends.{PutterState}
@@ -109,15 +110,18 @@ pub record AreTaken (crew : CrewBack) (session : PortSeat) (back : PhaseBack) : 
 pub record ArePlayed (p : SharedPort) (crew : Crew) (back : PhaseBack) (next : ℕ) : Type 0 where
   pub callers : EachCaller (PlayedAs p) 0 (cast_of crew.callers) back.seats.callers.items
   pub flusher : PlaysFlusher (name_of_port p) crew.flusher.run crew.flusher.seat next back.seats.flusher
-  pub line_plays : PlaysLine ((name_of_port p).callers + 1) crew.line.steps.now.items crew.line.receiver.line back.line crew.line.receiver.putter back.putter (opening_history p) back.seats.line
+  pub line_plays : PlaysLine ((name_of_port p).callers + 1) crew.line.steps.now.items crew.line.receiver.line back.line
+      crew.line.receiver.putter back.putter (opening_history p) back.seats.line
   pub clock : PlaysClock ((name_of_port p).callers + 2) crew.clock.ticks (opening_history p) back.seats.clock
 
 -- a thread found the journal full; the line has handed over all that it had to
 pub record AreStopped (p : SharedPort) (crew : Crew) (back : PhaseBack) : Type 0 where
   pub full : SomeSawFull (name_of_port p) (all_seats back.seats)
-  pub line_runs : PlaysLine ((name_of_port p).callers + 1) crew.line.steps.now.items crew.line.receiver.line back.line crew.line.receiver.putter back.putter (opening_history p) back.seats.line
+  pub line_runs : PlaysLine ((name_of_port p).callers + 1) crew.line.steps.now.items crew.line.receiver.line back.line
+      crew.line.receiver.putter back.putter (opening_history p) back.seats.line
       ⊎ RunsLine crew.line.steps.now.items crew.line.receiver.line back.line crew.line.receiver.putter back.putter
-  pub clock : PlaysClock ((name_of_port p).callers + 2) crew.clock.ticks (opening_history p) back.seats.clock ⊎ StopsClock ((name_of_port p).callers + 2) crew.clock.ticks (opening_history p) back.seats.clock
+  pub clock : PlaysClock ((name_of_port p).callers + 2) crew.clock.ticks (opening_history p) back.seats.clock
+      ⊎ StopsClock ((name_of_port p).callers + 2) crew.clock.ticks (opening_history p) back.seats.clock
 
 abbrev pub Tells : SharedPort → Crew → PhaseBack → PhaseEnd → Type 0
 Tells p crew back (Over next) = ArePlayed p crew back next
@@ -132,13 +136,15 @@ pub record ThreadsCome (p : SharedPort) (crew : Crew) (back : PhaseBack) : Type 
 -- ---- the port after the threads
 
 -- The threads of phase k are over, and the phase may end.
-pub record PlaysThreads (s : Scene) (k : ℕ) (old new : PortValue) (now : PutterState Flagged) (line played : LineState) (next : ℕ) : Type 0 where
+pub record PlaysThreads (s : Scene) (k : ℕ) (old new : PortValue) (now : PutterState Flagged) (line played : LineState)
+    (next : ℕ) : Type 0 where
   pub of_session : IsOfSession s new
   pub front : List PlainEntry
   pub line_end : PlainEntry
   pub back : List PlainEntry
   pub added : new.journal ≡ old.journal ++ (front ++ line_end ∷ back)
-  pub leads : Leads (call_at s.port s.session) (counts_on s.port s.session) old.terminal (front ++ line_end ∷ back) new.terminal
+  pub leads : Leads (call_at s.port s.session) (counts_on s.port s.session) old.terminal (front ++ line_end ∷ back)
+      new.terminal
   pub inside : session_events_in (front ++ line_end ∷ back) ≡ []
   pub may : may_end new.counts new.terminal ≡ true
   pub phase : new.terminal.phase ≡ k
@@ -149,7 +155,9 @@ pub record PlaysThreads (s : Scene) (k : ℕ) (old new : PortValue) (now : Putte
   pub sent : new.terminal.sent ≡ length now.sent
   pub overruns : List Overrun
   pub more_overruns : played.report.overruns.items ≡ line.report.overruns.items ++ overruns
-  pub completes : (more : List Overrun) → All (λ o. received_before s.port s.session (k + 1) ≤ o.at) more → CompletesPhase s.port s.session (played.report.overruns.items ++ more) k old.terminal new.terminal
+  pub completes : (more : List Overrun)
+      → All (λ o. received_before s.port s.session (k + 1) ≤ o.at) more
+      → CompletesPhase s.port s.session (played.report.overruns.items ++ more) k old.terminal new.terminal
   pub seen : All (SeesWithin s k (length (chars_of old.journal)) (length (chars_of (old.journal ++ front)))) overruns
   pub ring : new.flip.ring ≡ old.flip.ring
   pub capacity : new.flip.capacity ≡ old.flip.capacity
@@ -167,5 +175,7 @@ EndsOrStops old new putter now next Full = (length old.journal ≡ old.limit) ×
 
 -- phase k of a port: it is played, or comes to a full journal
 abbrev pub PhaseComes : Scene → ℕ → Station → Station → PhaseEnd → Type 0
-PhaseComes s k old new (Over next) = IsAtPhase s (k + 1) new.port new.putter new.line next × PlaysPhase s k old.port new.port new.putter old.line new.line
+PhaseComes s k old new (Over next) =
+    IsAtPhase s (k + 1) new.port new.putter new.line next
+    × PlaysPhase s k old.port new.port new.putter old.line new.line
 PhaseComes s k old new Full = StopsPhase s k old.port new.port new.putter old.line new.line

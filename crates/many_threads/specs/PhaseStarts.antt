@@ -1,5 +1,6 @@
 -- A port, the putting end of its flip buffer, and its line at the beginning of a phase.
-use Rattle.std.specs.Prelude.{◌≡◌, ◌<◌, ◌≤◌, ◌+◌, ℕ, List, [], ◌∷◌, ◌++◌, false, IsTrue, Option, Some, All, length, sum, slice_get}
+use Rattle.std.specs.Prelude.{◌≡◌, ◌<◌, ◌≤◌, ◌+◌, ℕ, List, [], ◌∷◌, ◌++◌, false}
+use Rattle.std.specs.Prelude.{IsTrue, Option, Some, All, length, sum, slice_get}
 use Rattle.tty_base.specs.declared.characters.Flagged.{Flagged}
 use Rattle.tty_base.specs.declared.lines.Overrun.{Overrun}
 use Rattle.tty_base.specs.Lines.{is_step}
@@ -12,7 +13,8 @@ use Rattle.tty_terminal.specs.Terminals.{Terminal, caller_at}
 use Rattle.tty_terminal.specs.Standing.{Standing, standing_of}
 use Rattle.tty_terminal.specs.Steps.{next_phase}
 use Rattle.tty_terminal.specs.Runs.{Leads, AgreesOn, chars_of}
-use Rattle.journal_check.specs.Legal.{phase_at, IsCallerOf, first_step, script_of_first, session_events_in, line_ends_in, received_before, AreInPhases, flip_on}
+use Rattle.journal_check.specs.Legal.{phase_at, IsCallerOf, first_step, script_of_first, session_events_in}
+use Rattle.journal_check.specs.Legal.{line_ends_in, received_before, AreInPhases, flip_on}
 use Rattle.journal_check.specs.Phases.{CompletesPhase}
 use Rattle.port_core.specs.Ports.{PortValue, call_in}
 use Rattle.one_thread.specs.Roles.{Scene, PlainRole, IsRoleOf}
@@ -43,7 +45,8 @@ pub record IsAtRest (next : ℕ) (q : Standing) : Type 0 where
   pub not_over : q.over ≡ false
   pub not_begun : q.begun ≡ false
 
-pub record IsAtPhase (s : Scene) (k : ℕ) (v : PortValue) (putter : PutterState Flagged) (line : LineState) (run : ℕ) : Type 0 where
+pub record IsAtPhase (s : Scene) (k : ℕ) (v : PortValue) (putter : PutterState Flagged) (line : LineState)
+    (run : ℕ) : Type 0 where
   pub of_session : IsOfSession s v
   pub phase : v.terminal.phase ≡ k
   pub line_over : v.terminal.line_over ≡ false
@@ -67,14 +70,16 @@ pub record CanPlayPhase (s : Scene) (station : Station) (work : PhaseWork) : Typ
 -- Phase k is over: the journal has gone on by a part and the end of the phase, to which the terminal u led. The line's
 -- end stands in the part, after these entries; each overrun of the line has seen all that was taken before the phase,
 -- and nothing that was taken after the line's end.
-pub record PlaysPhase (s : Scene) (k : ℕ) (old new : PortValue) (now : PutterState Flagged) (line played : LineState) : Type 0 where
+pub record PlaysPhase (s : Scene) (k : ℕ) (old new : PortValue) (now : PutterState Flagged)
+    (line played : LineState) : Type 0 where
   pub front : List PlainEntry
   pub line_end : PlainEntry
   pub back : List PlainEntry
   pub last : PlainEntry
   pub terminal : Terminal
   pub added : new.journal ≡ old.journal ++ ((front ++ line_end ∷ back) ++ last ∷ [])
-  pub leads : Leads (call_at s.port s.session) (counts_on s.port s.session) old.terminal (front ++ line_end ∷ back) terminal
+  pub leads : Leads (call_at s.port s.session) (counts_on s.port s.session) old.terminal (front ++ line_end ∷ back)
+      terminal
   pub inside : session_events_in (front ++ line_end ∷ back) ≡ []
   pub ends : last.event ≡ phase_ended
   pub next : new.terminal ≡ next_phase terminal
@@ -82,12 +87,15 @@ pub record PlaysPhase (s : Scene) (k : ℕ) (old new : PortValue) (now : PutterS
   pub ends_line : line_end.event ≡ line_ended (length now.sent)
   pub overruns : List Overrun
   pub more_overruns : played.report.overruns.items ≡ line.report.overruns.items ++ overruns
-  pub completes : (more : List Overrun) → All (λ o. received_before s.port s.session (k + 1) ≤ o.at) more → CompletesPhase s.port s.session (played.report.overruns.items ++ more) k old.terminal terminal
+  pub completes : (more : List Overrun)
+      → All (λ o. received_before s.port s.session (k + 1) ≤ o.at) more
+      → CompletesPhase s.port s.session (played.report.overruns.items ++ more) k old.terminal terminal
   pub seen : All (SeesWithin s k (length (chars_of old.journal)) (length (chars_of (old.journal ++ front)))) overruns
 
 -- Phase k came to a full journal: the part that it made, as far as it went. The line has handed over all that it had
 -- to.
-pub record StopsPhase (s : Scene) (k : ℕ) (old new : PortValue) (now : PutterState Flagged) (line played : LineState) : Type 0 where
+pub record StopsPhase (s : Scene) (k : ℕ) (old new : PortValue) (now : PutterState Flagged)
+    (line played : LineState) : Type 0 where
   pub of_session : IsOfSession s new
   pub part : List PlainEntry
   pub added : new.journal ≡ old.journal ++ part

@@ -23,7 +23,8 @@ fn make_ticks<R: Wait>(
     ensures seat { IsHere shared.now ((name_of_port shared.now).callers + 2) seat.new }
     ensures ok { OnOk result (MakesTicks ticks (list_seen seat.old) seat.new) }
     ensures not_over { OnOk result ((marks_at (list_seen seat.new)).clock_over ≡ false) }
-    ensures err { OnErr result (StopsClock ((name_of_port shared.now).callers + 2) ticks (list_seen seat.old) seat.new) }
+    ensures err { OnErr result
+        (StopsClock ((name_of_port shared.now).callers + 2) ticks (list_seen seat.old) seat.new) }
     ensures full { IfErr result (λ d. IsFull (name_of_port shared.now) d (list_seen seat.new)) }
 {
     for _ in 0..ticks {
@@ -43,7 +44,8 @@ pub fn play_clock<R: Wait>(
     requires not_over { (marks_at (list_seen seat.old)).clock_over ≡ false }
     ensures seat { IsHere shared.now ((name_of_port shared.now).callers + 2) seat.new }
     ensures ok { OnOk result (PlaysClock ((name_of_port shared.now).callers + 2) ticks (list_seen seat.old) seat.new) }
-    ensures err { OnErr result (StopsClock ((name_of_port shared.now).callers + 2) ticks (list_seen seat.old) seat.new) }
+    ensures err { OnErr result
+        (StopsClock ((name_of_port shared.now).callers + 2) ticks (list_seen seat.old) seat.new) }
     ensures full { IfErr result (λ d. IsFull (name_of_port shared.now) d (list_seen seat.new)) }
 {
     make_ticks(rt, shared, seat, ticks)?;

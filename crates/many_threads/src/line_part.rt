@@ -68,8 +68,8 @@ pub(crate) fn play_line<R: Wait, G: Gate>(
     requires room { receiver.old.line.report.arrived + arrival_count steps.now ≤ receiver.old.line.most }
     requires put { receiver.old.line.most ≤ (2 ^ 63 - length receiver.old.putter.sent) + receiver.old.line.handed }
     ensures seat { IsHere shared.now ((name_of_port shared.now).callers + 1) receiver.new.seat }
-    ensures ok { OnOk result (PlaysLine ((name_of_port shared.now).callers + 1) steps.now receiver.old.line receiver.new.line
-        receiver.old.putter receiver.new.putter (list_seen receiver.old.seat) receiver.new.seat) }
+    ensures ok { OnOk result (PlaysLine ((name_of_port shared.now).callers + 1) steps.now receiver.old.line
+        receiver.new.line receiver.old.putter receiver.new.putter (list_seen receiver.old.seat) receiver.new.seat) }
     ensures err { OnErr result (RunsLine steps.now receiver.old.line receiver.new.line
         receiver.old.putter receiver.new.putter) }
     ensures full { IfErr result (λ d. IsFull (name_of_port shared.now) d (list_seen receiver.new.seat)) }

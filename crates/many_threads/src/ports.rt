@@ -114,7 +114,8 @@ fn cast_roles(
     requires names { port.now.names ≡ names_in (scene_of port.now.number session.now) }
     requires callers { port.now.callers ≡ sum (counts_on port.now.number (session_of session.now)) }
     requires steps { AreFirstSteps (scene_of port.now.number session.now) k port.now.station.steps.items }
-    ensures roles { IfOk result (λ r. AreRolesOf (scene_of port.now.number session.now) k (map (role_in (scripts_at session.now k)) r.0.items)) }
+    ensures roles { IfOk result (λ r.
+        AreRolesOf (scene_of port.now.number session.now) k (map (role_in (scripts_at session.now k)) r.0.items)) }
     ensures cast { IfOk result (λ r. r.1.items ≡ seated r.0.items (replicate port.now.callers None)) }
 {
     let steps = port.station.steps.as_slice();
@@ -223,7 +224,9 @@ pub(crate) fn play_side_by_side<R: Threads + Wait + Sync, G: Gate + Sync>(
 /// Ends a port: it is hung up, unless its journal is full.
 pub(crate) fn end(port: PortInPlay) -> Result<(PortRun, PortEnd), NoMemory>
     requires { CanEnd port.station port.end }
-    ensures { (s : Scene) → IsInPlay s (length s.session.phases) port → IfOk result (λ played. IsPlayedOn s.port s.session played.0 played.1) }
+    ensures { (s : Scene)
+        → IsInPlay s (length s.session.phases) port
+        → IfOk result (λ played. IsPlayedOn s.port s.session played.0 played.1) }
 {
     let PortInPlay {
         number: _,

@@ -54,7 +54,8 @@ pub(crate) fn deal(shared: &SharedPort, mut seats: Vec<Seat>) -> Seats
 
 /// All seats, in their order.
 pub(crate) fn gather(seats: Seats) -> Result<Vec<Seat>, NoMemory>
-    ensures { IfOk result (λ all. all.items ≡ seats.callers.items ++ seats.flusher ∷ seats.line ∷ seats.clock ∷ seats.session ∷ []) }
+    ensures { IfOk result
+        (λ all. all.items ≡ seats.callers.items ++ seats.flusher ∷ seats.line ∷ seats.clock ∷ seats.session ∷ []) }
 {
     let Seats {
         mut callers,

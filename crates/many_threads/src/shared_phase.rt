@@ -7,7 +7,8 @@ ghost use Rattle.one_thread.specs.LineInside.{KnowsTaken};
 ghost use Rattle.many_threads.specs.Crew.{CanRun, seats_of, crew_in};
 ghost use Rattle.many_threads.specs.Seats.{AreDealt};
 ghost use Rattle.many_threads.specs.PhaseStarts.{CanPlayPhase};
-ghost use Rattle.many_threads.specs.PhaseEnds.{AreBack, IsShared, IsClosed, IsNextTold, end_of, AreTaken, ThreadsCome, ThreadsLeave, EndsOrStops, PhaseComes};
+ghost use Rattle.many_threads.specs.PhaseEnds.{AreBack, IsShared, IsClosed, IsNextTold, end_of, AreTaken};
+ghost use Rattle.many_threads.specs.PhaseEnds.{ThreadsCome, ThreadsLeave, EndsOrStops, PhaseComes};
 
 use crate::caller_threads::is_full;
 use crate::crew::{

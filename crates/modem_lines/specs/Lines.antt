@@ -2,7 +2,9 @@
 use Rattle.std.specs.Prelude.{ℕ, ◌+◌, ◌==◌, Bool, true, false, not, ◌&&◌, ◌||◌, bit_and, if◌then◌else◌}
 use Rattle.modem_lines.specs.declared.pins.Pin.{Pin}
 use Rattle.modem_lines.specs.declared.pins.Pin.TheVariants.{Dcd, Dsr, Cts, Ri}
-use Rattle.modem_lines.specs.declared.modems.TheConstants.{TIOCM_DTR, TIOCM_RTS, TIOCM_CTS, TIOCM_CAR, TIOCM_RNG, TIOCM_DSR, MSR_DCTS, MSR_DDSR, MSR_TERI, MSR_DDCD, MSR_CTS, MSR_DSR, MSR_RI, MSR_DCD}
+use Rattle.modem_lines.specs.declared.modems.TheConstants.{TIOCM_DTR, TIOCM_RTS, TIOCM_CTS, TIOCM_CAR}
+use Rattle.modem_lines.specs.declared.modems.TheConstants.{TIOCM_RNG, TIOCM_DSR, MSR_DCTS, MSR_DDSR, MSR_TERI}
+use Rattle.modem_lines.specs.declared.modems.TheConstants.{MSR_DDCD, MSR_CTS, MSR_DSR, MSR_RI, MSR_DCD}
 
 -- the four lines from the modem; which of them changed since this was last asked, of RI only that it fell; the two
 -- lines to the modem; and two modes, CLOCAL and HUPCL of termios(3)
@@ -76,7 +78,8 @@ assigned lines bits = record lines { dtr = has_bit bits TIOCM_DTR; rts = has_bit
 
 -- TIOCMBIS: they gain those of a number
 abbrev pub raised : Lines → (bits : ℕ) → Lines
-raised lines bits = record lines { dtr = lines.dtr || has_bit bits TIOCM_DTR; rts = lines.rts || has_bit bits TIOCM_RTS }
+raised lines bits =
+    record lines { dtr = lines.dtr || has_bit bits TIOCM_DTR; rts = lines.rts || has_bit bits TIOCM_RTS }
 
 -- TIOCMBIC: they lose those of a number
 abbrev pub lowered : Lines → (bits : ℕ) → Lines
@@ -98,7 +101,8 @@ abbrev pub status_register : Lines → ℕ
 status_register lines =
     bit_where lines.cts_changed MSR_DCTS + bit_where lines.dsr_changed MSR_DDSR
     + bit_where lines.ri_fell MSR_TERI + bit_where lines.dcd_changed MSR_DDCD
-    + bit_where lines.cts MSR_CTS + bit_where lines.dsr MSR_DSR + bit_where lines.ri MSR_RI + bit_where lines.dcd MSR_DCD
+    + bit_where lines.cts MSR_CTS + bit_where lines.dsr MSR_DSR + bit_where lines.ri MSR_RI
+    + bit_where lines.dcd MSR_DCD
 
 -- after that register was read
 abbrev pub after_status : Lines → Lines

@@ -2,7 +2,8 @@
 
 ghost use Rattle.std.specs.Prelude.{◌≡◌, true, false};
 ghost use Rattle.modem_lines.specs.declared.pins.Pin.TheVariants.{Dcd, Dsr, Cts, Ri};
-ghost use Rattle.modem_lines.specs.Lines.{first_lines, with_pin, loses_carrier, may_open, after_open, after_shut, assigned, raised, lowered, modem_bits, status_register, after_status};
+ghost use Rattle.modem_lines.specs.Lines.{first_lines, with_pin, loses_carrier, may_open, after_open, after_shut};
+ghost use Rattle.modem_lines.specs.Lines.{assigned, raised, lowered, modem_bits, status_register, after_status};
 
 /// A law: a carrier comes, a first open sets DTR and RTS, and the carrier that is lost hangs up.
 pub fn dial_in()
@@ -10,7 +11,8 @@ pub fn dial_in()
     ensures goes_on { may_open (with_pin first_lines Dcd true) false ≡ true }
     ensures lines { modem_bits (after_open (with_pin first_lines Dcd true)) ≡ 70 }
     ensures hangs_up { loses_carrier (after_open (with_pin first_lines Dcd true)) Dcd false ≡ true }
-    ensures heeded_unless_local { loses_carrier (record (with_pin first_lines Dcd true) { clocal = true }) Dcd false ≡ false }
+    ensures heeded_unless_local { loses_carrier (record (with_pin first_lines Dcd true) { clocal = true })
+        Dcd false ≡ false }
 {}
 
 /// A law: a carrier that came and went is told once, although the line is as it was.

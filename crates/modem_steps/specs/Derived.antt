@@ -1,13 +1,15 @@
 -- The session that the ports were played: the calls that were passed down, and in each phase, last, the caller
 -- `carrier`.
-use Rattle.std.specs.Prelude.{ℕ, ◌+◌, ◌==◌, ◌&&◌, nat_le, nat_lt, Option, Some, List, [], ◌∷◌, ◌++◌, map, filter, flat_map, length, sum_by, count_by}
+use Rattle.std.specs.Prelude.{ℕ, ◌+◌, ◌==◌, ◌&&◌, nat_le, nat_lt, Option, Some, List, []}
+use Rattle.std.specs.Prelude.{◌∷◌, ◌++◌, map, filter, flat_map, length, sum_by, count_by}
 use Rattle.tty_calls.specs.Plain.{PlainCall, hangs_up}
 use Rattle.tty_calls.specs.Sessions.{PlainSession}
 use Rattle.passed_calls.specs.Blocks.{names_on, number_on}
 use Rattle.passed_calls.specs.Scripts.{CallerScript, plain, numbered_call}
 use Rattle.passed_calls.specs.Derived.{Passing, BlockPhase, passed_phases}
 use Rattle.modem_text.specs.Events.{ModemEvent, pin_set, own, passed, carrier_lost, ModemLog, events_on}
-use Rattle.modem_text.specs.Sessions.{ModemCall, ModemPhase, ModemSession, pins_on, carrier_name, phase_blocks, blocks_in}
+use Rattle.modem_text.specs.Sessions.{ModemCall, ModemPhase, ModemSession, pins_on}
+use Rattle.modem_text.specs.Sessions.{carrier_name, phase_blocks, blocks_in}
 
 -- of each loss of the carrier, after how many items of modem blocks it came
 abbrev pub losses_after : (items : ℕ) → List ModemEvent → List ℕ

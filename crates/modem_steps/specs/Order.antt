@@ -1,20 +1,24 @@
 -- The order of one thread for ports with modem lines: whose turn it is, and to do what.
-use Rattle.std.specs.Prelude.{◌≡◌, ℕ, ◌+◌, ◌==◌, ◌||◌, nat_le, Bool, false, not, ◌&&◌, Option, None, Some, List, [], ◌∷◌, length, slice_get, take, if◌then◌else◌}
+use Rattle.std.specs.Prelude.{◌≡◌, ℕ, ◌+◌, ◌==◌, ◌||◌, nat_le, Bool, false, not, ◌&&◌, Option}
+use Rattle.std.specs.Prelude.{None, Some, List, [], ◌∷◌, length, slice_get, take, if◌then◌else◌}
 use Rattle.tty_base.specs.declared.lines.Overrun.{Overrun}
 use Rattle.tty_calls.specs.declared.journals.Who.{Who}
 use Rattle.tty_calls.specs.declared.journals.Who.TheVariants.{Caller, Flusher, Clock, Session}
-use Rattle.tty_calls.specs.Plain.{PlainEvent, answered, parted, waited, flushed, ticked, line_ended, clock_ended, caller_ended, phase_ended, hung_up, PlainEntry}
+use Rattle.tty_calls.specs.Plain.{PlainEvent, answered, parted, waited, flushed, ticked, line_ended}
+use Rattle.tty_calls.specs.Plain.{clock_ended, caller_ended, phase_ended, hung_up, PlainEntry}
 use Rattle.tty_calls.specs.Sessions.{PlainSession, call_at}
 use Rattle.tty_terminal.specs.Terminals.{Terminal, caller_at}
 use Rattle.tty_terminal.specs.Steps.{nothing_to_flush}
-use Rattle.one_thread.specs.Order.{must_wait, is_waiting, Place, turn, first_place, next_place, place_after, IsPieceOf, AllSeeAll}
+use Rattle.one_thread.specs.Order.{must_wait, is_waiting, Place, turn, first_place}
+use Rattle.one_thread.specs.Order.{next_place, place_after, IsPieceOf, AllSeeAll}
 use Rattle.passed_calls.specs.Journals.{terminal_at}
 use Rattle.passed_calls.specs.Logs.{logged_on}
 use Rattle.passed_calls.specs.Scripts.{plain, further}
 use Rattle.modem_text.specs.Events.{ModemEvent, pin_set, own, passed, carrier_lost, ModemLog}
 use Rattle.modem_text.specs.Sessions.{ModemCall}
 use Rattle.modem_steps.specs.Derived.{carrier_on, derived}
-use Rattle.modem_steps.specs.Steps.{ModemState, Port, Item, items_on, next_call, waits_for_carrier, callers_in, first_state, after_event}
+use Rattle.modem_steps.specs.Steps.{ModemState, Port, Item, items_on, next_call}
+use Rattle.modem_steps.specs.Steps.{waits_for_carrier, callers_in, first_state, after_event}
 
 -- somebody makes an entry, or a caller a call that the port does not see; the next item of the modem block is done;
 -- or a caller is told that its open waits for the carrier in vain
@@ -31,7 +35,9 @@ open_is_held port s t c = not (caller_at t c).over && waits_for_carrier s.lines 
 abbrev pub can_go_on : Port → ModemState → Terminal → ℕ → Bool
 can_go_on port s t c =
     not (caller_at t c).over
-    && (if is_waiting t c then not (must_wait port.journal.calls t c) else not (waits_for_carrier s.lines t (next_call port s c)))
+    && (if is_waiting t c
+    then not (must_wait port.journal.calls t c)
+    else not (waits_for_carrier s.lines t (next_call port s c)))
 
 -- an item of the modem block of this phase is left
 abbrev pub is_of_phase : ℕ → Option Item → Bool
@@ -51,16 +57,19 @@ first_such is_such turn_of (c ∷ cs) other = if is_such c then turn_of c else f
 abbrev pub turn_of_others : Port → ModemState → Terminal → List ℕ → Turn
 turn_of_others port s t callers =
     if has_item port s t then sets_pin
-    else if not (caller_at t (carrier_on port.number port.session)).over then goes_on (Caller (carrier_on port.number port.session))
+    else if not (caller_at t (carrier_on port.number port.session)).over then goes_on
+    (Caller (carrier_on port.number port.session))
     else if not t.clock_over then goes_on Clock
-    else first_such (open_is_held port s t) is_told callers (first_such (is_waiting t) (λ c. goes_on (Caller c)) callers (goes_on Session))
+    else first_such (open_is_held port s t) is_told callers
+    (first_such (is_waiting t) (λ c. goes_on (Caller c)) callers (goes_on Session))
 
 -- the hangup that is due, else a flush, else the first caller in the text's order that can go on, else the others
 abbrev pub turn_by_rank : Port → ModemState → Terminal → Turn
 turn_by_rank port s t =
     if not (length s.due == 0) then goes_on (Caller (carrier_on port.number port.session))
     else if not (nothing_to_flush t) then goes_on Flusher
-    else first_such (can_go_on port s t) (λ c. goes_on (Caller c)) (callers_in port t.phase) (turn_of_others port s t (callers_in port t.phase))
+    else first_such (can_go_on port s t) (λ c. goes_on (Caller c)) (callers_in port t.phase)
+    (turn_of_others port s t (callers_in port t.phase))
 
 -- after so many entries of a journal
 abbrev pub turn_at : Port → ModemState → (at : ℕ) → Turn
@@ -95,7 +104,8 @@ modem_turn played port s place =
 -- the state after the events that were logged after at most so many entries
 abbrev pub state_before : Port → ModemState → ModemLog → (at : ℕ) → ModemState
 state_before port s [] at = s
-state_before port s (l ∷ log) at = if nat_le l.at at then state_before port (after_event port s l.at l.event) log at else s
+state_before port s (l ∷ log) at =
+    if nat_le l.at at then state_before port (after_event port s l.at l.event) log at else s
 
 -- each entry in its turn: the place and the number of the entries before it
 abbrev pub AreEntriesInTurn : PlainSession → Port → ModemLog → Place → (n : ℕ) → List PlainEntry → Type 0
@@ -119,16 +129,19 @@ IsEventInTurn played port s place (passed c step answer) = Unit {0}
 IsEventInTurn played port s place (carrier_lost h) = Unit {0}
 
 abbrev pub place_at : PlainSession → Port → (at : ℕ) → Place
-place_at played port at = place_after (call_at port.number played) (first_place port.number played) (take at port.journal.entries)
+place_at played port at =
+    place_after (call_at port.number played) (first_place port.number played) (take at port.journal.entries)
 
 abbrev pub AreEventsInTurn : PlainSession → Port → ModemState → ModemLog → Type 0
 AreEventsInTurn played port s [] = Unit {0}
 AreEventsInTurn played port s (l ∷ log) =
-    IsEventInTurn played port s (place_at played port l.at) l.event × AreEventsInTurn played port (after_event port s l.at l.event) log
+    IsEventInTurn played port s (place_at played port l.at) l.event
+    × AreEventsInTurn played port (after_event port s l.at l.event) log
 
 -- a port's journal, with the overruns of its line, and the log beside it
 pub record IsInModemOrder (port : Port) (log : ModemLog) (overruns : List Overrun) : Type 0 where
-  pub entries :
-      AreEntriesInTurn (derived port.session log) port (logged_on port.number log) (first_place port.number (derived port.session log)) 0 port.journal.entries
+  pub entries : AreEntriesInTurn (derived port.session log) port (logged_on port.number log)
+      (first_place port.number (derived port.session log)) 0 port.journal.entries
   pub seen : AllSeeAll port.number (derived port.session log) port.journal.entries overruns
-  pub events : AreEventsInTurn (derived port.session log) port (first_state port.number port.session) (logged_on port.number log)
+  pub events : AreEventsInTurn (derived port.session log) port (first_state port.number port.session)
+      (logged_on port.number log)

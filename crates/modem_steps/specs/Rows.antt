@@ -3,7 +3,8 @@ use Rattle.std.specs.Prelude.{ℕ, List, [], ◌∷◌, true, false, sum, take}
 use Rattle.tty_base.specs.declared.counters.Errno.TheVariants.{EAGAIN, EBADF}
 use Rattle.tty_calls.specs.declared.calls.Access.TheVariants.{Rw}
 use Rattle.tty_calls.specs.declared.journals.Who.TheVariants.{Caller, Line, Clock, Session}
-use Rattle.tty_calls.specs.Plain.{PlainCall, opens, reads, hangs_up, done, got, number_is, refused, idle, waited, line_ended, clock_ended, caller_ended, phase_ended, hung_up, PlainEntry}
+use Rattle.tty_calls.specs.Plain.{PlainCall, opens, reads, hangs_up, done, got, number_is, refused, idle, waited}
+use Rattle.tty_calls.specs.Plain.{line_ended, clock_ended, caller_ended, phase_ended, hung_up, PlainEntry}
 use Rattle.tty_calls.specs.Sessions.{PlainPhase, PlainSession, call_at, counts_on}
 use Rattle.tty_terminal.specs.Terminals.{opening}
 use Rattle.tty_terminal.specs.Rows.{whole, answers}
@@ -41,7 +42,9 @@ abbrev pub plain_phase : List PlainCall → (hangups : List PlainCall) → Plain
 plain_phase calls hangups = record {
   lines = [] ∷ [];
   ticks = 0 ∷ [];
-  callers = record { port = 0; name = 97 ∷ []; calls = calls } ∷ record { port = 0; name = carrier_name; calls = hangups } ∷ [];
+  callers =
+      record { port = 0; name = 97 ∷ []; calls = calls } ∷ record { port = 0; name = carrier_name; calls = hangups }
+      ∷ [];
 }
 
 abbrev pub played_with : List PlainPhase → PlainSession
@@ -81,7 +84,8 @@ dial_in_log =
     ∷ []
 
 abbrev pub dial_in_played : PlainSession
-dial_in_played = played_with (plain_phase (opens 0 Rw false ∷ []) [] ∷ plain_phase (reads 0 8 ∷ []) (hangs_up 0 ∷ []) ∷ [])
+dial_in_played =
+    played_with (plain_phase (opens 0 Rw false ∷ []) [] ∷ plain_phase (reads 0 8 ∷ []) (hangs_up 0 ∷ []) ∷ [])
 
 abbrev pub dial_in_journal : List PlainEntry
 dial_in_journal =
@@ -124,7 +128,8 @@ raised_early = logged 1 (pin_set Dcd true) ∷ logged 2 (passed 0 0 done) ∷ lo
 
 abbrev pub local_line : ModemSession
 local_line = session_with (
-    phase_with (pin_step Dcd ∷ fall Dcd ∷ []) (plain (opens 0 Rw true) ∷ further (call.Softcar 0 true) ∷ further (call.Getcar 0) ∷ further (call.Mget 0) ∷ [])
+    phase_with (pin_step Dcd ∷ fall Dcd ∷ [])
+    (plain (opens 0 Rw true) ∷ further (call.Softcar 0 true) ∷ further (call.Getcar 0) ∷ further (call.Mget 0) ∷ [])
     ∷ phase_with [] (further (call.Msr 0) ∷ further (call.Msr 0) ∷ plain (reads 0 8) ∷ [])
     ∷ [])
 

@@ -1,5 +1,7 @@
 -- The step of a port with modem lines: which event may be logged next, and what it does.
-use Rattle.std.specs.Prelude.{◌≡◌, ℕ, ◌+◌, ◌-◌, ◌==◌, ◌≤◌, nat_lt, Bool, false, not, ◌&&◌, ◌||◌, IsTrue, Option, None, Some, is_some, List, [], ◌∷◌, ◌++◌, map, filter, length, position, replicate, slice_get, slice_index_or, slice_set, if◌then◌else◌}
+use Rattle.std.specs.Prelude.{◌≡◌, ℕ, ◌+◌, ◌-◌, ◌==◌, ◌≤◌, nat_lt, Bool, false, not, ◌&&◌, ◌||◌, IsTrue}
+use Rattle.std.specs.Prelude.{Option, None, Some, is_some, List, [], ◌∷◌, ◌++◌, map, filter, length}
+use Rattle.std.specs.Prelude.{position, replicate, slice_get, slice_index_or, slice_set, if◌then◌else◌}
 use Rattle.std.specs.List.{list_all}
 use Rattle.std.specs.Option.{option_to_list}
 use Rattle.tty_base.specs.declared.counters.Errno.TheVariants.{EBADF, EIO}
@@ -10,7 +12,8 @@ use Rattle.tty_terminal.specs.Terminals.{Terminal, handle_at, caller_at, live_co
 use Rattle.tty_terminal.specs.Steps.{nothing_to_flush}
 use Rattle.one_thread.specs.Order.{must_wait, is_waiting}
 use Rattle.modem_lines.specs.declared.pins.Pin.{Pin}
-use Rattle.modem_lines.specs.Lines.{Lines, first_lines, with_pin, loses_carrier, may_open, after_open, after_shut, assigned, raised, lowered, modem_bits, status_register, after_status}
+use Rattle.modem_lines.specs.Lines.{Lines, first_lines, with_pin, loses_carrier, may_open, after_open, after_shut}
+use Rattle.modem_lines.specs.Lines.{assigned, raised, lowered, modem_bits, status_register, after_status}
 use Rattle.passed_calls.specs.Blocks.{names_on, number_on}
 use Rattle.passed_calls.specs.Journals.{Journal, terminal_at, IsAnswerAt}
 use Rattle.passed_calls.specs.Scripts.{plain, further}
@@ -33,7 +36,13 @@ pub record ModemState : Type 0 where
   pub due : List ℕ
 
 abbrev pub first_state : ℕ → ModemSession → ModemState
-first_state p session = record { lines = first_lines; at = 0; items = 0; next = replicate (length (names_on p (blocks_in session))) 0; due = [] }
+first_state p session = record {
+  lines = first_lines;
+  at = 0;
+  items = 0;
+  next = replicate (length (names_on p (blocks_in session))) 0;
+  due = [];
+}
 
 abbrev pub next_of : ModemState → ℕ → ℕ
 next_of s c = slice_index_or s.next c 0
@@ -133,7 +142,9 @@ callers_in port k =
 -- a caller is over, or waits in vain, or waits for the carrier
 abbrev pub is_held_up : Port → ModemState → Terminal → ℕ → Bool
 is_held_up port s t c =
-    (caller_at t c).over || (is_waiting t c && must_wait port.journal.calls t c) || waits_for_carrier s.lines t (next_call port s c)
+    (caller_at t c).over
+    || (is_waiting t c && must_wait port.journal.calls t c)
+    || waits_for_carrier s.lines t (next_call port s c)
 
 -- line, clock and modem block are over, nothing can be flushed, and each other caller is held up
 abbrev pub nobody_goes_on : Port → ModemState → Terminal → ℕ → Bool
@@ -150,7 +161,8 @@ pub record Item : Type 0 where
 
 abbrev pub items_from : ℕ → (phase : ℕ) → List ModemPhase → List Item
 items_from p k [] = []
-items_from p k (phase ∷ phases) = map (λ step. record { phase = k; step = step }) (pins_on p phase) ++ items_from p (k + 1) phases
+items_from p k (phase ∷ phases) =
+    map (λ step. record { phase = k; step = step }) (pins_on p phase) ++ items_from p (k + 1) phases
 
 abbrev pub items_on : Port → List Item
 items_on port = items_from port.number 0 port.session.phases
@@ -170,7 +182,8 @@ abbrev pub OwnAnswer : Port → ModemState → Terminal → ℕ → Option Modem
 OwnAnswer port s t c None answer = ⊥
 OwnAnswer port s t c (Some (plain call)) answer =
     (answer ≡ idle) × (IsTrue (plain_waits s.lines t call)) × (IsTrue (nobody_goes_on port s t c))
-OwnAnswer port s t c (Some (further call)) answer = answer ≡ through (handle_at t (modem_handle call)) (modem_gives s.lines call)
+OwnAnswer port s t c (Some (further call)) answer =
+    answer ≡ through (handle_at t (modem_handle call)) (modem_gives s.lines call)
 
 pub record IsOwn (port : Port) (s : ModemState) (t : Terminal) (c step : ℕ) (answer : PlainAnswer) : Type 0 where
   pub nothing_due : s.due ≡ []
@@ -204,7 +217,8 @@ IsAllowed port s at (carrier_lost h) = IsLoss port s at h
 abbrev pub lines_after_own : Lines → Terminal → Option ModemCall → Lines
 lines_after_own lines t None = lines
 lines_after_own lines t (Some (plain call)) = lines
-lines_after_own lines t (Some (further call)) = if is_through (handle_at t (modem_handle call)) then lines_after_call lines call else lines
+lines_after_own lines t (Some (further call)) =
+    if is_through (handle_at t (modem_handle call)) then lines_after_call lines call else lines
 
 abbrev pub after_event : Port → ModemState → (at : ℕ) → ModemEvent → ModemState
 after_event port s at (pin_set pin up) =
@@ -215,10 +229,14 @@ after_event port s at (pin_set pin up) =
       due = if loses_carrier s.lines pin up then least_live (terminal_at port.journal at) else [];
     }
 after_event port s at (own c step answer) =
-    record (answered_for s c) { lines = lines_after_own s.lines (terminal_at port.journal at) (next_call port s c); at = at }
+    record (answered_for s c) {
+      lines = lines_after_own s.lines (terminal_at port.journal at) (next_call port s c);
+      at = at;
+    }
 after_event port s at (passed c step answer) =
     record (answered_for s c) {
-      lines = lines_after_answer s.lines (live_count (terminal_at port.journal (at - 1))) (live_count (terminal_at port.journal at)) (next_call port s c) answer;
+      lines = lines_after_answer s.lines (live_count (terminal_at port.journal (at - 1)))
+          (live_count (terminal_at port.journal at)) (next_call port s c) answer;
       at = at;
     }
 after_event port s at (carrier_lost h) = record s { lines = after_shut s.lines; at = at; due = [] }
@@ -226,7 +244,11 @@ after_event port s at (carrier_lost h) = record s { lines = after_shut s.lines; 
 -- the events of a port are steps, one after the other, and lead from the one state to the other; the places never fall
 abbrev pub Leads : Port → ModemState → ModemLog → ModemState → Type 0
 Leads port s [] u = u ≡ s
-Leads port s (l ∷ log) u = (s.at ≤ l.at) × (l.at ≤ length port.journal.entries) × IsAllowed port s l.at l.event × Leads port (after_event port s l.at l.event) log u
+Leads port s (l ∷ log) u =
+    (s.at ≤ l.at)
+    × (l.at ≤ length port.journal.entries)
+    × IsAllowed port s l.at l.event
+    × Leads port (after_event port s l.at l.event) log u
 
 -- at its end nothing is due
 pub record IsModemRun (port : Port) (log : ModemLog) : Type 0 where

@@ -7,7 +7,12 @@ ghost use Rattle.modem_steps.specs.Derived.{derived};
 ghost use Rattle.modem_steps.specs.Steps.{IsModemRun};
 ghost use Rattle.tty_calls.specs.declared.journals.Who.TheVariants.{Caller, Clock, Session};
 ghost use Rattle.modem_steps.specs.Order.{turn_at, goes_on, sets_pin, is_told, IsInModemOrder};
-ghost use Rattle.modem_steps.specs.Rows.{asked_early, port_of, opened_early, not_hung_up, raised_early, hung_up_under_clocal, told_twice, given_up_early, dial_in, dial_in_log, dial_in_played, dial_in_journal, local_line, local_line_log, local_line_played, local_line_journal, no_carrier, no_carrier_log, no_carrier_played, no_carrier_journal, dial_in_port, dial_in_state, no_carrier_port, no_carrier_state};
+ghost use Rattle.modem_steps.specs.Rows.{asked_early, port_of, opened_early, not_hung_up, raised_early};
+ghost use Rattle.modem_steps.specs.Rows.{hung_up_under_clocal, told_twice, given_up_early, dial_in};
+ghost use Rattle.modem_steps.specs.Rows.{dial_in_log, dial_in_played, dial_in_journal, local_line};
+ghost use Rattle.modem_steps.specs.Rows.{local_line_log, local_line_played, local_line_journal, no_carrier};
+ghost use Rattle.modem_steps.specs.Rows.{no_carrier_log, no_carrier_played, no_carrier_journal};
+ghost use Rattle.modem_steps.specs.Rows.{dial_in_port, dial_in_state, no_carrier_port, no_carrier_state};
 
 /// A law: an open waits for the carrier, and who reads is hung up where it is lost.
 pub fn dial_in()
@@ -33,7 +38,8 @@ pub fn wrong_logs_are_none()
     ensures opened_early { IsModemRun (port_of dial_in opened_early dial_in_journal) opened_early → ⊥ }
     ensures not_hung_up { IsModemRun (port_of dial_in not_hung_up dial_in_journal) not_hung_up → ⊥ }
     ensures raised_early { IsModemRun (port_of dial_in raised_early dial_in_journal) raised_early → ⊥ }
-    ensures under_clocal { IsModemRun (port_of local_line hung_up_under_clocal local_line_journal) hung_up_under_clocal → ⊥ }
+    ensures under_clocal { IsModemRun (port_of local_line hung_up_under_clocal local_line_journal) hung_up_under_clocal
+        → ⊥ }
     ensures told_twice { IsModemRun (port_of local_line told_twice local_line_journal) told_twice → ⊥ }
     ensures given_up { IsModemRun (port_of no_carrier given_up_early no_carrier_journal) given_up_early → ⊥ }
 {}

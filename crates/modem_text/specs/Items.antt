@@ -7,7 +7,8 @@ use Rattle.further_text.specs.Numbers.{bounded, port_in, handle_in}
 use Rattle.modem_lines.specs.declared.pins.Pin.{Pin}
 use Rattle.modem_lines.specs.declared.pins.Pin.TheVariants as pin
 use Rattle.modem_text.specs.declared.verbs.ModemVerb.{ModemVerb}
-use Rattle.modem_text.specs.declared.verbs.ModemVerb.TheVariants.{Modem, Dcd, Dsr, Cts, Ri, Mget, Mset, Mbis, Mbic, Softcar, Getcar, Hupcl, Msr}
+use Rattle.modem_text.specs.declared.verbs.ModemVerb.TheVariants.{Modem, Dcd, Dsr, Cts, Ri, Mget, Mset}
+use Rattle.modem_text.specs.declared.verbs.ModemVerb.TheVariants.{Mbis, Mbic, Softcar, Getcar, Hupcl, Msr}
 use Rattle.modem_text.specs.declared.items.OwnCall.{OwnCall}
 use Rattle.modem_text.specs.declared.items.OwnCall.TheVariants as call
 use Rattle.modem_text.specs.declared.items.ModemItem.{ModemItem}
@@ -70,4 +71,6 @@ read_item ports Msr a b = handle_in a >>= λ h. Ok (call_item (call.Msr h))
 -- what a line says with these arguments
 abbrev pub item_of : (ports : ℕ) → ModemVerb → List (List ℕ) → Read ModemItem
 item_of ports verb arguments =
-    if length arguments == count_of verb then read_item ports verb (word_at arguments 0) (word_at arguments 1) else Err Word
+    if length arguments == count_of verb
+    then read_item ports verb (word_at arguments 0) (word_at arguments 1)
+    else Err Word

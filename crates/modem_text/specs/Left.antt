@@ -1,5 +1,6 @@
 -- What is left of a text without the lines that only it has: a session of ports.
-use Rattle.std.specs.Prelude.{◌≡◌, ℕ, Bool, Option, None, Some, is_some, Ok, Err, List, [], ◌∷◌, flat_map, map, if◌then◌else◌}
+use Rattle.std.specs.Prelude.{◌≡◌, ℕ, Bool, Option, None, Some, is_some, Ok}
+use Rattle.std.specs.Prelude.{Err, List, [], ◌∷◌, flat_map, map, if◌then◌else◌}
 use Rattle.tty_calls.specs.Sessions.{PlainSession}
 use Rattle.text_lines.specs.Lines.{first_is}
 use Rattle.session_text.specs.Grammar.{Spells}

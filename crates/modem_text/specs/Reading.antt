@@ -1,6 +1,7 @@
 -- Reading a text line by line: what stands beside the items of a session of ports, or the first wrong line. What is
 -- left of a text without modem blocks and calls of modem lines is read as a session's.
-use Rattle.std.specs.Prelude.{ℕ, ◌-◌, ◌==◌, ◌&&◌, nat_le, Bool, true, false, List, [], ◌∷◌, ◌++◌, length, count_by, Option, None, Some, Result, Ok, if◌then◌else◌}
+use Rattle.std.specs.Prelude.{ℕ, ◌-◌, ◌==◌, ◌&&◌, nat_le, Bool, true, false, List, [], ◌∷◌, ◌++◌}
+use Rattle.std.specs.Prelude.{length, count_by, Option, None, Some, Result, Ok, if◌then◌else◌}
 use Rattle.std.specs.Str.{bytes_eq}
 use Rattle.text_lines.specs.Lines.{first_is}
 use Rattle.text_lines.specs.Values.{word_at, number_at}
@@ -11,7 +12,8 @@ use Rattle.session_text.specs.Refusals.{next_line, lines_in}
 use Rattle.further_text.specs.declared.sorts.Sort.{Sort}
 use Rattle.further_text.specs.declared.sorts.Sort.TheVariants.{Ports, Caller, Border, Inside, Other}
 use Rattle.further_text.specs.Faults.{wrong_if, wrong_unless, on_line, ◌>>=◌}
-use Rattle.further_text.specs.Reading.{BaseReading, first_base, at_start, in_open_phase, base_after_item, base_after_ports, base_after_step, base_at_end, spend, with_block, place_in}
+use Rattle.further_text.specs.Reading.{BaseReading, first_base, at_start, in_open_phase, base_after_item}
+use Rattle.further_text.specs.Reading.{base_after_ports, base_after_step, base_at_end, spend, with_block, place_in}
 use Rattle.further_text.specs.Sorts.{sort_of}
 use Rattle.modem_text.specs.declared.verbs.ModemVerb.{ModemVerb}
 use Rattle.modem_text.specs.declared.verbs.ModemVerb.TheVariants as verb
@@ -36,7 +38,8 @@ pub record ModemReading : Type 0 where
   pub parts : List PlainPart
 
 abbrev pub first_modem_reading : ModemReading
-first_modem_reading = record { base = first_base; open_block = block.Another; modems = []; callers = []; part = no_part; parts = [] }
+first_modem_reading =
+    record { base = first_base; open_block = block.Another; modems = []; callers = []; part = no_part; parts = [] }
 
 -- what is read with the session of ports
 abbrev pub with_base : ModemReading → Result BaseReading BadLine → Result ModemReading BadLine
@@ -114,13 +117,17 @@ with_pin r pin = record r { part = record r.part { pins = r.part.pins ++ pin ∷
 -- a call more of the last caller's block
 abbrev pub with_own : ModemReading → OwnCall → ModemReading
 with_own r call = record r {
-  part = record r.part { own = r.part.own ++ record { script = length r.callers - 1; place = place_in r.base; call = call } ∷ [] };
+  part = record r.part {
+    own = r.part.own ++ record { script = length r.callers - 1; place = place_in r.base; call = call } ∷ [];
+  };
 }
 
 abbrev pub with_item : ModemReading → ℕ → ModemItem → Result ModemReading BadLine
 with_item r n (item.Block port) =
-    wrong_if n Order (holds r.modems port) (Ok (record r { open_block = block.Modem port; modems = r.modems ++ port ∷ [] }))
-with_item r n (item.Pin pin up) = with_base (with_pin r (record { port = port_of r.open_block; pin = pin; up = up })) (spend n r.base)
+    wrong_if n Order (holds r.modems port)
+    (Ok (record r { open_block = block.Modem port; modems = r.modems ++ port ∷ [] }))
+with_item r n (item.Pin pin up) =
+    with_base (with_pin r (record { port = port_of r.open_block; pin = pin; up = up })) (spend n r.base)
 with_item r n (item.Call call) = with_base (with_own r call) (spend n r.base)
 
 abbrev pub after_own : ModemReading → ℕ → ModemVerb → List (List ℕ) → Result ModemReading BadLine

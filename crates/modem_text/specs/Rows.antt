@@ -101,8 +101,14 @@ refused_rows =
     refused_at 4 Word (in_phase (codes "caller carrier\n")) ∷
     refused_at 4 Limit (in_phase (codes "caller a 2\n")) ∷
     refused_at 5 Order (in_caller (codes "caller a 0\n")) ∷
-    refused_at 19 Limit (in_phase (codes "caller a 0\ncaller b 0\ncaller c 0\ncaller d 0\ncaller e 0\ncaller f 0\ncaller g 0\ncaller h 0\ncaller i 0\ncaller j 0\ncaller k 0\ncaller l 0\ncaller m 0\ncaller n 0\ncaller o 0\ncaller p 0\n")) ∷
-    refused_at 19 Order (in_phase (codes "caller a 0\ncaller b 0\ncaller c 0\ncaller d 0\ncaller e 0\ncaller f 0\ncaller g 0\ncaller h 0\ncaller i 0\ncaller j 0\ncaller k 0\ncaller l 0\ncaller m 0\ncaller n 0\ncaller o 0\ncaller a 0\n")) ∷
+    refused_at 19 Limit
+    (in_phase (codes
+    "caller a 0\ncaller b 0\ncaller c 0\ncaller d 0\ncaller e 0\ncaller f 0\ncaller g 0\ncaller h 0\ncaller i 0\ncaller j 0\ncaller k 0\ncaller l 0\ncaller m 0\ncaller n 0\ncaller o 0\ncaller p 0\n"))
+    ∷
+    refused_at 19 Order
+    (in_phase (codes
+    "caller a 0\ncaller b 0\ncaller c 0\ncaller d 0\ncaller e 0\ncaller f 0\ncaller g 0\ncaller h 0\ncaller i 0\ncaller j 0\ncaller k 0\ncaller l 0\ncaller m 0\ncaller n 0\ncaller o 0\ncaller a 0\n"))
+    ∷
     -- calls
     refused_at 4 Order (in_phase (codes "mget 0\n")) ∷
     refused_at 5 Order (in_modem (codes "mget 0\n")) ∷
@@ -120,7 +126,8 @@ refused_rows =
 
 abbrev pub two_ports_text : List ℕ
 two_ports_text =
-    codes "tty-session 1\nports 2\nphase\nmodem 1\ndcd 1\nri 0\ncaller a 0\nmget 0\nopen 0 rw\nmodem 0\ncts 1\ncaller b 1\ngetm 0\nmset 0 2\nmsr 0\n"
+    codes
+    "tty-session 1\nports 2\nphase\nmodem 1\ndcd 1\nri 0\ncaller a 0\nmget 0\nopen 0 rw\nmodem 0\ncts 1\ncaller b 1\ngetm 0\nmset 0 2\nmsr 0\n"
     ++ codes "phase\nline 0\nbreak\nphase\n# again\ncaller a 0\nsoftcar 0 1\nend\n"
 
 abbrev pub two_ports : ModemSession
@@ -137,7 +144,11 @@ two_ports = record {
             ∷ (record { pin = pin.Dcd; up = true } ∷ record { pin = pin.Ri; up = false } ∷ []) ∷ [];
         callers =
             record { port = 0; name = codes "a"; calls = further (call.Mget 0) ∷ plain (opens 0 Rw false) ∷ [] }
-            ∷ record { port = 1; name = codes "b"; calls = plain (gets_modes 0) ∷ further (call.Mset 0 2) ∷ further (call.Msr 0) ∷ [] } ∷ [];
+            ∷ record {
+              port = 1;
+              name = codes "b";
+              calls = plain (gets_modes 0) ∷ further (call.Mset 0 2) ∷ further (call.Msr 0) ∷ [];
+            } ∷ [];
       }
       ∷ record { lines = (Break ∷ []) ∷ [] ∷ []; ticks = 0 ∷ 0 ∷ []; pins = [] ∷ [] ∷ []; callers = [] }
       ∷ record {

@@ -50,7 +50,8 @@ carrier_block steps p = record { port = p; name = carrier_name; steps = steps }
 
 -- the blocks of a phase: its callers', and on each port, last, that of `carrier`, which has so many calls there
 abbrev pub phase_blocks : (steps : ℕ → ℕ) → (ports : ℕ) → ModemPhase → List Block
-phase_blocks steps ports phase = map block_of phase.callers ++ map (λ p. carrier_block (steps p) p) (range_with_len 0 ports)
+phase_blocks steps ports phase =
+    map block_of phase.callers ++ map (λ p. carrier_block (steps p) p) (range_with_len 0 ports)
 
 -- the blocks of a session by themselves, which tell the callers' numbers
 abbrev pub blocks_in : ModemSession → List Block

@@ -2,7 +2,8 @@
 use Rattle.std.specs.Prelude.{ℕ, List, [], ◌∷◌, Option, codes}
 use Rattle.text_lines.specs.Values.{choice_of}
 use Rattle.modem_text.specs.declared.verbs.ModemVerb.{ModemVerb}
-use Rattle.modem_text.specs.declared.verbs.ModemVerb.TheVariants.{Modem, Dcd, Dsr, Cts, Ri, Mget, Mset, Mbis, Mbic, Softcar, Getcar, Hupcl, Msr}
+use Rattle.modem_text.specs.declared.verbs.ModemVerb.TheVariants.{Modem, Dcd, Dsr, Cts, Ri, Mget, Mset}
+use Rattle.modem_text.specs.declared.verbs.ModemVerb.TheVariants.{Mbis, Mbic, Softcar, Getcar, Hupcl, Msr}
 
 -- what each is written as
 abbrev pub verb_text : ModemVerb → List ℕ

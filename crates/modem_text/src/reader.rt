@@ -7,7 +7,10 @@ ghost use Rattle.session_text.specs.Stands.{holds};
 ghost use Rattle.further_text.specs.Reading.{spend};
 ghost use Rattle.further_text.specs.Sorts.{sort_of};
 ghost use Rattle.modem_text.specs.Sessions.{modem_session_of};
-ghost use Rattle.modem_text.specs.Reading.{after_item, after_line, after_opening, after_own, after_session_item, after_shared, first_modem_reading, is_taken, may_stand, modem_at_end, modem_in, port_of, with_base, with_caller, with_item, with_own, with_phase_closed, with_pin};
+ghost use Rattle.modem_text.specs.Reading.{after_item, after_line, after_opening, after_own};
+ghost use Rattle.modem_text.specs.Reading.{after_session_item, after_shared, first_modem_reading, is_taken};
+ghost use Rattle.modem_text.specs.Reading.{may_stand, modem_at_end, modem_in, port_of, with_base};
+ghost use Rattle.modem_text.specs.Reading.{with_caller, with_item, with_own, with_phase_closed, with_pin};
 ghost use Rattle.modem_text.specs.Views.{modem_reading_of};
 
 use crate::items::{ModemItem, OwnCall, item_of};
@@ -68,7 +71,8 @@ impl ModemReader {
 
     /// Reads the line with this number.
     fn read_line(&mut self, alloc: Global, number: u32, line: &[u8]) -> Result<(), TextFault>
-        ensures { Gives (λ _. modem_reading_of self.new) result (after_line (modem_reading_of self.old) number (words_of line.now)) }
+        ensures { Gives (λ _. modem_reading_of self.new) result
+            (after_line (modem_reading_of self.old) number (words_of line.now)) }
     {
         match split_word(line) {
             None => Ok(()),
@@ -88,7 +92,8 @@ impl ModemReader {
         word: &[u8],
         arguments: &FirstTwo,
     ) -> Result<(), TextFault>
-        ensures { Gives (λ _. modem_reading_of self.new) result (after_item (modem_reading_of self.old) number word.now arguments.now) }
+        ensures { Gives (λ _. modem_reading_of self.new) result
+            (after_item (modem_reading_of self.old) number word.now arguments.now) }
     {
         if self.base.is_at_start() {
             return self.read_by_session(alloc, number, word, arguments);
@@ -107,7 +112,8 @@ impl ModemReader {
         word: &[u8],
         arguments: &FirstTwo,
     ) -> Result<(), TextFault>
-        ensures { Gives (λ _. modem_reading_of self.new) result (after_session_item (modem_reading_of self.old) number word.now arguments.now) }
+        ensures { Gives (λ _. modem_reading_of self.new) result
+            (after_session_item (modem_reading_of self.old) number word.now arguments.now) }
     {
         self.base.read_item(alloc, number, word, arguments)
     }
@@ -120,7 +126,8 @@ impl ModemReader {
         word: &[u8],
         arguments: &FirstTwo,
     ) -> Result<(), TextFault>
-        ensures { Gives (λ _. modem_reading_of self.new) result (after_shared (modem_reading_of self.old) number word.now arguments.now (sort_of word.now)) }
+        ensures { Gives (λ _. modem_reading_of self.new) result
+            (after_shared (modem_reading_of self.old) number word.now arguments.now (sort_of word.now)) }
     {
         match sort_of(word) {
             Sort::Ports => self.base.read_ports(alloc, number, word, arguments),
@@ -142,7 +149,8 @@ impl ModemReader {
         word: &[u8],
         arguments: &FirstTwo,
     ) -> Result<(), TextFault>
-        ensures { Gives (λ _. modem_reading_of self.new) result (after_shared (modem_reading_of self.old) number word.now arguments.now Sort.Caller) }
+        ensures { Gives (λ _. modem_reading_of self.new) result
+            (after_shared (modem_reading_of self.old) number word.now arguments.now Sort.Caller) }
     {
         if !has_count(arguments, 2) {
             return self.read_by_session(alloc, number, word, arguments);
@@ -163,7 +171,8 @@ impl ModemReader {
         arguments: &FirstTwo,
         port: u64,
     ) -> Result<(), TextFault>
-        ensures { Gives (λ _. modem_reading_of self.new) result (after_opening (modem_reading_of self.old) number word.now arguments.now port) }
+        ensures { Gives (λ _. modem_reading_of self.new) result
+            (after_opening (modem_reading_of self.old) number word.now arguments.now port) }
     {
         self.read_by_session(alloc, number, word, arguments)?;
         self.open_caller(number, port)
@@ -197,7 +206,8 @@ impl ModemReader {
         word: &[u8],
         arguments: &FirstTwo,
     ) -> Result<(), TextFault>
-        ensures { Gives (λ _. modem_reading_of self.new) result (after_shared (modem_reading_of self.old) number word.now arguments.now Sort.Border) }
+        ensures { Gives (λ _. modem_reading_of self.new) result
+            (after_shared (modem_reading_of self.old) number word.now arguments.now Sort.Border) }
     {
         let is_open = self.base.is_in_phase();
         self.read_by_session(alloc, number, word, arguments)?;
@@ -227,7 +237,8 @@ impl ModemReader {
         word: &[u8],
         arguments: &FirstTwo,
     ) -> Result<(), TextFault>
-        ensures { Gives (λ _. modem_reading_of self.new) result (after_shared (modem_reading_of self.old) number word.now arguments.now Sort.Inside) }
+        ensures { Gives (λ _. modem_reading_of self.new) result
+            (after_shared (modem_reading_of self.old) number word.now arguments.now Sort.Inside) }
     {
         if matches!(self.block, Block::Modem(_)) {
             return Err(bad(number, Reason::Order));
@@ -237,7 +248,8 @@ impl ModemReader {
 
     /// Counts a step.
     fn spend(&mut self, number: u32) -> Result<(), TextFault>
-        ensures { Gives (λ _. modem_reading_of self.new) result (with_base (modem_reading_of self.old) (spend number (modem_reading_of self.old).base)) }
+        ensures { Gives (λ _. modem_reading_of self.new) result
+            (with_base (modem_reading_of self.old) (spend number (modem_reading_of self.old).base)) }
     {
         self.base.spend(number)
     }
@@ -249,7 +261,8 @@ impl ModemReader {
         verb: ModemVerb,
         arguments: &FirstTwo,
     ) -> Result<(), TextFault>
-        ensures { Gives (λ _. modem_reading_of self.new) result (after_own (modem_reading_of self.old) number verb arguments.now) }
+        ensures { Gives (λ _. modem_reading_of self.new) result
+            (after_own (modem_reading_of self.old) number verb arguments.now) }
     {
         if !self.may_stand(verb) {
             return Err(bad(number, Reason::Order));
@@ -290,7 +303,8 @@ impl ModemReader {
     }
 
     fn open_modem(&mut self, number: u32, port: u8) -> Result<(), TextFault>
-        ensures { Gives (λ _. modem_reading_of self.new) result (with_item (modem_reading_of self.old) number (ModemItem.Block port)) }
+        ensures { Gives (λ _. modem_reading_of self.new) result
+            (with_item (modem_reading_of self.old) number (ModemItem.Block port)) }
     {
         let key = u64::from(port);
         if holds(self.modems.as_slice(), key) {

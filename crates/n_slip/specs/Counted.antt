@@ -22,6 +22,8 @@ packet_count (packet_of packet ∷ pieces) = suc (packet_count pieces)
 -- the counts after all this has happened; a packet that is taken and a flush count nothing
 abbrev pub counts_of_all : Slip → List Happening → Counts → Counts
 counts_of_all slip [] counts = counts
-counts_of_all slip (character c ∷ events) counts = counts_of_all (after_character slip c) events (counts_after_character slip c counts)
-counts_of_all slip (packet_take ∷ events) counts = counts_of_all (record slip { packets = drop 1 slip.packets }) events counts
+counts_of_all slip (character c ∷ events) counts =
+    counts_of_all (after_character slip c) events (counts_after_character slip c counts)
+counts_of_all slip (packet_take ∷ events) counts =
+    counts_of_all (record slip { packets = drop 1 slip.packets }) events counts
 counts_of_all slip (flush ∷ events) counts = counts_of_all (record slip { packets = [] }) events counts

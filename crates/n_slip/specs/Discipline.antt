@@ -38,7 +38,10 @@ packets_after_answer Bad waiting packet = waiting
 
 -- after one character more
 abbrev pub after_character : Slip → Flagged → Slip
-after_character slip c = record { piece = piece_after_character slip.piece c; packets = packets_after_answer (answer_to slip.piece c) slip.packets (packet_in slip.piece) }
+after_character slip c = record {
+  piece = piece_after_character slip.piece c;
+  packets = packets_after_answer (answer_to slip.piece c) slip.packets (packet_in slip.piece);
+}
 
 -- a flagged character is counted by its flag
 abbrev pub counts_with_flag : Counts → Flag → Counts
@@ -52,12 +55,16 @@ counts_with_flag counts flags.Overrun = with_count counts counter.Mark 1
 abbrev pub counts_with_piece : Counts → List (List ℕ) → Fed → Counts
 counts_with_piece counts waiting Going = counts
 counts_with_piece counts waiting Empty = counts
-counts_with_piece counts waiting Packet = if nat_lt (length waiting) most_waiting then with_count counts counter.PacketIn 1 else with_count counts counter.PacketFull 1
+counts_with_piece counts waiting Packet =
+    if nat_lt (length waiting) most_waiting
+    then with_count counts counter.PacketIn 1
+    else with_count counts counter.PacketFull 1
 counts_with_piece counts waiting Bad = with_count counts counter.PacketBad 1
 
 -- the counts after one character more
 abbrev pub counts_after_character : Slip → Flagged → Counts → Counts
-counts_after_character slip c counts = counts_with_piece (counts_with_flag counts c.flag) slip.packets (answer_to slip.piece c)
+counts_after_character slip c counts =
+    counts_with_piece (counts_with_flag counts c.flag) slip.packets (answer_to slip.piece c)
 
 -- after these characters, one after the other, and the counts after them
 abbrev pub after_characters : Slip → List Flagged → Slip
@@ -66,4 +73,5 @@ after_characters slip (c ∷ cs) = after_characters (after_character slip c) cs
 
 abbrev pub counts_after_characters : Slip → List Flagged → Counts → Counts
 counts_after_characters slip [] counts = counts
-counts_after_characters slip (c ∷ cs) counts = counts_after_characters (after_character slip c) cs (counts_after_character slip c counts)
+counts_after_characters slip (c ∷ cs) counts =
+    counts_after_characters (after_character slip c) cs (counts_after_character slip c counts)

@@ -32,7 +32,8 @@ outcomes_at list c = drop (length (outcomes list)) (outcomes (list ++ c ∷ []))
 -- the packets that wait in the end, where these characters came before and these packets waited
 abbrev pub packets_after : List Flagged → List (List ℕ) → List Happening → List (List ℕ)
 packets_after list waiting [] = waiting
-packets_after list waiting (character c ∷ events) = packets_after (list ++ c ∷ []) (with_packets waiting (outcomes_at list c)) events
+packets_after list waiting (character c ∷ events) =
+    packets_after (list ++ c ∷ []) (with_packets waiting (outcomes_at list c)) events
 packets_after list waiting (packet_take ∷ events) = packets_after list (drop 1 waiting) events
 packets_after list waiting (flush ∷ events) = packets_after list [] events
 

@@ -1,12 +1,14 @@
 //! N_SLIP: characters of the line become packets that wait, and packets are sent.
 
-ghost use Rattle.std.specs.Prelude.{◌≡◌, ◌+◌, ◌-◌, ◌<◌, ◌≤◌, [], ◌∷◌, ◌++◌, List, length, map, take, drop, nat_le, IfOk, if◌then◌else◌};
+ghost use Rattle.std.specs.Prelude.{◌≡◌, ◌+◌, ◌-◌, ◌<◌, ◌≤◌, [], ◌∷◌, ◌++◌, List, length};
+ghost use Rattle.std.specs.Prelude.{map, take, drop, nat_le, IfOk, if◌then◌else◌};
 ghost use Rattle.slip_frames.specs.Slip.{max_packet};
 ghost use Rattle.flow_control.specs.Output.{room_of, after_send};
 ghost use Rattle.tty_base.specs.declared.counters.Counts.{Counts};
 ghost use Rattle.flow_control.specs.Counting.{with_count};
 ghost use Rattle.flow_control.specs.declared.tally.Counter.TheVariants.{PacketOut};
-ghost use Rattle.n_slip.specs.Discipline.{most_waiting, fresh_slip, first_packet, after_character, after_characters, counts_with_flag, counts_after_character, counts_after_characters};
+ghost use Rattle.n_slip.specs.Discipline.{most_waiting, fresh_slip, first_packet, after_character, after_characters};
+ghost use Rattle.n_slip.specs.Discipline.{counts_with_flag, counts_after_character, counts_after_characters};
 ghost use Rattle.n_slip.specs.History.{Happening, HasSeen, character, packet_take, flush};
 
 use crate::queue::{MOST, Queue};
@@ -49,7 +51,9 @@ impl NSlip {
     pub fn receive(&mut self, c: Flagged, tally: &mut Tally)
         ensures after { self.new ≡ after_character self.old c }
         ensures counts { tally.new ≡ record tally.old { counts = counts_after_character self.old c tally.old.counts } }
-        ensures seen { (events : List Happening) → HasSeen self.old events → HasSeen self.new (events ++ character c ∷ []) }
+        ensures seen { (events : List Happening)
+            → HasSeen self.old events
+            → HasSeen self.new (events ++ character c ∷ []) }
     {
         self.step(c, tally)
     }
@@ -90,9 +94,15 @@ impl NSlip {
         requires some { 0 < length self.old.packets }
         requires room { length (first_packet self.old) ≤ out.old.spare }
         ensures len { result ≡ length (first_packet self.old) }
-        ensures out { out.new ≡ record { items = out.old.items ++ first_packet self.old; spare = out.old.spare - length (first_packet self.old) } }
+        ensures out { out.new
+            ≡ record {
+              items = out.old.items ++ first_packet self.old;
+              spare = out.old.spare - length (first_packet self.old);
+            } }
         ensures after { self.new ≡ record self.old { packets = drop 1 self.old.packets } }
-        ensures seen { (events : List Happening) → HasSeen self.old events → HasSeen self.new (events ++ packet_take ∷ []) }
+        ensures seen { (events : List Happening)
+            → HasSeen self.old events
+            → HasSeen self.new (events ++ packet_take ∷ []) }
     {
         self.queue.take(out)
     }
@@ -103,7 +113,8 @@ impl NSlip {
         requires { length encoded.now ≤ wire.old.spare }
         ensures room { result ≡ nat_le (length encoded.now) (room_of wire.old) }
         ensures wire { wire.new ≡ (if result then after_send wire.old encoded.now else wire.old) }
-        ensures counts { tally.new ≡ (if result then record tally.old { counts = with_count tally.old.counts PacketOut 1 } else tally.old) }
+        ensures counts { tally.new
+            ≡ (if result then record tally.old { counts = with_count tally.old.counts PacketOut 1 } else tally.old) }
         ensures spent { wire.old.spare ≤ wire.new.spare + length encoded.now }
         ensures same { self.new ≡ self.old }
     {

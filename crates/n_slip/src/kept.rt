@@ -57,7 +57,8 @@ impl Kept {
         requires within { count ≤ length self.old }
         requires room { count ≤ out.old.spare }
         ensures rest { self.new ≡ drop count self.old }
-        ensures front { out.new ≡ record { items = out.old.items ++ take count self.old; spare = out.old.spare - count } }
+        ensures front { out.new
+            ≡ record { items = out.old.items ++ take count self.old; spare = out.old.spare - count } }
     {
         out.append(front_of(self.as_slice(), count));
         self.skip(count);

@@ -1,6 +1,7 @@
 //! The packets that wait: their bytes and their lengths.
 
-ghost use Rattle.std.specs.Prelude.{◌≡◌, ◌+◌, ◌-◌, ◌*◌, ◌<◌, ◌≤◌, [], ◌∷◌, ◌++◌, length, take, drop, IfOk, slice_index_or};
+ghost use Rattle.std.specs.Prelude.{◌≡◌, ◌+◌, ◌-◌, ◌*◌, ◌<◌, ◌≤◌, [], ◌∷◌, ◌++◌};
+ghost use Rattle.std.specs.Prelude.{length, take, drop, IfOk, slice_index_or};
 ghost use Rattle.slip_frames.specs.Slip.{max_packet};
 ghost use Rattle.n_slip.specs.Discipline.{most_waiting};
 
@@ -75,7 +76,11 @@ impl Queue {
         requires some { 0 < length self.old }
         requires room { length (slice_index_or self.old 0 []) ≤ out.old.spare }
         ensures len { result ≡ length (slice_index_or self.old 0 []) }
-        ensures out { out.new ≡ record { items = out.old.items ++ slice_index_or self.old 0 []; spare = out.old.spare - length (slice_index_or self.old 0 []) } }
+        ensures out { out.new
+            ≡ record {
+              items = out.old.items ++ slice_index_or self.old 0 [];
+              spare = out.old.spare - length (slice_index_or self.old 0 []);
+            } }
         ensures rest { self.new ≡ drop 1 self.old }
     {
         match self.lengths.pop_front() {

@@ -37,13 +37,19 @@ has_room-nil output = elim (cases_Bool (is_halted output)) [
 after_echo-nil : (modes : Settings) (port : OnPort) → port ≡ after_echo modes [] port
 after_echo-nil modes port =
     let output = port.output in
-    let column : port.tty.column ≡ column_after_try modes output port.tty.column [] = sym (either_way (has_room output []) port.tty.column) in
-    let sent : output ≡ after_try output [] = sym (ap (λ o. cond (has_room output []) o output) (after_send-nil output) ∙ either_way (has_room output []) output) in
+    let column : port.tty.column ≡ column_after_try modes output port.tty.column [] =
+    sym (either_way (has_room output []) port.tty.column) in
+    let sent : output ≡ after_try output [] =
+    sym
+    (ap (λ o. cond (has_room output []) o output) (after_send-nil output) ∙ either_way (has_room output []) output) in
     let tally : port.tally ≡ tally_after_try output [] port.tally =
-    sym (ap (λ b. cond b port.tally (record port.tally { counts = with_count port.tally.counts Echo 0 })) (has_room-nil output)) in
+    sym (ap (λ b. cond b port.tally (record port.tally { counts = with_count port.tally.counts Echo 0 }))
+    (has_room-nil output)) in
     λ i. on_port (record port.tty { column = column i }) (sent i) (tally i)
 
-pub unechoed : (modes : Settings) (b : ℕ) (port : OnPort) → has_flag modes ECHO ≡ false → port ≡ with_echo modes (event.Plain b) port
+pub unechoed : (modes : Settings) (b : ℕ) (port : OnPort)
+    → has_flag modes ECHO ≡ false
+    → port ≡ with_echo modes (event.Plain b) port
 unechoed modes b port silent =
     after_echo-nil modes port ∙ sym (ap (λ e. after_echo modes (cond e (shown_bytes modes b) []) port) silent)
 
@@ -55,21 +61,37 @@ shown_plainly modes b low high =
     ap (λ t. cond (has_flag modes ECHOCTL && t) (94 ∷ bit_xor b 64 ∷ []) (b ∷ [])) control
     ∙ ap (λ t. cond t (94 ∷ bit_xor b 64 ∷ []) (b ∷ [])) (never_both (has_flag modes ECHOCTL))
 
-echoed_as_posted : (modes : Settings) (b : ℕ) (tty : NTtyState) (output : Output) (tally : Tally) → has_flag modes ECHO ≡ true → 32 ≤ b → b ≤ 126
-    → on_port (record tty { column = column_after_try modes output tty.column (posted_bytes modes tty.column b) }) (after_try output (posted_bytes modes tty.column b)) (tally_after_try output (posted_bytes modes tty.column b) tally)
+echoed_as_posted : (modes : Settings) (b : ℕ) (tty : NTtyState) (output : Output) (tally : Tally)
+    → has_flag modes ECHO ≡ true
+    → 32 ≤ b
+    → b ≤ 126
+    → on_port (record tty { column = column_after_try modes output tty.column (posted_bytes modes tty.column b) })
+    (after_try output (posted_bytes modes tty.column b))
+    (tally_after_try output (posted_bytes modes tty.column b) tally)
     ≡ with_echo modes (event.Plain b) (on_port tty output tally)
 echoed_as_posted modes b tty output tally echoes low high =
     let port : OnPort = on_port tty output tally in
-    let text : posted_bytes modes tty.column b ≡ all_posted_bytes modes tty.column (b ∷ []) = sym (append-nil (posted_bytes modes tty.column b)) in
-    ap (λ (text : List ℕ). on_port (record tty { column = column_after_try modes output tty.column text }) (after_try output text) (tally_after_try output text tally)) text
+    let text : posted_bytes modes tty.column b ≡ all_posted_bytes modes tty.column (b ∷ []) =
+    sym (append-nil (posted_bytes modes tty.column b)) in
+    ap (λ (text : List ℕ). on_port (record tty { column = column_after_try modes output tty.column text })
+    (after_try output text) (tally_after_try output text tally)) text
     ∙ ap (λ bytes. after_echo modes bytes port) (sym (shown_plainly modes b low high))
     ∙ ap (λ e. after_echo modes (cond e (shown_bytes modes b) []) port) (sym echoes)
 
 -- what the echo of a printed byte leaves
-pub echoed_plainly : (modes : Settings) (b : ℕ) (tty : NTtyState) (output : Output) (tally : Tally) → has_flag modes ECHO ≡ true → 32 ≤ b → b ≤ 126
-    → on_port (record tty { column = cond (has_room output (b ∷ [])) (tty.column + 1) tty.column }) (after_try output (b ∷ [])) (tally_after_try output (b ∷ []) tally)
+pub echoed_plainly : (modes : Settings) (b : ℕ) (tty : NTtyState) (output : Output) (tally : Tally)
+    → has_flag modes ECHO ≡ true
+    → 32 ≤ b
+    → b ≤ 126
+    → on_port (record tty { column = cond (has_room output (b ∷ [])) (tty.column + 1) tty.column })
+    (after_try output (b ∷ [])) (tally_after_try output (b ∷ []) tally)
     ≡ with_echo modes (event.Plain b) (on_port tty output tally)
 echoed_plainly modes b tty output tally echoes low high =
-    ap (λ (column : ℕ). on_port (record tty { column = cond (has_room output (b ∷ [])) column tty.column }) (after_try output (b ∷ [])) (tally_after_try output (b ∷ []) tally)) (plain_column tty.column b (has_flag modes IUTF8) low high)
-    ∙ ap (λ (text : List ℕ). on_port (record tty { column = column_after_try modes output tty.column text }) (after_try output text) (tally_after_try output text tally)) (plain_posted modes tty.column b low high)
+    ap (λ (column : ℕ). on_port (record tty { column = cond (has_room output (b ∷ [])) column tty.column })
+    (after_try output (b ∷ [])) (tally_after_try output (b ∷ []) tally))
+    (plain_column tty.column b (has_flag modes IUTF8) low high)
+    ∙ ap
+    (λ (text : List ℕ). on_port (record tty { column = column_after_try modes output tty.column text })
+    (after_try output text) (tally_after_try output text tally))
+    (plain_posted modes tty.column b low high)
     ∙ echoed_as_posted modes b tty output tally echoes low high

@@ -22,21 +22,31 @@ abbrev held_by : Output → List ℕ → Output
 held_by output bytes = record output { held = output.held ++ bytes }
 
 -- what is sent, once it is known whether output is halted
-after_send-halted : (output : Output) (bytes : List ℕ) → is_halted output ≡ true → after_send output bytes ≡ held_by output bytes
+after_send-halted : (output : Output) (bytes : List ℕ)
+    → is_halted output ≡ true
+    → after_send output bytes ≡ held_by output bytes
 after_send-halted output bytes halted = ap (λ b. cond b (held_by output bytes) (on_wire output bytes)) halted
 
-after_send-running : (output : Output) (bytes : List ℕ) → is_halted output ≡ false → after_send output bytes ≡ on_wire output bytes
+after_send-running : (output : Output) (bytes : List ℕ)
+    → is_halted output ≡ false
+    → after_send output bytes ≡ on_wire output bytes
 after_send-running output bytes runs = ap (λ b. cond b (held_by output bytes) (on_wire output bytes)) runs
 
 -- a text of no bytes changes nothing
 pub after_send-nil : (output : Output) → after_send output [] ≡ output
 after_send-nil output = elim (cases_Bool (is_halted output)) [
   | inl halted ↦ after_send-halted output [] halted ∙ (λ i. record output { held = append-nil output.held i })
-  | inr runs ↦ after_send-running output [] runs ∙ (λ i. record output { wire = append-nil output.wire i; spare = (let same : output.spare - 0 ≡ output.spare = omega arith in same) i })
+  | inr runs ↦
+      after_send-running output [] runs
+      ∙ (λ i. record output {
+        wire = append-nil output.wire i;
+        spare = (let same : output.spare - 0 ≡ output.spare = omega arith in same) i;
+      })
 ]
 
 -- one text after another is both together
-pub after_send-append : (output : Output) (a b : List ℕ) → after_send output (a ++ b) ≡ after_send (after_send output a) b
+pub after_send-append : (output : Output) (a b : List ℕ)
+    → after_send output (a ++ b) ≡ after_send (after_send output a) b
 after_send-append output a b = elim (cases_Bool (is_halted output)) [
   | inl halted ↦
       after_send-halted output (a ++ b) halted
@@ -46,13 +56,18 @@ after_send-append output a b = elim (cases_Bool (is_halted output)) [
   | inr runs ↦
       let len = length-append a b in
       after_send-running output (a ++ b) runs
-      ∙ (λ i. record output { wire = sym (append_assoc output.wire a b) i; spare = (let same : output.spare - length (a ++ b) ≡ output.spare - length a - length b = omega (arith, len) in same) i })
+      ∙ (λ i. record output {
+        wire = sym (append_assoc output.wire a b) i;
+        spare = (let same : output.spare - length (a ++ b) ≡ output.spare - length a - length b = omega (arith, len) in
+            same) i;
+      })
       ∙ sym (after_send-running (on_wire output a) b runs)
       ∙ sym (ap (λ o. after_send o b) (after_send-running output a runs))
 ]
 
 -- what is sent takes at most its length of the room on the wire
-pub after_send-spare : (output : Output) (bytes : List ℕ) → output.spare ≤ (after_send output bytes).spare + length bytes
+pub after_send-spare : (output : Output) (bytes : List ℕ)
+    → output.spare ≤ (after_send output bytes).spare + length bytes
 after_send-spare output bytes = elim (cases_Bool (is_halted output)) [
   | inl halted ↦ omega (arith, ap (λ o. o.spare) (after_send-halted output bytes halted))
   | inr runs ↦ omega (arith, ap (λ o. o.spare) (after_send-running output bytes runs))
@@ -62,7 +77,9 @@ after_send-spare output bytes = elim (cases_Bool (is_halted output)) [
 has_room-running : (output : Output) (bytes : List ℕ) → is_halted output ≡ false → has_room output bytes ≡ true
 has_room-running output bytes runs = ap (λ b. not b || nat_le (length bytes) (room_of output)) runs
 
-has_room-halted : (output : Output) (bytes : List ℕ) → is_halted output ≡ true → has_room output bytes ≡ nat_le (length bytes) (room_of output)
+has_room-halted : (output : Output) (bytes : List ℕ)
+    → is_halted output ≡ true
+    → has_room output bytes ≡ nat_le (length bytes) (room_of output)
 has_room-halted output bytes halted = ap (λ b. not b || nat_le (length bytes) (room_of output)) halted
 
 -- where a text fits, its front fits, and then its rest
@@ -74,7 +91,9 @@ has_room-front output a b fits = elim (cases_Bool (is_halted output)) [
   | inr runs ↦ has_room-running output a runs
 ]
 
-pub has_room-rest : (output : Output) (a b : List ℕ) → has_room output (a ++ b) ≡ true → has_room (after_send output a) b ≡ true
+pub has_room-rest : (output : Output) (a b : List ℕ)
+    → has_room output (a ++ b) ≡ true
+    → has_room (after_send output a) b ≡ true
 has_room-rest output a b fits = elim (cases_Bool (is_halted output)) [
   | inl halted ↦
       let within = leb-true (length (a ++ b)) (room_of output) (sym (has_room-halted output (a ++ b) halted) ∙ fits) in
@@ -90,17 +109,24 @@ column_after_byte-le column s = grind (arith, nat_tests)
 
 pub column_after-le : (column : ℕ) (text : List PostedByte) → column_after column text ≤ column + 8 * length text
 column_after-le column [] = omega arith
-column_after-le column (s ∷ text) = omega (arith, column_after_byte-le column s, column_after-le (column_after_byte column s) text)
+column_after-le column (s ∷ text) =
+    omega (arith, column_after_byte-le column s, column_after-le (column_after_byte column s) text)
 
 pub column_past_text-append : (modes : Settings) (column : ℕ) (a b : List ℕ)
     → column_past_text modes column (a ++ b) ≡ column_past_text modes (column_past_text modes column a) b
 column_past_text-append modes column [] b = refl
-column_past_text-append modes column (x ∷ a) b = column_past_text-append modes (column_past_text modes column (x ∷ [])) a b
+column_past_text-append modes column (x ∷ a) b =
+    column_past_text-append modes (column_past_text modes column (x ∷ [])) a b
 
-pub column_past_text-le : (modes : Settings) (column : ℕ) (text : List ℕ) → column_past_text modes column text ≤ column + 8 * length text
+pub column_past_text-le : (modes : Settings) (column : ℕ) (text : List ℕ)
+    → column_past_text modes column text ≤ column + 8 * length text
 column_past_text-le modes column [] = omega arith
 column_past_text-le modes column (x ∷ text) =
-    omega (arith, column_past_text-le modes (column_past_text modes column (x ∷ [])) text, column_after-le column (posted_text_under modes (x ∷ [])))
+    omega (
+      arith,
+      column_past_text-le modes (column_past_text modes column (x ∷ [])) text,
+      column_after-le column (posted_text_under modes (x ∷ [])),
+    )
 
 -- the text of the bytes from a place on is the piece of the first of them, and the text of the rest
 pub all_posted_bytes-more : (modes : Settings) (column column' : ℕ) (bytes piece : List ℕ) (i : ℕ) → i < length bytes
@@ -113,17 +139,23 @@ all_posted_bytes-more modes column column' bytes piece i within is_piece is_colu
     ∙ ap (λ k. piece ++ all_posted_bytes modes k rest) (sym is_column)
 
 -- what fits is sent
-pub after_try-fits : (output : Output) (text : List ℕ) → has_room output text ≡ true → after_try output text ≡ after_send output text
+pub after_try-fits : (output : Output) (text : List ℕ)
+    → has_room output text ≡ true
+    → after_try output text ≡ after_send output text
 after_try-fits output text fits = ap (λ b. cond b (after_send output text) output) fits
 
 -- an echo that fits is posted, and one that does not is counted
-pub column_after_try-fits : (modes : Settings) (output : Output) (column : ℕ) (text : List ℕ) → has_room output text ≡ true
+pub column_after_try-fits : (modes : Settings) (output : Output) (column : ℕ) (text : List ℕ)
+    → has_room output text ≡ true
     → column_after_try modes output column text ≡ column_past_text modes column text
-column_after_try-fits modes output column text = cond-true (has_room output text) (column_past_text modes column text) column
+column_after_try-fits modes output column text =
+    cond-true (has_room output text) (column_past_text modes column text) column
 
-pub column_after_try-full : (modes : Settings) (output : Output) (column : ℕ) (text : List ℕ) → has_room output text ≡ false
+pub column_after_try-full : (modes : Settings) (output : Output) (column : ℕ) (text : List ℕ)
+    → has_room output text ≡ false
     → column_after_try modes output column text ≡ column
-column_after_try-full modes output column text = cond-false (has_room output text) (column_past_text modes column text) column
+column_after_try-full modes output column text =
+    cond-false (has_room output text) (column_past_text modes column text) column
 
 pub after_try-full : (output : Output) (text : List ℕ) → has_room output text ≡ false → after_try output text ≡ output
 after_try-full output text = cond-false (has_room output text) (after_send output text) output
@@ -131,7 +163,9 @@ after_try-full output text = cond-false (has_room output text) (after_send outpu
 abbrev pub with_echo_counted : Tally → ℕ → Tally
 with_echo_counted tally count = record tally { counts = with_count tally.counts Echo count }
 
-pub tally_after_try-fits : (output : Output) (text : List ℕ) (tally : Tally) → has_room output text ≡ true → tally_after_try output text tally ≡ tally
+pub tally_after_try-fits : (output : Output) (text : List ℕ) (tally : Tally)
+    → has_room output text ≡ true
+    → tally_after_try output text tally ≡ tally
 tally_after_try-fits output text tally = cond-true (has_room output text) tally (with_echo_counted tally (length text))
 
 pub tally_after_try-full : (output : Output) (text : List ℕ) (tally : Tally) → has_room output text ≡ false

@@ -1,5 +1,6 @@
 -- Where a character is accepted, there is room for what it is stored as.
-use Rattle.std.proofs.Common.{◌≡◌, ℕ, ◌+◌, ◌≤◌, ◌<◌, true, false, ◌⊎◌, inl, inr, List, [], ◌∷◌, length, sym, ◌∙◌, arith, nat_lt, nat_le, not, ◌&&◌, ◌||◌, refl}
+use Rattle.std.proofs.Common.{◌≡◌, ℕ, ◌+◌, ◌≤◌, ◌<◌, true, false, ◌⊎◌, inl, inr, List, [], ◌∷◌}
+use Rattle.std.proofs.Common.{length, sym, ◌∙◌, arith, nat_lt, nat_le, not, ◌&&◌, ◌||◌, refl}
 use Rattle.std.proofs.lemmas.Bool.{and_parts, or_cases, cases_Bool, ltb-true, leb-true, true≢false}
 use Rattle.std.proofs.lemmas.Bool.Decides.{nat_tests}
 use Rattle.tty_modes.specs.Settings.{Settings, has_flag}
@@ -39,7 +40,10 @@ accepting_cases modes tty accepting =
     ]
 
 -- without canonical mode there is room for all that a character is stored as
-pub room_plain : (modes : Settings) (tty : NTtyState) (k : ℕ) → is_accepting modes tty ≡ true → has_flag modes ICANON ≡ false → k ≤ most_stored modes
+pub room_plain : (modes : Settings) (tty : NTtyState) (k : ℕ)
+    → is_accepting modes tty ≡ true
+    → has_flag modes ICANON ≡ false
+    → k ≤ most_stored modes
     → unread_count tty + k ≤ 4096
 room_plain modes tty k accepting plain few = elim (accepting_cases modes tty accepting) [
   | inl within ↦ omega (arith, within, most_fits modes, few)
@@ -47,12 +51,17 @@ room_plain modes tty k accepting plain few = elim (accepting_cases modes tty acc
 ]
 
 -- where the line has room, so has the whole
-pub room_line : (modes : Settings) (tty : NTtyState) (k : ℕ) → is_accepting modes tty ≡ true → FitsModes modes tty → k ≤ most_stored modes
-    → length tty.edit + k ≤ 4096 → unread_count tty + k ≤ 4096
+pub room_line : (modes : Settings) (tty : NTtyState) (k : ℕ)
+    → is_accepting modes tty ≡ true
+    → FitsModes modes tty
+    → k ≤ most_stored modes
+    → length tty.edit + k ≤ 4096
+    → unread_count tty + k ≤ 4096
 room_line modes tty k accepting fits few line = elim (accepting_cases modes tty accepting) [
   | inl within ↦ omega (arith, within, most_fits modes, few)
   | inr free ↦ omega (arith, line, no_bytes tty.items (fits.ended free.0) free.1)
 ]
 
 pub one_stored : (modes : Settings) → 1 ≤ most_stored modes
-one_stored modes = elim (cases_Bool (has_flag modes PARMRK)) [ inl on ↦ rw on (omega arith) | inr off ↦ rw off (omega arith) ]
+one_stored modes =
+    elim (cases_Bool (has_flag modes PARMRK)) [ inl on ↦ rw on (omega arith) | inr off ↦ rw off (omega arith) ]

@@ -1,10 +1,12 @@
 -- Bytes that are stored, and the ends of pieces.
-use Rattle.std.proofs.Common.{◌≡◌, ℕ, ◌+◌, ◌<◌, cond, List, [], ◌∷◌, ◌++◌, length, map, ap, ◌∙◌, arith, length-append, le-leb}
+use Rattle.std.proofs.Common.{◌≡◌, ℕ, ◌+◌, ◌<◌, cond, List, [], ◌∷◌, ◌++◌}
+use Rattle.std.proofs.Common.{length, map, ap, ◌∙◌, arith, length-append, le-leb}
 use Rattle.n_tty_edit.specs.Line.{AddBytes, after_change}
 use Rattle.line_store.specs.Unread.{Item, Byte, bytes_of, end_count}
 use Rattle.line_store.proofs.ItemLemmas.{bytes_of-append, bytes_of-plain, end_count-append, end_count-plain}
 
-pub length-bytes_of-plain : (items : List Item) (bytes : List ℕ) → length (bytes_of (items ++ map Byte bytes)) ≡ length (bytes_of items) + length bytes
+pub length-bytes_of-plain : (items : List Item) (bytes : List ℕ)
+    → length (bytes_of (items ++ map Byte bytes)) ≡ length (bytes_of items) + length bytes
 length-bytes_of-plain items bytes =
     ap length (bytes_of-append items (map Byte bytes) ∙ ap (λ bs. bytes_of items ++ bs) (bytes_of-plain bytes))
     ∙ length-append (bytes_of items) bytes
@@ -12,7 +14,8 @@ length-bytes_of-plain items bytes =
 pub end_count-with_plain : (items : List Item) (bytes : List ℕ) → end_count (items ++ map Byte bytes) ≡ end_count items
 end_count-with_plain items bytes = omega (arith, end_count-append items (map Byte bytes), end_count-plain bytes)
 
-pub length-bytes_of-byte : (items : List Item) (b : ℕ) → length (bytes_of (items ++ Byte b ∷ [])) ≡ length (bytes_of items) + 1
+pub length-bytes_of-byte : (items : List Item) (b : ℕ)
+    → length (bytes_of (items ++ Byte b ∷ [])) ≡ length (bytes_of items) + 1
 length-bytes_of-byte items b = ap length (bytes_of-append items (Byte b ∷ [])) ∙ length-append (bytes_of items) (b ∷ [])
 
 pub end_count-byte : (items : List Item) (b : ℕ) → end_count (items ++ Byte b ∷ []) ≡ end_count items
@@ -20,7 +23,8 @@ end_count-byte items b = omega (arith, end_count-append items (Byte b ∷ []))
 
 -- a line that becomes a piece brings its bytes, and its delimiter
 pub length-bytes_of-piece : (items : List Item) (line : List ℕ) (tail : List Item)
-    → length (bytes_of (items ++ (map Byte line ++ tail))) ≡ length (bytes_of items) + (length line + length (bytes_of tail))
+    → length (bytes_of (items ++ (map Byte line ++ tail)))
+    ≡ length (bytes_of items) + (length line + length (bytes_of tail))
 length-bytes_of-piece items line tail =
     ap length (bytes_of-append items (map Byte line ++ tail))
     ∙ length-append (bytes_of items) (bytes_of (map Byte line ++ tail))
@@ -30,6 +34,9 @@ length-bytes_of-piece items line tail =
     )
 
 -- a byte joins a line that has room for it
-pub length-joined : (line : List ℕ) (b : ℕ) → length line < 4095 → length (after_change line (AddBytes (b ∷ []))) ≡ length line + 1
+pub length-joined : (line : List ℕ) (b : ℕ)
+    → length line < 4095
+    → length (after_change line (AddBytes (b ∷ []))) ≡ length line + 1
 length-joined line b room =
-    ap (λ t. length (cond t (line ++ b ∷ []) line)) (le-leb (length line + length (b ∷ [])) 4095 (omega arith)) ∙ length-append line (b ∷ [])
+    ap (λ t. length (cond t (line ++ b ∷ []) line)) (le-leb (length line + length (b ∷ [])) 4095 (omega arith))
+    ∙ length-append line (b ∷ [])

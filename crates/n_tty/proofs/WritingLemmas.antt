@@ -14,7 +14,9 @@ use Rattle.n_tty.proofs.PostingLemmas.{column_past_text-append}
 
 -- what is posted for bytes after others, at the column that those left
 pub all_posted_bytes-append : (modes : Settings) (column : ℕ) (a b : List ℕ)
-    → all_posted_bytes modes column (a ++ b) ≡ all_posted_bytes modes column a ++ all_posted_bytes modes (column_past_text modes column (all_posted_bytes modes column a)) b
+    → all_posted_bytes modes column (a ++ b)
+    ≡ all_posted_bytes modes column a
+    ++ all_posted_bytes modes (column_past_text modes column (all_posted_bytes modes column a)) b
 all_posted_bytes-append modes column [] b = refl
 all_posted_bytes-append modes column (x ∷ a) b =
     let piece = posted_bytes modes column x in
@@ -25,8 +27,10 @@ all_posted_bytes-append modes column (x ∷ a) b =
     ∙ ap (λ k. (piece ++ text) ++ all_posted_bytes modes k b) (sym (column_past_text-append modes column piece text))
 
 -- the text of one byte more
-pub all_posted_bytes-next : (modes : Settings) (column column' : ℕ) (bytes piece : List ℕ) (i : ℕ) → i < length bytes
-    → column' ≡ column_past_text modes column (all_posted_bytes modes column (take i bytes)) → piece ≡ posted_bytes modes column' (get_or bytes i 0)
+pub all_posted_bytes-next : (modes : Settings) (column column' : ℕ) (bytes piece : List ℕ) (i : ℕ)
+    → i < length bytes
+    → column' ≡ column_past_text modes column (all_posted_bytes modes column (take i bytes))
+    → piece ≡ posted_bytes modes column' (get_or bytes i 0)
     → all_posted_bytes modes column (take (i + 1) bytes) ≡ all_posted_bytes modes column (take i bytes) ++ piece
 all_posted_bytes-next modes column column' bytes piece i within is_column is_piece =
     let text = all_posted_bytes modes column (take i bytes) in
@@ -37,24 +41,35 @@ all_posted_bytes-next modes column column' bytes piece i within is_column is_pie
     ∙ ap (λ t. text ++ t) (append-nil (posted_bytes modes column' b) ∙ sym is_piece)
 
 -- where the first byte fits, one more than of the rest fits
-pub fitting_count-more : (modes : Settings) (column column' : ℕ) (output output' : Output) (bytes piece : List ℕ) (i : ℕ) → i < length bytes
-    → piece ≡ posted_bytes modes column (get_or bytes i 0) → has_room output piece ≡ true
-    → column' ≡ column_past_text modes column piece → output' ≡ after_send output piece
+pub fitting_count-more : (modes : Settings) (column column' : ℕ) (output output' : Output) (bytes piece : List ℕ)
+    (i : ℕ)
+    → i < length bytes
+    → piece ≡ posted_bytes modes column (get_or bytes i 0)
+    → has_room output piece ≡ true
+    → column' ≡ column_past_text modes column piece
+    → output' ≡ after_send output piece
     → fitting_count modes column output (drop i bytes) ≡ suc (fitting_count modes column' output' (drop (i + 1) bytes))
 fitting_count-more modes column column' output output' bytes piece i within is_piece fits is_column is_output =
     let rest = drop (i + 1) bytes in
     ap (fitting_count modes column output) (drop_more bytes i 0 within)
-    ∙ ap (λ p. cond (has_room output p) (suc (fitting_count modes (column_past_text modes column p) (after_send output p) rest)) 0) (sym is_piece)
-    ∙ cond-true (has_room output piece) (suc (fitting_count modes (column_past_text modes column piece) (after_send output piece) rest)) 0 fits
+    ∙ ap
+    (λ p.
+    cond (has_room output p) (suc (fitting_count modes (column_past_text modes column p) (after_send output p) rest)) 0)
+    (sym is_piece)
+    ∙ cond-true (has_room output piece)
+    (suc (fitting_count modes (column_past_text modes column piece) (after_send output piece) rest)) 0 fits
     ∙ ap (λ k. suc (fitting_count modes k (after_send output piece) rest)) (sym is_column)
     ∙ ap (λ o. suc (fitting_count modes column' o rest)) (sym is_output)
 
 -- no more fit than there are
-pub fitting_count-le : (modes : Settings) (column : ℕ) (output : Output) (bytes : List ℕ) → fitting_count modes column output bytes ≤ length bytes
+pub fitting_count-le : (modes : Settings) (column : ℕ) (output : Output) (bytes : List ℕ)
+    → fitting_count modes column output bytes ≤ length bytes
 fitting_count-le modes column output [] = omega arith
 fitting_count-le modes column output (b ∷ bytes) =
     let text = posted_bytes modes column b in
-    cond_both (has_room output text) (suc (fitting_count modes (column_past_text modes column text) (after_send output text) bytes)) 0 (λ n. n ≤ suc (length bytes))
+    cond_both (has_room output text)
+    (suc (fitting_count modes (column_past_text modes column text) (after_send output text) bytes)) 0
+    (λ n. n ≤ suc (length bytes))
     (λ _. omega (arith, fitting_count-le modes (column_past_text modes column text) (after_send output text) bytes))
     (λ _. omega arith)
 
@@ -64,14 +79,21 @@ pub piece_text-is : (modes : Settings) (tty : NTtyState) (output : Output) (byte
     → all_posted_bytes modes column (take count piece) ≡ piece_text modes tty output bytes
 piece_text-is modes tty output bytes piece column count is_column is_piece is_count =
     let size : count ≡ piece_size modes tty output bytes =
-    is_count ∙ ap (fitting_count modes column output) is_piece ∙ ap (λ k. fitting_count modes k output (take 64 bytes)) is_column in
+    is_count
+    ∙ ap (fitting_count modes column output) is_piece
+    ∙ ap (λ k. fitting_count modes k output (take 64 bytes)) is_column in
     let within = fitting_count-le modes tty.column output (take 64 bytes) in
     let front : take count piece ≡ take (piece_size modes tty output bytes) bytes =
-    ap (take count) is_piece ∙ take-take count 64 bytes (omega (arith, size, within, length-take 64 bytes)) ∙ ap (λ n. take n bytes) size in
-    ap (all_posted_bytes modes column) front ∙ ap (λ k. all_posted_bytes modes k (take (piece_size modes tty output bytes) bytes)) is_column
+    ap (take count) is_piece
+    ∙ take-take count 64 bytes (omega (arith, size, within, length-take 64 bytes))
+    ∙ ap (λ n. take n bytes) size in
+    ap (all_posted_bytes modes column) front
+    ∙ ap (λ k. all_posted_bytes modes k (take (piece_size modes tty output bytes) bytes)) is_column
 
 -- where output is not halted the first byte fits
-pub flowing_fits : (modes : Settings) (column : ℕ) (output : Output) (bytes : List ℕ) → 0 < length bytes → is_halted output ≡ false
+pub flowing_fits : (modes : Settings) (column : ℕ) (output : Output) (bytes : List ℕ)
+    → 0 < length bytes
+    → is_halted output ≡ false
     → true ≡ nat_lt 0 (fitting_count modes column output bytes)
 flowing_fits modes column output [] some flows = absurd (omega (arith, some))
 flowing_fits modes column output (b ∷ bytes) some flows =

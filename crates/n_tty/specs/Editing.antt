@@ -16,7 +16,8 @@ use Rattle.n_tty.specs.Posting.{after_echo}
 abbrev pub echo_of_gone : Settings → EraseKind → (start : ℕ) → (kept gone : List ℕ) → List ℕ
 echo_of_gone modes kind start kept [] = []
 echo_of_gone modes kind start kept (byte ∷ gone) =
-    echo_of_gone modes kind start (kept ++ byte ∷ []) gone ++ echo_of modes (event.Erased kind byte (width_of modes start kept byte))
+    echo_of_gone modes kind start (kept ++ byte ∷ []) gone
+    ++ echo_of modes (event.Erased kind byte (width_of modes start kept byte))
 
 -- the echo of a WERASE
 abbrev pub echo_of_word_erase : Settings → NTtyState → List ℕ
@@ -44,8 +45,10 @@ after_erase modes port =
 
 -- WERASE removes the last word and what follows it
 abbrev pub after_word_erase : Settings → OnPort → OnPort
-after_word_erase modes port = after_echo modes (echo_of_word_erase modes port.tty) (with_line (after_change port.tty.edit EraseWord) port)
+after_word_erase modes port =
+    after_echo modes (echo_of_word_erase modes port.tty) (with_line (after_change port.tty.edit EraseWord) port)
 
 -- KILL removes the line
 abbrev pub after_kill : Settings → OnPort → OnPort
-after_kill modes port = after_echo modes (echo_of_kill modes port.tty.start port.tty.edit) (with_line (after_change port.tty.edit Clear) port)
+after_kill modes port = after_echo modes (echo_of_kill modes port.tty.start port.tty.edit)
+    (with_line (after_change port.tty.edit Clear) port)

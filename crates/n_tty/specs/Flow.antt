@@ -1,5 +1,6 @@
 -- Signals, and flow control of the input (termios(3), ISIG, NOFLSH, IXON and IXOFF).
-use Rattle.std.specs.Prelude.{ℕ, ◌-◌, Bool, true, false, not, ◌&&◌, ◌||◌, ◌==◌, nat_le, nat_lt, [], ◌∷◌, ◌++◌, if◌then◌else◌}
+use Rattle.std.specs.Prelude.{ℕ, ◌-◌, Bool, true, false, not, ◌&&◌, ◌||◌, ◌==◌}
+use Rattle.std.specs.Prelude.{nat_le, nat_lt, [], ◌∷◌, ◌++◌, if◌then◌else◌}
 use Rattle.tty_base.specs.declared.counters.Signal.{Signal}
 use Rattle.tty_modes.specs.Settings.{Settings, has_flag, character}
 use Rattle.tty_modes.specs.declared.places.TheConstants.{ICANON, IXOFF, NOFLSH, VSTART, VSTOP}

@@ -17,7 +17,8 @@ column_past_text modes column text = column_after column (posted_text_under mode
 abbrev pub all_posted_bytes : Settings → (column : ℕ) → List ℕ → List ℕ
 all_posted_bytes modes column [] = []
 all_posted_bytes modes column (byte ∷ bytes) =
-    posted_bytes modes column byte ++ all_posted_bytes modes (column_past_text modes column (posted_bytes modes column byte)) bytes
+    posted_bytes modes column byte
+    ++ all_posted_bytes modes (column_past_text modes column (posted_bytes modes column byte)) bytes
 
 -- the text that is posted for an echo
 abbrev pub posted_echo : Settings → OnPort → List ℕ → List ℕ
@@ -37,5 +38,6 @@ tally_after_try output text tally =
 abbrev pub after_echo : Settings → (echo : List ℕ) → OnPort → OnPort
 after_echo modes echo port =
     let text = posted_echo modes port echo in
-    on_port (record port.tty { column = column_after_try modes port.output port.tty.column text }) (after_try port.output text)
+    on_port (record port.tty { column = column_after_try modes port.output port.tty.column text })
+    (after_try port.output text)
     (tally_after_try port.output text port.tally)

@@ -15,7 +15,9 @@ bytes_read modes n tty =
 -- what stays unread after it
 abbrev pub after_read : Settings → (n : ℕ) → NTtyState → NTtyState
 after_read modes n tty =
-    record tty { items = if has_flag modes ICANON then after_line (read_size n) tty.items else drop (read_size n) tty.items }
+    record tty {
+      items = if has_flag modes ICANON then after_line (read_size n) tty.items else drop (read_size n) tty.items;
+    }
 
 -- a read that must not wait, out of canonical mode: it has something to give, or is asked for nothing by MIN and TIME
 abbrev pub is_ready_now : Settings → NTtyState → Bool

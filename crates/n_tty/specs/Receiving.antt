@@ -1,12 +1,14 @@
 -- Receiving a character (termios(3), input modes).
-use Rattle.std.specs.Prelude.{ℕ, ◌%◌, Bool, true, false, not, ◌&&◌, ◌==◌, Option, None, Some, List, [], ◌∷◌, if◌then◌else◌}
+use Rattle.std.specs.Prelude.{ℕ, ◌%◌, Bool, true, false, not, ◌&&◌, ◌==◌}
+use Rattle.std.specs.Prelude.{Option, None, Some, List, [], ◌∷◌, if◌then◌else◌}
 use Rattle.tty_base.specs.declared.characters.Flag.{Flag}
 use Rattle.tty_base.specs.declared.characters.Flag.TheVariants as flag
 use Rattle.tty_base.specs.declared.characters.Flagged.{Flagged}
 use Rattle.tty_base.specs.declared.counters.Signal.{Signal}
 use Rattle.tty_base.specs.declared.counters.Signal.TheVariants.{Int}
 use Rattle.tty_modes.specs.Settings.{Settings, has_flag}
-use Rattle.tty_modes.specs.declared.places.TheConstants.{IGNBRK, BRKINT, IGNPAR, PARMRK, INPCK, ISTRIP, IXON, IXANY, ICANON, VSTART, VSTOP}
+use Rattle.tty_modes.specs.declared.places.TheConstants.{IGNBRK, BRKINT, IGNPAR, PARMRK, INPCK}
+use Rattle.tty_modes.specs.declared.places.TheConstants.{ISTRIP, IXON, IXANY, ICANON, VSTART, VSTOP}
 use Rattle.echo_out.specs.Echo.{echo_of}
 use Rattle.echo_out.specs.declared.EchoEvent.{EchoEvent}
 use Rattle.echo_out.specs.declared.EchoEvent.TheVariants as event
@@ -71,7 +73,9 @@ after_role modes now role.Ordinary byte port = after_ordinary modes now byte por
 abbrev pub after_mapped : Settings → (now : ℕ) → Option ℕ → OnPort → OnPort
 after_mapped modes now None port = port
 after_mapped modes now (Some byte) port =
-    if has_flag modes ICANON then after_role modes now (role_of modes byte) byte port else after_ordinary modes now byte port
+    if has_flag modes ICANON
+    then after_role modes now (role_of modes byte) byte port
+    else after_ordinary modes now byte port
 
 -- A character that raises a signal: the signal, what it drops, then output is resumed with ixon, then the echo.
 abbrev pub after_signal_character : Settings → Signal → (byte : ℕ) → OnPort → OnPort
@@ -88,8 +92,10 @@ after_unsteered modes now byte None port = after_mapped modes now (mapped_byte m
 abbrev pub after_unquoted : Settings → (now byte : ℕ) → OnPort → OnPort
 after_unquoted modes now byte port =
     if has_flag modes IXON && is_character modes VSTART byte then after_resume port
-    else if has_flag modes IXON && is_character modes VSTOP byte then record port { output = record port.output { stopped = true } }
-    else after_unsteered modes now byte (signal_of modes byte) (after_resume_where (has_flag modes IXON && has_flag modes IXANY) port)
+    else if has_flag modes IXON && is_character modes VSTOP byte then
+    record port { output = record port.output { stopped = true } }
+    else after_unsteered modes now byte (signal_of modes byte)
+    (after_resume_where (has_flag modes IXON && has_flag modes IXANY) port)
 
 -- istrip clears bit 7
 abbrev pub stripped_byte : Settings → ℕ → ℕ

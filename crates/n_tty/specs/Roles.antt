@@ -7,7 +7,8 @@ use Rattle.tty_modes.specs.declared.places.TheConstants.{ISTRIP, IXON, IXANY, IS
 use Rattle.tty_modes.specs.declared.places.TheConstants.{INLCR, IGNCR, ICRNL, VINTR, VQUIT, VSUSP, VERASE, VKILL}
 use Rattle.tty_modes.specs.declared.places.TheConstants.{VWERASE, VLNEXT, VEOF, VEOL, VEOL2}
 use Rattle.n_tty.specs.declared.roles.Role.{Role}
-use Rattle.n_tty.specs.declared.roles.Role.TheVariants.{Erase, Kill, WordErase, Quote, Newline, Eof, Delimiter, Ordinary}
+use Rattle.n_tty.specs.declared.roles.Role.TheVariants.{Erase, Kill, WordErase, Quote}
+use Rattle.n_tty.specs.declared.roles.Role.TheVariants.{Newline, Eof, Delimiter, Ordinary}
 
 -- whether a byte is the control character at a place; a character of 0 is disabled
 abbrev pub is_character : Settings → (place byte : ℕ) → Bool
@@ -51,7 +52,10 @@ role_of modes byte =
 abbrev pub is_raw : Settings → Bool
 is_raw modes =
     not (has_flag modes ISTRIP) && not (has_flag modes IXON) && not (has_flag modes ISIG) && not (has_flag modes INLCR)
-    && not (has_flag modes IGNCR) && not (has_flag modes ICRNL) && not (has_flag modes ICANON) && not (has_flag modes PARMRK)
+    && not (has_flag modes IGNCR)
+    && not (has_flag modes ICRNL)
+    && not (has_flag modes ICANON)
+    && not (has_flag modes PARMRK)
     && not (has_flag modes ECHO)
 
 -- a byte from blank to tilde that no rule but those of storing and echo concerns

@@ -68,4 +68,5 @@ unread_port count byte = record fresh_port { tty = record fresh_tty { items = ma
 
 -- the wire after the rule for ixoff was applied
 abbrev pub wire_after_rule : Settings → NTtyState → (noted : Bool) → List ℕ
-wire_after_rule modes tty noted = (after_ixoff_rule modes (unread_count tty) (has_piece tty) (record idle_output { noted = noted })).wire
+wire_after_rule modes tty noted =
+    (after_ixoff_rule modes (unread_count tty) (has_piece tty) (record idle_output { noted = noted })).wire

@@ -15,7 +15,8 @@ after_characters modes now (c ∷ cs) port = after_characters modes now cs (afte
 -- each of these is accepted in its turn
 abbrev pub AcceptsAll : Settings → (now : ℕ) → List Flagged → OnPort → Type 0
 AcceptsAll modes now [] port = Unit {0}
-AcceptsAll modes now (c ∷ cs) port = (is_accepting modes port.tty ≡ true) × AcceptsAll modes now cs (after_character modes now c port)
+AcceptsAll modes now (c ∷ cs) port =
+    (is_accepting modes port.tty ≡ true) × AcceptsAll modes now cs (after_character modes now c port)
 
 -- these bytes are unread at once
 abbrev pub after_stored : (now : ℕ) → List ℕ → OnPort → OnPort

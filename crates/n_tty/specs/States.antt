@@ -1,5 +1,6 @@
 -- The line discipline N_TTY, with the port's side that it works on.
-use Rattle.std.specs.Prelude.{◌≡◌, ℕ, ◌+◌, Bool, true, false, not, ◌&&◌, ◌||◌, nat_le, nat_lt, List, [], ◌∷◌, length, if◌then◌else◌}
+use Rattle.std.specs.Prelude.{◌≡◌, ℕ, ◌+◌, Bool, true, false, not, ◌&&◌, ◌||◌}
+use Rattle.std.specs.Prelude.{nat_le, nat_lt, List, [], ◌∷◌, length, if◌then◌else◌}
 use Rattle.tty_base.specs.Sizes.{MOST_ENDS, MOST_TO_ACCEPT, MOST_TO_ACCEPT_MARKED}
 use Rattle.tty_modes.specs.Settings.{Settings, has_flag}
 use Rattle.tty_modes.specs.declared.places.TheConstants.{ICANON, PARMRK}

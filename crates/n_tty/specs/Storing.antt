@@ -17,7 +17,11 @@ start_of (byte ∷ line) start column = start
 -- the bytes of one character join the edited line
 abbrev pub with_line_bytes : (now : ℕ) → List ℕ → NTtyState → NTtyState
 with_line_bytes now bytes tty =
-    record tty { edit = after_change tty.edit (AddBytes bytes); start = start_of tty.edit tty.start tty.column; last = now }
+    record tty {
+      edit = after_change tty.edit (AddBytes bytes);
+      start = start_of tty.edit tty.start tty.column;
+      last = now;
+    }
 
 -- the bytes of one character are unread at once
 abbrev pub with_plain_bytes : (now : ℕ) → List ℕ → NTtyState → NTtyState
@@ -54,7 +58,8 @@ without_input tty = record tty { items = []; edit = []; quoted = false }
 
 -- Canonical mode is left: all that is unread becomes plain, in order.
 abbrev pub with_plain_input : NTtyState → NTtyState
-with_plain_input tty = record tty { items = map Byte (bytes_of tty.items) ++ map Byte tty.edit; edit = []; quoted = false }
+with_plain_input tty =
+    record tty { items = map Byte (bytes_of tty.items) ++ map Byte tty.edit; edit = []; quoted = false }
 
 -- plain bytes, if any, become one piece that ends with an EOF mark
 abbrev pub plain_piece : List Item → List Item

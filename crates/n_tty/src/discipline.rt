@@ -1,12 +1,14 @@
 //! N_TTY as a value: what it receives, what a read takes and a write posts, and what new modes and a flush do to it.
 
-ghost use Rattle.std.specs.Prelude.{◌≡◌, ◌+◌, ◌-◌, ◌*◌, ◌%◌, ◌<◌, ◌≤◌, ◌^◌, IfOk, true, not, ◌&&◌, ◌||◌, ◌++◌, length, take, nat_le, nat_lt, if◌then◌else◌};
+ghost use Rattle.std.specs.Prelude.{◌≡◌, ◌+◌, ◌-◌, ◌*◌, ◌%◌, ◌<◌, ◌≤◌, ◌^◌, IfOk, true, not, ◌&&◌};
+ghost use Rattle.std.specs.Prelude.{◌||◌, ◌++◌, length, take, nat_le, nat_lt, if◌then◌else◌};
 ghost use Rattle.tty_base.specs.Sizes.{COUNT_END, MOST_HELD, MOST_UNREAD};
 ghost use Rattle.tty_modes.specs.Settings.{has_flag};
 ghost use Rattle.tty_modes.specs.declared.places.TheConstants.{ICANON};
 ghost use Rattle.line_store.specs.Unread.{end_count};
 ghost use Rattle.flow_control.specs.Output.{after_send};
-ghost use Rattle.n_tty.specs.States.{NTtyState, fresh_tty, on_port, is_accepting, most_unread, unread_count, has_piece, FitsModes};
+ghost use Rattle.n_tty.specs.States.{NTtyState, fresh_tty, on_port, is_accepting};
+ghost use Rattle.n_tty.specs.States.{most_unread, unread_count, has_piece, FitsModes};
 ghost use Rattle.n_tty.specs.Storing.{without_input, after_recast};
 ghost use Rattle.n_tty.specs.Flow.{after_ixoff_rule};
 ghost use Rattle.n_tty.specs.Receiving.{after_character};
@@ -55,9 +57,11 @@ impl Model for NTty {
 
     ghost Value = { NTtyState };
 
-    ghost view = { λ t. record { items = t.store; edit = t.edit; start = t.start; quoted = t.quoted; last = t.last; column = t.out } };
+    ghost view = { λ t.
+        record { items = t.store; edit = t.edit; start = t.start; quoted = t.quoted; last = t.last; column = t.out } };
 
-    ghost invariant = { λ t. record { within : length (bytes_of t.store) + length t.edit ≤ MOST_UNREAD; line : length t.edit ≤ MOST_LINE } };
+    ghost invariant = { λ t.
+        record { within : length (bytes_of t.store) + length t.edit ≤ MOST_UNREAD; line : length t.edit ≤ MOST_LINE } };
 }
 
 impl Moves for NTty {}

@@ -48,10 +48,12 @@ fn post_erased(
     requires kind { (kind ≡ EraseKind.Word) ⊎ (kind ≡ EraseKind.Kill) }
     requires column { out.old < COUNT_END }
     requires spare { 8 * length edit.now ≤ wire.old.spare }
-    requires room { has_room wire.old (echo_of_gone modes.now kind start (take from edit.now) (drop from edit.now)) ≡ true }
+    requires room { has_room wire.old
+        (echo_of_gone modes.now kind start (take from edit.now) (drop from edit.now)) ≡ true }
     ensures column { out.new ≡ column_past_text modes.now out.old
         (echo_of_gone modes.now kind start (take from edit.now) (drop from edit.now)) }
-    ensures wire { wire.new ≡ after_send wire.old (echo_of_gone modes.now kind start (take from edit.now) (drop from edit.now)) }
+    ensures wire { wire.new
+        ≡ after_send wire.old (echo_of_gone modes.now kind start (take from edit.now) (drop from edit.now)) }
 {
     let line = edit.bytes();
     let mut i = line.len();
@@ -82,12 +84,17 @@ pub fn echo_erased(
     requires kind { (kind ≡ EraseKind.Word) ⊎ (kind ≡ EraseKind.Kill) }
     requires column { out.old < COUNT_END }
     requires spare { 8 * length edit.now ≤ wire.old.spare }
-    ensures column { out.new ≡ column_after_try modes.now wire.old out.old
-        (all_posted_bytes modes.now out.old (echo_of_gone modes.now kind start (take from edit.now) (drop from edit.now))) }
-    ensures wire { wire.new ≡ after_try wire.old
-        (all_posted_bytes modes.now out.old (echo_of_gone modes.now kind start (take from edit.now) (drop from edit.now))) }
-    ensures tally { tally.new ≡ tally_after_try wire.old
-        (all_posted_bytes modes.now out.old (echo_of_gone modes.now kind start (take from edit.now) (drop from edit.now))) tally.old }
+    ensures column { out.new
+        ≡ column_after_try modes.now wire.old out.old
+        (all_posted_bytes modes.now out.old
+        (echo_of_gone modes.now kind start (take from edit.now) (drop from edit.now))) }
+    ensures wire { wire.new
+        ≡ after_try wire.old (all_posted_bytes modes.now out.old
+        (echo_of_gone modes.now kind start (take from edit.now) (drop from edit.now))) }
+    ensures tally { tally.new
+        ≡ tally_after_try wire.old
+        (all_posted_bytes modes.now out.old
+        (echo_of_gone modes.now kind start (take from edit.now) (drop from edit.now))) tally.old }
 {
     let count = erased_len(edit, kind, from, start, modes);
     if has_room(count, wire) {

@@ -14,7 +14,8 @@ ghost use Rattle.n_tty.specs.Writing.{piece_size, piece_text, after_write};
 /// does.
 pub fn room_makes_no_difference()
     ensures character { (modes : Settings) (now : ℕ) (c : Flagged) → PortIgnoresRoom (after_character modes now c) }
-    ensures rule { (modes : Settings) (unread : ℕ) (complete : Bool) → IgnoresRoom (after_ixoff_rule modes unread complete) }
+    ensures rule { (modes : Settings) (unread : ℕ) (complete : Bool)
+        → IgnoresRoom (after_ixoff_rule modes unread complete) }
     ensures size { (modes : Settings) (tty : NTtyState) (output : Output) (bytes : List ℕ) →
         piece_size modes tty (without_room output) bytes ≡ piece_size modes tty output bytes }
     ensures text { (modes : Settings) (tty : NTtyState) (output : Output) (bytes : List ℕ) →

@@ -1,6 +1,7 @@
 //! Posting bytes: output processing at the column, and echo that is posted whole or dropped whole.
 
-ghost use Rattle.std.specs.Prelude.{◌≡◌, ◌+◌, ◌*◌, ◌<◌, ◌≤◌, ◌^◌, ℕ, List, [], ◌∷◌, true, length, if◌then◌else◌, nat_lt, slice_index, take, drop};
+ghost use Rattle.std.specs.Prelude.{◌≡◌, ◌+◌, ◌*◌, ◌<◌, ◌≤◌, ◌^◌, ℕ, List, [], ◌∷◌, true};
+ghost use Rattle.std.specs.Prelude.{length, if◌then◌else◌, nat_lt, slice_index, take, drop};
 ghost use Rattle.tty_base.specs.Sizes.{COUNT_END, PIECE};
 ghost use Rattle.opost_out.specs.Posted.{posted_bytes};
 ghost use Rattle.flow_control.specs.Output.{has_room, after_send, after_try};
@@ -34,7 +35,8 @@ pub fn post_fitting(out: &mut Out, bytes: &[u8], modes: &Modes, wire: &mut Wire)
     requires short { length bytes.now ≤ PIECE }
     requires spare { 512 ≤ wire.old.spare }
     ensures count { result ≡ fitting_count modes.now out.old wire.old bytes.now }
-    ensures column { out.new ≡ column_past_text modes.now out.old (all_posted_bytes modes.now out.old (take result bytes.now)) }
+    ensures column { out.new
+        ≡ column_past_text modes.now out.old (all_posted_bytes modes.now out.old (take result bytes.now)) }
     ensures wire { wire.new ≡ after_send wire.old (all_posted_bytes modes.now out.old (take result bytes.now)) }
 {
     let mut count = 0;
@@ -58,9 +60,13 @@ fn post_run(out: &mut Out, bytes: &[u8], modes: &Modes, wire: &mut Wire) -> usiz
     ensures within { result ≤ length bytes.now }
     ensures none { result ≡ 0 → fitting_count modes.now out.old wire.old bytes.now ≡ 0 }
     ensures same { result ≡ 0 → (out.new ≡ out.old) × (wire.new ≡ wire.old) }
-    ensures fitting { 0 < result → fitting_count modes.now out.old wire.old bytes.now ≡ result + fitting_count modes.now out.new wire.new (drop result bytes.now) }
-    ensures column { 0 < result → out.new ≡ column_past_text modes.now out.old (all_posted_bytes modes.now out.old (take result bytes.now)) }
-    ensures wire { 0 < result → wire.new ≡ after_send wire.old (all_posted_bytes modes.now out.old (take result bytes.now)) }
+    ensures fitting { 0 < result
+        → fitting_count modes.now out.old wire.old bytes.now
+        ≡ result + fitting_count modes.now out.new wire.new (drop result bytes.now) }
+    ensures column { 0 < result
+        → out.new ≡ column_past_text modes.now out.old (all_posted_bytes modes.now out.old (take result bytes.now)) }
+    ensures wire { 0 < result
+        → wire.new ≡ after_send wire.old (all_posted_bytes modes.now out.old (take result bytes.now)) }
     ensures spent { wire.old.spare ≤ wire.new.spare + 8 * result }
     ensures moved { out.new ≤ out.old + 64 * result }
 {
@@ -131,7 +137,8 @@ pub fn echo_bytes(out: &mut Out, echo: &[u8], modes: &Modes, wire: &mut Wire, ta
     requires column { out.old < COUNT_END + 2 ^ 32 }
     requires short { length echo.now ≤ 24 }
     requires spare { length (all_posted_bytes modes.now out.old echo.now) ≤ wire.old.spare }
-    ensures column { out.new ≡ column_after_try modes.now wire.old out.old (all_posted_bytes modes.now out.old echo.now) }
+    ensures column { out.new
+        ≡ column_after_try modes.now wire.old out.old (all_posted_bytes modes.now out.old echo.now) }
     ensures wire { wire.new ≡ after_try wire.old (all_posted_bytes modes.now out.old echo.now) }
     ensures tally { tally.new ≡ tally_after_try wire.old (all_posted_bytes modes.now out.old echo.now) tally.old }
 {

@@ -1,5 +1,6 @@
 -- The edited line.
-use Rattle.std.specs.Prelude.{ℕ, suc, ◌+◌, ◌-◌, min, Bool, true, false, List, [], ◌++◌, length, take, fold, if◌then◌else◌, nat_le, nat_lt}
+use Rattle.std.specs.Prelude.{ℕ, suc, ◌+◌, ◌-◌, min, Bool, true, false, List, []}
+use Rattle.std.specs.Prelude.{◌++◌, length, take, fold, if◌then◌else◌, nat_le, nat_lt}
 use Rattle.std.specs.List.{suffix_len}
 use Rattle.tty_base.specs.Sizes.{MOST_LINE}
 use Rattle.tty_modes.specs.Utf8.{is_continuation}

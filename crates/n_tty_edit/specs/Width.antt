@@ -1,5 +1,6 @@
 -- How many columns a byte of the edited line takes on the screen.
-use Rattle.std.specs.Prelude.{ℕ, ◌+◌, ◌-◌, ◌%◌, ◌==◌, ◌&&◌, ◌||◌, Option, Some, None, List, [], ◌∷◌, ◌++◌, length, take, drop, fold, if◌then◌else◌, slice_index, nat_lt}
+use Rattle.std.specs.Prelude.{ℕ, ◌+◌, ◌-◌, ◌%◌, ◌==◌, ◌&&◌, ◌||◌, Option, Some, None, List, [], ◌∷◌}
+use Rattle.std.specs.Prelude.{◌++◌, length, take, drop, fold, if◌then◌else◌, slice_index, nat_lt}
 use Rattle.tty_modes.specs.Settings.{Settings, has_flag}
 use Rattle.tty_modes.specs.declared.places.TheConstants.{ECHOCTL, IUTF8}
 use Rattle.n_tty_edit.specs.declared.line.Gone.{Gone}

@@ -1,11 +1,13 @@
 //! The line that is being edited, and what erasing takes from it.
 
-ghost use Rattle.std.specs.Prelude.{◌≡◌, ◌+◌, ◌-◌, ◌<◌, ◌≤◌, ◌↔◌, IsTrue, IfOk, List, [], ◌∷◌, ◌++◌, length, take, slice_index, vec_len, vec_capacity};
+ghost use Rattle.std.specs.Prelude.{◌≡◌, ◌+◌, ◌-◌, ◌<◌, ◌≤◌, ◌↔◌, IsTrue, IfOk, List, [], ◌∷◌};
+ghost use Rattle.std.specs.Prelude.{◌++◌, length, take, slice_index, vec_len, vec_capacity};
 ghost use Rattle.std.specs.List.{AllByRecursion};
 ghost use Rattle.tty_base.specs.Sizes.{MOST_LINE};
 ghost use Rattle.n_tty_edit.specs.Typed.{IsTyped, bytes_in};
 ghost use Rattle.tty_modes.specs.Settings.{has_flag};
-ghost use Rattle.n_tty_edit.specs.Line.{Change, AddBytes, EraseLast, EraseWord, Clear, after_change, edited_line, word_start, erase_size};
+ghost use Rattle.n_tty_edit.specs.Line.{Change, AddBytes, EraseLast, EraseWord, Clear};
+ghost use Rattle.n_tty_edit.specs.Line.{after_change, edited_line, word_start, erase_size};
 ghost use Rattle.n_tty_edit.specs.Width.{width_of, gone_of};
 
 use crate::bytes::Class;

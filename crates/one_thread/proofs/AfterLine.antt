@@ -1,5 +1,6 @@
 -- What comes after the line, from its beginning to the end of the phase.
-use Rattle.std.proofs.Common.{◌≡◌, ◌<◌, ℕ, ◌+◌, List, [], ◌∷◌, ◌++◌, Bool, true, false, not, ◌&&◌, ◌||◌, Option, None, Some, length, map, get_or, append_assoc, refl, sym, ◌∙◌, ap, subst, arith}
+use Rattle.std.proofs.Common.{◌≡◌, ◌<◌, ℕ, ◌+◌, List, [], ◌∷◌, ◌++◌, Bool, true, false, not, ◌&&◌, ◌||◌, Option}
+use Rattle.std.proofs.Common.{None, Some, length, map, get_or, append_assoc, refl, sym, ◌∙◌, ap, subst, arith}
 use Rattle.std.specs.Prelude.{slice_get, slice_index, All, sum, Contains}
 use Rattle.std.proofs.lemmas.List.{append-nil, length-map}
 use Rattle.std.proofs.lemmas.List.Concat.{flat_map-append}
@@ -22,16 +23,20 @@ use Rattle.tty_terminal.specs.Marks.{Marks}
 use Rattle.tty_terminal.specs.Standing.{Standing, standing_of}
 use Rattle.tty_terminal.proofs.Grown.{leads_grown}
 use Rattle.tty_terminal.proofs.Runs.{leads_more}
-use Rattle.journal_check.specs.Legal.{phase_at, name_at, has_script, first_step, steps_in, IsCallerOf, session_events, session_events_in}
+use Rattle.journal_check.specs.Legal.{phase_at, name_at, has_script, first_step, steps_in}
+use Rattle.journal_check.specs.Legal.{IsCallerOf, session_events, session_events_in}
 use Rattle.journal_check.specs.Phases.{HasPlayed}
 use Rattle.port_core.specs.Flips.{after_meeting}
 use Rattle.port_core.specs.Phases.{EndsPhase}
 use Rattle.port_core.specs.Ports.{PortValue, IsPort, call_in, Denies, phase_entry}
 use Rattle.one_thread.specs.Order.{first_place, AreInTurn, IsInTurn, is_waiting, must_wait, is_of_consoles}
 use Rattle.one_thread.specs.Roles.{Scene, calls_in, role_in, AreRolesOf}
-use Rattle.one_thread.specs.Stages.{place_of, HasAnyOrder, HasOneOrder, IsOfSceneIn, AreAtFirst, BeginsRun, IsAfterLineIn, EndsAfterLineIn, StopsAfterLine}
+use Rattle.one_thread.specs.Stages.{place_of, HasAnyOrder, HasOneOrder, IsOfSceneIn, AreAtFirst}
+use Rattle.one_thread.specs.Stages.{BeginsRun, IsAfterLineIn, EndsAfterLineIn, StopsAfterLine}
 use Rattle.one_thread.specs.Acts.{PlayingIn, Playing, PlaysEnd}
-use Rattle.one_thread.specs.Turns.{role_numbers, IsTurn, IsPossible, NoneIs, NothingGoesOn, standing_at, standing_at_rest, IsAtRest, IsInRole, IsAbsent, HasCallers, next_run, HasRuns, PlaysIn, Plays, PlaysOnIn}
+use Rattle.one_thread.specs.Turns.{role_numbers, IsTurn, IsPossible, NoneIs, NothingGoesOn}
+use Rattle.one_thread.specs.Turns.{standing_at, standing_at_rest, IsAtRest, IsInRole, IsAbsent}
+use Rattle.one_thread.specs.Turns.{HasCallers, next_run, HasRuns, PlaysIn, Plays, PlaysOnIn}
 use Rattle.one_thread.specs.declared.roles.Role.{Role}
 use Rattle.one_thread.specs.declared.after_line.Stand.{Stand}
 use Rattle.one_thread.specs.declared.after_line.Turn.TheVariants as turn
@@ -47,7 +52,10 @@ use Rattle.journal_check.proofs.Truths.{all_four}
 
 -- ---- the beginning
 
-first_stands : (s : Scene) (v : PortValue) → AreAtFirst s v.terminal.phase v.terminal → (c : ℕ) → standing_at v c ≡ standing_at_rest (first_step s.port s.session v.terminal.phase c)
+first_stands : (s : Scene) (v : PortValue)
+    → AreAtFirst s v.terminal.phase v.terminal
+    → (c : ℕ)
+    → standing_at v c ≡ standing_at_rest (first_step s.port s.session v.terminal.phase c)
 first_stands s v first c = ap (λ (x : CallerState). standing_of x) (first c)
 
 in_role_at_first : (first count : ℕ) → IsInRole first count (standing_at_rest first)
@@ -61,27 +69,43 @@ in_role_at_first first count =
       rest = λ b. record { waits = refl; parts = refl; taken = refl; generation = refl };
     }
 
-callers_at_first : (s : Scene) (scripts : List Script) (roles : List Role) (v : PortValue) → AreAtFirst s v.terminal.phase v.terminal → AreRolesOf s v.terminal.phase (map (role_in scripts) roles) → HasCallers s scripts roles v None
+callers_at_first : (s : Scene) (scripts : List Script) (roles : List Role) (v : PortValue)
+    → AreAtFirst s v.terminal.phase v.terminal
+    → AreRolesOf s v.terminal.phase (map (role_in scripts) roles)
+    → HasCallers s scripts roles v None
 callers_at_first s scripts roles v first are =
     record {
       are_roles = are;
       in_roles = λ i r is.
           let role = role_of s v.terminal.phase scripts roles i r are is in
-          let stands : standing_at v r.number ≡ standing_at_rest r.first = first_stands s v first r.number ∙ ap (λ (n : ℕ). standing_at_rest n) (sym role.first) in
-          subst (λ (q : Standing). IsInRole r.first (length (calls_in (slice_get scripts r.place))) q) (sym stands) (in_role_at_first r.first _);
+          let stands : standing_at v r.number ≡ standing_at_rest r.first =
+          first_stands s v first r.number ∙ ap (λ (n : ℕ). standing_at_rest n) (sym role.first) in
+          subst (λ (q : Standing). IsInRole r.first (length (calls_in (slice_get scripts r.place))) q) (sym stands)
+          (in_role_at_first r.first _);
       kept = λ c begun. absurd (false≢true (sym (ap (λ (q : Standing). q.begun) (first_stands s v first c)) ∙ begun));
       others = λ c absent. first_stands s v first c;
       goes_on = λ i none. absurd (cc);
-      parts = λ c waits some. let none : (standing_at v c).parts ≡ 0 = ap (λ (q : Standing). q.parts) (first_stands s v first c) in absurd (omega arith);
+      parts = λ c waits some.
+          let none : (standing_at v c).parts ≡ 0 = ap (λ (q : Standing). q.parts) (first_stands s v first c) in
+          absurd (omega arith);
     }
 
-pub run_of_port : {HasOrder : Scene → List PlainEntry → Type 0} (s : Scene) (v : PortValue) → IsOfSceneIn HasOrder s v → IsPort v → IsRunOf s v.journal v.terminal
+pub run_of_port : {HasOrder : Scene → List PlainEntry → Type 0} (s : Scene) (v : PortValue)
+    → IsOfSceneIn HasOrder s v
+    → IsPort v
+    → IsRunOf s v.journal v.terminal
 run_of_port s v scene port =
-    subst (λ (n : ℕ). IsRun (call_at s.port s.session) (counts_on s.port s.session) n v.journal v.terminal) scene.capacity
+    subst (λ (n : ℕ). IsRun (call_at s.port s.session) (counts_on s.port s.session) n v.journal v.terminal)
+    scene.capacity
     (subst (λ (cs : List ℕ). IsRun (call_at s.port s.session) cs v.flip.capacity v.journal v.terminal) scene.counts
-    (leads_grown (call_in v.kept) (call_at s.port s.session) v.counts (opening (sum v.counts) v.flip.capacity) v.journal v.terminal scene.known port.run))
+    (leads_grown (call_in v.kept) (call_at s.port s.session) v.counts (opening (sum v.counts) v.flip.capacity)
+    v.journal v.terminal scene.known port.run))
 
-pub begins : {HasOrder : Scene → List PlainEntry → Type 0} (s : Scene) (scripts : List Script) (roles : List Role) (v : PortValue) (ticks run : ℕ) → IsAfterLineIn HasOrder s v run → AreRolesOf s v.terminal.phase (map (role_in scripts) roles) → IsPort v
+pub begins : {HasOrder : Scene → List PlainEntry → Type 0} (s : Scene) (scripts : List Script) (roles : List Role)
+    (v : PortValue) (ticks run : ℕ)
+    → IsAfterLineIn HasOrder s v run
+    → AreRolesOf s v.terminal.phase (map (role_in scripts) roles)
+    → IsPort v
     → PlayingIn HasOrder s scripts roles v v ticks (record { run = run; part = 0; ticks = ticks; going = None })
 begins s scripts roles v ticks run h are port =
     let few = h.begins_run.few in
@@ -92,7 +116,13 @@ begins s scripts roles v ticks run h are port =
         within = h.within;
         line = h.line;
         clock = λ over. absurd (false≢true (sym h.clock ∙ over));
-        runs = record { follows = h.begins_run.follows; one = λ lt. absurd (omega arith); below = h.begins_run.below; few = omega arith; after_flush = h.no_flush };
+        runs = record {
+          follows = h.begins_run.follows;
+          one = λ lt. absurd (omega arith);
+          below = h.begins_run.below;
+          few = omega arith;
+          after_flush = h.no_flush;
+        };
         callers = callers_at_first s scripts roles v h.callers are;
         settled = h.no_part;
       };
@@ -108,21 +138,34 @@ begins s scripts roles v ticks run h are port =
 
 -- ---- a turn more
 
-inside_more : (part : List PlainEntry) (e : PlainEntry) → session_events_in part ≡ [] → session_events e.event ≡ [] → session_events_in (part ++ e ∷ []) ≡ []
+inside_more : (part : List PlainEntry) (e : PlainEntry)
+    → session_events_in part ≡ []
+    → session_events e.event ≡ []
+    → session_events_in (part ++ e ∷ []) ≡ []
 inside_more part e inside no_event =
-    flat_map-append (λ (x : PlainEntry). session_events x.event) part (e ∷ []) ∙ ((λ i. inside i ++ (no_event i ++ [])) ∙ refl)
+    flat_map-append (λ (x : PlainEntry). session_events x.event) part (e ∷ [])
+    ∙ ((λ i. inside i ++ (no_event i ++ [])) ∙ refl)
 
-pub goes_on_playing : {HasOrder : Scene → List PlainEntry → Type 0} (s : Scene) (scripts : List Script) (roles : List Role) (start v w : PortValue) (ticks : ℕ) (stand now : Stand) → PlayingIn HasOrder s scripts roles start v ticks stand → PlaysOnIn HasOrder s scripts roles v w stand now
+pub goes_on_playing : {HasOrder : Scene → List PlainEntry → Type 0} (s : Scene) (scripts : List Script)
+    (roles : List Role) (start v w : PortValue) (ticks : ℕ) (stand now : Stand)
+    → PlayingIn HasOrder s scripts roles start v ticks stand
+    → PlaysOnIn HasOrder s scripts roles v w stand now
     → PlayingIn HasOrder s scripts roles start w ticks now
 goes_on_playing s scripts roles start v w ticks stand now h more =
     let adds = more.adds in
     record {
       plays = more.plays;
       part = h.part ++ adds.entry ∷ [];
-      added = adds.added ∙ (ap (λ (j : List PlainEntry). j ++ adds.entry ∷ []) h.added ∙ append_assoc start.journal h.part (adds.entry ∷ []));
+      added =
+          adds.added
+          ∙ (ap (λ (j : List PlainEntry). j ++ adds.entry ∷ []) h.added
+          ∙ append_assoc start.journal h.part (adds.entry ∷ []));
       leads =
-          subst (λ (t : Terminal). Leads (call_at s.port s.session) (counts_on s.port s.session) start.terminal (h.part ++ adds.entry ∷ []) t) (sym adds.leads)
-          (leads_more (call_at s.port s.session) (counts_on s.port s.session) start.terminal h.part v.terminal adds.entry h.leads adds.allowed);
+          subst (λ (t : Terminal).
+          Leads (call_at s.port s.session) (counts_on s.port s.session) start.terminal (h.part ++ adds.entry ∷ []) t)
+          (sym adds.leads)
+          (leads_more (call_at s.port s.session) (counts_on s.port s.session) start.terminal
+          h.part v.terminal adds.entry h.leads adds.allowed);
       inside = inside_more h.part adds.entry h.inside adds.inside;
       phase = adds.phase ∙ h.phase;
       sent = adds.sent ∙ h.sent;
@@ -131,10 +174,14 @@ goes_on_playing s scripts roles start v w ticks stand now h more =
     }
 
 -- the numbers of the roles are those of callers of the port
-pub all_known : {HasOrder : Scene → List PlainEntry → Type 0} (s : Scene) (scripts : List Script) (roles : List Role) (v : PortValue) (stand : Stand) → PlaysIn HasOrder s scripts roles v stand → All (λ (r : Role). r.number < sum v.counts) roles
+pub all_known : {HasOrder : Scene → List PlainEntry → Type 0} (s : Scene) (scripts : List Script) (roles : List Role)
+    (v : PortValue) (stand : Stand)
+    → PlaysIn HasOrder s scripts roles v stand
+    → All (λ (r : Role). r.number < sum v.counts) roles
 all_known s scripts roles v stand plays i d lt =
     subst (λ (cs : List ℕ). (get_or roles i d).number < sum cs) (sym plays.of_scene.counts)
-    (role_of s v.terminal.phase scripts roles i (get_or roles i d) plays.callers.are_roles (slice_get-get_or roles i d lt)).known
+    (role_of s v.terminal.phase scripts roles i (get_or roles i d) plays.callers.are_roles
+    (slice_get-get_or roles i d lt)).known
 
 -- ---- the end of the phase
 
@@ -144,55 +191,95 @@ all_over false true must e f = absurd (false≢true (sym f))
 all_over false false must e f = absurd (false≢true (sym e))
 
 -- each caller is over
-all_are_over : (v : PortValue) (numbers : List ℕ) → NothingGoesOn v numbers → NoneIs (is_waiting v.terminal) numbers → (i : ℕ) → i < length numbers → (caller_at v.terminal (slice_index numbers i)).over ≡ true
+all_are_over : (v : PortValue) (numbers : List ℕ)
+    → NothingGoesOn v numbers
+    → NoneIs (is_waiting v.terminal) numbers
+    → (i : ℕ)
+    → i < length numbers
+    → (caller_at v.terminal (slice_index numbers i)).over ≡ true
 all_are_over v numbers h none i lt =
     let c = slice_index numbers i in
-    all_over (caller_at v.terminal c).over (is_waiting v.terminal c) (must_wait (call_in v.kept) v.terminal c) (h.none i lt) (none i lt)
+    all_over (caller_at v.terminal c).over (is_waiting v.terminal c) (must_wait (call_in v.kept) v.terminal c)
+    (h.none i lt) (none i lt)
 
 -- nothing is left to do in the phase
 pub record NothingIsLeft (v : PortValue) (roles : List Role) : Type 0 where
   pub idle_is : nothing_to_flush v.terminal ≡ true
   pub clock_is : v.terminal.clock_over ≡ true
-  pub over : (i : ℕ) → i < length (role_numbers roles) → (caller_at v.terminal (slice_index (role_numbers roles) i)).over ≡ true
+  pub over : (i : ℕ)
+      → i < length (role_numbers roles)
+      → (caller_at v.terminal (slice_index (role_numbers roles) i)).over ≡ true
 
-pub nothing_left : (v : PortValue) (roles : List Role) (going : Option ℕ) → IsPossible v (role_numbers roles) going turn.End → NothingIsLeft v roles
+pub nothing_left : (v : PortValue) (roles : List Role) (going : Option ℕ)
+    → IsPossible v (role_numbers roles) going turn.End
+    → NothingIsLeft v roles
 nothing_left v roles going possible =
     let h = (end_view v (role_numbers roles) going possible).1 in
     record { idle_is = h.0.idle; clock_is = h.0.clock; over = all_are_over v (role_numbers roles) h.0 h.1 }
 
-pub may_end_of : {HasOrder : Scene → List PlainEntry → Type 0} (s : Scene) (scripts : List Script) (roles : List Role) (v : PortValue) (stand : Stand) → PlaysIn HasOrder s scripts roles v stand → NothingIsLeft v roles → may_end v.counts v.terminal ≡ true
+pub may_end_of : {HasOrder : Scene → List PlainEntry → Type 0} (s : Scene) (scripts : List Script) (roles : List Role)
+    (v : PortValue) (stand : Stand)
+    → PlaysIn HasOrder s scripts roles v stand
+    → NothingIsLeft v roles
+    → may_end v.counts v.terminal ≡ true
 may_end_of s scripts roles v stand plays nothing =
-    all_four v.terminal.line_over v.terminal.clock_over _ (nothing_to_flush v.terminal) plays.line nothing.clock_is (enough s scripts roles v stand is_over plays refl nothing.over) nothing.idle_is
+    all_four v.terminal.line_over v.terminal.clock_over _ (nothing_to_flush v.terminal) plays.line nothing.clock_is
+    (enough s scripts roles v stand is_over plays refl nothing.over) nothing.idle_is
 
 -- where each caller stands at the end of its phase
 pub record HasEnded (is_caller : Bool) (first count : ℕ) (q : Standing) : Type 0 where
   pub played : HasPlayed is_caller first count q.next q.over
   pub resting : record q { over = false } ≡ standing_at_rest (first + count)
 
-resting_of : (q : Standing) (next : ℕ) → q.next ≡ next → q.begun ≡ false → IsAtRest q → record q { over = false } ≡ standing_at_rest next
+resting_of : (q : Standing) (next : ℕ)
+    → q.next ≡ next
+    → q.begun ≡ false
+    → IsAtRest q
+    → record q { over = false } ≡ standing_at_rest next
 resting_of q next at begun rest =
-    λ i. record { next = at i; over = false; waits = rest.waits i; parts = rest.parts i; taken = rest.taken i; generation = rest.generation i; begun = begun i }
+    λ i. record {
+      next = at i;
+      over = false;
+      waits = rest.waits i;
+      parts = rest.parts i;
+      taken = rest.taken i;
+      generation = rest.generation i;
+      begun = begun i;
+    }
 
 default_free : (ns : List ℕ) (i c : ℕ) → i < length ns → slice_index ns i ≡ get_or ns i c
-default_free ns i c lt = same_Some (get_or ns i 0) (get_or ns i c) (sym (slice_get-get_or ns i 0 lt) ∙ slice_get-get_or ns i c lt)
+default_free ns i c lt =
+    same_Some (get_or ns i 0) (get_or ns i c) (sym (slice_get-get_or ns i 0 lt) ∙ slice_get-get_or ns i c lt)
 
 -- of the caller of a role
-ended_in_role : {HasOrder : Scene → List PlainEntry → Type 0} (s : Scene) (scripts : List Script) (roles : List Role) (v : PortValue) (stand : Stand) (i : ℕ) (r : Role) → PlaysIn HasOrder s scripts roles v stand → slice_get roles i ≡ Some r → (caller_at v.terminal r.number).over ≡ true
-    → HasEnded true (first_step s.port s.session v.terminal.phase r.number) (steps_in s.port s.session v.terminal.phase r.number) (standing_at v r.number)
+ended_in_role : {HasOrder : Scene → List PlainEntry → Type 0} (s : Scene) (scripts : List Script) (roles : List Role)
+    (v : PortValue) (stand : Stand) (i : ℕ) (r : Role)
+    → PlaysIn HasOrder s scripts roles v stand
+    → slice_get roles i ≡ Some r
+    → (caller_at v.terminal r.number).over ≡ true
+    → HasEnded true (first_step s.port s.session v.terminal.phase r.number)
+    (steps_in s.port s.session v.terminal.phase r.number) (standing_at v r.number)
 ended_in_role s scripts roles v stand i r plays at over =
     let role = role_of s v.terminal.phase scripts roles i r plays.callers.are_roles at in
     let in_role = plays.callers.in_roles i r at in
-    let next : (standing_at v r.number).next ≡ first_step s.port s.session v.terminal.phase r.number + steps_in s.port s.session v.terminal.phase r.number =
+    let next : (standing_at v r.number).next
+    ≡ first_step s.port s.session v.terminal.phase r.number + steps_in s.port s.session v.terminal.phase r.number =
     in_role.over over ∙ (λ j. role.first j + role.count j) in
     let begun = in_role.over_rest over in
     record { played = (next, over); resting = resting_of (standing_at v r.number) _ next begun (in_role.rest begun) }
 
-has_ended : {HasOrder : Scene → List PlainEntry → Type 0} (s : Scene) (scripts : List Script) (roles : List Role) (v : PortValue) (stand : Stand) (c : ℕ) → PlaysIn HasOrder s scripts roles v stand → NothingIsLeft v roles → (b : Bool)
+has_ended : {HasOrder : Scene → List PlainEntry → Type 0} (s : Scene) (scripts : List Script) (roles : List Role)
+    (v : PortValue) (stand : Stand) (c : ℕ)
+    → PlaysIn HasOrder s scripts roles v stand
+    → NothingIsLeft v roles
+    → (b : Bool)
     → has_script (scripts_on s.port (phase_at s.session v.terminal.phase)) (name_at s.port s.session c) ≡ b
-    → HasEnded b (first_step s.port s.session v.terminal.phase c) (steps_in s.port s.session v.terminal.phase c) (standing_at v c)
+    → HasEnded b (first_step s.port s.session v.terminal.phase c) (steps_in s.port s.session v.terminal.phase c)
+    (standing_at v c)
 has_ended s scripts roles v stand c plays nothing true is =
     let are = plays.callers.are_roles in
-    let held : Contains (role_numbers roles) c = subst (λ (ns : List ℕ). Contains ns c) (numbers_same scripts roles) (are.all c is) in
+    let held : Contains (role_numbers roles) c =
+    subst (λ (ns : List ℕ). Contains ns c) (numbers_same scripts roles) (are.all c is) in
     let i = held.0 in
     let many = length-map roles (λ (r : Role). r.number) in
     let below : i < length (role_numbers roles) = held.1 in
@@ -201,8 +288,11 @@ has_ended s scripts roles v stand c plays nothing true is =
     let at : slice_get roles i ≡ Some r = slice_get-get_or roles i (record { number = 0; first = 0; place = 0 }) lt in
     let number = role_number roles i r at in
     let c_is : r.number ≡ c = sym number ∙ (default_free (role_numbers roles) i c below ∙ held.2) in
-    let over : (caller_at v.terminal r.number).over ≡ true = subst (λ (n : ℕ). (caller_at v.terminal n).over ≡ true) number (nothing.over i below) in
-    subst (λ (n : ℕ). HasEnded true (first_step s.port s.session v.terminal.phase n) (steps_in s.port s.session v.terminal.phase n) (standing_at v n)) c_is (ended_in_role s scripts roles v stand i r plays at over)
+    let over : (caller_at v.terminal r.number).over ≡ true =
+    subst (λ (n : ℕ). (caller_at v.terminal n).over ≡ true) number (nothing.over i below) in
+    subst (λ (n : ℕ). HasEnded true (first_step s.port s.session v.terminal.phase n)
+    (steps_in s.port s.session v.terminal.phase n) (standing_at v n)) c_is
+    (ended_in_role s scripts roles v stand i r plays at over)
 has_ended s scripts roles v stand c plays nothing false is =
     let absent : IsAbsent roles c =
     λ i r at e.
@@ -218,31 +308,46 @@ has_ended s scripts roles v stand c plays nothing false is =
       resting = ap (λ (q : Standing). record q { over = false }) stands ∙ ap (λ (n : ℕ). standing_at_rest n) same;
     }
 
-pub ends_of : {HasOrder : Scene → List PlainEntry → Type 0} (Order : Scene → List PlainEntry → Type 0) (s : Scene) (scripts : List Script) (roles : List Role) (start v w : PortValue) (putter now : PutterState Flagged) (ticks : ℕ) (stand rested : Stand) → PlayingIn HasOrder s scripts roles start v ticks stand
-    → IsPossible v (role_numbers roles) stand.going turn.End → EndsPhase v w putter now → ticks ≡ ticks_on s.port (phase_at s.session start.terminal.phase)
-    → rested ≡ record { run = next_run stand.run stand.part; part = 0; ticks = stand.ticks; going = None } → Order s w.journal
+pub ends_of : {HasOrder : Scene → List PlainEntry → Type 0} (Order : Scene → List PlainEntry → Type 0) (s : Scene)
+    (scripts : List Script) (roles : List Role) (start v w : PortValue) (putter now : PutterState Flagged) (ticks : ℕ)
+    (stand rested : Stand)
+    → PlayingIn HasOrder s scripts roles start v ticks stand
+    → IsPossible v (role_numbers roles) stand.going turn.End
+    → EndsPhase v w putter now
+    → ticks ≡ ticks_on s.port (phase_at s.session start.terminal.phase)
+    → rested ≡ record { run = next_run stand.run stand.part; part = 0; ticks = stand.ticks; going = None }
+    → Order s w.journal
     → EndsAfterLineIn Order s start w putter now rested.run
 ends_of Order s scripts roles start v w putter now ticks stand rested h possible ends asked rest turns =
     let plays = h.plays in
     let e : PlainEntry = phase_entry v Session phase_ended in
-    let more = more_of s v w v.kept (after_meeting v.flip putter) e plays.of_scene.counts plays.of_scene.known ends.appends refl refl in
+    let more = more_of s v w v.kept (after_meeting v.flip putter) e plays.of_scene.counts
+    plays.of_scene.known ends.appends refl refl in
     let nothing = nothing_left v roles stand.going possible in
-    let runs = runs_rest v w (place_of s v.journal).before stand.run stand.part e plays.runs more.journal (ap (λ (m : Marks). m.latest) (marks_at s v w e more)) refl in
+    let runs = runs_rest v w (place_of s v.journal).before stand.run stand.part e plays.runs more.journal
+    (ap (λ (m : Marks). m.latest) (marks_at s v w e more)) refl in
     let few = runs.few in
     let next : w.terminal ≡ next_phase v.terminal = ap (λ (x : PortValue). x.terminal) ends.appends.appended in
     let taken : v.flip.taken ≡ w.flip.taken = sym (ap (λ (x : PortValue). x.flip.taken) ends.appends.appended) in
     let left : stand.ticks ≡ 0 = plays.clock nothing.clock_is in
     let tick = h.tick in
-    let ended : (c : ℕ) → HasEnded (has_script (scripts_on s.port (phase_at s.session v.terminal.phase)) (name_at s.port s.session c)) (first_step s.port s.session v.terminal.phase c) (steps_in s.port s.session v.terminal.phase c) (standing_at v c) =
-    λ c. has_ended s scripts roles v stand c plays nothing (has_script (scripts_on s.port (phase_at s.session v.terminal.phase)) (name_at s.port s.session c)) refl in
+    let ended : (c : ℕ)
+    → HasEnded (has_script (scripts_on s.port (phase_at s.session v.terminal.phase)) (name_at s.port s.session c))
+    (first_step s.port s.session v.terminal.phase c) (steps_in s.port s.session v.terminal.phase c) (standing_at v c) =
+    λ c. has_ended s scripts roles v stand c plays nothing
+    (has_script (scripts_on s.port (phase_at s.session v.terminal.phase)) (name_at s.port s.session c)) refl in
     let at_first : AreAtFirst s (v.terminal.phase + 1) w.terminal =
     λ c. at_rest (caller_at w.terminal c) (first_step s.port s.session (v.terminal.phase + 1) c)
-    (stands_at s v w e more c ∙ ((ended c).resting ∙ ap (λ (n : ℕ). standing_at_rest n) (sym (first_next s.port s.session v.terminal.phase c plays.within)))) in
+    (stands_at s v w e more c
+    ∙ ((ended c).resting
+    ∙ ap (λ (n : ℕ). standing_at_rest n) (sym (first_next s.port s.session v.terminal.phase c plays.within)))) in
     record {
       part = h.part;
       last = e;
       terminal = v.terminal;
-      added = more.journal ∙ (ap (λ (j : List PlainEntry). j ++ e ∷ []) h.added ∙ append_assoc start.journal h.part (e ∷ []));
+      added =
+          more.journal
+          ∙ (ap (λ (j : List PlainEntry). j ++ e ∷ []) h.added ∙ append_assoc start.journal h.part (e ∷ []));
       leads = h.leads;
       inside = h.inside;
       who = refl;
@@ -253,7 +358,10 @@ ends_of Order s scripts roles start v w putter now ticks stand rested h possible
       clock = nothing.clock_is;
       tick = omega arith;
       callers = λ c.
-          subst (λ (k : ℕ). HasPlayed (has_script (scripts_on s.port (phase_at s.session k)) (name_at s.port s.session c)) (first_step s.port s.session k c) (steps_in s.port s.session k c) (caller_at v.terminal c).next (caller_at v.terminal c).over)
+          subst (λ (k : ℕ). HasPlayed
+          (has_script (scripts_on s.port (phase_at s.session k)) (name_at s.port s.session c))
+          (first_step s.port s.session k c) (steps_in s.port s.session k c)
+          (caller_at v.terminal c).next (caller_at v.terminal c).over)
           h.phase (ended c).played;
       of_scene = scene_in Order s w (scene_more s v w e plays.of_scene plays.run more tt) turns;
       at_first = subst (λ (k : ℕ). AreAtFirst s (k + 1) w.terminal) h.phase at_first;
@@ -261,7 +369,10 @@ ends_of Order s scripts roles start v w putter now ticks stand rested h possible
       begins_run =
           subst (λ (x : Stand). BeginsRun x.run w) (sym rest)
           (begins_after w (Some e) (next_run stand.run stand.part) runs);
-      met = ends.meets.putter ∙ ap (λ (n : ℕ). with_loaded (record putter { pushed = putter.sent }) n) (ap (λ (xs : List Flagged). length xs) taken);
+      met =
+          ends.meets.putter
+          ∙ ap (λ (n : ℕ). with_loaded (record putter { pushed = putter.sent }) n)
+          (ap (λ (xs : List Flagged). length xs) taken);
       begins = subst (λ (xs : List Flagged). IsPrefix xs putter.sent) taken ends.meets.begins;
       ring = more.ring ∙ h.ring;
     }
@@ -270,32 +381,56 @@ ends_of Order s scripts roles start v w putter now ticks stand rested h possible
     begins_after x before run r = let few = r.few in record { follows = r.follows; below = r.below; few = omega arith }
 
 -- in the order of one thread
-pub end_in_order : (s : Scene) (scripts : List Script) (roles : List Role) (v w : PortValue) (putter now : PutterState Flagged) (stand : Stand) → Plays s scripts roles v stand
-    → IsTurn (is_of_consoles s.session) v (role_numbers roles) stand.going turn.End → EndsPhase v w putter now → HasOneOrder s w.journal
+pub end_in_order : (s : Scene) (scripts : List Script) (roles : List Role) (v w : PortValue)
+    (putter now : PutterState Flagged) (stand : Stand)
+    → Plays s scripts roles v stand
+    → IsTurn (is_of_consoles s.session) v (role_numbers roles) stand.going turn.End
+    → EndsPhase v w putter now
+    → HasOneOrder s w.journal
 end_in_order s scripts roles v w putter now stand plays is ends =
     let e : PlainEntry = phase_entry v Session phase_ended in
-    let in_turn : IsInTurn s.port s.session (place_of s v.journal) e = record { by_turn = by_turn s scripts roles v stand Session plays is.who; piece = tt } in
-    subst (λ (j : List PlainEntry). AreInTurn s.port s.session (first_place s.port s.session) j) (sym (ap (λ (x : PortValue). x.journal) ends.appends.appended))
+    let in_turn : IsInTurn s.port s.session (place_of s v.journal) e =
+    record { by_turn = by_turn s scripts roles v stand Session plays is.who; piece = tt } in
+    subst (λ (j : List PlainEntry). AreInTurn s.port s.session (first_place s.port s.session) j)
+    (sym (ap (λ (x : PortValue). x.journal) ends.appends.appended))
     (turns_more s.port s.session (first_place s.port s.session) v.journal e plays.of_scene.turns in_turn)
 
-pub plays_end : (roles : List Role) (old new : PortValue) (putter now : PutterState Flagged) (stand rested : Stand) → EndsPhase old new putter now
-    → rested ≡ record { run = next_run stand.run stand.part; part = 0; ticks = stand.ticks; going = None } → PlaysEnd roles old new putter now stand rested.run
+pub plays_end : (roles : List Role) (old new : PortValue) (putter now : PutterState Flagged) (stand rested : Stand)
+    → EndsPhase old new putter now
+    → rested ≡ record { run = next_run stand.run stand.part; part = 0; ticks = stand.ticks; going = None }
+    → PlaysEnd roles old new putter now stand rested.run
 plays_end roles old new putter now stand rested ends rest =
     record {
-      each = λ start h. ends_of HasAnyOrder h.scene h.scripts roles start old new putter now h.ticks stand rested h.playing h.possible ends h.ticks_are rest tt;
+      each = λ start h. ends_of HasAnyOrder h.scene h.scripts roles start old new putter now h.ticks
+          stand rested h.playing h.possible ends h.ticks_are rest tt;
       in_order = λ start h.
-          ends_of HasOneOrder h.scene h.scripts roles start old new putter now h.ticks stand rested h.playing (by_rank (is_of_consoles h.scene.session) old (role_numbers roles) stand.going turn.End h.is_turn) ends h.ticks_are rest
+          ends_of HasOneOrder h.scene h.scripts roles start old new putter now h.ticks stand rested h.playing
+          (by_rank (is_of_consoles h.scene.session) old (role_numbers roles) stand.going turn.End h.is_turn)
+          ends h.ticks_are rest
           (end_in_order h.scene h.scripts roles old new putter now stand h.playing.plays h.is_turn ends);
     }
 
 -- ---- a journal that takes no further entry, or no memory
 
-pub stops_of : (s : Scene) (scripts : List Script) (roles : List Role) (start v w : PortValue) (ticks : ℕ) (stand : Stand) (d : Denied) → Playing s scripts roles start v ticks stand → Denies d v w
-    → ticks ≡ ticks_on s.port (phase_at s.session start.terminal.phase) → StopsAfterLine s start w d
+pub stops_of : (s : Scene) (scripts : List Script) (roles : List Role) (start v w : PortValue) (ticks : ℕ)
+    (stand : Stand) (d : Denied)
+    → Playing s scripts roles start v ticks stand
+    → Denies d v w
+    → ticks ≡ ticks_on s.port (phase_at s.session start.terminal.phase)
+    → StopsAfterLine s start w d
 stops_of s scripts roles start v w ticks stand Full h denies asked =
     let tick = h.tick in
     subst (λ (x : PortValue). StopsAfterLine s start x Full) (sym denies.1)
-    (record { part = h.part; added = h.added; leads = h.leads; inside = h.inside; ticks = omega arith; of_scene = h.plays.of_scene; full = denies.0; ring = h.ring })
+    (record {
+      part = h.part;
+      added = h.added;
+      leads = h.leads;
+      inside = h.inside;
+      ticks = omega arith;
+      of_scene = h.plays.of_scene;
+      full = denies.0;
+      ring = h.ring;
+    })
 stops_of s scripts roles start v w ticks stand NoMemory h denies asked =
     let tick = h.tick in
     let scene = h.plays.of_scene in
@@ -306,7 +441,14 @@ stops_of s scripts roles start v w ticks stand NoMemory h denies asked =
       leads = h.leads;
       inside = h.inside;
       ticks = omega arith;
-      of_scene = record { counts = scene.counts; capacity = scene.capacity; limit = scene.limit; known = scene.known; in_phases = scene.in_phases; turns = scene.turns };
+      of_scene = record {
+        counts = scene.counts;
+        capacity = scene.capacity;
+        limit = scene.limit;
+        known = scene.known;
+        in_phases = scene.in_phases;
+        turns = scene.turns;
+      };
       full = tt;
       ring = h.ring;
     })

@@ -1,5 +1,6 @@
 -- Steps of the line flush once at most.
-use Rattle.std.proofs.Common.{◌≡◌, ℕ, ◌-◌, min, true, List, [], ◌∷◌, length, refl, sym, ◌∙◌, ap, subst, arith, append-nil, inl, inr}
+use Rattle.std.proofs.Common.{◌≡◌, ℕ, ◌-◌, min, true, List, [], ◌∷◌, length, refl}
+use Rattle.std.proofs.Common.{sym, ◌∙◌, ap, subst, arith, append-nil, inl, inr}
 use Rattle.std.specs.Prelude.{Result, Ok, Err, IfOk, IfErr, IsTrue}
 use Rattle.std.proofs.lemmas.Bool.{cases_lt}
 use Rattle.std.proofs.lemmas.List.Elements.{All-nil, All-cons}
@@ -57,7 +58,8 @@ piece old left new putter met run most (Took n) takes is =
       part = entry ∷ [];
       added = ap (λ (v : PortValue). v.journal) is ∙ ap (λ (v : PortValue). v.journal) appended;
       few = omega arith;
-      flushes = All-cons (λ (e : PlainEntry). IsTrue (is_flush e.event)) entry [] refl (All-nil (λ (e : PlainEntry). IsTrue (is_flush e.event)));
+      flushes = All-cons (λ (e : PlainEntry). IsTrue (is_flush e.event)) entry [] refl
+          (All-nil (λ (e : PlainEntry). IsTrue (is_flush e.event)));
       stays = λ e. absurd (omega (arith, ap (λ (es : List PlainEntry). length es) e));
       kept = ap (λ (v : PortValue). v.kept) is ∙ ap (λ (v : PortValue). v.kept) appended;
       counts = ap (λ (v : PortValue). v.counts) is ∙ ap (λ (v : PortValue). v.counts) appended;
@@ -67,7 +69,8 @@ piece old left new putter met run most Nothing takes is =
     let told : PortValue = record old { flip = after_meeting old.flip putter } in
     elim (true_or_false (is_stuck old.terminal)) [
       | inl h ↦
-          let none : left ≡ told = on_true (is_stuck old.terminal) (left ≡ told) (LooksAtNone told left) h takes.cause in
+          let none : left ≡ told =
+          on_true (is_stuck old.terminal) (left ≡ told) (LooksAtNone told left) h takes.cause in
           alike old new (record {
             terminal = ap (λ (v : PortValue). v.terminal) is ∙ ap (λ (v : PortValue). v.terminal) none;
             journal = ap (λ (v : PortValue). v.journal) is ∙ ap (λ (v : PortValue). v.journal) none;
@@ -86,28 +89,44 @@ piece old left new putter met run most Nothing takes is =
           })
     ]
 
-denied : (d : Denied) (old new : PortValue) (putter : PutterState Flagged) → Denies d (record old { flip = after_meeting old.flip putter }) new → FlushesOnce old new
+denied : (d : Denied) (old new : PortValue) (putter : PutterState Flagged)
+    → Denies d (record old { flip = after_meeting old.flip putter }) new
+    → FlushesOnce old new
 denied Full old new putter h =
     subst (λ (v : PortValue). FlushesOnce old v) (sym h.1)
-    (alike old (record old { flip = after_meeting old.flip putter }) (record { terminal = refl; journal = refl; kept = refl; counts = refl; capacity = refl }))
+    (alike old (record old { flip = after_meeting old.flip putter })
+    (record { terminal = refl; journal = refl; kept = refl; counts = refl; capacity = refl }))
 denied NoMemory old new putter h =
     subst (λ (v : PortValue). FlushesOnce old v) (sym h.1)
-    (alike old (record old { flip = after_meeting old.flip putter; starved = true }) (record { terminal = refl; journal = refl; kept = refl; counts = refl; capacity = refl }))
+    (alike old (record old { flip = after_meeting old.flip putter; starved = true })
+    (record { terminal = refl; journal = refl; kept = refl; counts = refl; capacity = refl }))
 
 -- what was put since so many were put is flushed, or denied
-pub since_once : (before : ℕ) (old new : PortValue) (putter now : PutterState Flagged) (run : ℕ) (result : Result ℕ Denied)
-    → IfOk result (λ next. FlushesSince before old new putter now run next) → IfErr result (λ d. DeniesCut d old new putter now) → FlushesOnce old new
+pub since_once : (before : ℕ) (old new : PortValue) (putter now : PutterState Flagged) (run : ℕ)
+    (result : Result ℕ Denied)
+    → IfOk result (λ next. FlushesSince before old new putter now run next)
+    → IfErr result (λ d. DeniesCut d old new putter now)
+    → FlushesOnce old new
 since_once before old new putter now run (Ok next) f h =
     elim (cases_lt before (length putter.sent)) [
-      | inl lt ↦ let cut = f.some lt in piece old cut.left new putter cut.met run (min (length putter.sent - before) 64) cut.flushed cut.flushes cut.new_is
+      | inl lt ↦
+          let cut = f.some lt in
+          piece old cut.left new putter cut.met run (min (length putter.sent - before) 64)
+          cut.flushed cut.flushes cut.new_is
       | inr le ↦ same old new (f.none le).0
     ]
 since_once before old new putter now run (Err d) f h = denied d old new putter h.denies
 
 -- characters that were given are flushed, or denied
-pub given_once : (old new : PortValue) (putter now : PutterState Flagged) (run : ℕ) (chars : List Flagged) (flushed : Flushed)
-    → FlushesGiven old new putter now run chars flushed → FlushesOnce old new
-given_once old new putter now run chars flushed g = piece old g.left new (with_put putter chars) (with_pushed putter chars) run (length chars) flushed g.flushes g.new_is
+pub given_once : (old new : PortValue) (putter now : PutterState Flagged) (run : ℕ) (chars : List Flagged)
+    (flushed : Flushed)
+    → FlushesGiven old new putter now run chars flushed
+    → FlushesOnce old new
+given_once old new putter now run chars flushed g =
+    piece old g.left new (with_put putter chars) (with_pushed putter chars) run (length chars)
+    flushed g.flushes g.new_is
 
-pub given_denied : (d : Denied) (old new : PortValue) (putter now : PutterState Flagged) (chars : List Flagged) → DeniesGiven d old new putter now chars → FlushesOnce old new
+pub given_denied : (d : Denied) (old new : PortValue) (putter now : PutterState Flagged) (chars : List Flagged)
+    → DeniesGiven d old new putter now chars
+    → FlushesOnce old new
 given_denied d old new putter now chars g = denied d old new (with_put putter chars) g.denies

@@ -1,5 +1,7 @@
 -- What a step of a line hands over: the characters of one cut, or none.
-use Rattle.std.proofs.Common.{◌≡◌, ◌⊎◌, ℕ, suc, ◌+◌, ◌<◌, ◌≤◌, Bool, true, false, nat_lt, if◌then◌else◌, List, [], ◌∷◌, ◌++◌, length, take, get_or, reverse, refl, sym, ◌∙◌, ap, subst, arith, append_assoc, append-nil, length-append, length-take, inl, inr}
+use Rattle.std.proofs.Common.{◌≡◌, ◌⊎◌, ℕ, suc, ◌+◌, ◌<◌, ◌≤◌, Bool, true, false, nat_lt, if◌then◌else◌}
+use Rattle.std.proofs.Common.{List, [], ◌∷◌, ◌++◌, length, take, get_or, reverse, refl, sym, ◌∙◌, ap}
+use Rattle.std.proofs.Common.{subst, arith, append_assoc, append-nil, length-append, length-take, inl, inr}
 use Rattle.std.specs.List.{All}
 use Rattle.std.specs.List.Sorted.{IsNonDecreasing}
 use Rattle.std.proofs.lemmas.Bool.Decides.{nat_tests}
@@ -10,7 +12,8 @@ use Rattle.tty_base.specs.declared.lines.LineStep.{LineStep}
 use Rattle.tty_base.specs.declared.lines.Overrun.{Overrun}
 use Rattle.tty_base.specs.Lines.{arrival}
 use Rattle.uart_line.specs.Received.{is_cut, window, window_output, overrun_mark, received_list, waiting_list}
-use Rattle.uart_line.specs.Offered.{PutAnswer, accepts, refuses, accepted_list, overrun_list, IsFullAt, AreAmong, HandsOver}
+use Rattle.uart_line.specs.Offered.{PutAnswer, accepts, refuses, accepted_list}
+use Rattle.uart_line.specs.Offered.{overrun_list, IsFullAt, AreAmong, HandsOver}
 use Rattle.uart_line.proofs.Steps.{cut_after, received_list-step}
 use Rattle.one_thread.specs.Order.{cuts_after}
 use Rattle.one_thread.specs.LineInside.{KnowsTaken, SeesFrom}
@@ -28,7 +31,10 @@ some_has_length : (b : Bool) (xs ys : List Flagged) → 0 < length xs → 0 < le
 some_has_length true xs ys h k = h
 some_has_length false xs ys h k = k
 
-few_either : (b : Bool) (xs ys : List Flagged) → length xs ≤ 17 → (b ≡ false → length ys ≤ 17) → length (if b then xs else ys) ≤ 17
+few_either : (b : Bool) (xs ys : List Flagged)
+    → length xs ≤ 17
+    → (b ≡ false → length ys ≤ 17)
+    → length (if b then xs else ys) ≤ 17
 few_either true xs ys h k = h
 few_either false xs ys h k = k refl
 
@@ -46,15 +52,18 @@ window_output-few (c ∷ cs) =
 pub window_output-some : (past : List LineStep) (w : List Flagged) → is_cut past w ≡ true → 0 < length (window_output w)
 unfolding window_output is_cut
 window_output-some past [] h = absurd (cc)
-window_output-some past (c ∷ cs) h = some_has_length (nat_lt 16 (length (c ∷ cs))) (c ∷ overrun_mark ∷ take 15 cs) (c ∷ cs) (omega arith) (omega arith)
+window_output-some past (c ∷ cs) h =
+    some_has_length (nat_lt 16 (length (c ∷ cs))) (c ∷ overrun_mark ∷ take 15 cs) (c ∷ cs) (omega arith) (omega arith)
 
 -- what a step hands over, after these
 abbrev pub handed_list : List LineStep → LineStep → List Flagged
 handed_list before step = if cut_after before step then window_output (waiting_list before ++ arrival step) else []
 
-pub handed_is : (before : List LineStep) (step : LineStep) (list : List Flagged) → received_list (before ++ step ∷ []) ≡ received_list before ++ list
+pub handed_is : (before : List LineStep) (step : LineStep) (list : List Flagged)
+    → received_list (before ++ step ∷ []) ≡ received_list before ++ list
     → list ≡ handed_list before step
-handed_is before step list h = append_cancel_left (received_list before) list (handed_list before step) (sym h ∙ received_list-step before step)
+handed_is before step list h =
+    append_cancel_left (received_list before) list (handed_list before step) (sym h ∙ received_list-step before step)
 
 few_if : (b : Bool) (w : List Flagged) → length (if b then window_output w else []) ≤ 17
 few_if true w = window_output-few w
@@ -63,19 +72,27 @@ few_if false w = omega arith
 pub handed_few : (before : List LineStep) (step : LineStep) → length (handed_list before step) ≤ 17
 handed_few before step = few_if (cut_after before step) (waiting_list before ++ arrival step)
 
-no_cut_if : (b : Bool) (past : List LineStep) (w : List Flagged) → b ≡ is_cut past w → length (if b then window_output w else []) ≡ 0 → b ≡ false
+no_cut_if : (b : Bool) (past : List LineStep) (w : List Flagged)
+    → b ≡ is_cut past w
+    → length (if b then window_output w else []) ≡ 0
+    → b ≡ false
 no_cut_if true past w e h = absurd (omega (arith, window_output-some past w (sym e)))
 no_cut_if false past w e h = refl
 
 -- a step that hands nothing over makes no cut, and another makes one
-pub no_cut : (before : List LineStep) (step : LineStep) → length (handed_list before step) ≡ 0 → cut_after before step ≡ false
-no_cut before step h = no_cut_if (cut_after before step) (step ∷ reverse before) (waiting_list before ++ arrival step) refl h
+pub no_cut : (before : List LineStep) (step : LineStep)
+    → length (handed_list before step) ≡ 0
+    → cut_after before step ≡ false
+no_cut before step h =
+    no_cut_if (cut_after before step) (step ∷ reverse before) (waiting_list before ++ arrival step) refl h
 
 cut_if : (b : Bool) (w : List Flagged) → 0 < length (if b then window_output w else []) → b ≡ true
 cut_if true w h = refl
 cut_if false w h = absurd (omega arith)
 
-pub is_cut_here : (before : List LineStep) (step : LineStep) → 0 < length (handed_list before step) → cut_after before step ≡ true
+pub is_cut_here : (before : List LineStep) (step : LineStep)
+    → 0 < length (handed_list before step)
+    → cut_after before step ≡ true
 is_cut_here before step h = cut_if (cut_after before step) (waiting_list before ++ arrival step) h
 
 -- ---- the cuts of several steps
@@ -94,46 +111,60 @@ cuts_split before [] ys = ap (λ (l : List LineStep). cuts_after (reverse l) ys)
 cuts_split before (x ∷ xs) ys =
     let e : reverse (before ++ x ∷ []) ≡ x ∷ reverse before = reverse-append before (x ∷ []) in
     let all : (before ++ x ∷ []) ++ xs ≡ before ++ x ∷ xs = append_assoc before (x ∷ []) xs in
-    let tail : cuts_after (x ∷ reverse before) (xs ++ ys) ≡ cuts_after (x ∷ reverse before) xs ++ cuts_after (reverse (before ++ x ∷ xs)) ys =
-    subst (λ (past : List LineStep). cuts_after past (xs ++ ys) ≡ cuts_after past xs ++ cuts_after (reverse (before ++ x ∷ xs)) ys) e
-    (subst (λ (l : List LineStep). cuts_after (reverse (before ++ x ∷ [])) (xs ++ ys) ≡ cuts_after (reverse (before ++ x ∷ [])) xs ++ cuts_after (reverse l) ys) all
+    let tail : cuts_after (x ∷ reverse before) (xs ++ ys)
+    ≡ cuts_after (x ∷ reverse before) xs ++ cuts_after (reverse (before ++ x ∷ xs)) ys =
+    subst (λ (past : List LineStep).
+    cuts_after past (xs ++ ys) ≡ cuts_after past xs ++ cuts_after (reverse (before ++ x ∷ xs)) ys) e
+    (subst (λ (l : List LineStep).
+    cuts_after (reverse (before ++ x ∷ [])) (xs ++ ys)
+    ≡ cuts_after (reverse (before ++ x ∷ [])) xs ++ cuts_after (reverse l) ys) all
     (cuts_split (before ++ x ∷ []) xs ys)) in
     cuts_at before x (xs ++ ys)
     ∙ ap (λ (r : List (List Flagged)). cut_here before x ++ r) tail
-    ∙ sym (append_assoc (cut_here before x) (cuts_after (x ∷ reverse before) xs) (cuts_after (reverse (before ++ x ∷ xs)) ys))
+    ∙ sym
+    (append_assoc (cut_here before x) (cuts_after (x ∷ reverse before) xs) (cuts_after (reverse (before ++ x ∷ xs)) ys))
     ∙ ap (λ (r : List (List Flagged)). r ++ cuts_after (reverse (before ++ x ∷ xs)) ys) (sym (cuts_at before x xs))
 
 -- one more step adds its cut
 cuts_step : (before done : List LineStep) (step : LineStep)
-    → cuts_after (reverse before) (done ++ step ∷ []) ≡ cuts_after (reverse before) done ++ cut_here (before ++ done) step
+    → cuts_after (reverse before) (done ++ step ∷ [])
+    ≡ cuts_after (reverse before) done ++ cut_here (before ++ done) step
 cuts_step before done step =
     cuts_split before done (step ∷ [])
-    ∙ ap (λ (r : List (List Flagged)). cuts_after (reverse before) done ++ r) (cuts_at (before ++ done) step [] ∙ append-nil (cut_here (before ++ done) step))
+    ∙ ap (λ (r : List (List Flagged)). cuts_after (reverse before) done ++ r)
+    (cuts_at (before ++ done) step [] ∙ append-nil (cut_here (before ++ done) step))
 
 pub cuts_same : (before done : List LineStep) (step : LineStep) → cut_after (before ++ done) step ≡ false
     → length (cuts_after (reverse before) (done ++ step ∷ [])) ≡ length (cuts_after (reverse before) done)
 cuts_same before done step none =
     ap length (cuts_step before done step ∙ ap (λ (r : List (List Flagged)). cuts_after (reverse before) done ++ r)
-    (if_false (cut_after (before ++ done) step) (window_output (waiting_list (before ++ done) ++ arrival step) ∷ []) [] none))
+    (if_false (cut_after (before ++ done) step) (window_output (waiting_list (before ++ done) ++ arrival step) ∷ [])
+    [] none))
     ∙ ap length (append-nil (cuts_after (reverse before) done))
 
 pub cuts_more : (before done : List LineStep) (step : LineStep) → cut_after (before ++ done) step ≡ true
     → length (cuts_after (reverse before) (done ++ step ∷ [])) ≡ length (cuts_after (reverse before) done) + 1
 cuts_more before done step cut =
     ap length (cuts_step before done step ∙ ap (λ (r : List (List Flagged)). cuts_after (reverse before) done ++ r)
-    (if_true (cut_after (before ++ done) step) (window_output (waiting_list (before ++ done) ++ arrival step) ∷ []) [] cut))
-    ∙ length-append (cuts_after (reverse before) done) (window_output (waiting_list (before ++ done) ++ arrival step) ∷ [])
+    (if_true (cut_after (before ++ done) step) (window_output (waiting_list (before ++ done) ++ arrival step) ∷ [])
+    [] cut))
+    ∙ length-append (cuts_after (reverse before) done)
+    (window_output (waiting_list (before ++ done) ++ arrival step) ∷ [])
 
 -- the cut after these steps is the one of this step
-pub cut_is_next : (before done : List LineStep) (step : LineStep) (left : List LineStep) → cut_after (before ++ done) step ≡ true
-    → get_or (cuts_after (reverse before) (done ++ step ∷ left)) (length (cuts_after (reverse before) done)) [] ≡ handed_list (before ++ done) step
+pub cut_is_next : (before done : List LineStep) (step : LineStep) (left : List LineStep)
+    → cut_after (before ++ done) step ≡ true
+    → get_or (cuts_after (reverse before) (done ++ step ∷ left)) (length (cuts_after (reverse before) done)) []
+    ≡ handed_list (before ++ done) step
 cut_is_next before done step left cut =
     let w : List Flagged = window_output (waiting_list (before ++ done) ++ arrival step) in
     let rest : List (List Flagged) = cuts_after (step ∷ reverse (before ++ done)) left in
     let here : cuts_after (reverse (before ++ done)) (step ∷ left) ≡ w ∷ rest =
-    cuts_at (before ++ done) step left ∙ ap (λ (r : List (List Flagged)). r ++ rest) (if_true (cut_after (before ++ done) step) (w ∷ []) [] cut) in
+    cuts_at (before ++ done) step left
+    ∙ ap (λ (r : List (List Flagged)). r ++ rest) (if_true (cut_after (before ++ done) step) (w ∷ []) [] cut) in
     let all : cuts_after (reverse before) (done ++ step ∷ left) ≡ cuts_after (reverse before) done ++ (w ∷ rest) =
-    cuts_split before done (step ∷ left) ∙ ap (λ (r : List (List Flagged)). cuts_after (reverse before) done ++ r) here in
+    cuts_split before done (step ∷ left)
+    ∙ ap (λ (r : List (List Flagged)). cuts_after (reverse before) done ++ r) here in
     let at : length (cuts_after (reverse before) done) ≡ length (cuts_after (reverse before) done) + 0 = omega arith in
     ap (λ (l : List (List Flagged)). get_or l (length (cuts_after (reverse before) done)) []) all
     ∙ ap (λ (n : ℕ). get_or (cuts_after (reverse before) done ++ (w ∷ rest)) n []) at
@@ -157,24 +188,33 @@ All_front P [] ys h = All-nil P
 All_front P (x ∷ xs) ys h = All-cons P x xs (All-head P x (xs ++ ys) h) (All_front P xs ys (All-tail P x (xs ++ ys) h))
 
 -- where the heads do not fall, those after one are at least that
-later_heads : (before : List ℕ) (n : ℕ) (later : List ℕ) → IsNonDecreasing (before ++ n ∷ later) → All (λ h. n ≤ h) later
+later_heads : (before : List ℕ) (n : ℕ) (later : List ℕ)
+    → IsNonDecreasing (before ++ n ∷ later)
+    → All (λ h. n ≤ h) later
 later_heads before n later rise i d lt =
     omega (
       arith,
-      rise (length before + 0) (length before + suc i) d (omega arith) (omega (arith, length-append before (n ∷ later), lt)),
+      rise (length before + 0) (length before + suc i) d (omega arith)
+          (omega (arith, length-append before (n ∷ later), lt)),
       get_or-append-add before (n ∷ later) 0 d,
       get_or-append-add before (n ∷ later) (suc i) d,
     )
 
 -- heads that were loaded since are at least the number taken
-pub loaded_since : (taken : ℕ) (heads loaded : List ℕ) → KnowsTaken taken heads → IsNonDecreasing (heads ++ loaded) → All (λ h. taken ≤ h) loaded
+pub loaded_since : (taken : ℕ) (heads loaded : List ℕ)
+    → KnowsTaken taken heads
+    → IsNonDecreasing (heads ++ loaded)
+    → All (λ h. taken ≤ h) loaded
 loaded_since taken heads loaded k rise =
     let parts : heads ++ loaded ≡ k.before ++ taken ∷ (k.later ++ loaded) =
     ap (λ (hs : List ℕ). hs ++ loaded) k.parts ∙ append_assoc k.before (taken ∷ k.later) loaded in
     All_later (λ h. taken ≤ h) k.later loaded
     (later_heads k.before taken (k.later ++ loaded) (subst IsNonDecreasing parts rise))
 
-pub knows_more : (taken : ℕ) (heads loaded : List ℕ) → KnowsTaken taken heads → IsNonDecreasing (heads ++ loaded) → KnowsTaken taken (heads ++ loaded)
+pub knows_more : (taken : ℕ) (heads loaded : List ℕ)
+    → KnowsTaken taken heads
+    → IsNonDecreasing (heads ++ loaded)
+    → KnowsTaken taken (heads ++ loaded)
 knows_more taken heads loaded k rise = record {
   before = k.before;
   later = k.later ++ loaded;
@@ -185,8 +225,12 @@ knows_more taken heads loaded k rise = record {
 -- ---- what is refused
 
 -- where as many more as there are have room beside those that each head counts, none is refused
-pub none_refused : (capacity base place sent : ℕ) (cs : List Flagged) (ps : List PutAnswer) (heads : List ℕ) → length ps ≡ length cs
-    → IsFullAt capacity sent ps → AreAmong ps heads → All (λ h. base ≤ h) heads → sent + length cs < base + capacity
+pub none_refused : (capacity base place sent : ℕ) (cs : List Flagged) (ps : List PutAnswer) (heads : List ℕ)
+    → length ps ≡ length cs
+    → IsFullAt capacity sent ps
+    → AreAmong ps heads
+    → All (λ h. base ≤ h) heads
+    → sent + length cs < base + capacity
     → (accepted_list cs ps ≡ cs) × (overrun_list place sent ps ≡ [])
 unfolding accepted_list overrun_list IsFullAt AreAmong
 none_refused capacity base place sent [] [] heads e h among all room = (refl, refl)
@@ -197,7 +241,10 @@ none_refused capacity base place sent (c ∷ cs) (accepts ∷ ps) heads e h amon
     none_refused capacity base (place + 1) (sent + 1) cs ps heads (omega (arith, e)) h among all (omega arith) in
     (ap (λ r. c ∷ r) rest.0, rest.1)
 none_refused capacity base place sent (c ∷ cs) (refuses seen ∷ ps) heads e h among all room =
-    let here : base ≤ seen = All-head (λ h. base ≤ h) seen among.1 (All_later (λ h. base ≤ h) among.0 (seen ∷ among.1) (subst (λ (hs : List ℕ). All (λ h. base ≤ h) hs) among.2 all)) in
+    let here : base ≤ seen =
+    All-head (λ h. base ≤ h) seen among.1
+    (All_later (λ h. base ≤ h) among.0 (seen ∷ among.1)
+    (subst (λ (hs : List ℕ). All (λ h. base ≤ h) hs) among.2 all)) in
     absurd (omega (arith, h.0))
 
 -- each refusal lies among the places offered, and has seen one of the heads
@@ -206,32 +253,48 @@ record Lies (Q : ℕ → Type 0) (low high : ℕ) (o : Overrun) : Type 0 where
   below : o.at < high
   sees : Q o.seen
 
-refusals_lie : (Q : ℕ → Type 0) (place high sent : ℕ) (ps : List PutAnswer) (heads : List ℕ) → AreAmong ps heads → All Q heads → place + length ps ≤ high
+refusals_lie : (Q : ℕ → Type 0) (place high sent : ℕ) (ps : List PutAnswer) (heads : List ℕ)
+    → AreAmong ps heads
+    → All Q heads
+    → place + length ps ≤ high
     → All (Lies Q place high) (overrun_list place sent ps)
 unfolding overrun_list AreAmong
 refusals_lie Q place high sent [] heads among all h = All-nil (Lies Q place high)
 refusals_lie Q place high sent (accepts ∷ ps) heads among all h =
-    All-weaker (Lies Q (place + 1) high) (Lies Q place high) (λ o l. record { from = omega (arith, l.from); below = l.below; sees = l.sees })
-    (overrun_list (place + 1) (sent + 1) ps) (refusals_lie Q (place + 1) high (sent + 1) ps heads among all (omega (arith, h)))
+    All-weaker (Lies Q (place + 1) high) (Lies Q place high)
+    (λ o l. record { from = omega (arith, l.from); below = l.below; sees = l.sees })
+    (overrun_list (place + 1) (sent + 1) ps)
+    (refusals_lie Q (place + 1) high (sent + 1) ps heads among all (omega (arith, h)))
 refusals_lie Q place high sent (refuses seen ∷ ps) heads among all h =
     let tail = All_later Q among.0 (seen ∷ among.1) (subst (λ (hs : List ℕ). All Q hs) among.2 all) in
     let here : Lies Q place high (record { at = place; sent = sent; seen = seen }) =
     record { from = omega arith; below = omega (arith, h); sees = All-head Q seen among.1 tail } in
-    All-cons (Lies Q place high) (record { at = place; sent = sent; seen = seen }) (overrun_list (place + 1) sent ps) here
-    (All-weaker (Lies Q (place + 1) high) (Lies Q place high) (λ o l. record { from = omega (arith, l.from); below = l.below; sees = l.sees })
-    (overrun_list (place + 1) sent ps) (refusals_lie Q (place + 1) high sent ps among.1 among.3 (All-tail Q seen among.1 tail) (omega (arith, h))))
+    All-cons (Lies Q place high) (record { at = place; sent = sent; seen = seen }) (overrun_list (place + 1) sent ps)
+    here
+    (All-weaker (Lies Q (place + 1) high) (Lies Q place high)
+    (λ o l. record { from = omega (arith, l.from); below = l.below; sees = l.sees })
+    (overrun_list (place + 1) sent ps)
+    (refusals_lie Q (place + 1) high sent ps among.1 among.3 (All-tail Q seen among.1 tail) (omega (arith, h))))
 
-pub refusals_see : (place high taken sent : ℕ) (ps : List PutAnswer) (heads : List ℕ) → AreAmong ps heads → All (λ h. taken ≤ h) heads → place + length ps ≤ high
+pub refusals_see : (place high taken sent : ℕ) (ps : List PutAnswer) (heads : List ℕ)
+    → AreAmong ps heads
+    → All (λ h. taken ≤ h) heads
+    → place + length ps ≤ high
     → All (SeesFrom place high taken) (overrun_list place sent ps)
 refusals_see place high taken sent ps heads among all h =
-    All-weaker (Lies (λ h. taken ≤ h) place high) (SeesFrom place high taken) (λ o l. record { from = l.from; below = l.below; sees = l.sees })
+    All-weaker (Lies (λ h. taken ≤ h) place high) (SeesFrom place high taken)
+    (λ o l. record { from = l.from; below = l.below; sees = l.sees })
     (overrun_list place sent ps) (refusals_lie (λ h. taken ≤ h) place high sent ps heads among all h)
 
 -- no overrun has seen more than the highest head
 pub overruns_see_most : (capacity most : ℕ) (all sent : List Flagged) (heads : List ℕ) (overruns : List Overrun)
-    → HandsOver capacity [] all [] sent [] heads [] overruns → All (λ h. h ≤ most) heads → All (λ o. o.seen ≤ most) overruns
+    → HandsOver capacity [] all [] sent [] heads [] overruns
+    → All (λ h. h ≤ most) heads
+    → All (λ o. o.seen ≤ most) overruns
 overruns_see_most capacity most all sent heads overruns a h =
     let o = a.offers in
     subst (λ (os : List Overrun). All (λ o. o.seen ≤ most) os) (sym o.adds_refused)
-    (All-weaker (Lies (λ h. h ≤ most) 0 (length o.answers)) (λ o. o.seen ≤ most) (λ o l. l.sees) (overrun_list 0 0 o.answers)
-    (refusals_lie (λ h. h ≤ most) 0 (length o.answers) 0 o.answers o.loaded o.among_loaded (subst (λ (hs : List ℕ). All (λ h. h ≤ most) hs) o.loads h) (omega arith)))
+    (All-weaker (Lies (λ h. h ≤ most) 0 (length o.answers)) (λ o. o.seen ≤ most) (λ o l. l.sees)
+    (overrun_list 0 0 o.answers)
+    (refusals_lie (λ h. h ≤ most) 0 (length o.answers) 0 o.answers o.loaded o.among_loaded
+    (subst (λ (hs : List ℕ). All (λ h. h ≤ most) hs) o.loads h) (omega arith)))

@@ -1,5 +1,6 @@
 -- Some steps of a line after others.
-use Rattle.std.proofs.Common.{◌≡◌, ℕ, suc, ◌+◌, ◌≤◌, ◌<◌, List, [], ◌∷◌, ◌++◌, length, map, take, drop, get_or, sym, ◌∙◌, ap, subst, arith, append_assoc, length-take}
+use Rattle.std.proofs.Common.{◌≡◌, ℕ, suc, ◌+◌, ◌≤◌, ◌<◌, List, [], ◌∷◌, ◌++◌, length, map, take}
+use Rattle.std.proofs.Common.{drop, get_or, sym, ◌∙◌, ap, subst, arith, append_assoc, length-take}
 use Rattle.std.proofs.lemmas.List.{take_all, take-append-drop, take-map, drop-map, drop_more}
 use Rattle.std.proofs.Math.Seq.{take-add}
 use Rattle.std.specs.List.{All}
@@ -29,7 +30,12 @@ arrival_count-run flag (byte ∷ bytes) = omega (arith, arrival_count-run flag b
 -- of the first `n` of these characters, `n` arrive
 pub arrival_count-taken : (bytes : List ℕ) (n : ℕ) → n ≤ length bytes → arrival_count (take n (good_steps bytes)) ≡ n
 arrival_count-taken bytes n le =
-    omega (arith, ap arrival_count (take-map (rx_step Normal) n bytes), arrival_count-run Normal (take n bytes), length-take n bytes)
+    omega (
+      arith,
+      ap arrival_count (take-map (rx_step Normal) n bytes),
+      arrival_count-run Normal (take n bytes),
+      length-take n bytes,
+    )
 
 -- the first of these steps are the next ones
 pub stands_first : (xs ys : List LineStep) (v : PortValue) (putter : PutterState Flagged) (line : LineState) (run : ℕ)
@@ -44,14 +50,17 @@ stands_first xs ys v putter line run s = record {
 }
 
 -- where the first of these steps stop the line
-pub stops_early : (d : Denied) (xs ys : List LineStep) (v w : PortValue) (putter now : PutterState Flagged) (line next : LineState) (run : ℕ)
-    → StopsSteps d xs v w putter now line next run → StopsSteps d (xs ++ ys) v w putter now line next run
+pub stops_early : (d : Denied) (xs ys : List LineStep) (v w : PortValue) (putter now : PutterState Flagged)
+    (line next : LineState) (run : ℕ)
+    → StopsSteps d xs v w putter now line next run
+    → StopsSteps d (xs ++ ys) v w putter now line next run
 stops_early d xs ys v w putter now line next run h = record {
-  each = λ b done left script i. h.each b done (ys ++ left) (script ∙ ap (λ (l : List LineStep). done ++ l) (append_assoc xs ys left)) i;
+  each = λ b done left script i.
+      h.each b done (ys ++ left) (script ∙ ap (λ (l : List LineStep). done ++ l) (append_assoc xs ys left)) i;
 }
 
-module _ (xs ys : List LineStep) (v w : PortValue) (putter now : PutterState Flagged) (line next : LineState) (run later : ℕ)
-    (p : PlaysSteps xs v w putter now line next run later) where
+module _ (xs ys : List LineStep) (v w : PortValue) (putter now : PutterState Flagged) (line next : LineState)
+    (run later : ℕ) (p : PlaysSteps xs v w putter now line next run later) where
   module _ (b : LineStart) (done left : List LineStep) (script : steps_of b ≡ done ++ ((xs ++ ys) ++ left)) where
     script_first : steps_of b ≡ done ++ (xs ++ (ys ++ left))
     script_first = script ∙ ap (λ (l : List LineStep). done ++ l) (append_assoc xs ys left)
@@ -73,7 +82,8 @@ module _ (xs ys : List LineStep) (v w : PortValue) (putter now : PutterState Fla
   pub stops_later : (d : Denied) (x : PortValue) (after : PutterState Flagged) (last : LineState)
       → StopsSteps d ys w x now after next last later → StopsSteps d (xs ++ ys) v x putter after line last run
   stops_later d x after last h = record {
-    each = λ b done left script i. h.each b (done ++ xs) left (script_then b done left script) (then b done left script i);
+    each = λ b done left script i.
+        h.each b (done ++ xs) left (script_then b done left script) (then b done left script i);
   }
 
   pub stands_on : StandsBefore (xs ++ ys) v putter line run → StandsBefore ys w now next later
@@ -85,14 +95,24 @@ module _ (xs ys : List LineStep) (v w : PortValue) (putter now : PutterState Fla
         left = s.left;
         script = script_then s.b s.done s.left s.script;
         between = i;
-        room = omega (arith, s.room, s.between.in_line.arrived, s.between.in_line.most, i.in_line.arrived, i.in_line.most, arrival_count-append xs ys, arrival_count-append s.done xs);
+        room = omega (
+          arith,
+          s.room,
+          s.between.in_line.arrived,
+          s.between.in_line.most,
+          i.in_line.arrived,
+          i.in_line.most,
+          arrival_count-append xs ys,
+          arrival_count-append s.done xs,
+        );
       }
 
 -- after the first `at` of these steps
-module _ (steps : List LineStep) (at : ℕ) (v w : PortValue) (putter now : PutterState Flagged) (line next : LineState) (run later : ℕ)
-    (p : PlaysSteps (take at steps) v w putter now line next run later) where
+module _ (steps : List LineStep) (at : ℕ) (v w : PortValue) (putter now : PutterState Flagged) (line next : LineState)
+    (run later : ℕ) (p : PlaysSteps (take at steps) v w putter now line next run later) where
   pub plays_from : (n : ℕ) (x : PortValue) (after : PutterState Flagged) (last : LineState) (end : ℕ)
-      → PlaysSteps (take n (drop at steps)) w x now after next last later end → PlaysSteps (take (at + n) steps) v x putter after line last run end
+      → PlaysSteps (take n (drop at steps)) w x now after next last later end
+      → PlaysSteps (take (at + n) steps) v x putter after line last run end
   plays_from n x after last end q =
       subst (λ (l : List LineStep). PlaysSteps l v x putter after line last run end) (sym (take-add at n steps))
       (plays_more (take at steps) (take n (drop at steps)) v w putter now line next run later p x after last end q)
@@ -115,10 +135,12 @@ module _ (steps : List LineStep) (at : ℕ) (step : LineStep) (rest : List LineS
   pub stands_at : StandsBefore steps v putter line run → StandsBefore (step ∷ []) w now next later
   stands_at s =
       stands_first (step ∷ []) rest w now next later
-      (subst (λ (l : List LineStep). StandsBefore l w now next later) here (stands_from steps at v w putter now line next run later p s))
+      (subst (λ (l : List LineStep). StandsBefore l w now next later) here
+      (stands_from steps at v w putter now line next run later p s))
 
   pub plays_next : (x : PortValue) (after : PutterState Flagged) (last : LineState) (end : ℕ)
-      → PlaysSteps (step ∷ []) w x now after next last later end → PlaysSteps (take (at + 1) steps) v x putter after line last run end
+      → PlaysSteps (step ∷ []) w x now after next last later end
+      → PlaysSteps (take (at + 1) steps) v x putter after line last run end
   plays_next x after last end q =
       plays_from steps at v w putter now line next run later p 1 x after last end
       (subst (λ (l : List LineStep). PlaysSteps (take 1 l) w x now after next last later end) (sym here) q)
@@ -138,7 +160,8 @@ run_from flag bytes i lt =
     ∙ ap (λ (l : List LineStep). rx_step flag (get_or bytes i 0) ∷ l) (sym (drop-map (rx_step flag) (i + 1) bytes))
 
 -- a part of a line, after the parts before it
-module _ (parts : List Part) (items : List LineStep) (all : steps_in parts ≡ items) (i : ℕ) (part : Part) (lt : i < length parts) (is : get_or parts i part ≡ part) where
+module _ (parts : List Part) (items : List LineStep) (all : steps_in parts ≡ items) (i : ℕ) (part : Part)
+    (lt : i < length parts) (is : get_or parts i part ≡ part) where
   abbrev front : List LineStep
   front = steps_in (take i parts)
 
@@ -154,31 +177,42 @@ module _ (parts : List Part) (items : List LineStep) (all : steps_in parts ≡ i
       ∙ ap (λ (l : List LineStep). front ++ l) (append_assoc (steps_of_part part) back (closed_script []))
 
   pub good_part : (P : LineStep → Type 0) → All P items → All P (steps_of_part part)
-  good_part P good = All_front P (steps_of_part part) back (All_later P front (steps_of_part part ++ back) (subst (All P) around good))
+  good_part P good =
+      All_front P (steps_of_part part) back (All_later P front (steps_of_part part ++ back) (subst (All P) around good))
 
   module _ (v w : PortValue) (putter now : PutterState Flagged) (line next : LineState) (run later : ℕ)
       (p : PlaysSteps front v w putter now line next run later) where
-    pub stands_in_part : StandsBefore (closed_script items) v putter line run → StandsBefore (steps_of_part part) w now next later
+    pub stands_in_part : StandsBefore (closed_script items) v putter line run
+        → StandsBefore (steps_of_part part) w now next later
     stands_in_part s =
         stands_first (steps_of_part part) (closed_script back) w now next later
         (stands_on front (steps_of_part part ++ closed_script back) v w putter now line next run later p
         (subst (λ (l : List LineStep). StandsBefore l v putter line run) closed_around s))
 
     pub plays_part : (x : PortValue) (after : PutterState Flagged) (last : LineState) (end : ℕ)
-        → PlaysSteps (steps_of_part part) w x now after next last later end → PlaysSteps (steps_in (take (i + 1) parts)) v x putter after line last run end
+        → PlaysSteps (steps_of_part part) w x now after next last later end
+        → PlaysSteps (steps_in (take (i + 1) parts)) v x putter after line last run end
     plays_part x after last end q =
-        subst (λ (l : List LineStep). PlaysSteps l v x putter after line last run end) (sym (one_part_more parts i part lt is))
+        subst (λ (l : List LineStep). PlaysSteps l v x putter after line last run end)
+        (sym (one_part_more parts i part lt is))
         (plays_more front (steps_of_part part) v w putter now line next run later p x after last end q)
 
     pub stops_in_part : (d : Denied) (x : PortValue) (after : PutterState Flagged) (last : LineState)
-        → StopsSteps d (steps_of_part part) w x now after next last later → StopsSteps d (closed_script items) v x putter after line last run
+        → StopsSteps d (steps_of_part part) w x now after next last later
+        → StopsSteps d (closed_script items) v x putter after line last run
     stops_in_part d x after last h =
         subst (λ (l : List LineStep). StopsSteps d l v x putter after line last run) (sym closed_around)
-        (stops_later front (steps_of_part part ++ closed_script back) v w putter now line next run later p d x after last
+        (stops_later front (steps_of_part part ++ closed_script back)
+        v w putter now line next run later p d x after last
         (stops_early d (steps_of_part part) (closed_script back) w x now after next last later h))
 
 -- after all parts
-pub plays_parts : (parts : List Part) (items : List LineStep) (i : ℕ) (v w : PortValue) (putter now : PutterState Flagged) (line next : LineState) (run later : ℕ)
-    → steps_in parts ≡ items → length parts ≤ i → PlaysSteps (steps_in (take i parts)) v w putter now line next run later → PlaysSteps items v w putter now line next run later
+pub plays_parts : (parts : List Part) (items : List LineStep) (i : ℕ) (v w : PortValue)
+    (putter now : PutterState Flagged) (line next : LineState) (run later : ℕ)
+    → steps_in parts ≡ items
+    → length parts ≤ i
+    → PlaysSteps (steps_in (take i parts)) v w putter now line next run later
+    → PlaysSteps items v w putter now line next run later
 plays_parts parts items i v w putter now line next run later all over p =
-    subst (λ (l : List LineStep). PlaysSteps l v w putter now line next run later) (ap steps_in (take_all i parts over) ∙ all) p
+    subst (λ (l : List LineStep). PlaysSteps l v w putter now line next run later)
+    (ap steps_in (take_all i parts over) ∙ all) p

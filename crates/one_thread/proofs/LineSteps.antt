@@ -1,5 +1,7 @@
 -- What a step of a line, and a flush after it, come to.
-use Rattle.std.proofs.Common.{◌≡◌, ℕ, ◌+◌, ◌-◌, ◌^◌, ◌<◌, ◌≤◌, Bool, true, false, not, ◌||◌, ◌&&◌, ◌==◌, List, [], ◌∷◌, ◌++◌, length, get_or, refl, sym, ◌∙◌, ap, subst, arith, append_assoc, append-nil, length-append, Option, Some, IsTrue}
+use Rattle.std.proofs.Common.{◌≡◌, ℕ, ◌+◌, ◌-◌, ◌^◌, ◌<◌, ◌≤◌, Bool, true, false, not, ◌||◌, ◌&&◌}
+use Rattle.std.proofs.Common.{◌==◌, List, [], ◌∷◌, ◌++◌, length, get_or, refl, sym, ◌∙◌, ap, subst}
+use Rattle.std.proofs.Common.{arith, append_assoc, append-nil, length-append, Option, Some, IsTrue}
 use Rattle.std.specs.List.{flat_map}
 use Rattle.std.specs.List.Sorted.{IsNonDecreasing}
 use Rattle.std.proofs.lemmas.Bool.Decides.{nat_tests}
@@ -46,7 +48,10 @@ or_true : (a : Bool) → (a || true) ≡ true
 or_true true = refl
 or_true false = refl
 
-pub no_more_of : {A : Type 0} (f : PlainEntry → List A) (es : List PlainEntry) (e : PlainEntry) → flat_map f es ≡ [] → f e ≡ [] → flat_map f (es ++ e ∷ []) ≡ []
+pub no_more_of : {A : Type 0} (f : PlainEntry → List A) (es : List PlainEntry) (e : PlainEntry)
+    → flat_map f es ≡ []
+    → f e ≡ []
+    → flat_map f (es ++ e ∷ []) ≡ []
 no_more_of f es e h k = sym (flat_map_more f [] es e) ∙ (λ i. h i ++ k i)
 
 -- rings of one name are one ring
@@ -59,13 +64,23 @@ names_tell ring other same =
     let block : ring.block ≡ other.block = cc in
     let offset : ring.offset ≡ other.offset = cc in
     let slot_names : ring.slot_names ≡ other.slot_names = cc in
-    λ i. record { words = words i; slots = slots i; views_name = views_name i; atom = atom i; block = block i; offset = offset i; slot_names = slot_names i }
+    λ i. record {
+      words = words i;
+      slots = slots i;
+      views_name = views_name i;
+      atom = atom i;
+      block = block i;
+      offset = offset i;
+      slot_names = slot_names i;
+    }
 
 -- ---- what a step of the line comes to
 
-pub record StepsTo (putter now : PutterState Flagged) (line next : LineState) (before : List LineStep) (step : LineStep) : Type 0 where
+pub record StepsTo (putter now : PutterState Flagged) (line next : LineState) (before : List LineStep)
+    (step : LineStep) : Type 0 where
   pub done : HasDone next (before ++ step ∷ [])
-  pub hands_over : HandsOver putter.capacity (received_list before) (received_list (before ++ step ∷ [])) putter.sent now.sent putter.heads now.heads line.report.overruns.items next.report.overruns.items
+  pub hands_over : HandsOver putter.capacity (received_list before) (received_list (before ++ step ∷ [])) putter.sent
+      now.sent putter.heads now.heads line.report.overruns.items next.report.overruns.items
   pub capacity : now.capacity ≡ putter.capacity
   pub name : name_of now.ring ≡ name_of putter.ring
   pub room : next.most ≤ (2 ^ 63 - length now.sent) + next.handed
@@ -73,23 +88,33 @@ pub record StepsTo (putter now : PutterState Flagged) (line next : LineState) (b
   pub most : next.most ≡ line.most
   pub arrived : next.report.arrived ≡ line.report.arrived + length (arrival step)
 
-has_put_steps : (v : PortValue) (putter now : PutterState Flagged) (line next : LineState) (before : List LineStep) (step : LineStep)
-    → HasPut v putter line before → StepsTo putter now line next before step → HasPut v now next (before ++ step ∷ [])
+has_put_steps : (v : PortValue) (putter now : PutterState Flagged) (line next : LineState) (before : List LineStep)
+    (step : LineStep)
+    → HasPut v putter line before
+    → StepsTo putter now line next before step
+    → HasPut v now next (before ++ step ∷ [])
 has_put_steps v putter now line next before step h st = record {
   ring = names_tell now.ring putter.ring st.name ∙ h.ring;
   capacity = st.capacity ∙ h.capacity;
   done = st.done;
-  hands_over = HandsOver-trans v.flip.capacity [] (received_list before) (received_list (before ++ step ∷ [])) [] putter.sent now.sent [] putter.heads now.heads [] line.report.overruns.items next.report.overruns.items h.hands_over
-      (subst (λ (n : ℕ). HandsOver n (received_list before) (received_list (before ++ step ∷ [])) putter.sent now.sent putter.heads now.heads line.report.overruns.items next.report.overruns.items) h.capacity st.hands_over);
+  hands_over = HandsOver-trans v.flip.capacity [] (received_list before) (received_list (before ++ step ∷ [])) []
+      putter.sent now.sent [] putter.heads now.heads [] line.report.overruns.items
+      next.report.overruns.items h.hands_over
+      (subst (λ (n : ℕ). HandsOver n (received_list before) (received_list (before ++ step ∷ [])) putter.sent now.sent
+      putter.heads now.heads line.report.overruns.items next.report.overruns.items) h.capacity st.hands_over);
   room = st.room;
 }
 
-pub in_line_steps : (b : LineStart) (v : PortValue) (putter now : PutterState Flagged) (line next : LineState) (done : List LineStep) (step : LineStep)
-    → IsInLine b v putter line done → StepsTo putter now line next (steps_before b ++ done) step → IsInLine b v now next (done ++ step ∷ [])
+pub in_line_steps : (b : LineStart) (v : PortValue) (putter now : PutterState Flagged) (line next : LineState)
+    (done : List LineStep) (step : LineStep)
+    → IsInLine b v putter line done
+    → StepsTo putter now line next (steps_before b ++ done) step
+    → IsInLine b v now next (done ++ step ∷ [])
 in_line_steps b v putter now line next done step i st =
     let o = st.hands_over.offers in
     let sent : v.terminal.sent ≤ length now.sent =
-    omega (arith, i.sent, ap length o.accepts_rest, length-append putter.sent (accepted_list st.hands_over.list o.answers)) in
+    omega
+    (arith, i.sent, ap length o.accepts_rest, length-append putter.sent (accepted_list st.hands_over.list o.answers)) in
     let arrived_more = arrival_count-step done step in
     record {
       of_scene = i.of_scene;
@@ -118,51 +143,81 @@ in_line_steps b v putter now line next done step i st =
 
 -- ---- both ends meet
 
-pub sent_met : (f : TakerState Flagged) (putter now : PutterState Flagged) → MeetsTaker f putter now → now.sent ≡ putter.sent
+pub sent_met : (f : TakerState Flagged) (putter now : PutterState Flagged)
+    → MeetsTaker f putter now
+    → now.sent ≡ putter.sent
 sent_met f putter now m = ap (λ (p : PutterState Flagged). p.sent) m.putter
 
-pub heads_met : (f : TakerState Flagged) (putter now : PutterState Flagged) → MeetsTaker f putter now → now.heads ≡ putter.heads ++ length f.taken ∷ []
+pub heads_met : (f : TakerState Flagged) (putter now : PutterState Flagged)
+    → MeetsTaker f putter now
+    → now.heads ≡ putter.heads ++ length f.taken ∷ []
 heads_met f putter now m = ap (λ (p : PutterState Flagged). p.heads) m.putter
 
-pub knows_met : (f : TakerState Flagged) (putter now : PutterState Flagged) → MeetsTaker f putter now → KnowsTaken (length f.taken) now.heads
+pub knows_met : (f : TakerState Flagged) (putter now : PutterState Flagged)
+    → MeetsTaker f putter now
+    → KnowsTaken (length f.taken) now.heads
 knows_met f putter now m = record { before = putter.heads; later = []; parts = heads_met f putter now m; rise = m.rise }
 
 pub has_put_met : (v : PortValue) (putter now : PutterState Flagged) (line : LineState) (steps : List LineStep)
     → HasPut v putter line steps → MeetsTaker v.flip putter now → HasPut v now line steps
 has_put_met v putter now line steps h m =
-    let none : HandsOver v.flip.capacity (received_list steps) (received_list steps) putter.sent putter.sent putter.heads now.heads line.report.overruns.items line.report.overruns.items =
+    let none : HandsOver v.flip.capacity (received_list steps) (received_list steps) putter.sent putter.sent
+    putter.heads now.heads line.report.overruns.items line.report.overruns.items =
     record {
       list = [];
       grows = sym (append-nil (received_list steps));
-      offers = Offers-none v.flip.capacity (length (received_list steps)) putter.sent putter.heads now.heads (length v.flip.taken ∷ []) line.report.overruns.items (heads_met v.flip putter now m);
+      offers = Offers-none v.flip.capacity (length (received_list steps)) putter.sent putter.heads now.heads
+          (length v.flip.taken ∷ []) line.report.overruns.items (heads_met v.flip putter now m);
     } in
-    let all : HandsOver v.flip.capacity [] (received_list steps) [] putter.sent [] now.heads [] line.report.overruns.items =
-    HandsOver-trans v.flip.capacity [] (received_list steps) (received_list steps) [] putter.sent putter.sent [] putter.heads now.heads [] line.report.overruns.items line.report.overruns.items h.hands_over none in
+    let all : HandsOver v.flip.capacity [] (received_list steps)
+    [] putter.sent [] now.heads [] line.report.overruns.items =
+    HandsOver-trans v.flip.capacity [] (received_list steps) (received_list steps) [] putter.sent putter.sent []
+    putter.heads now.heads [] line.report.overruns.items line.report.overruns.items h.hands_over none in
     record {
       ring = ap (λ (p : PutterState Flagged). p.ring) m.putter ∙ h.ring;
       capacity = ap (λ (p : PutterState Flagged). p.capacity) m.putter ∙ h.capacity;
       done = h.done;
-      hands_over = subst (λ (xs : List Flagged). HandsOver v.flip.capacity [] (received_list steps) [] xs [] now.heads [] line.report.overruns.items) (sym (sent_met v.flip putter now m)) all;
-      room = subst (λ (xs : List Flagged). line.most ≤ (2 ^ 63 - length xs) + line.handed) (sym (sent_met v.flip putter now m)) h.room;
+      hands_over = subst (λ (xs : List Flagged).
+          HandsOver v.flip.capacity [] (received_list steps) [] xs [] now.heads [] line.report.overruns.items)
+          (sym (sent_met v.flip putter now m)) all;
+      room = subst (λ (xs : List Flagged). line.most ≤ (2 ^ 63 - length xs) + line.handed)
+          (sym (sent_met v.flip putter now m)) h.room;
     }
 
 -- the account asks of the port its flip buffer's ring and capacity alone
 pub has_put_at : (v w : PortValue) (putter : PutterState Flagged) (line : LineState) (steps : List LineStep)
-    → w.flip.ring ≡ v.flip.ring → w.flip.capacity ≡ v.flip.capacity → HasPut v putter line steps → HasPut w putter line steps
+    → w.flip.ring ≡ v.flip.ring
+    → w.flip.capacity ≡ v.flip.capacity
+    → HasPut v putter line steps
+    → HasPut w putter line steps
 has_put_at v w putter line steps ring capacity h = record {
   ring = h.ring ∙ sym ring;
   capacity = h.capacity ∙ sym capacity;
   done = h.done;
-  hands_over = subst (λ (n : ℕ). HandsOver n [] (received_list steps) [] putter.sent [] putter.heads [] line.report.overruns.items) (sym capacity) h.hands_over;
+  hands_over = subst
+      (λ (n : ℕ). HandsOver n [] (received_list steps) [] putter.sent [] putter.heads [] line.report.overruns.items)
+      (sym capacity) h.hands_over;
   room = h.room;
 }
 
-pub scene_met : (s : Scene) (v : PortValue) (putter : PutterState Flagged) → IsOfSceneIn HasAnyOrder s v → IsOfSceneIn HasAnyOrder s (record v { flip = after_meeting v.flip putter })
+pub scene_met : (s : Scene) (v : PortValue) (putter : PutterState Flagged)
+    → IsOfSceneIn HasAnyOrder s v
+    → IsOfSceneIn HasAnyOrder s (record v { flip = after_meeting v.flip putter })
 scene_met s v putter o =
-    record { counts = o.counts; capacity = o.capacity; limit = o.limit; known = o.known; in_phases = o.in_phases; turns = tt }
+    record {
+      counts = o.counts;
+      capacity = o.capacity;
+      limit = o.limit;
+      known = o.known;
+      in_phases = o.in_phases;
+      turns = tt;
+    }
 
-pub in_line_met : (b : LineStart) (v : PortValue) (putter now : PutterState Flagged) (line : LineState) (steps : List LineStep)
-    → IsInLine b v putter line steps → MeetsTaker v.flip putter now → IsInLine b (record v { flip = after_meeting v.flip putter }) now line steps
+pub in_line_met : (b : LineStart) (v : PortValue) (putter now : PutterState Flagged) (line : LineState)
+    (steps : List LineStep)
+    → IsInLine b v putter line steps
+    → MeetsTaker v.flip putter now
+    → IsInLine b (record v { flip = after_meeting v.flip putter }) now line steps
 in_line_met b v putter now line steps i m = record {
   of_scene = scene_met b.scene v putter i.of_scene;
   within = i.within;
@@ -182,16 +237,21 @@ in_line_met b v putter now line steps i m = record {
   ring = i.ring;
   capacity = i.capacity;
   some_room = i.some_room;
-  has_put = has_put_at v (record v { flip = after_meeting v.flip putter }) now line (steps_before b ++ steps) refl refl (has_put_met v putter now line (steps_before b ++ steps) i.has_put m);
+  has_put = has_put_at v (record v { flip = after_meeting v.flip putter }) now line (steps_before b ++ steps) refl refl
+      (has_put_met v putter now line (steps_before b ++ steps) i.has_put m);
   most = i.most;
   arrived = i.arrived;
 }
 
 -- the end that takes out was told of all that was put
-pub in_line_heard : (b : LineStart) (v : PortValue) (putter now : PutterState Flagged) (line : LineState) (steps : List LineStep)
-    → IsInLine b v putter line steps → now ≡ with_all_pushed putter → IsInLine b (record v { flip = after_meeting v.flip putter }) now line steps
+pub in_line_heard : (b : LineStart) (v : PortValue) (putter now : PutterState Flagged) (line : LineState)
+    (steps : List LineStep)
+    → IsInLine b v putter line steps
+    → now ≡ with_all_pushed putter
+    → IsInLine b (record v { flip = after_meeting v.flip putter }) now line steps
 in_line_heard b v putter now line steps i heard =
-    subst (λ (p : PutterState Flagged). IsInLine b (record v { flip = after_meeting v.flip putter }) p line steps) (sym heard)
+    subst (λ (p : PutterState Flagged). IsInLine b (record v { flip = after_meeting v.flip putter }) p line steps)
+    (sym heard)
     (record {
       of_scene = scene_met b.scene v putter i.of_scene;
       within = i.within;
@@ -211,7 +271,13 @@ in_line_heard b v putter now line steps i heard =
       ring = i.ring;
       capacity = i.capacity;
       some_room = i.some_room;
-      has_put = record { ring = i.has_put.ring; capacity = i.has_put.capacity; done = i.has_put.done; hands_over = i.has_put.hands_over; room = i.has_put.room };
+      has_put = record {
+        ring = i.has_put.ring;
+        capacity = i.has_put.capacity;
+        done = i.has_put.done;
+        hands_over = i.has_put.hands_over;
+        room = i.has_put.room;
+      };
       most = i.most;
       arrived = i.arrived;
     })
@@ -228,61 +294,90 @@ record Keeps (t u : Terminal) : Type 0 where
   callers : u.callers ≡ t.callers
 
 receives_keeps : (t : Terminal) (chars : List Flagged) → Keeps t (after_characters t chars)
-receives_keeps t [] = record { phase = refl; line_over = refl; clock_over = refl; tick = refl; sent = refl; callers = refl }
+receives_keeps t [] =
+    record { phase = refl; line_over = refl; clock_over = refl; tick = refl; sent = refl; callers = refl }
 receives_keeps t (c ∷ cs) =
     let k = receives_keeps (after_character t c) cs in
-    record { phase = k.phase; line_over = k.line_over; clock_over = k.clock_over; tick = k.tick; sent = k.sent; callers = k.callers }
+    record {
+      phase = k.phase;
+      line_over = k.line_over;
+      clock_over = k.clock_over;
+      tick = k.tick;
+      sent = k.sent;
+      callers = k.callers;
+    }
 
 -- where the journal stands, from where the line began
-pub place_is_after : (b : LineStart) (v : PortValue) (putter : PutterState Flagged) (line : LineState) (steps : List LineStep) (i : IsInLine b v putter line steps)
-    → place_of b.scene v.journal ≡ place_after (call_at b.scene.port b.scene.session) (place_of b.scene b.port.journal) i.flushes
+pub place_is_after : (b : LineStart) (v : PortValue) (putter : PutterState Flagged) (line : LineState)
+    (steps : List LineStep) (i : IsInLine b v putter line steps)
+    → place_of b.scene v.journal
+    ≡ place_after (call_at b.scene.port b.scene.session) (place_of b.scene b.port.journal) i.flushes
 place_is_after b v putter line steps i =
-    ap (λ (es : List PlainEntry). place_of b.scene es) i.added ∙ place_both (call_at b.scene.port b.scene.session) (first_place b.scene.port b.scene.session) b.port.journal i.flushes
+    ap (λ (es : List PlainEntry). place_of b.scene es) i.added
+    ∙ place_both (call_at b.scene.port b.scene.session) (first_place b.scene.port b.scene.session)
+    b.port.journal i.flushes
 
-module _ (b : LineStart) (v w : PortValue) (putter : PutterState Flagged) (line : LineState) (steps : List LineStep) (run most n : ℕ)
-    (i : IsInLine b v putter line steps) (takes : Takes v w run 0 most n) where
+module _ (b : LineStart) (v w : PortValue) (putter : PutterState Flagged) (line : LineState) (steps : List LineStep)
+    (run most n : ℕ) (i : IsInLine b v putter line steps) (takes : Takes v w run 0 most n) where
   pub journal_is : w.journal ≡ v.journal ++ flush_entry v run 0 takes.chars ∷ []
   journal_is = ap (λ (x : PortValue). x.journal) takes.appends.appended
 
-  pub terminal_is : w.terminal ≡ record (after_characters v.terminal takes.chars) { flushed = Some (record { run = run; part = 0 }) }
+  pub terminal_is : w.terminal
+      ≡ record (after_characters v.terminal takes.chars) { flushed = Some (record { run = run; part = 0 }) }
   terminal_is = ap (λ (x : PortValue). x.terminal) takes.appends.appended
 
-  pub in_line_flushed : IsInTurn b.scene.port b.scene.session (place_of b.scene v.journal) (flush_entry v run 0 takes.chars) → IsInLine b w putter line steps
+  pub in_line_flushed : IsInTurn b.scene.port b.scene.session (place_of b.scene v.journal)
+      (flush_entry v run 0 takes.chars)
+      → IsInLine b w putter line steps
   in_line_flushed in_turn =
       let e = flush_entry v run 0 takes.chars in
       let k = receives_keeps v.terminal takes.chars in
       let p = b.scene.port in
       let session = b.scene.session in
       let allowed : Allowed (call_at p session) (counts_on p session) v.terminal e = takes.appends.allowed in
-      let leads : Leads (call_at p session) (counts_on p session) b.port.terminal (i.flushes ++ e ∷ []) (after (call_at p session) v.terminal e) =
+      let leads : Leads (call_at p session) (counts_on p session) b.port.terminal (i.flushes ++ e ∷ [])
+      (after (call_at p session) v.terminal e) =
       leads_more (call_at p session) (counts_on p session) b.port.terminal i.flushes v.terminal e i.leads allowed in
       record {
         of_scene = record {
           counts = ap (λ (x : PortValue). x.counts) takes.appends.appended ∙ i.of_scene.counts;
           capacity = takes.takes_out.capacity ∙ i.of_scene.capacity;
           limit = ap (λ (x : PortValue). x.limit) takes.appends.appended ∙ i.of_scene.limit;
-          known = subst (λ ks. Grows (call_in ks) (call_at p session)) (sym (ap (λ (x : PortValue). x.kept) takes.appends.appended)) i.of_scene.known;
-          in_phases = subst (λ (es : List PlainEntry). AreInPhases p session 0 es) (sym journal_is) (in_phases_more p session 0 v.journal e i.of_scene.in_phases tt);
+          known = subst (λ ks. Grows (call_in ks) (call_at p session))
+              (sym (ap (λ (x : PortValue). x.kept) takes.appends.appended)) i.of_scene.known;
+          in_phases = subst (λ (es : List PlainEntry). AreInPhases p session 0 es) (sym journal_is)
+              (in_phases_more p session 0 v.journal e i.of_scene.in_phases tt);
           turns = tt;
         };
         within = i.within;
         phase = ap (λ (t : Terminal). t.phase) terminal_is ∙ k.phase ∙ i.phase;
         line_over = ap (λ (t : Terminal). t.line_over) terminal_is ∙ k.line_over ∙ i.line_over;
         clock_over = ap (λ (t : Terminal). t.clock_over) terminal_is ∙ k.clock_over ∙ i.clock_over;
-        callers = λ c. ap (λ (t : Terminal). caller_at t c) terminal_is ∙ ap (λ (cs : List CallerState). get_or cs c idle_caller) k.callers ∙ i.callers c;
+        callers = λ c.
+            ap (λ (t : Terminal). caller_at t c) terminal_is
+            ∙ ap (λ (cs : List CallerState). get_or cs c idle_caller) k.callers
+            ∙ i.callers c;
         flushes = i.flushes ++ e ∷ [];
-        added = journal_is ∙ ap (λ (es : List PlainEntry). es ++ e ∷ []) i.added ∙ append_assoc b.port.journal i.flushes (e ∷ []);
-        leads = subst (λ (u : Terminal). Leads (call_at p session) (counts_on p session) b.port.terminal (i.flushes ++ e ∷ []) u) (sym terminal_is) leads;
-        in_turn = turns_more p session (place_of b.scene b.port.journal) i.flushes e i.in_turn (subst (λ (x : Place). IsInTurn p session x e) (place_is_after b v putter line steps i) in_turn);
+        added =
+            journal_is
+            ∙ ap (λ (es : List PlainEntry). es ++ e ∷ []) i.added
+            ∙ append_assoc b.port.journal i.flushes (e ∷ []);
+        leads = subst
+            (λ (u : Terminal). Leads (call_at p session) (counts_on p session) b.port.terminal (i.flushes ++ e ∷ []) u)
+            (sym terminal_is) leads;
+        in_turn = turns_more p session (place_of b.scene b.port.journal) i.flushes e i.in_turn
+            (subst (λ (x : Place). IsInTurn p session x e) (place_is_after b v putter line steps i) in_turn);
         inside = no_more_of (λ x. session_events x.event) i.flushes e i.inside refl;
         no_end = no_more_of (λ x. line_ends x.event) i.flushes e i.no_end refl;
         kept = ap (λ (x : PortValue). x.kept) takes.appends.appended ∙ i.kept;
         tick = ap (λ (t : Terminal). t.tick) terminal_is ∙ k.tick ∙ i.tick;
-        sent = subst (λ (m : ℕ). m ≤ length putter.sent) (sym (ap (λ (t : Terminal). t.sent) terminal_is ∙ k.sent)) i.sent;
+        sent =
+            subst (λ (m : ℕ). m ≤ length putter.sent) (sym (ap (λ (t : Terminal). t.sent) terminal_is ∙ k.sent)) i.sent;
         ring = takes.takes_out.ring ∙ i.ring;
         capacity = takes.takes_out.capacity ∙ i.capacity;
         some_room = subst (λ (m : ℕ). 64 ≤ m) (sym takes.takes_out.capacity) i.some_room;
-        has_put = has_put_at v w putter line (steps_before b ++ steps) takes.takes_out.ring takes.takes_out.capacity i.has_put;
+        has_put = has_put_at v w putter line (steps_before b ++ steps)
+            takes.takes_out.ring takes.takes_out.capacity i.has_put;
         most = i.most;
         arrived = i.arrived;
       }
@@ -295,22 +390,30 @@ module _ (b : LineStart) (v w : PortValue) (putter : PutterState Flagged) (line 
   pub run_flushed : BeginsRun run v → BeginsRun (run + 1) w
   run_flushed r =
       let e = flush_entry v run 0 takes.chars in
-      let few : run + 1 ≤ length w.journal = omega (arith, r.few, ap length journal_is, length-append v.journal (e ∷ [])) in
+      let few : run + 1 ≤ length w.journal =
+      omega (arith, r.few, ap length journal_is, length-append v.journal (e ∷ [])) in
       record {
-        follows = subst (λ (f : Option Piece). IsTrue (follows f (run + 1) 0)) (sym (ap (λ (t : Terminal). t.flushed) terminal_is)) next_follows;
+        follows = subst (λ (f : Option Piece). IsTrue (follows f (run + 1) 0))
+            (sym (ap (λ (t : Terminal). t.flushed) terminal_is)) next_follows;
         below = subst (λ (es : List PlainEntry). RunsBelow (run + 1) es) (sym journal_is)
             (All-push (λ x. IsTrue (is_flush x.event) → x.step < run + 1) v.journal e
-            (All-weaker (λ x. IsTrue (is_flush x.event) → x.step < run) (λ x. IsTrue (is_flush x.event) → x.step < run + 1) (λ x less is. let below : x.step < run = less is in omega arith) v.journal r.below)
+            (All-weaker (λ x. IsTrue (is_flush x.event) → x.step < run)
+            (λ x. IsTrue (is_flush x.event) → x.step < run + 1)
+            (λ x less is. let below : x.step < run = less is in omega arith) v.journal r.below)
             (λ is. omega arith));
         few = few;
       }
 
-  pub cuts_flushed_is : (place_of b.scene v.journal).terminal ≡ v.terminal → (place_of b.scene w.journal).cuts ≡ (place_of b.scene v.journal).cuts + 1
+  pub cuts_flushed_is : (place_of b.scene v.journal).terminal ≡ v.terminal
+      → (place_of b.scene w.journal).cuts ≡ (place_of b.scene v.journal).cuts + 1
   cuts_flushed_is at =
       let place : Place = place_of b.scene v.journal in
       ap (λ (es : List PlainEntry). (place_of b.scene es).cuts) journal_is
-      ∙ ap (λ (s : Place). s.cuts) (place_more (call_at b.scene.port b.scene.session) (first_place b.scene.port b.scene.session) v.journal (flush_entry v run 0 takes.chars))
-      ∙ if_false place.terminal.line_over place.cuts (place.cuts + 1) (ap (λ (t : Terminal). t.line_over) at ∙ i.line_over)
+      ∙ ap (λ (s : Place). s.cuts)
+      (place_more (call_at b.scene.port b.scene.session) (first_place b.scene.port b.scene.session) v.journal
+      (flush_entry v run 0 takes.chars))
+      ∙ if_false place.terminal.line_over place.cuts (place.cuts + 1)
+      (ap (λ (t : Terminal). t.line_over) at ∙ i.line_over)
 
   pub stuck_flushed : accepts w.terminal ≡ false → is_stuck w.terminal ≡ true
   stuck_flushed closed = rw closed (or_true (live_count w.terminal == 0))
@@ -325,7 +428,12 @@ first_accepted : (t : Terminal) (chars : List Flagged) → AcceptsAll t chars �
 first_accepted t [] h k = absurd (omega arith)
 first_accepted t (c ∷ cs) h k = h.0
 
-pub not_stuck : (t : Terminal) (chars : List Flagged) → 0 < live_count t → AcceptsAll t chars → 0 < length chars → is_stuck t ≡ true → ⊥
+pub not_stuck : (t : Terminal) (chars : List Flagged)
+    → 0 < live_count t
+    → AcceptsAll t chars
+    → 0 < length chars
+    → is_stuck t ≡ true
+    → ⊥
 not_stuck t chars live all some h =
     let none_live : (live_count t == 0) ≡ false = grind (arith, nat_tests) in
     stuck_takes_none (live_count t == 0) (accepts t) none_live (first_accepted t chars all some) h

@@ -3,7 +3,8 @@ use Rattle.std.proofs.Common.{[], refl}
 use Rattle.uart_line.specs.Received.{is_masked, trigger_of, idle_of, is_cut, window, window_output, script}
 use Rattle.tty_terminal.specs.Rows.{three_bytes}
 use Rattle.one_thread.specs.Order.{IsInOneOrder}
-use Rattle.one_thread.specs.Rows.{three_bytes_session, three_bytes_consoles, late_flush, early_clock, waiters_session, waiters, last_waiter_first, both_told, early_tick}
+use Rattle.one_thread.specs.Rows.{three_bytes_session, three_bytes_consoles, late_flush, early_clock}
+use Rattle.one_thread.specs.Rows.{waiters_session, waiters, last_waiter_first, both_told, early_tick}
 
 pub three_bytes_in_order : IsInOneOrder 0 three_bytes_session three_bytes []
 unfolding is_masked trigger_of idle_of is_cut window window_output script
@@ -67,7 +68,10 @@ early_clock_of_console =
           record { by_turn = refl; piece = tt },
           (
             record { by_turn = refl; piece = tt },
-            (record { by_turn = refl; piece = tt }, (record { by_turn = refl; piece = tt }, (record { by_turn = refl; piece = tt }, tt))),
+            (
+              record { by_turn = refl; piece = tt },
+              (record { by_turn = refl; piece = tt }, (record { by_turn = refl; piece = tt }, tt)),
+            ),
           ),
         ),
       );

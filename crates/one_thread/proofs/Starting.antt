@@ -1,5 +1,6 @@
 -- The callers of a phase at its beginning and at its end.
-use Rattle.std.proofs.Common.{◌≡◌, ℕ, List, [], ◌∷◌, ◌++◌, Bool, true, false, Option, None, Some, is_some, if◌then◌else◌, length, refl, sym, ap}
+use Rattle.std.proofs.Common.{◌≡◌, ℕ, List, [], ◌∷◌, ◌++◌, Bool, true, false, Option}
+use Rattle.std.proofs.Common.{None, Some, is_some, if◌then◌else◌, length, refl, sym, ap}
 use Rattle.std.specs.Str.{bytes_eq}
 use Rattle.std.specs.List.{list_any}
 use Rattle.std.proofs.lemmas.List.Concat.{flat_map-append}
@@ -17,7 +18,8 @@ use Rattle.journal_check.proofs.TurnLemmas.{no_calls}
 
 -- ---- first steps
 
-calls_over : (name : Option (List ℕ)) (xs ys : List PlainScript) → calls_of (xs ++ ys) name ≡ calls_of xs name ++ calls_of ys name
+calls_over : (name : Option (List ℕ)) (xs ys : List PlainScript)
+    → calls_of (xs ++ ys) name ≡ calls_of xs name ++ calls_of ys name
 calls_over None xs ys = refl
 calls_over (Some name) xs ys = flat_map-append (λ s. if bytes_eq s.name name then s.calls else []) xs ys
 
@@ -25,15 +27,20 @@ none_here : (b : Bool) (calls rest : List PlainCall) → b ≡ false → rest �
 none_here true calls rest e f = absurd (false≢true (sym e))
 none_here false calls rest e f = f
 
-none_under : (name : List ℕ) (scripts : List PlainScript) → list_any (λ s. bytes_eq s.name name) scripts ≡ false → calls_under name scripts ≡ []
+none_under : (name : List ℕ) (scripts : List PlainScript)
+    → list_any (λ s. bytes_eq s.name name) scripts ≡ false
+    → calls_under name scripts ≡ []
 none_under name [] e = refl
 none_under name (s ∷ scripts) e =
     let both = or_parts (bytes_eq s.name name) (list_any (λ x. bytes_eq x.name name) scripts) e in
     none_here (bytes_eq s.name name) s.calls (calls_under name scripts) both.0 (none_under name scripts both.1)
 
 -- one that is no caller of a phase has no step in it
-pub no_steps : (p : ℕ) (session : PlainSession) (k c : ℕ) → has_script (scripts_on p (phase_at session k)) (name_at p session c) ≡ false → steps_in p session k c ≡ 0
-no_steps p session k c e = ap (λ (cs : List PlainCall). length cs) (no_calls (scripts_on p (phase_at session k)) (name_at p session c) e)
+pub no_steps : (p : ℕ) (session : PlainSession) (k c : ℕ)
+    → has_script (scripts_on p (phase_at session k)) (name_at p session c) ≡ false
+    → steps_in p session k c ≡ 0
+no_steps p session k c e =
+    ap (λ (cs : List PlainCall). length cs) (no_calls (scripts_on p (phase_at session k)) (name_at p session c) e)
 
 -- ---- a caller at rest
 

@@ -1,6 +1,7 @@
 -- What each act of the player needs, and what it comes to, whatever scene is played: so it serves also where the
 -- session is known only at its end.
-use Rattle.std.specs.Prelude.{◌≡◌, ◌<◌, ◌≤◌, ◌+◌, ◌-◌, ℕ, List, [], ◌∷◌, ◌++◌, IsTrue, All, None, Some, length, slice_get}
+use Rattle.std.specs.Prelude.{◌≡◌, ◌<◌, ◌≤◌, ◌+◌, ◌-◌, ℕ, List, [], ◌∷◌, ◌++◌}
+use Rattle.std.specs.Prelude.{IsTrue, All, None, Some, length, slice_get}
 use Rattle.tty_base.specs.declared.lines.LineStep.{LineStep}
 use Rattle.word_ring.specs.Ends.{PutterState}
 use Rattle.tty_base.specs.declared.characters.Flagged.{Flagged}
@@ -19,7 +20,8 @@ use Rattle.one_thread.specs.Order.{is_of_consoles}
 use Rattle.one_thread.specs.Roles.{Scene, calls_in}
 use Rattle.one_thread.specs.Stages.{HasAnyOrder, HasOneOrder, EndsAfterLineIn, EndsAfterLine}
 use Rattle.one_thread.specs.Lines.{IsAtPhaseIn, PlaysLineIn, PlaysLine, StopsLineIn, StopsLine}
-use Rattle.one_thread.specs.Turns.{role_numbers, standing_at, IsTurn, IsPossible, IsNextCall, PlaysIn, Plays, PlaysOn, TakesTurn}
+use Rattle.one_thread.specs.Turns.{role_numbers, standing_at, IsTurn, IsPossible}
+use Rattle.one_thread.specs.Turns.{IsNextCall, PlaysIn, Plays, PlaysOn, TakesTurn}
 use Rattle.one_thread.specs.declared.roles.Role.{Role}
 use Rattle.one_thread.specs.declared.after_line.Stand.{Stand}
 use Rattle.one_thread.specs.declared.after_line.Turn.{Turn}
@@ -28,7 +30,8 @@ use Rattle.one_thread.specs.declared.after_line.Turn.TheVariants as turn
 -- ---- the line of a phase
 
 -- a scene in whose phase this line begins, in an order
-pub record BeginsLineIn (HasOrder : Scene → List PlainEntry → Type 0) (steps : List LineStep) (v : PortValue) (putter : PutterState Flagged) (line : LineState) (run : ℕ) : Type 0 where
+pub record BeginsLineIn (HasOrder : Scene → List PlainEntry → Type 0) (steps : List LineStep) (v : PortValue)
+    (putter : PutterState Flagged) (line : LineState) (run : ℕ) : Type 0 where
   pub scene : Scene
   pub begins : IsAtPhaseIn HasOrder scene v.terminal.phase v putter line run
   pub within : v.terminal.phase < length scene.session.phases
@@ -42,13 +45,19 @@ abbrev pub BeginsInOrder : List LineStep → PortValue → PutterState Flagged �
 BeginsInOrder steps v putter line run = BeginsLineIn HasOneOrder steps v putter line run
 
 -- the line is played in whatever order the phases before were, and in the order of one thread where they were
-pub record PlaysItsLine (steps : List LineStep) (old new : PortValue) (putter now : PutterState Flagged) (line played : LineState) (run next : ℕ) : Type 0 where
-  pub each : (h : BeginsLine steps old putter line run) → PlaysLineIn HasAnyOrder h.scene old.terminal.phase old new now line played next
-  pub in_order : (h : BeginsInOrder steps old putter line run) → PlaysLine h.scene old.terminal.phase old new now line played next
+pub record PlaysItsLine (steps : List LineStep) (old new : PortValue) (putter now : PutterState Flagged)
+    (line played : LineState) (run next : ℕ) : Type 0 where
+  pub each : (h : BeginsLine steps old putter line run)
+      → PlaysLineIn HasAnyOrder h.scene old.terminal.phase old new now line played next
+  pub in_order : (h : BeginsInOrder steps old putter line run)
+      → PlaysLine h.scene old.terminal.phase old new now line played next
 
-pub record StopsItsLine (d : Denied) (steps : List LineStep) (old new : PortValue) (putter now : PutterState Flagged) (line played : LineState) (run : ℕ) : Type 0 where
-  pub each : (h : BeginsLine steps old putter line run) → StopsLineIn HasAnyOrder d h.scene old.terminal.phase old new now played
-  pub in_order : (h : BeginsInOrder steps old putter line run) → StopsLine d h.scene old.terminal.phase old new now played
+pub record StopsItsLine (d : Denied) (steps : List LineStep) (old new : PortValue) (putter now : PutterState Flagged)
+    (line played : LineState) (run : ℕ) : Type 0 where
+  pub each : (h : BeginsLine steps old putter line run)
+      → StopsLineIn HasAnyOrder d h.scene old.terminal.phase old new now played
+  pub in_order : (h : BeginsInOrder steps old putter line run)
+      → StopsLine d h.scene old.terminal.phase old new now played
 
 -- by steps of it: one flush more at most, and no call
 pub record FlushesOnce (old new : PortValue) : Type 0 where
@@ -105,15 +114,20 @@ pub record MakesCall (old new : PortValue) (c : ℕ) (call : PlainCall) : Type 0
   pub grows : Grows (call_in old.kept) (call_in new.kept)
 
 -- what its attempt came to
-pub record TriesCall (roles : List Role) (old new : PortValue) (place : ℕ) (call : PlainCall) (tried : PlainTried) : Type 0 where
+pub record TriesCall (roles : List Role) (old new : PortValue) (place : ℕ) (call : PlainCall)
+    (tried : PlainTried) : Type 0 where
   pub role : Role
   pub at_place : slice_get roles place ≡ Some role
   pub attempts : Attempts old new role.number (caller_at old.terminal role.number).next call tried
   pub makes : MakesCall old new role.number call
 
-pub record PlaysCall (roles : List Role) (old new : PortValue) (before now : Stand) (place : ℕ) (call : PlainCall) : Type 0 where
-  pub each : (h : InCall roles old before place call) → TakesTurn h.in_turn.scene h.in_turn.scripts roles old new before now (turn.Call place)
-  pub in_order : (h : InOrder roles old before (turn.Call place)) → IsNextCall h.scripts roles old place call → PlaysOn h.scene h.scripts roles old new before now
+pub record PlaysCall (roles : List Role) (old new : PortValue) (before now : Stand) (place : ℕ)
+    (call : PlainCall) : Type 0 where
+  pub each : (h : InCall roles old before place call)
+      → TakesTurn h.in_turn.scene h.in_turn.scripts roles old new before now (turn.Call place)
+  pub in_order : (h : InOrder roles old before (turn.Call place))
+      → IsNextCall h.scripts roles old place call
+      → PlaysOn h.scene h.scripts roles old new before now
 
 -- .. where the caller at a place, whose turn can be taken, has no call left
 pub record HasNoCall (scripts : List Script) (roles : List Role) (v : PortValue) (place : ℕ) : Type 0 where
@@ -132,13 +146,17 @@ pub record InLast (roles : List Role) (v : PortValue) (stand : Stand) (place : �
   pub none : HasNoCall in_turn.scripts roles v place
 
 pub record PlaysLast (roles : List Role) (old new : PortValue) (before now : Stand) (place : ℕ) : Type 0 where
-  pub each : (h : InLast roles old before place) → TakesTurn h.in_turn.scene h.in_turn.scripts roles old new before now (turn.Call place)
-  pub in_order : (h : InOrder roles old before (turn.Call place)) → HasNoCall h.scripts roles old place → PlaysOn h.scene h.scripts roles old new before now
+  pub each : (h : InLast roles old before place)
+      → TakesTurn h.in_turn.scene h.in_turn.scripts roles old new before now (turn.Call place)
+  pub in_order : (h : InOrder roles old before (turn.Call place))
+      → HasNoCall h.scripts roles old place
+      → PlaysOn h.scene h.scripts roles old new before now
 
 -- ---- the end of the phase
 
 -- the player, since the line's end, in an order
-pub record PlayingIn (HasOrder : Scene → List PlainEntry → Type 0) (s : Scene) (scripts : List Script) (roles : List Role) (start v : PortValue) (ticks : ℕ) (stand : Stand) : Type 0 where
+pub record PlayingIn (HasOrder : Scene → List PlainEntry → Type 0) (s : Scene) (scripts : List Script)
+    (roles : List Role) (start v : PortValue) (ticks : ℕ) (stand : Stand) : Type 0 where
   pub plays : PlaysIn HasOrder s scripts roles v stand
   pub part : List PlainEntry
   pub added : v.journal ≡ start.journal ++ part
@@ -170,6 +188,9 @@ pub record InOrderedEnd (roles : List Role) (start v : PortValue) (stand : Stand
   pub is_turn : IsTurn (is_of_consoles scene.session) v (role_numbers roles) stand.going turn.End
   pub ticks_are : ticks ≡ ticks_on scene.port (phase_at scene.session start.terminal.phase)
 
-pub record PlaysEnd (roles : List Role) (old new : PortValue) (putter now : PutterState Flagged) (stand : Stand) (run : ℕ) : Type 0 where
-  pub each : (start : PortValue) (h : InEnd roles start old stand) → EndsAfterLineIn HasAnyOrder h.scene start new putter now run
-  pub in_order : (start : PortValue) (h : InOrderedEnd roles start old stand) → EndsAfterLine h.scene start new putter now run
+pub record PlaysEnd (roles : List Role) (old new : PortValue) (putter now : PutterState Flagged) (stand : Stand)
+    (run : ℕ) : Type 0 where
+  pub each : (start : PortValue) (h : InEnd roles start old stand)
+      → EndsAfterLineIn HasAnyOrder h.scene start new putter now run
+  pub in_order : (start : PortValue) (h : InOrderedEnd roles start old stand)
+      → EndsAfterLine h.scene start new putter now run

@@ -1,5 +1,6 @@
 -- How the roles of a phase are found.
-use Rattle.std.specs.Prelude.{◌≡◌, ◌==◌, ◌+◌, ℕ, List, [], ◌∷◌, Option, None, Some, All, IsSome, length, map, filter, slice_get, slice_index_or, slice_set}
+use Rattle.std.specs.Prelude.{◌≡◌, ◌==◌, ◌+◌, ℕ, List, [], ◌∷◌, Option, None, Some, All, IsSome}
+use Rattle.std.specs.Prelude.{length, map, filter, slice_get, slice_index_or, slice_set}
 use Rattle.tty_calls.specs.declared.sessions.Script.{Script}
 use Rattle.tty_calls.specs.declared.sessions.Phase.{Phase}
 use Rattle.tty_calls.specs.declared.sessions.Session.{Session}
@@ -28,7 +29,11 @@ HaveSameCallers others scripts = map caller_in others ≡ map caller_in scripts
 -- the role of a script, where its name has a number
 abbrev pub role_for : List (List ℕ) → List ℕ → PlainScript → PlainRole
 role_for names steps s =
-    record { number = number_or (number_in names s.name); first = slice_index_or steps (number_or (number_in names s.name)) 0; calls = s.calls }
+    record {
+      number = number_or (number_in names s.name);
+      first = slice_index_or steps (number_or (number_in names s.name)) 0;
+      calls = s.calls;
+    }
 
 abbrev pub IsNumbered : List (List ℕ) → PlainScript → Type 0
 IsNumbered names s = IsSome (number_in names s.name)

@@ -1,5 +1,6 @@
 -- What holds between two steps of the line of a phase.
-use Rattle.std.specs.Prelude.{◌≡◌, ◌⊎◌, ◌≤◌, ◌<◌, ◌+◌, ◌-◌, min, ℕ, List, [], ◌∷◌, ◌++◌, true, false, All, length, reverse}
+use Rattle.std.specs.Prelude.{◌≡◌, ◌⊎◌, ◌≤◌, ◌<◌, ◌+◌, ◌-◌, min, ℕ, List, []}
+use Rattle.std.specs.Prelude.{◌∷◌, ◌++◌, true, false, All, length, reverse}
 use Rattle.std.specs.List.Sorted.{IsNonDecreasing}
 use mathlib.Core.List.{IsPrefix}
 use Rattle.tty_base.specs.declared.characters.Flagged.{Flagged}
@@ -39,7 +40,8 @@ abbrev pub steps_of : LineStart → List LineStep
 steps_of b = closed_script (line_on b.scene.port (phase_at b.scene.session b.phase))
 
 -- The line has done these steps of the phase, and nothing but flushes stands in the journal since it began.
-pub record IsInLine (b : LineStart) (v : PortValue) (putter : PutterState Flagged) (line : LineState) (steps : List LineStep) : Type 0 where
+pub record IsInLine (b : LineStart) (v : PortValue) (putter : PutterState Flagged) (line : LineState)
+    (steps : List LineStep) : Type 0 where
   pub of_scene : IsOfSceneIn HasAnyOrder b.scene v
   pub within : b.phase < length b.scene.session.phases
   pub phase : v.terminal.phase ≡ b.phase
@@ -48,7 +50,8 @@ pub record IsInLine (b : LineStart) (v : PortValue) (putter : PutterState Flagge
   pub callers : AreAtFirst b.scene b.phase v.terminal
   pub flushes : List PlainEntry
   pub added : v.journal ≡ b.port.journal ++ flushes
-  pub leads : Leads (call_at b.scene.port b.scene.session) (counts_on b.scene.port b.scene.session) b.port.terminal flushes v.terminal
+  pub leads : Leads (call_at b.scene.port b.scene.session) (counts_on b.scene.port b.scene.session)
+      b.port.terminal flushes v.terminal
   pub in_turn : AreInTurn b.scene.port b.scene.session (place_of b.scene b.port.journal) flushes
   pub inside : session_events_in flushes ≡ []
   pub no_end : line_ends_in flushes ≡ []
@@ -76,12 +79,14 @@ pub record SeesFrom (low high taken : ℕ) (o : Overrun) : Type 0 where
   pub sees : taken ≤ o.seen
 
 -- all that was put is taken, each cut of the steps was flushed, and none of their characters was refused
-pub record IsCaughtUp (b : LineStart) (v : PortValue) (putter : PutterState Flagged) (steps : List LineStep) (overruns : List Overrun) : Type 0 where
+pub record IsCaughtUp (b : LineStart) (v : PortValue) (putter : PutterState Flagged) (steps : List LineStep)
+    (overruns : List Overrun) : Type 0 where
   pub all : v.flip.taken ≡ putter.sent
   pub cuts : (place_of b.scene v.journal).cuts ≡ length (cuts_after (reverse (steps_before b)) steps)
   pub none : overruns ≡ []
 
-pub record IsBetweenSteps (b : LineStart) (v : PortValue) (putter : PutterState Flagged) (line : LineState) (steps : List LineStep) (run : ℕ) : Type 0 where
+pub record IsBetweenSteps (b : LineStart) (v : PortValue) (putter : PutterState Flagged) (line : LineState)
+    (steps : List LineStep) (run : ℕ) : Type 0 where
   pub in_line : IsInLine b v putter line steps
   pub begins_run : BeginsRun run v
   pub knows : KnowsTaken (length v.flip.taken) putter.heads
@@ -90,7 +95,8 @@ pub record IsBetweenSteps (b : LineStart) (v : PortValue) (putter : PutterState 
   pub overruns : List Overrun
   pub more_overruns : line.report.overruns.items ≡ b.line.report.overruns.items ++ overruns
   pub floor : received_before b.scene.port b.scene.session b.phase ≤ length (received_list (steps_before b ++ steps))
-  pub seen : All (SeesFrom (received_before b.scene.port b.scene.session b.phase) (length (received_list (steps_before b ++ steps))) (length v.flip.taken)) overruns
+  pub seen : All (SeesFrom (received_before b.scene.port b.scene.session b.phase)
+      (length (received_list (steps_before b ++ steps))) (length v.flip.taken)) overruns
   -- the port takes all at each cut; or it is closed to input, and takes no more up to the line's end
   pub open_or_stuck : IsCaughtUp b v putter steps overruns ⊎ (is_stuck v.terminal ≡ true)
 
@@ -124,24 +130,28 @@ pub record DeniesCut (d : Denied) (old new : PortValue) (putter now : PutterStat
   pub denies : Denies d (record old { flip = after_meeting old.flip putter }) new
 
 -- what was put since so many were put is flushed, a piece of it at most; where that is nothing, all stays
-pub record FlushesSince (before : ℕ) (old new : PortValue) (putter now : PutterState Flagged) (run next : ℕ) : Type 0 where
+pub record FlushesSince (before : ℕ) (old new : PortValue) (putter now : PutterState Flagged)
+    (run next : ℕ) : Type 0 where
   pub none : length putter.sent ≤ before → (new ≡ old) × (now ≡ putter) × (next ≡ run)
   pub some : before < length putter.sent → FlushesCut old new putter now run (min (length putter.sent - before) 64) next
 
 -- ---- some steps of a line
 
 -- Wherever a line is between two steps and these are its next ones, it does them, and is between two steps again.
-pub record PlaysSteps (steps : List LineStep) (v w : PortValue) (putter now : PutterState Flagged) (line next : LineState) (run later : ℕ) : Type 0 where
+pub record PlaysSteps (steps : List LineStep) (v w : PortValue) (putter now : PutterState Flagged)
+    (line next : LineState) (run later : ℕ) : Type 0 where
   pub each : (b : LineStart) (done left : List LineStep) → steps_of b ≡ done ++ (steps ++ left)
       → IsBetweenSteps b v putter line done run → IsBetweenSteps b w now next (done ++ steps) later
 
 -- Wherever a line is between two steps and these are its next ones, it stops in them.
-pub record StopsSteps (d : Denied) (steps : List LineStep) (v w : PortValue) (putter now : PutterState Flagged) (line next : LineState) (run : ℕ) : Type 0 where
+pub record StopsSteps (d : Denied) (steps : List LineStep) (v w : PortValue) (putter now : PutterState Flagged)
+    (line next : LineState) (run : ℕ) : Type 0 where
   pub each : (b : LineStart) (done left : List LineStep) → steps_of b ≡ done ++ (steps ++ left)
       → IsBetweenSteps b v putter line done run → StopsLineIn HasAnyOrder d b.scene b.phase b.port w now next
 
 -- Some line is between two steps and these are its next ones, with room for what arrives in them.
-pub record StandsBefore (steps : List LineStep) (v : PortValue) (putter : PutterState Flagged) (line : LineState) (run : ℕ) : Type 0 where
+pub record StandsBefore (steps : List LineStep) (v : PortValue) (putter : PutterState Flagged) (line : LineState)
+    (run : ℕ) : Type 0 where
   pub b : LineStart
   pub done : List LineStep
   pub left : List LineStep

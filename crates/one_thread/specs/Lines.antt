@@ -21,16 +21,19 @@ use Rattle.one_thread.specs.Roles.{Scene}
 use Rattle.one_thread.specs.Stages.{HasOneOrder, IsOfSceneIn, AreAtFirst, BeginsRun, IsAfterLineIn, place_of}
 
 -- The line has done these steps, and has handed over all that they gave to the putter of this port's flip buffer.
-pub record HasPut (v : PortValue) (putter : PutterState Flagged) (line : LineState) (steps : List LineStep) : Type 0 where
+pub record HasPut (v : PortValue) (putter : PutterState Flagged) (line : LineState)
+    (steps : List LineStep) : Type 0 where
   pub ring : putter.ring ≡ v.flip.ring
   pub capacity : putter.capacity ≡ v.flip.capacity
   pub done : HasDone line steps
-  pub hands_over : HandsOver v.flip.capacity [] (received_list steps) [] putter.sent [] putter.heads [] line.report.overruns.items
+  pub hands_over : HandsOver v.flip.capacity [] (received_list steps)
+      [] putter.sent [] putter.heads [] line.report.overruns.items
   -- so that the putter's numbers serve for all that can still be handed over
   pub room : line.most ≤ (2 ^ 63 - length putter.sent) + line.handed
 
 -- port, putter and line at the beginning of phase k
-pub record IsAtPhaseIn (HasOrder : Scene → List PlainEntry → Type 0) (s : Scene) (k : ℕ) (v : PortValue) (putter : PutterState Flagged) (line : LineState) (run : ℕ) : Type 0 where
+pub record IsAtPhaseIn (HasOrder : Scene → List PlainEntry → Type 0) (s : Scene) (k : ℕ) (v : PortValue)
+    (putter : PutterState Flagged) (line : LineState) (run : ℕ) : Type 0 where
   pub of_scene : IsOfSceneIn HasOrder s v
   pub phase : v.terminal.phase ≡ k
   pub line_over : v.terminal.line_over ≡ false
@@ -55,13 +58,15 @@ pub record SeesIn (s : Scene) (k seen : ℕ) (o : Overrun) : Type 0 where
   pub sees : o.seen ≡ seen
 
 -- The line of phase k is over: port, putter and line before and after it.
-pub record PlaysLineIn (HasOrder : Scene → List PlainEntry → Type 0) (s : Scene) (k : ℕ) (old new : PortValue) (now : PutterState Flagged) (line played : LineState) (run : ℕ) : Type 0 where
+pub record PlaysLineIn (HasOrder : Scene → List PlainEntry → Type 0) (s : Scene) (k : ℕ) (old new : PortValue)
+    (now : PutterState Flagged) (line played : LineState) (run : ℕ) : Type 0 where
   pub after_line : IsAfterLineIn HasOrder s new run
   pub phase : new.terminal.phase ≡ k
   pub flushes : List PlainEntry
   pub last : PlainEntry
   pub added : new.journal ≡ old.journal ++ (flushes ++ last ∷ [])
-  pub leads : Leads (call_at s.port s.session) (counts_on s.port s.session) old.terminal (flushes ++ last ∷ []) new.terminal
+  pub leads : Leads (call_at s.port s.session) (counts_on s.port s.session) old.terminal (flushes ++ last ∷ [])
+      new.terminal
   -- up to the end of a line each entry is in its turn in the order of one thread, whatever the order is behind it
   pub in_turn : AreInTurn s.port s.session (place_of s old.journal) (flushes ++ last ∷ [])
   pub inside : session_events_in flushes ≡ []
@@ -79,11 +84,14 @@ pub record PlaysLineIn (HasOrder : Scene → List PlainEntry → Type 0) (s : Sc
   pub more_overruns : played.report.overruns.items ≡ line.report.overruns.items ++ overruns
   pub seen : All (SeesIn s k (length (chars_of (old.journal ++ flushes)))) overruns
 
-abbrev pub PlaysLine : Scene → (k : ℕ) → (old new : PortValue) → (now : PutterState Flagged) → (line played : LineState) → (run : ℕ) → Type 0
+abbrev pub PlaysLine : Scene → (k : ℕ) → (old new : PortValue) → (now : PutterState Flagged) → (line played : LineState)
+    → (run : ℕ)
+    → Type 0
 PlaysLine s k old new now line played run = PlaysLineIn HasOneOrder s k old new now line played run
 
 -- The journal is full in the line of phase k.
-pub record StopsInLineIn (HasOrder : Scene → List PlainEntry → Type 0) (s : Scene) (k : ℕ) (old new : PortValue) (now : PutterState Flagged) (played : LineState) : Type 0 where
+pub record StopsInLineIn (HasOrder : Scene → List PlainEntry → Type 0) (s : Scene) (k : ℕ) (old new : PortValue)
+    (now : PutterState Flagged) (played : LineState) : Type 0 where
   pub of_scene : IsOfSceneIn HasOrder s new
   pub part : List PlainEntry
   pub added : new.journal ≡ old.journal ++ part
@@ -100,10 +108,13 @@ pub record StopsInLineIn (HasOrder : Scene → List PlainEntry → Type 0) (s : 
   pub script : script_of_first s.port s.session (k + 1) ≡ steps ++ left
   pub has_put : HasPut new now played steps
 
-abbrev pub StopsInLine : Scene → (k : ℕ) → (old new : PortValue) → (now : PutterState Flagged) → (played : LineState) → Type 0
+abbrev pub StopsInLine : Scene → (k : ℕ) → (old new : PortValue) → (now : PutterState Flagged) → (played : LineState)
+    → Type 0
 StopsInLine s k old new now played = StopsInLineIn HasOneOrder s k old new now played
 
-abbrev pub StopsLineIn : (HasOrder : Scene → List PlainEntry → Type 0) → Denied → Scene → ℕ → PortValue → PortValue → PutterState Flagged → LineState → Type 0
+abbrev pub StopsLineIn : (HasOrder : Scene → List PlainEntry → Type 0) → Denied → Scene → ℕ → PortValue → PortValue
+    → PutterState Flagged → LineState
+    → Type 0
 StopsLineIn HasOrder NoMemory s k old new now played = Unit {0}
 StopsLineIn HasOrder Full s k old new now played = StopsInLineIn HasOrder s k old new now played
 

@@ -1,13 +1,17 @@
 -- The order of one thread: whose turn it is after the entries so far, and how much a flush takes. It is read off the
 -- session, the terminal, the entry before, and the steps that the line has done.
-use Rattle.std.specs.Prelude.{◌≡◌, ◌≤◌, ◌<◌, ◌+◌, ◌==◌, ℕ, List, [], ◌∷◌, ◌++◌, Bool, false, not, ◌&&◌, ◌||◌, nat_le, IsTrue, MatchBool, Option, None, Some, is_some, if◌then◌else◌, length, flat_map, reverse, sum, option_to_list, slice_index_or}
+use Rattle.std.specs.Prelude.{◌≡◌, ◌≤◌, ◌<◌, ◌+◌, ◌==◌, ℕ, List, [], ◌∷◌, ◌++◌, Bool, false, not, ◌&&◌}
+use Rattle.std.specs.Prelude.{◌||◌, nat_le, IsTrue, MatchBool, Option, None, Some, is_some, if◌then◌else◌}
+use Rattle.std.specs.Prelude.{length, flat_map, reverse, sum, option_to_list, slice_index_or}
 use Rattle.tty_base.specs.declared.characters.Flagged.{Flagged}
 use Rattle.tty_base.specs.declared.lines.LineStep.{LineStep}
 use Rattle.tty_base.specs.declared.lines.Overrun.{Overrun}
 use Rattle.tty_calls.specs.declared.journals.Who.{Who}
 use Rattle.tty_calls.specs.declared.journals.Who.TheVariants.{Caller, Flusher, Line, Clock, Session}
-use Rattle.tty_calls.specs.Plain.{PlainCall, PlainEvent, answered, parted, waited, flushed, ticked, line_ended, clock_ended, caller_ended, phase_ended, hung_up, PlainEntry}
-use Rattle.tty_calls.specs.Sessions.{PlainSession, line_on, scripts_on, scripts_over, names_of, number_in, call_at, counts_on}
+use Rattle.tty_calls.specs.Plain.{PlainCall, PlainEvent, answered, parted, waited, flushed, ticked}
+use Rattle.tty_calls.specs.Plain.{line_ended, clock_ended, caller_ended, phase_ended, hung_up, PlainEntry}
+use Rattle.tty_calls.specs.Sessions.{PlainSession, line_on, scripts_on, scripts_over}
+use Rattle.tty_calls.specs.Sessions.{names_of, number_in, call_at, counts_on}
 use Rattle.uart_line.specs.Received.{is_cut, window, window_output, closed_script}
 use Rattle.tty_terminal.specs.Terminals.{Terminal, opening, caller_at, live_count}
 use Rattle.tty_terminal.specs.Receiving.{accepts, after_character, after_characters}
@@ -22,11 +26,13 @@ use Rattle.journal_check.specs.Legal.{phase_at, script_of_first, received_before
 abbrev pub cuts_after : List LineStep → List LineStep → List (List Flagged)
 cuts_after past [] = []
 cuts_after past (step ∷ steps) =
-    (if is_cut (step ∷ past) (window (step ∷ past)) then window_output (window (step ∷ past)) ∷ [] else []) ++ cuts_after (step ∷ past) steps
+    (if is_cut (step ∷ past) (window (step ∷ past)) then window_output (window (step ∷ past)) ∷ [] else [])
+    ++ cuts_after (step ∷ past) steps
 
 -- at each cut of the line of phase k
 abbrev pub cuts_in : ℕ → PlainSession → ℕ → List (List Flagged)
-cuts_in p session k = cuts_after (reverse (script_of_first p session k)) (closed_script (line_on p (phase_at session k)))
+cuts_in p session k =
+    cuts_after (reverse (script_of_first p session k)) (closed_script (line_on p (phase_at session k)))
 
 -- as many of these characters as the discipline accepts, one after the other
 abbrev pub accepted_front : Terminal → List Flagged → List Flagged
@@ -42,7 +48,8 @@ front_to_flush t chars = if live_count t == 0 then [] else accepted_front t char
 -- their numbers, in the text's order
 abbrev pub callers_of : ℕ → PlainSession → ℕ → List ℕ
 callers_of p session k =
-    flat_map (λ s. option_to_list (number_in (names_of (scripts_over p session.phases)) s.name)) (scripts_on p (phase_at session k))
+    flat_map (λ s. option_to_list (number_in (names_of (scripts_over p session.phases)) s.name))
+    (scripts_on p (phase_at session k))
 
 abbrev pub must_wait : (ℕ → ℕ → Option PlainCall) → Terminal → ℕ → Bool
 must_wait calls t c = is_wait (outcome_of t (caller_at t c) (calls c (caller_at t c).next))
@@ -78,7 +85,8 @@ abbrev pub turn_by_rank : (clock_first : Bool) → (ℕ → ℕ → Option Plain
 turn_by_rank clock_first calls callers t =
     if not (nothing_to_flush t) then Flusher
     else if clock_first && not t.clock_over then Clock
-    else first_of (can_go_on calls t) callers (if not t.clock_over then Clock else first_of (is_waiting t) callers Session)
+    else first_of (can_go_on calls t) callers
+    (if not t.clock_over then Clock else first_of (is_waiting t) callers Session)
 
 -- consoles have no clocks: there the clock ends with the line. Their sessions have no version
 abbrev pub is_of_consoles : PlainSession → Bool
@@ -106,13 +114,15 @@ abbrev pub turn : ℕ → PlainSession → Place → Who
 turn p session s =
     if nat_le (length session.phases) s.terminal.phase then Session
     else if not s.terminal.line_over then (if length (due p session s) == 0 then Line else Flusher)
-    else turn_after s.before (turn_by_rank (is_of_consoles session) (call_at p session) (callers_of p session s.terminal.phase) s.terminal)
+    else turn_after s.before
+    (turn_by_rank (is_of_consoles session) (call_at p session) (callers_of p session s.terminal.phase) s.terminal)
 
 -- ---- how much a flush takes
 
 -- as many characters as can be: 64, or all that were sent, or as many as the discipline accepts
 abbrev pub is_most : Terminal → List Flagged → Bool
-is_most t chars = (length chars == 64) || ((t.taken + length chars == t.sent) || not (accepts (after_characters t chars)))
+is_most t chars =
+    (length chars == 64) || ((t.taken + length chars == t.sent) || not (accepts (after_characters t chars)))
 
 abbrev pub is_after_flush : Option PlainEntry → Bool
 is_after_flush None = false
@@ -158,7 +168,8 @@ cuts_flushed t phase_ended cuts = 0
 cuts_flushed t (hung_up dropped) cuts = cuts
 
 abbrev pub first_place : ℕ → PlainSession → Place
-first_place p session = record { terminal = opening (sum (counts_on p session)) (flip_on p session); before = None; cuts = 0 }
+first_place p session =
+    record { terminal = opening (sum (counts_on p session)) (flip_on p session); before = None; cuts = 0 }
 
 abbrev pub next_place : (ℕ → ℕ → Option PlainCall) → Place → PlainEntry → Place
 next_place calls s e =
@@ -177,13 +188,17 @@ AreInTurn p session s (e ∷ es) = IsInTurn p session s e × AreInTurn p session
 -- an overrun in the line of phase k has seen taken all that was taken before that line's end
 abbrev pub SeesAll : ℕ → PlainSession → List PlainEntry → Overrun → Type 0
 SeesAll p session journal o =
-    (k : ℕ) → received_before p session k ≤ o.at → o.at < received_before p session (k + 1) → o.seen ≡ length (chars_of (before_line_end k journal))
+    (k : ℕ)
+    → received_before p session k ≤ o.at
+    → o.at < received_before p session (k + 1)
+    → o.seen ≡ length (chars_of (before_line_end k journal))
 
 abbrev pub AllSeeAll : ℕ → PlainSession → List PlainEntry → List Overrun → Type 0
 AllSeeAll p session journal [] = Unit {0}
 AllSeeAll p session journal (o ∷ overruns) = SeesAll p session journal o × AllSeeAll p session journal overruns
 
 -- A journal, with the overruns of its line, in the order of one thread.
-pub record IsInOneOrder (p : ℕ) (session : PlainSession) (journal : List PlainEntry) (overruns : List Overrun) : Type 0 where
+pub record IsInOneOrder (p : ℕ) (session : PlainSession) (journal : List PlainEntry)
+    (overruns : List Overrun) : Type 0 where
   pub turns : AreInTurn p session (first_place p session) journal
   pub seen : AllSeeAll p session journal overruns

@@ -1,5 +1,6 @@
 -- How far the playing of a port has come, phase by phase.
-use Rattle.std.specs.Prelude.{◌≡◌, ◌⊎◌, ◌≤◌, ◌<◌, ◌+◌, ℕ, List, [], ◌∷◌, ◌++◌, All, if◌then◌else◌, Some, length, drop, slice_get}
+use Rattle.std.specs.Prelude.{◌≡◌, ◌⊎◌, ◌≤◌, ◌<◌, ◌+◌, ℕ, List, [], ◌∷◌, ◌++◌}
+use Rattle.std.specs.Prelude.{All, if◌then◌else◌, Some, length, drop, slice_get}
 use Rattle.tty_base.specs.declared.characters.Flagged.{Flagged}
 use Rattle.tty_base.specs.declared.lines.LineStep.{LineStep}
 use Rattle.tty_base.specs.declared.lines.Overrun.{Overrun}
@@ -11,7 +12,8 @@ use Rattle.tty_calls.specs.declared.answers.Denied.{Denied}
 use Rattle.tty_calls.specs.declared.answers.Denied.TheVariants.{NoMemory, Full}
 use Rattle.tty_calls.specs.Plain.{PlainEntry, phase_ended}
 use Rattle.tty_calls.specs.Sessions.{PlainSession, ticks_on, call_at, counts_on}
-use Rattle.journal_check.specs.Legal.{phase_at, script_of_first, script_on, received_before, is_phase_end, IsFinishedFrom, IsFinished, AreSeen, AreInPhases, flip_on}
+use Rattle.journal_check.specs.Legal.{phase_at, script_of_first, script_on, received_before, is_phase_end}
+use Rattle.journal_check.specs.Legal.{IsFinishedFrom, IsFinished, AreSeen, AreInPhases, flip_on}
 use Rattle.journal_check.specs.Short.{tick_count_in, after_phases}
 use Rattle.tty_terminal.specs.Runs.{IsRun}
 use Rattle.port_core.specs.Ports.{PortValue, IsPort, call_in}
@@ -34,7 +36,8 @@ pub record ComesTo (k : ℕ) (before : List PlainEntry) (last : PlainEntry) (jou
   pub count : phase_count before + 1 ≡ k
 
 abbrev pub IsUpTo : ℕ → List PlainEntry → Type 0
-IsUpTo k journal = ((k ≡ 0) × (journal ≡ [])) ⊎ ((before : List PlainEntry) × (last : PlainEntry) × ComesTo k before last journal)
+IsUpTo k journal =
+    ((k ≡ 0) × (journal ≡ [])) ⊎ ((before : List PlainEntry) × (last : PlainEntry) × ComesTo k before last journal)
 
 -- no phase has more ticks than the session says
 abbrev pub HasFewTicks : Scene → List PlainEntry → Type 0
@@ -52,8 +55,10 @@ pub record SeesWithin (s : Scene) (k least most : ℕ) (o : Overrun) : Type 0 wh
 pub record HavePlayed (s : Scene) (k : ℕ) (journal : List PlainEntry) (overruns : List Overrun) : Type 0 where
   pub up_to : IsUpTo k journal
   pub ticks : HasFewTicks s journal
-  pub finished : (more : List Overrun) (rest : List PlainEntry) → All (λ o. received_before s.port s.session k ≤ o.at) more
-      → IsFinishedFrom s.port s.session (overruns ++ more) k (drop k s.session.phases) rest → IsFinished s.port s.session (overruns ++ more) (journal ++ rest)
+  pub finished : (more : List Overrun) (rest : List PlainEntry)
+      → All (λ o. received_before s.port s.session k ≤ o.at) more
+      → IsFinishedFrom s.port s.session (overruns ++ more) k (drop k s.session.phases) rest
+      → IsFinished s.port s.session (overruns ++ more) (journal ++ rest)
   pub seen : (rest : List PlainEntry) → AreSeen s.port s.session (journal ++ rest) overruns
 
 -- each overrun has seen all that was taken before its line's end, whatever follows
@@ -75,7 +80,9 @@ pub record IsPortOf (s : Scene) (v : PortValue) : Type 0 where
   pub counts : v.counts ≡ counts_on s.port s.session
   pub capacity : v.flip.capacity ≡ flip_on s.port s.session
   pub limit : v.limit ≡ 4194304
-  pub calls : (capacity : ℕ) → IsRun (call_in v.kept) v.counts capacity v.journal v.terminal → IsRun (call_at s.port s.session) v.counts capacity v.journal v.terminal
+  pub calls : (capacity : ℕ)
+      → IsRun (call_in v.kept) v.counts capacity v.journal v.terminal
+      → IsRun (call_at s.port s.session) v.counts capacity v.journal v.terminal
   pub in_phases : AreInPhases s.port s.session 0 v.journal
 
 -- a journal that is full: a run of the session as far as it went
@@ -119,7 +126,11 @@ pub record EndsRun (s : Scene) (journal : List PlainEntry) (overruns : List Over
   pub overruns_are : run.line.overruns.items ≡ overruns
 
 -- the first ports of the session were played
-pub record AreFirstPlayed (session : PlainSession) (count : ℕ) (runs : List PortRun) (ends : List PortEnd) : Type 0 where
+pub record AreFirstPlayed (session : PlainSession) (count : ℕ) (runs : List PortRun)
+    (ends : List PortEnd) : Type 0 where
   pub runs_of : length runs ≡ count
   pub ends_of : length ends ≡ count
-  pub each : (p : ℕ) (run : PortRun) (end : PortEnd) → slice_get runs p ≡ Some run → slice_get ends p ≡ Some end → IsPlayedOn p session run end
+  pub each : (p : ℕ) (run : PortRun) (end : PortEnd)
+      → slice_get runs p ≡ Some run
+      → slice_get ends p ≡ Some end
+      → IsPlayedOn p session run end

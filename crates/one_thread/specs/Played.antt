@@ -28,7 +28,10 @@ pub record IsPlayedOn (p : ℕ) (session : PlainSession) (run : PortRun) (end : 
 pub record ArePlayed (session : PlainSession) (runs : List PortRun) (ends : List PortEnd) : Type 0 where
   pub runs_of_all : length runs ≡ session.ports
   pub ends_of_all : length ends ≡ session.ports
-  pub each : (p : ℕ) (run : PortRun) (end : PortEnd) → slice_get runs p ≡ Some run → slice_get ends p ≡ Some end → IsPlayedOn p session run end
+  pub each : (p : ℕ) (run : PortRun) (end : PortEnd)
+      → slice_get runs p ≡ Some run
+      → slice_get ends p ≡ Some end
+      → IsPlayedOn p session run end
 
 -- a run is in the order of one thread, where its journal is full as far as it went
 pub record IsRunInOrder (p : ℕ) (session : PlainSession) (run : PortRun) : Type 0 where

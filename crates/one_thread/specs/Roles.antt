@@ -1,5 +1,6 @@
 -- The callers of a phase as the player has them.
-use Rattle.std.specs.Prelude.{◌≡◌, ◌≢◌, ◌<◌, ◌+◌, ℕ, List, [], Option, None, Some, All, AllPairs, Contains, length, map, sum, slice_get, slice_index_or}
+use Rattle.std.specs.Prelude.{◌≡◌, ◌≢◌, ◌<◌, ◌+◌, ℕ, List, [], Option, None, Some, All}
+use Rattle.std.specs.Prelude.{AllPairs, Contains, length, map, sum, slice_get, slice_index_or}
 use Rattle.tty_calls.specs.declared.sessions.Script.{Script}
 use Rattle.tty_calls.specs.declared.sessions.Session.{Session}
 use Rattle.tty_calls.specs.Plain.{PlainCall}
@@ -42,7 +43,9 @@ pub record IsRoleOf (s : Scene) (k : ℕ) (r : PlainRole) : Type 0 where
   pub caller : IsCallerOf s.port s.session k r.number
   pub first : r.first ≡ first_step s.port s.session k r.number
   pub count : length r.calls ≡ steps_in s.port s.session k r.number
-  pub calls : (i : ℕ) (call : PlainCall) → slice_get r.calls i ≡ Some call → call_at s.port s.session r.number (r.first + i) ≡ Some call
+  pub calls : (i : ℕ) (call : PlainCall)
+      → slice_get r.calls i ≡ Some call
+      → call_at s.port s.session r.number (r.first + i) ≡ Some call
   pub within : All IsCallWithin r.calls
 
 -- the roles of the callers of phase k, in the text's order, each caller once

@@ -5,7 +5,8 @@ use Rattle.tty_modes.specs.declared.words.Word.TheVariants.{Raw}
 use Rattle.tty_calls.specs.declared.calls.Access.TheVariants.{Rw}
 use Rattle.tty_calls.specs.declared.calls.When.TheVariants.{Now}
 use Rattle.tty_calls.specs.declared.journals.Who.TheVariants.{Caller, Line, Clock, Session}
-use Rattle.tty_calls.specs.Plain.{PlainCall, opens, closes, reads, sets_modes, done, got, idle, answered, waited, ticked, line_ended, clock_ended, caller_ended, phase_ended, hung_up, PlainEntry}
+use Rattle.tty_calls.specs.Plain.{PlainCall, opens, closes, reads, sets_modes, done, got, idle, answered, waited}
+use Rattle.tty_calls.specs.Plain.{ticked, line_ended, clock_ended, caller_ended, phase_ended, hung_up, PlainEntry}
 use Rattle.tty_calls.specs.Sessions.{PlainScript, PlainSession}
 use Rattle.tty_terminal.specs.Rows.{whole, normal, opening_part, flush_part, answers}
 
@@ -20,14 +21,25 @@ three_bytes_session = record {
   ports = 1;
   flips = 4096 ∷ [];
   phases =
-      record { lines = [] ∷ []; ticks = 0 ∷ []; callers = caller_named 97 (opens 0 Rw true ∷ sets_modes 0 Now (Raw ∷ []) ∷ []) ∷ [] }
-      ∷ record { lines = (Rx (normal 104) ∷ Rx (normal 105) ∷ Rx (normal 10) ∷ []) ∷ []; ticks = 0 ∷ []; callers = caller_named 97 (reads 0 64 ∷ closes 0 ∷ []) ∷ [] }
+      record {
+        lines = [] ∷ [];
+        ticks = 0 ∷ [];
+        callers = caller_named 97 (opens 0 Rw true ∷ sets_modes 0 Now (Raw ∷ []) ∷ []) ∷ [];
+      }
+      ∷ record {
+        lines = (Rx (normal 104) ∷ Rx (normal 105) ∷ Rx (normal 10) ∷ []) ∷ [];
+        ticks = 0 ∷ [];
+        callers = caller_named 97 (reads 0 64 ∷ closes 0 ∷ []) ∷ [];
+      }
       ∷ [];
 }
 
 -- the flush of what came stands after the line's end
 abbrev pub late_flush : List PlainEntry
-late_flush = opening_part ++ (whole Line 1 0 (line_ended 3) ∷ (flush_part ++ whole (Caller 0) 2 0 (answered (got (104 ∷ 105 ∷ 10 ∷ [])) []) ∷ []))
+late_flush =
+    opening_part
+    ++ (whole Line 1 0 (line_ended 3)
+    ∷ (flush_part ++ whole (Caller 0) 2 0 (answered (got (104 ∷ 105 ∷ 10 ∷ [])) []) ∷ []))
 
 -- the clock ends before the caller has made its calls
 abbrev pub early_clock : List PlainEntry
@@ -55,7 +67,9 @@ waiters_session = record {
       record {
         lines = [] ∷ [];
         ticks = 1 ∷ [];
-        callers = caller_named 97 (opens 0 Rw false ∷ reads 0 1 ∷ []) ∷ caller_named 98 (opens 1 Rw false ∷ reads 1 1 ∷ []) ∷ [];
+        callers =
+            caller_named 97 (opens 0 Rw false ∷ reads 0 1 ∷ []) ∷ caller_named 98 (opens 1 Rw false ∷ reads 1 1 ∷ [])
+            ∷ [];
       }
       ∷ [];
 }
@@ -91,7 +105,9 @@ last_waiter_first = waiting_part ++ (clock_part ++ (vain_part 1 ++ (vain_part 0 
 abbrev pub both_told : List PlainEntry
 both_told =
     waiting_part
-    ++ (clock_part ++ (whole (Caller 0) 1 0 (answers idle) ∷ whole (Caller 1) 1 0 (answers idle) ∷ whole (Caller 0) 2 0 caller_ended ∷ whole (Caller 1) 2 0 caller_ended ∷ last_part))
+    ++ (clock_part
+    ++ (whole (Caller 0) 1 0 (answers idle) ∷ whole (Caller 1) 1 0 (answers idle) ∷ whole (Caller 0) 2 0 caller_ended
+    ∷ whole (Caller 1) 2 0 caller_ended ∷ last_part))
 
 -- the tick comes before the second caller has begun
 abbrev pub early_tick : List PlainEntry

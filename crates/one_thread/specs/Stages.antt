@@ -13,7 +13,8 @@ use Rattle.tty_terminal.specs.declared.callers.CallerState.{CallerState}
 use Rattle.tty_terminal.specs.Terminals.{Terminal, caller_at}
 use Rattle.tty_terminal.specs.Steps.{follows, next_phase, nothing_to_flush}
 use Rattle.tty_terminal.specs.Runs.{Leads, Grows, is_flush}
-use Rattle.journal_check.specs.Legal.{phase_at, name_at, has_script, first_step, steps_in, session_events_in, AreInPhases, flip_on}
+use Rattle.journal_check.specs.Legal.{phase_at, name_at, has_script, first_step}
+use Rattle.journal_check.specs.Legal.{steps_in, session_events_in, AreInPhases, flip_on}
 use Rattle.journal_check.specs.Phases.{HasPlayed}
 use Rattle.port_core.specs.Ports.{PortValue, call_in}
 use Rattle.one_thread.specs.Order.{Place, first_place, place_after, AreInTurn, turn_after, is_after_flush}
@@ -50,7 +51,8 @@ IsOfScene s v = IsOfSceneIn HasOneOrder s v
 
 -- a caller between two calls, whose next step is this one, and who is not over
 abbrev pub caller_at_rest : ℕ → CallerState
-caller_at_rest next = record { next = next; over = false; waits = None; parts = 0; taken = 0; generation = 0; bound = None }
+caller_at_rest next =
+    record { next = next; over = false; waits = None; parts = 0; taken = 0; generation = 0; bound = None }
 
 -- each caller is at its first step of phase k
 abbrev pub AreAtFirst : Scene → ℕ → Terminal → Type 0
@@ -64,7 +66,8 @@ pub record BeginsRun (run : ℕ) (v : PortValue) : Type 0 where
 
 -- ---- once the line of a phase is over
 
-pub record IsAfterLineIn (HasOrder : Scene → List PlainEntry → Type 0) (s : Scene) (v : PortValue) (run : ℕ) : Type 0 where
+pub record IsAfterLineIn (HasOrder : Scene → List PlainEntry → Type 0) (s : Scene) (v : PortValue)
+    (run : ℕ) : Type 0 where
   pub of_scene : IsOfSceneIn HasOrder s v
   pub within : v.terminal.phase < length s.session.phases
   pub line : v.terminal.line_over ≡ true
@@ -79,7 +82,8 @@ abbrev pub IsAfterLine : Scene → PortValue → (run : ℕ) → Type 0
 IsAfterLine s v run = IsAfterLineIn HasOneOrder s v run
 
 -- What comes after the line of a phase: flushes, callers and clock, up to the end of the phase.
-pub record EndsAfterLineIn (HasOrder : Scene → List PlainEntry → Type 0) (s : Scene) (old new : PortValue) (putter now : PutterState Flagged) (run : ℕ) : Type 0 where
+pub record EndsAfterLineIn (HasOrder : Scene → List PlainEntry → Type 0) (s : Scene) (old new : PortValue)
+    (putter now : PutterState Flagged) (run : ℕ) : Type 0 where
   pub part : List PlainEntry
   pub last : PlainEntry
   pub terminal : Terminal
@@ -94,7 +98,10 @@ pub record EndsAfterLineIn (HasOrder : Scene → List PlainEntry → Type 0) (s 
   pub sent : terminal.sent ≡ old.terminal.sent
   pub clock : terminal.clock_over ≡ true
   pub tick : terminal.tick ≡ old.terminal.tick + ticks_on s.port (phase_at s.session old.terminal.phase)
-  pub callers : (c : ℕ) → HasPlayed (has_script (scripts_on s.port (phase_at s.session old.terminal.phase)) (name_at s.port s.session c)) (first_step s.port s.session old.terminal.phase c) (steps_in s.port s.session old.terminal.phase c) (caller_at terminal c).next (caller_at terminal c).over
+  pub callers : (c : ℕ)
+      → HasPlayed (has_script (scripts_on s.port (phase_at s.session old.terminal.phase)) (name_at s.port s.session c))
+      (first_step s.port s.session old.terminal.phase c) (steps_in s.port s.session old.terminal.phase c)
+      (caller_at terminal c).next (caller_at terminal c).over
   pub of_scene : IsOfSceneIn HasOrder s new
   pub at_first : AreAtFirst s (old.terminal.phase + 1) new.terminal
   pub rest : nothing_to_flush new.terminal ≡ true

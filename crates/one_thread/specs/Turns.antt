@@ -1,5 +1,7 @@
 -- What the player keeps between two entries after the line of a phase, and whose turn it is.
-use Rattle.std.specs.Prelude.{◌≡◌, ◌⊎◌, ◌≤◌, ◌<◌, ◌+◌, ◌-◌, ◌==◌, ℕ, List, [], ◌∷◌, ◌++◌, Bool, true, false, not, IsTrue, MatchOption, Option, None, Some, if◌then◌else◌, length, map, slice_get, slice_index}
+use Rattle.std.specs.Prelude.{◌≡◌, ◌⊎◌, ◌≤◌, ◌<◌, ◌+◌, ◌-◌, ◌==◌, ℕ, List, [], ◌∷◌, ◌++◌}
+use Rattle.std.specs.Prelude.{Bool, true, false, not, IsTrue, MatchOption, Option, None}
+use Rattle.std.specs.Prelude.{Some, if◌then◌else◌, length, map, slice_get, slice_index}
 use Rattle.tty_calls.specs.declared.journals.Who.{Who}
 use Rattle.tty_calls.specs.declared.journals.Who.TheVariants.{Caller, Flusher, Clock, Session}
 use Rattle.tty_calls.specs.declared.sessions.Script.{Script}
@@ -52,7 +54,8 @@ IsTurnWithin turn.Pass n = Unit {0}
 IsTurnWithin turn.End n = Unit {0}
 
 -- a turn by the calls that the port keeps, where the call of the caller at a place may go on
-pub record IsTurn (clock_first : Bool) (v : PortValue) (numbers : List ℕ) (going : Option ℕ) (next : Turn) : Type 0 where
+pub record IsTurn (clock_first : Bool) (v : PortValue) (numbers : List ℕ) (going : Option ℕ)
+    (next : Turn) : Type 0 where
   pub who : who_of numbers next ≡ turn_with numbers going (turn_by_rank clock_first (call_in v.kept) numbers v.terminal)
   pub within : IsTurnWithin next (length numbers)
 
@@ -125,15 +128,24 @@ abbrev pub IsAbsent : List Role → ℕ → Type 0
 IsAbsent roles c = (i : ℕ) (r : Role) → slice_get roles i ≡ Some r → r.number ≡ c → ⊥
 
 abbrev pub standing_at_rest : ℕ → Standing
-standing_at_rest next = record { next = next; over = false; waits = false; parts = 0; taken = 0; generation = 0; begun = false }
+standing_at_rest next =
+    record { next = next; over = false; waits = false; parts = 0; taken = 0; generation = 0; begun = false }
 
-pub record HasCallers (s : Scene) (scripts : List Script) (roles : List Role) (v : PortValue) (going : Option ℕ) : Type 0 where
+pub record HasCallers (s : Scene) (scripts : List Script) (roles : List Role) (v : PortValue)
+    (going : Option ℕ) : Type 0 where
   pub are_roles : AreRolesOf s v.terminal.phase (map (role_in scripts) roles)
-  pub in_roles : (i : ℕ) (r : Role) → slice_get roles i ≡ Some r → IsInRole r.first (length (calls_in (slice_get scripts r.place))) (standing_at v r.number)
+  pub in_roles : (i : ℕ) (r : Role)
+      → slice_get roles i ≡ Some r
+      → IsInRole r.first (length (calls_in (slice_get scripts r.place))) (standing_at v r.number)
   pub kept : (c : ℕ) → (standing_at v c).begun ≡ true → IsKept v.kept c (standing_at v c).next
-  pub others : (c : ℕ) → IsAbsent roles c → standing_at v c ≡ standing_at_rest (first_step s.port s.session v.terminal.phase c)
+  pub others : (c : ℕ)
+      → IsAbsent roles c
+      → standing_at v c ≡ standing_at_rest (first_step s.port s.session v.terminal.phase c)
   pub goes_on : (i : ℕ) → going ≡ Some i → (i < length roles) × IsInParts v (slice_index (role_numbers roles) i)
-  pub parts : (c : ℕ) → (standing_at v c).waits ≡ false → 0 < (standing_at v c).parts → IsGoing (role_numbers roles) going c
+  pub parts : (c : ℕ)
+      → (standing_at v c).waits ≡ false
+      → 0 < (standing_at v c).parts
+      → IsGoing (role_numbers roles) going c
 
 -- ---- flush runs
 
@@ -151,15 +163,18 @@ pub record HasRuns (v : PortValue) (before : Option PlainEntry) (run part : ℕ)
 -- ---- the player
 
 -- since the line's end, in an order
-pub record PlaysIn (HasOrder : Scene → List PlainEntry → Type 0) (s : Scene) (scripts : List Script) (roles : List Role) (v : PortValue) (stand : Stand) : Type 0 where
+pub record PlaysIn (HasOrder : Scene → List PlainEntry → Type 0) (s : Scene) (scripts : List Script) (roles : List Role)
+    (v : PortValue) (stand : Stand) : Type 0 where
   pub of_scene : IsOfSceneIn HasOrder s v
-  pub run : IsRun (call_at s.port s.session) (counts_on s.port s.session) (flip_on s.port s.session) v.journal v.terminal
+  pub run : IsRun (call_at s.port s.session) (counts_on s.port s.session) (flip_on s.port s.session)
+      v.journal v.terminal
   pub within : v.terminal.phase < length s.session.phases
   pub line : v.terminal.line_over ≡ true
   pub clock : v.terminal.clock_over ≡ true → stand.ticks ≡ 0
   pub runs : HasRuns v (place_of s v.journal).before stand.run stand.part
   pub callers : HasCallers s scripts roles v stand.going
-  pub settled : (other : Who) → turn_after (place_of s v.journal).before other ≡ turn_with (role_numbers roles) stand.going other
+  pub settled : (other : Who)
+      → turn_after (place_of s v.journal).before other ≡ turn_with (role_numbers roles) stand.going other
 
 abbrev pub Plays : Scene → List Script → List Role → PortValue → Stand → Type 0
 Plays s scripts roles v stand = PlaysIn HasOneOrder s scripts roles v stand
@@ -177,7 +192,8 @@ pub record Adds (s : Scene) (old new : PortValue) : Type 0 where
   pub ring : new.flip.ring ≡ old.flip.ring
 
 -- What a turn came to: an entry more, and each tick is one that was left.
-pub record PlaysOnIn (HasOrder : Scene → List PlainEntry → Type 0) (s : Scene) (scripts : List Script) (roles : List Role) (old new : PortValue) (before now : Stand) : Type 0 where
+pub record PlaysOnIn (HasOrder : Scene → List PlainEntry → Type 0) (s : Scene) (scripts : List Script)
+    (roles : List Role) (old new : PortValue) (before now : Stand) : Type 0 where
   pub plays : PlaysIn HasOrder s scripts roles new now
   pub adds : Adds s old new
   pub ticks : new.terminal.tick + now.ticks ≡ old.terminal.tick + before.ticks
@@ -186,15 +202,18 @@ abbrev pub PlaysOn : Scene → List Script → List Role → (old new : PortValu
 PlaysOn s scripts roles old new before now = PlaysOnIn HasOneOrder s scripts roles old new before now
 
 -- .. in whatever order, by whose turn it was
-pub record TakesTurn (s : Scene) (scripts : List Script) (roles : List Role) (old new : PortValue) (before now : Stand) (next : Turn) : Type 0 where
+pub record TakesTurn (s : Scene) (scripts : List Script) (roles : List Role) (old new : PortValue) (before now : Stand)
+    (next : Turn) : Type 0 where
   pub on : PlaysOnIn HasAnyOrder s scripts roles old new before now
   pub who : on.adds.entry.who ≡ who_of (role_numbers roles) next
 
 -- the call of the next step of the caller at a place
-pub record IsNextCall (scripts : List Script) (roles : List Role) (v : PortValue) (place : ℕ) (call : PlainCall) : Type 0 where
+pub record IsNextCall (scripts : List Script) (roles : List Role) (v : PortValue) (place : ℕ)
+    (call : PlainCall) : Type 0 where
   pub role : Role
   pub at_place : slice_get roles place ≡ Some role
-  pub next : slice_get (calls_in (slice_get scripts role.place)) ((standing_at v role.number).next - role.first) ≡ Some call
+  pub next : slice_get (calls_in (slice_get scripts role.place))
+      ((standing_at v role.number).next - role.first) ≡ Some call
 
 -- the place of the caller whose write goes on after an attempt
 abbrev pub going_after : ℕ → PlainTried → Option ℕ

@@ -1,6 +1,7 @@
 //! What comes after the line of a phase: flushes, callers and clock, up to the end of the phase.
 
-ghost use Rattle.std.specs.Prelude.{◌≡◌, ◌≢◌, ℕ, ◌≤◌, ◌<◌, ◌^◌, ◌-◌, ◌+◌, All, Some, None, IfOk, IfErr, IsTrue, MatchOption, OnErr, OnOk, length, map, slice_get, sum};
+ghost use Rattle.std.specs.Prelude.{◌≡◌, ◌≢◌, ℕ, ◌≤◌, ◌<◌, ◌^◌, ◌-◌, ◌+◌, All, Some, None, IfOk, IfErr};
+ghost use Rattle.std.specs.Prelude.{IsTrue, MatchOption, OnErr, OnOk, length, map, slice_get, sum};
 ghost use Rattle.tty_calls.specs.Plain.{call_of};
 ghost use Rattle.tty_calls.specs.Sessions.{ticks_on};
 ghost use Rattle.tty_terminal.specs.Steps.{after};
@@ -11,7 +12,8 @@ ghost use Rattle.one_thread.specs.Order.{can_go_on, is_of_consoles, is_waiting};
 ghost use Rattle.one_thread.specs.Roles.{Scene, calls_in, role_in, AreRolesOf};
 ghost use Rattle.one_thread.specs.Stages.{IsAfterLine, EndsAfterLine, StopsAfterLine};
 ghost use Rattle.one_thread.specs.Turns.{role_numbers, IsFirst, IsTurn, Plays, PlaysOn, next_run, going_after};
-ghost use Rattle.one_thread.specs.Acts.{AddsEntry, InTurn, PlaysTurn, InCall, TriesCall, PlaysCall, InLast, EndsCalls, PlaysLast, PlaysEnd};
+ghost use Rattle.one_thread.specs.Acts.{AddsEntry, InTurn, PlaysTurn, InCall, TriesCall};
+ghost use Rattle.one_thread.specs.Acts.{PlaysCall, InLast, EndsCalls, PlaysLast, PlaysEnd};
 ghost use Rattle.one_thread.specs.declared.after_line.Turn.TheVariants as turn;
 
 use crate::roles::Role;
@@ -107,7 +109,10 @@ pub fn turn_of(port: &Port, roles: &[Role], going: Option<usize>, clock_first: b
 /// The call of a caller's step, where the phase has one more.
 fn next_call<'a>(role: &Role, scripts: &'a [Script], step: u32) -> Option<Call<'a>>
     requires { role.now.first ≤ step }
-    ensures { MatchOption result (slice_get (calls_in (slice_get scripts.now role.now.place)) (step - role.now.first) ≡ None) (λ call. slice_get (calls_in (slice_get scripts.now role.now.place)) (step - role.now.first) ≡ Some (call_of call)) }
+    ensures { MatchOption result
+        (slice_get (calls_in (slice_get scripts.now role.now.place)) (step - role.now.first) ≡ None)
+        (λ call.
+        slice_get (calls_in (slice_get scripts.now role.now.place)) (step - role.now.first) ≡ Some (call_of call)) }
 {
     let script = scripts.get(role.place)?;
     script.calls.get((step - role.first) as usize)
@@ -190,7 +195,8 @@ pub fn try_call(
 ) -> Result<(Tried, Stand), Denied>
     requires { InCall roles.now port.old stand place (call_of call.now) }
     ensures open { OnOk result (IsOpen port.old) }
-    ensures tried { IfOk result (λ made. TriesCall roles.now port.old port.new place (call_of call.now) (tried_of made.0)) }
+    ensures tried { IfOk result
+        (λ made. TriesCall roles.now port.old port.new place (call_of call.now) (tried_of made.0)) }
     ensures ok { IfOk result (λ made. PlaysCall roles.now port.old port.new stand made.1 place (call_of call.now)) }
     ensures err { IfErr result (λ d. Denies d port.old port.new) }
 {
@@ -250,7 +256,8 @@ fn go_on(
 ) -> Result<Stand, Denied>
     ghost scene: { Scene }
     requires plays { Plays scene scripts.now roles.now port.old stand }
-    requires turn { IsTurn (is_of_consoles scene.session) port.old (role_numbers roles.now) stand.going (turn.Call place) }
+    requires turn { IsTurn (is_of_consoles scene.session) port.old (role_numbers roles.now) stand.going
+        (turn.Call place) }
     ensures open { OnOk result (IsOpen port.old) }
     ensures ok { IfOk result (λ now. PlaysOn scene scripts.now roles.now port.old port.new stand now) }
     ensures err { IfErr result (λ d. Denies d port.old port.new) }

@@ -1,7 +1,8 @@
 //! The line of a phase: its parts, each window of characters, and each other step, followed by a flush of what
 //! it has put.
 
-ghost use Rattle.std.specs.Prelude.{◌≡◌, ◌≤◌, ◌<◌, ◌+◌, ◌-◌, ◌^◌, [], ◌∷◌, IsTrue, IfSome, IfOk, IfErr, All, length, map, take, drop};
+ghost use Rattle.std.specs.Prelude.{◌≡◌, ◌≤◌, ◌<◌, ◌+◌, ◌-◌, ◌^◌, [], ◌∷◌, IsTrue};
+ghost use Rattle.std.specs.Prelude.{IfSome, IfOk, IfErr, All, length, map, take, drop};
 ghost use Rattle.tty_base.specs.Lines.{arrival, arrival_count, is_step};
 ghost use Rattle.line_steps.specs.Steps.{rx_step, steps_of as steps_of_part};
 ghost use Rattle.word_ring.specs.Ends.{NothingWaits};
@@ -10,7 +11,8 @@ ghost use Rattle.uart_line.specs.WholeWindow.{IsOpen};
 ghost use Rattle.uart_line.specs.Received.{closed_script};
 ghost use Rattle.one_thread.specs.Stages.{BeginsRun};
 ghost use Rattle.one_thread.specs.Acts.{BeginsLine, PlaysItsLine, StopsItsLine, FlushesOnce};
-ghost use Rattle.one_thread.specs.LineInside.{StandsBefore, PlaysSteps, StopsSteps, FlushesSince, DeniesCut, FlushesCut, run_after};
+ghost use Rattle.one_thread.specs.LineInside.{StandsBefore, PlaysSteps, StopsSteps};
+ghost use Rattle.one_thread.specs.LineInside.{FlushesSince, DeniesCut, FlushesCut, run_after};
 
 use flip_buffer::FlipIn;
 use line_steps::{LineSteps, Part};
@@ -33,8 +35,10 @@ pub fn play_line(
 ) -> Result<u32, Denied>
     requires begins { BeginsLine steps.now.items port.old putter.old line.old run }
     requires good { All (λ step. IsTrue (is_step step)) steps.now.items }
-    ensures ok { IfOk result (λ next. PlaysItsLine steps.now.items port.old port.new putter.old putter.new line.old line.new run next) }
-    ensures err { IfErr result (λ d. StopsItsLine d steps.now.items port.old port.new putter.old putter.new line.old line.new run) }
+    ensures ok { IfOk result
+        (λ next. PlaysItsLine steps.now.items port.old port.new putter.old putter.new line.old line.new run next) }
+    ensures err { IfErr result
+        (λ d. StopsItsLine d steps.now.items port.old port.new putter.old putter.new line.old line.new run) }
 {
     port.numbers_tell();
     port.meet(putter);
@@ -54,8 +58,10 @@ fn play_steps(
 ) -> Result<u32, Denied>
     requires good { All (λ step. IsTrue (is_step step)) steps.now.items }
     requires stands { StandsBefore (closed_script steps.now.items) port.old putter.old line.old run }
-    ensures ok { IfOk result (λ next. PlaysSteps (closed_script steps.now.items) port.old port.new putter.old putter.new line.old line.new run next) }
-    ensures err { IfErr result (λ d. StopsSteps d (closed_script steps.now.items) port.old port.new putter.old putter.new line.old line.new run) }
+    ensures ok { IfOk result (λ next.
+        PlaysSteps (closed_script steps.now.items) port.old port.new putter.old putter.new line.old line.new run next) }
+    ensures err { IfErr result (λ d.
+        StopsSteps d (closed_script steps.now.items) port.old port.new putter.old putter.new line.old line.new run) }
 {
     let mut next = run;
     for part in steps.parts() {
@@ -68,8 +74,10 @@ fn play_steps(
 #[inline(never)]
 fn close(port: &mut Port, putter: &mut FlipIn, line: &mut Line, run: u32) -> Result<u32, Denied>
     requires stands { StandsBefore (closed_script []) port.old putter.old line.old run }
-    ensures ok { IfOk result (λ next. PlaysSteps (closed_script []) port.old port.new putter.old putter.new line.old line.new run next) }
-    ensures err { IfErr result (λ d. StopsSteps d (closed_script []) port.old port.new putter.old putter.new line.old line.new run) }
+    ensures ok { IfOk result
+        (λ next. PlaysSteps (closed_script []) port.old port.new putter.old putter.new line.old line.new run next) }
+    ensures err { IfErr result
+        (λ d. StopsSteps d (closed_script []) port.old port.new putter.old putter.new line.old line.new run) }
 {
     let next = play_step(port, putter, line, LineStep::Unmask, run)?;
     play_step(port, putter, line, LineStep::Idle(TIMEOUT as u16), next)
@@ -85,8 +93,10 @@ fn play_part(
 ) -> Result<u32, Denied>
     requires good { All (λ step. IsTrue (is_step step)) (steps_of_part part.now) }
     requires stands { StandsBefore (steps_of_part part.now) port.old putter.old line.old run }
-    ensures ok { IfOk result (λ next. PlaysSteps (steps_of_part part.now) port.old port.new putter.old putter.new line.old line.new run next) }
-    ensures err { IfErr result (λ d. StopsSteps d (steps_of_part part.now) port.old port.new putter.old putter.new line.old line.new run) }
+    ensures ok { IfOk result (λ next.
+        PlaysSteps (steps_of_part part.now) port.old port.new putter.old putter.new line.old line.new run next) }
+    ensures err { IfErr result
+        (λ d. StopsSteps d (steps_of_part part.now) port.old port.new putter.old putter.new line.old line.new run) }
 {
     match part {
         Part::Run(Flag::Normal, bytes) => play_run(port, putter, line, bytes.as_slice(), run),
@@ -104,8 +114,10 @@ fn play_run(
     run: u32,
 ) -> Result<u32, Denied>
     requires stands { StandsBefore (good_steps bytes.now) port.old putter.old line.old run }
-    ensures ok { IfOk result (λ next. PlaysSteps (good_steps bytes.now) port.old port.new putter.old putter.new line.old line.new run next) }
-    ensures err { IfErr result (λ d. StopsSteps d (good_steps bytes.now) port.old port.new putter.old putter.new line.old line.new run) }
+    ensures ok { IfOk result
+        (λ next. PlaysSteps (good_steps bytes.now) port.old port.new putter.old putter.new line.old line.new run next) }
+    ensures err { IfErr result
+        (λ d. StopsSteps d (good_steps bytes.now) port.old port.new putter.old putter.new line.old line.new run) }
 {
     let mut next = run;
     let mut at = 0;
@@ -129,8 +141,10 @@ fn play_flagged(
 ) -> Result<u32, Denied>
     requires good { All (λ step. IsTrue (is_step step)) (map (rx_step flag) bytes.now) }
     requires stands { StandsBefore (map (rx_step flag) bytes.now) port.old putter.old line.old run }
-    ensures ok { IfOk result (λ next. PlaysSteps (map (rx_step flag) bytes.now) port.old port.new putter.old putter.new line.old line.new run next) }
-    ensures err { IfErr result (λ d. StopsSteps d (map (rx_step flag) bytes.now) port.old port.new putter.old putter.new line.old line.new run) }
+    ensures ok { IfOk result (λ next.
+        PlaysSteps (map (rx_step flag) bytes.now) port.old port.new putter.old putter.new line.old line.new run next) }
+    ensures err { IfErr result (λ d.
+        StopsSteps d (map (rx_step flag) bytes.now) port.old port.new putter.old putter.new line.old line.new run) }
 {
     let mut next = run;
     for place in 0..bytes.len() {
@@ -167,9 +181,11 @@ pub fn play_window(
     requires run { BeginsRun run port.old }
     ensures some { IfOk result (λ passed. 0 < passed.steps) }
     ensures within { IfOk result (λ passed. passed.steps ≤ length bytes.now) }
-    ensures ok { IfOk result (λ passed. PlaysSteps (take passed.steps (good_steps bytes.now)) port.old port.new putter.old putter.new line.old line.new run passed.run) }
+    ensures ok { IfOk result (λ passed. PlaysSteps (take passed.steps (good_steps bytes.now)) port.old port.new
+        putter.old putter.new line.old line.new run passed.run) }
     ensures flushes { FlushesOnce port.old port.new }
-    ensures err { IfErr result (λ d. StopsSteps d (good_steps bytes.now) port.old port.new putter.old putter.new line.old line.new run) }
+    ensures err { IfErr result
+        (λ d. StopsSteps d (good_steps bytes.now) port.old port.new putter.old putter.new line.old line.new run) }
 {
     match window_to_give(port, putter, line, bytes) {
         Some(window) => give_window(port, putter, line, window, run),
@@ -214,9 +230,11 @@ fn give_window(
     requires some_room { 64 ≤ port.old.flip.capacity }
     requires run { BeginsRun run port.old }
     ensures steps { IfOk result (λ passed. passed.steps ≡ 8) }
-    ensures ok { IfOk result (λ passed. PlaysSteps (good_steps window.now) port.old port.new putter.old putter.new line.old line.new run passed.run) }
+    ensures ok { IfOk result (λ passed.
+        PlaysSteps (good_steps window.now) port.old port.new putter.old putter.new line.old line.new run passed.run) }
     ensures flushes { FlushesOnce port.old port.new }
-    ensures err { IfErr result (λ d. StopsSteps d (good_steps window.now) port.old port.new putter.old putter.new line.old line.new run) }
+    ensures err { IfErr result
+        (λ d. StopsSteps d (good_steps window.now) port.old port.new putter.old putter.new line.old line.new run) }
 {
     port.numbers_tell();
     let _journal = port.journal();
@@ -244,9 +262,11 @@ fn play_first(
     requires run { BeginsRun run port.old }
     ensures some { IfOk result (λ passed. 0 < passed.steps) }
     ensures within { IfOk result (λ passed. passed.steps ≤ length bytes.now) }
-    ensures ok { IfOk result (λ passed. PlaysSteps (take passed.steps (good_steps bytes.now)) port.old port.new putter.old putter.new line.old line.new run passed.run) }
+    ensures ok { IfOk result (λ passed. PlaysSteps (take passed.steps (good_steps bytes.now)) port.old port.new
+        putter.old putter.new line.old line.new run passed.run) }
     ensures flushes { FlushesOnce port.old port.new }
-    ensures err { IfErr result (λ d. StopsSteps d (good_steps bytes.now) port.old port.new putter.old putter.new line.old line.new run) }
+    ensures err { IfErr result
+        (λ d. StopsSteps d (good_steps bytes.now) port.old port.new putter.old putter.new line.old line.new run) }
 {
     let step = LineStep::Rx(Flagged::good(bytes[0]));
     let next = play_step(port, putter, line, step, run)?;
@@ -270,9 +290,11 @@ pub fn play_step(
     requires put { line.old.most ≤ (2 ^ 63 - length putter.old.sent) + line.old.handed }
     requires ring { putter.old.ring ≡ port.old.flip.ring }
     requires run { BeginsRun run port.old }
-    ensures ok { IfOk result (λ next. PlaysSteps (step ∷ []) port.old port.new putter.old putter.new line.old line.new run next) }
+    ensures ok { IfOk result
+        (λ next. PlaysSteps (step ∷ []) port.old port.new putter.old putter.new line.old line.new run next) }
     ensures flushes { FlushesOnce port.old port.new }
-    ensures err { IfErr result (λ d. StopsSteps d (step ∷ []) port.old port.new putter.old putter.new line.old line.new run) }
+    ensures err { IfErr result
+        (λ d. StopsSteps d (step ∷ []) port.old port.new putter.old putter.new line.old line.new run) }
 {
     let before = putter.sent();
     line.step(step, putter);

@@ -73,15 +73,19 @@ fn play_parts(
 ) -> Result<u32, Denied>
     ghost scene: { Scene }
     requires within { station.old.port.terminal.phase < length scene.session.phases }
-    requires before { IsAtPhase scene station.old.port.terminal.phase station.old.port station.old.putter station.old.line run }
-    requires played { HavePlayedInOrder scene station.old.port.terminal.phase station.old.port.journal station.old.line.report.overruns.items }
+    requires before { IsAtPhase scene station.old.port.terminal.phase
+        station.old.port station.old.putter station.old.line run }
+    requires played { HavePlayedInOrder scene station.old.port.terminal.phase station.old.port.journal
+        station.old.line.report.overruns.items }
     requires steps { steps.now.items ≡ line_on scene.port (phase_at scene.session station.old.port.terminal.phase) }
     requires good { All (λ step. IsTrue (is_step step)) steps.now.items }
     requires roles { AreRolesOf scene station.old.port.terminal.phase (map (role_in scripts.now) roles.now) }
     requires ticks { ticks ≡ ticks_on scene.port (phase_at scene.session station.old.port.terminal.phase) }
     requires first { clock_first ≡ is_of_consoles scene.session }
-    ensures at_phase { IfOk result (λ next. IsAtPhase scene (station.old.port.terminal.phase + 1) station.new.port station.new.putter station.new.line next) }
-    ensures played { OnOk result (HavePlayedInOrder scene (station.old.port.terminal.phase + 1) station.new.port.journal station.new.line.report.overruns.items) }
+    ensures at_phase { IfOk result (λ next. IsAtPhase scene (station.old.port.terminal.phase + 1)
+        station.new.port station.new.putter station.new.line next) }
+    ensures played { OnOk result (HavePlayedInOrder scene (station.old.port.terminal.phase + 1) station.new.port.journal
+        station.new.line.report.overruns.items) }
     ensures steps { station.new.steps ≡ station.old.steps }
     ensures err { IfErr result (λ d. IsStopped d scene station.new) }
 {

@@ -5,7 +5,8 @@ ghost use Rattle.tty_base.specs.Lines.{arrival, arrival_count};
 ghost use Rattle.tty_calls.specs.Limits.{IsWithinLimits, character_count};
 ghost use Rattle.tty_calls.specs.Sessions.{session_of};
 ghost use Rattle.one_thread.specs.Roles.{Scene, scene_of, names_in};
-ghost use Rattle.one_thread.specs.Phases.{HaveSeenAll, IsBeforePhase, IsPortOf, IsFullRun, IsAtEnd, IsStopped, IsLeftOf, EndsRun};
+ghost use Rattle.one_thread.specs.Phases.{HaveSeenAll, IsBeforePhase, IsPortOf, IsFullRun};
+ghost use Rattle.one_thread.specs.Phases.{IsAtEnd, IsStopped, IsLeftOf, EndsRun};
 ghost use Rattle.one_thread.specs.Leaving.{EndsJournal};
 ghost use Rattle.one_thread.specs.Played.{IsPlayedOn, IsRunInOrder};
 ghost use Rattle.one_thread.specs.Stages.{HasAnyOrder, IsOfSceneIn, IsOfScene};
@@ -77,7 +78,8 @@ fn play_phases(
     requires port { number < (session_of session.now).ports }
     requires names { names.now ≡ names_in (scene_of number session.now) }
     requires before { IsBeforePhase (scene_of number session.now) 0 station.old 0 }
-    ensures ok { IfOk result (λ next. IsBeforePhase (scene_of number session.now) (length (session_of session.now).phases) station.new next) }
+    ensures ok { IfOk result (λ next.
+        IsBeforePhase (scene_of number session.now) (length (session_of session.now).phases) station.new next) }
     ensures err { IfErr result (λ d. IsStopped d (scene_of number session.now) station.new) }
 {
     let mut run = 0;
@@ -102,7 +104,10 @@ fn left_of(port: Port, line: Line) -> (PortRun, PortEnd)
 /// A port whose journal is full, as far as it went.
 pub fn stop(mut port: Port, mut putter: FlipIn, line: Line) -> (PortRun, PortEnd)
     requires { putter.ring ≡ port.flip.ring }
-    ensures played { (s : Scene) → IsPortOf s port → IsFullRun s port putter line → IsPlayedOn s.port s.session result.0 result.1 }
+    ensures played { (s : Scene)
+        → IsPortOf s port
+        → IsFullRun s port putter line
+        → IsPlayedOn s.port s.session result.0 result.1 }
     ensures journal { result.0.journal.items ≡ port.journal }
 {
     port.meet(&mut putter);
@@ -118,9 +123,18 @@ pub fn hang_up(
     requires after { port.terminal.phase ≡ length port.counts }
     requires ring { putter.ring ≡ port.flip.ring }
     requires sent { port.terminal.sent ≡ length putter.sent }
-    ensures played { (s : Scene) → IsAtEnd s port putter line → IfOk result (λ played. IsPlayedOn s.port s.session played.0 played.1) }
-    ensures ends { (s : Scene) → IsOfSceneIn HasAnyOrder s port → port.terminal.phase ≡ length s.session.phases → IfOk result (λ played. EndsRun s port.journal line.report.overruns.items played.0) }
-    ensures in_order { (s : Scene) → IsOfScene s port → port.terminal.phase ≡ length s.session.phases → HaveSeenAll s port.journal line.report.overruns.items → IfOk result (λ played. IsRunInOrder s.port s.session played.0) }
+    ensures played { (s : Scene)
+        → IsAtEnd s port putter line
+        → IfOk result (λ played. IsPlayedOn s.port s.session played.0 played.1) }
+    ensures ends { (s : Scene)
+        → IsOfSceneIn HasAnyOrder s port
+        → port.terminal.phase ≡ length s.session.phases
+        → IfOk result (λ played. EndsRun s port.journal line.report.overruns.items played.0) }
+    ensures in_order { (s : Scene)
+        → IsOfScene s port
+        → port.terminal.phase ≡ length s.session.phases
+        → HaveSeenAll s port.journal line.report.overruns.items
+        → IfOk result (λ played. IsRunInOrder s.port s.session played.0) }
     ensures journal { IfOk result (λ played. EndsJournal port played.0.journal.items) }
 {
     let _journal = port.journal();

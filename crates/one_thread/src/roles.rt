@@ -1,6 +1,7 @@
 //! Who calls in a phase, and at which step each caller stands.
 
-ghost use Rattle.std.specs.Prelude.{◌≡◌, ◌+◌, ◌*◌, ◌<◌, ◌≤◌, ◌^◌, List, Some, IfOk, All, length, map, slice_get, slice_index, slice_set};
+ghost use Rattle.std.specs.Prelude.{◌≡◌, ◌+◌, ◌*◌, ◌<◌, ◌≤◌, ◌^◌, List, Some, IfOk, All};
+ghost use Rattle.std.specs.Prelude.{length, map, slice_get, slice_index, slice_set};
 ghost use Rattle.tty_calls.specs.declared.sessions.Script.{Script};
 ghost use Rattle.tty_calls.specs.Limits.{IsWithinLimits};
 ghost use Rattle.tty_calls.specs.Sessions.{session_of, counts_on, number_in, phase_of, script_of, scripts_on};
@@ -59,7 +60,8 @@ pub fn roles_of(
     requires phase { k < length (session_of session.now).phases }
     requires names { names.now ≡ names_in (scene_of port session.now) }
     requires steps { AreFirstSteps (scene_of port session.now) k steps.now }
-    ensures { IfOk result (λ roles. AreRolesOf (scene_of port session.now) k (map (role_in (scripts_at session.now k)) roles.items)) }
+    ensures { IfOk result
+        (λ roles. AreRolesOf (scene_of port session.now) k (map (role_in (scripts_at session.now k)) roles.items)) }
 {
     let scripts = session.phases.as_slice()[k].callers.as_slice();
     cast(alloc, scripts, port, names, steps)
@@ -76,7 +78,10 @@ pub fn cast(
     requires numbered { AreNumbered names.now port (map script_of scripts.now) }
     requires few { length names.now < 65536 }
     requires steps { length steps.now ≡ length names.now }
-    ensures { IfOk result (λ roles. (others : List Script) → HaveSameCallers others scripts.now → map (role_in others) roles.items ≡ cast_of names.now steps.now port (map script_of others)) }
+    ensures { IfOk result (λ roles.
+        (others : List Script)
+        → HaveSameCallers others scripts.now
+        → map (role_in others) roles.items ≡ cast_of names.now steps.now port (map script_of others)) }
 {
     let mut roles = Vec::new(alloc);
     for (place, script) in scripts.iter().enumerate() {

@@ -3,7 +3,8 @@
 ghost use Rattle.std.specs.Prelude.{[]};
 ghost use Rattle.tty_terminal.specs.Rows.{three_bytes};
 ghost use Rattle.one_thread.specs.Order.{IsInOneOrder};
-ghost use Rattle.one_thread.specs.Rows.{three_bytes_session, three_bytes_consoles, late_flush, early_clock, waiters_session, waiters, last_waiter_first, both_told, early_tick};
+ghost use Rattle.one_thread.specs.Rows.{three_bytes_session, three_bytes_consoles, late_flush, early_clock};
+ghost use Rattle.one_thread.specs.Rows.{waiters_session, waiters, last_waiter_first, both_told, early_tick};
 
 /// A law: three bytes come, are flushed at the end of the line's window, and are read once the line is
 /// over.

@@ -1,7 +1,8 @@
 //! The column of all that a line discipline has posted, and output processing at that column.
 
 ghost use Rattle.std.specs.Prelude.{◌≡◌, ◌↔◌, IsTrue, ℕ, ◌≤◌, ◌<◌, ◌+◌, ◌-◌, ◌%◌, ◌^◌, [], ◌∷◌, ◌++◌, length, List};
-ghost use Rattle.opost_out.specs.Column.{PostedByte, column_after, column_of, column_after_byte, posted_text, posted_text_under};
+ghost use Rattle.opost_out.specs.Column.{PostedByte, column_after, column_of};
+ghost use Rattle.opost_out.specs.Column.{column_after_byte, posted_text, posted_text_under};
 ghost use Rattle.opost_out.specs.Posted.{posted_bytes};
 
 use crate::pieces::{CR, NL, Piece, TAB};
@@ -49,7 +50,9 @@ impl Out {
         requires { self.old < 2 ^ 63 }
         ensures piece { result ≡ posted_bytes modes.now self.old b }
         ensures column { self.new ≡ column_after self.old (posted_text_under modes.now result) }
-        ensures text { (text : List PostedByte) → self.old ≡ column_of text → self.new ≡ column_of (text ++ posted_text_under modes.now result) }
+        ensures text { (text : List PostedByte)
+            → self.old ≡ column_of text
+            → self.new ≡ column_of (text ++ posted_text_under modes.now result) }
     {
         if is_plain(b) {
             self.column += 1;

@@ -34,30 +34,39 @@ pub record IsLike (first s : Scene) : Type 0 where
   pub limits : IsWithinLimits s.session
 
 -- Each scene like this one that agrees with the port was played up to the phase that begins.
-pub record IsBeforeEachIn (HasOrder : Scene → List PlainEntry → Type 0) (first : Scene) (v : PortValue) (putter : PutterState Flagged) (line : LineState) (run : ℕ) : Type 0 where
-  pub each : (s : Scene) → IsLike first s → Agrees s v
-      → IsAtPhaseIn HasOrder s v.terminal.phase v putter line run × HavePlayedInOrder s v.terminal.phase v.journal line.report.overruns.items
+pub record IsBeforeEachIn (HasOrder : Scene → List PlainEntry → Type 0) (first : Scene) (v : PortValue)
+    (putter : PutterState Flagged) (line : LineState) (run : ℕ) : Type 0 where
+  pub each : (s : Scene)
+      → IsLike first s
+      → Agrees s v
+      → IsAtPhaseIn HasOrder s v.terminal.phase v putter line run
+      × HavePlayedInOrder s v.terminal.phase v.journal line.report.overruns.items
 
 abbrev pub IsBeforeEach : (first : Scene) → PortValue → PutterState Flagged → LineState → (run : ℕ) → Type 0
 IsBeforeEach first v putter line run = IsBeforeEachIn HasOneOrder first v putter line run
 
 -- its callers of a phase, whichever of these scenes it is
-pub record AreRolesOfEach (first : Scene) (scripts : Scene → List Script) (roles : List Role) (k : ℕ) (v : PortValue) : Type 0 where
+pub record AreRolesOfEach (first : Scene) (scripts : Scene → List Script) (roles : List Role) (k : ℕ)
+    (v : PortValue) : Type 0 where
   pub each : (s : Scene) → IsLike first s → Agrees s v → AreRolesOf s k (map (role_in (scripts s)) roles)
 
 -- Since the line's end each scene like this one that agrees with the port was played, with these scripts of it.
-pub record PlaysEachIn (HasOrder : Scene → List PlainEntry → Type 0) (first : Scene) (scripts : Scene → List Script) (roles : List Role) (start v : PortValue) (ticks : ℕ) (stand : Stand) : Type 0 where
+pub record PlaysEachIn (HasOrder : Scene → List PlainEntry → Type 0) (first : Scene) (scripts : Scene → List Script)
+    (roles : List Role) (start v : PortValue) (ticks : ℕ) (stand : Stand) : Type 0 where
   pub ticks_are : ticks ≡ ticks_on first.port (phase_at first.session start.terminal.phase)
   pub grows : Grows (call_in start.kept) (call_in v.kept)
   pub each : (s : Scene) → IsLike first s → Agrees s v → PlayingIn HasOrder s (scripts s) roles start v ticks stand
 
-abbrev pub PlaysEach : (first : Scene) → (Scene → List Script) → List Role → (start v : PortValue) → (ticks : ℕ) → Stand → Type 0
+abbrev pub PlaysEach : (first : Scene) → (Scene → List Script) → List Role → (start v : PortValue) → (ticks : ℕ) → Stand
+    → Type 0
 PlaysEach first scripts roles start v ticks stand = PlaysEachIn HasOneOrder first scripts roles start v ticks stand
 
 -- .. up to the end of the phase
-pub record EndsEachIn (HasOrder : Scene → List PlainEntry → Type 0) (first : Scene) (start new : PortValue) (putter now : PutterState Flagged) (run : ℕ) : Type 0 where
+pub record EndsEachIn (HasOrder : Scene → List PlainEntry → Type 0) (first : Scene) (start new : PortValue)
+    (putter now : PutterState Flagged) (run : ℕ) : Type 0 where
   pub grows : Grows (call_in start.kept) (call_in new.kept)
   pub each : (s : Scene) → IsLike first s → Agrees s new → EndsAfterLineIn HasOrder s start new putter now run
 
-abbrev pub EndsEach : (first : Scene) → (start new : PortValue) → (putter now : PutterState Flagged) → (run : ℕ) → Type 0
+abbrev pub EndsEach : (first : Scene) → (start new : PortValue) → (putter now : PutterState Flagged) → (run : ℕ)
+    → Type 0
 EndsEach first start new putter now run = EndsEachIn HasOneOrder first start new putter now run

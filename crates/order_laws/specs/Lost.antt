@@ -12,7 +12,8 @@ use Rattle.journal_check.specs.Legal.{received_before, before_line_end, flip_on}
 abbrev pub overruns_after : (capacity taken lost count : ℕ) → List Overrun
 overruns_after capacity taken lost zero = []
 overruns_after capacity taken lost (suc count) =
-    record { at = (taken + capacity) + lost; sent = taken + capacity; seen = taken } ∷ overruns_after capacity taken (lost + 1) count
+    record { at = (taken + capacity) + lost; sent = taken + capacity; seen = taken }
+    ∷ overruns_after capacity taken (lost + 1) count
 
 -- so many characters were taken before the end of the line of phase k
 abbrev pub taken_before_line_end : ℕ → List PlainEntry → ℕ
@@ -32,7 +33,8 @@ overruns_in p session journal k lost =
 abbrev pub overruns_before : ℕ → PlainSession → List PlainEntry → ℕ → List Overrun
 overruns_before p session journal zero = []
 overruns_before p session journal (suc k) =
-    overruns_before p session journal k ++ overruns_in p session journal k (length (overruns_before p session journal k))
+    overruns_before p session journal k
+    ++ overruns_in p session journal k (length (overruns_before p session journal k))
 
 -- two runs of a port with the same entries and the same report of their line
 pub record IsSameRun (run other : PortRun) : Type 0 where

@@ -22,8 +22,11 @@ pub fn what_exceeds_the_buffer_is_lost()
 /// A session has one run in the order of one thread: two legal runs of a port that are in the order
 /// have the same journal and the same line report, and lead to the same terminal.
 pub fn a_session_has_one_run()
-    ensures { (p : ℕ) (session : PlainSession) (run other : PortRun) (t u : Terminal) → IsLegal p session run t → IsLegal p session other u
-        → IsInOneOrder p session run.journal.items run.line.overruns.items → IsInOneOrder p session other.journal.items other.line.overruns.items
+    ensures { (p : ℕ) (session : PlainSession) (run other : PortRun) (t u : Terminal)
+        → IsLegal p session run t
+        → IsLegal p session other u
+        → IsInOneOrder p session run.journal.items run.line.overruns.items
+        → IsInOneOrder p session other.journal.items other.line.overruns.items
         → IsSameRun run other × (t ≡ u) }
 {}
 
@@ -42,7 +45,9 @@ pub fn a_run_grows_with_its_session()
 /// A session with one call more of a caller, behind all its others, grew out of the session, and no other caller of
 /// that phase has more calls in it.
 pub fn a_session_grows_by_a_call()
-    ensures grew { (p k : ℕ) (session later : PlainSession) (name : List ℕ) → AddsCall p k session later name → Grew p k session later }
+    ensures grew { (p k : ℕ) (session later : PlainSession) (name : List ℕ)
+        → AddsCall p k session later name
+        → Grew p k session later }
     ensures others { (p k : ℕ) (session later : PlainSession) (name : List ℕ) (c : ℕ) → AddsCall p k session later name
         → name_at p session c ≢ Some name → steps_in p later k c ≡ steps_in p session k c }
 {}

@@ -3,7 +3,8 @@ use Rattle.std.proofs.Common.{◌≡◌, ℕ, List, Some, ap, ◌∙◌}
 use Rattle.std.specs.Prelude.{slice_get}
 use Rattle.tty_calls.specs.Sessions.{PlainScript, PlainSession, scripts_over, names_of, calls_of, call_at}
 use Rattle.passed_calls.specs.Blocks.{blocks_on, names_on, number_on, steps_under}
-use Rattle.passed_calls.specs.Derived.{Passed, BlockPhase, AreInSteps, blocks_of, by_caller, all_calls, calls_for, passed_phases}
+use Rattle.passed_calls.specs.Derived.{Passed, BlockPhase, AreInSteps, blocks_of}
+use Rattle.passed_calls.specs.Derived.{by_caller, all_calls, calls_for, passed_phases}
 use Rattle.passed_calls.proofs.Names.{names_stay}
 use Rattle.passed_calls.proofs.Stepped.{calls_are_passed}
 use Rattle.passed_calls.proofs.Ordered.{passed_in_order}
@@ -22,4 +23,5 @@ played_calls passed phases session p c step name is_played is_name is_number in_
     ∙ (ap (λ named. slice_get (calls_of scripts named) step) is_name
     ∙ ap (λ calls. slice_get calls step)
     (calls_are_passed passed phases p name
-    ∙ (ap (λ number. calls_for (by_caller number (passed p)) 0 count) is_number ∙ passed_in_order (by_caller c (passed p)) count in_steps))))
+    ∙ (ap (λ number. calls_for (by_caller number (passed p)) 0 count) is_number
+    ∙ passed_in_order (by_caller c (passed p)) count in_steps))))

@@ -40,7 +40,8 @@ passed_script passed all before b = record {
 
 abbrev pub passed_scripts : Passed → (all before : List Block) → List Block → List PlainScript
 passed_scripts passed all before [] = []
-passed_scripts passed all before (b ∷ bs) = passed_script passed all before b ∷ passed_scripts passed all (before ++ b ∷ []) bs
+passed_scripts passed all before (b ∷ bs) =
+    passed_script passed all before b ∷ passed_scripts passed all (before ++ b ∷ []) bs
 
 -- a phase of a session: what its lines and clocks do, and the blocks of its callers
 pub record BlockPhase : Type 0 where

@@ -10,7 +10,8 @@ ghost use Rattle.tty_calls.specs.Sessions.{scripts_over, names_of, calls_under, 
 ghost use Rattle.passed_calls.specs.Blocks.{Block, blocks_on, names_on, number_on, steps_under};
 ghost use Rattle.tty_calls.specs.Limits.{IsWithinLimits};
 ghost use Rattle.passed_calls.specs.Within.{AreBlocksWithin, ArePassedWithin};
-ghost use Rattle.passed_calls.specs.Derived.{Passing, Passed, BlockPhase, AreInSteps, blocks_of, by_caller, all_calls, calls_for, passed_phases};
+ghost use Rattle.passed_calls.specs.Derived.{Passing, Passed, BlockPhase, AreInSteps, blocks_of};
+ghost use Rattle.passed_calls.specs.Derived.{by_caller, all_calls, calls_for, passed_phases};
 
 pub use logs::Logged;
 pub use placed::PlacedCall;
@@ -25,7 +26,8 @@ pub fn numbers_stay()
 pub fn calls_are_passed()
     ensures { (passed : Passed) (phases : List BlockPhase) (p : ℕ) (name : List ℕ)
         → calls_under name (scripts_over p (passed_phases passed phases))
-        ≡ calls_for (by_caller (number_on p (blocks_of phases) name) (passed p)) 0 (steps_under name (blocks_on p (blocks_of phases))) }
+        ≡ calls_for (by_caller (number_on p (blocks_of phases) name) (passed p)) 0
+        (steps_under name (blocks_on p (blocks_of phases))) }
 {}
 
 /// A law: these are all that were passed, in their order, where that was the order of the caller's calls.

@@ -29,14 +29,19 @@ module _ {V N E : Type 0} (name : V → N) (list : V → List (Stamped E)) where
   saw_latest : (first : V) (latest : List (Stamped E)) (generation : ℕ) (views : List (View N E)) (i : ℕ) (v : View N E)
       → ViewOk (name first) (list first) latest generation views i v → v.turn ≡ true → v.seen ≡ latest
   saw_latest first latest generation views i v ok turn =
-      elim (ok.live) [ inl spent ↦ absurd (false≢true (sym (ap (λ (x : View N E). x.turn) spent) ∙ turn)) | inr live ↦ live.newest turn ]
+      elim (ok.live) [
+        | inl spent ↦ absurd (false≢true (sym (ap (λ (x : View N E). x.turn) spent) ∙ turn))
+        | inr live ↦ live.newest turn
+      ]
 
   pub stands_in_turn : StandsInTurn name list
   stands_in_turn first seats s r i v at turn =
       let few_users = few name list first seats s r in
       let small : total users_of s.views < 2147483648 = omega arith in
-      let word : generation_in (slice_index s.words 0) ≡ r.generation = generation_is (slice_index s.words 0) _ _ _ (word_is name list first seats s r) r.one_mark small in
+      let word : generation_in (slice_index s.words 0) ≡ r.generation =
+      generation_is (slice_index s.words 0) _ _ _ (word_is name list first seats s r) r.one_mark small in
       let all = raised_here name list first seats s r i v at turn in
       let tie = r.tie in
-      let seen : generation_of v.seen ≡ generation_of r.latest = ap generation_of (saw_latest first r.latest r.generation s.views i v (r.each_view i v at) turn) in
+      let seen : generation_of v.seen ≡ generation_of r.latest =
+      ap generation_of (saw_latest first r.latest r.generation s.views i v (r.each_view i v at) turn) in
       omega arith

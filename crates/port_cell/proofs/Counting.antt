@@ -1,5 +1,7 @@
 -- Each step on the reference word keeps the rule.
-use Rattle.std.proofs.Common.{◌≡◌, ◌≢◌, ℕ, ◌+◌, ◌%◌, ◌<◌, ◌≤◌, List, [], length, set, Bool, true, false, Option, IsSome, bit_and, bit_or, inl, ⊎_elim, refl, sym, ap, ◌∙◌, subst, append-nil, slice_index, true≢false, arith}
+use Rattle.std.proofs.Common.{◌≡◌, ◌≢◌, ℕ, ◌+◌, ◌%◌, ◌<◌, ◌≤◌, List, [], length, set, Bool}
+use Rattle.std.proofs.Common.{true, false, Option, IsSome, bit_and, bit_or, inl, ⊎_elim, refl}
+use Rattle.std.proofs.Common.{sym, ap, ◌∙◌, subst, append-nil, slice_index, true≢false, arith}
 use mathlib.Core.Option.{some, none}
 use lib.ListN.{get_elem?}
 use Rattle.atomic_table.specs.Table.{State, Allows, step}
@@ -10,11 +12,14 @@ use Rattle.port_cell.specs.declared.view.User.TheVariants.{Free, Trying, Held, M
 use Rattle.port_cell.specs.declared.view.View.{View}
 use Rattle.port_cell.specs.Entries.{generation_of}
 use Rattle.port_cell.specs.Word.{word_of, generation_in}
-use Rattle.port_cell.specs.Views.{total, Knows, bit_of, user_part, reference_part, mark_part, lone_part, turns_of, raises_of, users_of, references_of, marks_of, lone_marks_of, installs_of, with_word, with_user, after_install}
+use Rattle.port_cell.specs.Views.{total, Knows, bit_of, user_part, reference_part, mark_part}
+use Rattle.port_cell.specs.Views.{lone_part, turns_of, raises_of, users_of, references_of, marks_of}
+use Rattle.port_cell.specs.Views.{lone_marks_of, installs_of, with_word, with_user, after_install}
 use Rattle.port_cell.specs.Rule.{Rule}
 use Rattle.port_cell.specs.Plays.{SeatState, InTurn, Enters, Leaves, Marks, Looks, Installs}
 use Rattle.port_cell.proofs.Totals.{total_set, total_same, total_le, total_few, total_one, part_le, two_le}
-use Rattle.port_cell.proofs.Words.{zero_or_one, none_or_some, three, generation_is, changing_is, users_is, or_bit, and_not_bit}
+use Rattle.port_cell.proofs.Words.{zero_or_one, none_or_some, three, generation_is}
+use Rattle.port_cell.proofs.Words.{changing_is, users_is, or_bit, and_not_bit}
 use Rattle.port_cell.proofs.Keeping.{is_live, kept}
 
 pub counts_few : (u : User) → user_part u ≤ 1
@@ -72,7 +77,10 @@ module _ {V N E : Type 0} (name : V → N) (list : V → List (Stamped E)) (firs
     alone_few = total_le lone_marks_of marks_of (λ v. alone_le v.user) s.views
 
     -- where a seat has the turn, no other has noted a list that is to be installed
-    pub raised_here : (i : ℕ) (v : View N E) → get_elem? s.views i ≡ some v → v.turn ≡ true → total raises_of s.views ≡ raises_of v
+    pub raised_here : (i : ℕ) (v : View N E)
+        → get_elem? s.views i ≡ some v
+        → v.turn ≡ true
+        → total raises_of s.views ≡ raises_of v
     raised_here i v at turn =
         total_one raises_of s.views i v at (λ j u apart there. lowered u.raised (λ raised.
         let one : turns_of v ≡ 1 = ap bit_of turn in
@@ -81,20 +89,33 @@ module _ {V N E : Type 0} (name : V → N) (list : V → List (Stamped E)) (firs
         let most = r.one_turn in
         omega arith))
 
-    in_turn : (i : ℕ) (v : View N E) (w : ℕ) → get_elem? s.views i ≡ some v → IsSome v.name → generation_in w ≡ r.generation → InTurn v w
+    in_turn : (i : ℕ) (v : View N E) (w : ℕ)
+        → get_elem? s.views i ≡ some v
+        → IsSome v.name
+        → generation_in w ≡ r.generation
+        → InTurn v w
     in_turn i v w at named is turn low =
         let none : raises_of v ≡ 0 = ap bit_of low in
         let all = raised_here i v at turn in
         let tie = r.tie in
-        let seen : generation_of v.seen ≡ generation_of r.latest = ap generation_of ((is_live (name first) (list first) r.latest r.generation s.views i v named (r.each_view i v at)).newest turn) in
+        let seen : generation_of v.seen ≡ generation_of r.latest =
+        ap generation_of (
+        (is_live (name first) (list first) r.latest r.generation s.views i v named (r.each_view i v at)).newest turn) in
         omega arith
 
     -- a step of one seat that changes what it does with the reference word
     pub uses : (i : ℕ) (v : View N E) (u : User) (raised : Bool) (found steps installs next word : ℕ)
-        → get_elem? s.views i ≡ some v → IsSome v.name → Knows next u
+        → get_elem? s.views i ≡ some v
+        → IsSome v.name
+        → Knows next u
         → (raised ≡ true → (v.turn ≡ true) × (lone_part u ≡ 1) × (generation_of v.seen < 4294967296))
-        → ((j : ℕ) (x : View N E) → j ≢ i → get_elem? s.views j ≡ some x → Knows r.generation x.user → Knows next x.user)
-        → let w : View N E = record v { user = u; raised = raised; word = found; steps = steps; installs = installs } in let views = set s.views i w in
+        → ((j : ℕ) (x : View N E)
+        → j ≢ i
+        → get_elem? s.views j ≡ some x
+        → Knows r.generation x.user
+        → Knows next x.user)
+        → let w : View N E = record v { user = u; raised = raised; word = found; steps = steps; installs = installs } in
+        let views = set s.views i w in
         word ≡ word_of next (total marks_of views) (total users_of views)
         → total marks_of views ≤ 1
         → (0 < total lone_marks_of views → total references_of views ≡ 0)
@@ -124,7 +145,8 @@ module _ {V N E : Type 0} (name : V → N) (list : V → List (Stamped E)) (firs
           others = others;
         }
         (set s.words 0 word) s.homes
-        (ap (λ ws. set ws 0 word) r.words ∙ three word (total turns_of s.views) (length r.latest) _ _ _ word_now (sym turns) refl)
+        (ap (λ ws. set ws 0 word) r.words
+        ∙ three word (total turns_of s.views) (length r.latest) _ _ _ word_now (sym turns) refl)
         (let h = r.one_turn in omega arith)
         ((λ e. r.home (sym turns ∙ e)), (λ e. r.out (sym turns ∙ e)))
         one_mark lone tie grows
@@ -132,9 +154,11 @@ module _ {V N E : Type 0} (name : V → N) (list : V → List (Stamped E)) (firs
   -- the totals before and after one user's change
   record Moved (s : State (Option V) (View N E)) (i : ℕ) (v w : View N E) : Type 0 where
     pub counted : total users_of (set s.views i w) + user_part v.user ≡ total users_of s.views + user_part w.user
-    pub held : total references_of (set s.views i w) + reference_part v.user ≡ total references_of s.views + reference_part w.user
+    pub held : total references_of (set s.views i w) + reference_part v.user
+        ≡ total references_of s.views + reference_part w.user
     pub marked : total marks_of (set s.views i w) + mark_part v.user ≡ total marks_of s.views + mark_part w.user
-    pub lonely : total lone_marks_of (set s.views i w) + lone_part v.user ≡ total lone_marks_of s.views + lone_part w.user
+    pub lonely : total lone_marks_of (set s.views i w) + lone_part v.user
+        ≡ total lone_marks_of s.views + lone_part w.user
     pub raised : total raises_of (set s.views i w) + raises_of v ≡ total raises_of s.views + raises_of w
     pub installs : total installs_of (set s.views i w) + installs_of v ≡ total installs_of s.views + installs_of w
 
@@ -149,7 +173,11 @@ module _ {V N E : Type 0} (name : V → N) (list : V → List (Stamped E)) (firs
   }
 
   -- what a free seat has
-  not_raised : (s : State (Option V) (View N E)) (r : Holds s) (i : ℕ) (v : View N E) → get_elem? s.views i ≡ some v → lone_part v.user ≡ 0 → v.raised ≡ true → ⊥
+  not_raised : (s : State (Option V) (View N E)) (r : Holds s) (i : ℕ) (v : View N E)
+      → get_elem? s.views i ≡ some v
+      → lone_part v.user ≡ 0
+      → v.raised ≡ true
+      → ⊥
   not_raised s r i v at apart raised = let h = ((r.each_view i v at).raised raised).1 in omega arith
 
   pub enters : (slots i : ℕ) (m : SeatState V N E) → m.0.user ≡ Free → IsSome m.0.name
@@ -176,9 +204,11 @@ module _ {V N E : Type 0} (name : V → N) (list : V → List (Stamped E)) (firs
         w,
         keeps,
         tt,
-        uses s r i v (Held (generation_in n)) v.raised n (v.steps + 1) v.installs r.generation ((n + 1) % 18446744073709551616) at named gen
+        uses s r i v (Held (generation_in n)) v.raised n (v.steps + 1) v.installs r.generation
+            ((n + 1) % 18446744073709551616) at named gen
             (λ raised. absurd (not_raised s r i v at e raised)) (λ j x apart there k. k)
-            (omega arith) (omega arith) (λ some_alone. absurd (omega arith)) (let tie = r.tie in omega arith) (let grows = r.grows in omega arith),
+            (omega arith) (omega arith) (λ some_alone. absurd (omega arith)) (let tie = r.tie in omega arith)
+            (let grows = r.grows in omega arith),
         ((λ _. refl), (λ other. absurd (omega arith)), turn),
       ))
       (λ (changing : total marks_of s.views ≡ 1).
@@ -187,15 +217,20 @@ module _ {V N E : Type 0} (name : V → N) (list : V → List (Stamped E)) (firs
         w,
         keeps,
         tt,
-        uses s r i v Trying v.raised n (v.steps + 1) v.installs r.generation ((n + 1) % 18446744073709551616) at named tt
+        uses s r i v Trying v.raised n (v.steps + 1) v.installs r.generation ((n + 1) % 18446744073709551616)
+            at named tt
             (λ raised. absurd (not_raised s r i v at e raised)) (λ j x apart there k. k)
-            (omega arith) (omega arith) (λ some_alone. let h = r.lone (omega arith) in omega arith) (let tie = r.tie in omega arith) (let grows = r.grows in omega arith),
+            (omega arith) (omega arith) (λ some_alone. let h = r.lone (omega arith) in omega arith)
+            (let tie = r.tie in omega arith) (let grows = r.grows in omega arith),
         ((λ other. absurd (omega arith)), (λ _. refl), turn),
       ))
       (zero_or_one (total marks_of s.views) bit)
 
-  pub leaves : (slots i : ℕ) (m : SeatState V N E) → user_part m.0.user ≡ 1 → IsSome m.0.name
-      → Allows Holds slots i m 0 (λ n. (n + 18446744073709551615) % 18446744073709551616) (Leaves (step slots 0 1 0 none) m)
+  pub leaves : (slots i : ℕ) (m : SeatState V N E)
+      → user_part m.0.user ≡ 1
+      → IsSome m.0.name
+      → Allows Holds slots i m 0 (λ n. (n + 18446744073709551615) % 18446744073709551616)
+      (Leaves (step slots 0 1 0 none) m)
   leaves slots i m user named s r deep at fits =
       let v = m.0 in
       let n = slice_index s.words 0 in
@@ -209,9 +244,12 @@ module _ {V N E : Type 0} (name : V → N) (list : V → List (Stamped E)) (firs
         w,
         keeps,
         tt,
-        uses s r i v Free v.raised v.word v.steps v.installs r.generation ((n + 18446744073709551615) % 18446744073709551616) at named tt
+        uses s r i v Free v.raised v.word v.steps v.installs r.generation
+            ((n + 18446744073709551615) % 18446744073709551616) at named tt
             (λ raised. absurd (not_raised s r i v at (omega arith) raised)) (λ j x apart there k. k)
-            (omega arith) (let bit = r.one_mark in omega arith) (λ some_alone. let h = r.lone (omega arith) in omega arith) (let tie = r.tie in omega arith) (let grows = r.grows in omega arith),
+            (omega arith) (let bit = r.one_mark in omega arith)
+            (λ some_alone. let h = r.lone (omega arith) in omega arith) (let tie = r.tie in omega arith)
+            (let grows = r.grows in omega arith),
         refl,
       )
 
@@ -240,9 +278,11 @@ module _ {V N E : Type 0} (name : V → N) (list : V → List (Stamped E)) (firs
         w,
         keeps,
         tt,
-        uses s r i v (Marked (generation_in n)) v.raised n (v.steps + 1) v.installs r.generation (bit_or n 2147483648) at named gen
+        uses s r i v (Marked (generation_in n)) v.raised n (v.steps + 1) v.installs r.generation (bit_or n 2147483648)
+            at named gen
             (λ raised. absurd (not_raised s r i v at e raised)) (λ j x apart there k. k)
-            (omega arith) (omega arith) (λ some_alone. absurd (omega arith)) (let tie = r.tie in omega arith) (let grows = r.grows in omega arith),
+            (omega arith) (omega arith) (λ some_alone. absurd (omega arith)) (let tie = r.tie in omega arith)
+            (let grows = r.grows in omega arith),
         ((λ _. refl), (λ other. absurd (omega arith)), turn),
       ))
       (λ (changing : total marks_of s.views ≡ 1).
@@ -253,7 +293,8 @@ module _ {V N E : Type 0} (name : V → N) (list : V → List (Stamped E)) (firs
         tt,
         uses s r i v Free v.raised n (v.steps + 1) v.installs r.generation (bit_or n 2147483648) at named tt
             (λ raised. absurd (not_raised s r i v at e raised)) (λ j x apart there k. k)
-            (omega arith) (omega arith) (λ some_alone. let h = r.lone (omega arith) in omega arith) (let tie = r.tie in omega arith) (let grows = r.grows in omega arith),
+            (omega arith) (omega arith) (λ some_alone. let h = r.lone (omega arith) in omega arith)
+            (let tie = r.tie in omega arith) (let grows = r.grows in omega arith),
         ((λ other. absurd (omega arith)), (λ _. refl), turn),
       ))
       (zero_or_one (total marks_of s.views) bit)
@@ -283,7 +324,8 @@ module _ {V N E : Type 0} (name : V → N) (list : V → List (Stamped E)) (firs
         tt,
         uses s r i v (Alone (generation_in n)) v.raised n (v.steps + 1) v.installs r.generation n at named gen
             (λ raised. absurd (not_raised s r i v at e raised)) (λ j x apart there k. k)
-            (omega arith) (omega arith) (λ some_alone. omega arith) (let tie = r.tie in omega arith) (let grows = r.grows in omega arith),
+            (omega arith) (omega arith) (λ some_alone. omega arith) (let tie = r.tie in omega arith)
+            (let grows = r.grows in omega arith),
         ((λ _. refl), (λ other. absurd (omega arith)), knows, turn),
       ))
       (λ (some_users : 0 < total users_of s.views).
@@ -294,17 +336,23 @@ module _ {V N E : Type 0} (name : V → N) (list : V → List (Stamped E)) (firs
         tt,
         uses s r i v v.user v.raised n (v.steps + 1) v.installs r.generation n at named (r.each_view i v at).knows
             (λ raised. absurd (not_raised s r i v at e raised)) (λ j x apart there k. k)
-            (omega arith) (omega arith) (λ some_alone. let h = r.lone (omega arith) in omega arith) (let tie = r.tie in omega arith) (let grows = r.grows in omega arith),
+            (omega arith) (omega arith) (λ some_alone. let h = r.lone (omega arith) in omega arith)
+            (let tie = r.tie in omega arith) (let grows = r.grows in omega arith),
         ((λ other. absurd (omega arith)), (λ _. refl), knows, turn),
       ))
       (none_or_some (total users_of s.views))
 
   -- where nobody has set the changing bit nobody is alone
   none_alone : (views : List (View N E)) → total marks_of views ≡ 0 → 0 < total lone_marks_of views → ⊥
-  none_alone views unset some_alone = let h = total_le lone_marks_of marks_of (λ (v : View N E). alone_le v.user) views in omega arith
+  none_alone views unset some_alone =
+      let h = total_le lone_marks_of marks_of (λ (v : View N E). alone_le v.user) views in omega arith
 
-  pub unmarks : (slots i : ℕ) (m : SeatState V N E) → mark_part m.0.user ≡ 1 → m.0.raised ≡ false → IsSome m.0.name
-      → Allows Holds slots i m 0 (λ n. bit_and n 18446744071562067967) (Leaves (step slots 0 18446744071562067967 0 none) m)
+  pub unmarks : (slots i : ℕ) (m : SeatState V N E)
+      → mark_part m.0.user ≡ 1
+      → m.0.raised ≡ false
+      → IsSome m.0.name
+      → Allows Holds slots i m 0 (λ n. bit_and n 18446744071562067967)
+      (Leaves (step slots 0 18446744071562067967 0 none) m)
   unmarks slots i m mark low named s r deep at fits =
       let v = m.0 in
       let n = slice_index s.words 0 in
@@ -324,12 +372,18 @@ module _ {V N E : Type 0} (name : V → N) (list : V → List (Stamped E)) (firs
         tt,
         uses s r i v Free v.raised v.word v.steps v.installs r.generation (bit_and n 18446744071562067967) at named tt
             (λ raised. absurd (true≢false (sym raised ∙ low))) (λ j x apart there k. k)
-            (omega arith) (omega arith) (λ some_alone. absurd (none_alone (set s.views i w) unset some_alone)) (let tie = r.tie in omega arith) (let grows = r.grows in omega arith),
+            (omega arith) (omega arith) (λ some_alone. absurd (none_alone (set s.views i w) unset some_alone))
+            (let tie = r.tie in omega arith) (let grows = r.grows in omega arith),
         refl,
       )
 
-  pub installs : (slots i : ℕ) (m : SeatState V N E) → lone_part m.0.user ≡ 1 → m.0.turn ≡ true → m.0.raised ≡ true → IsSome m.0.name
-      → Allows Holds slots i m 0 (λ n. (n + 2147483648) % 18446744073709551616) (Installs (step slots 0 2147483648 0 none) m)
+  pub installs : (slots i : ℕ) (m : SeatState V N E)
+      → lone_part m.0.user ≡ 1
+      → m.0.turn ≡ true
+      → m.0.raised ≡ true
+      → IsSome m.0.name
+      → Allows Holds slots i m 0 (λ n. (n + 2147483648) % 18446744073709551616)
+      (Installs (step slots 0 2147483648 0 none) m)
   installs slots i m only turn raised named s r deep at fits =
       let v = m.0 in
       let n = slice_index s.words 0 in
@@ -347,18 +401,23 @@ module _ {V N E : Type 0} (name : V → N) (list : V → List (Stamped E)) (firs
       let one : raises_of v ≡ 1 = ap bit_of raised in
       let all = raised_here s r i v at turn in
       let tie = r.tie in
-      let seen : generation_of v.seen ≡ generation_of r.latest = ap generation_of ((is_live (name first) (list first) r.latest r.generation s.views i v named (r.each_view i v at)).newest turn) in
+      let seen : generation_of v.seen ≡ generation_of r.latest =
+      ap generation_of
+      ((is_live (name first) (list first) r.latest r.generation s.views i v named (r.each_view i v at)).newest turn) in
       let below = ((r.each_view i v at).raised raised).2 in
       let nobody = r.lone (omega arith) in (
         w,
         keeps,
         tt,
-        uses s r i v Free false v.word v.steps (v.installs + 1) (r.generation + 1) ((n + 2147483648) % 18446744073709551616) at named tt
+        uses s r i v Free false v.word v.steps (v.installs + 1) (r.generation + 1)
+            ((n + 2147483648) % 18446744073709551616) at named tt
             (λ no. absurd (true≢false (sym no)))
             (λ j x apart there k.
             let his : references_of x ≤ total references_of s.views = part_le references_of s.views j x there in
-            let both : marks_of v + marks_of x ≤ total marks_of s.views = two_le marks_of s.views i j v x apart at there in
+            let both : marks_of v + marks_of x ≤ total marks_of s.views =
+            two_le marks_of s.views i j v x apart at there in
             knows_free r.generation (r.generation + 1) x.user (omega arith) (omega arith) k)
-            (omega arith) (omega arith) (λ some_alone. absurd (none_alone (set s.views i w) unset some_alone)) (omega arith) (let grows = r.grows in omega arith),
+            (omega arith) (omega arith) (λ some_alone. absurd (none_alone (set s.views i w) unset some_alone))
+            (omega arith) (let grows = r.grows in omega arith),
         refl,
       )

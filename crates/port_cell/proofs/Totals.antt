@@ -1,5 +1,6 @@
 -- A number of each element of a list, added up, and what a change of one element does to it.
-use Rattle.std.proofs.Common.{◌≡◌, ◌≢◌, ℕ, zero, suc, ◌+◌, ◌<◌, ◌≤◌, List, [], ◌∷◌, ◌++◌, length, set, refl, sym, ap, arith}
+use Rattle.std.proofs.Common.{◌≡◌, ◌≢◌, ℕ, zero, suc, ◌+◌, ◌<◌, ◌≤◌, List, []}
+use Rattle.std.proofs.Common.{◌∷◌, ◌++◌, length, set, refl, sym, ap, arith}
 use mathlib.Core.Option.{some, some-injective, some-ne-none}
 use lib.ListN.{get_elem?}
 use Rattle.port_cell.specs.Views.{total}
@@ -10,12 +11,17 @@ module _ {X : Type 0} where
   at_lt (y ∷ ys) zero x e = omega arith
   at_lt (y ∷ ys) (suc i) x e = let h = at_lt ys i x e in omega arith
 
-  pub total_set : (f : X → ℕ) (xs : List X) (i : ℕ) (x y : X) → get_elem? xs i ≡ some x → total f (set xs i y) + f x ≡ total f xs + f y
+  pub total_set : (f : X → ℕ) (xs : List X) (i : ℕ) (x y : X)
+      → get_elem? xs i ≡ some x
+      → total f (set xs i y) + f x ≡ total f xs + f y
   total_set f [] i x y e = absurd (some-ne-none x (sym e))
   total_set f (z ∷ zs) zero x y e = let same : f z ≡ f x = ap f (some-injective z x e) in omega arith
   total_set f (z ∷ zs) (suc i) x y e = let h = total_set f zs i x y e in omega arith
 
-  pub total_same : (f : X → ℕ) (xs : List X) (i : ℕ) (x y : X) → get_elem? xs i ≡ some x → f y ≡ f x → total f (set xs i y) ≡ total f xs
+  pub total_same : (f : X → ℕ) (xs : List X) (i : ℕ) (x y : X)
+      → get_elem? xs i ≡ some x
+      → f y ≡ f x
+      → total f (set xs i y) ≡ total f xs
   total_same f xs i x y e same = let h = total_set f xs i x y e in omega arith
 
   pub total_snoc : (f : X → ℕ) (xs : List X) (y : X) → total f (xs ++ y ∷ []) ≡ total f xs + f y
@@ -32,7 +38,11 @@ module _ {X : Type 0} where
   part_le f (y ∷ ys) (suc i) x e = let h = part_le f ys i x e in omega arith
 
   -- what two elements have is no more than what all have
-  pub two_le : (f : X → ℕ) (xs : List X) (i j : ℕ) (x y : X) → j ≢ i → get_elem? xs i ≡ some x → get_elem? xs j ≡ some y → f x + f y ≤ total f xs
+  pub two_le : (f : X → ℕ) (xs : List X) (i j : ℕ) (x y : X)
+      → j ≢ i
+      → get_elem? xs i ≡ some x
+      → get_elem? xs j ≡ some y
+      → f x + f y ≤ total f xs
   two_le f [] i j x y apart e d = absurd (some-ne-none x (sym e))
   two_le f (z ∷ zs) zero zero x y apart e d = absurd (apart refl)
   two_le f (z ∷ zs) zero (suc j) x y apart e d =
@@ -57,10 +67,14 @@ module _ {X : Type 0} where
 
   pub total_none : (f : X → ℕ) (xs : List X) → ((i : ℕ) (x : X) → get_elem? xs i ≡ some x → f x ≡ 0) → total f xs ≡ 0
   total_none f [] none = refl
-  total_none f (x ∷ xs) none = let here = none 0 x refl in let h = total_none f xs (λ i y e. none (suc i) y e) in omega arith
+  total_none f (x ∷ xs) none =
+      let here = none 0 x refl in let h = total_none f xs (λ i y e. none (suc i) y e) in omega arith
 
   -- where the others have nothing, one element has all
-  pub total_one : (f : X → ℕ) (xs : List X) (i : ℕ) (x : X) → get_elem? xs i ≡ some x → ((j : ℕ) (y : X) → j ≢ i → get_elem? xs j ≡ some y → f y ≡ 0) → total f xs ≡ f x
+  pub total_one : (f : X → ℕ) (xs : List X) (i : ℕ) (x : X)
+      → get_elem? xs i ≡ some x
+      → ((j : ℕ) (y : X) → j ≢ i → get_elem? xs j ≡ some y → f y ≡ 0)
+      → total f xs ≡ f x
   total_one f [] i x e none = absurd (some-ne-none x (sym e))
   total_one f (z ∷ zs) zero x e none =
       let here : f z ≡ f x = ap f (some-injective z x e) in

@@ -1,5 +1,6 @@
 -- The reference word in its parts, and what each step does to it.
-use Rattle.std.proofs.Common.{◌≡◌, ◌⊎◌, ℕ, zero, suc, ◌+◌, ◌*◌, ◌<◌, ◌≤◌, [], ◌∷◌, bit_and, bit_or, inl, inr, refl, arith}
+use Rattle.std.proofs.Common.{◌≡◌, ◌⊎◌, ℕ, zero, suc, ◌+◌, ◌*◌, ◌<◌, ◌≤◌, []}
+use Rattle.std.proofs.Common.{◌∷◌, bit_and, bit_or, inl, inr, refl, arith}
 use Rattle.std.specs.Int.Bits.{or_add_and}
 use Rattle.std.proofs.lemmas.Nat.{and-not, and_comm}
 use Rattle.std.proofs.lemmas.Nat.Bits.{and_pow}
@@ -35,7 +36,8 @@ module _ (n g m c : ℕ) (is : n ≡ word_of g m c) (bit : m ≤ 1) (few : c < 2
 
   pub and_not_bit : n < 18446744073709551616 → bit_and n 18446744071562067967 ≡ word_of g 0 c
   and_not_bit fits =
-      let e : bit_and 18446744071562067967 n + bit_and 2147483648 n ≡ n = and-not 64 2147483648 n (omega arith) (omega arith) in
+      let e : bit_and 18446744071562067967 n + bit_and 2147483648 n ≡ n =
+      and-not 64 2147483648 n (omega arith) (omega arith) in
       let a = and_comm n 18446744071562067967 in
       let b = and_comm n 2147483648 in
       let d = the_bit in

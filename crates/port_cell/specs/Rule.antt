@@ -9,7 +9,8 @@ use Rattle.port_cell.specs.declared.view.Joined.{Joined}
 use Rattle.port_cell.specs.declared.view.View.{View}
 use Rattle.port_cell.specs.Entries.{generation_of, GoesOn, Begins, Keeps}
 use Rattle.port_cell.specs.Word.{word_of}
-use Rattle.port_cell.specs.Views.{total, Knows, bit_of, lone_part, turns_of, raises_of, users_of, references_of, marks_of, lone_marks_of, installs_of, spent_view}
+use Rattle.port_cell.specs.Views.{total, Knows, bit_of, lone_part, turns_of, raises_of, users_of}
+use Rattle.port_cell.specs.Views.{references_of, marks_of, lone_marks_of, installs_of, spent_view}
 
 module _ {N E : Type 0} where
   -- how often the number n was joined into this seat
@@ -23,7 +24,8 @@ module _ {N E : Type 0} where
       ((x.name ≡ Some name) × (get_elem? views x.number ≡ some spent_view) × Keeps x.number x.seen latest)
       × TookIn name views latest xs
 
-  pub record LiveOk (name : N) (first latest : List (Stamped E)) (views : List (View N E)) (j : ℕ) (v : View N E) : Type 0 where
+  pub record LiveOk (name : N) (first latest : List (Stamped E)) (views : List (View N E)) (j : ℕ)
+      (v : View N E) : Type 0 where
     pub named : v.name ≡ Some name
     pub numbered : v.number ≡ j
     pub made : 0 < v.made → (j ≡ 0) × (v.made ≡ length views)
@@ -32,18 +34,23 @@ module _ {N E : Type 0} where
     pub joins : TookIn name views latest v.joined
     pub newest : v.turn ≡ true → v.seen ≡ latest
 
-  pub record ViewOk (name : N) (first latest : List (Stamped E)) (generation : ℕ) (views : List (View N E)) (j : ℕ) (v : View N E) : Type 0 where
+  pub record ViewOk (name : N) (first latest : List (Stamped E)) (generation : ℕ) (views : List (View N E)) (j : ℕ)
+      (v : View N E) : Type 0 where
     pub live : (v ≡ spent_view) ⊎ LiveOk name first latest views j v
     pub knows : Knows generation v.user
     pub raised : v.raised ≡ true → (v.turn ≡ true) × (lone_part v.user ≡ 1) × (generation_of v.seen < 4294967296)
 
-pub record Rule {V N E : Type 0} (name : V → N) (list : V → List (Stamped E)) (first : V) (seats : ℕ) (s : State (Option V) (View N E)) : Type 0 where
+pub record Rule {V N E : Type 0} (name : V → N) (list : V → List (Stamped E)) (first : V) (seats : ℕ)
+    (s : State (Option V) (View N E)) : Type 0 where
   pub generation : ℕ
   pub latest : List (Stamped E)
-  pub words : s.words ≡ word_of generation (total marks_of s.views) (total users_of s.views) ∷ total turns_of s.views ∷ length latest ∷ []
+  pub words : s.words
+      ≡ word_of generation (total marks_of s.views) (total users_of s.views) ∷ total turns_of s.views ∷ length latest
+      ∷ []
   -- the turn: one seat at most has it, and then the value is out
   pub one_turn : total turns_of s.views ≤ 1
-  pub home : total turns_of s.views ≡ 0 → (v : V) × (s.homes ≡ some (Some v) ∷ []) × (name v ≡ name first) × (list v ≡ latest)
+  pub home : total turns_of s.views ≡ 0
+      → (v : V) × (s.homes ≡ some (Some v) ∷ []) × (name v ≡ name first) × (list v ≡ latest)
   pub out : total turns_of s.views ≡ 1 → s.homes ≡ none ∷ []
   -- the history: numbers that were not made yet have entries in the opening list alone, and a number is joined once at
   -- most
@@ -58,4 +65,6 @@ pub record Rule {V N E : Type 0} (name : V → N) (list : V → List (Stamped E)
   pub tie : generation_of latest ≡ generation + total raises_of s.views
   -- the installed generation grows by installing alone
   pub grows : generation ≡ generation_of (list first) + total installs_of s.views
-  pub each_view : (j : ℕ) (v : View N E) → get_elem? s.views j ≡ some v → ViewOk (name first) (list first) latest generation s.views j v
+  pub each_view : (j : ℕ) (v : View N E)
+      → get_elem? s.views j ≡ some v
+      → ViewOk (name first) (list first) latest generation s.views j v

@@ -5,7 +5,8 @@ use Rattle.port_cell.specs.declared.kept.Stamped.{Stamped}
 use Rattle.port_cell.specs.declared.view.User.TheVariants.{Free}
 use Rattle.port_cell.specs.Entries.{Keeps}
 use Rattle.port_cell.specs.Views.{new_view}
-use Rattle.port_cell.specs.Knowledge.{CellSeat, number_of, name_of, list_seen, user_of, has_turn, is_raised, last_word, step_count, install_count}
+use Rattle.port_cell.specs.Knowledge.{CellSeat, number_of, name_of, list_seen, user_of}
+use Rattle.port_cell.specs.Knowledge.{has_turn, is_raised, last_word, step_count, install_count}
 
 -- with the turn a seat has the emptied place of the value in hand, and else nothing
 abbrev pub in_hand : {V : Type 0} → Bool → List (ℕ × Option V)

@@ -1,5 +1,6 @@
 -- What a seat knows, and how its steps change that.
-use Rattle.std.specs.Prelude.{◌≡◌, ℕ, ◌+◌, ◌-◌, ◌<◌, ◌⊎◌, List, [], ◌∷◌, ◌++◌, Bool, true, false, Option, Some, None, IfSome, nat_lt, if◌then◌else◌}
+use Rattle.std.specs.Prelude.{◌≡◌, ℕ, ◌+◌, ◌-◌, ◌<◌, ◌⊎◌, List, [], ◌∷◌, ◌++◌, Bool, true}
+use Rattle.std.specs.Prelude.{false, Option, Some, None, IfSome, nat_lt, if◌then◌else◌}
 use Rattle.port_cell.specs.declared.kept.Stamped.{Stamped}
 use Rattle.port_cell.specs.declared.view.Joined.{Joined}
 use Rattle.port_cell.specs.declared.view.User.{User}
@@ -74,7 +75,19 @@ module _ {N E : Type 0} where
   -- a seat that holds nothing
   abbrev pub new_view : N → ℕ → ℕ → List (Stamped E) → View N E
   new_view name number made seen =
-      record { name = Some name; number = number; made = made; user = Free; turn = false; raised = false; word = 0; steps = 0; installs = 0; seen = seen; joined = [] }
+      record {
+        name = Some name;
+        number = number;
+        made = made;
+        user = Free;
+        turn = false;
+        raised = false;
+        word = 0;
+        steps = 0;
+        installs = 0;
+        seen = seen;
+        joined = [];
+      }
 
   -- the first seat
   abbrev pub first_view : N → List (Stamped E) → View N E
@@ -82,7 +95,19 @@ module _ {N E : Type 0} where
 
   -- what is left of a seat that was joined into another
   abbrev pub spent_view : View N E
-  spent_view = record { name = None; number = 0; made = 0; user = Free; turn = false; raised = false; word = 0; steps = 0; installs = 0; seen = []; joined = [] }
+  spent_view = record {
+    name = None;
+    number = 0;
+    made = 0;
+    user = Free;
+    turn = false;
+    raised = false;
+    word = 0;
+    steps = 0;
+    installs = 0;
+    seen = [];
+    joined = [];
+  }
 
   abbrev pub with_user : User → View N E → View N E
   with_user u v = record v { user = u }
@@ -106,7 +131,8 @@ module _ {N E : Type 0} where
 
   -- a list of this generation may be noted: of the installed one, or, by a seat that is alone, of the next
   abbrev pub MayTell : View N E → ℕ → Type 0
-  MayTell v g = (g ≡ installed_generation v) ⊎ ((lone_part v.user ≡ 1) × (g ≡ installed_generation v + 1) × (g < 4294967296))
+  MayTell v g =
+      (g ≡ installed_generation v) ⊎ ((lone_part v.user ≡ 1) × (g ≡ installed_generation v + 1) × (g < 4294967296))
 
   abbrev pub after_install : View N E → View N E
   after_install v = record v { user = Free; raised = false; installs = v.installs + 1 }
@@ -116,7 +142,19 @@ module _ {N E : Type 0} where
   with_one_made v = record v { made = v.made + 1 }
 
   abbrev pub next_view : View N E → View N E
-  next_view v = record { name = v.name; number = v.made; made = 0; user = Free; turn = false; raised = false; word = 0; steps = 0; installs = 0; seen = v.seen; joined = [] }
+  next_view v = record {
+    name = v.name;
+    number = v.made;
+    made = 0;
+    user = Free;
+    turn = false;
+    raised = false;
+    word = 0;
+    steps = 0;
+    installs = 0;
+    seen = v.seen;
+    joined = [];
+  }
 
   abbrev pub joined_part : View N E → Joined N E
   joined_part w = record { name = w.name; number = w.number; installs = w.installs; seen = w.seen }

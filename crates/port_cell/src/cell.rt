@@ -83,9 +83,13 @@ impl<V: Kept> Cell<V> {
 
     // Makes the seats, each from the first.
     fn deal(&self, alloc: Global, mut first: Seat<V>, seats: u32) -> Result<Vec<Seat<V>>, NoMemory>
-        requires first { (first.table_id ≡ identity_of self.now) × (first.me ≡ (first_view (V.name (opening_value self.now)) (V.list (opening_value self.now)), [])) }
+        requires first { (first.table_id ≡ identity_of self.now)
+            × (first.me ≡ (first_view (V.name (opening_value self.now)) (V.list (opening_value self.now)), [])) }
         requires room { (0 < seats) × (seats ≤ seat_count self.now) × (seats ≤ 4096) }
-        ensures { IfOk result (λ all. (length all.items ≡ seats) × AllNew (identity_of self.now) (V.name (opening_value self.now)) (V.list (opening_value self.now)) 0 all.items) }
+        ensures { IfOk result (λ all.
+            (length all.items ≡ seats)
+            × AllNew (identity_of self.now) (V.name (opening_value self.now)) (V.list (opening_value self.now))
+            0 all.items) }
     {
         let mut others = Vec::new(alloc);
         'seats: for _ in 1..seats {
@@ -109,7 +113,8 @@ impl<V: Kept> Cell<V> {
         ensures list { GoesOn (λ k. k < seat_count self) (V.list (opening_value self)) (V.list result) }
 
         // the generation installed last: it grew by one at each install of a seat
-        ensures generation { generation_of (V.list result) ≡ generation_of (V.list (opening_value self)) + total install_count seats.items }
+        ensures generation { generation_of (V.list result)
+            ≡ generation_of (V.list (opening_value self)) + total install_count seats.items }
     {
         let mut seats = seats;
         let Some(last) = seats.pop() else {
@@ -142,7 +147,8 @@ impl<V: Kept> Cell<V> {
         ensures seat { Finds (V.name result) (V.list result) seat }
         ensures joined { FindsJoined (V.name result) (V.list result) seat.me.0.joined }
         ensures list { GoesOn (λ k. k < seat_count self) (V.list (opening_value self)) (V.list result) }
-        ensures generation { generation_of (V.list result) ≡ generation_of (V.list (opening_value self)) + installs_of seat.me.0 }
+        ensures generation { generation_of (V.list result)
+            ≡ generation_of (V.list (opening_value self)) + installs_of seat.me.0 }
     {
         let Cell {
             table,

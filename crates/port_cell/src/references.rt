@@ -6,7 +6,8 @@ ghost use Rattle.port_cell.specs.declared.view.User.TheVariants.{Free, Held, Mar
 ghost use Rattle.port_cell.specs.Entries.{generation_of};
 ghost use Rattle.port_cell.specs.Word.{generation_in, changing_in, users_in};
 ghost use Rattle.port_cell.specs.Views.{Knows, user_part, with_user};
-ghost use Rattle.port_cell.specs.Knowledge.{list_seen, user_of, has_turn, is_raised, last_word, step_count, install_count, HoldsReference, HasMark, IsAlone, AwaitsOthers};
+ghost use Rattle.port_cell.specs.Knowledge.{list_seen, user_of, has_turn, is_raised, last_word, step_count};
+ghost use Rattle.port_cell.specs.Knowledge.{install_count, HoldsReference, HasMark, IsAlone, AwaitsOthers};
 ghost use Rattle.port_cell.specs.Seats.{IsSeat, IsSameSeat, KeepsTurn, KeepsWord};
 ghost use Rattle.port_cell.specs.Cells.{identity_of};
 ghost use Rattle.port_cell.specs.Joining.{Becomes};
@@ -71,7 +72,9 @@ impl<V: Kept> Cell<V> {
         ensures changing { OnErr result (changing_in (last_word seat.new) ≡ 1) }
 
         // with the turn, the generation in the word is that of the list that the seat found
-        ensures installed { has_turn seat.old ≡ true → is_raised seat.old ≡ false → generation_in (last_word seat.new) ≡ generation_of (list_seen seat.old) }
+        ensures installed { has_turn seat.old ≡ true
+            → is_raised seat.old ≡ false
+            → generation_in (last_word seat.new) ≡ generation_of (list_seen seat.old) }
     {
         let word = self.table.shared.fetch_add::<Enter>(seat, REFERENCES, USER);
         if is_changing(word) {
@@ -122,7 +125,9 @@ impl<V: Kept> Cell<V> {
         ensures changing { OnErr result (changing_in (last_word seat.new) ≡ 1) }
 
         // with the turn, the generation in the word is that of the list that the seat found
-        ensures installed { has_turn seat.old ≡ true → is_raised seat.old ≡ false → generation_in (last_word seat.new) ≡ generation_of (list_seen seat.old) }
+        ensures installed { has_turn seat.old ≡ true
+            → is_raised seat.old ≡ false
+            → generation_in (last_word seat.new) ≡ generation_of (list_seen seat.old) }
     {
         let word = self
             .table
@@ -152,7 +157,9 @@ impl<V: Kept> Cell<V> {
 
         // the generation has not moved since the mark
         ensures stands { Knows (generation_in (last_word seat.new)) (user_of seat.old) }
-        ensures installed { has_turn seat.old ≡ true → is_raised seat.old ≡ false → generation_in (last_word seat.new) ≡ generation_of (list_seen seat.old) }
+        ensures installed { has_turn seat.old ≡ true
+            → is_raised seat.old ≡ false
+            → generation_in (last_word seat.new) ≡ generation_of (list_seen seat.old) }
     {
         let word = self.table.shared.load::<Look>(seat, REFERENCES);
         if has_users(word) {

@@ -6,7 +6,8 @@ ghost use Rattle.port_cell.specs.contracts.turns.Turn.{the_row};
 ghost use Rattle.port_cell.specs.Lent.{with_value, value_in};
 ghost use Rattle.port_cell.specs.Entries.{generation_of, entries_by, Keeps, AddsBy};
 ghost use Rattle.port_cell.specs.Views.{Knows, with_turn, with_list, MayTell};
-ghost use Rattle.port_cell.specs.Knowledge.{number_of, name_of, list_seen, own_entries, user_of, has_turn, is_raised, generation_installed, MayNote};
+ghost use Rattle.port_cell.specs.Knowledge.{number_of, name_of, list_seen, own_entries, user_of};
+ghost use Rattle.port_cell.specs.Knowledge.{has_turn, is_raised, generation_installed, MayNote};
 ghost use Rattle.port_cell.specs.Seats.{IsSeat, IsSameSeat, KeepsUse};
 ghost use Rattle.port_cell.specs.Cells.{identity_of};
 ghost use Rattle.port_cell.specs.Joining.{Becomes};
@@ -83,8 +84,14 @@ impl<V: Kept> Cell<V> {
     fn take(&self, seat: &mut Seat<V>) -> Option<V>
         requires seat { IsSeat (identity_of self.now) seat.old }
         requires none { has_turn seat.old ≡ false }
-        ensures some { IfSome result (λ x. Becomes seat.old seat.new (with_turn (V.list x) seat.old.me.0) × (seat.old.me.0.name ≡ Some (V.name x)) × Keeps seat.old.me.0.number seat.old.me.0.seen (V.list x) × Knows (generation_of (V.list x)) seat.old.me.0.user × (seat.new.me.0.raised ≡ false)) }
-        ensures none { IfNone result ((seat.new.table_id ≡ seat.old.table_id) × (seat.new.id ≡ seat.old.id) × (seat.new.me ≡ seat.old.me)) }
+        ensures some { IfSome result (λ x.
+            Becomes seat.old seat.new (with_turn (V.list x) seat.old.me.0)
+            × (seat.old.me.0.name ≡ Some (V.name x))
+            × Keeps seat.old.me.0.number seat.old.me.0.seen (V.list x)
+            × Knows (generation_of (V.list x)) seat.old.me.0.user
+            × (seat.new.me.0.raised ≡ false)) }
+        ensures none { IfNone result
+            ((seat.new.table_id ≡ seat.old.table_id) × (seat.new.id ≡ seat.old.id) × (seat.new.me ≡ seat.old.me)) }
     {
         if self.table.shared.swap::<Take>(seat, TURN, 1) != 0 {
             return None;
@@ -106,8 +113,10 @@ impl<V: Kept> Cell<V> {
         ensures references { KeepsUse seat.old seat.new }
         ensures turn { has_turn seat.new ≡ true }
         ensures seen { list_seen seat.new ≡ V.list (value_in turn.old) }
-        ensures lowered { generation_of (V.list (value_in turn.old)) ≡ generation_installed seat.old → is_raised seat.new ≡ false }
-        ensures raised { generation_of (V.list (value_in turn.old)) ≡ generation_installed seat.old + 1 → is_raised seat.new ≡ true }
+        ensures lowered { generation_of (V.list (value_in turn.old)) ≡ generation_installed seat.old
+            → is_raised seat.new ≡ false }
+        ensures raised { generation_of (V.list (value_in turn.old)) ≡ generation_installed seat.old + 1
+            → is_raised seat.new ≡ true }
         ensures installed { generation_installed seat.new ≡ generation_installed seat.old }
         ensures value { turn.new ≡ turn.old }
     {

@@ -1,6 +1,7 @@
 -- What an attempt comes to: an answer, a part, or a wait.
 use Rattle.std.specs.Prelude.{MatchBool}
-use Rattle.std.proofs.Common.{◌≡◌, ℕ, List, [], ◌∷◌, ◌++◌, Bool, ◌&&◌, Option, None, Some, is_some, ◌+◌, ◌<◌, ◌≤◌, length, set, refl, sym, ◌∙◌, ap, subst, arith, append-nil}
+use Rattle.std.proofs.Common.{◌≡◌, ℕ, List, [], ◌∷◌, ◌++◌, Bool, ◌&&◌, Option, None, Some, is_some}
+use Rattle.std.proofs.Common.{◌+◌, ◌<◌, ◌≤◌, length, set, refl, sym, ◌∙◌, ap, subst, arith, append-nil}
 use Rattle.tty_base.specs.declared.characters.Flagged.{Flagged}
 use Rattle.word_ring.specs.Ends.{TakerState}
 use Rattle.port_core.specs.declared.waiting.WaitingCall.{WaitingCall}
@@ -9,7 +10,8 @@ use Rattle.ldisc_switch.specs.Disciplines.{column_in}
 use Rattle.tty_terminal.specs.Terminals.{Terminal, caller_at, has_begun}
 use Rattle.tty_terminal.specs.Calls.{outcome, outcome_of}
 use Rattle.tty_terminal.specs.Meeting.{drops_of}
-use Rattle.tty_terminal.specs.Steps.{Answers, Drops, MustWait, TakesPart, left_by, with_dropped, after_answer, after_part, after_wait, handle_number, Allowed, after, quiet}
+use Rattle.tty_terminal.specs.Steps.{Answers, Drops, MustWait, TakesPart, left_by, with_dropped, after_answer}
+use Rattle.tty_terminal.specs.Steps.{after_part, after_wait, handle_number, Allowed, after, quiet}
 use Rattle.port_core.specs.Flips.{DropsShown}
 use Rattle.port_core.specs.Ports.{PortValue, call_in, kept_with, with_call, with_entry, caller_entry}
 use Rattle.port_core.specs.Attempts.{IsReady, AnswersCall, TakesPartOf, MustGoOnWaiting}
@@ -27,26 +29,47 @@ pub record IsTried (v : PortValue) (slots : List (Option WaitingCall)) (c step :
 -- the port with this terminal, this flip buffer and this entry of a call
 abbrev pub after_call : PortValue → ℕ → ℕ → PlainCall → Terminal → TakerState Flagged → PlainEntry → PortValue
 after_call v c step call u f e =
-    record v { terminal = u; journal = v.journal ++ e ∷ []; kept = kept_with (has_begun (caller_at v.terminal c)) v.kept c step call; flip = f }
+    record v {
+      terminal = u;
+      journal = v.journal ++ e ∷ [];
+      kept = kept_with (has_begun (caller_at v.terminal c)) v.kept c step call;
+      flip = f;
+    }
 
-found_now : (v : PortValue) (slots : List (Option WaitingCall)) (c step : ℕ) (call : PlainCall) → IsTried v slots c step call
-    → call_in (kept_with (has_begun (caller_at v.terminal c)) v.kept c step call) c (caller_at v.terminal c).next ≡ Some call
+found_now : (v : PortValue) (slots : List (Option WaitingCall)) (c step : ℕ) (call : PlainCall)
+    → IsTried v slots c step call
+    → call_in (kept_with (has_begun (caller_at v.terminal c)) v.kept c step call)
+    c (caller_at v.terminal c).next ≡ Some call
 found_now v slots c step call h =
-    subst (λ n. call_in (kept_with (has_begun (caller_at v.terminal c)) v.kept c step call) c n ≡ Some call) h.ready.next (known_call v c step call h.keeps.port h.ready)
+    subst (λ n. call_in (kept_with (has_begun (caller_at v.terminal c)) v.kept c step call) c n ≡ Some call)
+    h.ready.next (known_call v c step call h.keeps.port h.ready)
 
-known_now : (v : PortValue) (slots : List (Option WaitingCall)) (c step : ℕ) (call : PlainCall) → IsTried v slots c step call → c < length v.terminal.callers
+known_now : (v : PortValue) (slots : List (Option WaitingCall)) (c step : ℕ) (call : PlainCall)
+    → IsTried v slots c step call
+    → c < length v.terminal.callers
 known_now v slots c step call h = subst (λ n. c < n) (sym (port_callers v h.keeps.port)) h.ready.known
 
 -- the call is answered
-pub answers_call : (v now : PortValue) (slots : List (Option WaitingCall)) (c step : ℕ) (call : PlainCall) (a : PlainAnswer) (dropped : List Flagged) (u : Terminal) (f : TakerState Flagged) → IsTried v slots c step call
-    → Answers (is_some (caller_at v.terminal c).waits && quiet v.counts v.terminal) (outcome v.terminal (caller_at v.terminal c) call) a
+pub answers_call : (v now : PortValue) (slots : List (Option WaitingCall)) (c step : ℕ) (call : PlainCall)
+    (a : PlainAnswer) (dropped : List Flagged) (u : Terminal) (f : TakerState Flagged)
+    → IsTried v slots c step call
+    → Answers (is_some (caller_at v.terminal c).waits && quiet v.counts v.terminal)
+    (outcome v.terminal (caller_at v.terminal c) call) a
     → Drops v.terminal (outcome v.terminal (caller_at v.terminal c) call) (length dropped)
-    → MatchBool (drops_of (outcome v.terminal (caller_at v.terminal c) call)) (DropsShown v.terminal v.flip f dropped) ((dropped ≡ []) × (f ≡ v.flip))
-    → f.taken ≡ v.flip.taken ++ dropped → length dropped ≤ 65536 → f.capacity ≡ v.flip.capacity → v.terminal.sent ≤ f.floor
-    → u ≡ left_by (outcome v.terminal (caller_at v.terminal c) call) v.terminal → column_in u.disc ≤ column_in v.terminal.disc + 4096
-    → now ≡ after_call v c step call (after_answer (with_dropped u (length dropped)) c) f (caller_entry v c (answered a dropped))
+    → MatchBool (drops_of (outcome v.terminal (caller_at v.terminal c) call)) (DropsShown v.terminal v.flip f dropped)
+    ((dropped ≡ []) × (f ≡ v.flip))
+    → f.taken ≡ v.flip.taken ++ dropped
+    → length dropped ≤ 65536
+    → f.capacity ≡ v.flip.capacity
+    → v.terminal.sent ≤ f.floor
+    → u ≡ left_by (outcome v.terminal (caller_at v.terminal c) call) v.terminal
+    → column_in u.disc ≤ column_in v.terminal.disc + 4096
+    → now
+    ≡ after_call v c step call (after_answer (with_dropped u (length dropped)) c) f
+    (caller_entry v c (answered a dropped))
     → KeepsCalls now slots × AnswersCall v now c step call a
-answers_call v now slots c step call a dropped u f h answers drops shown taken few_dropped capacity sent left column now_is =
+answers_call v now slots c step call a dropped u f h answers drops
+    shown taken few_dropped capacity sent left column now_is =
     let t = v.terminal in
     let s = caller_at t c in
     let g = call_in (kept_with (has_begun s) v.kept c step call) in
@@ -56,7 +79,12 @@ answers_call v now slots c step call a dropped u f h answers drops shown taken f
     let allowed : Allowed g v.counts t e = (
       refl,
       record {
-        next = record { known = known_now v slots c step call h; at_step = refl; at_part = refl; not_over = h.ready.not_over };
+        next = record {
+          known = known_now v slots c step call h;
+          at_step = refl;
+          at_part = refl;
+          not_over = h.ready.not_over;
+        };
         answer = subst (λ (o : Option PlainCall). Answers may (outcome_of t s o) a) (sym found) answers;
         drops = subst (λ (o : Option PlainCall). Drops t (outcome_of t s o) (length dropped)) (sym found) drops;
       },
@@ -64,16 +92,22 @@ answers_call v now slots c step call a dropped u f h answers drops shown taken f
     let leaves : after g t e ≡ after_answer (with_dropped u (length dropped)) c =
     ap (λ (o : Option PlainCall). after_answer (with_dropped (left_by (outcome_of t s o) t) (length dropped)) c) found
     ∙ ap (λ (w : Terminal). after_answer (with_dropped w (length dropped)) c) (sym left) in
-    let same : now ≡ record (with_entry (with_call v c step call) e) { flip = f } = now_is ∙ ap (λ (w : Terminal). after_call v c step call w f e) (sym leaves) in
+    let same : now ≡ record (with_entry (with_call v c step call) e) { flip = f } =
+    now_is ∙ ap (λ (w : Terminal). after_call v c step call w f e) (sym leaves) in
     let held : column_in (after g t e).disc ≡ column_in u.disc = ap (λ (w : Terminal). column_in w.disc) leaves in (
-      call_goes_on v now slots slots c step call f (answered a dropped) h.keeps h.few h.ready refl refl allowed taken few_dropped capacity sent (omega (arith, held, column)) (answered_holds slots c call a dropped) same,
-      subst (λ (w : PortValue). AnswersCall v w c step call a) (sym same) (record { dropped = dropped; appends = record { allowed = allowed; appended = refl }; drops = shown }),
+      call_goes_on v now slots slots c step call f (answered a dropped) h.keeps h.few h.ready refl refl allowed taken
+          few_dropped capacity sent (omega (arith, held, column)) (answered_holds slots c call a dropped) same,
+      subst (λ (w : PortValue). AnswersCall v w c step call a) (sym same)
+          (record { dropped = dropped; appends = record { allowed = allowed; appended = refl }; drops = shown }),
     )
 
 -- a part of a write is taken
-pub takes_part_of : (v now : PortValue) (slots : List (Option WaitingCall)) (c step : ℕ) (call : PlainCall) (n : ℕ) (u : Terminal) → IsTried v slots c step call
+pub takes_part_of : (v now : PortValue) (slots : List (Option WaitingCall)) (c step : ℕ) (call : PlainCall) (n : ℕ)
+    (u : Terminal)
+    → IsTried v slots c step call
     → TakesPart (outcome v.terminal (caller_at v.terminal c) call) n
-    → u ≡ left_by (outcome v.terminal (caller_at v.terminal c) call) v.terminal → column_in u.disc ≤ column_in v.terminal.disc + 4096
+    → u ≡ left_by (outcome v.terminal (caller_at v.terminal c) call) v.terminal
+    → column_in u.disc ≤ column_in v.terminal.disc + 4096
     → now ≡ after_call v c step call (after_part u c (handle_of call) n) v.flip (caller_entry v c (parted n))
     → KeepsCalls now slots × TakesPartOf v now c step call
 takes_part_of v now slots c step call n u h takes left column now_is =
@@ -85,21 +119,35 @@ takes_part_of v now slots c step call n u h takes left column now_is =
     let allowed : Allowed g v.counts t e = (
       refl,
       record {
-        next = record { known = known_now v slots c step call h; at_step = refl; at_part = refl; not_over = h.ready.not_over };
+        next = record {
+          known = known_now v slots c step call h;
+          at_step = refl;
+          at_part = refl;
+          not_over = h.ready.not_over;
+        };
         takes = subst (λ (o : Option PlainCall). TakesPart (outcome_of t s o) n) (sym found) takes;
       },
     ) in
     let leaves : after g t e ≡ after_part u c (handle_of call) n =
-    ap (λ (o : Option PlainCall). after_part (left_by (outcome_of t s o) t) c (handle_number o) n) found ∙ ap (λ (w : Terminal). after_part w c (handle_of call) n) (sym left) in
-    let same : now ≡ record (with_entry (with_call v c step call) e) { flip = v.flip } = now_is ∙ ap (λ (w : Terminal). after_call v c step call w v.flip e) (sym leaves) in
+    ap (λ (o : Option PlainCall). after_part (left_by (outcome_of t s o) t) c (handle_number o) n) found
+    ∙ ap (λ (w : Terminal). after_part w c (handle_of call) n) (sym left) in
+    let same : now ≡ record (with_entry (with_call v c step call) e) { flip = v.flip } =
+    now_is ∙ ap (λ (w : Terminal). after_call v c step call w v.flip e) (sym leaves) in
     let held : column_in (after g t e).disc ≡ column_in u.disc = ap (λ (w : Terminal). column_in w.disc) leaves in (
-      call_goes_on v now slots slots c step call v.flip (parted n) h.keeps h.few h.ready refl refl allowed (sym (append-nil v.flip.taken)) (omega arith) refl h.keeps.port.sent (omega (arith, held, column)) (parted_holds slots c call n) same,
-      subst (λ (w : PortValue). TakesPartOf v w c step call) (sym same) (record { count = n; appends = record { allowed = allowed; appended = refl } }),
+      call_goes_on v now slots slots c step call v.flip (parted n) h.keeps h.few h.ready refl refl allowed
+          (sym (append-nil v.flip.taken)) (omega arith) refl h.keeps.port.sent (omega (arith, held, column))
+          (parted_holds slots c call n) same,
+      subst (λ (w : PortValue). TakesPartOf v w c step call) (sym same)
+          (record { count = n; appends = record { allowed = allowed; appended = refl } }),
     )
 
 -- a call begins to wait
-pub begins_to_wait : (v now : PortValue) (slots : List (Option WaitingCall)) (c step : ℕ) (call : PlainCall) (copy : WaitingCall) → call_waiting copy ≡ call → IsTried v slots c step call
-    → MustWait (outcome v.terminal (caller_at v.terminal c) call) → (caller_at v.terminal c).waits ≡ None
+pub begins_to_wait : (v now : PortValue) (slots : List (Option WaitingCall)) (c step : ℕ) (call : PlainCall)
+    (copy : WaitingCall)
+    → call_waiting copy ≡ call
+    → IsTried v slots c step call
+    → MustWait (outcome v.terminal (caller_at v.terminal c) call)
+    → (caller_at v.terminal c).waits ≡ None
     → now ≡ after_call v c step call (after_wait v.terminal c (handle_of call)) v.flip (caller_entry v c waited)
     → KeepsCalls now (set slots c (Some copy)) × MustGoOnWaiting v now c step call
 begins_to_wait v now slots c step call copy copied h must first now_is =
@@ -111,15 +159,28 @@ begins_to_wait v now slots c step call copy copied h must first now_is =
     let allowed : Allowed g v.counts t e = (
       refl,
       record {
-        next = record { known = known_now v slots c step call h; at_step = refl; at_part = refl; not_over = h.ready.not_over };
+        next = record {
+          known = known_now v slots c step call h;
+          at_step = refl;
+          at_part = refl;
+          not_over = h.ready.not_over;
+        };
         first = first;
         must = subst (λ (o : Option PlainCall). MustWait (outcome_of t s o)) (sym found) must;
       },
     ) in
-    let leaves : after g t e ≡ after_wait t c (handle_of call) = ap (λ (o : Option PlainCall). after_wait t c (handle_number o)) found in
-    let same : now ≡ record (with_entry (with_call v c step call) e) { flip = v.flip } = now_is ∙ ap (λ (w : Terminal). after_call v c step call w v.flip e) (sym leaves) in
+    let leaves : after g t e ≡ after_wait t c (handle_of call) =
+    ap (λ (o : Option PlainCall). after_wait t c (handle_number o)) found in
+    let same : now ≡ record (with_entry (with_call v c step call) e) { flip = v.flip } =
+    now_is ∙ ap (λ (w : Terminal). after_call v c step call w v.flip e) (sym leaves) in
     let held : column_in (after g t e).disc ≡ column_in t.disc = ap (λ (w : Terminal). column_in w.disc) leaves in (
-      call_goes_on v now slots (set slots c (Some copy)) c step call v.flip waited h.keeps h.few h.ready refl refl allowed (sym (append-nil v.flip.taken)) (omega arith) refl h.keeps.port.sent (omega (arith, held)) (waited_holds slots c call copy (omega (arith, h.keeps.many, h.ready.known)) copied) same,
+      call_goes_on v now slots (set slots c (Some copy)) c step call v.flip waited h.keeps h.few h.ready refl refl
+          allowed (sym (append-nil v.flip.taken)) (omega arith) refl h.keeps.port.sent (omega (arith, held))
+          (waited_holds slots c call copy (omega (arith, h.keeps.many, h.ready.known)) copied) same,
       subst (λ (w : PortValue). MustGoOnWaiting v w c step call) (sym same)
-          (record { must = must; waits = when_false (is_some s.waits) _ _ (ap (λ (o : Option ℕ). is_some o) first) (record { allowed = allowed; appended = refl }) }),
+          (record {
+            must = must;
+            waits = when_false (is_some s.waits) _ _ (ap (λ (o : Option ℕ). is_some o) first)
+                (record { allowed = allowed; appended = refl });
+          }),
     )

@@ -1,7 +1,9 @@
 -- A call that must wait is one of the four that can.
 use Rattle.std.proofs.Common.{◌≡◌, true, refl, sym, ◌∙◌}
 use Rattle.std.proofs.lemmas.Bool.{false≢true}
-use Rattle.tty_calls.specs.Plain.{PlainCall, opens, closes, reads, writes, gets_modes, sets_modes, gets_disc, sets_disc, flushes, steers, counts_input, counts_output, excludes, admits, drains, gets_counts, hangs_up, sends_packet, takes_packet}
+use Rattle.tty_calls.specs.Plain.{PlainCall, opens, closes, reads, writes, gets_modes, sets_modes, gets_disc}
+use Rattle.tty_calls.specs.Plain.{sets_disc, flushes, steers, counts_input, counts_output, excludes, admits}
+use Rattle.tty_calls.specs.Plain.{drains, gets_counts, hangs_up, sends_packet, takes_packet}
 use Rattle.tty_terminal.specs.declared.callers.CallerState.{CallerState}
 use Rattle.tty_terminal.specs.Terminals.{Terminal}
 use Rattle.tty_terminal.specs.Calls.{outcome}
@@ -31,6 +33,9 @@ by_call t s (hangs_up h) e = absurd (false≢true e)
 by_call t s (sends_packet h bytes) e = absurd (false≢true e)
 by_call t s (takes_packet h) e = absurd (false≢true e)
 
-pub can_wait_here : (t : Terminal) (s : CallerState) (call : PlainCall) → MustWait (outcome t s call) → can_wait call ≡ true
+pub can_wait_here : (t : Terminal) (s : CallerState) (call : PlainCall)
+    → MustWait (outcome t s call)
+    → can_wait call ≡ true
 can_wait_here t s call must =
-    by_call t s call (sym (outcome_waits t s call) ∙ (must_wait_is (is_wait (outcome t s call)) (outcome t s call) refl).1 must)
+    by_call t s call
+    (sym (outcome_waits t s call) ∙ (must_wait_is (is_wait (outcome t s call)) (outcome t s call) refl).1 must)

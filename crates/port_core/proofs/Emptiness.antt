@@ -16,7 +16,8 @@ abbrev pub empty_val : Val
 empty_val = vstruct vnil
 
 module _ {M : Type 1} {𝓤 : Ura M} {𝓛 : Logic 𝓤} {K : Type 0} {Γ : List (Item 𝓤)} {G : Goal 𝓤 𝓛.H} where
-  pub asked_in : K → (ks : List PlainKept) → Step K 𝓛 (‵ ((asked.the_row).own_val (record { items = ks }) (empty_val ∷ [])) ∷ Γ) G (‵ ftrue ∷ Γ) G
+  pub asked_in : K → (ks : List PlainKept)
+      → Step K 𝓛 (‵ ((asked.the_row).own_val (record { items = ks }) (empty_val ∷ [])) ∷ Γ) G (‵ ftrue ∷ Γ) G
   asked_in t ks = step (λ s.
       nothing t $ feq_i t (List Val) (empty_val ∷ []) (empty_val ∷ []) refl $ fjoin t $
       fpack t (Valss []) (within (shape asked.the_type) tt (empty_val ∷ [])) tt $ fjoin t $ s)

@@ -1,6 +1,7 @@
 -- What an attempt of a call does to the generation; and which calls are answered at once.
 use Rattle.std.specs.Prelude.{MatchBool}
-use Rattle.std.proofs.Common.{◌≡◌, ℕ, Bool, true, false, Option, None, Some, is_some, if◌then◌else◌, inl, inr, refl, sym, ◌∙◌, ap, subst}
+use Rattle.std.proofs.Common.{◌≡◌, ℕ, Bool, true, false, Option, None, Some, is_some}
+use Rattle.std.proofs.Common.{if◌then◌else◌, inl, inr, refl, sym, ◌∙◌, ap, subst}
 use Rattle.std.proofs.lemmas.Bool.{false≢true}
 use Rattle.word_ring.specs.Ends.{TakerState}
 use Rattle.tty_base.specs.declared.characters.Flagged.{Flagged}
@@ -8,7 +9,10 @@ use Rattle.handle_table.specs.declared.HandleState.{HandleState}
 use Rattle.ldisc_switch.specs.declared.kinds.Kind.{Kind}
 use Rattle.ldisc_switch.specs.Disciplines.{kind_of_number}
 use Rattle.tty_calls.specs.declared.journals.Who.TheVariants.{Caller}
-use Rattle.tty_calls.specs.Plain.{PlainCall, changes, opens, closes, reads, writes, gets_modes, sets_modes, gets_disc, sets_disc, flushes, steers, counts_input, counts_output, excludes, admits, drains, gets_counts, hangs_up, sends_packet, takes_packet, PlainAnswer, PlainEvent, answered, parted, waited}
+use Rattle.tty_calls.specs.Plain.{PlainCall, changes, opens, closes, reads, writes, gets_modes, sets_modes}
+use Rattle.tty_calls.specs.Plain.{gets_disc, sets_disc, flushes, steers, counts_input, counts_output}
+use Rattle.tty_calls.specs.Plain.{excludes, admits, drains, gets_counts, hangs_up, sends_packet}
+use Rattle.tty_calls.specs.Plain.{takes_packet, PlainAnswer, PlainEvent, answered, parted, waited}
 use Rattle.tty_terminal.specs.declared.callers.CallerState.{CallerState}
 use Rattle.tty_terminal.specs.Terminals.{Terminal, handle_at, handle_for, caller_at, has_begun}
 use Rattle.tty_terminal.specs.Outcomes.{Outcome, gives, on_live}
@@ -69,18 +73,34 @@ changes_at_once t s (sends_packet h bytes) e = absurd (false≢true e)
 changes_at_once t s (takes_packet h) e = absurd (false≢true e)
 
 -- none of these waits
-pub changes_waits_not : (t : Terminal) (s : CallerState) (call : PlainCall) → MustWait (outcome t s call) → changes call ≡ true → ⊥
+pub changes_waits_not : (t : Terminal) (s : CallerState) (call : PlainCall)
+    → MustWait (outcome t s call)
+    → changes call ≡ true
+    → ⊥
 changes_waits_not t s call must e = (changes_at_once t s call e).wait must
 
-found_call : (v : PortValue) (c step : ℕ) (call : PlainCall) → IsPort v → IsReady v c step call → call_in (kept_with (has_begun (caller_at v.terminal c)) v.kept c step call) c (caller_at v.terminal c).next ≡ Some call
-found_call v c step call p ready = subst (λ n. call_in (kept_with (has_begun (caller_at v.terminal c)) v.kept c step call) c n ≡ Some call) ready.next (known_call v c step call p ready)
+found_call : (v : PortValue) (c step : ℕ) (call : PlainCall)
+    → IsPort v
+    → IsReady v c step call
+    → call_in (kept_with (has_begun (caller_at v.terminal c)) v.kept c step call)
+    c (caller_at v.terminal c).next ≡ Some call
+found_call v c step call p ready = subst
+    (λ n. call_in (kept_with (has_begun (caller_at v.terminal c)) v.kept c step call) c n ≡ Some call) ready.next
+    (known_call v c step call p ready)
 
-pub is_at_once : (v now : PortValue) (c step : ℕ) (call : PlainCall) (x : PlainTried) → IsPort v → IsReady v c step call → changes call ≡ true → Attempts v now c step call x → IsAtOnce x
+pub is_at_once : (v now : PortValue) (c step : ℕ) (call : PlainCall) (x : PlainTried)
+    → IsPort v
+    → IsReady v c step call
+    → changes call ≡ true
+    → Attempts v now c step call x
+    → IsAtOnce x
 is_at_once v now c step call (done_by a) p ready e h = tt
 is_at_once v now c step call took_part p ready e h =
     (changes_at_once v.terminal (caller_at v.terminal c) call e).part h.count
-    (subst (λ (o : Option PlainCall). TakesPart (outcome_of v.terminal (caller_at v.terminal c) o) h.count) (found_call v c step call p ready) h.appends.allowed.1.takes)
-is_at_once v now c step call must_wait p ready e h = (changes_at_once v.terminal (caller_at v.terminal c) call e).wait h.must
+    (subst (λ (o : Option PlainCall). TakesPart (outcome_of v.terminal (caller_at v.terminal c) o) h.count)
+    (found_call v c step call p ready) h.appends.allowed.1.takes)
+is_at_once v now c step call must_wait p ready e h =
+    (changes_at_once v.terminal (caller_at v.terminal c) call e).wait h.must
 
 -- ---- the generation
 
@@ -105,30 +125,46 @@ begins_none t s (hangs_up h) e = absurd (false≢true (sym e))
 begins_none t s (sends_packet h bytes) e = refl
 begins_none t s (takes_packet h) e = refl
 
-raises_if : (changing begins : Bool) (n m : ℕ) → m ≡ generation_after begins n → (changing ≡ false → begins ≡ false) → Raises changing n m
+raises_if : (changing begins : Bool) (n m : ℕ)
+    → m ≡ generation_after begins n
+    → (changing ≡ false → begins ≡ false)
+    → Raises changing n m
 raises_if true true n m is none = inr is
 raises_if true false n m is none = inl is
 raises_if false true n m is none = absurd (false≢true (sym (none refl)))
 raises_if false false n m is none = is
 
-raises_by : (v now : PortValue) (c step : ℕ) (call : PlainCall) (f : TakerState Flagged) (event : PlainEvent) → Appends (with_call v c step call) now f (caller_entry v c event)
-    → (changes call ≡ false → begins_generation (call_in (kept_with (has_begun (caller_at v.terminal c)) v.kept c step call)) v.terminal (Caller c) (caller_at v.terminal c).next event ≡ false)
+raises_by : (v now : PortValue) (c step : ℕ) (call : PlainCall) (f : TakerState Flagged) (event : PlainEvent)
+    → Appends (with_call v c step call) now f (caller_entry v c event)
+    → (changes call ≡ false
+    → begins_generation (call_in (kept_with (has_begun (caller_at v.terminal c)) v.kept c step call)) v.terminal
+    (Caller c) (caller_at v.terminal c).next event ≡ false)
     → Raises (changes call) v.terminal.generation now.terminal.generation
 raises_by v now c step call f event h none =
     raises_if (changes call) _ v.terminal.generation now.terminal.generation
     (ap (λ (w : PortValue). w.terminal.generation) h.appended
-    ∙ step_generation (call_in (kept_with (has_begun (caller_at v.terminal c)) v.kept c step call)) v.counts v.terminal (caller_entry v c event) h.allowed) none
+    ∙ step_generation (call_in (kept_with (has_begun (caller_at v.terminal c)) v.kept c step call)) v.counts v.terminal
+    (caller_entry v c event) h.allowed) none
 
 either_way : (b : Bool) (X Y Z : Type 0) → (X → Z) → (Y → Z) → MatchBool b X Y → Z
 either_way true X Y Z f g h = f h
 either_way false X Y Z f g h = g h
 
-pub raises : (v now : PortValue) (c step : ℕ) (call : PlainCall) (x : PlainTried) → IsPort v → IsReady v c step call → Attempts v now c step call x → Raises (changes call) v.terminal.generation now.terminal.generation
+pub raises : (v now : PortValue) (c step : ℕ) (call : PlainCall) (x : PlainTried)
+    → IsPort v
+    → IsReady v c step call
+    → Attempts v now c step call x
+    → Raises (changes call) v.terminal.generation now.terminal.generation
 raises v now c step call (done_by a) p ready h =
     raises_by v now c step call now.flip (answered a h.dropped) h.appends
-    (λ e. ap (λ (o : Option PlainCall). known_call_begins v.terminal (caller_at v.terminal c) o) (found_call v c step call p ready) ∙ begins_none v.terminal (caller_at v.terminal c) call e)
+    (λ e.
+    ap (λ (o : Option PlainCall). known_call_begins v.terminal (caller_at v.terminal c) o)
+    (found_call v c step call p ready)
+    ∙ begins_none v.terminal (caller_at v.terminal c) call e)
 raises v now c step call took_part p ready h = raises_by v now c step call v.flip (parted h.count) h.appends (λ e. refl)
 raises v now c step call must_wait p ready h =
-    either_way (is_some (caller_at v.terminal c).waits) ((now ≡ v) × (quiet v.counts v.terminal ≡ false)) (Appends (with_call v c step call) now v.flip (caller_entry v c waited)) _
-    (λ same. raises_if (changes call) false v.terminal.generation now.terminal.generation (ap (λ (w : PortValue). w.terminal.generation) same.0) (λ e. refl))
+    either_way (is_some (caller_at v.terminal c).waits) ((now ≡ v) × (quiet v.counts v.terminal ≡ false))
+    (Appends (with_call v c step call) now v.flip (caller_entry v c waited)) _
+    (λ same. raises_if (changes call) false v.terminal.generation now.terminal.generation
+    (ap (λ (w : PortValue). w.terminal.generation) same.0) (λ e. refl))
     (λ appends. raises_by v now c step call v.flip waited appends (λ e. refl)) h.waits

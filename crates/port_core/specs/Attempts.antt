@@ -1,5 +1,6 @@
 -- What an attempt of a call needs, and what it comes to.
-use Rattle.std.specs.Prelude.{◌≡◌, ◌⊎◌, ℕ, List, [], Bool, IsTrue, true, false, ◌+◌, ◌<◌, ◌^◌, None, Some, is_some, MatchBool, sum}
+use Rattle.std.specs.Prelude.{◌≡◌, ◌⊎◌, ℕ, List, [], Bool, IsTrue, true, false}
+use Rattle.std.specs.Prelude.{◌+◌, ◌<◌, ◌^◌, None, Some, is_some, MatchBool, sum}
 use Rattle.tty_base.specs.declared.characters.Flagged.{Flagged}
 use Rattle.tty_calls.specs.Plain.{PlainCall, handle_of, PlainAnswer, answered, parted, waited, answer_of}
 use Rattle.tty_calls.specs.Limits.{byte_count}
@@ -22,7 +23,9 @@ pub record IsReady (v : PortValue) (c step : ℕ) (call : PlainCall) : Type 0 wh
   pub number : handle_of call < 32
   pub bytes : byte_count call < 2 ^ 32
   pub same : has_begun (caller_at v.terminal c) ≡ true → call_in v.kept c step ≡ Some call
-  pub generation : (caller_at v.terminal c).waits ≡ None → 0 < (caller_at v.terminal c).parts → (caller_at v.terminal c).generation ≡ v.terminal.generation
+  pub generation : (caller_at v.terminal c).waits ≡ None
+      → 0 < (caller_at v.terminal c).parts
+      → (caller_at v.terminal c).generation ≡ v.terminal.generation
 
 -- what an attempt came to
 pub data PlainTried : Type 0 where

@@ -19,22 +19,27 @@ with_pushed putter chars = record putter { sent = putter.sent ++ chars; pushed =
 
 -- These were put and pushed, the end that takes out was told of it and looked, the first of them were taken, and both
 -- ends met.
-pub record TakesGiven (old new : TakerState Flagged) (putter now : PutterState Flagged) (chars : List Flagged) (n : ℕ) : Type 0 where
+pub record TakesGiven (old new : TakerState Flagged) (putter now : PutterState Flagged) (chars : List Flagged)
+    (n : ℕ) : Type 0 where
   pub tail : ℕ
   pub left : TakerState Flagged
-  pub looks : LooksAt (after_meeting old (with_put putter chars)) (with_shown (after_meeting old (with_put putter chars)) tail) tail
+  pub looks : LooksAt (after_meeting old (with_put putter chars))
+      (with_shown (after_meeting old (with_put putter chars)) tail) tail
   pub takes_out : TakesOut (with_shown (after_meeting old (with_put putter chars)) tail) left (take n chars)
   pub new_is : new ≡ after_meeting left (with_pushed putter chars)
   pub meets : MeetsTaker left (with_pushed putter chars) now
 
 -- These were put and pushed, a piece of as many was asked for, and both ends met.
-pub record FlushesGiven (old new : PortValue) (putter now : PutterState Flagged) (run : ℕ) (chars : List Flagged) (flushed : Flushed) : Type 0 where
+pub record FlushesGiven (old new : PortValue) (putter now : PutterState Flagged) (run : ℕ) (chars : List Flagged)
+    (flushed : Flushed) : Type 0 where
   pub left : PortValue
-  pub flushes : Flushes (record old { flip = after_meeting old.flip (with_put putter chars) }) left run 0 (length chars) flushed
+  pub flushes : Flushes (record old { flip = after_meeting old.flip (with_put putter chars) }) left run 0 (length chars)
+      flushed
   pub new_is : new ≡ record left { flip = after_meeting left.flip (with_pushed putter chars) }
   pub meets : MeetsTaker left.flip (with_pushed putter chars) now
 
 -- These were put and pushed, the end that takes out was told of it, and the piece was denied.
-pub record DeniesGiven (d : Denied) (old new : PortValue) (putter now : PutterState Flagged) (chars : List Flagged) : Type 0 where
+pub record DeniesGiven (d : Denied) (old new : PortValue) (putter now : PutterState Flagged)
+    (chars : List Flagged) : Type 0 where
   pub hears : now ≡ with_pushed putter chars
   pub denies : Denies d (record old { flip = after_meeting old.flip (with_put putter chars) }) new

@@ -1,5 +1,6 @@
 -- What the fields of a port stand for, and what they keep.
-use Rattle.std.specs.Prelude.{◌≡◌, ℕ, List, Bool, ◌<◌, true, false, Option, None, Some, is_some, length, sum, slice_index_or}
+use Rattle.std.specs.Prelude.{◌≡◌, ℕ, List, Bool, ◌<◌, true, false, Option}
+use Rattle.std.specs.Prelude.{None, Some, is_some, length, sum, slice_index_or}
 use Rattle.tty_calls.specs.Plain.{PlainCall, reads, writes, sets_modes, drains, handle_of}
 use Rattle.port_core.specs.declared.waiting.WaitingCall.{WaitingCall}
 use Rattle.port_core.specs.declared.waiting.WaitingCall.TheVariants as waiting
@@ -43,7 +44,8 @@ pub record IsWaitingCall (t : Terminal) (ks : List PlainKept) (c : ℕ) (slot : 
 
 -- of each caller that waits its call is there
 abbrev pub AreWaitingCalls : Terminal → List PlainKept → List (Option WaitingCall) → Type 0
-AreWaitingCalls t ks slots = (c : ℕ) → is_some (caller_at t c).waits ≡ true → IsWaitingCall t ks c (slice_index_or slots c None)
+AreWaitingCalls t ks slots =
+    (c : ℕ) → is_some (caller_at t c).waits ≡ true → IsWaitingCall t ks c (slice_index_or slots c None)
 
 -- a port, and for each of its callers the latest of its calls that waited
 pub record KeepsCalls (v : PortValue) (slots : List (Option WaitingCall)) : Type 0 where

@@ -1,6 +1,7 @@
 -- A port as a value: the terminal, the journal that leads to it, the calls that are kept, and the end of the flip
 -- buffer at which characters are taken out.
-use Rattle.std.specs.Prelude.{◌≡◌, ℕ, List, [], ◌∷◌, ◌++◌, Bool, true, false, ◌&&◌, ◌||◌, not, Option, None, Some, ◌==◌, ◌*◌, ◌^◌, ◌<◌, ◌≤◌, if◌then◌else◌, length}
+use Rattle.std.specs.Prelude.{◌≡◌, ℕ, List, [], ◌∷◌, ◌++◌, Bool, true, false, ◌&&◌, ◌||◌, not}
+use Rattle.std.specs.Prelude.{Option, None, Some, ◌==◌, ◌*◌, ◌^◌, ◌<◌, ◌≤◌, if◌then◌else◌, length}
 use Rattle.tty_base.specs.declared.characters.Flagged.{Flagged}
 use Rattle.word_ring.specs.Ends.{TakerState}
 use Rattle.tty_calls.specs.declared.journals.Who.{Who}
@@ -85,22 +86,42 @@ is_stuck t = (live_count t == 0) || not (accepts t)
 
 -- an entry of the phase that runs
 abbrev pub phase_entry : PortValue → Who → PlainEvent → PlainEntry
-phase_entry v who event = record { who = who; step = v.terminal.phase; part = 0; generation = v.terminal.generation; event = event }
+phase_entry v who event =
+    record { who = who; step = v.terminal.phase; part = 0; generation = v.terminal.generation; event = event }
 
 -- an entry of a caller's next step
 abbrev pub caller_entry : PortValue → ℕ → PlainEvent → PlainEntry
 caller_entry v c event =
-    record { who = Caller c; step = (caller_at v.terminal c).next; part = (caller_at v.terminal c).parts; generation = v.terminal.generation; event = event }
+    record {
+      who = Caller c;
+      step = (caller_at v.terminal c).next;
+      part = (caller_at v.terminal c).parts;
+      generation = v.terminal.generation;
+      event = event;
+    }
 
 -- the end of a caller's calls in a phase
 abbrev pub end_entry : PortValue → ℕ → PlainEntry
-end_entry v c = record { who = Caller c; step = (caller_at v.terminal c).next; part = 0; generation = v.terminal.generation; event = caller_ended }
+end_entry v c = record {
+  who = Caller c;
+  step = (caller_at v.terminal c).next;
+  part = 0;
+  generation = v.terminal.generation;
+  event = caller_ended;
+}
 
 abbrev pub flush_entry : PortValue → ℕ → ℕ → List Flagged → PlainEntry
-flush_entry v run part chars = record { who = Flusher; step = run; part = part; generation = v.terminal.generation; event = flushed chars }
+flush_entry v run part chars =
+    record { who = Flusher; step = run; part = part; generation = v.terminal.generation; event = flushed chars }
 
 abbrev pub hangup_entry : PortValue → List Flagged → PlainEntry
-hangup_entry v dropped = record { who = Session; step = length v.counts; part = 0; generation = v.terminal.generation; event = hung_up dropped }
+hangup_entry v dropped = record {
+  who = Session;
+  step = length v.counts;
+  part = 0;
+  generation = v.terminal.generation;
+  event = hung_up dropped;
+}
 
 -- ---- kept calls
 

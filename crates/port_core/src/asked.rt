@@ -38,7 +38,9 @@ impl AskedCalls {
 
     /// These, and one more.
     fn and(&self, asked: &Asked, call: &Call) -> AskedCalls
-        ensures { result.items ≡ self.now.items ++ record { caller = asked.now.caller; step = asked.now.step; call = call_of call.now } ∷ [] }
+        ensures { result.items
+            ≡ self.now.items ++ record { caller = asked.now.caller; step = asked.now.step; call = call_of call.now }
+            ∷ [] }
     {
         AskedCalls {}
     }

@@ -155,7 +155,14 @@ pub(crate) fn entry_of_call(
     generation: u32,
     event: Event<'_>,
 ) -> Entry<'_>
-    ensures { entry_of result ≡ record { who = Caller caller; step = step; part = part; generation = generation; event = event_of event.entry } }
+    ensures { entry_of result
+        ≡ record {
+          who = Caller caller;
+          step = step;
+          part = part;
+          generation = generation;
+          event = event_of event.entry;
+        } }
 {
     Entry {
         who: Who::Caller(caller),
@@ -169,7 +176,8 @@ pub(crate) fn entry_of_call(
 /// An entry of a piece of a flush run.
 #[inline(always)]
 pub(crate) fn entry_of_flush(run: u32, part: u32, generation: u32, chars: &[Flagged]) -> Entry<'_>
-    ensures { entry_of result ≡ record { who = Flusher; step = run; part = part; generation = generation; event = flushed chars.now } }
+    ensures { entry_of result
+        ≡ record { who = Flusher; step = run; part = part; generation = generation; event = flushed chars.now } }
 {
     Entry {
         who: Who::Flusher,

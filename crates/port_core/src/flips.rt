@@ -1,6 +1,7 @@
 //! The flip buffer of a port, as the port's calls use it.
 
-ghost use Rattle.std.specs.Prelude.{◌≡◌, ℕ, ◌+◌, ◌-◌, ◌*◌, ◌^◌, ◌≤◌, ◌<◌, List, [], ◌∷◌, ◌++◌, true, false, length, take};
+ghost use Rattle.std.specs.Prelude.{◌≡◌, ℕ, ◌+◌, ◌-◌, ◌*◌, ◌^◌, ◌≤◌, ◌<◌, List};
+ghost use Rattle.std.specs.Prelude.{[], ◌∷◌, ◌++◌, true, false, length, take};
 ghost use Rattle.tty_base.specs.Characters.{good_characters};
 ghost use Rattle.tty_base.specs.declared.characters.Flagged.{Flagged};
 ghost use Rattle.word_ring.specs.Ends.{AreReleased, NothingWaits, with_shown};

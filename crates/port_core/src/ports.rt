@@ -1,6 +1,7 @@
 //! A port: the entries that its clock and the ends of its callers make, what can be asked of it, and its laws.
 
-ghost use Rattle.std.specs.Prelude.{◌≡◌, ◌↔◌, ℕ, List, Option, [], ◌∷◌, ◌++◌, Bool, true, false, ◌+◌, ◌≤◌, ◌<◌, IsTrue, IfOk, IfErr, OnOk, OnErr, length, sum};
+ghost use Rattle.std.specs.Prelude.{◌≡◌, ◌↔◌, ℕ, List, Option, [], ◌∷◌, ◌++◌, Bool, true, false};
+ghost use Rattle.std.specs.Prelude.{◌+◌, ◌≤◌, ◌<◌, IsTrue, IfOk, IfErr, OnOk, OnErr, length, sum};
 ghost use Rattle.tty_calls.specs.Plain.{PlainCall, ticked, clock_ended};
 ghost use Rattle.tty_calls.specs.declared.journals.Who.TheVariants.{Clock};
 
@@ -73,7 +74,8 @@ impl Port {
     ghost use Rattle.tty_terminal.specs.Runs.{IsRun, Grows, AgreesOn};
     ghost use Rattle.tty_terminal.specs.Standing.{standing_of, standing_in, at_first};
     ghost use Rattle.tty_terminal.specs.Marks.{marks_of, marks_in, no_marks};
-    ghost use Rattle.port_core.specs.Ports.{PortValue, IsPort, Appends, IsOpen, call_in, is_stuck, Denies, phase_entry, end_entry};
+    ghost use Rattle.port_core.specs.Ports.{PortValue, IsPort, Appends, IsOpen, call_in};
+    ghost use Rattle.port_core.specs.Ports.{is_stuck, Denies, phase_entry, end_entry};
 
     /// A closed port with N_TTY and the default modes, with so many callers in each phase, at most
     /// `limit` entries in its journal, and an end of a flip buffer from which nothing was taken.
@@ -83,7 +85,17 @@ impl Port {
         requires few { limit ≤ 4194304 }
         requires fresh { flip.taken ≡ [] }
         requires small { flip.capacity ≤ 65536 }
-        ensures { IfOk result (λ p. p ≡ record { terminal = opening (sum callers.now) flip.capacity; journal = []; kept = []; counts = callers.now; limit = limit; starved = false; flip = flip }) }
+        ensures { IfOk result (λ p.
+            p
+            ≡ record {
+              terminal = opening (sum callers.now) flip.capacity;
+              journal = [];
+              kept = [];
+              counts = callers.now;
+              limit = limit;
+              starved = false;
+              flip = flip;
+            }) }
     {
         let count = total(callers);
         let waiting = slots_for(alloc, count)?;
@@ -317,7 +329,8 @@ impl Port {
     /// phases; so a caller that made these entries knows what `attempt` needs. All entries together
     /// tell where line, clock and flush runs stand.
     pub fn own_entries_tell(&self)
-        ensures callers { (c : ℕ) → standing_of (caller_at self.now.terminal c) ≡ standing_in c self.now.journal at_first }
+        ensures callers { (c : ℕ)
+            → standing_of (caller_at self.now.terminal c) ≡ standing_in c self.now.journal at_first }
         ensures marks { marks_of self.now.terminal ≡ marks_in self.now.journal no_marks }
     {
         let _ = &self.journal;
@@ -339,8 +352,12 @@ impl Port {
     pub fn into_journal(self) -> (Journal, PortEnd)
         ensures journal { result.0.items ≡ self.journal }
         ensures port { IsPort self }
-        ensures run { (session : ℕ → ℕ → Option PlainCall) → Grows (call_in self.kept) session → IsRun session self.counts self.flip.capacity self.journal self.terminal }
-        ensures agrees { (session : ℕ → ℕ → Option PlainCall) → AgreesOn (call_in self.kept) session self.journal → IsRun session self.counts self.flip.capacity self.journal self.terminal }
+        ensures run { (session : ℕ → ℕ → Option PlainCall)
+            → Grows (call_in self.kept) session
+            → IsRun session self.counts self.flip.capacity self.journal self.terminal }
+        ensures agrees { (session : ℕ → ℕ → Option PlainCall)
+            → AgreesOn (call_in self.kept) session self.journal
+            → IsRun session self.counts self.flip.capacity self.journal self.terminal }
         ensures counts { result.1.counts ≡ self.terminal.tally.counts }
         ensures signals { result.1.signals.items ≡ self.terminal.tally.signals.items }
         ensures generation { result.1.generation ≡ self.terminal.generation }

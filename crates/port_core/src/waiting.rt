@@ -72,7 +72,9 @@ impl WaitingCall {
         requires known { caller < length terminal.now.terminal.callers }
         requires number { handle_of (call_waiting self.now) < 32 }
         requires column { column_in terminal.now.terminal.disc < 2 ^ 62 }
-        ensures { IsTrue result ↔ MustWait (outcome terminal.now.terminal (caller_at terminal.now.terminal caller) (call_waiting self.now)) }
+        ensures { IsTrue result
+            ↔ MustWait
+            (outcome terminal.now.terminal (caller_at terminal.now.terminal caller) (call_waiting self.now)) }
     {
         terminal.must_wait(caller, &self.lent())
     }

@@ -202,8 +202,14 @@ fn three<'a, 'c, R: Threads + Wait + Sync>(
     requires second { IsHere shared.now 1 seats.1 × (list_seen seats.1 ≡ []) }
     requires flusher { IsHere shared.now 2 seats.2 × (list_seen seats.2 ≡ []) }
     requires callers { ((name_of_port shared.now).callers ≡ 2) × (sum (name_of_port shared.now).counts ≡ 2) }
-    requires numbers { (handle_of (call_of first.0.now) < 32) × (handle_of (call_of first.1.now) < 32) × (handle_of (call_of second.0.now) < 32) × (handle_of (call_of second.1.now) < 32) }
-    requires bytes { (byte_count (call_of first.0.now) < 2 ^ 32) × (byte_count (call_of first.1.now) < 2 ^ 32) × (byte_count (call_of second.0.now) < 2 ^ 32) × (byte_count (call_of second.1.now) < 2 ^ 32) }
+    requires numbers { (handle_of (call_of first.0.now) < 32)
+        × (handle_of (call_of first.1.now) < 32)
+        × (handle_of (call_of second.0.now) < 32)
+        × (handle_of (call_of second.1.now) < 32) }
+    requires bytes { (byte_count (call_of first.0.now) < 2 ^ 32)
+        × (byte_count (call_of first.1.now) < 2 ^ 32)
+        × (byte_count (call_of second.0.now) < 2 ^ 32)
+        × (byte_count (call_of second.1.now) < 2 ^ 32) }
     ensures first { IsHere shared.now 0 result.0 }
     ensures second { IsHere shared.now 1 result.1.0 }
     ensures flusher { IsHere shared.now 2 result.1.1 }
@@ -212,11 +218,28 @@ fn three<'a, 'c, R: Threads + Wait + Sync>(
     join(
         rt,
         move || -> Seat
-            requires { IsSync R.row × IsHere shared.now 0 one × (list_seen one ≡ []) × (sum (name_of_port shared.now).counts ≡ 2) × (handle_of (call_of first.0.now) < 32) × (handle_of (call_of first.1.now) < 32) × (byte_count (call_of first.0.now) < 2 ^ 32) × (byte_count (call_of first.1.now) < 2 ^ 32) }
+            requires { IsSync R.row
+                × IsHere shared.now 0 one
+                × (list_seen one ≡ [])
+                × (sum (name_of_port shared.now).counts ≡ 2)
+                × (handle_of (call_of first.0.now) < 32)
+                × (handle_of (call_of first.1.now) < 32)
+                × (byte_count (call_of first.0.now) < 2 ^ 32)
+                × (byte_count (call_of first.1.now) < 2 ^ 32) }
             ensures { IsHere shared.entry.now 0 result }
         { ask(rt, shared, one, 0, first) },
         move || -> (Seat, Seat)
-            requires { IsSync R.row × IsHere shared.now 1 two × (list_seen two ≡ []) × IsHere shared.now 2 three × (list_seen three ≡ []) × ((name_of_port shared.now).callers ≡ 2) × (sum (name_of_port shared.now).counts ≡ 2) × (handle_of (call_of second.0.now) < 32) × (handle_of (call_of second.1.now) < 32) × (byte_count (call_of second.0.now) < 2 ^ 32) × (byte_count (call_of second.1.now) < 2 ^ 32) }
+            requires { IsSync R.row
+                × IsHere shared.now 1 two
+                × (list_seen two ≡ [])
+                × IsHere shared.now 2 three
+                × (list_seen three ≡ [])
+                × ((name_of_port shared.now).callers ≡ 2)
+                × (sum (name_of_port shared.now).counts ≡ 2)
+                × (handle_of (call_of second.0.now) < 32)
+                × (handle_of (call_of second.1.now) < 32)
+                × (byte_count (call_of second.0.now) < 2 ^ 32)
+                × (byte_count (call_of second.1.now) < 2 ^ 32) }
             ensures { IsHere shared.entry.now 1 result.0 × IsHere shared.entry.now 2 result.1 }
         { two_of_three(rt, shared, two, three, second) },
     )
@@ -239,11 +262,21 @@ fn two_of_three<'a, 'c, R: Threads + Wait + Sync>(
     join(
         rt,
         move || -> Seat
-            requires { IsSync R.row × IsHere shared.now 1 caller × (list_seen caller ≡ []) × (sum (name_of_port shared.now).counts ≡ 2) × (handle_of (call_of calls.0.now) < 32) × (handle_of (call_of calls.1.now) < 32) × (byte_count (call_of calls.0.now) < 2 ^ 32) × (byte_count (call_of calls.1.now) < 2 ^ 32) }
+            requires { IsSync R.row
+                × IsHere shared.now 1 caller
+                × (list_seen caller ≡ [])
+                × (sum (name_of_port shared.now).counts ≡ 2)
+                × (handle_of (call_of calls.0.now) < 32)
+                × (handle_of (call_of calls.1.now) < 32)
+                × (byte_count (call_of calls.0.now) < 2 ^ 32)
+                × (byte_count (call_of calls.1.now) < 2 ^ 32) }
             ensures { IsHere shared.entry.now 1 result }
         { ask(rt, shared, caller, 1, calls) },
         move || -> Seat
-            requires { IsSync R.row × IsHere shared.now 2 flusher × (list_seen flusher ≡ []) × ((name_of_port shared.now).callers ≡ 2) }
+            requires { IsSync R.row
+                × IsHere shared.now 2 flusher
+                × (list_seen flusher ≡ [])
+                × ((name_of_port shared.now).callers ≡ 2) }
             ensures { IsHere shared.entry.now 2 result }
         { flush(rt, shared, flusher) },
     )
@@ -278,8 +311,14 @@ fn play<'a, 'c, R: Threads + Wait + Sync>(
     first: (&'a Call<'c>, &'a Call<'c>),
     second: (&'a Call<'c>, &'a Call<'c>),
 ) -> Result<Port, NoMemory>
-    requires numbers { (handle_of (call_of first.0.now) < 32) × (handle_of (call_of first.1.now) < 32) × (handle_of (call_of second.0.now) < 32) × (handle_of (call_of second.1.now) < 32) }
-    requires bytes { (byte_count (call_of first.0.now) < 2 ^ 32) × (byte_count (call_of first.1.now) < 2 ^ 32) × (byte_count (call_of second.0.now) < 2 ^ 32) × (byte_count (call_of second.1.now) < 2 ^ 32) }
+    requires numbers { (handle_of (call_of first.0.now) < 32)
+        × (handle_of (call_of first.1.now) < 32)
+        × (handle_of (call_of second.0.now) < 32)
+        × (handle_of (call_of second.1.now) < 32) }
+    requires bytes { (byte_count (call_of first.0.now) < 2 ^ 32)
+        × (byte_count (call_of first.1.now) < 2 ^ 32)
+        × (byte_count (call_of second.0.now) < 2 ^ 32)
+        × (byte_count (call_of second.1.now) < 2 ^ 32) }
 {
     let (input, shared, all) = share(alloc)?;
     let Seats {
@@ -482,7 +521,9 @@ fn phase<R: Wait>(
     requires ring { putter.old.ring ≡ (name_of_port shared.now).ring }
     ensures first { IsHere shared.now 0 seats.new.first × IsHere shared.now 1 seats.new.second }
     ensures flusher { IsHere shared.now 2 seats.new.flusher }
-    ensures others { IsHere shared.now 3 seats.new.line × IsHere shared.now 4 seats.new.clock × IsHere shared.now 5 seats.new.session }
+    ensures others { IsHere shared.now 3 seats.new.line
+        × IsHere shared.now 4 seats.new.clock
+        × IsHere shared.now 5 seats.new.session }
 {
     let raw = Call::SetModes {
         h: 0,
@@ -656,11 +697,19 @@ fn both<R: Threads + Wait + Sync>(
     join(
         rt,
         move || -> Seat
-            requires { IsSync R.row × IsHere shared.now 0 one × (list_seen one ≡ []) × (sum (name_of_port shared.now).counts ≡ 2) × (handle_of (call_of call.now) < 32) × (byte_count (call_of call.now) < 2 ^ 32) }
+            requires { IsSync R.row
+                × IsHere shared.now 0 one
+                × (list_seen one ≡ [])
+                × (sum (name_of_port shared.now).counts ≡ 2)
+                × (handle_of (call_of call.now) < 32)
+                × (byte_count (call_of call.now) < 2 ^ 32) }
             ensures { IsHere shared.entry.now 0 result }
         { write(rt, shared, one, call, gate) },
         move || -> Seat
-            requires { IsSync R.row × IsHere shared.now 1 two × (list_seen two ≡ []) × (sum (name_of_port shared.now).counts ≡ 2) }
+            requires { IsSync R.row
+                × IsHere shared.now 1 two
+                × (list_seen two ≡ [])
+                × (sum (name_of_port shared.now).counts ≡ 2) }
             ensures { IsHere shared.entry.now 1 result }
         { read_and_ask(rt, shared, two, gate) },
     )

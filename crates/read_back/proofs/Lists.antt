@@ -1,5 +1,6 @@
 -- Lists of which each item is something.
-use Rattle.std.proofs.Common.{◌≡◌, ℕ, zero, suc, ◌<◌, List, [], ◌∷◌, ◌++◌, Some, map, take, drop, get_or, slice_get, subst, arith}
+use Rattle.std.proofs.Common.{◌≡◌, ℕ, zero, suc, ◌<◌, List, [], ◌∷◌, ◌++◌, Some}
+use Rattle.std.proofs.Common.{map, take, drop, get_or, slice_get, subst, arith}
 use Rattle.std.specs.Prelude.{flat_map, set}
 use Rattle.std.specs.List.{AllByRecursion}
 use Rattle.hex.specs.Hex.{IsBytes}
@@ -43,11 +44,15 @@ module _ {A : Type 0} (P : A → Type 0) where
   each_at (x ∷ xs) zero d h k = h.0
   each_at (x ∷ xs) (suc i) d h k = each_at xs i d h.1 k
 
-  pub each_flat : {B : Type 0} (f : B → List A) (xs : List B) → AllByRecursion (λ b. AllByRecursion P (f b)) xs → AllByRecursion P (flat_map f xs)
+  pub each_flat : {B : Type 0} (f : B → List A) (xs : List B)
+      → AllByRecursion (λ b. AllByRecursion P (f b)) xs
+      → AllByRecursion P (flat_map f xs)
   each_flat f [] h = tt
   each_flat f (x ∷ xs) h = each_of_both (f x) _ h.0 (each_flat f xs h.1)
 
-  pub each_mapped : {B : Type 0} (f : B → A) (xs : List B) → AllByRecursion (λ b. P (f b)) xs → AllByRecursion P (map f xs)
+  pub each_mapped : {B : Type 0} (f : B → A) (xs : List B)
+      → AllByRecursion (λ b. P (f b)) xs
+      → AllByRecursion P (map f xs)
   each_mapped f [] h = tt
   each_mapped f (x ∷ xs) h = (h.0, each_mapped f xs h.1)
 

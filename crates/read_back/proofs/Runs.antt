@@ -1,5 +1,6 @@
 -- Legal runs can be printed, and what is printed of them is read back.
-use Rattle.std.proofs.Common.{◌≡◌, ℕ, suc, ◌+◌, ◌≤◌, Some, List, [], ◌∷◌, ◌++◌, length, map, sum, slice_get, refl, sym, ap, subst, arith}
+use Rattle.std.proofs.Common.{◌≡◌, ℕ, suc, ◌+◌, ◌≤◌, Some, List, [], ◌∷◌, ◌++◌, length}
+use Rattle.std.proofs.Common.{map, sum, slice_get, refl, sym, ap, subst, arith}
 use Rattle.std.specs.List.{range_with_len}
 use Rattle.tty_base.specs.declared.characters.Flagged.{Flagged}
 use Rattle.tty_base.specs.declared.lines.Overrun.{Overrun}
@@ -37,64 +38,106 @@ use Rattle.read_back.proofs.Places.{Place, entries_are}
 first_sized : (callers capacity : ℕ) → IsSized 0 (opening callers capacity)
 first_sized callers capacity = record {
   modes = sane_are;
-  counts = record { mark = omega arith; parity = omega arith; frame = omega arith; breaks = omega arith; cut = omega arith; echo = omega arith; pin = omega arith; pout = omega arith; pbad = omega arith; pfull = omega arith };
+  counts = record {
+    mark = omega arith;
+    parity = omega arith;
+    frame = omega arith;
+    breaks = omega arith;
+    cut = omega arith;
+    echo = omega arith;
+    pin = omega arith;
+    pout = omega arith;
+    pbad = omega arith;
+    pfull = omega arith;
+  };
   disc = fresh_is 0 kind.Tty;
   held = omega arith;
 }
 
-first_place : (p : ℕ) (session : PlainSession) → Place p session [] (opening (sum (counts_on p session)) (flip_on p session))
+first_place : (p : ℕ) (session : PlainSession)
+    → Place p session [] (opening (sum (counts_on p session)) (flip_on p session))
 first_place p session =
     let n : ℕ = sum (counts_on p session) in
     record {
       run = refl;
-      sound = λ c. subst (λ (s : CallerState). IsSound (call_at p session c) (own p session c) 0 (standing_of s)) (sym (all_idle n c)) (record { paid = omega arith; waits = omega arith; over = omega arith });
+      sound = λ c. subst (λ (s : CallerState). IsSound (call_at p session c) (own p session c) 0 (standing_of s))
+          (sym (all_idle n c)) (record { paid = omega arith; waits = omega arith; over = omega arith });
       sized = first_sized n (flip_on p session);
       piece = tt;
     }
 
-run_is : (p : ℕ) (session : PlainSession) (run : PortRun) (t : Terminal) → IsPrintable p session → IsLegal p session run t → length run.journal.items ≤ most → IsRunOf (callers_on p session) (run_of run)
+run_is : (p : ℕ) (session : PlainSession) (run : PortRun) (t : Terminal)
+    → IsPrintable p session
+    → IsLegal p session run t
+    → length run.journal.items ≤ most
+    → IsRunOf (callers_on p session) (run_of run)
 run_is p session run t h legal few =
     let overruns : List Overrun = run.line.overruns.items in
     let account = legal.account in
     let arrived : arrival_count (script_on p session) ≤ 262144 = few_arrive p session h.limits in
-    let received : length (received_list (script_on p session)) ≤ arrival_count (script_on p session) = received_few (script_on p session) in
-    let kept : length (kept_list (received_list (script_on p session)) overruns) ≤ length (received_list (script_on p session)) = kept_few 0 (received_list (script_on p session)) overruns in
-    let small : AreByteChars (chars_of run.journal.items) = subst AreByteChars (sym account.chars) (run_bytes p session overruns h.phases) in
-    let taken : length (chars_of run.journal.items) ≡ length (kept_list (received_list (script_on p session)) overruns) = ap (λ (cs : List Flagged). length cs) account.chars in
-    let many : length overruns ≤ 262144 = few_overruns p session (flip_on p session) 0 0 262144 run.journal.items overruns (omega (arith, received, arrived)) account.shown account.seen in
+    let received : length (received_list (script_on p session)) ≤ arrival_count (script_on p session) =
+    received_few (script_on p session) in
+    let kept : length (kept_list (received_list (script_on p session)) overruns)
+    ≤ length (received_list (script_on p session)) = kept_few 0 (received_list (script_on p session)) overruns in
+    let small : AreByteChars (chars_of run.journal.items) =
+    subst AreByteChars (sym account.chars) (run_bytes p session overruns h.phases) in
+    let taken : length (chars_of run.journal.items)
+    ≡ length (kept_list (received_list (script_on p session)) overruns) =
+    ap (λ (cs : List Flagged). length cs) account.chars in
+    let many : length overruns ≤ 262144 =
+    few_overruns p session (flip_on p session) 0 0 262144 run.journal.items overruns (omega (arith, received, arrived))
+    account.shown account.seen in
     record {
-      entries = entries_are p session h [] (opening (sum (counts_on p session)) (flip_on p session)) run.journal.items t (first_place p session) legal.on_the_way.steps legal.on_the_way.in_phases small (omega (arith, few)) (omega (arith, taken, kept, received, arrived));
+      entries = entries_are p session h [] (opening (sum (counts_on p session)) (flip_on p session)) run.journal.items t
+          (first_place p session) legal.on_the_way.steps legal.on_the_way.in_phases small (omega (arith, few))
+          (omega (arith, taken, kept, received, arrived));
       within = record {
         entries = few;
         overruns = omega (arith, many);
-        each = overruns_within p session (flip_on p session) 0 0 run.journal.items overruns (omega (arith, received, arrived)) account.shown account.seen;
+        each = overruns_within p session (flip_on p session) 0 0 run.journal.items overruns
+            (omega (arith, received, arrived)) account.shown account.seen;
         arrived = omega (arith, account.arrived, arrived);
         lost = omega (arith, account.fifo_lost, lost_few (script_on p session), arrived);
         sent = omega (arith, account.sent, kept, received, arrived);
       };
     }
 
-pub can_be_printed : (text : List ℕ) (session : PlainSession) (p : ℕ) (run : PortRun) (t : Terminal) → SpellsSession text session → IsLegal p session run t → length run.journal.items ≤ most → IsRunOf (callers_on p session) (run_of run)
-can_be_printed text session p run t spelled legal few = run_is p session run t (printable text session p spelled) legal few
+pub can_be_printed : (text : List ℕ) (session : PlainSession) (p : ℕ) (run : PortRun) (t : Terminal)
+    → SpellsSession text session
+    → IsLegal p session run t
+    → length run.journal.items ≤ most
+    → IsRunOf (callers_on p session) (run_of run)
+can_be_printed text session p run t spelled legal few =
+    run_is p session run t (printable text session p spelled) legal few
 
 -- ---- all runs
 
-runs_from : (session : PlainSession) (k : ℕ) (runs : List PortRun) → ((i : ℕ) (run : PortRun) → slice_get runs i ≡ Some run → IsRunOf (callers_on (k + i) session) (run_of run))
+runs_from : (session : PlainSession) (k : ℕ) (runs : List PortRun)
+    → ((i : ℕ) (run : PortRun) → slice_get runs i ≡ Some run → IsRunOf (callers_on (k + i) session) (run_of run))
     → AreRunsOf (map (λ port. callers_on port session) (range_with_len k (length runs))) (map run_of runs)
 runs_from session k [] each = tt
 runs_from session k (run ∷ runs) each =
     let here : k + 0 ≡ k = omega arith in (
       subst (λ (p : ℕ). IsRunOf (callers_on p session) (run_of run)) here (each 0 run refl),
       runs_from session (k + 1) runs
-          (λ i other e. let next : k + suc i ≡ k + 1 + i = omega arith in subst (λ (p : ℕ). IsRunOf (callers_on p session) (run_of other)) next (each (suc i) other e)),
+          (λ i other e.
+          let next : k + suc i ≡ k + 1 + i = omega arith in
+          subst (λ (p : ℕ). IsRunOf (callers_on p session) (run_of other)) next (each (suc i) other e)),
     )
 
-pub are_read_back : (text : List ℕ) (session : PlainSession) (runs : List PortRun) → SpellsSession text session → length runs ≡ session.ports → AreLegal session runs → ((p : ℕ) → OfRun runs p (λ run. length run.journal.items ≤ most))
+pub are_read_back : (text : List ℕ) (session : PlainSession) (runs : List PortRun)
+    → SpellsSession text session
+    → length runs ≡ session.ports
+    → AreLegal session runs
+    → ((p : ℕ) → OfRun runs p (λ run. length run.journal.items ≤ most))
     → Spells (text ++ (newline ++ text_after session runs)) session (map run_of runs)
 are_read_back text session runs spelled many legal few =
     let each : AreRunsOf (map (λ port. callers_on port session) (range_with_len 0 (length runs))) (map run_of runs) =
     runs_from session 0 runs
     (λ i run e. let is = legal.each i run e in
     let here : i ≡ 0 + i = omega arith in
-    subst (λ (p : ℕ). IsRunOf (callers_on p session) (run_of run)) here (can_be_printed text session i run is.0 spelled is.1 (few i run e))) in
-    printed_back text session runs spelled (subst (λ (n : ℕ). AreRunsOf (map (λ port. callers_on port session) (range_with_len 0 n)) (map run_of runs)) many each)
+    subst (λ (p : ℕ). IsRunOf (callers_on p session) (run_of run)) here
+    (can_be_printed text session i run is.0 spelled is.1 (few i run e))) in
+    printed_back text session runs spelled
+    (subst (λ (n : ℕ). AreRunsOf (map (λ port. callers_on port session) (range_with_len 0 n)) (map run_of runs))
+    many each)

@@ -24,10 +24,14 @@ pub record IsPrintable (p : ℕ) (session : PlainSession) : Type 0 where
   pub capacity : flip_on p session ≤ 65536
 
 -- calls within limits, script by script
-calls_within : (ports : ℕ) (phases : List PlainPhase) → All (IsPhaseWithin ports) phases → AllByRecursion (λ phase. AllByRecursion (λ s. AllByRecursion IsCallWithin s.calls) phase.callers) phases
+calls_within : (ports : ℕ) (phases : List PlainPhase)
+    → All (IsPhaseWithin ports) phases
+    → AllByRecursion (λ phase. AllByRecursion (λ s. AllByRecursion IsCallWithin s.calls) phase.callers) phases
 calls_within ports phases h =
     each_weaker (IsPhaseWithin ports) (λ phase. AllByRecursion (λ s. AllByRecursion IsCallWithin s.calls) phase.callers)
-    (λ phase k. each_weaker (IsScriptWithin ports) (λ s. AllByRecursion IsCallWithin s.calls) (λ s l. recursion_from_All IsCallWithin s.calls l.calls) phase.callers (recursion_from_All (IsScriptWithin ports) phase.callers k.scripts))
+    (λ phase k. each_weaker (IsScriptWithin ports) (λ s. AllByRecursion IsCallWithin s.calls)
+    (λ s l. recursion_from_All IsCallWithin s.calls l.calls) phase.callers
+    (recursion_from_All (IsScriptWithin ports) phase.callers k.scripts))
     phases (recursion_from_All (IsPhaseWithin ports) phases h)
 
 pub printable : (text : List ℕ) (session : PlainSession) (p : ℕ) → Spells text session → IsPrintable p session
@@ -35,11 +39,15 @@ printable text session p h = record {
   limits = limits;
   phases = written;
   calls = λ c step call e. record {
-    modes = each_found SetsModeWords (calls_of scripts (slice_get (names_of scripts) c)) step call e (calls_each SetsModeWords scripts (slice_get (names_of scripts) c) sets);
-    bytes = (each_found IsCallWithin (calls_of scripts (slice_get (names_of scripts) c)) step call e (calls_each IsCallWithin scripts (slice_get (names_of scripts) c) within)).bytes;
+    modes = each_found SetsModeWords (calls_of scripts (slice_get (names_of scripts) c)) step call e
+        (calls_each SetsModeWords scripts (slice_get (names_of scripts) c) sets);
+    bytes = (each_found IsCallWithin (calls_of scripts (slice_get (names_of scripts) c)) step call e
+        (calls_each IsCallWithin scripts (slice_get (names_of scripts) c) within)).bytes;
   };
-  names = λ c name e. each_found (λ n. is_name n ≡ true) (names_of scripts) c name e (names_each (λ n. is_name n ≡ true) scripts [] tt named);
-  capacity = each_at (λ n. n ≤ 65536) session.flips p 0 (recursion_from_All (λ n. n ≤ 65536) session.flips limits.few_flip) (omega arith);
+  names = λ c name e. each_found (λ n. is_name n ≡ true) (names_of scripts) c name e
+      (names_each (λ n. is_name n ≡ true) scripts [] tt named);
+  capacity = each_at (λ n. n ≤ 65536) session.flips p 0
+      (recursion_from_All (λ n. n ≤ 65536) session.flips limits.few_flip) (omega arith);
 }
   where
     limits : IsWithinLimits session
@@ -53,11 +61,16 @@ printable text session p h = record {
 
     sets : AllByRecursion (λ s. AllByRecursion SetsModeWords s.calls) scripts
     sets = scripts_each (λ s. AllByRecursion SetsModeWords s.calls) p session.phases
-        (each_weaker IsWrittenPhase (λ phase. AllByRecursion (λ s. AllByRecursion SetsModeWords s.calls) phase.callers) (λ phase k. each_weaker IsWrittenScript (λ s. AllByRecursion SetsModeWords s.calls) (λ s l. l.calls) phase.callers k.scripts) session.phases written)
+        (each_weaker IsWrittenPhase (λ phase. AllByRecursion (λ s. AllByRecursion SetsModeWords s.calls) phase.callers)
+        (λ phase k. each_weaker IsWrittenScript (λ s. AllByRecursion SetsModeWords s.calls) (λ s l. l.calls)
+        phase.callers k.scripts) session.phases written)
 
     named : AllByRecursion (λ s. is_name s.name ≡ true) scripts
     named = scripts_each (λ s. is_name s.name ≡ true) p session.phases
-        (each_weaker IsWrittenPhase (λ phase. AllByRecursion (λ s. is_name s.name ≡ true) phase.callers) (λ phase k. each_weaker IsWrittenScript (λ s. is_name s.name ≡ true) (λ s l. l.named) phase.callers k.scripts) session.phases written)
+        (each_weaker IsWrittenPhase (λ phase. AllByRecursion (λ s. is_name s.name ≡ true) phase.callers)
+        (λ phase k. each_weaker IsWrittenScript (λ s. is_name s.name ≡ true) (λ s l. l.named) phase.callers k.scripts)
+        session.phases written)
 
     within : AllByRecursion (λ s. AllByRecursion IsCallWithin s.calls) scripts
-    within = scripts_each (λ s. AllByRecursion IsCallWithin s.calls) p session.phases (calls_within session.ports session.phases limits.phases)
+    within = scripts_each (λ s. AllByRecursion IsCallWithin s.calls) p session.phases
+        (calls_within session.ports session.phases limits.phases)

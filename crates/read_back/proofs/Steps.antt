@@ -4,7 +4,8 @@ use Rattle.tty_base.specs.declared.characters.Flagged.{Flagged}
 use Rattle.tty_modes.specs.Settings.{Settings}
 use Rattle.tty_calls.specs.declared.journals.Who.{Who}
 use Rattle.tty_calls.specs.declared.journals.Who.TheVariants.{Caller, Flusher, Line, Clock, Session}
-use Rattle.tty_calls.specs.Plain.{PlainCall, PlainEvent, answered, parted, waited, flushed, ticked, line_ended, clock_ended, caller_ended, phase_ended, hung_up, chars_in}
+use Rattle.tty_calls.specs.Plain.{PlainCall, PlainEvent, answered, parted, waited, flushed, ticked}
+use Rattle.tty_calls.specs.Plain.{line_ended, clock_ended, caller_ended, phase_ended, hung_up, chars_in}
 use Rattle.flow_control.specs.Output.{Output}
 use Rattle.flow_control.specs.declared.tally.Tally.{Tally}
 use Rattle.n_tty.specs.States.{on_port}
@@ -31,7 +32,8 @@ disc_more few n (disc.Tty tty) le h = tty_more few n tty le h
 disc_more few n (disc.Slip slip) le h = h
 
 sized_more : (few n : ℕ) (t : Terminal) → few ≤ n → IsSized few t → IsSized n t
-sized_more few n t le h = record { modes = h.modes; counts = h.counts; disc = disc_more few n t.disc le h.disc; held = h.held }
+sized_more few n t le h =
+    record { modes = h.modes; counts = h.counts; disc = disc_more few n t.disc le h.disc; held = h.held }
 
 -- ---- characters
 
@@ -40,22 +42,40 @@ record IsSizedPort (few : ℕ) (port : DiscOnPort) : Type 0 where
   counts : AreCounts port.tally.counts
   held : HeldFits port.output
 
-port_sized : (modes : Settings) (now few : ℕ) (c : Flagged) (d : Disc) (output : Output) (tally : Tally) → c.byte < 256 → IsByteDisc few d → AreCounts tally.counts → HeldFits output → IsSizedPort (few + 3) (after_character_of modes now c d output tally)
+port_sized : (modes : Settings) (now few : ℕ) (c : Flagged) (d : Disc) (output : Output) (tally : Tally)
+    → c.byte < 256
+    → IsByteDisc few d
+    → AreCounts tally.counts
+    → HeldFits output
+    → IsSizedPort (few + 3) (after_character_of modes now c d output tally)
 port_sized modes now few c (disc.Tty tty) output tally small h counts held =
-    let k = by_character modes now c few (on_port tty output tally) small (record { tty = h; counts = counts; held = held }) in
+    let k =
+    by_character modes now c few (on_port tty output tally) small (record { tty = h; counts = counts; held = held }) in
     record { disc = k.tty; counts = k.counts; held = k.held }
 port_sized modes now few c (disc.Slip slip) output tally small h counts held =
-    record { disc = slip_more slip c small h; counts = slip_counts slip c tally.counts counts; held = rule_fits modes (unread_of (disc.Slip slip)) (has_piece_of (disc.Slip slip)) output held }
+    record {
+      disc = slip_more slip c small h;
+      counts = slip_counts slip c tally.counts counts;
+      held = rule_fits modes (unread_of (disc.Slip slip)) (has_piece_of (disc.Slip slip)) output held;
+    }
 
-character_sized : (few : ℕ) (t : Terminal) (c : Flagged) → c.byte < 256 → IsSized few t → IsSized (few + 3) (after_character t c)
+character_sized : (few : ℕ) (t : Terminal) (c : Flagged)
+    → c.byte < 256
+    → IsSized few t
+    → IsSized (few + 3) (after_character t c)
 character_sized few t c small h =
     let k = port_sized t.modes t.tick few c t.disc t.output t.tally small h.disc h.counts h.held in
     record { modes = h.modes; counts = k.counts; disc = k.disc; held = k.held }
 
-characters_sized : (few n : ℕ) (t : Terminal) (chars : List Flagged) → n ≡ few + 3 * length chars → AreByteChars chars → IsSized few t → IsSized n (after_characters t chars)
+characters_sized : (few n : ℕ) (t : Terminal) (chars : List Flagged)
+    → n ≡ few + 3 * length chars
+    → AreByteChars chars
+    → IsSized few t
+    → IsSized n (after_characters t chars)
 characters_sized few n t [] e small h = sized_more few n t (omega (arith, e)) h
 characters_sized few n t (c ∷ chars) e small h =
-    characters_sized (few + 3) n (after_character t c) chars (omega (arith, e)) small.1 (character_sized few t c small.0 h)
+    characters_sized (few + 3) n (after_character t c) chars (omega (arith, e)) small.1
+    (character_sized few t c small.0 h)
 
 -- ---- entries
 
@@ -64,7 +84,11 @@ record IsKnown (s : CallerState) (call : PlainCall) : Type 0 where
   small : IsSmallCall call
   taken : IsTaken s call
 
-outcome_sized : (few : ℕ) (t : Terminal) (s : CallerState) (o : Option PlainCall) → few ≤ most → ((call : PlainCall) → o ≡ Some call → IsKnown s call) → IsSized few t → IsSized few (left_by (outcome_of t s o) t)
+outcome_sized : (few : ℕ) (t : Terminal) (s : CallerState) (o : Option PlainCall)
+    → few ≤ most
+    → ((call : PlainCall) → o ≡ Some call → IsKnown s call)
+    → IsSized few t
+    → IsSized few (left_by (outcome_of t s o) t)
 outcome_sized few t s None le known h = h
 outcome_sized few t s (Some call) le known h =
     let k = known call refl in
@@ -72,15 +96,26 @@ outcome_sized few t s (Some call) le known h =
 
 -- the calls of callers as they stand
 abbrev pub AreKnown : (ℕ → ℕ → Option PlainCall) → Terminal → Type 0
-AreKnown calls t = (c : ℕ) (call : PlainCall) → calls c (caller_at t c).next ≡ Some call → IsSmallCall call × IsTaken (caller_at t c) call
+AreKnown calls t =
+    (c : ℕ) (call : PlainCall)
+    → calls c (caller_at t c).next ≡ Some call
+    → IsSmallCall call × IsTaken (caller_at t c) call
 
-module _ (calls : ℕ → ℕ → Option PlainCall) (counts : List ℕ) (few : ℕ) (t : Terminal) (le : few ≤ most) (known : AreKnown calls t) (h : IsSized few t) where
-  left_is : (c step : ℕ) → step ≡ (caller_at t c).next → IsSized few (left_by (outcome_of t (caller_at t c) (calls c step)) t)
+module _ (calls : ℕ → ℕ → Option PlainCall) (counts : List ℕ) (few : ℕ) (t : Terminal) (le : few ≤ most)
+    (known : AreKnown calls t) (h : IsSized few t) where
+  left_is : (c step : ℕ)
+      → step ≡ (caller_at t c).next
+      → IsSized few (left_by (outcome_of t (caller_at t c) (calls c step)) t)
   left_is c step at =
       outcome_sized few t (caller_at t c) (calls c step) le
-      (λ call e. let k = known c call (subst (λ (i : ℕ). calls c i ≡ Some call) at e) in record { small = k.0; taken = k.1 }) h
+      (λ call e.
+      let k = known c call (subst (λ (i : ℕ). calls c i ≡ Some call) at e) in record { small = k.0; taken = k.1 }) h
 
-  pub event_sized : (who : Who) (step part n : ℕ) (event : PlainEvent) → n ≡ few + 3 * length (chars_in event) → AreByteChars (chars_in event) → IsAllowed calls counts t who step part event → IsSized n (after_event calls t who step part event)
+  pub event_sized : (who : Who) (step part n : ℕ) (event : PlainEvent)
+      → n ≡ few + 3 * length (chars_in event)
+      → AreByteChars (chars_in event)
+      → IsAllowed calls counts t who step part event
+      → IsSized n (after_event calls t who step part event)
   event_sized (Caller c) step part n (answered a dropped) e small allowed =
       let u = left_by (outcome_of t (caller_at t c) (calls c step)) t in
       let k = sized_more few n u (omega (arith, e)) (left_is c step allowed.next.at_step) in

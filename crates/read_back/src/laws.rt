@@ -16,14 +16,20 @@ ghost use Rattle.check_text.specs.Runs.{run_of};
 /// entries: they are of the port's callers and their calls, each answer is one that its call may be
 /// given, with bytes, modes and counts of their sizes, and every number has 32 bits.
 pub fn a_legal_run_can_be_printed()
-    ensures { (text : List ℕ) (session : PlainSession) (p : ℕ) (run : PortRun) → SpellsSession text session → IsLegalOn p session run
-        → length run.journal.items ≤ most → IsRunOf (callers_on p session) (run_of run) }
+    ensures { (text : List ℕ) (session : PlainSession) (p : ℕ) (run : PortRun)
+        → SpellsSession text session
+        → IsLegalOn p session run
+        → length run.journal.items ≤ most
+        → IsRunOf (callers_on p session) (run_of run) }
 {}
 
 /// What is printed of legal runs, one for each port, after a text of their session, spells that session and
 /// those runs.
 pub fn legal_runs_are_read_back()
-    ensures { (text : List ℕ) (session : PlainSession) (runs : List PortRun) → SpellsSession text session → length runs ≡ session.ports
-        → AreLegal session runs → ((p : ℕ) → OfRun runs p (λ run. length run.journal.items ≤ most))
+    ensures { (text : List ℕ) (session : PlainSession) (runs : List PortRun)
+        → SpellsSession text session
+        → length runs ≡ session.ports
+        → AreLegal session runs
+        → ((p : ℕ) → OfRun runs p (λ run. length run.journal.items ≤ most))
         → Spells (text ++ (newline ++ text_after session runs)) session (map run_of runs) }
 {}

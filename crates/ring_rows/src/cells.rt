@@ -45,7 +45,8 @@ impl Kept for Log {
 impl Log {
     fn add(&mut self, rt: &impl Abort, seat: u32, after: u32, what: u32)
         ensures name { self.new.name ≡ self.old.name }
-        ensures list { self.new.entries.items ≡ self.old.entries.items ++ record { seat = seat; after = after; what = what } ∷ [] }
+        ensures list { self.new.entries.items
+            ≡ self.old.entries.items ++ record { seat = seat; after = after; what = what } ∷ [] }
     {
         let added = self.entries.push(Stamped { seat, after, what }).is_ok();
         assert!(rt; added, "memory");
@@ -54,7 +55,10 @@ impl Log {
 
 fn open(alloc: Global, seats: u32) -> Result<(Cell<Log>, Vec<Seat<Log>>), NoMemory>
     requires { (0 < seats) × (seats < 10) }
-    ensures { IfOk result (λ r. (seat_count r.0 ≡ seats) × (length r.1.items ≡ seats) × AllNew (identity_of r.0) (opening_value r.0).name (opening_value r.0).entries.items 0 r.1.items) }
+    ensures { IfOk result (λ r.
+        (seat_count r.0 ≡ seats)
+        × (length r.1.items ≡ seats)
+        × AllNew (identity_of r.0) (opening_value r.0).name (opening_value r.0).entries.items 0 r.1.items) }
 {
     let log = Log {
         name: 7,
@@ -66,9 +70,12 @@ fn open(alloc: Global, seats: u32) -> Result<(Cell<Log>, Vec<Seat<Log>>), NoMemo
 
 /// Takes out the seat with the highest number.
 fn last(cell: &Cell<Log>, seats: &mut Vec<Seat<Log>>) -> Seat<Log>
-    requires { AllNew (identity_of cell.now) (opening_value cell.now).name (opening_value cell.now).entries.items 0 seats.old.items × (0 < length seats.old.items) }
+    requires { AllNew (identity_of cell.now) (opening_value cell.now).name
+        (opening_value cell.now).entries.items 0 seats.old.items
+        × (0 < length seats.old.items) }
     ensures seat { IsFree (identity_of cell.now) result × (number_of result ≡ length seats.new.items) }
-    ensures others { AllNew (identity_of cell.now) (opening_value cell.now).name (opening_value cell.now).entries.items 0 seats.new.items }
+    ensures others { AllNew (identity_of cell.now) (opening_value cell.now).name
+        (opening_value cell.now).entries.items 0 seats.new.items }
     ensures count { length seats.new.items + 1 ≡ length seats.old.items }
 {
     let Some(seat) = seats.pop() else {

@@ -75,7 +75,8 @@ pub fn relay<R: Threads + Wait + Sync>(
         { put_all(rt, putter, items) },
         || -> Result<(Taker, Vec<u16>), NoMemory>
             requires { (taker.taken ≡ []) × (all.items ≡ []) }
-            ensures { IfOk result (λ r. (r.0.ring ≡ taker.ring) × (r.0.taken ≡ r.1.items) × (vec_len r.1 ≡ length items.entry.now)) }
+            ensures { IfOk result
+                (λ r. (r.0.ring ≡ taker.ring) × (r.0.taken ≡ r.1.items) × (vec_len r.1 ≡ length items.entry.now)) }
         { take_all(rt, taker, items.len(), all) },
     );
     let (mut taker, all) = taken?;
@@ -96,7 +97,9 @@ fn two_threads_pass_numbers_in_order(rt: HostRuntime) -> Result<(), Fail> {
 
 /// Puts a number, which is seen once it is pushed, and takes it.
 fn passes_one(putter: &mut Putter, taker: &mut Taker, x: u16) -> bool
-    ensures { (putter.new.ring ≡ putter.old.ring) × (taker.new.ring ≡ taker.old.ring) × (taker.new.capacity ≡ taker.old.capacity) }
+    ensures { (putter.new.ring ≡ putter.old.ring)
+        × (taker.new.ring ≡ taker.old.ring)
+        × (taker.new.capacity ≡ taker.old.capacity) }
 {
     if putter.sent() > 1000 || putter.put(x).is_err() || taker.look() != 0 {
         return false;
@@ -210,7 +213,9 @@ fn passes_eight(putter: &mut Putter, taker: &mut Taker, first: u8) -> bool
     requires few { first < 200 }
     requires ring { putter.old.ring ≡ taker.old.ring }
     requires room { 8 ≤ taker.old.capacity }
-    ensures { (putter.new.ring ≡ putter.old.ring) × (taker.new.ring ≡ taker.old.ring) × (taker.new.capacity ≡ taker.old.capacity) }
+    ensures { (putter.new.ring ≡ putter.old.ring)
+        × (taker.new.ring ≡ taker.old.ring)
+        × (taker.new.capacity ≡ taker.old.capacity) }
 {
     putter.meet(taker.note());
     if putter.sent() > 1000 || !taker.nothing_waits(putter) {
@@ -232,7 +237,9 @@ fn passes_eight(putter: &mut Putter, taker: &mut Taker, first: u8) -> bool
 
 /// Passes single numbers.
 fn passes_ones(putter: &mut Putter, taker: &mut Taker, count: u16) -> bool
-    ensures { (putter.new.ring ≡ putter.old.ring) × (taker.new.ring ≡ taker.old.ring) × (taker.new.capacity ≡ taker.old.capacity) }
+    ensures { (putter.new.ring ≡ putter.old.ring)
+        × (taker.new.ring ≡ taker.old.ring)
+        × (taker.new.capacity ≡ taker.old.capacity) }
 {
     for x in 0..count {
         if !passes_one(putter, taker, x) {

@@ -1,6 +1,7 @@
 -- The session that a number gives: four ports with a caller each, which open in the first phase and then read what
 -- their line brings, sometimes going over to SLIP and back.
-use Rattle.std.specs.Prelude.{ℕ, ◌+◌, ◌-◌, ◌*◌, ◌%◌, ◌==◌, Bool, true, if◌then◌else◌, List, [], ◌∷◌, map, replicate, codes}
+use Rattle.std.specs.Prelude.{ℕ, ◌+◌, ◌-◌, ◌*◌, ◌%◌, ◌==◌, Bool, true}
+use Rattle.std.specs.Prelude.{if◌then◌else◌, List, [], ◌∷◌, map, replicate, codes}
 use Rattle.std.specs.List.{range_with_len}
 use Rattle.tty_modes.specs.declared.words.Word.TheVariants.{Raw}
 use Rattle.tty_calls.specs.declared.calls.Access.TheVariants.{Rw}

@@ -22,8 +22,10 @@ fn draw(number: &mut u32) -> u8
 
 /// A line of [`LINE_LEN`] good characters with the next bytes.
 pub fn draw_line(alloc: Global, number: &mut u32) -> Result<LineSteps, NoMemory>
-    ensures line { IfOk result (λ line. (seed first : ℕ) → number.old ≡ number_after seed first → line.items ≡ drawn_line seed first 4000) }
-    ensures after { OnOk result ((seed first : ℕ) → number.old ≡ number_after seed first → number.new ≡ number_after seed (first + 4000)) }
+    ensures line { IfOk result
+        (λ line. (seed first : ℕ) → number.old ≡ number_after seed first → line.items ≡ drawn_line seed first 4000) }
+    ensures after { OnOk result
+        ((seed first : ℕ) → number.old ≡ number_after seed first → number.new ≡ number_after seed (first + 4000)) }
 {
     let mut bytes = Buffer::new(alloc);
     bytes.reserve(LINE_LEN as usize)?;

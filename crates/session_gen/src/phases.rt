@@ -4,7 +4,8 @@ ghost use Rattle.std.specs.Prelude.{◌≡◌, ◌+◌, ◌*◌, ◌-◌, ◌<�
 ghost use Rattle.std.specs.List.{range_with_len};
 ghost use Rattle.tty_calls.specs.Sessions.{script_of, phase_of, session_of};
 ghost use Rattle.session_gen.specs.Draws.{number_after, drawn_line};
-ghost use Rattle.session_gen.specs.Generated.{opening_calls, opening_phase, reading_calls, reading_phase, caller_script, generated_session};
+ghost use Rattle.session_gen.specs.Generated.{opening_calls, opening_phase, reading_calls};
+ghost use Rattle.session_gen.specs.Generated.{reading_phase, caller_script, generated_session};
 
 use crate::draws::draw_line;
 use arrayvec::ArrayString;
@@ -44,7 +45,8 @@ pub fn make(alloc: Global, number: u32) -> Result<Session, NoMemory>
 }
 
 fn all_phases(alloc: Global, number: u32) -> Result<Buffer<Phase>, NoMemory>
-    ensures { IfOk result (λ phases. map phase_of phases.items ≡ opening_phase ∷ map (reading_phase number) (range_with_len 1 15)) }
+    ensures { IfOk result
+        (λ phases. map phase_of phases.items ≡ opening_phase ∷ map (reading_phase number) (range_with_len 1 15)) }
 {
     let mut phases = Buffer::new(alloc);
     phases.reserve(usize::from(PHASES))?;
@@ -90,9 +92,13 @@ fn later_phase(alloc: Global, number: u32, phase: u8, drawn: &mut u32) -> Result
 
 /// A drawn line for each port.
 fn draw_lines(alloc: Global, drawn: &mut u32) -> Result<Buffer<LineSteps>, NoMemory>
-    ensures lines { IfOk result (λ lines. (seed first : ℕ) → drawn.old ≡ number_after seed first
-        → map (λ line. line.items) lines.items ≡ map (λ port. drawn_line seed (first + 4000 * port) 4000) (range_with_len 0 4)) }
-    ensures after { OnOk result ((seed first : ℕ) → drawn.old ≡ number_after seed first → drawn.new ≡ number_after seed (first + 16000)) }
+    ensures lines { IfOk result (λ lines.
+        (seed first : ℕ)
+        → drawn.old ≡ number_after seed first
+        → map (λ line. line.items) lines.items
+        ≡ map (λ port. drawn_line seed (first + 4000 * port) 4000) (range_with_len 0 4)) }
+    ensures after { OnOk result
+        ((seed first : ℕ) → drawn.old ≡ number_after seed first → drawn.new ≡ number_after seed (first + 16000)) }
 {
     let mut lines = Buffer::new(alloc);
     lines.reserve(usize::from(PORTS))?;

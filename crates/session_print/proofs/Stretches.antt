@@ -1,15 +1,18 @@
 -- Places of steps, noted one after the other.
-use Rattle.std.proofs.Common.{◌≡◌, inl, inr, ℕ, Bool, ◌==◌, ◌&&◌, List, [], ◌∷◌, ◌++◌, ◌+◌, ◌/◌, ◌%◌, ◌<◌, arith, length, get_or, map, set, refl, sym, ap, ◌∙◌, cond}
+use Rattle.std.proofs.Common.{◌≡◌, inl, inr, ℕ, Bool, ◌==◌, ◌&&◌, List, [], ◌∷◌, ◌++◌, ◌+◌, ◌/◌}
+use Rattle.std.proofs.Common.{◌%◌, ◌<◌, arith, length, get_or, map, set, refl, sym, ap, ◌∙◌, cond}
 use mathlib.Core.Logic.{⊎_elim}
 use Rattle.std.proofs.lemmas.Bool.{cases_eq, cases_order, eq-eqb, ne_eqb, le-ltb}
 use Rattle.std.proofs.lemmas.Grind.{get_or-set_at}
-use Rattle.std.proofs.lemmas.List.{get_or-map, get_or-set_other, get_or_append_left, get_or_past, length-map, length-append, map-append, map-set}
+use Rattle.std.proofs.lemmas.List.{get_or-map, get_or-set_other, get_or_append_left}
+use Rattle.std.proofs.lemmas.List.{get_or_past, length-map, length-append, map-append, map-set}
 use Rattle.std.proofs.Math.Seq.{get_or-append_seam}
 use Rattle.session_print.specs.declared.places.Stretch.{Stretch}
 use Rattle.session_print.specs.Printing.{PlainStretch, stretch_of, stretches_of, no_stretch, place_at, place_on}
 
 -- of an item that is set among others, what is looked up in it
-one_set : {A : Type 0} (look : A → ℕ → ℕ) (items : List A) (item none : A) (at i k place : ℕ) (hit : Bool) → at < length items
+one_set : {A : Type 0} (look : A → ℕ → ℕ) (items : List A) (item none : A) (at i k place : ℕ) (hit : Bool)
+    → at < length items
     → look item k ≡ cond hit place (look (get_or items at none) k)
     → look (get_or (set items at item) i none) k ≡ cond ((at == i) && hit) place (look (get_or items i none) k)
 one_set look items item none at i k place hit within is =
@@ -28,7 +31,8 @@ one_set look items item none at i k place hit within is =
 one_more : {A : Type 0} (look : A → ℕ → ℕ) (items : List A) (item none : A) (i k : ℕ) → look item k ≡ look none k
     → look (get_or (items ++ item ∷ []) i none) k ≡ look (get_or items i none) k
 one_more look items item none i k same =
-    let past : length items < i → get_or (items ++ item ∷ []) i none ≡ none = λ more. get_or_past (items ++ item ∷ []) i none (rw length-append (omega (arith, more))) in
+    let past : length items < i → get_or (items ++ item ∷ []) i none ≡ none = λ more.
+    get_or_past (items ++ item ∷ []) i none (rw length-append (omega (arith, more))) in
     ⊎_elim
     (λ is.
     ap (λ n. look (get_or (items ++ item ∷ []) n none) k) is
@@ -45,9 +49,16 @@ one_more look items item none i k same =
 same_step : (a b : ℕ) → ((a / 64 == b / 64) && (a % 64 == b % 64)) ≡ (a == b)
 same_step a b =
     elim (cases_eq a b) [
-      | inl same ↦ ap (λ n. (a / 64 == n / 64) && (a % 64 == n % 64)) (sym same) ∙ ap (λ x. x && (a % 64 == a % 64)) (eq-eqb (a / 64) (a / 64) refl) ∙ eq-eqb (a % 64) (a % 64) refl ∙ sym (eq-eqb a b same)
+      | inl same ↦
+          ap (λ n. (a / 64 == n / 64) && (a % 64 == n % 64)) (sym same)
+          ∙ ap (λ x. x && (a % 64 == a % 64)) (eq-eqb (a / 64) (a / 64) refl)
+          ∙ eq-eqb (a % 64) (a % 64) refl
+          ∙ sym (eq-eqb a b same)
       | inr other ↦ elim (cases_eq (a / 64) (b / 64)) [
-        | inl same ↦ ap (λ x. x && (a % 64 == b % 64)) (eq-eqb (a / 64) (b / 64) same) ∙ ne_eqb (a % 64) (b % 64) (λ e. other (omega (arith, same, e))) ∙ sym (ne_eqb a b other)
+        | inl same ↦
+            ap (λ x. x && (a % 64 == b % 64)) (eq-eqb (a / 64) (b / 64) same)
+            ∙ ne_eqb (a % 64) (b % 64) (λ e. other (omega (arith, same, e)))
+            ∙ sym (ne_eqb a b other)
         | inr apart ↦ ap (λ x. x && (a % 64 == b % 64)) (ne_eqb (a / 64) (b / 64) apart) ∙ sym (ne_eqb a b other)
       ]
     ]
@@ -57,44 +68,61 @@ row_noted : (row : List PlainStretch) (new : PlainStretch) (step place : ℕ) �
     → ((at : ℕ) → place_at new at ≡ cond (step % 64 == at) place (place_at (get_or row (step / 64) no_stretch) at))
     → (at : ℕ) → place_on (set row (step / 64) new) at ≡ cond (step == at) place (place_on row at)
 row_noted row new step place within is at =
-    one_set place_at row new no_stretch (step / 64) (at / 64) (at % 64) place (step % 64 == at % 64) within (is (at % 64))
+    one_set place_at row new no_stretch (step / 64) (at / 64) (at % 64) place (step % 64 == at % 64) within
+    (is (at % 64))
     ∙ ap (λ b. cond b place (place_on row at)) (same_step step at)
 
-pub stretch_noted : (before row : List Stretch) (old new : Stretch) (step place : ℕ) → step / 64 < length row
+pub stretch_noted : (before row : List Stretch) (old new : Stretch) (step place : ℕ)
+    → step / 64 < length row
     → ((at : ℕ) → place_on (stretches_of row) at ≡ place_on (stretches_of before) at)
     → old ≡ get_or row (step / 64) old
     → ((at : ℕ) → place_at (stretch_of new) at ≡ cond (step % 64 == at) place (place_at (stretch_of old) at))
-    → (at : ℕ) → place_on (stretches_of (set row (step / 64) new)) at ≡ cond (step == at) place (place_on (stretches_of before) at)
+    → (at : ℕ)
+    → place_on (stretches_of (set row (step / 64) new)) at ≡ cond (step == at) place (place_on (stretches_of before) at)
 stretch_noted before row old new step place within longer is put at =
-    let here : stretch_of old ≡ get_or (stretches_of row) (step / 64) no_stretch = ap stretch_of is ∙ sym (get_or-map stretch_of row (step / 64) old no_stretch within) in
+    let here : stretch_of old ≡ get_or (stretches_of row) (step / 64) no_stretch =
+    ap stretch_of is ∙ sym (get_or-map stretch_of row (step / 64) old no_stretch within) in
     ap (λ ss. place_on ss at) (map-set stretch_of row (step / 64) new)
-    ∙ row_noted (stretches_of row) (stretch_of new) step place (rw length-map within) (λ k. put k ∙ ap (λ s. cond (step % 64 == k) place (place_at s k)) here) at
+    ∙ row_noted (stretches_of row) (stretch_of new) step place (rw length-map within)
+    (λ k. put k ∙ ap (λ s. cond (step % 64 == k) place (place_at s k)) here) at
     ∙ ap (cond (step == at) place) (longer at)
 
 -- a stretch without a place
-empty_stretch : (first step : ℕ) → place_at (record { first = first; count = 0; list = [] }) step ≡ place_at no_stretch step
+empty_stretch : (first step : ℕ)
+    → place_at (record { first = first; count = 0; list = [] }) step ≡ place_at no_stretch step
 empty_stretch first step =
-    ap (λ b. cond b (first + step) 0) (le-ltb step 0 (omega arith)) ∙ sym (ap (λ b. cond b (0 + step) 0) (le-ltb step 0 (omega arith)))
+    ap (λ b. cond b (first + step) 0) (le-ltb step 0 (omega arith))
+    ∙ sym (ap (λ b. cond b (0 + step) 0) (le-ltb step 0 (omega arith)))
 
 -- .. at the end of a row
-pub row_longer : (before row new : List Stretch) (added : Stretch) → new ≡ row ++ added ∷ [] → stretch_of added ≡ record { first = added.first; count = 0; list = [] }
+pub row_longer : (before row new : List Stretch) (added : Stretch)
+    → new ≡ row ++ added ∷ []
+    → stretch_of added ≡ record { first = added.first; count = 0; list = [] }
     → ((at : ℕ) → place_on (stretches_of row) at ≡ place_on (stretches_of before) at)
-    → (at : ℕ) → place_on (stretches_of new) at ≡ place_on (stretches_of before) at
+    → (at : ℕ)
+    → place_on (stretches_of new) at ≡ place_on (stretches_of before) at
 row_longer before row new added is empty longer at =
     ap (λ ss. place_on (stretches_of ss) at) is
     ∙ ap (λ ss. place_on ss at) (map-append stretch_of row (added ∷ []))
-    ∙ one_more place_at (stretches_of row) (stretch_of added) no_stretch (at / 64) (at % 64) (ap (λ s. place_at s (at % 64)) empty ∙ empty_stretch added.first (at % 64))
+    ∙ one_more place_at (stretches_of row) (stretch_of added) no_stretch (at / 64) (at % 64)
+    (ap (λ s. place_at s (at % 64)) empty ∙ empty_stretch added.first (at % 64))
     ∙ longer at
 
 -- a place noted in its caller's row
-pub caller_noted : {V : Type 0} (view : V → List PlainStretch) (before rows : List V) (old new : V) (caller step place : ℕ) → caller < length rows
+pub caller_noted : {V : Type 0} (view : V → List PlainStretch) (before rows : List V) (old new : V)
+    (caller step place : ℕ)
+    → caller < length rows
     → ((c : ℕ) → get_or (map view rows) c [] ≡ get_or (map view before) c [])
     → old ≡ get_or rows caller old
     → ((at : ℕ) → place_on (view new) at ≡ cond (step == at) place (place_on (view old) at))
-    → (c at : ℕ) → place_on (get_or (map view (set rows caller new)) c []) at ≡ cond ((caller == c) && (step == at)) place (place_on (get_or (map view before) c []) at)
+    → (c at : ℕ)
+    → place_on (get_or (map view (set rows caller new)) c []) at
+    ≡ cond ((caller == c) && (step == at)) place (place_on (get_or (map view before) c []) at)
 caller_noted view before rows old new caller step place within longer is put c at =
     let here : Bool = (caller == c) && (step == at) in
-    let row : view old ≡ get_or (map view rows) caller [] = ap view is ∙ sym (get_or-map view rows caller old [] within) in
+    let row : view old ≡ get_or (map view rows) caller [] =
+    ap view is ∙ sym (get_or-map view rows caller old [] within) in
     ap (λ rs. place_on (get_or rs c []) at) (map-set view rows caller new)
-    ∙ one_set place_on (map view rows) (view new) [] caller c at place (step == at) (rw length-map within) (put at ∙ ap (λ r. cond (step == at) place (place_on r at)) row)
+    ∙ one_set place_on (map view rows) (view new) [] caller c at place (step == at) (rw length-map within)
+    (put at ∙ ap (λ r. cond (step == at) place (place_on r at)) row)
     ∙ ap (λ r. cond here place (place_on r at)) (longer c)

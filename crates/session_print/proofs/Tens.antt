@@ -1,5 +1,6 @@
 -- The digits of a step before its last, and the last.
-use Rattle.std.proofs.Common.{◌≡◌, ℕ, List, [], ◌∷◌, ◌++◌, ◌+◌, ◌/◌, ◌%◌, ◌<◌, ◌≤◌, ◌^◌, codes, decimal, Result, Ok, Err, OnOk, sym, ap, ◌∙◌, arith, append_assoc, lt-ltb, le-ltb, cond}
+use Rattle.std.proofs.Common.{◌≡◌, ℕ, List, [], ◌∷◌, ◌++◌, ◌+◌, ◌/◌, ◌%◌, ◌<◌, ◌≤◌, ◌^◌, codes, decimal}
+use Rattle.std.proofs.Common.{Result, Ok, Err, OnOk, sym, ap, ◌∙◌, arith, append_assoc, lt-ltb, le-ltb, cond}
 use mathlib.Core.Logic.{⊎_elim}
 use Rattle.std.proofs.lemmas.Fmt.{decimal_digit, decimal_step}
 use Rattle.std.proofs.lemmas.Bool.{cases_order}
@@ -18,7 +19,8 @@ many step h = ap (λ b. cond b [] (decimal (step / 10))) (le-ltb step 10 h)
 pub tens_shared : (a b : ℕ) → a / 10 ≡ b / 10 → tens a ≡ tens b
 tens_shared a b same =
     ⊎_elim (λ is. many a (omega (arith, is)) ∙ ap decimal same ∙ sym (many b (omega (arith, is, same))))
-    (λ apart. ⊎_elim (λ less. few a less ∙ sym (few b (omega (arith, less, same)))) (λ more. many a (omega (arith, more)) ∙ ap decimal same ∙ sym (many b (omega (arith, more, same)))) apart)
+    (λ apart. ⊎_elim (λ less. few a less ∙ sym (few b (omega (arith, less, same))))
+    (λ more. many a (omega (arith, more)) ∙ ap decimal same ∙ sym (many b (omega (arith, more, same)))) apart)
     (cases_order a 10)
 
 -- a number of two digits or more, by its last one
@@ -47,17 +49,30 @@ spaced digit one = ap (λ xs. xs ++ codes " ") (sym (decimal_digit digit one))
 
 pub spaced_last : (n : ℕ) → 10 ≤ n → n < 2 ^ 64 → decimal (n / 10) ++ (48 + n % 10) ∷ codes " " ≡ decimal n ++ codes " "
 spaced_last n more small =
-    ap (λ xs. decimal (n / 10) ++ xs) (spaced (n % 10) (omega arith)) ∙ sym (append_assoc (decimal (n / 10)) (decimal (n % 10)) (codes " ")) ∙ ap (λ xs. xs ++ codes " ") (by_last_digit n more small)
+    ap (λ xs. decimal (n / 10) ++ xs) (spaced (n % 10) (omega arith))
+    ∙ sym (append_assoc (decimal (n / 10)) (decimal (n % 10)) (codes " "))
+    ∙ ap (λ xs. xs ++ codes " ") (by_last_digit n more small)
 
-line_is : (front : List ℕ) (step : ℕ) (call : PlainCall) (answer : PlainAnswer) → step < 2 ^ 64 → (front ++ tens step) ++ call_rest (step % 10) call answer ≡ front ++ call_rest step call answer
+line_is : (front : List ℕ) (step : ℕ) (call : PlainCall) (answer : PlainAnswer)
+    → step < 2 ^ 64
+    → (front ++ tens step) ++ call_rest (step % 10) call answer ≡ front ++ call_rest step call answer
 line_is front step call answer small =
     let rest : List ℕ = codes " " ++ (verb_of call ++ (codes " " ++ (answer_text answer ++ newline))) in
     append_assoc front (tens step) (call_rest (step % 10) call answer)
-    ∙ ap (λ xs. front ++ xs) (sym (append_assoc (tens step) (decimal (step % 10)) rest) ∙ ap (λ xs. xs ++ rest) (with_last step small))
+    ∙ ap (λ xs. front ++ xs)
+    (sym (append_assoc (tens step) (decimal (step % 10)) rest) ∙ ap (λ xs. xs ++ rest) (with_last step small))
 
 -- the line of a step, from what its number shares
-pub line_told : {T E : Type 0} (r : Result T E) (old new front shared : List ℕ) (step digit : ℕ) (call : PlainCall) (answer : PlainAnswer) → step < 2 ^ 64 → digit ≡ step % 10 → shared ≡ front ++ tens step
-    → OnOk r (new ≡ old ++ (shared ++ call_rest digit call answer)) → OnOk r (new ≡ old ++ (front ++ call_rest step call answer))
+pub line_told : {T E : Type 0} (r : Result T E) (old new front shared : List ℕ) (step digit : ℕ) (call : PlainCall)
+    (answer : PlainAnswer)
+    → step < 2 ^ 64
+    → digit ≡ step % 10
+    → shared ≡ front ++ tens step
+    → OnOk r (new ≡ old ++ (shared ++ call_rest digit call answer))
+    → OnOk r (new ≡ old ++ (front ++ call_rest step call answer))
 line_told (Err e) old new front shared step digit call answer small last is put = tt
 line_told (Ok t) old new front shared step digit call answer small last is put =
-    put ∙ ap (λ xs. old ++ (xs ++ call_rest digit call answer)) is ∙ ap (λ d. old ++ ((front ++ tens step) ++ call_rest d call answer)) last ∙ ap (λ xs. old ++ xs) (line_is front step call answer small)
+    put
+    ∙ ap (λ xs. old ++ (xs ++ call_rest digit call answer)) is
+    ∙ ap (λ d. old ++ ((front ++ tens step) ++ call_rest d call answer)) last
+    ∙ ap (λ xs. old ++ xs) (line_is front step call answer small)

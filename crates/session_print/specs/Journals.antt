@@ -1,5 +1,6 @@
 -- The text of journals: what happened on each port, entry by entry, and what its line did.
-use Rattle.std.specs.Prelude.{ℕ, List, [], ◌∷◌, ◌++◌, ◌+◌, ◌==◌, if◌then◌else◌, codes, decimal, length, flat_map, slice_index_or}
+use Rattle.std.specs.Prelude.{ℕ, List, [], ◌∷◌, ◌++◌, ◌+◌, ◌==◌, if◌then◌else◌}
+use Rattle.std.specs.Prelude.{codes, decimal, length, flat_map, slice_index_or}
 use Rattle.hex.specs.Hex.{encode_lower}
 use Rattle.tty_base.specs.declared.characters.Flag.{Flag}
 use Rattle.tty_base.specs.declared.characters.Flag.TheVariants as flags
@@ -9,7 +10,8 @@ use Rattle.tty_base.specs.declared.lines.Overrun.{Overrun}
 use Rattle.tty_calls.specs.declared.journals.Who.{Who}
 use Rattle.tty_calls.specs.declared.journals.Who.TheVariants.{Caller, Flusher, Line, Clock, Session}
 use Rattle.tty_calls.specs.declared.journals.PortRun.{PortRun}
-use Rattle.tty_calls.specs.Plain.{PlainEvent, answered, parted, waited, flushed, ticked, line_ended, clock_ended, caller_ended, phase_ended, hung_up, PlainEntry}
+use Rattle.tty_calls.specs.Plain.{PlainEvent, answered, parted, waited, flushed, ticked, line_ended}
+use Rattle.tty_calls.specs.Plain.{clock_ended, caller_ended, phase_ended, hung_up, PlainEntry}
 use Rattle.tty_calls.specs.Sessions.{PlainSession, scripts_over, names_of}
 use Rattle.session_print.specs.Words.{answer_text}
 use Rattle.session_print.specs.Lines.{newline}
@@ -55,7 +57,8 @@ who_text names Session = codes "*session"
 -- WHO STEP PART GENERATION EVENT
 abbrev pub entry_line : List (List ℕ) → PlainEntry → List ℕ
 entry_line names e =
-    who_text names e.who ++ (codes " " ++ (decimal e.step ++ (codes " " ++ (decimal e.part ++ (codes " " ++ (decimal e.generation
+    who_text names e.who
+    ++ (codes " " ++ (decimal e.step ++ (codes " " ++ (decimal e.part ++ (codes " " ++ (decimal e.generation
     ++ (codes " " ++ (event_text e.event ++ newline))))))))
 
 -- AT SENT SEEN
@@ -68,7 +71,10 @@ heading word p lines = word ++ (codes " " ++ (decimal p ++ (codes " " ++ (decima
 
 abbrev pub line_numbers : ℕ → LineReport → List ℕ
 line_numbers p r =
-    codes "line " ++ (decimal p ++ (codes " " ++ (decimal r.arrived ++ (codes " " ++ (decimal r.fifo_lost ++ (codes " " ++ (decimal r.sent ++ newline)))))))
+    codes "line "
+    ++ (decimal p
+    ++ (codes " "
+    ++ (decimal r.arrived ++ (codes " " ++ (decimal r.fifo_lost ++ (codes " " ++ (decimal r.sent ++ newline)))))))
 
 -- the journal of a port, its overruns, and the numbers of its line
 abbrev pub journal_on : ℕ → PlainSession → PortRun → List ℕ

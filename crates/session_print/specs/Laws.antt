@@ -9,7 +9,10 @@ use Rattle.session_print.specs.Report.{Told, told_on, answer_in, calls_text}
 
 -- each call of a port is answered by these entries
 abbrev pub AnswersEvery : ℕ → PlainSession → List PlainEntry → Type 0
-AnswersEvery p session es = (c step : ℕ) (call : PlainCall) → call_at p session c step ≡ Some call → (answer : PlainAnswer) × (answer_in es c step ≡ Some answer)
+AnswersEvery p session es =
+    (c step : ℕ) (call : PlainCall)
+    → call_at p session c step ≡ Some call
+    → (answer : PlainAnswer) × (answer_in es c step ≡ Some answer)
 
 -- The line of a call that is told: it is the session's call of this caller and step, and the line has the name of the
 -- caller, the step, and the answer that these entries have for them.
@@ -24,10 +27,13 @@ pub record IsLineOf (p : ℕ) (session : PlainSession) (es : List PlainEntry) (t
 
 -- the calls that are told of a port are all its calls, in the text's order
 abbrev pub ToldAreAll : ℕ → PlainSession → Type 0
-ToldAreAll p session = map (λ told. told.call) (told_on p session) ≡ flat_map (λ script. script.calls) (scripts_over p session.phases)
+ToldAreAll p session =
+    map (λ told. told.call) (told_on p session) ≡ flat_map (λ script. script.calls) (scripts_over p session.phases)
 
 -- the lines of a port's calls: one for each call that is told, in that order
 abbrev pub TellsEachCall : Type 0
 TellsEachCall =
     (p : ℕ) (session : PlainSession) (run : PortRun) → AnswersEvery p session run.journal.items
-    → (lines : List (List ℕ)) × (calls_text p session run ≡ concat lines) × AllZip (IsLineOf p session run.journal.items) (told_on p session) lines
+    → (lines : List (List ℕ))
+    × (calls_text p session run ≡ concat lines)
+    × AllZip (IsLineOf p session run.journal.items) (told_on p session) lines

@@ -1,5 +1,7 @@
 -- How the printer goes on: for private functions alone.
-use Rattle.std.specs.Prelude.{◌≡◌, ℕ, List, [], ◌∷◌, ◌++◌, ◌+◌, ◌-◌, ◌/◌, ◌%◌, nat_lt, Option, None, Some, Bool, ◌&&◌, ◌==◌, if◌then◌else◌, codes, decimal, filter, flat_map, length, map, slice_get, slice_index, slice_index_or, slice_set, string_bytes}
+use Rattle.std.specs.Prelude.{◌≡◌, ℕ, List, [], ◌∷◌, ◌++◌, ◌+◌, ◌-◌, ◌/◌, ◌%◌, nat_lt, Option, None, Some}
+use Rattle.std.specs.Prelude.{Bool, ◌&&◌, ◌==◌, if◌then◌else◌, codes, decimal, filter, flat_map, length}
+use Rattle.std.specs.Prelude.{map, slice_get, slice_index, slice_index_or, slice_set, string_bytes}
 use Rattle.std.specs.Borrow.{Bor}
 use Rattle.std.specs.List.{range_with_len}
 use Rattle.std.specs.Option.{option_and_then}
@@ -49,7 +51,10 @@ no_stretch = record { first = 0; count = 0; list = [] }
 
 -- the place of a step: of a stretch, of a caller's row, and of a caller
 abbrev pub place_at : PlainStretch → ℕ → ℕ
-place_at s step = if slice_index s.list step == 0 then (if nat_lt step s.count then s.first + step else 0) else slice_index s.list step
+place_at s step =
+    if slice_index s.list step == 0
+    then (if nat_lt step s.count then s.first + step else 0)
+    else slice_index s.list step
 
 abbrev pub place_on : List PlainStretch → ℕ → ℕ
 place_on row step = place_at (slice_index_or row (step / 64) no_stretch) (step % 64)
@@ -71,7 +76,8 @@ noted_answer answers c step = answer_at answers.journal.now.items (place_in answ
 -- what an entry answers to a caller's step, where it answers this turn
 abbrev pub entry_answer : Option Turn → PlainEntry → ℕ → ℕ → Option PlainAnswer
 entry_answer None e c step = None
-entry_answer (Some turn) e c step = if same_turn turn (record { caller = c; step = step }) then answer_of_event e.event else None
+entry_answer (Some turn) e c step =
+    if same_turn turn (record { caller = c; step = step }) then answer_of_event e.event else None
 
 -- what a journal flushes, and what is dropped with its entries; and the line that tells both
 abbrev pub sums_of : List PlainEntry → Sums
@@ -82,14 +88,17 @@ sums_on run = sums_of run.journal.items
 
 abbrev pub sums_line : ℕ → Sums → List ℕ
 sums_line p sums =
-    codes "port " ++ (decimal p ++ (codes " input taken=" ++ (decimal sums.flushed ++ (codes " dropped=" ++ (decimal sums.dropped ++ newline)))))
+    codes "port "
+    ++ (decimal p
+    ++ (codes " input taken=" ++ (decimal sums.flushed ++ (codes " dropped=" ++ (decimal sums.dropped ++ newline)))))
 
 -- what the line of a call begins with, and how it goes on
 abbrev pub call_head : ℕ → List ℕ → List ℕ
 call_head p name = decimal p ++ (codes "." ++ (name ++ codes "."))
 
 abbrev pub call_rest : ℕ → PlainCall → PlainAnswer → List ℕ
-call_rest step call answer = decimal step ++ (codes " " ++ (verb_of call ++ (codes " " ++ (answer_text answer ++ newline))))
+call_rest step call answer =
+    decimal step ++ (codes " " ++ (verb_of call ++ (codes " " ++ (answer_text answer ++ newline))))
 
 -- the digits of a step before the last, as the text of a number begins with them
 abbrev pub tens : ℕ → List ℕ
@@ -135,7 +144,8 @@ steps_after names steps (s ∷ ss) = steps_after names (steps_then steps s (numb
 
 -- so many flags from a place on: the name of each that is set, and a blank
 abbrev pub flags_text : Settings → ℕ → ℕ → List ℕ
-flags_text modes place count = flat_map (λ flag. slice_index_or flag_names flag [] ++ codes " ") (filter (has_flag modes) (range_with_len place count))
+flags_text modes place count = flat_map (λ flag. slice_index_or flag_names flag [] ++ codes " ")
+    (filter (has_flag modes) (range_with_len place count))
 
 -- so many control characters from a place on: for each a blank, and its word
 abbrev pub characters_text : Settings → ℕ → ℕ → List ℕ

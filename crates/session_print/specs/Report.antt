@@ -1,8 +1,10 @@
 -- The text of a report: what each call of a session was answered, and what became of its ports.
-use Rattle.std.specs.Prelude.{ℕ, List, [], ◌∷◌, ◌++◌, ◌+◌, ◌==◌, ◌&&◌, Bool, false, Option, None, Some, if◌then◌else◌, length, flat_map, codes}
+use Rattle.std.specs.Prelude.{ℕ, List, [], ◌∷◌, ◌++◌, ◌+◌, ◌==◌, ◌&&◌, Bool, false}
+use Rattle.std.specs.Prelude.{Option, None, Some, if◌then◌else◌, length, flat_map, codes}
 use Rattle.std.specs.Option.{option_or}
 use Rattle.tty_calls.specs.declared.journals.PortRun.{PortRun}
-use Rattle.tty_calls.specs.Plain.{PlainCall, PlainAnswer, PlainEvent, answered, parted, waited, flushed, ticked, line_ended, clock_ended, caller_ended, phase_ended, hung_up, PlainEntry, is_caller}
+use Rattle.tty_calls.specs.Plain.{PlainCall, PlainAnswer, PlainEvent, answered, parted, waited, flushed, ticked}
+use Rattle.tty_calls.specs.Plain.{line_ended, clock_ended, caller_ended, phase_ended, hung_up, PlainEntry, is_caller}
 use Rattle.tty_calls.specs.Sessions.{PlainScript, PlainSession, scripts_over, names_of, number_in, calls_under}
 use Rattle.session_print.specs.Lines.{call_line, port_text, newline}
 use Rattle.session_print.specs.Ends.{PlainEnd}
@@ -39,13 +41,15 @@ pub record Told : Type 0 where
 -- a caller's calls, from this step on
 abbrev pub told_from : List ℕ → Option ℕ → ℕ → List PlainCall → List Told
 told_from name c step [] = []
-told_from name c step (call ∷ calls) = record { name = name; caller = c; step = step; call = call } ∷ told_from name c (step + 1) calls
+told_from name c step (call ∷ calls) =
+    record { name = name; caller = c; step = step; call = call } ∷ told_from name c (step + 1) calls
 
 -- the calls of scripts that come after others: a caller's steps go on over its scripts
 abbrev pub told_in : List (List ℕ) → List PlainScript → List PlainScript → List Told
 told_in names before [] = []
 told_in names before (s ∷ ss) =
-    told_from s.name (number_in names s.name) (length (calls_under s.name before)) s.calls ++ told_in names (before ++ s ∷ []) ss
+    told_from s.name (number_in names s.name) (length (calls_under s.name before)) s.calls
+    ++ told_in names (before ++ s ∷ []) ss
 
 -- the calls of a port, in the text's order
 abbrev pub told_on : ℕ → PlainSession → List Told

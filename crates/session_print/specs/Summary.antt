@@ -1,7 +1,9 @@
 -- The summary of a session that a number gives: what is counted over all its ports.
 use Rattle.std.specs.Prelude.{ℕ, sum_by, List, ◌++◌, codes, decimal, length}
 use Rattle.tty_calls.specs.declared.journals.PortRun.{PortRun}
-use Rattle.tty_calls.specs.Plain.{PlainAnswer, done, count_is, got, number_is, modes_are, counts_are, refused, idle, PlainEvent, answered, parted, waited, flushed, ticked, line_ended, clock_ended, caller_ended, phase_ended, hung_up, PlainEntry}
+use Rattle.tty_calls.specs.Plain.{PlainAnswer, done, count_is, got, number_is, modes_are, counts_are}
+use Rattle.tty_calls.specs.Plain.{refused, idle, PlainEvent, answered, parted, waited, flushed, ticked}
+use Rattle.tty_calls.specs.Plain.{line_ended, clock_ended, caller_ended, phase_ended, hung_up, PlainEntry}
 use Rattle.tty_calls.specs.Limits.{call_count}
 use Rattle.tty_calls.specs.Sessions.{PlainSession}
 use Rattle.session_print.specs.Ends.{PlainEnd}
@@ -50,6 +52,8 @@ all_generations ends = sum_by (λ end. end.generation) ends
 
 abbrev pub summary_text : ℕ → PlainSession → List PortRun → List PlainEnd → List ℕ
 summary_text number session runs ends =
-    codes "gen " ++ (decimal number ++ (codes "\ncalls " ++ (decimal (call_count session.phases) ++ (codes "\narrived " ++ (decimal (all_arrived runs)
+    codes "gen "
+    ++ (decimal number
+    ++ (codes "\ncalls " ++ (decimal (call_count session.phases) ++ (codes "\narrived " ++ (decimal (all_arrived runs)
     ++ (codes "\ntaken " ++ (decimal (all_flushed runs) ++ (codes "\nbytes " ++ (decimal (all_got runs)
     ++ (codes "\ngenerations " ++ (decimal (all_generations ends) ++ codes "\ndone\n")))))))))))

@@ -35,7 +35,8 @@ impl<'a> Answers<'a> {
 /// for: so it is walked once for all that a report says of it. More entries than can be counted are want of memory.
 pub(crate) fn walk(alloc: Global, journal: &Journal, places: &mut Places) -> Result<Sums, NoMemory>
     requires { (c step : ℕ) → place_in places.old c step ≡ 0 }
-    ensures answers { OnOk result ((c step : ℕ) → answer_at journal.now.items (place_in places.new c step) ≡ answer_in journal.now.items c step) }
+    ensures answers { OnOk result
+        ((c step : ℕ) → answer_at journal.now.items (place_in places.new c step) ≡ answer_in journal.now.items c step) }
     ensures sums { IfOk result (λ sums. sums ≡ sums_of journal.now.items) }
 {
     if journal.len() > u32::MAX as usize {
@@ -58,7 +59,8 @@ pub(crate) fn walk(alloc: Global, journal: &Journal, places: &mut Places) -> Res
 /// The turn that an entry answers.
 #[inline(always)]
 fn turn_of(entry: &Entry) -> Option<Turn>
-    ensures turn { (c step : ℕ) → entry_answer result (entry_of entry.now) c step ≡ answer_by (entry_of entry.now) c step }
+    ensures turn { (c step : ℕ)
+        → entry_answer result (entry_of entry.now) c step ≡ answer_by (entry_of entry.now) c step }
     ensures answer { IfSome result (λ turn. IsSome (answer_of_event (entry_of entry.now).event)) }
 {
     let Who::Caller(caller) = entry.who else {

@@ -1,10 +1,12 @@
 //! The lines of a report that tell the calls of a port, each with its answer.
 
-ghost use Rattle.std.specs.Prelude.{◌≡◌, [], ◌++◌, ◌+◌, ◌<◌, ◌^◌, ℕ, Some, IfOk, OnOk, flat_map, length, map, replicate, string_bytes};
+ghost use Rattle.std.specs.Prelude.{◌≡◌, [], ◌++◌, ◌+◌, ◌<◌, ◌^◌, ℕ, Some, IfOk, OnOk};
+ghost use Rattle.std.specs.Prelude.{flat_map, length, map, replicate, string_bytes};
 ghost use Rattle.tty_calls.specs.Plain.{call_of, answer_lent};
 ghost use Rattle.tty_calls.specs.Sessions.{script_of, phase_of, number_in, scripts_over, session_of};
 ghost use Rattle.session_print.specs.Report.{calls_text, told_line, told_from, told_on};
-ghost use Rattle.session_print.specs.Printing.{sums_on, place_in, call_head, call_rest, tens, noted_answer, scripts_for, told_script, steps_then, told_scripts, steps_after};
+ghost use Rattle.session_print.specs.Printing.{sums_on, place_in, call_head, call_rest, tens, noted_answer};
+ghost use Rattle.session_print.specs.Printing.{scripts_for, told_script, steps_then, told_scripts, steps_after};
 
 use super::answers::{Answers, walk};
 use super::digits::{digit_text, put_tens};
@@ -24,7 +26,8 @@ pub(crate) fn put_calls(
     session: &Session,
     run: &PortRun,
 ) -> Result<Sums, NoMemory>
-    ensures text { OnOk result (string_bytes text.new ≡ string_bytes text.old ++ calls_text port (session_of session.now) run.now) }
+    ensures text { OnOk result
+        (string_bytes text.new ≡ string_bytes text.old ++ calls_text port (session_of session.now) run.now) }
     ensures sums { IfOk result (λ sums. sums ≡ sums_on run.now) }
 {
     let mut places = Places::new(alloc);
@@ -41,7 +44,8 @@ fn put_walked_calls(
     places: &mut Places,
 ) -> Result<Sums, NoMemory>
     requires { (c step : ℕ) → place_in places.old c step ≡ 0 }
-    ensures text { OnOk result (string_bytes text.new ≡ string_bytes text.old ++ calls_text port (session_of session.now) run.now) }
+    ensures text { OnOk result
+        (string_bytes text.new ≡ string_bytes text.old ++ calls_text port (session_of session.now) run.now) }
     ensures sums { IfOk result (λ sums. sums ≡ sums_on run.now) }
 {
     let journal = &run.journal;
@@ -58,7 +62,9 @@ fn put_answered_calls(
     session: &Session,
     answers: Answers,
 ) -> Result<(), NoMemory>
-    ensures { OnOk result (string_bytes text.new ≡ string_bytes text.old ++ flat_map (told_line port (noted_answer answers.entry)) (told_on port (session_of session.now))) }
+    ensures { OnOk result (string_bytes text.new
+        ≡ string_bytes text.old
+        ++ flat_map (told_line port (noted_answer answers.entry)) (told_on port (session_of session.now))) }
 {
     let names = Names::on_port(alloc, session, port)?;
     let teller = Teller {
@@ -82,8 +88,11 @@ struct Teller<'a> {
 impl Teller<'_> {
     /// Adds the lines of the port's scripts in all phases.
     fn put_phases(&self, alloc: Global, text: &mut String, phases: &[Phase]) -> Result<(), NoMemory>
-        ensures { OnOk result (string_bytes text.new ≡ string_bytes text.old
-            ++ flat_map (told_line self.now.port (noted_answer self.now.answers)) (told_scripts self.now.names.now (replicate (length self.now.names.now) 0) (scripts_over self.now.port (map phase_of phases.now)))) }
+        ensures { OnOk result (string_bytes text.new
+            ≡ string_bytes text.old
+            ++ flat_map (told_line self.now.port (noted_answer self.now.answers))
+            (told_scripts self.now.names.now (replicate (length self.now.names.now) 0)
+            (scripts_over self.now.port (map phase_of phases.now)))) }
     {
         let mut steps = vec![in alloc; 0usize; self.names.len()]?;
         for phase in phases {
@@ -100,9 +109,12 @@ impl Teller<'_> {
         scripts: &[Script],
     ) -> Result<(), NoMemory>
         requires { length steps.old.items ≡ length self.now.names.now }
-        ensures text { OnOk result (string_bytes text.new ≡ string_bytes text.old
-            ++ flat_map (told_line self.now.port (noted_answer self.now.answers)) (told_scripts self.now.names.now steps.old.items (scripts_for self.now.port scripts.now))) }
-        ensures steps { OnOk result (steps.new.items ≡ steps_after self.now.names.now steps.old.items (scripts_for self.now.port scripts.now)) }
+        ensures text { OnOk result (string_bytes text.new
+            ≡ string_bytes text.old
+            ++ flat_map (told_line self.now.port (noted_answer self.now.answers))
+            (told_scripts self.now.names.now steps.old.items (scripts_for self.now.port scripts.now))) }
+        ensures steps { OnOk result
+            (steps.new.items ≡ steps_after self.now.names.now steps.old.items (scripts_for self.now.port scripts.now)) }
         ensures each { OnOk result (length steps.new.items ≡ length steps.old.items) }
     {
         for script in scripts {
@@ -121,9 +133,12 @@ impl Teller<'_> {
         script: &Script,
     ) -> Result<(), NoMemory>
         requires { length steps.old.items ≡ length self.now.names.now }
-        ensures text { OnOk result (string_bytes text.new ≡ string_bytes text.old
-            ++ flat_map (told_line self.now.port (noted_answer self.now.answers)) (told_script steps.old.items (script_of script.now) (number_in self.now.names.now script.now.name.bytes))) }
-        ensures steps { OnOk result (steps.new.items ≡ steps_then steps.old.items (script_of script.now) (number_in self.now.names.now script.now.name.bytes)) }
+        ensures text { OnOk result (string_bytes text.new
+            ≡ string_bytes text.old
+            ++ flat_map (told_line self.now.port (noted_answer self.now.answers))
+            (told_script steps.old.items (script_of script.now) (number_in self.now.names.now script.now.name.bytes))) }
+        ensures steps { OnOk result (steps.new.items
+            ≡ steps_then steps.old.items (script_of script.now) (number_in self.now.names.now script.now.name.bytes)) }
     {
         let calls = &script.calls;
         match self.names.number(&script.name) {
@@ -146,8 +161,10 @@ impl Teller<'_> {
         calls: &Calls,
     ) -> Result<(), AllocError>
         requires { first.step + length calls.now.items < 2 ^ 64 }
-        ensures { OnOk result (string_bytes text.new ≡ string_bytes text.old
-            ++ flat_map (told_line self.now.port (noted_answer self.now.answers)) (told_from name.now (Some first.caller) first.step calls.now.items)) }
+        ensures { OnOk result (string_bytes text.new
+            ≡ string_bytes text.old
+            ++ flat_map (told_line self.now.port (noted_answer self.now.answers))
+            (told_from name.now (Some first.caller) first.step calls.now.items)) }
     {
         let mut head = Head::new(*text.allocator());
         self.put_under(text, &mut head, name, first, calls)
@@ -164,8 +181,10 @@ impl Teller<'_> {
     ) -> Result<(), AllocError>
         requires head { string_bytes head.old.front ≡ [] }
         requires few { first.step + length calls.now.items < 2 ^ 64 }
-        ensures { OnOk result (string_bytes text.new ≡ string_bytes text.old
-            ++ flat_map (told_line self.now.port (noted_answer self.now.answers)) (told_from name.now (Some first.caller) first.step calls.now.items)) }
+        ensures { OnOk result (string_bytes text.new
+            ≡ string_bytes text.old
+            ++ flat_map (told_line self.now.port (noted_answer self.now.answers))
+            (told_from name.now (Some first.caller) first.step calls.now.items)) }
     {
         head.begin(self.port, name, first.step)?;
         let mut turn = first;
@@ -233,7 +252,9 @@ impl Head {
         answer: &AnswerRef,
     ) -> Result<(), AllocError>
         requires { string_bytes self.now.shared ≡ string_bytes self.now.front ++ tens step }
-        ensures { OnOk result (string_bytes text.new ≡ string_bytes text.old ++ (string_bytes self.now.front ++ call_rest step (call_of call.now) (answer_lent answer.now))) }
+        ensures { OnOk result (string_bytes text.new
+            ≡ string_bytes text.old
+            ++ (string_bytes self.now.front ++ call_rest step (call_of call.now) (answer_lent answer.now))) }
     {
         put_call(text, self.shared.as_str(), step as u64 % 10, call, answer)
     }
@@ -259,7 +280,8 @@ fn put_call(
     answer: &AnswerRef,
 ) -> Result<(), AllocError>
     requires { digit < 10 }
-    ensures { OnOk result (string_bytes text.new ≡ string_bytes text.old ++ (head.now ++ call_rest digit (call_of call.now) (answer_lent answer.now))) }
+    ensures { OnOk result (string_bytes text.new
+        ≡ string_bytes text.old ++ (head.now ++ call_rest digit (call_of call.now) (answer_lent answer.now))) }
 {
     text.push_str(head)?;
     text.push_str(digit_text(digit))?;

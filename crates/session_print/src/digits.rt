@@ -1,6 +1,7 @@
 //! Numbers in decimal digits, and bytes in hexadecimal.
 
-ghost use Rattle.std.specs.Prelude.{◌≡◌, ◌++◌, ◌+◌, ◌∷◌, [], ◌<◌, ◌≤◌, ◌*◌, OnOk, decimal, length, slice_index, string_bytes, take};
+ghost use Rattle.std.specs.Prelude.{◌≡◌, ◌++◌, ◌+◌, ◌∷◌, [], ◌<◌, ◌≤◌, ◌*◌, OnOk};
+ghost use Rattle.std.specs.Prelude.{decimal, length, slice_index, string_bytes, take};
 ghost use Rattle.hex.specs.Hex.{encode_lower, lower_digits};
 ghost use Rattle.session_print.specs.Printing.{tens};
 

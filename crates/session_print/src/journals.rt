@@ -4,7 +4,8 @@ ghost use Rattle.std.specs.Prelude.{◌≡◌, ◌++◌, IfOk, OnOk, codes, deci
 ghost use Rattle.tty_base.specs.declared.characters.Flagged.{Flagged};
 ghost use Rattle.tty_calls.specs.Plain.{answer_lent, answered, entry_of, event_of};
 ghost use Rattle.tty_calls.specs.Sessions.{session_of, scripts_over, names_of};
-ghost use Rattle.session_print.specs.Journals.{journals_text, journal_on, entry_line, event_text, chars_text, beside_text, overrun_line, line_numbers};
+ghost use Rattle.session_print.specs.Journals.{journals_text, journal_on, entry_line, event_text};
+ghost use Rattle.session_print.specs.Journals.{chars_text, beside_text, overrun_line, line_numbers};
 ghost use Rattle.session_print.specs.Lines.{newline};
 ghost use Rattle.session_print.specs.Printing.{Fronts, entry_rest};
 
@@ -35,7 +36,8 @@ pub(crate) fn put_journals(
     session: &Session,
     runs: &[PortRun],
 ) -> Result<(), NoMemory>
-    ensures { OnOk result (string_bytes text.new ≡ string_bytes text.old ++ journals_text (session_of session.now) runs.now) }
+    ensures { OnOk result
+        (string_bytes text.new ≡ string_bytes text.old ++ journals_text (session_of session.now) runs.now) }
 {
     text.push_str("journals\n")?;
     for (port, run) in runs.iter().enumerate() {
@@ -51,7 +53,8 @@ fn put_journal(
     session: &Session,
     run: &PortRun,
 ) -> Result<(), NoMemory>
-    ensures { OnOk result (string_bytes text.new ≡ string_bytes text.old ++ journal_on port (session_of session.now) run.now) }
+    ensures { OnOk result
+        (string_bytes text.new ≡ string_bytes text.old ++ journal_on port (session_of session.now) run.now) }
 {
     let names = Names::on_port(alloc, session, port)?;
     let put = put_run(text, port, session, &names, run);
@@ -68,7 +71,8 @@ fn put_run(
     run: &PortRun,
 ) -> Result<(), AllocError>
     requires { names.now ≡ names_of (scripts_over port (session_of session.now).phases) }
-    ensures { OnOk result (string_bytes text.new ≡ string_bytes text.old ++ journal_on port (session_of session.now) run.now) }
+    ensures { OnOk result
+        (string_bytes text.new ≡ string_bytes text.old ++ journal_on port (session_of session.now) run.now) }
 {
     let _ = session;
     put_heading(text, "journal ", port, run.journal.len())?;
@@ -79,13 +83,15 @@ fn put_run(
 }
 
 fn put_heading(text: &mut String, word: &str, port: usize, lines: usize) -> Result<(), AllocError>
-    ensures { OnOk result (string_bytes text.new ≡ string_bytes text.old ++ (word.now ++ (decimal port ++ (codes " " ++ (decimal lines ++ newline))))) }
+    ensures { OnOk result (string_bytes text.new
+        ≡ string_bytes text.old ++ (word.now ++ (decimal port ++ (codes " " ++ (decimal lines ++ newline))))) }
 {
     put_fields(text, &[(word, port as u64), (" ", lines as u64)], "\n")
 }
 
 fn put_entries(text: &mut String, names: &Names, journal: &Journal) -> Result<(), AllocError>
-    ensures { OnOk result (string_bytes text.new ≡ string_bytes text.old ++ flat_map (entry_line names.now) journal.now.items) }
+    ensures { OnOk result
+        (string_bytes text.new ≡ string_bytes text.old ++ flat_map (entry_line names.now) journal.now.items) }
 {
     let mut front = Front::new(*text.allocator(), names)?;
     put_each_entry(text, names, &mut front, journal)
@@ -98,7 +104,8 @@ fn put_each_entry(
     journal: &Journal,
 ) -> Result<(), AllocError>
     requires { Fronts names.now front.old }
-    ensures { OnOk result (string_bytes text.new ≡ string_bytes text.old ++ flat_map (entry_line names.now) journal.now.items) }
+    ensures { OnOk result
+        (string_bytes text.new ≡ string_bytes text.old ++ flat_map (entry_line names.now) journal.now.items) }
 {
     for place in 0..journal.len() {
         let entry = journal.at(place);
@@ -111,7 +118,8 @@ fn put_each_entry(
 /// Adds the line of an entry, whose head lacks the last digit of the step.
 #[inline(always)]
 fn put_entry(text: &mut String, head: &str, entry: &Entry) -> Result<(), AllocError>
-    ensures { OnOk result (string_bytes text.new ≡ string_bytes text.old ++ (head.now ++ entry_rest (entry_of entry.now))) }
+    ensures { OnOk result
+        (string_bytes text.new ≡ string_bytes text.old ++ (head.now ++ entry_rest (entry_of entry.now))) }
 {
     let digit = (entry.step % 10) as u8;
     text.push_str(head)?;
@@ -122,7 +130,8 @@ fn put_entry(text: &mut String, head: &str, entry: &Entry) -> Result<(), AllocEr
 /// Adds an event and the end of its line.
 #[inline(always)]
 fn put_event(text: &mut String, event: &Event) -> Result<(), AllocError>
-    ensures { OnOk result (string_bytes text.new ≡ string_bytes text.old ++ (event_text (event_of event.now) ++ newline)) }
+    ensures { OnOk result
+        (string_bytes text.new ≡ string_bytes text.old ++ (event_text (event_of event.now) ++ newline)) }
 {
     match *event {
         Event::Answer { answer, dropped } => put_answered(text, &answer, dropped),
@@ -155,7 +164,8 @@ fn put_answered(
     answer: &AnswerRef,
     dropped: &[Flagged],
 ) -> Result<(), AllocError>
-    ensures { OnOk result (string_bytes text.new ≡ string_bytes text.old ++ (event_text (answered (answer_lent answer.now) dropped.now) ++ newline)) }
+    ensures { OnOk result (string_bytes text.new
+        ≡ string_bytes text.old ++ (event_text (answered (answer_lent answer.now) dropped.now) ++ newline)) }
 {
     text.push_str("answer ")?;
     put_answer(text, answer)?;
@@ -178,7 +188,8 @@ fn put_beside(text: &mut String, dropped: &[Flagged]) -> Result<(), AllocError>
 /// Adds a word, characters or a sign where there are none, and the end of a line.
 #[inline(never)]
 fn put_listed(text: &mut String, word: &str, characters: &[Flagged]) -> Result<(), AllocError>
-    ensures { OnOk result (string_bytes text.new ≡ string_bytes text.old ++ (word.now ++ (chars_text characters.now ++ newline))) }
+    ensures { OnOk result
+        (string_bytes text.new ≡ string_bytes text.old ++ (word.now ++ (chars_text characters.now ++ newline))) }
 {
     text.push_str(word)?;
     if characters.is_empty() {

@@ -38,7 +38,8 @@ fn put_flags(text: &mut String, modes: &Modes) -> Result<(), AllocError>
 /// Adds the name of a flag, and a blank.
 fn put_flag(text: &mut String, flag: u32) -> Result<(), AllocError>
     requires { flag < FLAG_COUNT }
-    ensures { OnOk result (string_bytes text.new ≡ string_bytes text.old ++ (slice_index_or flag_names flag [] ++ codes " ")) }
+    ensures { OnOk result
+        (string_bytes text.new ≡ string_bytes text.old ++ (slice_index_or flag_names flag [] ++ codes " ")) }
 {
     text.push_str(flag_name(flag))?;
     text.push_str(" ")
@@ -58,7 +59,8 @@ fn put_further_characters(text: &mut String, modes: &Modes) -> Result<(), AllocE
 /// Adds the word that says a control character.
 fn put_character(text: &mut String, modes: &Modes, place: u8) -> Result<(), AllocError>
     requires { place < CHARACTER_COUNT }
-    ensures { OnOk result (string_bytes text.new ≡ string_bytes text.old ++ word_text (Cc place (character modes.now place))) }
+    ensures { OnOk result
+        (string_bytes text.new ≡ string_bytes text.old ++ word_text (Cc place (character modes.now place))) }
 {
     text.push_str(character_name(place))?;
     text.push_str("=")?;

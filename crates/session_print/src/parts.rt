@@ -17,7 +17,8 @@ pub(crate) fn put_places(
     generation: u32,
 ) -> Result<(), AllocError>
     requires { digit < 10 }
-    ensures { OnOk result (string_bytes text.new ≡ string_bytes text.old ++ (decimal digit ++ places_text part generation)) }
+    ensures { OnOk result
+        (string_bytes text.new ≡ string_bytes text.old ++ (decimal digit ++ places_text part generation)) }
 {
     if part < 10 && generation < 10 {
         return put_digits(text, digit, part as u8, generation as u8);
@@ -30,7 +31,8 @@ fn put_digits(text: &mut String, digit: u8, part: u8, generation: u8) -> Result<
     requires digit { digit < 10 }
     requires part { part < 10 }
     requires generation { generation < 10 }
-    ensures { OnOk result (string_bytes text.new ≡ string_bytes text.old ++ (decimal digit ++ places_text part generation)) }
+    ensures { OnOk result
+        (string_bytes text.new ≡ string_bytes text.old ++ (decimal digit ++ places_text part generation)) }
 {
     let signs = [
         b'0' + digit,
@@ -49,7 +51,8 @@ fn put_digits(text: &mut String, digit: u8, part: u8, generation: u8) -> Result<
 #[inline(never)]
 fn put_numbers(text: &mut String, digit: u64, part: u32, generation: u32) -> Result<(), AllocError>
     requires { digit < 10 }
-    ensures { OnOk result (string_bytes text.new ≡ string_bytes text.old ++ (decimal digit ++ places_text part generation)) }
+    ensures { OnOk result
+        (string_bytes text.new ≡ string_bytes text.old ++ (decimal digit ++ places_text part generation)) }
 {
     text.push_str(spaced_digit(digit))?;
     put_spaced(text, u64::from(part))?;

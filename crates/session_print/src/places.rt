@@ -3,7 +3,8 @@
 ghost use Rattle.std.specs.Prelude.{◌≡◌, ℕ, ◌<◌, OnOk, if◌then◌else◌, ◌==◌, slice_index, slice_index_or};
 ghost use Rattle.std.specs.Option.{option_map};
 ghost use Rattle.tty_calls.specs.Plain.{entry_of};
-ghost use Rattle.session_print.specs.Printing.{same_turn, stretch_of, stretches_of, no_stretch, place_at, place_on as place_by_row, place_in, entry_at as entry_by_place};
+ghost use Rattle.session_print.specs.Printing.{same_turn, stretch_of, stretches_of, no_stretch, place_at};
+ghost use Rattle.session_print.specs.Printing.{place_on as place_by_row, place_in, entry_at as entry_by_place};
 
 use std::alloc::{AllocError, Global};
 use tty_calls::{Entry, Journal};
@@ -72,7 +73,9 @@ impl Places {
     #[inline(always)]
     pub(crate) fn note(&mut self, alloc: Global, turn: Turn, place: u32) -> Result<(), AllocError>
         requires { 0 < place }
-        ensures { OnOk result ((c step : ℕ) → place_in self.new c step ≡ if same_turn turn (record { caller = c; step = step }) then place else place_in self.old c step) }
+        ensures { OnOk result ((c step : ℕ)
+            → place_in self.new c step
+            ≡ if same_turn turn (record { caller = c; step = step }) then place else place_in self.old c step) }
     {
         while self.rows.len() <= turn.caller {
             self.rows.push(Vec::new(alloc))?;
@@ -96,7 +99,9 @@ fn place_on(row: &[Stretch], step: usize) -> usize
 #[inline(always)]
 fn note_on(alloc: Global, row: &mut Vec<Stretch>, step: usize, place: u32) -> Result<(), AllocError>
     requires { 0 < place }
-    ensures { OnOk result ((at : ℕ) → place_by_row (stretches_of row.new.items) at ≡ if step == at then place else place_by_row (stretches_of row.old.items) at) }
+    ensures { OnOk result ((at : ℕ)
+        → place_by_row (stretches_of row.new.items) at
+        ≡ if step == at then place else place_by_row (stretches_of row.old.items) at) }
 {
     while row.len() <= step / STEPS {
         row.push(Stretch {
@@ -129,7 +134,8 @@ impl Stretch {
     fn note(&mut self, step: usize, place: u32) -> Result<(), AllocError>
         requires some { 0 < place }
         requires within { step < 64 }
-        ensures { OnOk result ((at : ℕ) → place_at (stretch_of self.new) at ≡ if step == at then place else place_at (stretch_of self.old) at) }
+        ensures { OnOk result ((at : ℕ)
+            → place_at (stretch_of self.new) at ≡ if step == at then place else place_at (stretch_of self.old) at) }
     {
         let next = self.first as usize + step;
         if step == self.count as usize && place as usize == next && self.list.len() <= step {
@@ -143,7 +149,8 @@ impl Stretch {
 /// Puts a place at its step in a list.
 #[inline(always)]
 fn put_at(list: &mut Vec<u32>, step: usize, place: u32) -> Result<(), AllocError>
-    ensures { OnOk result ((at : ℕ) → slice_index list.new.items at ≡ if step == at then place else slice_index list.old.items at) }
+    ensures { OnOk result
+        ((at : ℕ) → slice_index list.new.items at ≡ if step == at then place else slice_index list.old.items at) }
 {
     if step == list.len() && step < list.capacity() {
         list.push_reserved(place);
@@ -155,7 +162,8 @@ fn put_at(list: &mut Vec<u32>, step: usize, place: u32) -> Result<(), AllocError
 /// Puts a place at its step in a list, which is made longer where it is too short.
 #[inline(never)]
 fn put_anywhere(list: &mut Vec<u32>, step: usize, place: u32) -> Result<(), AllocError>
-    ensures { OnOk result ((at : ℕ) → slice_index list.new.items at ≡ if step == at then place else slice_index list.old.items at) }
+    ensures { OnOk result
+        ((at : ℕ) → slice_index list.new.items at ≡ if step == at then place else slice_index list.old.items at) }
 {
     if list.len() == 0 {
         list.reserve(STEPS)?;

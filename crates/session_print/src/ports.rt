@@ -4,7 +4,8 @@
 ghost use Rattle.std.specs.Prelude.{◌≡◌, ◌++◌, OnOk, string_bytes};
 ghost use Rattle.tty_calls.specs.Sessions.{session_of};
 ghost use Rattle.session_print.specs.Ends.{end_of};
-ghost use Rattle.session_print.specs.Lines.{newline, port_text, line_line, flip_text, counts_line, signals_line, signals_text, generation_line, wire_line};
+ghost use Rattle.session_print.specs.Lines.{newline, port_text, line_line, flip_text, counts_line};
+ghost use Rattle.session_print.specs.Lines.{signals_line, signals_text, generation_line, wire_line};
 ghost use Rattle.session_print.specs.Printing.{sums_on, sums_line};
 
 use super::digits::put_hex;
@@ -25,7 +26,8 @@ pub(crate) fn put_port(
     end: &PortEnd,
 ) -> Result<(), AllocError>
     requires { sums ≡ sums_on run.now }
-    ensures { OnOk result (string_bytes text.new ≡ string_bytes text.old ++ port_text (session_of session.now) port run.now (end_of end.now)) }
+    ensures { OnOk result (string_bytes text.new
+        ≡ string_bytes text.old ++ port_text (session_of session.now) port run.now (end_of end.now)) }
 {
     put_line(text, port, session, &run.line)?;
     put_input(text, port, sums)?;
@@ -42,7 +44,8 @@ fn put_line(
     session: &Session,
     line: &LineReport,
 ) -> Result<(), AllocError>
-    ensures { OnOk result (string_bytes text.new ≡ string_bytes text.old ++ line_line (session_of session.now) port line.now) }
+    ensures { OnOk result
+        (string_bytes text.new ≡ string_bytes text.old ++ line_line (session_of session.now) port line.now) }
 {
     put_fields(
         text,
@@ -60,7 +63,8 @@ fn put_line(
 
 /// Adds the capacity of a port's flip buffer, from version 2 on, and the end of the line.
 fn put_flip(text: &mut String, port: usize, session: &Session) -> Result<(), AllocError>
-    ensures { OnOk result (string_bytes text.new ≡ string_bytes text.old ++ (flip_text (session_of session.now) port ++ newline)) }
+    ensures { OnOk result
+        (string_bytes text.new ≡ string_bytes text.old ++ (flip_text (session_of session.now) port ++ newline)) }
 {
     if session.version != 2 {
         return text.push_str("\n");

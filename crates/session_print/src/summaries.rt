@@ -7,7 +7,8 @@ ghost use Rattle.tty_calls.specs.Plain.{answer_lent, event_of};
 ghost use Rattle.tty_calls.specs.Sessions.{script_of, phase_of, session_of};
 ghost use Rattle.session_print.specs.Ends.{end_of};
 ghost use Rattle.session_print.specs.Lines.{flushed_count};
-ghost use Rattle.session_print.specs.Summary.{summary_text, all_arrived, all_flushed, all_got, all_generations, got_count, got_in as got_by_event, got_by as got_by_answer};
+ghost use Rattle.session_print.specs.Summary.{summary_text, all_arrived, all_flushed, all_got, all_generations};
+ghost use Rattle.session_print.specs.Summary.{got_count, got_in as got_by_event, got_by as got_by_answer};
 
 use super::fields::put_fields;
 use super::sums::{flushed_in, sum_of};
@@ -25,7 +26,8 @@ pub fn summary(
     runs: &[PortRun],
     ends: &[PortEnd],
 ) -> Result<Bytes, NoMemory>
-    ensures { IfOk result (λ text. text.items ≡ summary_text number (session_of session.now) runs.now (map end_of ends.now)) }
+    ensures { IfOk result
+        (λ text. text.items ≡ summary_text number (session_of session.now) runs.now (map end_of ends.now)) }
 {
     let mut text = String::new(alloc);
     put_summary(&mut text, number, session, runs, ends)?;
@@ -39,7 +41,8 @@ fn put_summary(
     runs: &[PortRun],
     ends: &[PortEnd],
 ) -> Result<(), NoMemory>
-    ensures { OnOk result (string_bytes text.new ≡ string_bytes text.old ++ summary_text number (session_of session.now) runs.now (map end_of ends.now)) }
+    ensures { OnOk result (string_bytes text.new
+        ≡ string_bytes text.old ++ summary_text number (session_of session.now) runs.now (map end_of ends.now)) }
 {
     let totals = totals_of(runs)?;
     let fields = [

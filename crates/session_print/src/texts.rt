@@ -55,7 +55,8 @@ pub fn play_text(
     ends: &[PortEnd],
     journals: bool,
 ) -> Result<Bytes, NoMemory>
-    ensures { IfOk result (λ text. text.items ≡ text_of_play journals (session_of session.now) runs.now (map end_of ends.now)) }
+    ensures { IfOk result
+        (λ text. text.items ≡ text_of_play journals (session_of session.now) runs.now (map end_of ends.now)) }
 {
     let mut text = blank(used);
     put_play(alloc, &mut text, session, runs, ends, journals)?;
@@ -70,7 +71,8 @@ fn put_play(
     ends: &[PortEnd],
     journals: bool,
 ) -> Result<(), NoMemory>
-    ensures { OnOk result (string_bytes text.new ≡ string_bytes text.old ++ text_of_play journals (session_of session.now) runs.now (map end_of ends.now)) }
+    ensures { OnOk result (string_bytes text.new
+        ≡ string_bytes text.old ++ text_of_play journals (session_of session.now) runs.now (map end_of ends.now)) }
 {
     text.reserve(ROOM)?;
     put_calls_and_ports(alloc, text, session, runs, ends)?;
@@ -88,7 +90,10 @@ fn put_calls_and_ports(
     runs: &[PortRun],
     ends: &[PortEnd],
 ) -> Result<(), NoMemory>
-    ensures { OnOk result (string_bytes text.new ≡ string_bytes text.old ++ (calls_from 0 (session_of session.now) runs.now ++ ports_from 0 (session_of session.now) runs.now (map end_of ends.now))) }
+    ensures { OnOk result (string_bytes text.new
+        ≡ string_bytes text.old
+        ++ (calls_from 0 (session_of session.now) runs.now
+        ++ ports_from 0 (session_of session.now) runs.now (map end_of ends.now))) }
 {
     let sums = put_all_calls(alloc, text, session, runs)?;
     Ok(put_ports(text, session, runs, sums.as_slice(), ends)?)
@@ -110,7 +115,8 @@ fn put_all_calls(
     session: &Session,
     runs: &[PortRun],
 ) -> Result<Vec<Sums>, NoMemory>
-    ensures text { OnOk result (string_bytes text.new ≡ string_bytes text.old ++ calls_from 0 (session_of session.now) runs.now) }
+    ensures text { OnOk result
+        (string_bytes text.new ≡ string_bytes text.old ++ calls_from 0 (session_of session.now) runs.now) }
     ensures sums { IfOk result (λ sums. sums.items ≡ map sums_on runs.now) }
 {
     let mut sums = Vec::new(alloc);
@@ -127,7 +133,8 @@ fn put_each_call(
     sums: &mut Vec<Sums>,
 ) -> Result<(), NoMemory>
     requires { sums.old.items ≡ [] }
-    ensures text { OnOk result (string_bytes text.new ≡ string_bytes text.old ++ calls_from 0 (session_of session.now) runs.now) }
+    ensures text { OnOk result
+        (string_bytes text.new ≡ string_bytes text.old ++ calls_from 0 (session_of session.now) runs.now) }
     ensures sums { OnOk result (sums.new.items ≡ map sums_on runs.now) }
 {
     for (port, run) in runs.iter().enumerate() {
@@ -146,7 +153,8 @@ fn put_ports(
     ends: &[PortEnd],
 ) -> Result<(), AllocError>
     requires { sums.now ≡ map sums_on runs.now }
-    ensures { OnOk result (string_bytes text.new ≡ string_bytes text.old ++ ports_from 0 (session_of session.now) runs.now (map end_of ends.now)) }
+    ensures { OnOk result (string_bytes text.new
+        ≡ string_bytes text.old ++ ports_from 0 (session_of session.now) runs.now (map end_of ends.now)) }
 {
     for (port, run) in runs.iter().enumerate() {
         if let Some(end) = ends.get(port) {

@@ -2,7 +2,8 @@
 
 ghost use Rattle.std.specs.Prelude.{◌≡◌, ◌++◌, OnOk, codes, string_bytes};
 ghost use Rattle.tty_calls.specs.Plain.{call_of, answer_lent};
-ghost use Rattle.session_print.specs.Words.{verb_of as verb_in, errno_name as name_of_errno, signal_name as name_of_signal, counts_text, got_text, answer_text};
+ghost use Rattle.session_print.specs.Words.{verb_of as verb_in, errno_name as name_of_errno};
+ghost use Rattle.session_print.specs.Words.{signal_name as name_of_signal, counts_text, got_text, answer_text};
 
 use super::digits::{put_hex, put_number};
 use super::fields::put_fields;

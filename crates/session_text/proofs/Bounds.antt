@@ -1,5 +1,7 @@
 -- What the tests of a line say, each way.
-use Rattle.std.proofs.Common.{◌≡◌, ◌≢◌, ◌⊎◌, inl, inr, ℕ, ◌+◌, ◌-◌, ◌<◌, ◌≤◌, ◌==◌, ◌||◌, nat_lt, Bool, true, false, cond, List, [], ◌∷◌, length, Option, Some, None, refl, ap, sym, subst, ◌∙◌, arith, zero, suc, ltb-true, ltb-false, set, eq-eqb}
+use Rattle.std.proofs.Common.{◌≡◌, ◌≢◌, ◌⊎◌, inl, inr, ℕ, ◌+◌, ◌-◌, ◌<◌, ◌≤◌, ◌==◌, ◌||◌, nat_lt, Bool}
+use Rattle.std.proofs.Common.{true, false, cond, List, [], ◌∷◌, length, Option, Some, None, refl, ap}
+use Rattle.std.proofs.Common.{sym, subst, ◌∙◌, arith, zero, suc, ltb-true, ltb-false, set, eq-eqb}
 use Rattle.std.specs.Prelude.{slice_index}
 use Rattle.std.specs.Option.{option_or}
 use Rattle.std.proofs.lemmas.Bool.{eqb-true}
@@ -41,17 +43,25 @@ pub record Passes (stands has : Bool) (stood over : Bool) : Type 0 where
   pub fits : over ≡ false
 
 abbrev pub verdict_of : {R : Type 0} → Bool → Bool → Option R → Bool → Bool → R → R → R → Option R
-verdict_of stands has fault stood over word order limit = cond stands (cond has (option_or fault (cond stood (Some order) (cond over (Some limit) None))) (Some word)) (Some order)
+verdict_of stands has fault stood over word order limit =
+    cond stands (cond has (option_or fault (cond stood (Some order) (cond over (Some limit) None))) (Some word))
+    (Some order)
 
-pub passes_from : {R : Type 0} (stands has : Bool) (fault : Option R) (stood over : Bool) (word order limit : R) → verdict_of stands has fault stood over word order limit ≡ None → Passes stands has stood over × (fault ≡ None)
-passes_from true true None false false word order limit h = (record { at = refl; count = refl; once = refl; fits = refl }, refl)
+pub passes_from : {R : Type 0} (stands has : Bool) (fault : Option R) (stood over : Bool) (word order limit : R)
+    → verdict_of stands has fault stood over word order limit ≡ None
+    → Passes stands has stood over × (fault ≡ None)
+passes_from true true None false false word order limit h =
+    (record { at = refl; count = refl; once = refl; fits = refl }, refl)
 passes_from true true None true over word order limit h = cc
 passes_from true true None false true word order limit h = cc
 passes_from true true (Some r) stood over word order limit h = cc
 passes_from true false fault stood over word order limit h = cc
 passes_from false has fault stood over word order limit h = cc
 
-pub verdict_passes : {R : Type 0} (stands has : Bool) (fault : Option R) (stood over : Bool) (word order limit : R) → Passes stands has stood over → fault ≡ None → verdict_of stands has fault stood over word order limit ≡ None
+pub verdict_passes : {R : Type 0} (stands has : Bool) (fault : Option R) (stood over : Bool) (word order limit : R)
+    → Passes stands has stood over
+    → fault ≡ None
+    → verdict_of stands has fault stood over word order limit ≡ None
 verdict_passes true true None false false word order limit p f = refl
 verdict_passes true true None true over word order limit p f = absurd (let h = p.once in cc)
 verdict_passes true true None false true word order limit p f = absurd (let h = p.fits in cc)
@@ -86,7 +96,8 @@ spent_here left port n =
       | inr ge ↦
           let none = beyond left port ge in
           let same : left_after left port n ≡ left =
-          ap (set left port) (let e : slice_index left port - n ≡ slice_index left port = omega (arith, none) in e) ∙ set-get_or left port 0 in
+          ap (set left port) (let e : slice_index left port - n ≡ slice_index left port = omega (arith, none) in e)
+          ∙ set-get_or left port 0 in
           let out : slice_index left port ≡ slice_index left port - n = omega (arith, none) in
           ap (λ (xs : List ℕ). slice_index xs port) same ∙ out
     ]
@@ -99,11 +110,17 @@ same_port port p true e = inl (refl, eqb-true port p e)
 same_port port p false e = inr (refl, λ same. let yes = eq-eqb port p (sym same) in cc)
 
 -- so much was left before n were spent
-pub spent_more : (left : List ℕ) (port n x : ℕ) (rest : ℕ → ℕ) → n ≤ slice_index left port → ((p : ℕ) → on_port port p x + rest p ≤ slice_index (left_after left port n) p) → (p : ℕ) → on_port port p (n + x) + rest p ≤ slice_index left p
+pub spent_more : (left : List ℕ) (port n x : ℕ) (rest : ℕ → ℕ)
+    → n ≤ slice_index left port
+    → ((p : ℕ) → on_port port p x + rest p ≤ slice_index (left_after left port n) p)
+    → (p : ℕ)
+    → on_port port p (n + x) + rest p ≤ slice_index left p
 spent_more left port n x rest fits h p =
     elim (same_port port p (port == p) refl) [
       | inl same ↦
-          let here : slice_index (left_after left port n) p ≡ slice_index left p - n = subst (λ (q : ℕ). slice_index (left_after left port n) q ≡ slice_index left q - n) same.1 (spent_here left port n) in
+          let here : slice_index (left_after left port n) p ≡ slice_index left p - n =
+          subst (λ (q : ℕ). slice_index (left_after left port n) q ≡ slice_index left q - n) same.1
+          (spent_here left port n) in
           let fits' : n ≤ slice_index left p = subst (λ (q : ℕ). n ≤ slice_index left q) same.1 fits in
           let least : on_port port p x ≡ x = ap (λ b. cond b x 0) same.0 in
           let most : on_port port p (n + x) ≡ n + x = ap (λ b. cond b (n + x) 0) same.0 in
@@ -116,11 +133,16 @@ spent_more left port n x rest fits h p =
     ]
 
 -- .. and so much is left after it
-pub spent_less : (left : List ℕ) (port n x : ℕ) (rest : ℕ → ℕ) → ((p : ℕ) → on_port port p (n + x) + rest p ≤ slice_index left p) → (p : ℕ) → on_port port p x + rest p ≤ slice_index (left_after left port n) p
+pub spent_less : (left : List ℕ) (port n x : ℕ) (rest : ℕ → ℕ)
+    → ((p : ℕ) → on_port port p (n + x) + rest p ≤ slice_index left p)
+    → (p : ℕ)
+    → on_port port p x + rest p ≤ slice_index (left_after left port n) p
 spent_less left port n x rest h p =
     elim (same_port port p (port == p) refl) [
       | inl same ↦
-          let here : slice_index (left_after left port n) p ≡ slice_index left p - n = subst (λ (q : ℕ). slice_index (left_after left port n) q ≡ slice_index left q - n) same.1 (spent_here left port n) in
+          let here : slice_index (left_after left port n) p ≡ slice_index left p - n =
+          subst (λ (q : ℕ). slice_index (left_after left port n) q ≡ slice_index left q - n) same.1
+          (spent_here left port n) in
           let least : on_port port p x ≡ x = ap (λ b. cond b x 0) same.0 in
           let most : on_port port p (n + x) ≡ n + x = ap (λ b. cond b (n + x) 0) same.0 in
           omega (arith, h p, here, least, most)
@@ -131,7 +153,9 @@ spent_less left port n x rest h p =
           omega (arith, h p, there, least, most)
     ]
 
-pub spent_fits : (left : List ℕ) (port n x : ℕ) (rest : ℕ → ℕ) → ((p : ℕ) → on_port port p (n + x) + rest p ≤ slice_index left p) → n ≤ slice_index left port
+pub spent_fits : (left : List ℕ) (port n x : ℕ) (rest : ℕ → ℕ)
+    → ((p : ℕ) → on_port port p (n + x) + rest p ≤ slice_index left p)
+    → n ≤ slice_index left port
 spent_fits left port n x rest h =
     let most : on_port port port (n + x) ≡ n + x = ap (λ b. cond b (n + x) 0) (eq-eqb port port refl) in
     omega (arith, h port, most)

@@ -1,6 +1,7 @@
 -- Items that are taken one after the other, from where the reader stands to the end, are the rest of a good
 -- session; and such a rest is taken, and read as what it means.
-use Rattle.std.proofs.Common.{◌≡◌, ℕ, ◌==◌, ◌||◌, Bool, true, false, List, [], ◌∷◌, ◌++◌, length, Some, Ok, refl, ap, sym, subst, ◌∙◌, append_assoc, arith}
+use Rattle.std.proofs.Common.{◌≡◌, ℕ, ◌==◌, ◌||◌, Bool, true, false, List, [], ◌∷◌, ◌++◌}
+use Rattle.std.proofs.Common.{length, Some, Ok, refl, ap, sym, subst, ◌∙◌, append_assoc, arith}
 use Rattle.std.specs.Prelude.{flat_map, map, fold}
 use Rattle.std.specs.List.{AllByRecursion}
 use Rattle.std.proofs.lemmas.Bool.{eqb-true}
@@ -8,29 +9,38 @@ use Rattle.tty_calls.specs.Plain.{PlainCall}
 use Rattle.tty_calls.specs.Sessions.{PlainScript, PlainPhase, PlainSession}
 use Rattle.text_lines.specs.Values.{number_at, word_at}
 use Rattle.session_text.specs.declared.verbs.Verb.{Verb}
-use Rattle.session_text.specs.declared.verbs.Verb.TheVariants.{Session, Ports, Flip, Phase, Line, Clock, Caller, Tick, End, Step, Call}
+use Rattle.session_text.specs.declared.verbs.Verb.TheVariants.{Session, Ports, Flip, Phase, Line}
+use Rattle.session_text.specs.declared.verbs.Verb.TheVariants.{Clock, Caller, Tick, End, Step, Call}
 use Rattle.session_text.specs.declared.verbs.LineVerb.{LineVerb}
 use Rattle.session_text.specs.declared.verbs.CallVerb.{CallVerb}
 use Rattle.session_text.specs.declared.stands.Place.{Place}
 use Rattle.session_text.specs.declared.stands.Place.TheVariants as place
 use Rattle.session_text.specs.Verbs.{verb_text}
-use Rattle.session_text.specs.Stands.{PlainStand, verdict_on, stand_after, in_phase, is_before, is_head, is_ended, is_line, is_clock, is_caller, may_stand, is_good}
+use Rattle.session_text.specs.Stands.{PlainStand, verdict_on, stand_after, in_phase, is_before, is_head}
+use Rattle.session_text.specs.Stands.{is_ended, is_line, is_clock, is_caller, may_stand, is_good}
 use Rattle.session_text.specs.Meaning.{steps_in, call_in, empty_phase, with_steps, with_ticks, with_script}
 use Rattle.session_text.specs.Drafts.{PlainDraft, draft_after, session_with, with_call}
-use Rattle.session_text.specs.Grammar.{Item, Block, block_items, phase_item, phase_items, end_item, steps_by, calls_by, with_block, phase_meaning, is_inside, opens_block, IsGoodItem}
-use Rattle.session_text.proofs.Rests.{Fits, opening_at, Rest, rest_items, block_with, step_before, step_after, tick_before, tick_after, call_before, call_after, line_before, line_after, clock_before, clock_after, caller_before, caller_after, phase_before, phase_after, end_before, line_is, clock_is, caller_is}
+use Rattle.session_text.specs.Grammar.{Item, Block, block_items, phase_item, phase_items, end_item, steps_by}
+use Rattle.session_text.specs.Grammar.{calls_by, with_block, phase_meaning, is_inside, opens_block, IsGoodItem}
+use Rattle.session_text.proofs.Rests.{Fits, opening_at, Rest, rest_items, block_with, step_before, step_after}
+use Rattle.session_text.proofs.Rests.{tick_before, tick_after, call_before, call_after, line_before}
+use Rattle.session_text.proofs.Rests.{line_after, clock_before, clock_after, caller_before, caller_after}
+use Rattle.session_text.proofs.Rests.{phase_before, phase_after, end_before, line_is, clock_is, caller_is}
 use Rattle.session_text.proofs.Judged.{is_start, good_fits, fits_good, line_verb_read, call_verb_read, past_in_phase}
 use Rattle.session_text.proofs.Fits.{good_parts}
 use Rattle.session_text.proofs.Added.{with_own, own_nothing, steps_twice, tick_own, calls_more, calls_at_end}
 
 abbrev pub Run : PlainStand → List Item → Type 0
 Run s [] = is_ended s.place ≡ true
-Run s (item ∷ items) = (verdict_on s (verb_text item.verb) item.arguments ≡ Ok item.verb) × Run (stand_after s item.verb item.arguments) items
+Run s (item ∷ items) =
+    (verdict_on s (verb_text item.verb) item.arguments ≡ Ok item.verb)
+    × Run (stand_after s item.verb item.arguments) items
 
 -- the session that items are read as
 abbrev pub session_read : PlainStand → PlainDraft → List Item → PlainSession
 session_read s d [] = session_with s d
-session_read s d (item ∷ items) = session_read (stand_after s item.verb item.arguments) (draft_after s d item.verb item.arguments) items
+session_read s d (item ∷ items) =
+    session_read (stand_after s item.verb item.arguments) (draft_after s d item.verb item.arguments) items
 
 pub record Follows (s : PlainStand) (items : List Item) : Type 0 where
   pub own : List Item
@@ -88,7 +98,8 @@ nothing_stands (Call verb) h = cc
 pub ended_run : (items : List Item) (s : PlainStand) → s.place ≡ place.Ended → Run s items → items ≡ []
 ended_run [] s at run = refl
 ended_run (item ∷ items) s at run =
-    let fits = good_fits s (verb_text item.verb) item.arguments item.verb (subst (λ (p : Place). is_start p ≡ false) (sym at) refl) run.0 in
+    let fits = good_fits s (verb_text item.verb) item.arguments item.verb
+    (subst (λ (p : Place). is_start p ≡ false) (sym at) refl) run.0 in
     absurd (nothing_stands item.verb (subst (λ (p : Place). may_stand item.verb p ≡ true) at fits.1.at))
 
 -- ---- no words follow `phase` and `end`
@@ -109,26 +120,40 @@ own_empty ports (item ∷ own) good = let none = good.0.inside in cc
 
 -- ---- what is taken is a rest
 
-pub phase_items_more : (blocks : List Block) (phases : List (List Block)) → rest_items [] [] (blocks ∷ phases) ≡ phase_item ∷ rest_items [] blocks phases
-phase_items_more blocks phases = ap (λ (xs : List Item). phase_item ∷ xs) (append_assoc (flat_map block_items blocks) (flat_map phase_items phases) (end_item ∷ []))
+pub phase_items_more : (blocks : List Block) (phases : List (List Block))
+    → rest_items [] [] (blocks ∷ phases) ≡ phase_item ∷ rest_items [] blocks phases
+phase_items_more blocks phases = ap (λ (xs : List Item). phase_item ∷ xs)
+    (append_assoc (flat_map block_items blocks) (flat_map phase_items phases) (end_item ∷ []))
 
-block_items_more : (opening : Item) (items : List Item) (blocks : List Block) (phases : List (List Block)) → rest_items [] (record { opening = opening; items = items } ∷ blocks) phases ≡ opening ∷ rest_items items blocks phases
+block_items_more : (opening : Item) (items : List Item) (blocks : List Block) (phases : List (List Block))
+    → rest_items [] (record { opening = opening; items = items } ∷ blocks) phases
+    ≡ opening ∷ rest_items items blocks phases
 block_items_more opening items blocks phases =
-    ap (λ (xs : List Item). opening ∷ xs) (append_assoc items (flat_map block_items blocks) (flat_map phase_items phases ++ end_item ∷ []))
+    ap (λ (xs : List Item). opening ∷ xs)
+    (append_assoc items (flat_map block_items blocks) (flat_map phase_items phases ++ end_item ∷ []))
 
 abbrev pub item_with : Verb → List (List ℕ) → Item
 item_with verb arguments = record { verb = verb; arguments = arguments }
 
-block_follows : (s : PlainStand) (verb : Verb) (arguments : List (List ℕ)) (items own : List Item) (blocks : List Block) (phases : List (List Block)) → Rest s [] (block_with verb arguments own ∷ blocks) phases → items ≡ rest_items own blocks phases → Follows s (item_with verb arguments ∷ items)
+block_follows : (s : PlainStand) (verb : Verb) (arguments : List (List ℕ)) (items own : List Item) (blocks : List Block)
+    (phases : List (List Block))
+    → Rest s [] (block_with verb arguments own ∷ blocks) phases
+    → items ≡ rest_items own blocks phases
+    → Follows s (item_with verb arguments ∷ items)
 block_follows s verb arguments items own blocks phases rest same = record {
   own = [];
   blocks = block_with verb arguments own ∷ blocks;
   phases = phases;
   rest = rest;
-  items_are = ap (λ (xs : List Item). item_with verb arguments ∷ xs) same ∙ sym (block_items_more (item_with verb arguments) own blocks phases);
+  items_are =
+      ap (λ (xs : List Item). item_with verb arguments ∷ xs) same
+      ∙ sym (block_items_more (item_with verb arguments) own blocks phases);
 }
 
-own_follows : (s : PlainStand) (item : Item) (items own : List Item) (blocks : List Block) (phases : List (List Block)) → Rest s (item ∷ own) blocks phases → items ≡ rest_items own blocks phases → Follows s (item ∷ items)
+own_follows : (s : PlainStand) (item : Item) (items own : List Item) (blocks : List Block) (phases : List (List Block))
+    → Rest s (item ∷ own) blocks phases
+    → items ≡ rest_items own blocks phases
+    → Follows s (item ∷ items)
 own_follows s item items own blocks phases rest same = record {
   own = item ∷ own;
   blocks = blocks;
@@ -143,63 +168,92 @@ pub record PhasesFollow (s : PlainStand) (items : List Item) : Type 0 where
   pub rest : Rest s [] [] phases
   pub items_are : items ≡ rest_items [] [] phases
 
-pub phase_follows : (s : PlainStand) (arguments : List (List ℕ)) (items : List Item) → Fits s Phase arguments → Follows (stand_after s Phase arguments) items → PhasesFollow s (item_with Phase arguments ∷ items)
+pub phase_follows : (s : PlainStand) (arguments : List (List ℕ)) (items : List Item)
+    → Fits s Phase arguments
+    → Follows (stand_after s Phase arguments) items
+    → PhasesFollow s (item_with Phase arguments ∷ items)
 phase_follows s arguments items fits f =
     let none = own_empty s.ports f.own f.rest.own_good in
     let bare = no_arguments s.ports arguments fits.good in
-    let rest : Rest (stand_after s Phase arguments) [] f.blocks f.phases = subst (λ (own : List Item). Rest (stand_after s Phase arguments) own f.blocks f.phases) none f.rest in
-    let same : items ≡ rest_items [] f.blocks f.phases = f.items_are ∙ ap (λ (own : List Item). rest_items own f.blocks f.phases) none in record {
+    let rest : Rest (stand_after s Phase arguments) [] f.blocks f.phases =
+    subst (λ (own : List Item). Rest (stand_after s Phase arguments) own f.blocks f.phases) none f.rest in
+    let same : items ≡ rest_items [] f.blocks f.phases =
+    f.items_are ∙ ap (λ (own : List Item). rest_items own f.blocks f.phases) none in record {
       phases = f.blocks ∷ f.phases;
       rest = phase_before s arguments f.blocks f.phases fits rest;
-      items_are = ap (λ (words : List (List ℕ)). item_with Phase words ∷ items) bare ∙ ap (λ (xs : List Item). phase_item ∷ xs) same ∙ sym (phase_items_more f.blocks f.phases);
+      items_are =
+          ap (λ (words : List (List ℕ)). item_with Phase words ∷ items) bare
+          ∙ ap (λ (xs : List Item). phase_item ∷ xs) same
+          ∙ sym (phase_items_more f.blocks f.phases);
     }
 
-pub end_follows : (s : PlainStand) (arguments : List (List ℕ)) (items : List Item) → Fits s End arguments → items ≡ [] → PhasesFollow s (item_with End arguments ∷ items)
+pub end_follows : (s : PlainStand) (arguments : List (List ℕ)) (items : List Item)
+    → Fits s End arguments
+    → items ≡ []
+    → PhasesFollow s (item_with End arguments ∷ items)
 end_follows s arguments items fits none = record {
   phases = [];
   rest = end_before s;
-  items_are = ap (λ (words : List (List ℕ)). item_with End words ∷ items) (no_end_arguments s.ports arguments fits.good) ∙ ap (λ (xs : List Item). end_item ∷ xs) none;
+  items_are =
+      ap (λ (words : List (List ℕ)). item_with End words ∷ items) (no_end_arguments s.ports arguments fits.good)
+      ∙ ap (λ (xs : List Item). end_item ∷ xs) none;
 }
 
 no_block_follows : (s : PlainStand) (items : List Item) → PhasesFollow s items → Follows s items
 no_block_follows s items f = record { own = []; blocks = []; phases = f.phases; rest = f.rest; items_are = f.items_are }
 
-verb_follows : (verb : Verb) (arguments : List (List ℕ)) (items : List Item) (s : PlainStand) → in_phase s.place ≡ true → Fits s verb arguments → Run (stand_after s verb arguments) items
-    → ((next : PlainStand) → in_phase next.place ≡ true → Run next items → Follows next items) → Follows s (item_with verb arguments ∷ items)
+verb_follows : (verb : Verb) (arguments : List (List ℕ)) (items : List Item) (s : PlainStand)
+    → in_phase s.place ≡ true
+    → Fits s verb arguments
+    → Run (stand_after s verb arguments) items
+    → ((next : PlainStand) → in_phase next.place ≡ true → Run next items → Follows next items)
+    → Follows s (item_with verb arguments ∷ items)
 verb_follows Session arguments items s at fits run later = absurd (let none = fits.at in cc)
 verb_follows Ports arguments items s at fits run later = absurd (head_no_phase s.place fits.at at)
 verb_follows Flip arguments items s at fits run later = absurd (before_no_phase s.place fits.at at)
-verb_follows Phase arguments items s at fits run later = no_block_follows s (item_with Phase arguments ∷ items) (phase_follows s arguments items fits (later (stand_after s Phase arguments) refl run))
+verb_follows Phase arguments items s at fits run later =
+    no_block_follows s (item_with Phase arguments ∷ items)
+    (phase_follows s arguments items fits (later (stand_after s Phase arguments) refl run))
 verb_follows Line arguments items s at fits run later =
     let f = later (stand_after s Line arguments) refl run in
-    block_follows s Line arguments items f.own f.blocks f.phases (line_before s arguments f.own f.blocks f.phases fits f.rest) f.items_are
+    block_follows s Line arguments items f.own f.blocks f.phases
+    (line_before s arguments f.own f.blocks f.phases fits f.rest) f.items_are
 verb_follows Clock arguments items s at fits run later =
     let f = later (stand_after s Clock arguments) refl run in
-    block_follows s Clock arguments items f.own f.blocks f.phases (clock_before s arguments f.own f.blocks f.phases fits f.rest) f.items_are
+    block_follows s Clock arguments items f.own f.blocks f.phases
+    (clock_before s arguments f.own f.blocks f.phases fits f.rest) f.items_are
 verb_follows Caller arguments items s at fits run later =
     let f = later (stand_after s Caller arguments) refl run in
-    block_follows s Caller arguments items f.own f.blocks f.phases (caller_before s arguments f.own f.blocks f.phases fits f.rest) f.items_are
+    block_follows s Caller arguments items f.own f.blocks f.phases
+    (caller_before s arguments f.own f.blocks f.phases fits f.rest) f.items_are
 verb_follows Tick arguments items s at fits run later =
     let f = later (stand_after s Tick arguments) at run in
-    own_follows s (item_with Tick arguments) items f.own f.blocks f.phases (tick_before s arguments f.own f.blocks f.phases fits f.rest) f.items_are
-verb_follows End arguments items s at fits run later = no_block_follows s (item_with End arguments ∷ items) (end_follows s arguments items fits (ended_run items (stand_after s End arguments) refl run))
+    own_follows s (item_with Tick arguments) items f.own f.blocks f.phases
+    (tick_before s arguments f.own f.blocks f.phases fits f.rest) f.items_are
+verb_follows End arguments items s at fits run later =
+    no_block_follows s (item_with End arguments ∷ items)
+    (end_follows s arguments items fits (ended_run items (stand_after s End arguments) refl run))
 verb_follows (Step verb) arguments items s at fits run later =
     let f = later (stand_after s (Step verb) arguments) at run in
-    own_follows s (item_with (Step verb) arguments) items f.own f.blocks f.phases (step_before s verb arguments f.own f.blocks f.phases fits f.rest) f.items_are
+    own_follows s (item_with (Step verb) arguments) items f.own f.blocks f.phases
+    (step_before s verb arguments f.own f.blocks f.phases fits f.rest) f.items_are
 verb_follows (Call verb) arguments items s at fits run later =
     let f = later (stand_after s (Call verb) arguments) at run in
-    own_follows s (item_with (Call verb) arguments) items f.own f.blocks f.phases (call_before s verb arguments f.own f.blocks f.phases fits f.rest) f.items_are
+    own_follows s (item_with (Call verb) arguments) items f.own f.blocks f.phases
+    (call_before s verb arguments f.own f.blocks f.phases fits f.rest) f.items_are
 
 pub run_follows : (items : List Item) (s : PlainStand) → in_phase s.place ≡ true → Run s items → Follows s items
 run_follows [] s at run = absurd (ended_no_phase s.place run at)
 run_follows (item ∷ items) s at run =
     let fits = good_fits s (verb_text item.verb) item.arguments item.verb (past_in_phase s.place at) run.0 in
-    verb_follows item.verb item.arguments items s at fits.1 run.1 (λ next there onwards. run_follows items next there onwards)
+    verb_follows item.verb item.arguments items s at fits.1 run.1
+    (λ next there onwards. run_follows items next there onwards)
 
 -- ---- a rest is taken, and read as what it means
 
 -- the session of a rest: its head, the phases before, the open phase with what is added to it, and the further phases
-abbrev pub rest_meant : PlainStand → List ℕ → List PlainPhase → PlainPhase → List Item → List Block → List (List Block) → PlainSession
+abbrev pub rest_meant : PlainStand → List ℕ → List PlainPhase → PlainPhase → List Item → List Block → List (List Block)
+    → PlainSession
 rest_meant s flips done phase own blocks phases = record {
   version = s.version;
   ports = s.ports;
@@ -211,14 +265,22 @@ abbrev pub draft_with : List ℕ → List PlainPhase → PlainPhase → PlainDra
 draft_with flips done phase = record { flips = flips; phases = done; open_phase = Some phase }
 
 abbrev pub Meant : PlainStand → List Item → List Item → List Block → List (List Block) → Type 0
-Meant s items own blocks phases = (flips : List ℕ) (done : List PlainPhase) (phase : PlainPhase) → session_read s (draft_with flips done phase) items ≡ rest_meant s flips done phase own blocks phases
+Meant s items own blocks phases =
+    (flips : List ℕ) (done : List PlainPhase) (phase : PlainPhase)
+    → session_read s (draft_with flips done phase) items ≡ rest_meant s flips done phase own blocks phases
 
-pub record Taken (s : PlainStand) (items own : List Item) (blocks : List Block) (phases : List (List Block)) : Type 0 where
+pub record Taken (s : PlainStand) (items own : List Item) (blocks : List Block)
+    (phases : List (List Block)) : Type 0 where
   pub run : Run s items
   pub meant : Meant s items own blocks phases
 
 abbrev pub Takes : List Item → Type 0
-Takes items = (s : PlainStand) (own : List Item) (blocks : List Block) (phases : List (List Block)) → in_phase s.place ≡ true → Rest s own blocks phases → items ≡ rest_items own blocks phases → Taken s items own blocks phases
+Takes items =
+    (s : PlainStand) (own : List Item) (blocks : List Block) (phases : List (List Block))
+    → in_phase s.place ≡ true
+    → Rest s own blocks phases
+    → items ≡ rest_items own blocks phases
+    → Taken s items own blocks phases
 
 -- the open block's first item stands where such an item may
 inside_line : (at : Place) (verb : LineVerb) → is_inside (opening_at at) (Step verb) ≡ true → is_line at ≡ true
@@ -264,56 +326,117 @@ inside_only Caller (Call verb) h = refl
 inside_only opening verb h = cc
 
 -- the same is added, whether at once or one by one
-step_added : (at : Place) (port : ℕ) (verb : LineVerb) (arguments : List (List ℕ)) (own : List Item) (phase : PlainPhase) → at ≡ place.Line
-    → with_own at port own (with_steps port (steps_in verb arguments) phase) ≡ with_own at port (item_with (Step verb) arguments ∷ own) phase
+step_added : (at : Place) (port : ℕ) (verb : LineVerb) (arguments : List (List ℕ)) (own : List Item)
+    (phase : PlainPhase)
+    → at ≡ place.Line
+    → with_own at port own (with_steps port (steps_in verb arguments) phase)
+    ≡ with_own at port (item_with (Step verb) arguments ∷ own) phase
 step_added at port verb arguments own phase e =
-    subst (λ (p : Place). with_own p port own (with_steps port (steps_in verb arguments) phase) ≡ with_own p port (item_with (Step verb) arguments ∷ own) phase) (sym e)
+    subst (λ (p : Place).
+    with_own p port own (with_steps port (steps_in verb arguments) phase)
+    ≡ with_own p port (item_with (Step verb) arguments ∷ own) phase)
+    (sym e)
     (steps_twice port (steps_in verb arguments) (flat_map steps_by own) phase)
 
-tick_added : (at : Place) (port : ℕ) (arguments : List (List ℕ)) (own : List Item) (phase : PlainPhase) → at ≡ place.Clock
-    → with_own at port own (with_ticks port (number_at arguments 0) phase) ≡ with_own at port (item_with Tick arguments ∷ own) phase
+tick_added : (at : Place) (port : ℕ) (arguments : List (List ℕ)) (own : List Item) (phase : PlainPhase)
+    → at ≡ place.Clock
+    → with_own at port own (with_ticks port (number_at arguments 0) phase)
+    ≡ with_own at port (item_with Tick arguments ∷ own) phase
 tick_added at port arguments own phase e =
-    subst (λ (p : Place). with_own p port own (with_ticks port (number_at arguments 0) phase) ≡ with_own p port (item_with Tick arguments ∷ own) phase) (sym e)
+    subst (λ (p : Place).
+    with_own p port own (with_ticks port (number_at arguments 0) phase)
+    ≡ with_own p port (item_with Tick arguments ∷ own) phase)
+    (sym e)
     (tick_own port arguments own (number_at arguments 0) phase refl)
 
 abbrev pub phase_with_call : PlainCall → PlainPhase → PlainPhase
 phase_with_call call phase = record phase { callers = with_call call phase.callers }
 
-call_added : (at : Place) (port : ℕ) (verb : CallVerb) (arguments : List (List ℕ)) (own : List Item) (phase : PlainPhase) → at ≡ place.Caller
-    → with_own at port own (phase_with_call (call_in verb arguments) phase) ≡ with_own at port (item_with (Call verb) arguments ∷ own) phase
+call_added : (at : Place) (port : ℕ) (verb : CallVerb) (arguments : List (List ℕ)) (own : List Item)
+    (phase : PlainPhase)
+    → at ≡ place.Caller
+    → with_own at port own (phase_with_call (call_in verb arguments) phase)
+    ≡ with_own at port (item_with (Call verb) arguments ∷ own) phase
 call_added at port verb arguments own phase e =
-    subst (λ (p : Place). with_own p port own (phase_with_call (call_in verb arguments) phase) ≡ with_own p port (item_with (Call verb) arguments ∷ own) phase) (sym e)
-    (ap (λ (scripts : List PlainScript). record phase { callers = scripts }) (calls_more (call_in verb arguments) (flat_map calls_by own) phase.callers))
+    subst (λ (p : Place).
+    with_own p port own (phase_with_call (call_in verb arguments) phase)
+    ≡ with_own p port (item_with (Call verb) arguments ∷ own) phase)
+    (sym e)
+    (ap (λ (scripts : List PlainScript). record phase { callers = scripts })
+    (calls_more (call_in verb arguments) (flat_map calls_by own) phase.callers))
 
 -- the rest's session at an equal open phase
-meant_at : (s : PlainStand) (flips : List ℕ) (done : List PlainPhase) (blocks : List Block) (phases : List (List Block)) (one other : PlainPhase) → one ≡ other
-    → (let r : PlainSession = record { version = s.version; ports = s.ports; flips = flips; phases = done ++ (fold with_block one blocks ∷ map (phase_meaning s.ports) phases) } in r)
-    ≡ record { version = s.version; ports = s.ports; flips = flips; phases = done ++ (fold with_block other blocks ∷ map (phase_meaning s.ports) phases) }
+meant_at : (s : PlainStand) (flips : List ℕ) (done : List PlainPhase) (blocks : List Block) (phases : List (List Block))
+    (one other : PlainPhase)
+    → one ≡ other
+    → (let r : PlainSession = record {
+      version = s.version;
+      ports = s.ports;
+      flips = flips;
+      phases = done ++ (fold with_block one blocks ∷ map (phase_meaning s.ports) phases);
+    } in
+    r)
+    ≡ record {
+      version = s.version;
+      ports = s.ports;
+      flips = flips;
+      phases = done ++ (fold with_block other blocks ∷ map (phase_meaning s.ports) phases);
+    }
 meant_at s flips done blocks phases one other e =
-    ap (λ (phase : PlainPhase). let r : PlainSession = record { version = s.version; ports = s.ports; flips = flips; phases = done ++ (fold with_block phase blocks ∷ map (phase_meaning s.ports) phases) } in r) e
+    ap (λ (phase : PlainPhase).
+    let r : PlainSession = record {
+      version = s.version;
+      ports = s.ports;
+      flips = flips;
+      phases = done ++ (fold with_block phase blocks ∷ map (phase_meaning s.ports) phases);
+    } in
+    r) e
 
-own_taken : (verb : Verb) (arguments : List (List ℕ)) (items : List Item) → Takes items → (s : PlainStand) (own : List Item) (blocks : List Block) (phases : List (List Block))
-    → in_phase s.place ≡ true → Rest s (item_with verb arguments ∷ own) blocks phases → items ≡ rest_items own blocks phases → stands_inside verb ≡ true → Taken s (item_with verb arguments ∷ items) (item_with verb arguments ∷ own) blocks phases
+own_taken : (verb : Verb) (arguments : List (List ℕ)) (items : List Item)
+    → Takes items
+    → (s : PlainStand) (own : List Item) (blocks : List Block) (phases : List (List Block))
+    → in_phase s.place ≡ true
+    → Rest s (item_with verb arguments ∷ own) blocks phases
+    → items ≡ rest_items own blocks phases
+    → stands_inside verb ≡ true
+    → Taken s (item_with verb arguments ∷ items) (item_with verb arguments ∷ own) blocks phases
 own_taken Tick arguments items takes s own blocks phases at r same inside =
     let clock = inside_clock s.place r.own_good.0.inside in
     let both = tick_after s arguments own blocks phases clock r in
     let rest = takes (stand_after s Tick arguments) own blocks phases at both.1 same in record {
       run = (fits_good s (verb_text Tick) arguments Tick (past_in_phase s.place at) refl both.0, rest.run);
-      meant = λ flips done phase. rest.meant flips done (with_ticks s.port (number_at arguments 0) phase) ∙ meant_at s flips done blocks phases _ _ (tick_added s.place s.port arguments own phase (clock_is s.place clock));
+      meant = λ flips done phase.
+          rest.meant flips done (with_ticks s.port (number_at arguments 0) phase)
+          ∙ meant_at s flips done blocks phases _ _
+          (tick_added s.place s.port arguments own phase (clock_is s.place clock));
     }
 own_taken (Step verb) arguments items takes s own blocks phases at r same inside =
     let line = inside_line s.place verb r.own_good.0.inside in
     let both = step_after s verb arguments own blocks phases line r in
     let rest = takes (stand_after s (Step verb) arguments) own blocks phases at both.1 same in record {
-      run = (fits_good s (verb_text (Step verb)) arguments (Step verb) (past_in_phase s.place at) (line_verb_read s.version verb) both.0, rest.run);
-      meant = λ flips done phase. rest.meant flips done (with_steps s.port (steps_in verb arguments) phase) ∙ meant_at s flips done blocks phases _ _ (step_added s.place s.port verb arguments own phase (line_is s.place line));
+      run = (
+        fits_good s (verb_text (Step verb)) arguments (Step verb) (past_in_phase s.place at)
+            (line_verb_read s.version verb) both.0,
+        rest.run,
+      );
+      meant = λ flips done phase.
+          rest.meant flips done (with_steps s.port (steps_in verb arguments) phase)
+          ∙ meant_at s flips done blocks phases _ _
+          (step_added s.place s.port verb arguments own phase (line_is s.place line));
     }
 own_taken (Call verb) arguments items takes s own blocks phases at r same inside =
     let caller = inside_caller s.place verb r.own_good.0.inside in
     let both = call_after s verb arguments own blocks phases caller r in
     let rest = takes (stand_after s (Call verb) arguments) own blocks phases at both.1 same in record {
-      run = (fits_good s (verb_text (Call verb)) arguments (Call verb) (past_in_phase s.place at) (call_verb_read s.version verb) both.0, rest.run);
-      meant = λ flips done phase. rest.meant flips done (phase_with_call (call_in verb arguments) phase) ∙ meant_at s flips done blocks phases _ _ (call_added s.place s.port verb arguments own phase (caller_is s.place caller));
+      run = (
+        fits_good s (verb_text (Call verb)) arguments (Call verb) (past_in_phase s.place at)
+            (call_verb_read s.version verb) both.0,
+        rest.run,
+      );
+      meant = λ flips done phase.
+          rest.meant flips done (phase_with_call (call_in verb arguments) phase)
+          ∙ meant_at s flips done blocks phases _ _
+          (call_added s.place s.port verb arguments own phase (caller_is s.place caller));
     }
 own_taken Session arguments items takes s own blocks phases at r same inside = cc
 own_taken Ports arguments items takes s own blocks phases at r same inside = cc
@@ -324,28 +447,46 @@ own_taken Clock arguments items takes s own blocks phases at r same inside = cc
 own_taken Caller arguments items takes s own blocks phases at r same inside = cc
 own_taken End arguments items takes s own blocks phases at r same inside = cc
 
-block_taken : (verb : Verb) (arguments : List (List ℕ)) (items : List Item) → Takes items → (s : PlainStand) (own : List Item) (blocks : List Block) (phases : List (List Block))
-    → in_phase s.place ≡ true → Rest s [] (block_with verb arguments own ∷ blocks) phases → items ≡ rest_items own blocks phases → opens_block verb ≡ true → Taken s (item_with verb arguments ∷ items) [] (block_with verb arguments own ∷ blocks) phases
+block_taken : (verb : Verb) (arguments : List (List ℕ)) (items : List Item)
+    → Takes items
+    → (s : PlainStand) (own : List Item) (blocks : List Block) (phases : List (List Block))
+    → in_phase s.place ≡ true
+    → Rest s [] (block_with verb arguments own ∷ blocks) phases
+    → items ≡ rest_items own blocks phases
+    → opens_block verb ≡ true
+    → Taken s (item_with verb arguments ∷ items) [] (block_with verb arguments own ∷ blocks) phases
 block_taken Line arguments items takes s own blocks phases at r same one =
     let both = line_after s arguments own blocks phases at r in
     let rest = takes (stand_after s Line arguments) own blocks phases refl both.1 same in record {
       run = (fits_good s (verb_text Line) arguments Line (past_in_phase s.place at) refl both.0, rest.run);
-      meant = λ flips done phase. rest.meant flips done phase ∙ meant_at s flips done blocks phases _ _ (ap (λ (p : PlainPhase). with_block p (block_with Line arguments own)) (sym (own_nothing s.place s.port phase)));
+      meant = λ flips done phase.
+          rest.meant flips done phase
+          ∙ meant_at s flips done blocks phases _ _
+          (ap (λ (p : PlainPhase). with_block p (block_with Line arguments own))
+          (sym (own_nothing s.place s.port phase)));
     }
 block_taken Clock arguments items takes s own blocks phases at r same one =
     let both = clock_after s arguments own blocks phases at r in
     let rest = takes (stand_after s Clock arguments) own blocks phases refl both.1 same in record {
       run = (fits_good s (verb_text Clock) arguments Clock (past_in_phase s.place at) refl both.0, rest.run);
-      meant = λ flips done phase. rest.meant flips done phase ∙ meant_at s flips done blocks phases _ _ (ap (λ (p : PlainPhase). with_block p (block_with Clock arguments own)) (sym (own_nothing s.place s.port phase)));
+      meant = λ flips done phase.
+          rest.meant flips done phase
+          ∙ meant_at s flips done blocks phases _ _
+          (ap (λ (p : PlainPhase). with_block p (block_with Clock arguments own))
+          (sym (own_nothing s.place s.port phase)));
     }
 block_taken Caller arguments items takes s own blocks phases at r same one =
     let both = caller_after s arguments own blocks phases at r in
     let rest = takes (stand_after s Caller arguments) own blocks phases refl both.1 same in
-    let script : PlainScript = record { port = number_at arguments 1; name = word_at arguments 0; calls = [] } in record {
+    let script : PlainScript = record { port = number_at arguments 1; name = word_at arguments 0; calls = [] } in
+    record {
       run = (fits_good s (verb_text Caller) arguments Caller (past_in_phase s.place at) refl both.0, rest.run);
       meant = λ flips done phase. rest.meant flips done (with_script script phase)
-          ∙ meant_at s flips done blocks phases _ _ (ap (λ (scripts : List PlainScript). record phase { callers = scripts }) (calls_at_end (flat_map calls_by own) phase.callers script)
-          ∙ ap (λ (p : PlainPhase). with_block p (block_with Caller arguments own)) (sym (own_nothing s.place s.port phase)));
+          ∙ meant_at s flips done blocks phases _ _
+          (ap (λ (scripts : List PlainScript). record phase { callers = scripts })
+          (calls_at_end (flat_map calls_by own) phase.callers script)
+          ∙ ap (λ (p : PlainPhase). with_block p (block_with Caller arguments own))
+          (sym (own_nothing s.place s.port phase)));
     }
 block_taken Session arguments items takes s own blocks phases at r same one = cc
 block_taken Ports arguments items takes s own blocks phases at r same one = cc
@@ -360,18 +501,28 @@ or_right : (a b : Bool) → b ≡ true → (a || b) ≡ true
 or_right true b h = refl
 or_right false b h = h
 
-phase_taken : (items : List Item) → Takes items → (s : PlainStand) (blocks : List Block) (phases : List (List Block)) → in_phase s.place ≡ true → Rest s [] [] (blocks ∷ phases) → items ≡ rest_items [] blocks phases → Taken s (phase_item ∷ items) [] [] (blocks ∷ phases)
+phase_taken : (items : List Item)
+    → Takes items
+    → (s : PlainStand) (blocks : List Block) (phases : List (List Block))
+    → in_phase s.place ≡ true
+    → Rest s [] [] (blocks ∷ phases)
+    → items ≡ rest_items [] blocks phases
+    → Taken s (phase_item ∷ items) [] [] (blocks ∷ phases)
 phase_taken items takes s blocks phases at r same =
     let both = phase_after s blocks phases (or_right (is_before s.place) (in_phase s.place) at) r in
     let rest = takes (stand_after s Phase []) [] blocks phases refl both.1 same in record {
       run = (fits_good s (verb_text Phase) [] Phase (past_in_phase s.place at) refl both.0, rest.run);
       meant = λ flips done phase. rest.meant flips (done ++ phase ∷ []) (empty_phase s.ports)
-          ∙ ap (λ (ps : List PlainPhase). let r : PlainSession = record { version = s.version; ports = s.ports; flips = flips; phases = ps } in r) (append_assoc done (phase ∷ []) (phase_meaning s.ports blocks ∷ map (phase_meaning s.ports) phases))
+          ∙ ap
+          (λ (ps : List PlainPhase).
+          let r : PlainSession = record { version = s.version; ports = s.ports; flips = flips; phases = ps } in r)
+          (append_assoc done (phase ∷ []) (phase_meaning s.ports blocks ∷ map (phase_meaning s.ports) phases))
           ∙ meant_at s flips done [] (blocks ∷ phases) _ _ (sym (own_nothing s.place s.port phase));
     }
 
 end_fits : (s : PlainStand) → in_phase s.place ≡ true → Fits s End []
-end_fits s at = record { at = or_right (is_before s.place) (in_phase s.place) at; good = refl; once = refl; within = refl }
+end_fits s at =
+    record { at = or_right (is_before s.place) (in_phase s.place) at; good = refl; once = refl; within = refl }
 
 end_taken : (s : PlainStand) → in_phase s.place ≡ true → Taken s (end_item ∷ []) [] [] []
 end_taken s at = record {
@@ -397,21 +548,26 @@ takes_next item items takes s (first ∷ own) blocks phases at r same =
     let here = head_is item first items (rest_items own blocks phases) same in
     let there = tail_is item first items (rest_items own blocks phases) same in
     subst (λ (i : Item). Taken s (i ∷ items) (first ∷ own) blocks phases) (sym here)
-    (own_taken first.verb first.arguments items takes s own blocks phases at r there (inside_only (opening_at s.place) first.verb r.own_good.0.inside))
+    (own_taken first.verb first.arguments items takes s own blocks phases at r there
+    (inside_only (opening_at s.place) first.verb r.own_good.0.inside))
 takes_next item items takes s [] (block ∷ blocks) phases at r same =
     let parted = same ∙ block_items_more block.opening block.items blocks phases in
     let here = head_is item block.opening items (rest_items block.items blocks phases) parted in
     let there = tail_is item block.opening items (rest_items block.items blocks phases) parted in
     subst (λ (i : Item). Taken s (i ∷ items) [] (block ∷ blocks) phases) (sym here)
-    (block_taken block.opening.verb block.opening.arguments items takes s block.items blocks phases at r there r.blocks_good.0.opens_one)
+    (block_taken block.opening.verb block.opening.arguments items takes s block.items
+    blocks phases at r there r.blocks_good.0.opens_one)
 takes_next item items takes s [] [] (blocks ∷ phases) at r same =
     let parted = same ∙ phase_items_more blocks phases in
     let here = head_is item phase_item items (rest_items [] blocks phases) parted in
     let there = tail_is item phase_item items (rest_items [] blocks phases) parted in
-    subst (λ (i : Item). Taken s (i ∷ items) [] [] (blocks ∷ phases)) (sym here) (phase_taken items takes s blocks phases at r there)
+    subst (λ (i : Item). Taken s (i ∷ items) [] [] (blocks ∷ phases)) (sym here)
+    (phase_taken items takes s blocks phases at r there)
 takes_next item items takes s [] [] [] at r same =
     subst (λ (is : List Item). Taken s is [] [] []) (sym same) (end_taken s at)
 
 pub takes_all : (items : List Item) → Takes items
 takes_all [] s own blocks phases at r same = absurd (no_rest own blocks phases same)
-takes_all (item ∷ items) s own blocks phases at r same = takes_next item items (λ next more others later there rest is. takes_all items next more others later there rest is) s own blocks phases at r same
+takes_all (item ∷ items) s own blocks phases at r same =
+    takes_next item items (λ next more others later there rest is. takes_all items next more others later there rest is)
+    s own blocks phases at r same

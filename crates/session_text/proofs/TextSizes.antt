@@ -1,5 +1,6 @@
 -- A text is as long as the words of its lines.
-use Rattle.std.proofs.Common.{◌≡◌, ℕ, suc, ◌+◌, ◌≤◌, Bool, true, false, List, [], ◌∷◌, ◌++◌, cond, length, map, refl, ap, arith}
+use Rattle.std.proofs.Common.{◌≡◌, ℕ, suc, ◌+◌, ◌≤◌, Bool, true, false, List}
+use Rattle.std.proofs.Common.{[], ◌∷◌, ◌++◌, cond, length, map, refl, ap, arith}
 use Rattle.std.specs.Prelude.{filter}
 use Rattle.std.specs.List.{slice_split, onto_first}
 use Rattle.std.proofs.lemmas.Bool.{cond_both}
@@ -21,19 +22,24 @@ size_onto x [] = refl
 size_onto x (part ∷ parts) = omega arith
 
 -- a part that begins, or goes on
-size_either : (b : Bool) (x n : ℕ) (parts : List (List ℕ)) → size parts ≤ n → size (cond b ([] ∷ parts) (onto_first x parts)) ≤ suc n
+size_either : (b : Bool) (x n : ℕ) (parts : List (List ℕ))
+    → size parts ≤ n
+    → size (cond b ([] ∷ parts) (onto_first x parts)) ≤ suc n
 size_either true x n parts h = omega (arith, h)
 size_either false x n parts h = omega (arith, h, size_onto x parts)
 
 split_size : (line : List ℕ) → size (slice_split is_blank line) ≤ length line
 split_size [] = omega arith
-split_size (byte ∷ bytes) = size_either (is_blank byte) byte (length bytes) (slice_split is_blank bytes) (split_size bytes)
+split_size (byte ∷ bytes) =
+    size_either (is_blank byte) byte (length bytes) (slice_split is_blank bytes) (split_size bytes)
 
 lines_size : (text : List ℕ) → size (lines_of text) ≤ length text
 lines_size [] = omega arith
 lines_size (byte ∷ bytes) = size_either (is_newline byte) byte (length bytes) (lines_of bytes) (lines_size bytes)
 
-kept_size : (b : Bool) (word : List ℕ) (kept words : List (List ℕ)) → size kept ≤ size words → size (cond b (word ∷ kept) kept) ≤ length word + size words
+kept_size : (b : Bool) (word : List ℕ) (kept words : List (List ℕ))
+    → size kept ≤ size words
+    → size (cond b (word ∷ kept) kept) ≤ length word + size words
 kept_size true word kept words h = omega (arith, h)
 kept_size false word kept words h = omega (arith, h)
 
@@ -48,7 +54,9 @@ each_size : (lines : List (List ℕ)) → sizes (map words_of lines) ≤ size li
 each_size [] = omega arith
 each_size (line ∷ lines) = omega (arith, words_size line, each_size lines)
 
-kept_sizes : (b : Bool) (words : List (List ℕ)) (kept lines : List (List (List ℕ))) → sizes kept ≤ sizes lines → sizes (cond b (words ∷ kept) kept) ≤ size words + sizes lines
+kept_sizes : (b : Bool) (words : List (List ℕ)) (kept lines : List (List (List ℕ)))
+    → sizes kept ≤ sizes lines
+    → sizes (cond b (words ∷ kept) kept) ≤ size words + sizes lines
 kept_sizes true words kept lines h = omega (arith, h)
 kept_sizes false words kept lines h = omega (arith, h)
 

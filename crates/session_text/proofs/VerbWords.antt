@@ -1,10 +1,12 @@
 -- The verb of a word, by its slot.
-use Rattle.std.proofs.Common.{◌≡◌, ◌<◌, ℕ, true, false, List, get_or, Option, Some, None, refl, sym, ap, ◌∙◌, arith, bytes_eq}
+use Rattle.std.proofs.Common.{◌≡◌, ◌<◌, ℕ, true, false, List, get_or, Option}
+use Rattle.std.proofs.Common.{Some, None, refl, sym, ap, ◌∙◌, arith, bytes_eq}
 use Rattle.std.proofs.lemmas.Slice.Eq.{bytes_eq-Decides}
 use Rattle.tty_modes.proofs.NameSlots.{entries_below}
 use Rattle.session_text.specs.declared.verbs.TheConstants.{VERBS, VERB_SLOTS}
 use Rattle.session_text.specs.declared.verbs.Verb.{Verb}
-use Rattle.session_text.specs.declared.verbs.Verb.TheVariants.{Session, Ports, Flip, Phase, Line, Clock, Caller, Tick, End, Step, Call}
+use Rattle.session_text.specs.declared.verbs.Verb.TheVariants.{Session, Ports, Flip, Phase, Line}
+use Rattle.session_text.specs.declared.verbs.Verb.TheVariants.{Clock, Caller, Tick, End, Step, Call}
 use Rattle.session_text.specs.declared.verbs.LineVerb.{LineVerb}
 use Rattle.session_text.specs.declared.verbs.LineVerb.TheVariants.{Rx, Rxp, Rxf, Break, Mask, Unmask, Idle, Trigger}
 use Rattle.session_text.specs.declared.verbs.CallVerb.{CallVerb}
@@ -61,7 +63,12 @@ verb_near End = refl
 verb_near (Step verb) = line_near verb
 verb_near (Call verb) = call_near verb
 
-missed : (version : ℕ) (text word : List ℕ) (verb : Verb) (o : Option Verb) → verb_of version word ≡ o → verb ≡ near word → text ≡ verb_text verb → bytes_eq text word ≡ false → None ≡ o
+missed : (version : ℕ) (text word : List ℕ) (verb : Verb) (o : Option Verb)
+    → verb_of version word ≡ o
+    → verb ≡ near word
+    → text ≡ verb_text verb
+    → bytes_eq text word ≡ false
+    → None ≡ o
 missed version text word verb None read by written other = refl
 missed version text word verb (Some found) read by written other =
     let is : word ≡ verb_text found = verb_found version word found read in
@@ -71,12 +78,22 @@ missed version text word verb (Some found) read by written other =
     absurd (cc)
 
 -- a word that is not the text of the verb where its slot says is no verb
-pub verb_missed : (version : ℕ) (text word : List ℕ) (verb : Verb) → verb ≡ near word → text ≡ verb_text verb → bytes_eq text word ≡ false → None ≡ verb_of version word
-verb_missed version text word verb by written other = missed version text word verb (verb_of version word) refl by written other
+pub verb_missed : (version : ℕ) (text word : List ℕ) (verb : Verb)
+    → verb ≡ near word
+    → text ≡ verb_text verb
+    → bytes_eq text word ≡ false
+    → None ≡ verb_of version word
+verb_missed version text word verb by written other =
+    missed version text word verb (verb_of version word) refl by written other
 
 -- .. and one that is that text is read as the text
-pub verb_hit : (version : ℕ) (text word : List ℕ) (verb : Verb) (r : Option Verb) → text ≡ verb_text verb → bytes_eq text word ≡ true → r ≡ verb_of version (verb_text verb) → r ≡ verb_of version word
-verb_hit version text word verb r written same read = read ∙ ap (verb_of version) (sym written ∙ (bytes_eq-Decides text word).0 same)
+pub verb_hit : (version : ℕ) (text word : List ℕ) (verb : Verb) (r : Option Verb)
+    → text ≡ verb_text verb
+    → bytes_eq text word ≡ true
+    → r ≡ verb_of version (verb_text verb)
+    → r ≡ verb_of version word
+verb_hit version text word verb r written same read =
+    read ∙ ap (verb_of version) (sym written ∙ (bytes_eq-Decides text word).0 same)
 
 -- a verb's own text
 pub own_verb : (version : ℕ) (verb : Verb) → (verb ≡ Flip → version ≡ 2) → Some verb ≡ verb_of version (verb_text verb)

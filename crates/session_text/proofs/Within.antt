@@ -1,12 +1,16 @@
 -- A session that a text spells keeps the limits of every session.
-use Rattle.std.proofs.Common.{◌≡◌, ◌≢◌, ◌⊎◌, inl, inr, ℕ, ◌+◌, ◌/◌, ◌<◌, ◌≤◌, ◌==◌, ◌||◌, ◌&&◌, nat_le, nat_lt, Bool, true, false, cond, List, [], ◌∷◌, ◌++◌, length, map, replicate, Some, None, Result, Ok, Err, refl, ap, sym, subst, ◌∙◌, append_assoc, append-nil, arith, zero, suc, leb-true, ltb-true, ltb-false, get_or, set, eq-eqb}
+use Rattle.std.proofs.Common.{◌≡◌, ◌≢◌, ◌⊎◌, inl, inr, ℕ, ◌+◌, ◌/◌, ◌<◌, ◌≤◌, ◌==◌, ◌||◌, ◌&&◌, nat_le, nat_lt}
+use Rattle.std.proofs.Common.{Bool, true, false, cond, List, [], ◌∷◌, ◌++◌, length, map, replicate, Some, None}
+use Rattle.std.proofs.Common.{Result, Ok, Err, refl, ap, sym, subst, ◌∙◌, append_assoc, append-nil, arith}
+use Rattle.std.proofs.Common.{zero, suc, leb-true, ltb-true, ltb-false, get_or, set, eq-eqb}
 use Rattle.std.specs.Prelude.{All, IsTrue, flat_map, sum_by, filter, fold, slice_index}
 use Rattle.std.specs.List.{AllByRecursion, list_any}
 use Rattle.std.specs.Result.{result_unwrap_or}
 use Rattle.std.specs.Str.{bytes_eq}
 use Rattle.std.proofs.lemmas.Bool.{and_parts, eqb-true}
 use Rattle.std.proofs.lemmas.Slice.Eq.{bytes_eq-Decides}
-use Rattle.std.proofs.lemmas.List.{length-append, length-replicate, length-set, length-map, get_or-set_same, get_or-set_other, map-append}
+use Rattle.std.proofs.lemmas.List.{length-append, length-replicate, length-set, length-map}
+use Rattle.std.proofs.lemmas.List.{get_or-set_same, get_or-set_other, map-append}
 use Rattle.std.proofs.lemmas.List.Elements.{All-replicate, All-append, All-nil, All-cons, All-set}
 use Rattle.std.proofs.lemmas.List.Sums.{sum_by-cons, sum_by-append}
 use Rattle.hex.specs.declared.error.FromHexError.{FromHexError}
@@ -18,13 +22,15 @@ use Rattle.tty_base.specs.declared.characters.Flag.TheVariants as flag
 use Rattle.tty_base.specs.declared.lines.LineStep.{LineStep}
 use Rattle.tty_calls.specs.Plain.{handle_of}
 use Rattle.tty_calls.specs.Sessions.{PlainScript, PlainPhase, PlainSession, line_on, ticks_on, with_name}
-use Rattle.tty_calls.specs.Limits.{byte_count, IsCallWithin, IsScriptWithin, IsPhaseWithin, call_count, character_count, tick_count, IsWithinLimits}
+use Rattle.tty_calls.specs.Limits.{byte_count, IsCallWithin, IsScriptWithin, IsPhaseWithin}
+use Rattle.tty_calls.specs.Limits.{call_count, character_count, tick_count, IsWithinLimits}
 use Rattle.text_lines.specs.Values.{is_number, number_of, is_hex, bytes_of, word_at, number_at}
 use Rattle.session_text.specs.declared.faults.Reason.TheVariants as reason
 use Rattle.session_text.specs.declared.kinds.Kind.{Kind}
 use Rattle.session_text.specs.declared.kinds.Kind.TheVariants as kind
 use Rattle.session_text.specs.declared.verbs.Verb.{Verb}
-use Rattle.session_text.specs.declared.verbs.Verb.TheVariants.{Session, Ports, Flip, Phase, Line, Clock, Caller, Tick, End, Step, Call}
+use Rattle.session_text.specs.declared.verbs.Verb.TheVariants.{Session, Ports, Flip, Phase, Line}
+use Rattle.session_text.specs.declared.verbs.Verb.TheVariants.{Clock, Caller, Tick, End, Step, Call}
 use Rattle.session_text.specs.declared.verbs.LineVerb.{LineVerb}
 use Rattle.session_text.specs.declared.verbs.LineVerb.TheVariants.{Rx, Rxp, Rxf, Break, Mask, Unmask, Idle, Trigger}
 use Rattle.session_text.specs.declared.verbs.CallVerb.{CallVerb}
@@ -33,26 +39,39 @@ use Rattle.session_text.specs.Kinds.{kind_at, fault_of, limit_fault, is_trigger}
 use Rattle.session_text.specs.Stands.{PlainKey, same_key, callers_on, arrivals, is_good}
 use Rattle.line_steps.specs.Steps.{rx_step}
 use Rattle.session_text.specs.Meaning.{steps_in, call_on, call_in, empty_phase}
-use Rattle.session_text.specs.Grammar.{Item, Block, Written, steps_by, ticks_by, calls_by, arrivals_by, with_block, phase_meaning, with_flip, session_meaning, version_of, ports_of, opens_block, IsGoodItem, IsGoodBlock, IsGoodPhase, IsGoodFlip, IsGood, CallersFit, caller_key, caller_keys, steps_count, block_characters, characters_count, block_ticks, ticks_count, Spells}
+use Rattle.session_text.specs.Grammar.{Item, Block, Written, steps_by, ticks_by, calls_by, arrivals_by}
+use Rattle.session_text.specs.Grammar.{with_block, phase_meaning, with_flip, session_meaning, version_of}
+use Rattle.session_text.specs.Grammar.{ports_of, opens_block, IsGoodItem, IsGoodBlock, IsGoodPhase}
+use Rattle.session_text.specs.Grammar.{IsGoodFlip, IsGood, CallersFit, caller_key, caller_keys, steps_count}
+use Rattle.session_text.specs.Grammar.{block_characters, characters_count, block_ticks, ticks_count, Spells}
 use Rattle.session_text.proofs.Bounds.{on_port}
 use Rattle.session_text.proofs.Fits.{good_parts, no_fault_at, good_number, limit_none}
 use Rattle.session_text.proofs.Heads.{block_port_below}
 
 -- ---- numbers and HEX of good arguments
 
-between : (number : Bool) (n least most : ℕ) → cond number (limit_fault (nat_le least n && nat_le n most)) (Some reason.Number) ≡ None → (least ≤ cond number n 0) × (cond number n 0 ≤ most)
+between : (number : Bool) (n least most : ℕ)
+    → cond number (limit_fault (nat_le least n && nat_le n most)) (Some reason.Number) ≡ None
+    → (least ≤ cond number n 0) × (cond number n 0 ≤ most)
 between true n least most h =
     let both = and_parts (nat_le least n) (nat_le n most) (limit_none (nat_le least n && nat_le n most) h) in
     (leb-true least n both.0, leb-true n most both.1)
 between false n least most h = cc
 
 -- a number that stands is within its range
-number_between : (ports : ℕ) (verb : Verb) (words : List (List ℕ)) (at least most : ℕ) → is_good ports verb words ≡ true → at < length words → kind_at verb (0 + at) ≡ kind.Number least most → (least ≤ number_at words at) × (number_at words at ≤ most)
+number_between : (ports : ℕ) (verb : Verb) (words : List (List ℕ)) (at least most : ℕ)
+    → is_good ports verb words ≡ true
+    → at < length words
+    → kind_at verb (0 + at) ≡ kind.Number least most
+    → (least ≤ number_at words at) × (number_at words at ≤ most)
 number_between ports verb words at least most good within k =
     let fault = no_fault_at ports verb words 0 at (good_parts ports verb words good).1 within in
-    between (is_number (word_at words at)) (number_of (word_at words at)) least most (subst (λ (k : Kind). fault_of ports k (word_at words at) ≡ None) k fault)
+    between (is_number (word_at words at)) (number_of (word_at words at)) least most
+    (subst (λ (k : Kind). fault_of ports k (word_at words at) ≡ None) k fault)
 
-bytes_by : (digits : List ℕ) (read : Result (List ℕ) FromHexError) → decode_of digits ≡ read → length (result_unwrap_or read []) ≤ length digits / 2
+bytes_by : (digits : List ℕ) (read : Result (List ℕ) FromHexError)
+    → decode_of digits ≡ read
+    → length (result_unwrap_or read []) ≤ length digits / 2
 bytes_by digits (Ok bytes) h = let parts = decode_of-ok digits bytes h in let twice = parts.2 in omega (arith, twice)
 bytes_by digits (Err e) h = omega arith
 
@@ -64,10 +83,15 @@ hex_by : (hex : Bool) (n most : ℕ) → cond hex (limit_fault (nat_le n most)) 
 hex_by true n most h = leb-true n most (limit_none (nat_le n most) h)
 hex_by false n most h = cc
 
-hex_within : (ports : ℕ) (verb : Verb) (words : List (List ℕ)) (at most : ℕ) → is_good ports verb words ≡ true → at < length words → kind_at verb (0 + at) ≡ kind.Hex most → length (bytes_of (word_at words at)) ≤ most
+hex_within : (ports : ℕ) (verb : Verb) (words : List (List ℕ)) (at most : ℕ)
+    → is_good ports verb words ≡ true
+    → at < length words
+    → kind_at verb (0 + at) ≡ kind.Hex most
+    → length (bytes_of (word_at words at)) ≤ most
 hex_within ports verb words at most good within k =
     let fault = no_fault_at ports verb words 0 at (good_parts ports verb words good).1 within in
-    let few = hex_by (is_hex (word_at words at)) (length (word_at words at) / 2) most (subst (λ (k : Kind). fault_of ports k (word_at words at) ≡ None) k fault) in
+    let few = hex_by (is_hex (word_at words at)) (length (word_at words at) / 2) most
+    (subst (λ (k : Kind). fault_of ports k (word_at words at) ≡ None) k fault) in
     let half = length-bytes_of (word_at words at) in
     omega (arith, few, half)
 
@@ -79,21 +103,32 @@ AreSteps steps = All (λ step. IsTrue (is_step step)) steps
 one_step : (step : LineStep) → is_step step ≡ true → AreSteps (step ∷ [])
 one_step step h = All-cons (λ step. IsTrue (is_step step)) step [] h (All-nil (λ step. IsTrue (is_step step)))
 
-rx_steps : (f : Flag) → ((byte : ℕ) → is_step (rx_step f byte) ≡ true) → (bytes : List ℕ) → AreSteps (map (rx_step f) bytes)
+rx_steps : (f : Flag)
+    → ((byte : ℕ) → is_step (rx_step f byte) ≡ true)
+    → (bytes : List ℕ)
+    → AreSteps (map (rx_step f) bytes)
 rx_steps f good [] = All-nil (λ step. IsTrue (is_step step))
-rx_steps f good (byte ∷ bytes) = All-cons (λ step. IsTrue (is_step step)) (rx_step f byte) (map (rx_step f) bytes) (good byte) (rx_steps f good bytes)
+rx_steps f good (byte ∷ bytes) = All-cons (λ step. IsTrue (is_step step)) (rx_step f byte) (map (rx_step f) bytes)
+    (good byte) (rx_steps f good bytes)
 
-trigger_by : (number : Bool) (n : ℕ) → cond number (limit_fault (is_trigger n)) (Some reason.Number) ≡ None → is_trigger (cond number n 0) ≡ true
+trigger_by : (number : Bool) (n : ℕ)
+    → cond number (limit_fault (is_trigger n)) (Some reason.Number) ≡ None
+    → is_trigger (cond number n 0) ≡ true
 trigger_by true n h = limit_none (is_trigger n) h
 trigger_by false n h = cc
 
-trigger_good : (ports : ℕ) (words : List (List ℕ)) → is_good ports (Step Trigger) words ≡ true → is_trigger (number_at words 0) ≡ true
+trigger_good : (ports : ℕ) (words : List (List ℕ))
+    → is_good ports (Step Trigger) words ≡ true
+    → is_trigger (number_at words 0) ≡ true
 trigger_good ports words good =
     let count = eqb-true (length words) 1 (good_parts ports (Step Trigger) words good).0 in
-    let fault = no_fault_at ports (Step Trigger) words 0 0 (good_parts ports (Step Trigger) words good).1 (omega (arith, count)) in
+    let fault =
+    no_fault_at ports (Step Trigger) words 0 0 (good_parts ports (Step Trigger) words good).1 (omega (arith, count)) in
     trigger_by (is_number (word_at words 0)) (number_of (word_at words 0)) fault
 
-verb_steps : (ports : ℕ) (verb : LineVerb) (words : List (List ℕ)) → is_good ports (Step verb) words ≡ true → AreSteps (steps_in verb words)
+verb_steps : (ports : ℕ) (verb : LineVerb) (words : List (List ℕ))
+    → is_good ports (Step verb) words ≡ true
+    → AreSteps (steps_in verb words)
 verb_steps ports Rx words good = rx_steps flag.Normal (λ byte. refl) (bytes_of (word_at words 0))
 verb_steps ports Rxp words good = rx_steps flag.Parity (λ byte. refl) (bytes_of (word_at words 0))
 verb_steps ports Rxf words good = rx_steps flag.Frame (λ byte. refl) (bytes_of (word_at words 0))
@@ -108,9 +143,15 @@ count_rx f [] = refl
 count_rx f (byte ∷ bytes) = let rest = count_rx f bytes in omega (arith, rest)
 
 verb_arrivals : (verb : LineVerb) (words : List (List ℕ)) → arrival_count (steps_in verb words) ≤ arrivals verb words
-verb_arrivals Rx words = let all = count_rx flag.Normal (bytes_of (word_at words 0)) in let half = length-bytes_of (word_at words 0) in omega (arith, all, half)
-verb_arrivals Rxp words = let all = count_rx flag.Parity (bytes_of (word_at words 0)) in let half = length-bytes_of (word_at words 0) in omega (arith, all, half)
-verb_arrivals Rxf words = let all = count_rx flag.Frame (bytes_of (word_at words 0)) in let half = length-bytes_of (word_at words 0) in omega (arith, all, half)
+verb_arrivals Rx words =
+    let all = count_rx flag.Normal (bytes_of (word_at words 0)) in
+    let half = length-bytes_of (word_at words 0) in omega (arith, all, half)
+verb_arrivals Rxp words =
+    let all = count_rx flag.Parity (bytes_of (word_at words 0)) in
+    let half = length-bytes_of (word_at words 0) in omega (arith, all, half)
+verb_arrivals Rxf words =
+    let all = count_rx flag.Frame (bytes_of (word_at words 0)) in
+    let half = length-bytes_of (word_at words 0) in omega (arith, all, half)
 verb_arrivals Break words = omega arith
 verb_arrivals Mask words = omega arith
 verb_arrivals Unmask words = omega arith
@@ -121,7 +162,9 @@ pub count-append : (xs ys : List LineStep) → arrival_count (xs ++ ys) ≡ arri
 count-append [] ys = omega arith
 count-append (x ∷ xs) ys = let rest = count-append xs ys in omega (arith, rest)
 
-item_steps : (ports : ℕ) (verb : Verb) (words : List (List ℕ)) → is_good ports verb words ≡ true → AreSteps (steps_by (record { verb = verb; arguments = words }))
+item_steps : (ports : ℕ) (verb : Verb) (words : List (List ℕ))
+    → is_good ports verb words ≡ true
+    → AreSteps (steps_by (record { verb = verb; arguments = words }))
 item_steps ports (Step verb) words good = verb_steps ports verb words good
 item_steps ports Session words good = All-nil (λ step. IsTrue (is_step step))
 item_steps ports Ports words good = All-nil (λ step. IsTrue (is_step step))
@@ -134,7 +177,9 @@ item_steps ports Tick words good = All-nil (λ step. IsTrue (is_step step))
 item_steps ports End words good = All-nil (λ step. IsTrue (is_step step))
 item_steps ports (Call verb) words good = All-nil (λ step. IsTrue (is_step step))
 
-item_arrivals : (verb : Verb) (words : List (List ℕ)) → arrival_count (steps_by (record { verb = verb; arguments = words })) ≤ arrivals_by (record { verb = verb; arguments = words })
+item_arrivals : (verb : Verb) (words : List (List ℕ))
+    → arrival_count (steps_by (record { verb = verb; arguments = words }))
+    ≤ arrivals_by (record { verb = verb; arguments = words })
 item_arrivals (Step verb) words = verb_arrivals verb words
 item_arrivals Session words = omega arith
 item_arrivals Ports words = omega arith
@@ -147,10 +192,13 @@ item_arrivals Tick words = omega arith
 item_arrivals End words = omega arith
 item_arrivals (Call verb) words = omega arith
 
-items_steps : (ports : ℕ) (opening : Verb) (items : List Item) → AllByRecursion (IsGoodItem ports opening) items → AreSteps (flat_map steps_by items)
+items_steps : (ports : ℕ) (opening : Verb) (items : List Item)
+    → AllByRecursion (IsGoodItem ports opening) items
+    → AreSteps (flat_map steps_by items)
 items_steps ports opening [] good = All-nil (λ step. IsTrue (is_step step))
 items_steps ports opening (item ∷ items) good =
-    All-append (λ step. IsTrue (is_step step)) (steps_by item) (flat_map steps_by items) (item_steps ports item.verb item.arguments good.0.good) (items_steps ports opening items good.1)
+    All-append (λ step. IsTrue (is_step step)) (steps_by item) (flat_map steps_by items)
+    (item_steps ports item.verb item.arguments good.0.good) (items_steps ports opening items good.1)
 
 items_arrivals : (items : List Item) → arrival_count (flat_map steps_by items) ≤ sum_by arrivals_by items
 items_arrivals [] = omega arith
@@ -184,9 +232,15 @@ handle_is call.Vhangup h words = refl
 handle_is call.Send h words = refl
 handle_is call.Take h words = refl
 
-bytes_within : (ports : ℕ) (verb : CallVerb) (words : List (List ℕ)) → is_good ports (Call verb) words ≡ true → byte_count (call_in verb words) ≤ 65536
-bytes_within ports call.Write words good = let count = eqb-true (length words) 2 (good_parts ports (Call call.Write) words good).0 in hex_within ports (Call call.Write) words 1 65536 good (omega (arith, count)) refl
-bytes_within ports call.Send words good = let count = eqb-true (length words) 2 (good_parts ports (Call call.Send) words good).0 in hex_within ports (Call call.Send) words 1 65536 good (omega (arith, count)) refl
+bytes_within : (ports : ℕ) (verb : CallVerb) (words : List (List ℕ))
+    → is_good ports (Call verb) words ≡ true
+    → byte_count (call_in verb words) ≤ 65536
+bytes_within ports call.Write words good =
+    let count = eqb-true (length words) 2 (good_parts ports (Call call.Write) words good).0 in
+    hex_within ports (Call call.Write) words 1 65536 good (omega (arith, count)) refl
+bytes_within ports call.Send words good =
+    let count = eqb-true (length words) 2 (good_parts ports (Call call.Send) words good).0 in
+    hex_within ports (Call call.Send) words 1 65536 good (omega (arith, count)) refl
 bytes_within ports call.Open words good = omega arith
 bytes_within ports call.Close words good = omega arith
 bytes_within ports call.Read words good = omega arith
@@ -205,14 +259,24 @@ bytes_within ports call.Counts words good = omega arith
 bytes_within ports call.Vhangup words good = omega arith
 bytes_within ports call.Take words good = omega arith
 
-call_within : (ports : ℕ) (verb : CallVerb) (words : List (List ℕ)) → is_good ports (Call verb) words ≡ true → IsCallWithin (call_in verb words)
+call_within : (ports : ℕ) (verb : CallVerb) (words : List (List ℕ))
+    → is_good ports (Call verb) words ≡ true
+    → IsCallWithin (call_in verb words)
 call_within ports verb words good = record {
-  handle = let h = good_number ports (Call verb) words 0 0 31 good refl in let same = handle_is verb (number_at words 0) words in omega (arith, h, same);
+  handle =
+      let h = good_number ports (Call verb) words 0 0 31 good refl in
+      let same = handle_is verb (number_at words 0) words in omega (arith, h, same);
   bytes = bytes_within ports verb words good;
 }
 
-item_calls : (ports : ℕ) (verb : Verb) (words : List (List ℕ)) → is_good ports verb words ≡ true → All IsCallWithin (calls_by (record { verb = verb; arguments = words })) × (length (calls_by (record { verb = verb; arguments = words })) ≤ 1)
-item_calls ports (Call verb) words good = (All-cons IsCallWithin (call_in verb words) [] (call_within ports verb words good) (All-nil IsCallWithin), omega arith)
+item_calls : (ports : ℕ) (verb : Verb) (words : List (List ℕ))
+    → is_good ports verb words ≡ true
+    → All IsCallWithin (calls_by (record { verb = verb; arguments = words }))
+    × (length (calls_by (record { verb = verb; arguments = words })) ≤ 1)
+item_calls ports (Call verb) words good = (
+  All-cons IsCallWithin (call_in verb words) [] (call_within ports verb words good) (All-nil IsCallWithin),
+  omega arith,
+)
 item_calls ports Session words good = (All-nil IsCallWithin, omega arith)
 item_calls ports Ports words good = (All-nil IsCallWithin, omega arith)
 item_calls ports Flip words good = (All-nil IsCallWithin, omega arith)
@@ -224,7 +288,9 @@ item_calls ports Tick words good = (All-nil IsCallWithin, omega arith)
 item_calls ports End words good = (All-nil IsCallWithin, omega arith)
 item_calls ports (Step verb) words good = (All-nil IsCallWithin, omega arith)
 
-items_calls : (ports : ℕ) (opening : Verb) (items : List Item) → AllByRecursion (IsGoodItem ports opening) items → All IsCallWithin (flat_map calls_by items) × (length (flat_map calls_by items) ≤ length items)
+items_calls : (ports : ℕ) (opening : Verb) (items : List Item)
+    → AllByRecursion (IsGoodItem ports opening) items
+    → All IsCallWithin (flat_map calls_by items) × (length (flat_map calls_by items) ≤ length items)
 items_calls ports opening [] good = (All-nil IsCallWithin, omega arith)
 items_calls ports opening (item ∷ items) good =
     let here = item_calls ports item.verb item.arguments good.0.good in
@@ -247,7 +313,8 @@ past (line ∷ lines) zero h = absurd (omega (arith, h))
 past (line ∷ lines) (suc i) h = past lines i (omega (arith, h))
 
 -- what is known of a phase so far: its callers' keys, and at most how many calls, characters and ticks it has
-pub record Holds (ports : ℕ) (phase : PlainPhase) (keys : List PlainKey) (calls : ℕ) (characters_most ticks_most : Counts) : Type 0 where
+pub record Holds (ports : ℕ) (phase : PlainPhase) (keys : List PlainKey) (calls : ℕ)
+    (characters_most ticks_most : Counts) : Type 0 where
   pub lines : length phase.lines ≡ ports
   pub ticks : length phase.ticks ≡ ports
   pub steps : All AreSteps phase.lines
@@ -261,7 +328,8 @@ steps_at : (lines : List (List LineStep)) (i : ℕ) → All AreSteps lines → A
 steps_at lines i good =
     elim (nat_lt i (length lines)) as (λ b. nat_lt i (length lines) ≡ b → AreSteps (get_or lines i [])) [
       | true ↦ λ e. good i [] (ltb-true i (length lines) e)
-      | false ↦ λ e. subst AreSteps (sym (past lines i (ltb-false i (length lines) e))) (All-nil (λ step. IsTrue (is_step step)))
+      | false ↦ λ e.
+          subst AreSteps (sym (past lines i (ltb-false i (length lines) e))) (All-nil (λ step. IsTrue (is_step step)))
     ] refl
 
 past_number : (ticks : List ℕ) (i : ℕ) → length ticks ≤ i → get_or ticks i 0 ≡ 0
@@ -280,30 +348,41 @@ here_or q p true e = inl (refl, eqb-true q p e)
 here_or q p false e = inr (refl, λ same. let yes = eq-eqb q p (sym same) in cc)
 
 -- a line with steps more
-line_more : (lines : List (List LineStep)) (q p : ℕ) (steps : List LineStep) → arrival_count (get_or (set lines q (get_or lines q [] ++ steps)) p []) ≤ arrival_count (get_or lines p []) + on_port q p (arrival_count steps)
+line_more : (lines : List (List LineStep)) (q p : ℕ) (steps : List LineStep)
+    → arrival_count (get_or (set lines q (get_or lines q [] ++ steps)) p [])
+    ≤ arrival_count (get_or lines p []) + on_port q p (arrival_count steps)
 line_more lines q p steps =
     let added = get_or lines q [] ++ steps in
     elim (here_or q p (q == p) refl) [
       | inl same ↦
-          let most : on_port q p (arrival_count steps) ≡ arrival_count steps = ap (λ b. cond b (arrival_count steps) 0) same.0 in
-          let goal : arrival_count (get_or (set lines q added) q []) ≤ arrival_count (get_or lines q []) + arrival_count steps =
+          let most : on_port q p (arrival_count steps) ≡ arrival_count steps =
+          ap (λ b. cond b (arrival_count steps) 0) same.0 in
+          let goal : arrival_count (get_or (set lines q added) q [])
+          ≤ arrival_count (get_or lines q []) + arrival_count steps =
           elim (side q (length lines)) [
             | inl lt ↦
                 let is = ap arrival_count (get_or-set_same lines q added [] lt) in
                 let both = count-append (get_or lines q []) steps in
                 omega (arith, is, both)
             | inr ge ↦
-                let none : arrival_count (get_or (set lines q added) q []) ≡ 0 = ap arrival_count (past (set lines q added) q (let same_length = length-set lines q added in omega (arith, same_length, ge))) in
+                let none : arrival_count (get_or (set lines q added) q []) ≡ 0 =
+                ap arrival_count (past (set lines q added) q
+                (let same_length = length-set lines q added in omega (arith, same_length, ge))) in
                 omega (arith, none)
           ] in
-          let at_p : arrival_count (get_or (set lines q added) p []) ≤ arrival_count (get_or lines p []) + arrival_count steps = subst (λ (r : ℕ). arrival_count (get_or (set lines q added) r []) ≤ arrival_count (get_or lines r []) + arrival_count steps) same.1 goal in
+          let at_p : arrival_count (get_or (set lines q added) p [])
+          ≤ arrival_count (get_or lines p []) + arrival_count steps =
+          subst (λ (r : ℕ).
+          arrival_count (get_or (set lines q added) r []) ≤ arrival_count (get_or lines r []) + arrival_count steps)
+          same.1 goal in
           omega (arith, at_p, most)
       | inr other ↦
           let is = ap arrival_count (get_or-set_other lines q p added [] other.1) in
           omega (arith, is)
     ]
 
-ticks_more_at : (ticks : List ℕ) (q p n : ℕ) → get_or (set ticks q (get_or ticks q 0 + n)) p 0 ≤ get_or ticks p 0 + on_port q p n
+ticks_more_at : (ticks : List ℕ) (q p n : ℕ)
+    → get_or (set ticks q (get_or ticks q 0 + n)) p 0 ≤ get_or ticks p 0 + on_port q p n
 ticks_more_at ticks q p n =
     let added = get_or ticks q 0 + n in
     elim (here_or q p (q == p) refl) [
@@ -312,9 +391,13 @@ ticks_more_at ticks q p n =
           let goal : get_or (set ticks q added) q 0 ≤ get_or ticks q 0 + n =
           elim (side q (length ticks)) [
             | inl lt ↦ let is = get_or-set_same ticks q added 0 lt in omega (arith, is)
-            | inr ge ↦ let none = past_number (set ticks q added) q (let same_length = length-set ticks q added in omega (arith, same_length, ge)) in omega (arith, none)
+            | inr ge ↦
+                let none = past_number (set ticks q added) q
+                (let same_length = length-set ticks q added in omega (arith, same_length, ge)) in
+                omega (arith, none)
           ] in
-          let at_p : get_or (set ticks q added) p 0 ≤ get_or ticks p 0 + n = subst (λ (r : ℕ). get_or (set ticks q added) r 0 ≤ get_or ticks r 0 + n) same.1 goal in
+          let at_p : get_or (set ticks q added) p 0 ≤ get_or ticks p 0 + n =
+          subst (λ (r : ℕ). get_or (set ticks q added) r 0 ≤ get_or ticks r 0 + n) same.1 goal in
           omega (arith, at_p, most)
       | inr other ↦ let is = get_or-set_other ticks q p added 0 other.1 in omega (arith, is)
     ]
@@ -326,16 +409,25 @@ more_at false m n h = omega arith
 abbrev pub block_with : Verb → List (List ℕ) → List Item → Block
 block_with verb words items = record { opening = record { verb = verb; arguments = words }; items = items }
 
-holds_more : (verb : Verb) (words : List (List ℕ)) (items : List Item) (ports : ℕ) (phase : PlainPhase) (keys : List PlainKey) (calls : ℕ) (characters_most ticks_most : Counts)
-    → opens_block verb ≡ true → is_good ports verb words ≡ true → AllByRecursion (IsGoodItem ports verb) items → Holds ports phase keys calls characters_most ticks_most
-    → Holds ports (with_block phase (block_with verb words items)) (keys ++ caller_key verb words) (calls + length items)
-    (λ p. characters_most p + block_characters p (block_with verb words items)) (λ p. ticks_most p + block_ticks p (block_with verb words items))
+holds_more : (verb : Verb) (words : List (List ℕ)) (items : List Item) (ports : ℕ) (phase : PlainPhase)
+    (keys : List PlainKey) (calls : ℕ) (characters_most ticks_most : Counts)
+    → opens_block verb ≡ true
+    → is_good ports verb words ≡ true
+    → AllByRecursion (IsGoodItem ports verb) items
+    → Holds ports phase keys calls characters_most ticks_most
+    → Holds ports (with_block phase (block_with verb words items)) (keys ++ caller_key verb words)
+    (calls + length items) (λ p. characters_most p + block_characters p (block_with verb words items))
+    (λ p. ticks_most p + block_ticks p (block_with verb words items))
 holds_more Line words items ports phase keys calls characters_most ticks_most one good each h =
     let q = number_at words 0 in
     let steps = flat_map steps_by items in record {
-      lines = let same = length-set phase.lines q (get_or phase.lines q [] ++ steps) in let was = h.lines in omega (arith, same, was);
+      lines =
+          let same = length-set phase.lines q (get_or phase.lines q [] ++ steps) in
+          let was = h.lines in omega (arith, same, was);
       ticks = h.ticks;
-      steps = All-set AreSteps phase.lines q (get_or phase.lines q [] ++ steps) (All-append (λ step. IsTrue (is_step step)) (get_or phase.lines q []) steps (steps_at phase.lines q h.steps) (items_steps ports Line items each)) h.steps;
+      steps = All-set AreSteps phase.lines q (get_or phase.lines q [] ++ steps)
+          (All-append (λ step. IsTrue (is_step step)) (get_or phase.lines q []) steps (steps_at phase.lines q h.steps)
+          (items_steps ports Line items each)) h.steps;
       scripts = h.scripts;
       keys_are = h.keys_are ∙ sym (append-nil keys);
       few_calls = let few = h.few_calls in omega (arith, few);
@@ -350,7 +442,9 @@ holds_more Clock words items ports phase keys calls characters_most ticks_most o
     let q = number_at words 0 in
     let n = sum_by ticks_by items in record {
       lines = h.lines;
-      ticks = let same = length-set phase.ticks q (get_or phase.ticks q 0 + n) in let was = h.ticks in omega (arith, same, was);
+      ticks =
+          let same = length-set phase.ticks q (get_or phase.ticks q 0 + n) in
+          let was = h.ticks in omega (arith, same, was);
       steps = h.steps;
       scripts = h.scripts;
       keys_are = h.keys_are ∙ sym (append-nil keys);
@@ -362,13 +456,19 @@ holds_more Clock words items ports phase keys calls characters_most ticks_most o
           omega (arith, few, more);
     }
 holds_more Caller words items ports phase keys calls characters_most ticks_most one good each h =
-    let script : PlainScript = record { port = number_at words 1; name = word_at words 0; calls = flat_map calls_by items } in
+    let script : PlainScript =
+    record { port = number_at words 1; name = word_at words 0; calls = flat_map calls_by items } in
     let called = items_calls ports Caller items each in record {
       lines = h.lines;
       ticks = h.ticks;
       steps = h.steps;
-      scripts = All-append (IsScriptWithin ports) phase.callers (script ∷ []) h.scripts (All-cons (IsScriptWithin ports) script [] (record { port = block_port_below ports Caller words refl good; calls = called.0 }) (All-nil (IsScriptWithin ports)));
-      keys_are = map-append key_of_script phase.callers (script ∷ []) ∙ ap (λ (ks : List PlainKey). ks ++ key_of_script script ∷ []) h.keys_are;
+      scripts = All-append (IsScriptWithin ports) phase.callers (script ∷ []) h.scripts
+          (All-cons (IsScriptWithin ports) script []
+          (record { port = block_port_below ports Caller words refl good; calls = called.0 })
+          (All-nil (IsScriptWithin ports)));
+      keys_are =
+          map-append key_of_script phase.callers (script ∷ [])
+          ∙ ap (λ (ks : List PlainKey). ks ++ key_of_script script ∷ []) h.keys_are;
       few_calls =
           let few = h.few_calls in
           let both = sum_by-append (λ (s : PlainScript). length s.calls) phase.callers (script ∷ []) in
@@ -387,10 +487,15 @@ holds_more (Step verb) words items ports phase keys calls characters_most ticks_
 holds_more (Call verb) words items ports phase keys calls characters_most ticks_most one good each h = cc
 
 -- after all blocks of a phase
-pub record HoldsAll (ports : ℕ) (phase : PlainPhase) (keys : List PlainKey) (calls : ℕ) (characters_most ticks_most : Counts) (blocks : List Block) : Type 0 where
-  pub all : Holds ports (fold with_block phase blocks) (keys ++ caller_keys blocks) (calls + steps_count blocks) (λ p. characters_most p + characters_count p blocks) (λ p. ticks_most p + ticks_count p blocks)
+pub record HoldsAll (ports : ℕ) (phase : PlainPhase) (keys : List PlainKey) (calls : ℕ)
+    (characters_most ticks_most : Counts) (blocks : List Block) : Type 0 where
+  pub all : Holds ports (fold with_block phase blocks) (keys ++ caller_keys blocks) (calls + steps_count blocks)
+      (λ p. characters_most p + characters_count p blocks) (λ p. ticks_most p + ticks_count p blocks)
 
-holds_all : (blocks : List Block) (ports : ℕ) (phase : PlainPhase) (keys : List PlainKey) (calls : ℕ) (characters_most ticks_most : Counts) → AllByRecursion (IsGoodBlock ports) blocks → Holds ports phase keys calls characters_most ticks_most
+holds_all : (blocks : List Block) (ports : ℕ) (phase : PlainPhase) (keys : List PlainKey) (calls : ℕ)
+    (characters_most ticks_most : Counts)
+    → AllByRecursion (IsGoodBlock ports) blocks
+    → Holds ports phase keys calls characters_most ticks_most
     → HoldsAll ports phase keys calls characters_most ticks_most blocks
 holds_all [] ports phase keys calls characters_most ticks_most good h = record {
   all = record {
@@ -405,18 +510,27 @@ holds_all [] ports phase keys calls characters_most ticks_most good h = record {
   };
 }
 holds_all (block ∷ blocks) ports phase keys calls characters_most ticks_most good h =
-    let one = holds_more block.opening.verb block.opening.arguments block.items ports phase keys calls characters_most ticks_most good.0.opens_one good.0.good good.0.each h in
-    let r = (holds_all blocks ports (with_block phase block) (keys ++ caller_key block.opening.verb block.opening.arguments) (calls + length block.items)
-    (λ p. characters_most p + block_characters p block) (λ p. ticks_most p + block_ticks p block) good.1 one).all in record {
+    let one = holds_more block.opening.verb block.opening.arguments block.items ports phase keys calls characters_most
+    ticks_most good.0.opens_one good.0.good good.0.each h in
+    let r = (holds_all blocks ports (with_block phase block)
+    (keys ++ caller_key block.opening.verb block.opening.arguments) (calls + length block.items)
+    (λ p. characters_most p + block_characters p block) (λ p. ticks_most p + block_ticks p block) good.1 one).all
+    in record {
       all = record {
         lines = r.lines;
         ticks = r.ticks;
         steps = r.steps;
         scripts = r.scripts;
-        keys_are = r.keys_are ∙ append_assoc keys (caller_key block.opening.verb block.opening.arguments) (caller_keys blocks);
-        few_calls = let few = r.few_calls in let cons = sum_by-cons (λ (b : Block). length b.items) block blocks in omega (arith, few, cons);
-        few_characters = λ p. let few = r.few_characters p in let cons = sum_by-cons (block_characters p) block blocks in omega (arith, few, cons);
-        few_ticks = λ p. let few = r.few_ticks p in let cons = sum_by-cons (block_ticks p) block blocks in omega (arith, few, cons);
+        keys_are =
+            r.keys_are ∙ append_assoc keys (caller_key block.opening.verb block.opening.arguments) (caller_keys blocks);
+        few_calls =
+            let few = r.few_calls in
+            let cons = sum_by-cons (λ (b : Block). length b.items) block blocks in omega (arith, few, cons);
+        few_characters = λ p.
+            let few = r.few_characters p in
+            let cons = sum_by-cons (block_characters p) block blocks in omega (arith, few, cons);
+        few_ticks = λ p.
+            let few = r.few_ticks p in let cons = sum_by-cons (block_ticks p) block blocks in omega (arith, few, cons);
       };
     }
 
@@ -447,27 +561,43 @@ holds_empty ports = record {
 
 -- ---- callers
 
-on_one : (key : PlainKey) (p : ℕ) (b : Bool) → (key.port == p) ≡ b → (n : ℕ) → n ≤ 16 → (key.port ≡ p → n < 16) → n + cond b 1 0 ≤ 16
+on_one : (key : PlainKey) (p : ℕ) (b : Bool)
+    → (key.port == p) ≡ b
+    → (n : ℕ)
+    → n ≤ 16
+    → (key.port ≡ p → n < 16)
+    → n + cond b 1 0 ≤ 16
 on_one key p true e n few less = let lt = less (eqb-true key.port p e) in omega (arith, lt)
 on_one key p false e n few less = omega (arith, few)
 
 -- at most 16 callers of a port fit
-callers_few : (keys before : List PlainKey) (p : ℕ) → CallersFit before keys → callers_on p before ≤ 16 → callers_on p (before ++ keys) ≤ 16
+callers_few : (keys before : List PlainKey) (p : ℕ)
+    → CallersFit before keys
+    → callers_on p before ≤ 16
+    → callers_on p (before ++ keys) ≤ 16
 callers_few [] before p fit few = subst (λ (ks : List PlainKey). callers_on p ks ≤ 16) (sym (append-nil before)) few
 callers_few (key ∷ keys) before p fit few =
     let both = sum_by-append (λ (k : PlainKey). cond (k.port == p) 1 0) before (key ∷ []) in
     let lt : key.port ≡ p → callers_on p before < 16 = λ same. subst (λ (q : ℕ). callers_on q before < 16) same fit.1 in
     let here = on_one key p (key.port == p) refl (callers_on p before) few lt in
     let next : callers_on p (before ++ key ∷ []) ≤ 16 = omega (arith, both, here) in
-    subst (λ (ks : List PlainKey). callers_on p ks ≤ 16) (append_assoc before (key ∷ []) keys) (callers_few keys (before ++ key ∷ []) p fit.2 next)
+    subst (λ (ks : List PlainKey). callers_on p ks ≤ 16) (append_assoc before (key ∷ []) keys)
+    (callers_few keys (before ++ key ∷ []) p fit.2 next)
 
-count_by_keys : (scripts : List PlainScript) (p : ℕ) → length (filter (λ (s : PlainScript). s.port == p) scripts) ≡ callers_on p (map key_of_script scripts)
+count_by_keys : (scripts : List PlainScript) (p : ℕ)
+    → length (filter (λ (s : PlainScript). s.port == p) scripts) ≡ callers_on p (map key_of_script scripts)
 count_by_keys [] p = refl
 count_by_keys (script ∷ scripts) p =
     let rest = count_by_keys scripts p in
-    let cons = sum_by-cons (λ (k : PlainKey). cond (k.port == p) 1 0) (key_of_script script) (map key_of_script scripts) in
-    let here : length (filter (λ (s : PlainScript). s.port == p) (script ∷ scripts)) ≡ cond (script.port == p) 1 0 + length (filter (λ (s : PlainScript). s.port == p) scripts) =
-    elim (script.port == p) as (λ b. length (cond b (script ∷ filter (λ (s : PlainScript). s.port == p) scripts) (filter (λ (s : PlainScript). s.port == p) scripts)) ≡ cond b 1 0 + length (filter (λ (s : PlainScript). s.port == p) scripts)) [
+    let cons =
+    sum_by-cons (λ (k : PlainKey). cond (k.port == p) 1 0) (key_of_script script) (map key_of_script scripts) in
+    let here : length (filter (λ (s : PlainScript). s.port == p) (script ∷ scripts))
+    ≡ cond (script.port == p) 1 0 + length (filter (λ (s : PlainScript). s.port == p) scripts) =
+    elim (script.port == p)
+    as (λ b.
+    length (cond b (script ∷ filter (λ (s : PlainScript). s.port == p) scripts)
+    (filter (λ (s : PlainScript). s.port == p) scripts))
+    ≡ cond b 1 0 + length (filter (λ (s : PlainScript). s.port == p) scripts)) [
       | true ↦ omega arith
       | false ↦ omega arith
     ] in
@@ -480,7 +610,8 @@ abbrev pub name_of : PlainScript → List ℕ
 name_of s = s.name
 
 other_by : (one other : List ℕ) (b : Bool) → bytes_eq other one ≡ b → bytes_eq one other ≡ false → b ≡ false
-other_by one other true e h = absurd (let same = (bytes_eq-Decides other one).0 e in let yes = (bytes_eq-Decides one other).1 (sym same) in cc)
+other_by one other true e h =
+    absurd (let same = (bytes_eq-Decides other one).0 e in let yes = (bytes_eq-Decides one other).1 (sym same) in cc)
 other_by one other false e h = refl
 
 either_false : (a b : Bool) → (a || b) ≡ false → (a ≡ false) × (b ≡ false)
@@ -490,61 +621,92 @@ either_false false b h = (refl, h)
 other_name : (one other : List ℕ) → bytes_eq one other ≡ false → bytes_eq other one ≡ false
 other_name one other h = other_by one other (bytes_eq other one) refl h
 
-named_by : (script : PlainScript) (scripts : List PlainScript) (name : List ℕ) (p : ℕ) (b : Bool) → (script.port == p) ≡ b → (b && bytes_eq script.name name) ≡ false → list_any (bytes_eq name) (map name_of (on_this p scripts)) ≡ false
+named_by : (script : PlainScript) (scripts : List PlainScript) (name : List ℕ) (p : ℕ) (b : Bool)
+    → (script.port == p) ≡ b
+    → (b && bytes_eq script.name name) ≡ false
+    → list_any (bytes_eq name) (map name_of (on_this p scripts)) ≡ false
     → list_any (bytes_eq name) (map name_of (cond b (script ∷ on_this p scripts) (on_this p scripts))) ≡ false
-named_by script scripts name p true e h rest = let none = other_name script.name name h in ap (λ t. t || list_any (bytes_eq name) (map name_of (on_this p scripts))) none ∙ rest
+named_by script scripts name p true e h rest =
+    let none = other_name script.name name h in
+    ap (λ t. t || list_any (bytes_eq name) (map name_of (on_this p scripts))) none ∙ rest
 named_by script scripts name p false e h rest = rest
 
 -- a name that no key of the port has
-not_named : (scripts : List PlainScript) (name : List ℕ) (p : ℕ) → list_any (same_key name p) (map key_of_script scripts) ≡ false → list_any (bytes_eq name) (map name_of (on_this p scripts)) ≡ false
+not_named : (scripts : List PlainScript) (name : List ℕ) (p : ℕ)
+    → list_any (same_key name p) (map key_of_script scripts) ≡ false
+    → list_any (bytes_eq name) (map name_of (on_this p scripts)) ≡ false
 not_named [] name p h = refl
 not_named (script ∷ scripts) name p h =
-    let parts = either_false (same_key name p (key_of_script script)) (list_any (same_key name p) (map key_of_script scripts)) h in
+    let parts =
+    either_false (same_key name p (key_of_script script)) (list_any (same_key name p) (map key_of_script scripts)) h in
     let rest = not_named scripts name p parts.1 in
     named_by script scripts name p (script.port == p) refl parts.0 rest
 
-on_by : (p : ℕ) (first : PlainScript) (before : List PlainScript) (script : PlainScript) (b : Bool) → on_this p (before ++ script ∷ []) ≡ on_this p before ++ on_this p (script ∷ [])
-    → cond b (first ∷ on_this p (before ++ script ∷ [])) (on_this p (before ++ script ∷ [])) ≡ cond b (first ∷ on_this p before) (on_this p before) ++ on_this p (script ∷ [])
+on_by : (p : ℕ) (first : PlainScript) (before : List PlainScript) (script : PlainScript) (b : Bool)
+    → on_this p (before ++ script ∷ []) ≡ on_this p before ++ on_this p (script ∷ [])
+    → cond b (first ∷ on_this p (before ++ script ∷ [])) (on_this p (before ++ script ∷ []))
+    ≡ cond b (first ∷ on_this p before) (on_this p before) ++ on_this p (script ∷ [])
 on_by p first before script true e = ap (λ (xs : List PlainScript). first ∷ xs) e
 on_by p first before script false e = e
 
 abbrev pub names_from : List (List ℕ) → List PlainScript → List (List ℕ)
 names_from names scripts = fold (λ names s. with_name names s.name) names scripts
 
-on-append : (p : ℕ) (before : List PlainScript) (script : PlainScript) → on_this p (before ++ script ∷ []) ≡ on_this p before ++ on_this p (script ∷ [])
+on-append : (p : ℕ) (before : List PlainScript) (script : PlainScript)
+    → on_this p (before ++ script ∷ []) ≡ on_this p before ++ on_this p (script ∷ [])
 on-append p [] script = refl
 on-append p (first ∷ before) script = on_by p first before script (first.port == p) (on-append p before script)
 
-own_by : (script : PlainScript) (scripts before : List PlainScript) (p : ℕ) (b : Bool) → (script.port == p) ≡ b → list_any (same_key script.name script.port) (map key_of_script before) ≡ false
+own_by : (script : PlainScript) (scripts before : List PlainScript) (p : ℕ) (b : Bool)
+    → (script.port == p) ≡ b
+    → list_any (same_key script.name script.port) (map key_of_script before) ≡ false
     → on_this p (before ++ script ∷ []) ≡ on_this p before ++ cond b (script ∷ []) []
-    → names_from (map name_of (on_this p (before ++ script ∷ []))) (on_this p scripts) ≡ map name_of (on_this p (before ++ script ∷ [])) ++ map name_of (on_this p scripts)
-    → names_from (map name_of (on_this p before)) (cond b (script ∷ on_this p scripts) (on_this p scripts)) ≡ map name_of (on_this p before) ++ map name_of (cond b (script ∷ on_this p scripts) (on_this p scripts))
+    → names_from (map name_of (on_this p (before ++ script ∷ []))) (on_this p scripts)
+    ≡ map name_of (on_this p (before ++ script ∷ [])) ++ map name_of (on_this p scripts)
+    → names_from (map name_of (on_this p before)) (cond b (script ∷ on_this p scripts) (on_this p scripts))
+    ≡ map name_of (on_this p before) ++ map name_of (cond b (script ∷ on_this p scripts) (on_this p scripts))
 own_by script scripts before p true e free here rest =
     let port = eqb-true script.port p e in
-    let none : list_any (bytes_eq script.name) (map name_of (on_this p before)) ≡ false = not_named before script.name p (subst (λ (q : ℕ). list_any (same_key script.name q) (map key_of_script before) ≡ false) port free) in
-    let named : map name_of (on_this p (before ++ script ∷ [])) ≡ map name_of (on_this p before) ++ script.name ∷ [] = ap (map name_of) here ∙ map-append name_of (on_this p before) (script ∷ []) in
-    ap (λ (t : Bool). names_from (cond t (map name_of (on_this p before)) (map name_of (on_this p before) ++ script.name ∷ [])) (on_this p scripts)) none
+    let none : list_any (bytes_eq script.name) (map name_of (on_this p before)) ≡ false =
+    not_named before script.name p
+    (subst (λ (q : ℕ). list_any (same_key script.name q) (map key_of_script before) ≡ false) port free) in
+    let named : map name_of (on_this p (before ++ script ∷ [])) ≡ map name_of (on_this p before) ++ script.name ∷ [] =
+    ap (map name_of) here ∙ map-append name_of (on_this p before) (script ∷ []) in
+    ap (λ (t : Bool). names_from
+    (cond t (map name_of (on_this p before)) (map name_of (on_this p before) ++ script.name ∷ [])) (on_this p scripts))
+    none
     ∙ ap (λ (ns : List (List ℕ)). names_from ns (on_this p scripts)) (sym named) ∙ rest
-    ∙ ap (λ (ns : List (List ℕ)). ns ++ map name_of (on_this p scripts)) named ∙ append_assoc (map name_of (on_this p before)) (script.name ∷ []) (map name_of (on_this p scripts))
+    ∙ ap (λ (ns : List (List ℕ)). ns ++ map name_of (on_this p scripts)) named
+    ∙ append_assoc (map name_of (on_this p before)) (script.name ∷ []) (map name_of (on_this p scripts))
 own_by script scripts before p false e free here rest =
     let same : on_this p (before ++ script ∷ []) ≡ on_this p before = here ∙ append-nil (on_this p before) in
-    subst (λ (xs : List PlainScript). names_from (map name_of xs) (on_this p scripts) ≡ map name_of xs ++ map name_of (on_this p scripts)) same rest
+    subst (λ (xs : List PlainScript).
+    names_from (map name_of xs) (on_this p scripts) ≡ map name_of xs ++ map name_of (on_this p scripts)) same rest
 
 -- the names of a port's callers are their names, one by one
-own_names : (scripts before : List PlainScript) (p : ℕ) → CallersFit (map key_of_script before) (map key_of_script scripts) → names_from (map name_of (on_this p before)) (on_this p scripts) ≡ map name_of (on_this p before) ++ map name_of (on_this p scripts)
+own_names : (scripts before : List PlainScript) (p : ℕ)
+    → CallersFit (map key_of_script before) (map key_of_script scripts)
+    → names_from (map name_of (on_this p before)) (on_this p scripts)
+    ≡ map name_of (on_this p before) ++ map name_of (on_this p scripts)
 own_names [] before p fit = sym (append-nil (map name_of (on_this p before)))
 own_names (script ∷ scripts) before p fit =
     let keys = map-append key_of_script before (script ∷ []) in
-    let fit' : CallersFit (map key_of_script (before ++ script ∷ [])) (map key_of_script scripts) = subst (λ (ks : List PlainKey). CallersFit ks (map key_of_script scripts)) (sym keys) fit.2 in
+    let fit' : CallersFit (map key_of_script (before ++ script ∷ [])) (map key_of_script scripts) =
+    subst (λ (ks : List PlainKey). CallersFit ks (map key_of_script scripts)) (sym keys) fit.2 in
     let rest = own_names scripts (before ++ script ∷ []) p fit' in
     own_by script scripts before p (script.port == p) refl fit.0 (on-append p before script) rest
 
 -- ---- a phase, and all phases
 
-phase_within : (ports : ℕ) (blocks : List Block) → IsGoodPhase ports blocks → Holds ports (phase_meaning ports blocks) (caller_keys blocks) (steps_count blocks) (λ p. characters_count p blocks) (λ p. ticks_count p blocks) → IsPhaseWithin ports (phase_meaning ports blocks)
+phase_within : (ports : ℕ) (blocks : List Block)
+    → IsGoodPhase ports blocks
+    → Holds ports (phase_meaning ports blocks) (caller_keys blocks) (steps_count blocks)
+    (λ p. characters_count p blocks) (λ p. ticks_count p blocks)
+    → IsPhaseWithin ports (phase_meaning ports blocks)
 phase_within ports blocks good h =
     let phase = phase_meaning ports blocks in
-    let fit : CallersFit [] (map key_of_script phase.callers) = subst (CallersFit []) (sym h.keys_are) good.callers_fit in record {
+    let fit : CallersFit [] (map key_of_script phase.callers) =
+    subst (CallersFit []) (sym h.keys_are) good.callers_fit in record {
       lines = h.lines;
       ticks = h.ticks;
       steps = h.steps;
@@ -556,9 +718,13 @@ phase_within ports blocks good h =
       own_names = λ p. own_names phase.callers [] p fit;
     }
 
-phase_holds : (ports : ℕ) (blocks : List Block) → IsGoodPhase ports blocks → Holds ports (phase_meaning ports blocks) (caller_keys blocks) (steps_count blocks) (λ p. characters_count p blocks) (λ p. ticks_count p blocks)
+phase_holds : (ports : ℕ) (blocks : List Block)
+    → IsGoodPhase ports blocks
+    → Holds ports (phase_meaning ports blocks) (caller_keys blocks) (steps_count blocks)
+    (λ p. characters_count p blocks) (λ p. ticks_count p blocks)
 phase_holds ports blocks good =
-    let r = (holds_all blocks ports (empty_phase ports) [] 0 (λ p. 0) (λ p. 0) good.each (holds_empty ports)).all in record {
+    let r = (holds_all blocks ports (empty_phase ports) [] 0 (λ p. 0) (λ p. 0) good.each (holds_empty ports)).all in
+    record {
       lines = r.lines;
       ticks = r.ticks;
       steps = r.steps;
@@ -572,13 +738,16 @@ phase_holds ports blocks good =
 pub record PhasesWithin (ports : ℕ) (phases : List (List Block)) : Type 0 where
   pub each : All (IsPhaseWithin ports) (map (phase_meaning ports) phases)
   pub few_calls : call_count (map (phase_meaning ports) phases) ≤ sum_by steps_count phases
-  pub few_characters : (p : ℕ) → character_count p (map (phase_meaning ports) phases) ≤ sum_by (characters_count p) phases
+  pub few_characters : (p : ℕ)
+      → character_count p (map (phase_meaning ports) phases) ≤ sum_by (characters_count p) phases
   pub few_ticks : (p : ℕ) → tick_count p (map (phase_meaning ports) phases) ≤ sum_by (ticks_count p) phases
 
 abbrev pub calls_in_phase : PlainPhase → ℕ
 calls_in_phase phase = sum_by (λ (script : PlainScript). length script.calls) phase.callers
 
-phases_within : (ports : ℕ) (phases : List (List Block)) → AllByRecursion (IsGoodPhase ports) phases → PhasesWithin ports phases
+phases_within : (ports : ℕ) (phases : List (List Block))
+    → AllByRecursion (IsGoodPhase ports) phases
+    → PhasesWithin ports phases
 phases_within ports [] good = record {
   each = All-nil (IsPhaseWithin ports);
   few_calls = omega arith;
@@ -618,7 +787,10 @@ pub record FlipsWithin (ports : ℕ) (flips : List ℕ) : Type 0 where
   pub least : All (λ n. 64 ≤ n) flips
   pub most : All (λ n. n ≤ 65536) flips
 
-flips_within : (arguments : List (List (List ℕ))) (version ports : ℕ) (flips : List ℕ) → AllByRecursion (IsGoodFlip version ports) arguments → FlipsWithin ports flips → FlipsWithin ports (fold with_flip flips arguments)
+flips_within : (arguments : List (List (List ℕ))) (version ports : ℕ) (flips : List ℕ)
+    → AllByRecursion (IsGoodFlip version ports) arguments
+    → FlipsWithin ports flips
+    → FlipsWithin ports (fold with_flip flips arguments)
 flips_within [] version ports flips good h = h
 flips_within (words ∷ arguments) version ports flips good h =
     let q = number_at words 0 in
@@ -648,10 +820,12 @@ written_within w good =
       flips = flips.count;
       some_flip = flips.least;
       few_flip = flips.most;
-      few_phases = let same = length-map w.phases (phase_meaning ports) in let few = good.few_phases in omega (arith, same, few);
+      few_phases =
+          let same = length-map w.phases (phase_meaning ports) in let few = good.few_phases in omega (arith, same, few);
       phases = all.each;
       few_calls = let some = all.few_calls in let few = good.few_steps in omega (arith, some, few);
-      few_characters = λ p. let some = all.few_characters p in let few = good.few_characters p in omega (arith, some, few);
+      few_characters = λ p.
+          let some = all.few_characters p in let few = good.few_characters p in omega (arith, some, few);
       few_ticks = λ p. let some = all.few_ticks p in let few = good.few_ticks p in omega (arith, some, few);
     }
 

@@ -1,5 +1,6 @@
 -- What the words of a session write: names of callers, characters that are bytes, and mode words.
-use Rattle.std.proofs.Common.{◌≡◌, ℕ, zero, suc, ◌+◌, ◌<◌, true, Option, None, Some, Result, Ok, Err, List, [], ◌∷◌, ◌++◌, length, map, drop, fold, replicate, refl, sym, subst, arith, get_or, set}
+use Rattle.std.proofs.Common.{◌≡◌, ℕ, zero, suc, ◌+◌, ◌<◌, true, Option, None, Some, Result, Ok, Err, List, []}
+use Rattle.std.proofs.Common.{◌∷◌, ◌++◌, length, map, drop, fold, replicate, refl, sym, subst, arith, get_or, set}
 use Rattle.std.specs.Prelude.{IfSome, flat_map, slice_index_or}
 use Rattle.std.specs.List.{AllByRecursion, filter_map, cons_option}
 use Rattle.std.specs.Result.{result_unwrap_or}
@@ -17,14 +18,16 @@ use Rattle.line_steps.specs.Steps.{rx_step}
 use Rattle.tty_calls.specs.Sessions.{PlainScript, PlainPhase, PlainSession}
 use Rattle.text_lines.specs.Values.{is_name, word_at, number_at, bytes_of}
 use Rattle.session_text.specs.declared.verbs.Verb.{Verb}
-use Rattle.session_text.specs.declared.verbs.Verb.TheVariants.{Session, Ports, Flip, Phase, Line, Clock, Caller, Tick, End, Step, Call}
+use Rattle.session_text.specs.declared.verbs.Verb.TheVariants.{Session, Ports, Flip, Phase, Line}
+use Rattle.session_text.specs.declared.verbs.Verb.TheVariants.{Clock, Caller, Tick, End, Step, Call}
 use Rattle.session_text.specs.declared.verbs.LineVerb.{LineVerb}
 use Rattle.session_text.specs.declared.verbs.LineVerb.TheVariants.{Rx, Rxp, Rxf, Break, Mask, Unmask, Idle, Trigger}
 use Rattle.session_text.specs.declared.verbs.CallVerb.{CallVerb}
 use Rattle.session_text.specs.declared.verbs.CallVerb.TheVariants as call
 use Rattle.session_text.specs.Stands.{is_good}
 use Rattle.session_text.specs.Meaning.{steps_in, call_on, empty_phase}
-use Rattle.session_text.specs.Grammar.{Item, Block, steps_by, calls_by, with_block, phase_meaning, IsGoodBlock, IsGoodPhase, ports_of, Spells}
+use Rattle.session_text.specs.Grammar.{Item, Block, steps_by, calls_by, with_block}
+use Rattle.session_text.specs.Grammar.{phase_meaning, IsGoodBlock, IsGoodPhase, ports_of, Spells}
 use Rattle.session_text.proofs.Fits.{good_parts, no_fault_at, word_none}
 use Rattle.session_text.specs.Writable.{IsByteStep, SetsModeWords, IsWrittenScript, IsWrittenPhase}
 
@@ -46,7 +49,10 @@ module _ {A : Type 0} (P : A → Type 0) where
   each_at (x ∷ xs) zero d h k = h.0
   each_at (x ∷ xs) (suc i) d h k = each_at xs i d h.1 k
 
-  each_flat : {B : Type 0} (f : B → List A) → ((b : B) → AllByRecursion P (f b)) → (xs : List B) → AllByRecursion P (flat_map f xs)
+  each_flat : {B : Type 0} (f : B → List A)
+      → ((b : B) → AllByRecursion P (f b))
+      → (xs : List B)
+      → AllByRecursion P (flat_map f xs)
   each_flat f h [] = tt
   each_flat f h (x ∷ xs) = each_of_both (f x) (flat_map f xs) (h x) (each_flat f h xs)
 
@@ -63,7 +69,9 @@ all_bytes : (bytes : List ℕ) → IsBytes bytes → AllBytes bytes
 all_bytes [] h = tt
 all_bytes (b ∷ bytes) h = (h 0, all_bytes bytes (λ i. h (suc i)))
 
-decoded : (digits : List ℕ) (read : Result (List ℕ) FromHexError) → decode_of digits ≡ read → AllBytes (result_unwrap_or read [])
+decoded : (digits : List ℕ) (read : Result (List ℕ) FromHexError)
+    → decode_of digits ≡ read
+    → AllBytes (result_unwrap_or read [])
 decoded digits (Ok bytes) h = all_bytes bytes (decode_of-ok digits bytes h).3
 decoded digits (Err e) h = tt
 
@@ -80,7 +88,8 @@ verb_steps Unmask words = (tt, tt)
 verb_steps Idle words = (tt, tt)
 verb_steps Trigger words = (tt, tt)
 
-item_steps : (verb : Verb) (words : List (List ℕ)) → AllByRecursion IsByteStep (steps_by (record { verb = verb; arguments = words }))
+item_steps : (verb : Verb) (words : List (List ℕ))
+    → AllByRecursion IsByteStep (steps_by (record { verb = verb; arguments = words }))
 item_steps (Step verb) words = verb_steps verb words
 item_steps Session words = tt
 item_steps Ports words = tt
@@ -99,7 +108,10 @@ mode_words : (texts : List (List ℕ)) → AllByRecursion IsModeWord (filter_map
 mode_words [] = tt
 mode_words (text ∷ texts) = one (mode_of text) (word_of-spelled text) (mode_words texts)
   where
-    one : (word : Option Word) → (IfSome word (λ w. IsModeWord w × (word_text w ≡ text))) → AllByRecursion IsModeWord (filter_map mode_of texts) → AllByRecursion IsModeWord (cons_option word (filter_map mode_of texts))
+    one : (word : Option Word)
+        → (IfSome word (λ w. IsModeWord w × (word_text w ≡ text)))
+        → AllByRecursion IsModeWord (filter_map mode_of texts)
+        → AllByRecursion IsModeWord (cons_option word (filter_map mode_of texts))
     one None h k = k
     one (Some word) h k = (h.0, k)
 
@@ -124,7 +136,8 @@ call_sets call.Vhangup h words = tt
 call_sets call.Send h words = tt
 call_sets call.Take h words = tt
 
-item_calls : (verb : Verb) (words : List (List ℕ)) → AllByRecursion SetsModeWords (calls_by (record { verb = verb; arguments = words }))
+item_calls : (verb : Verb) (words : List (List ℕ))
+    → AllByRecursion SetsModeWords (calls_by (record { verb = verb; arguments = words }))
 item_calls (Call verb) words = (call_sets verb (number_at words 0) words, tt)
 item_calls Session words = tt
 item_calls Ports words = tt
@@ -139,27 +152,39 @@ item_calls (Step verb) words = tt
 
 -- ---- a block, a phase, a session
 
-caller_named : (ports : ℕ) (words : List (List ℕ)) → is_good ports Caller words ≡ true → is_name (word_at words 0) ≡ true
+caller_named : (ports : ℕ) (words : List (List ℕ))
+    → is_good ports Caller words ≡ true
+    → is_name (word_at words 0) ≡ true
 caller_named ports words good =
     let parts = good_parts ports Caller words good in
     let count : length words ≡ 2 = eqb-true (length words) 2 parts.0 in
     word_none (is_name (word_at words 0)) (no_fault_at ports Caller words 0 0 parts.1 (omega (arith, count)))
 
-with_block_written : (ports : ℕ) (verb : Verb) (words : List (List ℕ)) (items : List Item) (phase : PlainPhase) → is_good ports verb words ≡ true → IsWrittenPhase phase
+with_block_written : (ports : ℕ) (verb : Verb) (words : List (List ℕ)) (items : List Item) (phase : PlainPhase)
+    → is_good ports verb words ≡ true
+    → IsWrittenPhase phase
     → IsWrittenPhase (with_block phase (record { opening = record { verb = verb; arguments = words }; items = items }))
 with_block_written ports Line words items phase good h =
-    let steps : AllByRecursion IsByteStep (flat_map steps_by items) = each_flat IsByteStep steps_by (λ item. item_steps item.verb item.arguments) items in
+    let steps : AllByRecursion IsByteStep (flat_map steps_by items) =
+    each_flat IsByteStep steps_by (λ item. item_steps item.verb item.arguments) items in
     record {
-      lines = each_set (AllByRecursion IsByteStep) phase.lines (number_at words 0) (slice_index_or phase.lines (number_at words 0) [] ++ flat_map steps_by items) h.lines
-          (each_of_both IsByteStep (slice_index_or phase.lines (number_at words 0) []) (flat_map steps_by items) (each_at (AllByRecursion IsByteStep) phase.lines (number_at words 0) [] h.lines tt) steps);
+      lines = each_set (AllByRecursion IsByteStep) phase.lines (number_at words 0)
+          (slice_index_or phase.lines (number_at words 0) [] ++ flat_map steps_by items) h.lines
+          (each_of_both IsByteStep (slice_index_or phase.lines (number_at words 0) []) (flat_map steps_by items)
+          (each_at (AllByRecursion IsByteStep) phase.lines (number_at words 0) [] h.lines tt) steps);
       scripts = h.scripts;
     }
 with_block_written ports Clock words items phase good h = record { lines = h.lines; scripts = h.scripts }
 with_block_written ports Caller words items phase good h =
-    let calls : AllByRecursion SetsModeWords (flat_map calls_by items) = each_flat SetsModeWords calls_by (λ item. item_calls item.verb item.arguments) items in
-    let script : PlainScript = record { port = number_at words 1; name = word_at words 0; calls = flat_map calls_by items } in
+    let calls : AllByRecursion SetsModeWords (flat_map calls_by items) =
+    each_flat SetsModeWords calls_by (λ item. item_calls item.verb item.arguments) items in
+    let script : PlainScript =
+    record { port = number_at words 1; name = word_at words 0; calls = flat_map calls_by items } in
     let written : IsWrittenScript script = record { named = caller_named ports words good; calls = calls } in
-    record { lines = h.lines; scripts = each_of_both IsWrittenScript phase.callers (script ∷ []) h.scripts (written, tt) }
+    record {
+      lines = h.lines;
+      scripts = each_of_both IsWrittenScript phase.callers (script ∷ []) h.scripts (written, tt);
+    }
 with_block_written ports Session words items phase good h = h
 with_block_written ports Ports words items phase good h = h
 with_block_written ports Flip words items phase good h = h
@@ -169,19 +194,30 @@ with_block_written ports End words items phase good h = h
 with_block_written ports (Step verb) words items phase good h = h
 with_block_written ports (Call verb) words items phase good h = h
 
-blocks_written : (ports : ℕ) (blocks : List Block) (phase : PlainPhase) → AllByRecursion (IsGoodBlock ports) blocks → IsWrittenPhase phase → IsWrittenPhase (fold with_block phase blocks)
+blocks_written : (ports : ℕ) (blocks : List Block) (phase : PlainPhase)
+    → AllByRecursion (IsGoodBlock ports) blocks
+    → IsWrittenPhase phase
+    → IsWrittenPhase (fold with_block phase blocks)
 blocks_written ports [] phase good h = h
 blocks_written ports (block ∷ blocks) phase good h =
-    blocks_written ports blocks (with_block phase block) good.1 (with_block_written ports block.opening.verb block.opening.arguments block.items phase good.0.good h)
+    blocks_written ports blocks (with_block phase block) good.1
+    (with_block_written ports block.opening.verb block.opening.arguments block.items phase good.0.good h)
 
 no_lines : (ports : ℕ) → AllByRecursion (AllByRecursion IsByteStep) (replicate ports [])
 no_lines zero = tt
 no_lines (suc n) = (tt, no_lines n)
 
-phases_written : (ports : ℕ) (phases : List (List Block)) → AllByRecursion (IsGoodPhase ports) phases → AllByRecursion IsWrittenPhase (map (phase_meaning ports) phases)
+phases_written : (ports : ℕ) (phases : List (List Block))
+    → AllByRecursion (IsGoodPhase ports) phases
+    → AllByRecursion IsWrittenPhase (map (phase_meaning ports) phases)
 phases_written ports [] good = tt
-phases_written ports (blocks ∷ phases) good =
-    (blocks_written ports blocks (empty_phase ports) good.0.each (record { lines = no_lines ports; scripts = tt }), phases_written ports phases good.1)
+phases_written ports (blocks ∷ phases) good = (
+  blocks_written ports blocks (empty_phase ports) good.0.each (record { lines = no_lines ports; scripts = tt }),
+  phases_written ports phases good.1,
+)
 
-pub spelled_written : (text : List ℕ) (session : PlainSession) → Spells text session → AllByRecursion IsWrittenPhase session.phases
-spelled_written text session h = subst (λ (s : PlainSession). AllByRecursion IsWrittenPhase s.phases) (sym h.means) (phases_written (ports_of h.written) h.written.phases h.good.phases)
+pub spelled_written : (text : List ℕ) (session : PlainSession)
+    → Spells text session
+    → AllByRecursion IsWrittenPhase session.phases
+spelled_written text session h = subst (λ (s : PlainSession). AllByRecursion IsWrittenPhase s.phases) (sym h.means)
+    (phases_written (ports_of h.written) h.written.phases h.good.phases)

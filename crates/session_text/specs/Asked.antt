@@ -6,5 +6,6 @@ use Rattle.tty_calls.specs.Limits.{byte_count, character_count}
 -- two for each byte that a call hands over, three for each call, and two for each character that arrives
 abbrev pub asked_of : ℕ → List PlainPhase → ℕ
 asked_of p phases =
-    2 * sum_by (λ script. sum_by byte_count script.calls) (scripts_over p phases) + 3 * sum_by (λ script. length script.calls) (scripts_over p phases)
+    2 * sum_by (λ script. sum_by byte_count script.calls) (scripts_over p phases)
+    + 3 * sum_by (λ script. length script.calls) (scripts_over p phases)
     + 2 * character_count p phases

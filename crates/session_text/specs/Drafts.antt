@@ -1,10 +1,12 @@
 -- A session as far as it was read.
-use Rattle.std.specs.Prelude.{ℕ, ◌∷◌, ◌++◌, List, [], replicate, slice_set, Option, None, Some, option_map, option_to_list}
+use Rattle.std.specs.Prelude.{ℕ, ◌∷◌, ◌++◌, List, [], replicate, slice_set}
+use Rattle.std.specs.Prelude.{Option, None, Some, option_map, option_to_list}
 use Rattle.tty_calls.specs.Plain.{PlainCall}
 use Rattle.tty_calls.specs.Sessions.{PlainScript, PlainPhase, PlainSession}
 use Rattle.text_lines.specs.Values.{word_at, number_at}
 use Rattle.session_text.specs.declared.verbs.Verb.{Verb}
-use Rattle.session_text.specs.declared.verbs.Verb.TheVariants.{Session, Ports, Flip, Phase, Line, Clock, Caller, Tick, End, Step, Call}
+use Rattle.session_text.specs.declared.verbs.Verb.TheVariants.{Session, Ports, Flip, Phase, Line}
+use Rattle.session_text.specs.declared.verbs.Verb.TheVariants.{Clock, Caller, Tick, End, Step, Call}
 use Rattle.session_text.specs.Meaning.{steps_in, call_in, empty_phase, with_steps, with_ticks, with_script}
 use Rattle.session_text.specs.Stands.{PlainStand}
 
@@ -34,7 +36,8 @@ with_open d change = record d { open_phase = option_map change d.open_phase }
 
 -- the open phase after an item that was read at this stand
 abbrev pub phase_after : PlainStand → Verb → List (List ℕ) → PlainPhase → PlainPhase
-phase_after s Caller arguments phase = with_script (record { port = number_at arguments 1; name = word_at arguments 0; calls = [] }) phase
+phase_after s Caller arguments phase =
+    with_script (record { port = number_at arguments 1; name = word_at arguments 0; calls = [] }) phase
 phase_after s Tick arguments phase = with_ticks s.port (number_at arguments 0) phase
 phase_after s (Step verb) arguments phase = with_steps s.port (steps_in verb arguments) phase
 phase_after s (Call verb) arguments phase = record phase { callers = with_call (call_in verb arguments) phase.callers }

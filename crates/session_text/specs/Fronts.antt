@@ -17,14 +17,17 @@ pub record PlainFront : Type 0 where
 abbrev pub front_at : PlainReading → ℕ → List (List (List ℕ)) → PlainFront
 front_at r n lines = record { session = session_with r.stand r.draft; line = n; rest = lines }
 
-abbrev pub then_front : Result PlainReading BadLine → (PlainReading → Result PlainFront BadLine) → Result PlainFront BadLine
+abbrev pub then_front : Result PlainReading BadLine → (PlainReading → Result PlainFront BadLine)
+    → Result PlainFront BadLine
 then_front (Ok r) later = later r
 then_front (Err line) later = Err line
 
 abbrev pub front_from : PlainReading → ℕ → List (List (List ℕ)) → Result PlainFront BadLine
 front_from r n [] = if is_ended r.stand.place then Ok (front_at r n []) else Err (record { line = n; reason = Order })
 front_from r n (words ∷ lines) =
-    if is_ended r.stand.place then Ok (front_at r n (words ∷ lines)) else then_front (reading_after_line r n words) (λ next. front_from next (next_line n) lines)
+    if is_ended r.stand.place
+    then Ok (front_at r n (words ∷ lines))
+    else then_front (reading_after_line r n words) (λ next. front_from next (next_line n) lines)
 
 abbrev pub front_in : List ℕ → Result PlainFront BadLine
 front_in text = front_from first_reading 1 (lines_in text)

@@ -1,5 +1,6 @@
 -- The sessions that texts spell: what is written, what it means, what is allowed.
-use Rattle.std.specs.Prelude.{◌≡◌, ℕ, ◌<◌, ◌≤◌, ◌==◌, Bool, true, false, IsTrue, List, [], ◌∷◌, ◌++◌, length, map, filter, fold, flat_map, sum_by, replicate, slice_set, if◌then◌else◌}
+use Rattle.std.specs.Prelude.{◌≡◌, ℕ, ◌<◌, ◌≤◌, ◌==◌, Bool, true, false, IsTrue, List, [], ◌∷◌, ◌++◌, length}
+use Rattle.std.specs.Prelude.{map, filter, fold, flat_map, sum_by, replicate, slice_set, if◌then◌else◌}
 use Rattle.std.specs.List.{list_any, AllByRecursion}
 use Rattle.tty_base.specs.declared.lines.LineStep.{LineStep}
 use Rattle.tty_calls.specs.Plain.{PlainCall}
@@ -7,7 +8,8 @@ use Rattle.tty_calls.specs.Sessions.{PlainPhase, PlainSession}
 use Rattle.text_lines.specs.Lines.{says}
 use Rattle.text_lines.specs.Values.{word_at, number_at}
 use Rattle.session_text.specs.declared.verbs.Verb.{Verb}
-use Rattle.session_text.specs.declared.verbs.Verb.TheVariants.{Session, Ports, Flip, Phase, Line, Clock, Caller, Tick, End, Step, Call}
+use Rattle.session_text.specs.declared.verbs.Verb.TheVariants.{Session, Ports, Flip, Phase, Line}
+use Rattle.session_text.specs.declared.verbs.Verb.TheVariants.{Clock, Caller, Tick, End, Step, Call}
 use Rattle.session_text.specs.Verbs.{verb_text}
 use Rattle.session_text.specs.Meaning.{steps_in, call_in, empty_phase, with_steps, with_ticks, with_script}
 use Rattle.session_text.specs.Stands.{PlainKey, key_in, holds, same_key, callers_on, arrivals, has_many, is_good}
@@ -84,7 +86,8 @@ abbrev pub with_block_of : Verb → List (List ℕ) → List Item → PlainPhase
 with_block_of Line arguments items phase = with_steps (number_at arguments 0) (flat_map steps_by items) phase
 with_block_of Clock arguments items phase = with_ticks (number_at arguments 0) (sum_by ticks_by items) phase
 with_block_of Caller arguments items phase =
-    with_script (record { port = number_at arguments 1; name = word_at arguments 0; calls = flat_map calls_by items }) phase
+    with_script (record { port = number_at arguments 1; name = word_at arguments 0; calls = flat_map calls_by items })
+    phase
 with_block_of other arguments items phase = phase
 
 abbrev pub with_block : PlainPhase → Block → PlainPhase
@@ -178,7 +181,10 @@ Once before (port ∷ ports) = (holds before port ≡ false) × Once (before ++ 
 -- each caller is none of those before it, of which fewer than 16 are on its port
 abbrev pub CallersFit : List PlainKey → List PlainKey → Type 0
 CallersFit before [] = Unit {0}
-CallersFit before (key ∷ keys) = (list_any (same_key key.name key.port) before ≡ false) × (callers_on key.port before < 16) × CallersFit (before ++ key ∷ []) keys
+CallersFit before (key ∷ keys) =
+    (list_any (same_key key.name key.port) before ≡ false)
+    × (callers_on key.port before < 16)
+    × CallersFit (before ++ key ∷ []) keys
 
 pub record IsGoodPhase (ports : ℕ) (blocks : List Block) : Type 0 where
   pub each : AllByRecursion (IsGoodBlock ports) blocks

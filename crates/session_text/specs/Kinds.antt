@@ -1,5 +1,6 @@
 -- What the arguments of an item may be, and what is wrong with them.
-use Rattle.std.specs.Prelude.{ℕ, ◌+◌, ◌/◌, ◌==◌, ◌&&◌, ◌||◌, nat_le, nat_lt, Bool, List, [], ◌∷◌, drop, length, Option, None, Some, is_some, codes, if◌then◌else◌}
+use Rattle.std.specs.Prelude.{ℕ, ◌+◌, ◌/◌, ◌==◌, ◌&&◌, ◌||◌, nat_le, nat_lt, Bool, List, [], ◌∷◌}
+use Rattle.std.specs.Prelude.{drop, length, Option, None, Some, is_some, codes, if◌then◌else◌}
 use Rattle.std.specs.Str.{bytes_eq}
 use Rattle.std.specs.List.{filter_map}
 use Rattle.std.specs.Option.{option_or}
@@ -17,7 +18,8 @@ use Rattle.text_lines.specs.Values.{is_number, number_of, is_name, is_hex, choic
 use Rattle.session_text.specs.declared.faults.Reason.{Reason}
 use Rattle.session_text.specs.declared.faults.Reason.TheVariants as reason
 use Rattle.session_text.specs.declared.verbs.Verb.{Verb}
-use Rattle.session_text.specs.declared.verbs.Verb.TheVariants.{Session, Ports, Flip, Phase, Line, Clock, Caller, Tick, End, Step, Call}
+use Rattle.session_text.specs.declared.verbs.Verb.TheVariants.{Session, Ports, Flip, Phase, Line}
+use Rattle.session_text.specs.declared.verbs.Verb.TheVariants.{Clock, Caller, Tick, End, Step, Call}
 use Rattle.session_text.specs.declared.verbs.LineVerb.{LineVerb}
 use Rattle.session_text.specs.declared.verbs.LineVerb.TheVariants.{Rx, Rxp, Rxf, Break, Mask, Unmask, Idle, Trigger}
 use Rattle.session_text.specs.declared.verbs.CallVerb.{CallVerb}
@@ -160,7 +162,8 @@ hex_fault word most = if is_hex word then limit_fault (nat_le (length word / 2) 
 abbrev pub fault_of : ℕ → Kind → List ℕ → Option Reason
 fault_of ports kind.Name word = word_fault (is_name word)
 fault_of ports kind.Port word = number_fault word (nat_lt (number_of word) ports)
-fault_of ports (kind.Number least most) word = number_fault word (nat_le least (number_of word) && nat_le (number_of word) most)
+fault_of ports (kind.Number least most) word =
+    number_fault word (nat_le least (number_of word) && nat_le (number_of word) most)
 fault_of ports kind.Trigger word = number_fault word (is_trigger (number_of word))
 fault_of ports (kind.Hex most) word = hex_fault word most
 fault_of ports kind.Access word = word_fault (is_some (access_of word))
@@ -173,4 +176,5 @@ fault_of ports kind.Mode word = word_fault (is_some (mode_of word))
 -- the first fault of an item's arguments from a place on
 abbrev pub fault_from : ℕ → Verb → ℕ → List (List ℕ) → Option Reason
 fault_from ports verb place [] = None
-fault_from ports verb place (word ∷ words) = option_or (fault_of ports (kind_at verb place) word) (fault_from ports verb (place + 1) words)
+fault_from ports verb place (word ∷ words) =
+    option_or (fault_of ports (kind_at verb place) word) (fault_from ports verb (place + 1) words)

@@ -1,5 +1,6 @@
 -- What the items of a session mean.
-use Rattle.std.specs.Prelude.{ℕ, ◌==◌, ◌+◌, List, [], ◌∷◌, ◌++◌, length, map, drop, replicate, slice_index, slice_index_or, slice_set, unwrap_or, Bool, true, false, if◌then◌else◌}
+use Rattle.std.specs.Prelude.{ℕ, ◌==◌, ◌+◌, List, [], ◌∷◌, ◌++◌, length, map, drop, replicate, slice_index}
+use Rattle.std.specs.Prelude.{slice_index_or, slice_set, unwrap_or, Bool, true, false, if◌then◌else◌}
 use Rattle.std.specs.List.{filter_map}
 use Rattle.tty_base.specs.declared.characters.Flag.{Flag}
 use Rattle.tty_base.specs.declared.characters.Flag.TheVariants as flag
@@ -11,7 +12,9 @@ use Rattle.tty_calls.specs.declared.calls.Access.TheVariants as access
 use Rattle.tty_calls.specs.declared.calls.When.TheVariants as when
 use Rattle.tty_calls.specs.declared.calls.Queue.TheVariants as queue
 use Rattle.tty_calls.specs.declared.calls.Act.TheVariants as act
-use Rattle.tty_calls.specs.Plain.{PlainCall, opens, closes, reads, writes, gets_modes, sets_modes, gets_disc, sets_disc, flushes, steers, counts_input, counts_output, excludes, admits, drains, gets_counts, hangs_up, sends_packet, takes_packet}
+use Rattle.tty_calls.specs.Plain.{PlainCall, opens, closes, reads, writes, gets_modes, sets_modes, gets_disc}
+use Rattle.tty_calls.specs.Plain.{sets_disc, flushes, steers, counts_input, counts_output, excludes, admits}
+use Rattle.tty_calls.specs.Plain.{drains, gets_counts, hangs_up, sends_packet, takes_packet}
 use Rattle.tty_calls.specs.Sessions.{PlainScript, PlainPhase}
 use Rattle.text_lines.specs.Values.{word_at, number_at, bytes_of}
 use Rattle.session_text.specs.declared.verbs.LineVerb.{LineVerb}
@@ -57,7 +60,8 @@ abbrev pub call_on : CallVerb → ℕ → List (List ℕ) → PlainCall
 call_on call.Open h arguments = opens h (unwrap_or (access_of (word_at arguments 1)) access.Rw) (length arguments == 3)
 call_on call.Read h arguments = reads h (number_at arguments 1)
 call_on call.Write h arguments = writes h (bytes_of (word_at arguments 1))
-call_on call.SetModes h arguments = sets_modes h (unwrap_or (when_of (word_at arguments 1)) when.Now) (filter_map mode_of (drop 2 arguments))
+call_on call.SetModes h arguments =
+    sets_modes h (unwrap_or (when_of (word_at arguments 1)) when.Now) (filter_map mode_of (drop 2 arguments))
 call_on call.SetDisc h arguments = sets_disc h (number_at arguments 1)
 call_on call.Flush h arguments = flushes h (unwrap_or (queue_of (word_at arguments 1)) queue.Both)
 call_on call.Xonc h arguments = steers h (unwrap_or (act_of (word_at arguments 1)) act.Ion)
@@ -82,7 +86,8 @@ abbrev pub empty_phase : ℕ → PlainPhase
 empty_phase ports = record { lines = replicate ports []; ticks = replicate ports 0; callers = [] }
 
 abbrev pub with_steps : ℕ → List LineStep → PlainPhase → PlainPhase
-with_steps port steps phase = record phase { lines = slice_set phase.lines port (slice_index_or phase.lines port [] ++ steps) }
+with_steps port steps phase =
+    record phase { lines = slice_set phase.lines port (slice_index_or phase.lines port [] ++ steps) }
 
 abbrev pub with_ticks : ℕ → ℕ → PlainPhase → PlainPhase
 with_ticks port count phase = record phase { ticks = slice_set phase.ticks port (slice_index phase.ticks port + count) }

@@ -22,7 +22,8 @@ first_reading = record { stand = first_stand; draft = first_draft }
 
 -- what the reader is after an item that is not wrong
 abbrev pub reading_with : PlainReading → Verb → List (List ℕ) → PlainReading
-reading_with r verb arguments = record { stand = stand_after r.stand verb arguments; draft = draft_after r.stand r.draft verb arguments }
+reading_with r verb arguments =
+    record { stand = stand_after r.stand verb arguments; draft = draft_after r.stand r.draft verb arguments }
 
 abbrev pub reading_after_item : PlainReading → ℕ → List (List ℕ) → Result Verb Reason → Result PlainReading BadLine
 reading_after_item r n arguments (Ok verb) = Ok (reading_with r verb arguments)
@@ -31,18 +32,22 @@ reading_after_item r n arguments (Err reason) = Err (record { line = n; reason =
 -- what the reader is after the line with this number, of these words
 abbrev pub reading_after_line : PlainReading → ℕ → List (List ℕ) → Result PlainReading BadLine
 reading_after_line r n [] = Ok r
-reading_after_line r n (word ∷ arguments) = if first_is 35 word then Ok r else reading_after_item r n arguments (verdict_on r.stand word arguments)
+reading_after_line r n (word ∷ arguments) =
+    if first_is 35 word then Ok r else reading_after_item r n arguments (verdict_on r.stand word arguments)
 
 abbrev pub session_at_end : PlainReading → ℕ → Result PlainSession BadLine
-session_at_end r n = if is_ended r.stand.place then Ok (session_with r.stand r.draft) else Err (record { line = n; reason = Order })
+session_at_end r n =
+    if is_ended r.stand.place then Ok (session_with r.stand r.draft) else Err (record { line = n; reason = Order })
 
-abbrev pub then_read : Result PlainReading BadLine → (PlainReading → Result PlainSession BadLine) → Result PlainSession BadLine
+abbrev pub then_read : Result PlainReading BadLine → (PlainReading → Result PlainSession BadLine)
+    → Result PlainSession BadLine
 then_read (Ok r) later = later r
 then_read (Err line) later = Err line
 
 abbrev pub session_from : PlainReading → ℕ → List (List (List ℕ)) → Result PlainSession BadLine
 session_from r n [] = session_at_end r n
-session_from r n (words ∷ lines) = then_read (reading_after_line r n words) (λ next. session_from next (next_line n) lines)
+session_from r n (words ∷ lines) =
+    then_read (reading_after_line r n words) (λ next. session_from next (next_line n) lines)
 
 abbrev pub session_in : List ℕ → Result PlainSession BadLine
 session_in text = session_from first_reading 1 (lines_in text)

@@ -19,7 +19,8 @@ stand_from s arguments (Err reason) = Err reason
 -- the stand after a line of these words
 abbrev pub stand_after_line : PlainStand → List (List ℕ) → Result PlainStand Reason
 stand_after_line s [] = Ok s
-stand_after_line s (word ∷ arguments) = if first_is 35 word then Ok s else stand_from s arguments (verdict_on s word arguments)
+stand_after_line s (word ∷ arguments) =
+    if first_is 35 word then Ok s else stand_from s arguments (verdict_on s word arguments)
 
 -- the line with this number, where it is wrong, or else what comes later
 abbrev pub or_later : ℕ → Result PlainStand Reason → (PlainStand → Option BadLine) → Option BadLine

@@ -8,7 +8,9 @@ use Rattle.tty_calls.specs.declared.calls.When.TheVariants.{Now, Drain, Flush}
 use Rattle.tty_calls.specs.declared.calls.Queue.TheVariants.{Input, Output, Both}
 use Rattle.tty_calls.specs.declared.calls.Act.TheVariants.{Ooff, Oon, Ioff, Ion}
 use Rattle.line_steps.specs.Steps.{rx_step}
-use Rattle.tty_calls.specs.Plain.{PlainCall, opens, closes, reads, writes, gets_modes, sets_modes, gets_disc, sets_disc, flushes, steers, counts_input, counts_output, excludes, admits, drains, gets_counts, hangs_up, sends_packet, takes_packet}
+use Rattle.tty_calls.specs.Plain.{PlainCall, opens, closes, reads, writes, gets_modes, sets_modes, gets_disc}
+use Rattle.tty_calls.specs.Plain.{sets_disc, flushes, steers, counts_input, counts_output, excludes, admits}
+use Rattle.tty_calls.specs.Plain.{drains, gets_counts, hangs_up, sends_packet, takes_packet}
 use Rattle.tty_calls.specs.Sessions.{PlainScript, PlainSession}
 use Rattle.session_text.specs.declared.faults.Reason.{Reason}
 use Rattle.session_text.specs.declared.faults.Reason.TheVariants.{Header, Word, Number, Hex, Order, Limit}
@@ -134,7 +136,8 @@ refused_rows =
 -- ---- texts that spell a session
 
 abbrev pub three_bytes_text : List ℕ
-three_bytes_text = codes "tty-session 1\nports 1\nphase\ncaller a 0\nopen 0 rw nonblock\nmodes 0 now raw\nphase\nline 0\nrx 68690a\ncaller a 0\nread 0 64\nclose 0\nend\n"
+three_bytes_text = codes
+    "tty-session 1\nports 1\nphase\ncaller a 0\nopen 0 rw nonblock\nmodes 0 now raw\nphase\nline 0\nrx 68690a\ncaller a 0\nread 0 64\nclose 0\nend\n"
 
 abbrev pub script : ℕ → List ℕ → List PlainCall → PlainScript
 script port name calls = record { port = port; name = name; calls = calls }
@@ -145,8 +148,16 @@ three_bytes_session = record {
   ports = 1;
   flips = 4096 ∷ [];
   phases =
-      record { lines = [] ∷ []; ticks = 0 ∷ []; callers = script 0 (codes "a") (opens 0 Rw true ∷ sets_modes 0 Now (Raw ∷ []) ∷ []) ∷ [] }
-      ∷ record { lines = (rx_step Normal 104 ∷ rx_step Normal 105 ∷ rx_step Normal 10 ∷ []) ∷ []; ticks = 0 ∷ []; callers = script 0 (codes "a") (reads 0 64 ∷ closes 0 ∷ []) ∷ [] }
+      record {
+        lines = [] ∷ [];
+        ticks = 0 ∷ [];
+        callers = script 0 (codes "a") (opens 0 Rw true ∷ sets_modes 0 Now (Raw ∷ []) ∷ []) ∷ [];
+      }
+      ∷ record {
+        lines = (rx_step Normal 104 ∷ rx_step Normal 105 ∷ rx_step Normal 10 ∷ []) ∷ [];
+        ticks = 0 ∷ [];
+        callers = script 0 (codes "a") (reads 0 64 ∷ closes 0 ∷ []) ∷ [];
+      }
       ∷ [];
 }
 
@@ -159,7 +170,8 @@ empty_session = record { version = 1; ports = 1; flips = 4096 ∷ []; phases = [
 -- each item of a line and of a clock, for several ports; comments, blanks, TABs and CRs
 abbrev pub items_text : List ℕ
 items_text =
-    codes "# lines and clocks\n\ntty-session 2\r\nports\t3\nflip 2 64\nflip 0 65536\nphase\nline 2\nrx 4aFf\nrxp 00\n rxf 7F\nbreak\nmask\nunmask\nidle 1000\ntrigger 14\nclock 0\ntick 1\ntick 65535\nline 0\nclock 2\ntick 7\n"
+    codes
+    "# lines and clocks\n\ntty-session 2\r\nports\t3\nflip 2 64\nflip 0 65536\nphase\nline 2\nrx 4aFf\nrxp 00\n rxf 7F\nbreak\nmask\nunmask\nidle 1000\ntrigger 14\nclock 0\ntick 1\ntick 65535\nline 0\nclock 2\ntick 7\n"
     ++ codes "end\n# over\n"
 
 abbrev pub items_session : PlainSession
@@ -169,7 +181,10 @@ items_session = record {
   flips = 65536 ∷ 4096 ∷ 64 ∷ [];
   phases =
       record {
-        lines = [] ∷ [] ∷ (rx_step Normal 74 ∷ rx_step Normal 255 ∷ rx_step Parity 0 ∷ rx_step Frame 127 ∷ Break ∷ Mask ∷ Unmask ∷ Idle 1000 ∷ Trigger 14 ∷ []) ∷ [];
+        lines =
+            [] ∷ []
+            ∷ (rx_step Normal 74 ∷ rx_step Normal 255 ∷ rx_step Parity 0 ∷ rx_step Frame 127 ∷ Break ∷ Mask ∷ Unmask
+            ∷ Idle 1000 ∷ Trigger 14 ∷ []) ∷ [];
         ticks = 65536 ∷ 0 ∷ 7 ∷ [];
         callers = [];
       }
@@ -179,16 +194,21 @@ items_session = record {
 -- each call
 abbrev pub calls_text : List ℕ
 calls_text =
-    codes "tty-session 1\nports 2\nphase\ncaller first_1 1\nopen 0 r\nopen 1 w\nopen 31 rw nonblock\nclose 0\nread 0 65536\nwrite 1 61fF\ngetm 1\nmodes 1 now raw sane\nmodes 1 drain echo -icanon min=0\nmodes 1 flush eol2=255\n"
-    ++ codes "getd 1\nsetd 1 4294967295\nflush 1 in\nflush 1 out\nflush 1 both\nxonc 1 ooff\nxonc 1 oon\nxonc 1 ioff\nxonc 1 ion\ninq 1\noutq 1\nexcl 1\nnxcl 1\ndrain 1\ncounts 1\nvhangup 1\nsend 1 c0\ntake 1\n"
+    codes
+    "tty-session 1\nports 2\nphase\ncaller first_1 1\nopen 0 r\nopen 1 w\nopen 31 rw nonblock\nclose 0\nread 0 65536\nwrite 1 61fF\ngetm 1\nmodes 1 now raw sane\nmodes 1 drain echo -icanon min=0\nmodes 1 flush eol2=255\n"
+    ++ codes
+    "getd 1\nsetd 1 4294967295\nflush 1 in\nflush 1 out\nflush 1 both\nxonc 1 ooff\nxonc 1 oon\nxonc 1 ioff\nxonc 1 ion\ninq 1\noutq 1\nexcl 1\nnxcl 1\ndrain 1\ncounts 1\nvhangup 1\nsend 1 c0\ntake 1\n"
     ++ codes "caller b 0\ncaller first_1 0\ninq 2\nend\n"
 
 abbrev pub first_calls : List PlainCall
 first_calls =
-    opens 0 R false ∷ opens 1 W false ∷ opens 31 Rw true ∷ closes 0 ∷ reads 0 65536 ∷ writes 1 (97 ∷ 255 ∷ []) ∷ gets_modes 1
-    ∷ sets_modes 1 Now (Raw ∷ Sane ∷ []) ∷ sets_modes 1 Drain (On 19 ∷ Off 18 ∷ Cc 6 0 ∷ []) ∷ sets_modes 1 Flush (Cc 14 255 ∷ [])
+    opens 0 R false ∷ opens 1 W false ∷ opens 31 Rw true ∷ closes 0 ∷ reads 0 65536 ∷ writes 1 (97 ∷ 255 ∷ [])
+    ∷ gets_modes 1
+    ∷ sets_modes 1 Now (Raw ∷ Sane ∷ []) ∷ sets_modes 1 Drain (On 19 ∷ Off 18 ∷ Cc 6 0 ∷ [])
+    ∷ sets_modes 1 Flush (Cc 14 255 ∷ [])
     ∷ gets_disc 1 ∷ sets_disc 1 4294967295 ∷ flushes 1 Input ∷ flushes 1 Output ∷ flushes 1 Both
-    ∷ steers 1 Ooff ∷ steers 1 Oon ∷ steers 1 Ioff ∷ steers 1 Ion ∷ counts_input 1 ∷ counts_output 1 ∷ excludes 1 ∷ admits 1 ∷ drains 1
+    ∷ steers 1 Ooff ∷ steers 1 Oon ∷ steers 1 Ioff ∷ steers 1 Ion ∷ counts_input 1 ∷ counts_output 1 ∷ excludes 1
+    ∷ admits 1 ∷ drains 1
     ∷ gets_counts 1 ∷ hangs_up 1 ∷ sends_packet 1 (192 ∷ []) ∷ takes_packet 1 ∷ []
 
 abbrev pub calls_session : PlainSession
@@ -200,7 +220,9 @@ calls_session = record {
       record {
         lines = [] ∷ [] ∷ [];
         ticks = 0 ∷ 0 ∷ [];
-        callers = script 1 (codes "first_1") first_calls ∷ script 0 (codes "b") [] ∷ script 0 (codes "first_1") (counts_input 2 ∷ []) ∷ [];
+        callers =
+            script 1 (codes "first_1") first_calls ∷ script 0 (codes "b") []
+            ∷ script 0 (codes "first_1") (counts_input 2 ∷ []) ∷ [];
       }
       ∷ [];
 }

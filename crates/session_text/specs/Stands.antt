@@ -1,5 +1,7 @@
 -- Where the reader stands, and what it says of a line there.
-use Rattle.std.specs.Prelude.{ℕ, ◌-◌, ◌/◌, ◌==◌, ◌&&◌, ◌||◌, nat_le, nat_lt, Bool, true, false, List, [], ◌∷◌, ◌++◌, length, replicate, count_by, slice_index, slice_set, Option, None, Some, is_none, Result, Ok, Err, codes, if◌then◌else◌}
+use Rattle.std.specs.Prelude.{ℕ, ◌-◌, ◌/◌, ◌==◌, ◌&&◌, ◌||◌, nat_le, nat_lt, Bool, true, false, List}
+use Rattle.std.specs.Prelude.{[], ◌∷◌, ◌++◌, length, replicate, count_by, slice_index, slice_set}
+use Rattle.std.specs.Prelude.{Option, None, Some, is_none, Result, Ok, Err, codes, if◌then◌else◌}
 use Rattle.std.specs.Str.{bytes_eq}
 use Rattle.std.specs.List.{list_any}
 use Rattle.std.specs.Option.{option_or}
@@ -7,7 +9,8 @@ use Rattle.text_lines.specs.Values.{word_at, number_at}
 use Rattle.session_text.specs.declared.faults.Reason.{Reason}
 use Rattle.session_text.specs.declared.faults.Reason.TheVariants as reason
 use Rattle.session_text.specs.declared.verbs.Verb.{Verb}
-use Rattle.session_text.specs.declared.verbs.Verb.TheVariants.{Session, Ports, Flip, Phase, Line, Clock, Caller, Tick, End, Step, Call}
+use Rattle.session_text.specs.declared.verbs.Verb.TheVariants.{Session, Ports, Flip, Phase, Line}
+use Rattle.session_text.specs.declared.verbs.Verb.TheVariants.{Clock, Caller, Tick, End, Step, Call}
 use Rattle.session_text.specs.declared.verbs.LineVerb.{LineVerb}
 use Rattle.session_text.specs.declared.verbs.LineVerb.TheVariants.{Rx, Rxp, Rxf, Break}
 use Rattle.session_text.specs.declared.verbs.CallVerb.{CallVerb}
@@ -142,7 +145,8 @@ has_many verb count = false
 abbrev pub is_over : PlainStand → Verb → List (List ℕ) → Bool
 is_over s Phase arguments = s.phases_left == 0
 is_over s Caller arguments = nat_le 16 (callers_on (number_at arguments 1) s.callers)
-is_over s (Step verb) arguments = s.steps_left == 0 || nat_lt (slice_index s.characters_left s.port) (arrivals verb arguments)
+is_over s (Step verb) arguments =
+    s.steps_left == 0 || nat_lt (slice_index s.characters_left s.port) (arrivals verb arguments)
 is_over s Tick arguments = s.steps_left == 0 || nat_lt (slice_index s.ticks_left s.port) (number_at arguments 0)
 is_over s (Call verb) arguments = s.steps_left == 0 || has_many verb (length arguments)
 is_over s verb arguments = false
@@ -154,12 +158,16 @@ abbrev pub is_good : ℕ → Verb → List (List ℕ) → Bool
 is_good ports verb arguments = may_have verb (length arguments) && is_none (fault_from ports verb 0 arguments)
 
 abbrev pub late_fault : PlainStand → Verb → List (List ℕ) → Option Reason
-late_fault s verb arguments = if has_stood s verb arguments then Some reason.Order else if is_over s verb arguments then Some reason.Limit else None
+late_fault s verb arguments =
+    if has_stood s verb arguments
+    then Some reason.Order
+    else if is_over s verb arguments then Some reason.Limit else None
 
 abbrev pub item_fault : PlainStand → Verb → List (List ℕ) → Option Reason
 item_fault s verb arguments =
     if may_stand verb s.place then (
-    if may_have verb (length arguments) then option_or (fault_from s.ports verb 0 arguments) (late_fault s verb arguments)
+    if may_have verb (length arguments) then option_or (fault_from s.ports verb 0 arguments)
+    (late_fault s verb arguments)
     else Some reason.Word)
     else Some reason.Order
 
@@ -173,7 +181,8 @@ verb_verdict s (Some verb) arguments = unless (item_fault s verb arguments) verb
 
 -- the first item
 abbrev pub first_verdict : PlainStand → List ℕ → List (List ℕ) → Result Verb Reason
-first_verdict s word arguments = if bytes_eq word (codes "tty-session") && is_good s.ports Session arguments then Ok Session else Err reason.Header
+first_verdict s word arguments =
+    if bytes_eq word (codes "tty-session") && is_good s.ports Session arguments then Ok Session else Err reason.Header
 
 abbrev pub verdict_at : PlainStand → Place → List ℕ → List (List ℕ) → Result Verb Reason
 verdict_at s place.Start word arguments = first_verdict s word arguments
@@ -196,11 +205,19 @@ abbrev pub stand_after : PlainStand → Verb → List (List ℕ) → PlainStand
 stand_after s Session arguments = record s { place = place.Head; version = number_at arguments 0 }
 stand_after s Ports arguments = record s { place = place.Before; ports = number_at arguments 0 }
 stand_after s Flip arguments = record s { flips = s.flips ++ number_at arguments 0 ∷ [] }
-stand_after s Phase arguments = record s { place = place.Phase; lines = []; clocks = []; callers = []; phases_left = s.phases_left - 1 }
-stand_after s Line arguments = record s { place = place.Line; lines = s.lines ++ number_at arguments 0 ∷ []; port = number_at arguments 0 }
-stand_after s Clock arguments = record s { place = place.Clock; clocks = s.clocks ++ number_at arguments 0 ∷ []; port = number_at arguments 0 }
-stand_after s Caller arguments = record s { place = place.Caller; callers = s.callers ++ key_in arguments ∷ []; port = number_at arguments 1 }
-stand_after s (Step verb) arguments = record s { steps_left = s.steps_left - 1; characters_left = left_after s.characters_left s.port (arrivals verb arguments) }
-stand_after s Tick arguments = record s { steps_left = s.steps_left - 1; ticks_left = left_after s.ticks_left s.port (number_at arguments 0) }
+stand_after s Phase arguments =
+    record s { place = place.Phase; lines = []; clocks = []; callers = []; phases_left = s.phases_left - 1 }
+stand_after s Line arguments =
+    record s { place = place.Line; lines = s.lines ++ number_at arguments 0 ∷ []; port = number_at arguments 0 }
+stand_after s Clock arguments =
+    record s { place = place.Clock; clocks = s.clocks ++ number_at arguments 0 ∷ []; port = number_at arguments 0 }
+stand_after s Caller arguments =
+    record s { place = place.Caller; callers = s.callers ++ key_in arguments ∷ []; port = number_at arguments 1 }
+stand_after s (Step verb) arguments = record s {
+  steps_left = s.steps_left - 1;
+  characters_left = left_after s.characters_left s.port (arrivals verb arguments);
+}
+stand_after s Tick arguments =
+    record s { steps_left = s.steps_left - 1; ticks_left = left_after s.ticks_left s.port (number_at arguments 0) }
 stand_after s (Call verb) arguments = record s { steps_left = s.steps_left - 1 }
 stand_after s End arguments = record s { place = place.Ended }

@@ -1,10 +1,12 @@
 -- The first words of lines.
-use Rattle.std.specs.Prelude.{ℕ, ◌==◌, Bool, true, false, List, [], ◌∷◌, Option, None, Some, option_map, codes, if◌then◌else◌}
+use Rattle.std.specs.Prelude.{ℕ, ◌==◌, Bool, true, false, List, [], ◌∷◌, Option}
+use Rattle.std.specs.Prelude.{None, Some, option_map, codes, if◌then◌else◌}
 use Rattle.std.specs.Str.{bytes_eq}
 use Rattle.std.specs.Option.{option_or}
 use Rattle.text_lines.specs.Values.{choice_of}
 use Rattle.session_text.specs.declared.verbs.Verb.{Verb}
-use Rattle.session_text.specs.declared.verbs.Verb.TheVariants.{Session, Ports, Flip, Phase, Line, Clock, Caller, Tick, End, Step, Call}
+use Rattle.session_text.specs.declared.verbs.Verb.TheVariants.{Session, Ports, Flip, Phase, Line}
+use Rattle.session_text.specs.declared.verbs.Verb.TheVariants.{Clock, Caller, Tick, End, Step, Call}
 use Rattle.session_text.specs.declared.verbs.LineVerb.{LineVerb}
 use Rattle.session_text.specs.declared.verbs.LineVerb.TheVariants.{Rx, Rxp, Rxf, Break, Mask, Unmask, Idle, Trigger}
 use Rattle.session_text.specs.declared.verbs.CallVerb.{CallVerb}
@@ -63,11 +65,14 @@ abbrev pub line_verbs : List LineVerb
 line_verbs = Rx ∷ Rxp ∷ Rxf ∷ Break ∷ Mask ∷ Unmask ∷ Idle ∷ Trigger ∷ []
 
 abbrev pub rarer_call_verbs : List CallVerb
-rarer_call_verbs = call.Xonc ∷ call.Inq ∷ call.Outq ∷ call.Excl ∷ call.Nxcl ∷ call.Drain ∷ call.Counts ∷ call.Vhangup ∷ call.Send ∷ call.Take ∷ []
+rarer_call_verbs =
+    call.Xonc ∷ call.Inq ∷ call.Outq ∷ call.Excl ∷ call.Nxcl ∷ call.Drain ∷ call.Counts ∷ call.Vhangup ∷ call.Send
+    ∷ call.Take ∷ []
 
 abbrev pub call_verbs : List CallVerb
 call_verbs =
-    call.Open ∷ call.Close ∷ call.Read ∷ call.Write ∷ call.GetModes ∷ call.SetModes ∷ call.GetDisc ∷ call.SetDisc ∷ call.Flush ∷ rarer_call_verbs
+    call.Open ∷ call.Close ∷ call.Read ∷ call.Write ∷ call.GetModes ∷ call.SetModes ∷ call.GetDisc ∷ call.SetDisc
+    ∷ call.Flush ∷ rarer_call_verbs
 
 -- the verb that a word is, if it is one
 abbrev pub block_verb_of : List ℕ → Option Verb
@@ -86,7 +91,8 @@ call_verb_of word = choice_of call_text call_verbs word
 abbrev pub verb_of : ℕ → List ℕ → Option Verb
 verb_of version word =
     if bytes_eq word (codes "flip") then (if version == 2 then Some Flip else None)
-    else option_or (block_verb_of word) (option_or (option_map Step (line_verb_of word)) (option_map Call (call_verb_of word)))
+    else option_or (block_verb_of word)
+    (option_or (option_map Step (line_verb_of word)) (option_map Call (call_verb_of word)))
 
 -- whether it is one of a call
 abbrev pub is_call : Option Verb → Bool

@@ -30,10 +30,18 @@ stand_of s = record {
 }
 
 abbrev pub phase_view : OpenPhase → PlainPhase
-phase_view p = record { lines = map (λ steps. steps.items) p.lines.items; ticks = p.ticks.items; callers = map script_of p.callers.items }
+phase_view p = record {
+  lines = map (λ steps. steps.items) p.lines.items;
+  ticks = p.ticks.items;
+  callers = map script_of p.callers.items;
+}
 
 abbrev pub draft_of : Draft → PlainDraft
-draft_of d = record { flips = d.flips.items; phases = map phase_of d.phases.items; open_phase = option_map phase_view d.open_phase }
+draft_of d = record {
+  flips = d.flips.items;
+  phases = map phase_of d.phases.items;
+  open_phase = option_map phase_view d.open_phase;
+}
 
 -- a reader's two parts, as they are lent
 abbrev pub reading_at : Stand → Draft → PlainReading

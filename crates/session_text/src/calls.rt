@@ -8,7 +8,8 @@ ghost use Rattle.text_lines.specs.Lines.{words_of};
 ghost use Rattle.text_lines.specs.Values.{is_hex, is_number, number_at, word_at};
 ghost use Rattle.session_text.specs.Kinds.{modes_in};
 ghost use Rattle.session_text.specs.Stands.{is_good};
-ghost use Rattle.session_text.specs.Meaning.{characters, steps_in, bare_call, call_on, call_in, hands_over, bytes_handed};
+ghost use Rattle.session_text.specs.Meaning.{characters, steps_in, bare_call, call_on};
+ghost use Rattle.session_text.specs.Meaning.{call_in, hands_over, bytes_handed};
 
 use super::verbs::{CallVerb, LineVerb, Verb};
 use super::words::{access_of, act_of, mode_of, queue_of, when_of};

@@ -1,13 +1,15 @@
 //! A session as far as it was read: its phases, the open phase, and what each item adds to them.
 
-ghost use Rattle.std.specs.Prelude.{◌≡◌, ◌<◌, ◌+◌, ◌∷◌, ◌++◌, [], Some, IfOk, OnOk, IsTrue, map, replicate, slice_index, slice_index_or, slice_set};
+ghost use Rattle.std.specs.Prelude.{◌≡◌, ◌<◌, ◌+◌, ◌∷◌, ◌++◌, [], Some, IfOk, OnOk, IsTrue};
+ghost use Rattle.std.specs.Prelude.{map, replicate, slice_index, slice_index_or, slice_set};
 ghost use Rattle.tty_calls.specs.Plain.{call_of as call_view};
 ghost use Rattle.tty_calls.specs.Sessions.{session_of as session_view, phase_of, script_of};
 ghost use Rattle.text_lines.specs.Values.{word_at, number_at};
 ghost use Rattle.session_text.specs.Kinds.{modes_in};
 ghost use Rattle.session_text.specs.Stands.{is_good};
 ghost use Rattle.session_text.specs.Meaning.{steps_in, call_in, bytes_handed, empty_phase};
-ghost use Rattle.session_text.specs.Drafts.{first_draft, all_phases, session_with, with_call, with_open, phase_after, draft_after};
+ghost use Rattle.session_text.specs.Drafts.{first_draft, all_phases, session_with};
+ghost use Rattle.session_text.specs.Drafts.{with_call, with_open, phase_after, draft_after};
 ghost use Rattle.session_text.specs.Views.{stand_of, phase_view, draft_of};
 
 use super::calls::{add_steps, call_of, hands_over};
@@ -67,7 +69,8 @@ impl Draft {
     ) -> Result<(), NoMemory>
         requires good { IsTrue (is_good stand.now.ports verb arguments.now) }
         requires modes { modes.now ≡ modes_in arguments.now }
-        ensures { OnOk result (draft_of self.new ≡ draft_after (stand_of stand.now) (draft_of self.old) verb arguments.now) }
+        ensures { OnOk result
+            (draft_of self.new ≡ draft_after (stand_of stand.now) (draft_of self.old) verb arguments.now) }
     {
         match verb {
             Verb::Session | Verb::Line | Verb::Clock | Verb::End => Ok(()),
@@ -92,7 +95,11 @@ impl Draft {
     }
 
     fn begin_phase(&mut self, alloc: Global, ports: u8) -> Result<(), NoMemory>
-        ensures { OnOk result (draft_of self.new ≡ record (draft_of self.old) { phases = all_phases (draft_of self.old); open_phase = Some (empty_phase ports) }) }
+        ensures { OnOk result (draft_of self.new
+            ≡ record (draft_of self.old) {
+              phases = all_phases (draft_of self.old);
+              open_phase = Some (empty_phase ports);
+            }) }
     {
         self.close_phase()?;
         self.open_phase = Some(OpenPhase::new(alloc, ports)?);
@@ -101,7 +108,8 @@ impl Draft {
 
     /// Adds the open phase to the phases.
     fn close_phase(&mut self) -> Result<(), NoMemory>
-        ensures { OnOk result (draft_of self.new ≡ record (draft_of self.old) { phases = all_phases (draft_of self.old); open_phase = None }) }
+        ensures { OnOk result (draft_of self.new
+            ≡ record (draft_of self.old) { phases = all_phases (draft_of self.old); open_phase = None }) }
     {
         self.phases.reserve(1)?;
         if let Some(phase) = self.open_phase.take() {
@@ -121,7 +129,8 @@ impl Draft {
     ) -> Result<(), NoMemory>
         requires good { IsTrue (is_good stand.now.ports verb arguments.now) }
         requires modes { modes.now ≡ modes_in arguments.now }
-        ensures { OnOk result (draft_of self.new ≡ with_open (draft_of self.old) (phase_after (stand_of stand.now) verb arguments.now)) }
+        ensures { OnOk result
+            (draft_of self.new ≡ with_open (draft_of self.old) (phase_after (stand_of stand.now) verb arguments.now)) }
     {
         match &mut self.open_phase {
             None => Ok(()),
@@ -131,7 +140,8 @@ impl Draft {
 
     /// Takes out the session, with the open phase.
     pub(crate) fn finish(&mut self, stand: &Stand) -> Result<Session, NoMemory>
-        ensures { IfOk result (λ session. session_view session ≡ session_with (stand_of stand.now) (draft_of self.old)) }
+        ensures { IfOk result
+            (λ session. session_view session ≡ session_with (stand_of stand.now) (draft_of self.old)) }
     {
         self.close_phase()?;
         let alloc = *self.flips.allocator();
@@ -182,7 +192,8 @@ impl OpenPhase {
     ) -> Result<(), NoMemory>
         requires good { IsTrue (is_good stand.now.ports verb arguments.now) }
         requires modes { modes.now ≡ modes_in arguments.now }
-        ensures { OnOk result (phase_view self.new ≡ phase_after (stand_of stand.now) verb arguments.now (phase_view self.old)) }
+        ensures { OnOk result
+            (phase_view self.new ≡ phase_after (stand_of stand.now) verb arguments.now (phase_view self.old)) }
     {
         let ports = stand.ports();
         match verb {
@@ -243,7 +254,8 @@ fn add_to_line(
 ) -> Result<(), NoMemory>
     requires { IsTrue (is_good ports (Verb.Step verb) arguments.now) }
     ensures { OnOk result (map (λ steps. steps.items) lines.new
-        ≡ slice_set (map (λ steps. steps.items) lines.old) port (slice_index_or (map (λ steps. steps.items) lines.old) port [] ++ steps_in verb arguments.now)) }
+        ≡ slice_set (map (λ steps. steps.items) lines.old) port
+        (slice_index_or (map (λ steps. steps.items) lines.old) port [] ++ steps_in verb arguments.now)) }
 {
     let place = port as usize;
     if place < lines.len() {
@@ -260,7 +272,9 @@ fn add_caller(
     arguments: &Arguments,
 ) -> Result<(), NoMemory>
     requires { IsTrue (is_good ports Verb.Caller arguments.now) }
-    ensures { OnOk result (map script_of callers.new.items ≡ map script_of callers.old.items ++ record { port = number_at arguments.now 1; name = word_at arguments.now 0; calls = [] } ∷ []) }
+    ensures { OnOk result (map script_of callers.new.items
+        ≡ map script_of callers.old.items
+        ++ record { port = number_at arguments.now 1; name = word_at arguments.now 0; calls = [] } ∷ []) }
 {
     let script = Script {
         port: arguments.second_number() as u8,
@@ -283,7 +297,8 @@ fn add_call_of(
 ) -> Result<(), NoMemory>
     requires good { IsTrue (is_good ports (Verb.Call verb) arguments.now) }
     requires modes { modes.now ≡ modes_in arguments.now }
-    ensures { OnOk result (map script_of callers.new.items ≡ with_call (call_in verb arguments.now) (map script_of callers.old.items)) }
+    ensures { OnOk result
+        (map script_of callers.new.items ≡ with_call (call_in verb arguments.now) (map script_of callers.old.items)) }
 {
     if hands_over(verb) {
         bytes_into(bytes, arguments.second())?;
@@ -307,7 +322,8 @@ fn add_given(
     requires good { IsTrue (is_good ports (Verb.Call verb) arguments.now) }
     requires modes { modes.now ≡ modes_in arguments.now }
     requires bytes { bytes.now ≡ bytes_handed verb arguments.now }
-    ensures { OnOk result (map script_of callers.new.items ≡ with_call (call_in verb arguments.now) (map script_of callers.old.items)) }
+    ensures { OnOk result
+        (map script_of callers.new.items ≡ with_call (call_in verb arguments.now) (map script_of callers.old.items)) }
 {
     let call = call_of(ports, verb, arguments, modes, bytes);
     add_call(callers, &call)

@@ -3,7 +3,9 @@
 ghost use Rattle.std.specs.Prelude.{◌≡◌, ◌/◌, nat_le, is_some, drop, length};
 ghost use Rattle.text_lines.specs.Lines.{words_of};
 ghost use Rattle.text_lines.specs.Values.{word_at};
-ghost use Rattle.session_text.specs.Kinds.{modes_in, may_have, line_may_have, call_may_have, kind_at, line_kind, call_kind, fault_of, fault_from, word_fault, limit_fault, hex_fault, is_trigger};
+ghost use Rattle.session_text.specs.Kinds.{modes_in, may_have, line_may_have, call_may_have};
+ghost use Rattle.session_text.specs.Kinds.{kind_at, line_kind, call_kind, fault_of, fault_from};
+ghost use Rattle.session_text.specs.Kinds.{word_fault, limit_fault, hex_fault, is_trigger};
 
 use super::faults::Reason;
 use super::verbs::{CallVerb, LineVerb, Verb};

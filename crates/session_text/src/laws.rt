@@ -9,7 +9,8 @@ ghost use Rattle.session_text.specs.Asked.{asked_of};
 ghost use Rattle.session_text.specs.Refusals.{refusal};
 ghost use Rattle.session_text.specs.Grammar.{Spells};
 ghost use Rattle.session_text.specs.Writable.{IsWrittenPhase};
-ghost use Rattle.session_text.specs.Rows.{refused_rows, three_bytes_text, three_bytes_session, empty_text, empty_session, items_text, items_session, calls_text, calls_session};
+ghost use Rattle.session_text.specs.Rows.{refused_rows, three_bytes_text, three_bytes_session, empty_text};
+ghost use Rattle.session_text.specs.Rows.{empty_session, items_text, items_session, calls_text, calls_session};
 
 /// A law: a text has no refusal exactly where it spells a session.
 pub fn a_text_is_refused_exactly_where_it_spells_no_session()
@@ -30,13 +31,17 @@ pub fn spelled_sessions_are_within_limits()
 /// A law: a session that a text spells has what words write: a name for each caller, bytes that arrive, and mode
 /// words.
 pub fn spelled_sessions_are_written_in_words()
-    ensures { (text : List ℕ) (session : PlainSession) → Spells text session → AllByRecursion IsWrittenPhase session.phases }
+    ensures { (text : List ℕ) (session : PlainSession)
+        → Spells text session
+        → AllByRecursion IsWrittenPhase session.phases }
 {}
 
 /// A law: a text is as long as what its session asks of a port: two digits for each byte that a call hands
 /// over and each character that arrives, and three letters for each call.
 pub fn a_text_is_as_long_as_what_it_asks()
-    ensures { (text : List ℕ) (session : PlainSession) (p : ℕ) → Spells text session → asked_of p session.phases ≤ length text }
+    ensures { (text : List ℕ) (session : PlainSession) (p : ℕ)
+        → Spells text session
+        → asked_of p session.phases ≤ length text }
 {}
 
 /// A law: the first wrong line of worked texts, and why it is wrong.

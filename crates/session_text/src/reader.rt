@@ -7,7 +7,8 @@ ghost use Rattle.session_text.specs.Refusals.{refusal, lines_in};
 ghost use Rattle.session_text.specs.Grammar.{Spells};
 ghost use Rattle.tty_calls.specs.Sessions.{session_of as session_view};
 ghost use Rattle.text_lines.specs.Lines.{words_of};
-ghost use Rattle.session_text.specs.Reading.{Gives, first_reading, reading_with, reading_after_line, reading_after_item, session_at_end, session_from, session_in};
+ghost use Rattle.session_text.specs.Reading.{Gives, first_reading, reading_with, reading_after_line};
+ghost use Rattle.session_text.specs.Reading.{reading_after_item, session_at_end, session_from, session_in};
 ghost use Rattle.session_text.specs.Stands.{verdict_on, is_start, in_phase, is_ended, is_good};
 ghost use Rattle.session_text.specs.Views.{stand_of, reading_of, reading_at};
 
@@ -45,7 +46,8 @@ impl Reader {
 
     /// Reads the line with this number.
     pub fn read_line(&mut self, alloc: Global, number: u32, line: &[u8]) -> Result<(), TextFault>
-        ensures { Gives (λ _. reading_of self.new) result (reading_after_line (reading_of self.old) number (words_of line.now)) }
+        ensures { Gives (λ _. reading_of self.new) result
+            (reading_after_line (reading_of self.old) number (words_of line.now)) }
     {
         match split_word(line) {
             None => Ok(()),
@@ -67,7 +69,9 @@ impl Reader {
         word: &[u8],
         arguments: &FirstTwo,
     ) -> Result<(), TextFault>
-        ensures { Gives (λ _. reading_of self.new) result (reading_after_item (reading_of self.old) number arguments.now (verdict_on (stand_of self.old.stand) word.now arguments.now)) }
+        ensures { Gives (λ _. reading_of self.new) result
+            (reading_after_item (reading_of self.old) number arguments.now
+            (verdict_on (stand_of self.old.stand) word.now arguments.now)) }
     {
         if arguments.are_all() {
             let modes = no_modes(arguments);
@@ -88,7 +92,9 @@ impl Reader {
         arguments: &FirstTwo,
     ) -> Result<(), TextFault>
         requires { 2 < length arguments.now }
-        ensures { Gives (λ _. reading_of self.new) result (reading_after_item (reading_of self.old) number arguments.now (verdict_on (stand_of self.old.stand) word.now arguments.now)) }
+        ensures { Gives (λ _. reading_of self.new) result
+            (reading_after_item (reading_of self.old) number arguments.now
+            (verdict_on (stand_of self.old.stand) word.now arguments.now)) }
     {
         let count = modes_into(&mut self.modes, arguments)?;
         let arguments = arguments.counted(count);
@@ -158,7 +164,9 @@ impl Reader {
         alloc: Global,
         text: &'a [u8],
     ) -> Result<(Session, u32, &'a [u8]), TextFault>
-        ensures { Gives (λ front. record { session = session_view front.0; line = front.1; rest = lines_in front.2.now }) result (front_from (reading_of self.old) 1 (lines_in text.now)) }
+        ensures { Gives
+            (λ front. record { session = session_view front.0; line = front.1; rest = lines_in front.2.now }) result
+            (front_from (reading_of self.old) 1 (lines_in text.now)) }
     {
         let mut rest = text;
         let mut number = 1u32;
@@ -194,7 +202,9 @@ fn read_by(
     modes: &[Word],
 ) -> Result<(), TextFault>
     requires { modes.now ≡ modes_in arguments.now }
-    ensures { Gives (λ _. reading_at stand.new draft.new) result (reading_after_item (reading_at stand.old draft.old) number arguments.now (verdict_on (stand_of stand.old) word.now arguments.now)) }
+    ensures { Gives (λ _. reading_at stand.new draft.new) result
+        (reading_after_item (reading_at stand.old draft.old) number arguments.now
+        (verdict_on (stand_of stand.old) word.now arguments.now)) }
 {
     match stand.judge(word, arguments, modes.len()) {
         Ok(verb) => Ok(take_item(alloc, stand, draft, verb, arguments, modes)?),
@@ -218,7 +228,8 @@ fn take_item(
 ) -> Result<(), NoMemory>
     requires good { IsTrue (is_good stand.old.ports verb arguments.now) }
     requires modes { modes.now ≡ modes_in arguments.now }
-    ensures { OnOk result (reading_at stand.new draft.new ≡ reading_with (reading_at stand.old draft.old) verb arguments.now) }
+    ensures { OnOk result
+        (reading_at stand.new draft.new ≡ reading_with (reading_at stand.old draft.old) verb arguments.now) }
 {
     match verb {
         Verb::Call(call) => take_any(alloc, stand, draft, Verb::Call(call), arguments, modes),
@@ -237,7 +248,8 @@ fn take_apart(
 ) -> Result<(), NoMemory>
     requires good { IsTrue (is_good stand.old.ports verb arguments.now) }
     requires modes { modes.now ≡ modes_in arguments.now }
-    ensures { OnOk result (reading_at stand.new draft.new ≡ reading_with (reading_at stand.old draft.old) verb arguments.now) }
+    ensures { OnOk result
+        (reading_at stand.new draft.new ≡ reading_with (reading_at stand.old draft.old) verb arguments.now) }
 {
     take_any(alloc, stand, draft, verb, arguments, modes)
 }
@@ -253,7 +265,8 @@ fn take_any(
 ) -> Result<(), NoMemory>
     requires good { IsTrue (is_good stand.old.ports verb arguments.now) }
     requires modes { modes.now ≡ modes_in arguments.now }
-    ensures { OnOk result (reading_at stand.new draft.new ≡ reading_with (reading_at stand.old draft.old) verb arguments.now) }
+    ensures { OnOk result
+        (reading_at stand.new draft.new ≡ reading_with (reading_at stand.old draft.old) verb arguments.now) }
 {
     draft.add(alloc, stand, verb, arguments, modes)?;
     stand.take(alloc, verb, arguments)
@@ -264,7 +277,9 @@ fn take_any(
 pub fn parse(alloc: Global, text: &[u8]) -> Result<Session, TextFault>
     ensures ok { IfOk result (λ session. Spells text.now (session_view session)) }
     ensures bad { (line : BadLine) → result ≡ Err (TextFault.Bad line) → refusal text.now ≡ Some line }
-    ensures refused { (line : BadLine) → refusal text.now ≡ Some line → (result ≡ Err (TextFault.Bad line)) ⊎ (result ≡ Err TextFault.NoMemory) }
+    ensures refused { (line : BadLine)
+        → refusal text.now ≡ Some line
+        → (result ≡ Err (TextFault.Bad line)) ⊎ (result ≡ Err TextFault.NoMemory) }
 {
     read_session(alloc, text)
 }
@@ -279,7 +294,8 @@ fn read_session(alloc: Global, text: &[u8]) -> Result<Session, TextFault>
 /// The session that the front of a text spells, up to its `end`; the number of the line after that, and
 /// what follows.
 pub fn parse_front(alloc: Global, text: &[u8]) -> Result<(Session, u32, &[u8]), TextFault>
-    ensures { Gives (λ front. record { session = session_view front.0; line = front.1; rest = lines_in front.2.now }) result (front_in text.now) }
+    ensures { Gives (λ front. record { session = session_view front.0; line = front.1; rest = lines_in front.2.now })
+        result (front_in text.now) }
 {
     let mut reader = Reader::new(alloc);
     reader.read_front(alloc, text)

@@ -3,7 +3,9 @@
 ghost use Rattle.std.specs.Prelude.{◌≡◌, ◌-◌, ◌∷◌, ◌++◌, [], Some, OnOk, IsTrue, map, slice_set, slice_index, length};
 ghost use Rattle.std.specs.List.{list_any};
 ghost use Rattle.session_text.specs.Kinds.{modes_in};
-ghost use Rattle.session_text.specs.Stands.{first_stand, may_stand, in_phase, holds, same_key, has_stood, callers_on, arrivals, has_many, is_over, is_good, late_fault, item_fault, verdict_on, verb_verdict, first_verdict, left_after, stand_after};
+ghost use Rattle.session_text.specs.Stands.{first_stand, may_stand, in_phase, holds, same_key, has_stood, callers_on};
+ghost use Rattle.session_text.specs.Stands.{arrivals, has_many, is_over, is_good, late_fault, item_fault, verdict_on};
+ghost use Rattle.session_text.specs.Stands.{verb_verdict, first_verdict, left_after, stand_after};
 ghost use Rattle.session_text.specs.Views.{stand_of, key_of};
 
 use super::faults::Reason;
@@ -319,7 +321,12 @@ impl Stand {
     }
 
     fn open_line(&mut self, port: u64) -> Result<(), NoMemory>
-        ensures { OnOk result (stand_of self.new ≡ record (stand_of self.old) { place = Place.Line; lines = (stand_of self.old).lines ++ port ∷ []; port = port }) }
+        ensures { OnOk result (stand_of self.new
+            ≡ record (stand_of self.old) {
+              place = Place.Line;
+              lines = (stand_of self.old).lines ++ port ∷ [];
+              port = port;
+            }) }
     {
         add_port(&mut self.lines, port)?;
         self.place = Place::Line;
@@ -328,7 +335,12 @@ impl Stand {
     }
 
     fn open_clock(&mut self, port: u64) -> Result<(), NoMemory>
-        ensures { OnOk result (stand_of self.new ≡ record (stand_of self.old) { place = Place.Clock; clocks = (stand_of self.old).clocks ++ port ∷ []; port = port }) }
+        ensures { OnOk result (stand_of self.new
+            ≡ record (stand_of self.old) {
+              place = Place.Clock;
+              clocks = (stand_of self.old).clocks ++ port ∷ [];
+              port = port;
+            }) }
     {
         add_port(&mut self.clocks, port)?;
         self.place = Place::Clock;
@@ -350,14 +362,22 @@ impl Stand {
     }
 
     fn step(&mut self, count: u64)
-        ensures { stand_of self.new ≡ record (stand_of self.old) { steps_left = (stand_of self.old).steps_left - 1; characters_left = left_after (stand_of self.old).characters_left (stand_of self.old).port count } }
+        ensures { stand_of self.new
+            ≡ record (stand_of self.old) {
+              steps_left = (stand_of self.old).steps_left - 1;
+              characters_left = left_after (stand_of self.old).characters_left (stand_of self.old).port count;
+            } }
     {
         self.steps_left = self.steps_left.saturating_sub(1);
         spend(&mut self.characters_left, self.port, count);
     }
 
     fn tick(&mut self, count: u64)
-        ensures { stand_of self.new ≡ record (stand_of self.old) { steps_left = (stand_of self.old).steps_left - 1; ticks_left = left_after (stand_of self.old).ticks_left (stand_of self.old).port count } }
+        ensures { stand_of self.new
+            ≡ record (stand_of self.old) {
+              steps_left = (stand_of self.old).steps_left - 1;
+              ticks_left = left_after (stand_of self.old).ticks_left (stand_of self.old).port count;
+            } }
     {
         self.steps_left = self.steps_left.saturating_sub(1);
         spend(&mut self.ticks_left, self.port, count);

@@ -5,7 +5,8 @@ use Rattle.tty_base.specs.declared.characters.Flag.TheVariants.{Normal}
 use Rattle.slip_frames.specs.Slip.{end, esc, max_packet}
 use Rattle.slip_frames.specs.declared.receiving.Fed.{Fed}
 use Rattle.slip_frames.specs.declared.receiving.Fed.TheVariants.{Going, Empty, Packet, Bad}
-use Rattle.slip_frames.specs.Slip.{byte_after_escape, text_of, is_normal, bytes_of, is_end, is_bad, pieces, Outcome, bad, silent, packet_of}
+use Rattle.slip_frames.specs.Slip.{byte_after_escape, text_of, is_normal, bytes_of, is_end}
+use Rattle.slip_frames.specs.Slip.{is_bad, pieces, Outcome, bad, silent, packet_of}
 
 -- what follows the last good END of a list
 abbrev pub rest_with : Flagged → List (List Flagged) → List Flagged → List Flagged
@@ -28,7 +29,8 @@ ends_in_escape (b ∷ []) = b == esc
 ends_in_escape (b ∷ c ∷ piece) = if b == esc then ends_in_escape piece else ends_in_escape (c ∷ piece)
 
 abbrev pub piece_of : List Flagged → BegunPiece
-piece_of piece = if is_bad piece then bad_piece else spelling (text_of (bytes_of piece)) (ends_in_escape (bytes_of piece))
+piece_of piece =
+    if is_bad piece then bad_piece else spelling (text_of (bytes_of piece)) (ends_in_escape (bytes_of piece))
 
 -- a decoder: the piece that has begun, and the packet, where the last character ended one
 pub record Decoding : Type 0 where
@@ -71,7 +73,8 @@ with_byte (spelling text false) b = if b == esc then spelling text true else wit
 
 -- the piece that has begun after one character more
 abbrev pub piece_after_character : BegunPiece → Flagged → BegunPiece
-piece_after_character piece c = if is_end c then spelling [] false else if is_normal c.flag then with_byte piece c.byte else bad_piece
+piece_after_character piece c =
+    if is_end c then spelling [] false else if is_normal c.flag then with_byte piece c.byte else bad_piece
 
 -- the packet in a piece that is one
 abbrev pub packet_in : BegunPiece → List ℕ
@@ -80,7 +83,8 @@ packet_in (spelling text escaped) = text
 
 -- a decoder after one character more
 abbrev pub decoding_after_character : Decoding → Flagged → Decoding
-decoding_after_character d c = record { piece = piece_after_character d.piece c; packet = if is_end c then packet_in d.piece else [] }
+decoding_after_character d c =
+    record { piece = piece_after_character d.piece c; packet = if is_end c then packet_in d.piece else [] }
 
 -- a decoder after these characters, one after the other
 abbrev pub decoding_after_characters : Decoding → List Flagged → Decoding

@@ -1,5 +1,6 @@
 -- SLIP after RFC 1055: what a piece of the line spells, how a line is cut into pieces, and how a packet is sent.
-use Rattle.std.specs.Prelude.{◌≢◌, ℕ, ◌==◌, nat_lt, Bool, true, false, ◌&&◌, ◌||◌, if◌then◌else◌, not, List, [], ◌∷◌, ◌++◌, length, map}
+use Rattle.std.specs.Prelude.{◌≢◌, ℕ, ◌==◌, nat_lt, Bool, true, false, ◌&&◌, ◌||◌}
+use Rattle.std.specs.Prelude.{if◌then◌else◌, not, List, [], ◌∷◌, ◌++◌, length, map}
 use Rattle.std.specs.List.{list_any, flat_map}
 use Rattle.tty_base.specs.declared.characters.Flag.{Flag}
 use Rattle.tty_base.specs.declared.characters.Flag.TheVariants.{Normal, Break, Parity, Frame, Overrun}
@@ -29,7 +30,11 @@ pub data Spells : List ℕ → List ℕ → Type 0 where
   escape_alone : Spells (esc ∷ []) []
   escaped_end : (piece bytes : List ℕ) → Spells piece bytes → Spells (esc ∷ esc_end ∷ piece) (end ∷ bytes)
   escaped_escape : (piece bytes : List ℕ) → Spells piece bytes → Spells (esc ∷ esc_esc ∷ piece) (esc ∷ bytes)
-  escaped_other : (b : ℕ) (piece bytes : List ℕ) → b ≢ esc_end → b ≢ esc_esc → Spells piece bytes → Spells (esc ∷ b ∷ piece) (b ∷ bytes)
+  escaped_other : (b : ℕ) (piece bytes : List ℕ)
+      → b ≢ esc_end
+      → b ≢ esc_esc
+      → Spells piece bytes
+      → Spells (esc ∷ b ∷ piece) (b ∷ bytes)
   itself : (b : ℕ) (piece bytes : List ℕ) → b ≢ esc → Spells piece bytes → Spells (b ∷ piece) (b ∷ bytes)
 
 -- what a byte after ESC stands for

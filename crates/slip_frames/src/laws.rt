@@ -11,8 +11,11 @@ pub fn a_piece_spells_one_text()
 
 /// The pieces of a packet as it is sent are an empty one, and one that spells the packet and nothing else.
 pub fn a_sent_packet_comes_back()
-    ensures pieces { (packet : List ℕ) → (piece : List ℕ) × (pieces (good_characters (spelling_of packet)) ≡ [] ∷ good_characters piece ∷ [])
-        × Spells piece packet × ((bytes : List ℕ) → Spells piece bytes → bytes ≡ packet) }
+    ensures pieces { (packet : List ℕ)
+        → (piece : List ℕ)
+        × (pieces (good_characters (spelling_of packet)) ≡ [] ∷ good_characters piece ∷ [])
+        × Spells piece packet
+        × ((bytes : List ℕ) → Spells piece bytes → bytes ≡ packet) }
     ensures outcomes { (packet : List ℕ) → 0 < length packet → length packet ≤ max_packet →
         outcomes (good_characters (spelling_of packet)) ≡ silent ∷ packet_of packet ∷ [] }
 {}

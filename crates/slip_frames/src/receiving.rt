@@ -1,10 +1,13 @@
 //! Packets from the characters of a line.
 
-ghost use Rattle.std.specs.Prelude.{◌≡◌, ◌≤◌, ◌<◌, ◌+◌, ℕ, slice_index_or, false, IsTrue, ◌∷◌, ◌++◌, ◌≢◌, [], List, length, take, IfOk, vec_len, vec_capacity};
+ghost use Rattle.std.specs.Prelude.{◌≡◌, ◌≤◌, ◌<◌, ◌+◌, ℕ, slice_index_or, false, IsTrue, ◌∷◌};
+ghost use Rattle.std.specs.Prelude.{◌++◌, ◌≢◌, [], List, length, take, IfOk, vec_len, vec_capacity};
 ghost use Rattle.std.specs.List.{AllByRecursion};
 ghost use Rattle.char_lanes.specs.Runs.{IsIn};
 ghost use Rattle.slip_frames.specs.Slip.{byte_after_escape, bytes_of, outcomes, max_packet};
-ghost use Rattle.slip_frames.specs.Decoding.{WasFed, outcomes_by_answer, answer_to, decoding_after_character, decoding_after_characters, IsText, new_decoding, spelling, bad_piece, with_byte, with_text_byte, answer_to_end, packet_in};
+ghost use Rattle.slip_frames.specs.Decoding.{WasFed, outcomes_by_answer, answer_to, decoding_after_character};
+ghost use Rattle.slip_frames.specs.Decoding.{decoding_after_characters, IsText, new_decoding, spelling};
+ghost use Rattle.slip_frames.specs.Decoding.{bad_piece, with_byte, with_text_byte, answer_to_end, packet_in};
 
 use crate::{END, ESC, ESC_END, ESC_ESC, MAX_PACKET};
 use char_lanes::push_run;

@@ -1,5 +1,7 @@
 -- The first byte that passes a test, as the library's search finds it.
-use Rattle.std.proofs.Common.{◌≡◌, ℕ, ◌+◌, ◌<◌, Bool, true, false, not, List, [], ◌∷◌, ◌++◌, length, length-append, take, drop, position, cond, nat_lt, Option, None, Some, slice_index, refl, sym, ap, ◌∙◌, arith, lt-ltb, le-ltb}
+use Rattle.std.proofs.Common.{◌≡◌, ℕ, ◌+◌, ◌<◌, Bool, true, false, not, List, [], ◌∷◌, ◌++◌}
+use Rattle.std.proofs.Common.{length, length-append, take, drop, position, cond, nat_lt, Option}
+use Rattle.std.proofs.Common.{None, Some, slice_index, refl, sym, ap, ◌∙◌, arith, lt-ltb, le-ltb}
 use Rattle.std.specs.List.{position_or_len, list_any}
 use Rattle.std.proofs.lemmas.Bool.{or_parts}
 use Rattle.std.proofs.lemmas.List.{take-append-drop, length-take-le}
@@ -13,11 +15,17 @@ fails false never = refl
 
 pub first_place : (p : ℕ → Bool) (xs : List ℕ) (r : Option ℕ) → IsFirstByte p xs r → r ≡ position p xs
 first_place p xs None none =
-    let n : position_or_len p xs ≡ length xs = position_or_len_is p xs (length xs) 0 (omega arith) (λ k below. fails (p (slice_index xs k)) (none k (omega arith) below)) (λ below. absurd (omega arith)) in
-    sym (ap (λ m. cond (nat_lt m (length xs)) (Some m) None) n ∙ ap (λ b. cond b (Some (length xs)) None) (le-ltb (length xs) (length xs) (omega arith)))
+    let n : position_or_len p xs ≡ length xs =
+    position_or_len_is p xs (length xs) 0 (omega arith)
+    (λ k below. fails (p (slice_index xs k)) (none k (omega arith) below)) (λ below. absurd (omega arith)) in
+    sym (ap (λ m. cond (nat_lt m (length xs)) (Some m) None) n
+    ∙ ap (λ b. cond b (Some (length xs)) None) (le-ltb (length xs) (length xs) (omega arith)))
 first_place p xs (Some at) found =
-    let n : position_or_len p xs ≡ at = position_or_len_is p xs at 0 (omega (arith, found.0.high)) (λ k below. fails (p (slice_index xs k)) (found.0.before k (omega arith) below)) (λ below. found.1) in
-    sym (ap (λ m. cond (nat_lt m (length xs)) (Some m) None) n ∙ ap (λ b. cond b (Some at) None) (lt-ltb at (length xs) found.0.high))
+    let n : position_or_len p xs ≡ at =
+    position_or_len_is p xs at 0 (omega (arith, found.0.high))
+    (λ k below. fails (p (slice_index xs k)) (found.0.before k (omega arith) below)) (λ below. found.1) in
+    sym (ap (λ m. cond (nat_lt m (length xs)) (Some m) None) n
+    ∙ ap (λ b. cond b (Some at) None) (lt-ltb at (length xs) found.0.high))
 
 -- a blank is one of three bytes
 pub first_blank : (xs : List ℕ) (r : Option ℕ) → IsFirstByte (is_byte3 32 9 13) xs r → r ≡ position is_blank xs
@@ -34,7 +42,9 @@ later_twice : (n m : ℕ) (r : Option ℕ) → later n (later m r) ≡ later (n 
 later_twice n m None = refl
 later_twice n m (Some at) = ap Some (omega arith)
 
-passed : (p : ℕ → Bool) (xs ys : List ℕ) → list_any p xs ≡ false → position_or_len p (xs ++ ys) ≡ length xs + position_or_len p ys
+passed : (p : ℕ → Bool) (xs ys : List ℕ)
+    → list_any p xs ≡ false
+    → position_or_len p (xs ++ ys) ≡ length xs + position_or_len p ys
 passed p [] ys none = omega arith
 passed p (x ∷ xs) ys none =
     let parts = or_parts (p x) (list_any p xs) none in
@@ -47,7 +57,9 @@ later_by n m true false e = cc
 later_by n m false true e = cc
 later_by n m false false e = refl
 
-place_behind : (p : ℕ → Bool) (xs ys : List ℕ) → list_any p xs ≡ false → position p (xs ++ ys) ≡ later (length xs) (position p ys)
+place_behind : (p : ℕ → Bool) (xs ys : List ℕ)
+    → list_any p xs ≡ false
+    → position p (xs ++ ys) ≡ later (length xs) (position p ys)
 place_behind p xs ys none =
     let n = length xs in
     let m = position_or_len p ys in
@@ -69,9 +81,16 @@ no_blank (x ∷ xs) none =
     rw (first, rest) refl
 
 -- the search goes on behind a piece of what is left
-pub first_later : (p : ℕ → Bool) (line rest piece after : List ℕ) (n : ℕ) → piece ≡ take 128 rest → after ≡ drop 128 rest → 128 < length rest → list_any p piece ≡ false → position p line ≡ later n (position p rest) → position p line ≡ later (n + 128) (position p after)
+pub first_later : (p : ℕ → Bool) (line rest piece after : List ℕ) (n : ℕ)
+    → piece ≡ take 128 rest
+    → after ≡ drop 128 rest
+    → 128 < length rest
+    → list_any p piece ≡ false
+    → position p line ≡ later n (position p rest)
+    → position p line ≡ later (n + 128) (position p after)
 first_later p line rest piece after n front back long none first =
     let size : length piece ≡ 128 = ap length front ∙ length-take-le 128 rest (omega arith) in
-    let parts : rest ≡ piece ++ after = sym (ap (λ xs. xs ++ after) front ∙ ap (λ xs. take 128 rest ++ xs) back ∙ take-append-drop 128 rest) in
+    let parts : rest ≡ piece ++ after =
+    sym (ap (λ xs. xs ++ after) front ∙ ap (λ xs. take 128 rest ++ xs) back ∙ take-append-drop 128 rest) in
     first ∙ ap (λ xs. later n (position p xs)) parts ∙ ap (later n) (place_behind p piece after none)
     ∙ later_twice n (length piece) (position p after) ∙ ap (λ m. later (n + m) (position p after)) size

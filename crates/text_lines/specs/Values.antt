@@ -1,5 +1,6 @@
 -- What a word may be: a number, a name, hexadecimal digits.
-use Rattle.std.specs.Prelude.{ℕ, ◌+◌, ◌-◌, ◌*◌, ◌%◌, ◌==◌, ◌&&◌, ◌||◌, nat_le, not, Bool, false, List, [], ◌∷◌, length, fold, slice_index_or, if◌then◌else◌, Option, None, Some}
+use Rattle.std.specs.Prelude.{ℕ, ◌+◌, ◌-◌, ◌*◌, ◌%◌, ◌==◌, ◌&&◌, ◌||◌, nat_le, not, Bool, false, List}
+use Rattle.std.specs.Prelude.{[], ◌∷◌, length, fold, slice_index_or, if◌then◌else◌, Option, None, Some}
 use Rattle.std.specs.Str.{bytes_eq}
 use Rattle.std.specs.List.{list_all}
 use Rattle.std.specs.Result.{result_unwrap_or}
@@ -16,7 +17,8 @@ begins_number digits = not (first_is 48 digits) || length digits == 1
 -- `0`, or 1 to 10 digits without a leading 0
 abbrev pub is_number : List ℕ → Bool
 is_number [] = false
-is_number (digit ∷ digits) = (begins_number (digit ∷ digits) && nat_le (length (digit ∷ digits)) 10) && list_all is_digit (digit ∷ digits)
+is_number (digit ∷ digits) =
+    (begins_number (digit ∷ digits) && nat_le (length (digit ∷ digits)) 10) && list_all is_digit (digit ∷ digits)
 
 -- the number that digits write
 abbrev pub number_of : List ℕ → ℕ

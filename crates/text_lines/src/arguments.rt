@@ -31,7 +31,8 @@ impl<'a> Model for FirstTwo<'a> {
 
     ghost view = { λ a. parted a.few a.first.now a.second.now (words_of a.more.now) };
 
-    ghost invariant = { λ a. IsParted a.few a.first.now a.second.now (words_of a.more.now) × (a.number ≡ read_of a.first.now) };
+    ghost invariant = { λ a.
+        IsParted a.few a.first.now a.second.now (words_of a.more.now) × (a.number ≡ read_of a.first.now) };
 }
 
 impl<'a> FirstTwo<'a> {

@@ -13,7 +13,8 @@ const PIECE: usize = 128;
 /// The first line of a text, and what follows it; `None` where the text is empty.
 #[inline(always)]
 pub fn split_line(text: &[u8]) -> Option<(&[u8], &[u8])>
-    ensures lines { MatchOption result (lines_of text.now ≡ []) (λ parts. lines_of text.now ≡ parts.0.now ∷ lines_of parts.1.now) }
+    ensures lines { MatchOption result (lines_of text.now ≡ [])
+        (λ parts. lines_of text.now ≡ parts.0.now ∷ lines_of parts.1.now) }
     ensures shorter { MatchOption result (text.now ≡ []) (λ parts. length parts.1.now < length text.now) }
 {
     if text.is_empty() {
@@ -108,7 +109,8 @@ fn word_in(line: &[u8]) -> Option<usize>
 /// The first word of a line, and what follows it; `None` where the line has no word.
 #[inline(always)]
 pub fn split_word(line: &[u8]) -> Option<(&[u8], &[u8])>
-    ensures words { MatchOption result (words_of line.now ≡ []) (λ parts. words_of line.now ≡ parts.0.now ∷ words_of parts.1.now) }
+    ensures words { MatchOption result (words_of line.now ≡ [])
+        (λ parts. words_of line.now ≡ parts.0.now ∷ words_of parts.1.now) }
     ensures shorter { MatchOption result (words_of line.now ≡ []) (λ parts. length parts.1.now < length line.now) }
 {
     match word_in(line) {

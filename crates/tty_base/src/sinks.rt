@@ -1,5 +1,6 @@
 //! Where bytes go.
-ghost use Rattle.std.specs.Prelude.{◌≡◌, ℕ, List, Option, Some, ◌++◌, ◌≤◌, ◌<◌, take, length, IfOk, IfSome, OnOk, OnErr};
+ghost use Rattle.std.specs.Prelude.{◌≡◌, ℕ, List, Option, Some, ◌++◌, ◌≤◌, ◌<◌};
+ghost use Rattle.std.specs.Prelude.{take, length, IfOk, IfSome, OnOk, OnErr};
 ghost use Rattle.tty_base.specs.Outside.{Rose, GivesFront};
 
 use super::sources::Failed;

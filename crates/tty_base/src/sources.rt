@@ -1,5 +1,6 @@
 //! Where bytes come from.
-ghost use Rattle.std.specs.Prelude.{◌≡◌, ℕ, List, [], Option, Some, ◌+◌, ◌≤◌, ◌<◌, take, drop, length, IfOk, IfSome, OnOk, OnErr, IsErrOf, ◌↔◌};
+ghost use Rattle.std.specs.Prelude.{◌≡◌, ℕ, List, [], Option, Some, ◌+◌, ◌≤◌, ◌<◌, take};
+ghost use Rattle.std.specs.Prelude.{drop, length, IfOk, IfSome, OnOk, OnErr, IsErrOf, ◌↔◌};
 ghost use Rattle.tty_base.specs.Outside.{Rose, Gives, LeavesRest, TookCount};
 
 use super::buffers::{Bytes, NoMemory};

@@ -1,5 +1,6 @@
 //! Standard input and output, or any reader and writer, as a source and a sink.
-ghost use Rattle.std.specs.Prelude.{◌≡◌, ◌≢◌, [], Some, ◌<◌, ◌≤◌, ◌++◌, take, length, IfOk, IfErr, IfSome, OnErr, MatchResult};
+ghost use Rattle.std.specs.Prelude.{◌≡◌, ◌≢◌, [], Some, ◌<◌, ◌≤◌, ◌++◌, take};
+ghost use Rattle.std.specs.Prelude.{length, IfOk, IfErr, IfSome, OnErr, MatchResult};
 ghost use Rattle.std.specs.Io.KnownBytes.{ReadConsumes, WriteAppends};
 ghost use Rattle.std.specs.IoError.{error_kind};
 ghost use Rattle.tty_base.specs.Memory.{faults_after};

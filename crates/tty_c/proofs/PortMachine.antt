@@ -17,13 +17,22 @@ use Rattle.tty_c.proofs.Machine.{slot_val}
 
 module _ {M : Type 1} {𝓤 : Ura M} {𝓛 : Logic 𝓤} {K : Type 0} {Γ : List (Item 𝓤)} {G : Goal 𝓤 𝓛.H} where
   pub slot_out : K → (d : (slot.the_row).Denot) (vs : List Val)
-      → (vs ≡ slot_val d.at ∷ [] → Seq K 𝓛 (‵ (device_owns d.device d.at) ∷ Γ) G) → Seq K 𝓛 (‵ ((slot.the_row).own_val d vs) ∷ Γ) G
+      → (vs ≡ slot_val d.at ∷ [] → Seq K 𝓛 (‵ (device_owns d.device d.at) ∷ Γ) G)
+      → Seq K 𝓛 (‵ ((slot.the_row).own_val d vs) ∷ Γ) G
   slot_out t d vs k =
       fsplit t $ fpick t (λ parts. fsplit t $ feq_l t (λ whole. fsplit t $ feq_l t (λ pointer. drop t $
       k (whole ∙ ap (λ (ws : List Val). vstruct (of_list (ws ++ [])) ∷ []) pointer))))
 
   pub slot_in : K → (at : Ptr) (device : Option DeviceState)
-      → Step K 𝓛 (‵ ((slot.the_row).own_val (record { at = at; device = device }) (slot_val at ∷ [])) ∷ Γ) G (‵ (device_owns device at) ∷ Γ) G
+      → Step K 𝓛 (‵ ((slot.the_row).own_val (record { at = at; device = device }) (slot_val at ∷ [])) ∷ Γ) G
+      (‵ (device_owns device at) ∷ Γ) G
   slot_in t at device = step (λ s. let v : Val = slot_val at in
-      nothing t $ feq_i t (List Val) (ptr_val at ∷ []) (ptr_val at ∷ []) refl $ fjoin t $ feq_i t (List Val) (v ∷ []) (v ∷ []) refl $ fjoin t $
-      fpack t (Valss (RawPtr ∷ [])) (within (shape slot.the_type) (at, tt) (v ∷ [])) (ptr_val at ∷ [], tt) $ fjoin t $ s)
+      nothing t
+      $ feq_i t (List Val) (ptr_val at ∷ []) (ptr_val at ∷ []) refl
+      $ fjoin t
+      $ feq_i t (List Val) (v ∷ []) (v ∷ []) refl
+      $ fjoin t
+      $
+      fpack t (Valss (RawPtr ∷ [])) (within (shape slot.the_type) (at, tt) (v ∷ [])) (ptr_val at ∷ [], tt)
+      $ fjoin t
+      $ s)

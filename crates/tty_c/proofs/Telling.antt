@@ -9,7 +9,9 @@ use Rattle.tty_c.specs.declared.told.Told.{Told}
 use Rattle.tty_c.specs.Answers.{waits}
 use Rattle.tty_c.specs.Calls.{answer_number, outcome_number, place_with, place_after}
 
-pub told_gives : (t : Told) (o : Outcome) (given : Answer) → Meets o (met.Gives given) → answer_number t (answer_of given) ≡ outcome_number t o
+pub told_gives : (t : Told) (o : Outcome) (given : Answer)
+    → Meets o (met.Gives given)
+    → answer_number t (answer_of given) ≡ outcome_number t o
 told_gives t unknown given h = absurd h
 told_gives t must_wait given h = absurd h
 told_gives t (takes n left) given h = absurd h
@@ -27,7 +29,9 @@ told_waits t must_wait h = refl
 told_waits t (takes n left) h = absurd h
 told_waits t (gives answer drops left) h = absurd h
 
-pub place_gives : (place : List ℕ) (o : Outcome) (given : Answer) → Meets o (met.Gives given) → place_with (answer_of given) place ≡ place_after o place
+pub place_gives : (place : List ℕ) (o : Outcome) (given : Answer)
+    → Meets o (met.Gives given)
+    → place_with (answer_of given) place ≡ place_after o place
 place_gives place unknown given h = absurd h
 place_gives place must_wait given h = absurd h
 place_gives place (takes n left) given h = absurd h

@@ -1,5 +1,6 @@
 -- What a call answers a program in C, and what it leaves.
-use Rattle.std.specs.Prelude.{◌≡◌, ◌≢◌, ℕ, ℤ, pos, negsuc, Bool, true, false, ◌==◌, Option, None, Some, option_map, List, if◌then◌else◌}
+use Rattle.std.specs.Prelude.{◌≡◌, ◌≢◌, ℕ, ℤ, pos, negsuc, Bool, true, false, ◌==◌}
+use Rattle.std.specs.Prelude.{Option, None, Some, option_map, List, if◌then◌else◌}
 use Rattle.tty_base.specs.declared.characters.Flag.{Flag}
 use Rattle.tty_base.specs.declared.characters.Flag.TheVariants as flag
 use Rattle.tty_base.specs.declared.counters.Signal.{Signal}
@@ -40,7 +41,8 @@ answer_on (Some t) answer = answer t
 
 -- A call on the terminal of a handle answers and leaves what it answers and leaves of that terminal. Without a
 -- terminal it answers so, and does nothing; with one, but without memory, it does nothing either.
-pub record Calls (answer : Embedded → ℤ) (after : Embedded → Embedded) (old new : Option Embedded) (result : ℤ) : Type 0 where
+pub record Calls (answer : Embedded → ℤ) (after : Embedded → Embedded) (old new : Option Embedded)
+    (result : ℤ) : Type 0 where
   pub unmade : old ≡ None → result ≡ no_terminal
   pub answered : result ≢ no_memory → result ≡ answer_on old answer
   pub left : result ≢ no_memory → new ≡ option_map after old

@@ -1,5 +1,6 @@
 -- What the calls of a port answer a program in C, and what they leave.
-use Rattle.std.specs.Prelude.{◌≡◌, ◌≢◌, ◌+◌, ◌-◌, ◌<◌, ◌≤◌, ℕ, ℤ, pos, negsuc, min, max, take, length, ◌==◌, Option, None, Some, List, [], ◌∷◌, ◌++◌, if◌then◌else◌}
+use Rattle.std.specs.Prelude.{◌≡◌, ◌≢◌, ◌+◌, ◌-◌, ◌<◌, ◌≤◌, ℕ, ℤ, pos, negsuc, min, max, take}
+use Rattle.std.specs.Prelude.{length, ◌==◌, Option, None, Some, List, [], ◌∷◌, ◌++◌, if◌then◌else◌}
 use Rattle.tty_base.specs.declared.characters.Flag.{Flag}
 use Rattle.tty_base.specs.declared.counters.Counts.{Counts}
 use Rattle.tty_base.specs.declared.counters.Errno.{Errno}
@@ -14,13 +15,16 @@ use Rattle.tty_calls.specs.declared.calls.Queue.{Queue}
 use Rattle.tty_calls.specs.declared.calls.Queue.TheVariants as queue
 use Rattle.tty_calls.specs.declared.calls.Act.{Act}
 use Rattle.tty_calls.specs.declared.calls.Act.TheVariants as act
-use Rattle.tty_calls.specs.Plain.{PlainCall, sets_modes, PlainAnswer, done, count_is, got, number_is, modes_are, counts_are, refused, idle}
+use Rattle.tty_calls.specs.Plain.{PlainCall, sets_modes, PlainAnswer, done, count_is}
+use Rattle.tty_calls.specs.Plain.{got, number_is, modes_are, counts_are, refused, idle}
 use Rattle.tty_terminal.specs.Outcomes.{Outcome, unknown, waits as must_wait, takes, gives}
 use Rattle.tty_terminal.specs.Meeting.{drops_of}
 use Rattle.flow_control.specs.Counting.{count_after}
 use mathlib.Core.List.{IsPrefix}
 use Rattle.tty_device.specs.Kept.{chars_of, flushed_of, dropped_of}
-use Rattle.tty_device.specs.Devices.{DeviceState, outcome_for, after_call, Drops, DropsWhere, with_taken_of, after_hang_up, is_stuck, FlushesWhere, TakesInWhere, wire_of, taken_count, at_front, without_wire_front, first_signal, without_first_signal}
+use Rattle.tty_device.specs.Devices.{DeviceState, outcome_for, after_call, Drops, DropsWhere, with_taken_of}
+use Rattle.tty_device.specs.Devices.{after_hang_up, is_stuck, FlushesWhere, TakesInWhere, wire_of, taken_count}
+use Rattle.tty_device.specs.Devices.{at_front, without_wire_front, first_signal, without_first_signal}
 use Rattle.flip_buffer.specs.Packed.{with_flag}
 use Rattle.tty_device.specs.Lines.{LineState, IsFull}
 use Rattle.tty_c.specs.declared.told.Told.{Told}
@@ -140,15 +144,18 @@ place_after_call (Some d) c call place = place_after (outcome_for d c call) plac
 
 -- O_RDONLY, O_WRONLY, O_RDWR (fcntl.h)
 abbrev pub access_of : ℕ → Option Access
-access_of n = if n == 0 then Some access.R else if n == 1 then Some access.W else if n == 2 then Some access.Rw else None
+access_of n =
+    if n == 0 then Some access.R else if n == 1 then Some access.W else if n == 2 then Some access.Rw else None
 
 -- TCSANOW, TCSADRAIN, TCSAFLUSH (termios.h)
 abbrev pub when_of : ℕ → Option When
-when_of n = if n == 0 then Some when.Now else if n == 1 then Some when.Drain else if n == 2 then Some when.Flush else None
+when_of n =
+    if n == 0 then Some when.Now else if n == 1 then Some when.Drain else if n == 2 then Some when.Flush else None
 
 -- TCIFLUSH, TCOFLUSH, TCIOFLUSH (termios.h)
 abbrev pub queue_of : ℕ → Option Queue
-queue_of n = if n == 0 then Some queue.Input else if n == 1 then Some queue.Output else if n == 2 then Some queue.Both else None
+queue_of n =
+    if n == 0 then Some queue.Input else if n == 1 then Some queue.Output else if n == 2 then Some queue.Both else None
 
 -- TCOOFF, TCOON, TCIOFF, TCION (termios.h)
 abbrev pub act_of : ℕ → Option Act
@@ -185,7 +192,8 @@ put_number (Some count) = pos count
 
 -- bytes are put, each with this flag, into the end that the port has, and characters handed over
 pub record TakesIn (bytes : List ℕ) (flag : Flag) (old new : DeviceState) (result : ℤ) : Type 0 where
-  pub takes : result ≢ no_memory → (answer : Option ℕ) × (result ≡ put_number answer) × TakesInWhere old.line old new flag bytes answer
+  pub takes : result ≢ no_memory
+      → (answer : Option ℕ) × (result ≡ put_number answer) × TakesInWhere old.line old new flag bytes answer
   pub kept : result ≡ no_memory → new ≡ old
 
 abbrev pub TakesInFlagged : (bytes : List ℕ) → Option Flag → (old new : Option DeviceState) → (result : ℤ) → Type 0
@@ -203,7 +211,8 @@ TakesSignal old new result = Does (λ d. signal_number (first_signal d)) (λ _ d
 
 -- how many bytes are taken from the wire, into a place of so many
 abbrev pub TakesWire : (place : List ℕ) → (old new : DeviceState) → (result : ℤ) → Type 0
-TakesWire place old new result = Does (λ d. pos (taken_count d place)) (λ _ d. without_wire_front (taken_count d place) d) old new result
+TakesWire place old new result =
+    Does (λ d. pos (taken_count d place)) (λ _ d. without_wire_front (taken_count d place) d) old new result
 
 abbrev pub place_after_wire : Option DeviceState → (place : List ℕ) → List ℕ
 place_after_wire None place = place
@@ -236,7 +245,12 @@ pub record Puts (bytes : List ℕ) (flag : Flag) (old new : LineState) (result :
   pub count : ℕ
   pub answer : result ≡ pos count
   pub within : count ≤ length bytes
-  pub left : new ≡ record old { sent = old.sent ++ with_flag flag (take count bytes); overruns = count_after old.overruns (length bytes - count); known = new.known }
+  pub left : new
+      ≡ record old {
+        sent = old.sent ++ with_flag flag (take count bytes);
+        overruns = count_after old.overruns (length bytes - count);
+        known = new.known;
+      }
   pub known : old.known ≤ new.known
   pub full : count < length bytes → IsFull new.sent new.known old.capacity
 
@@ -270,8 +284,13 @@ pub record Meets (d d' : DeviceState) (l l' : LineState) (told : Account) : Type
   pub rises : l.known ≤ l'.known
 
 -- without one of them nothing is told, and nothing changes
-abbrev pub MeetsWhere : (port port' : Option DeviceState) → (end end' : Option LineState) → (told told' : Account) → (result : ℤ) → Type 0
-MeetsWhere None port' end end' told told' result = (result ≡ no_terminal) × (port' ≡ None) × (end' ≡ end) × (told' ≡ told)
-MeetsWhere (Some d) port' None end' told told' result = (result ≡ no_terminal) × (port' ≡ Some d) × (end' ≡ None) × (told' ≡ told)
+abbrev pub MeetsWhere : (port port' : Option DeviceState) → (end end' : Option LineState) → (told told' : Account)
+    → (result : ℤ)
+    → Type 0
+MeetsWhere None port' end end' told told' result =
+    (result ≡ no_terminal) × (port' ≡ None) × (end' ≡ end) × (told' ≡ told)
+MeetsWhere (Some d) port' None end' told told' result =
+    (result ≡ no_terminal) × (port' ≡ Some d) × (end' ≡ None) × (told' ≡ told)
 MeetsWhere (Some d) port' (Some l) end' told told' result =
-    (result ≡ pos 0) × ((d' : DeviceState) × (l' : LineState) × (port' ≡ Some d') × (end' ≡ Some l') × Meets d d' l l' told')
+    (result ≡ pos 0)
+    × ((d' : DeviceState) × (l' : LineState) × (port' ≡ Some d') × (end' ≡ Some l') × Meets d d' l l' told')

@@ -38,12 +38,15 @@ error_flag_of n =
 -- an argument that is none is refused, and nothing is done
 abbrev pub ArrivesWhere : (byte : ℕ) → Option Flag → (old new : Option Registers) → (result : ℤ) → Type 0
 ArrivesWhere byte None old new result = (result ≡ no_flag) × (new ≡ old)
-ArrivesWhere byte (Some flag) old new result = OnHandle (Does (λ _. pos 0) (λ _ r. after_arrival r (record { byte = byte; flag = flag }))) old new result
+ArrivesWhere byte (Some flag) old new result =
+    OnHandle (Does (λ _. pos 0) (λ _ r. after_arrival r (record { byte = byte; flag = flag }))) old new result
 
 abbrev pub ReadsWhere : Option Reg → (old new : Option Registers) → (result : ℤ) → Type 0
 ReadsWhere None old new result = (result ≡ no_flag) × (new ≡ old)
-ReadsWhere (Some reg) old new result = OnHandle (Does (λ r. pos (read_value r reg)) (λ _ r. after_read r reg)) old new result
+ReadsWhere (Some reg) old new result =
+    OnHandle (Does (λ r. pos (read_value r reg)) (λ _ r. after_read r reg)) old new result
 
 abbrev pub WritesWhere : (value : ℕ) → Option Reg → (old new : Option Registers) → (result : ℤ) → Type 0
 WritesWhere value None old new result = (result ≡ no_flag) × (new ≡ old)
-WritesWhere value (Some reg) old new result = OnHandle (Does (λ _. pos 0) (λ _ r. after_write r reg value)) old new result
+WritesWhere value (Some reg) old new result =
+    OnHandle (Does (λ _. pos 0) (λ _ r. after_write r reg value)) old new result

@@ -29,7 +29,8 @@ pub extern "C" fn jw_port_account(
     account: &mut Account,
 ) -> i64
     requires { AreOne (device_in port.old) (end_in line.old) }
-    ensures { MeetsWhere (device_in port.old) (device_in port.new) (end_in line.old) (end_in line.new) account.old account.new result }
+    ensures { MeetsWhere (device_in port.old) (device_in port.new) (end_in line.old) (end_in line.new)
+        account.old account.new result }
 {
     let Some(mut device) = ports::taken(alloc, port) else {
         return NO_TERMINAL;

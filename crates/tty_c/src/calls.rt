@@ -58,7 +58,8 @@ fn put_met(place: &mut [u8], met: &Met)
 /// A call on a port that may give bytes.
 fn read_device(device: &mut Device, caller: usize, call: &Call, place: &mut [u8]) -> i64
     ensures calls { DeviceCalls Nothing device.old device.new caller (call_of call.now) result }
-    ensures place { result ≢ no_memory → place.new ≡ place_after (outcome_for device.old caller (call_of call.now)) place.old }
+    ensures place { result ≢ no_memory
+        → place.new ≡ place_after (outcome_for device.old caller (call_of call.now)) place.old }
     ensures kept { result ≡ no_memory → place.new ≡ place.old }
 {
     match device.call(caller, call) {
@@ -93,7 +94,8 @@ pub fn make_read(
     place: &mut [u8],
 ) -> i64
     ensures calls { PortCalls Nothing (device_in port.old) (device_in port.new) caller (call_of call.now) result }
-    ensures place { result ≢ no_memory → place.new ≡ place_after_call (device_in port.old) caller (call_of call.now) place.old }
+    ensures place { result ≢ no_memory
+        → place.new ≡ place_after_call (device_in port.old) caller (call_of call.now) place.old }
     ensures kept { result ≡ no_memory → place.new ≡ place.old }
 {
     let Some(mut device) = taken(alloc, port) else {

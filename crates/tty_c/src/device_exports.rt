@@ -6,7 +6,9 @@ ghost use Rattle.atomic_table.specs.Seated.{TableId};
 ghost use Rattle.tty_device.specs.Devices.{fresh_device, fresh_whole, after_cancel, after_advance};
 ghost use Rattle.tty_device.specs.Lines.{buffer_size, fresh_line};
 ghost use Rattle.tty_c.specs.Answers.{no_memory, no_terminal, already_made, flag_of};
-ghost use Rattle.tty_c.specs.Calls.{device_in, end_in, OnHandle, Does, Receives, TakesIn, TakesInFlagged, HangsUp, TakesSignal, TakesWire, place_after_wire, Tells, flushed_count, dropped_count, waiting_count, Puts, PutsWhere, as_answer, TellsWaiting};
+ghost use Rattle.tty_c.specs.Calls.{device_in, end_in, OnHandle, Does, Receives, TakesIn, TakesInFlagged};
+ghost use Rattle.tty_c.specs.Calls.{HangsUp, TakesSignal, TakesWire, place_after_wire, Tells, flushed_count};
+ghost use Rattle.tty_c.specs.Calls.{dropped_count, waiting_count, Puts, PutsWhere, as_answer, TellsWaiting};
 
 use crate::answers::{MADE, NO_FLAG, NO_MEMORY, NO_TERMINAL};
 use crate::lines::Line;
@@ -30,7 +32,9 @@ fn made(
     callers: usize,
     capacity: usize,
 ) -> Result<(Box<Device, Global>, Box<LineEnd, Global>), NoMemory>
-    ensures { IfOk result (λ made. (made.0.value ≡ fresh_device made.0.value.ring callers (buffer_size capacity)) × (made.1.value ≡ fresh_line made.0.value.ring (buffer_size capacity))) }
+    ensures { IfOk result (λ made.
+        (made.0.value ≡ fresh_device made.0.value.ring callers (buffer_size capacity))
+        × (made.1.value ≡ fresh_line made.0.value.ring (buffer_size capacity))) }
 {
     let (device, line) = Device::new(alloc, callers, capacity)?;
     Ok((Box::new(alloc, device)?, Box::new(alloc, line)?))
@@ -47,10 +51,14 @@ pub extern "C" fn jw_port_new(
     callers: usize,
     capacity: usize,
 ) -> i64
-    ensures made { result ≡ pos 0 → (ring : TableId) × (device_in port.new ≡ Some (fresh_device ring callers (buffer_size capacity))) × (end_in line.new ≡ Some (fresh_line ring (buffer_size capacity))) }
+    ensures made { result ≡ pos 0
+        → (ring : TableId)
+        × (device_in port.new ≡ Some (fresh_device ring callers (buffer_size capacity)))
+        × (end_in line.new ≡ Some (fresh_line ring (buffer_size capacity))) }
     ensures kept { result ≢ pos 0 → (device_in port.new ≡ device_in port.old) × (end_in line.new ≡ end_in line.old) }
     ensures there { (is_some (device_in port.old) || is_some (end_in line.old)) ≡ true → result ≡ already_made }
-    ensures answer { result ≢ no_memory → result ≡ (if (is_some (device_in port.old) || is_some (end_in line.old)) then already_made else pos 0) }
+    ensures answer { result ≢ no_memory
+        → result ≡ (if (is_some (device_in port.old) || is_some (end_in line.old)) then already_made else pos 0) }
 {
     if let Some(device) = ports::taken(alloc, port) {
         ports::put(port, device);
@@ -85,7 +93,8 @@ pub extern "C" fn jw_port_new_whole(
     callers: usize,
     capacity: usize,
 ) -> i64
-    ensures made { result ≡ pos 0 → (ring : TableId) × (device_in port.new ≡ Some (fresh_whole ring callers (buffer_size capacity))) }
+    ensures made { result ≡ pos 0
+        → (ring : TableId) × (device_in port.new ≡ Some (fresh_whole ring callers (buffer_size capacity))) }
     ensures kept { result ≢ pos 0 → device_in port.new ≡ device_in port.old }
     ensures there { is_some (device_in port.old) ≡ true → result ≡ already_made }
     ensures answer { result ≢ no_memory → result ≡ (if is_some (device_in port.old) then already_made else pos 0) }
@@ -135,7 +144,8 @@ pub extern "C" fn jw_line_free(alloc: Global, line: &mut Line) -> i64
 #[tactic(auto, using(crate::proofs::Handling::on_made, crate::proofs::Handling::on_none))]
 #[unsafe(no_mangle)]
 pub extern "C" fn jw_port_cancel(alloc: Global, port: &mut Port, caller: usize) -> i64
-    ensures { OnHandle (Does (λ _. pos 0) (λ _ d. after_cancel d caller)) (device_in port.old) (device_in port.new) result }
+    ensures { OnHandle (Does (λ _. pos 0) (λ _ d. after_cancel d caller)) (device_in port.old) (device_in port.new)
+        result }
 {
     let Some(mut device) = ports::taken(alloc, port) else {
         return NO_TERMINAL;
@@ -149,7 +159,8 @@ pub extern "C" fn jw_port_cancel(alloc: Global, port: &mut Port, caller: usize) 
 #[tactic(auto, using(crate::proofs::Handling::on_made, crate::proofs::Handling::on_none))]
 #[unsafe(no_mangle)]
 pub extern "C" fn jw_port_advance(alloc: Global, port: &mut Port, tick: u64) -> i64
-    ensures { OnHandle (Does (λ _. pos 0) (λ _ d. after_advance d tick)) (device_in port.old) (device_in port.new) result }
+    ensures { OnHandle (Does (λ _. pos 0) (λ _ d. after_advance d tick)) (device_in port.old) (device_in port.new)
+        result }
 {
     let Some(mut device) = ports::taken(alloc, port) else {
         return NO_TERMINAL;
@@ -347,7 +358,8 @@ pub extern "C" fn jw_line_put(alloc: Global, line: &mut Line, bytes: &[u8], flag
 #[tactic(auto, using(crate::proofs::Handling::on_made, crate::proofs::Handling::on_none))]
 #[unsafe(no_mangle)]
 pub extern "C" fn jw_line_push(alloc: Global, line: &mut Line) -> i64
-    ensures { OnHandle (Does (λ _. pos 0) (λ _ l. record l { pushed = l.sent })) (end_in line.old) (end_in line.new) result }
+    ensures { OnHandle (Does (λ _. pos 0) (λ _ l. record l { pushed = l.sent })) (end_in line.old) (end_in line.new)
+        result }
 {
     let Some(mut end) = lines::taken(alloc, line) else {
         return NO_TERMINAL;

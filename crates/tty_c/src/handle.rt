@@ -33,7 +33,8 @@ fn vacancy() -> Slot
 
 /// Takes the slot with the terminal out of a handle.
 pub fn vacated(handle: &mut Handle) -> Option<Slot>
-    ensures slot { MatchOption result (handle.old.slot.tty ≡ None) (λ slot. (slot.tty ≡ handle.old.slot.tty) × (is_some slot.tty ≡ true)) }
+    ensures slot { MatchOption result (handle.old.slot.tty ≡ None)
+        (λ slot. (slot.tty ≡ handle.old.slot.tty) × (is_some slot.tty ≡ true)) }
     ensures left { handle.new.slot.tty ≡ None }
 {
     if !handle.live {

@@ -88,7 +88,8 @@ fn vacancy() -> LineSlot
 
 /// Takes the slot with the putting end of a port out of a handle.
 pub fn vacated(handle: &mut Line) -> Option<LineSlot>
-    ensures slot { MatchOption result (handle.old.slot.end ≡ None) (λ slot. (slot.end ≡ handle.old.slot.end) × (is_some slot.end ≡ true)) }
+    ensures slot { MatchOption result (handle.old.slot.end ≡ None)
+        (λ slot. (slot.end ≡ handle.old.slot.end) × (is_some slot.end ≡ true)) }
     ensures left { handle.new.slot.end ≡ None }
 {
     if !handle.live {

@@ -2,9 +2,12 @@
 
 ghost use Rattle.std.specs.Prelude.{◌≡◌, ◌≢◌, ◌∷◌, [], min, length, option_map, None, Some};
 ghost use Rattle.tty_modes.specs.Reading.{word_of};
-ghost use Rattle.tty_calls.specs.Plain.{opens, closes, reads, writes, gets_modes, gets_disc, sets_disc, flushes, steers, counts_input, counts_output, excludes, admits, drains, gets_counts, hangs_up, sends_packet, takes_packet};
+ghost use Rattle.tty_calls.specs.Plain.{opens, closes, reads, writes, gets_modes, gets_disc, sets_disc};
+ghost use Rattle.tty_calls.specs.Plain.{flushes, steers, counts_input, counts_output, excludes, admits};
+ghost use Rattle.tty_calls.specs.Plain.{drains, gets_counts, hangs_up, sends_packet, takes_packet};
 ghost use Rattle.tty_c.specs.Answers.{no_memory};
-ghost use Rattle.tty_c.specs.Calls.{device_in, PortCalls, PortCallsWhere, place_after_call, access_of, queue_of, act_of, when_of, word_set};
+ghost use Rattle.tty_c.specs.Calls.{device_in, PortCalls, PortCallsWhere, place_after_call};
+ghost use Rattle.tty_c.specs.Calls.{access_of, queue_of, act_of, when_of, word_set};
 ghost use Rattle.tty_c.specs.declared.told.Told.TheVariants.{Nothing, Flag, Character, Count};
 
 use crate::answers::NO_FLAG;
@@ -28,7 +31,8 @@ pub extern "C" fn jw_port_open(
     access: u8,
     nonblock: bool,
 ) -> i64
-    ensures { PortCallsWhere Nothing (option_map (λ access. opens h access nonblock) (access_of access)) (device_in port.old) (device_in port.new) caller result }
+    ensures { PortCallsWhere Nothing (option_map (λ access. opens h access nonblock) (access_of access))
+        (device_in port.old) (device_in port.new) caller result }
 {
     let Some(access) = access_of(access) else {
         return NO_FLAG;
@@ -58,8 +62,10 @@ pub extern "C" fn jw_port_read(
     h: u8,
     place: &mut [u8],
 ) -> i64
-    ensures calls { PortCalls Nothing (device_in port.old) (device_in port.new) caller (reads h (min (length place.old) 65536)) result }
-    ensures place { result ≢ no_memory → place.new ≡ place_after_call (device_in port.old) caller (reads h (min (length place.old) 65536)) place.old }
+    ensures calls { PortCalls Nothing (device_in port.old) (device_in port.new) caller
+        (reads h (min (length place.old) 65536)) result }
+    ensures place { result ≢ no_memory
+        → place.new ≡ place_after_call (device_in port.old) caller (reads h (min (length place.old) 65536)) place.old }
     ensures kept { result ≡ no_memory → place.new ≡ place.old }
 {
     let n = place.len().min(MOST_READ) as u32;
@@ -96,7 +102,8 @@ pub extern "C" fn jw_port_set(
     when: u8,
     word: &[u8],
 ) -> i64
-    ensures { PortCallsWhere Nothing (word_set h (when_of when) (word_of word.now)) (device_in port.old) (device_in port.new) caller result }
+    ensures { PortCallsWhere Nothing (word_set h (when_of when) (word_of word.now)) (device_in port.old)
+        (device_in port.new) caller result }
 {
     let Some(when) = when_of(when) else {
         return NO_FLAG;
@@ -185,7 +192,8 @@ pub extern "C" fn jw_port_flush(
     h: u8,
     queue: u8,
 ) -> i64
-    ensures { PortCallsWhere Nothing (option_map (λ queue. flushes h queue) (queue_of queue)) (device_in port.old) (device_in port.new) caller result }
+    ensures { PortCallsWhere Nothing (option_map (λ queue. flushes h queue) (queue_of queue)) (device_in port.old)
+        (device_in port.new) caller result }
 {
     let Some(queue) = queue_of(queue) else {
         return NO_FLAG;
@@ -202,7 +210,8 @@ pub extern "C" fn jw_port_flush(
 /// Halts output or lets it go on, or tells the sender to (tcflow(3)).
 #[unsafe(no_mangle)]
 pub extern "C" fn jw_port_flow(alloc: Global, port: &mut Port, caller: usize, h: u8, act: u8) -> i64
-    ensures { PortCallsWhere Nothing (option_map (λ act. steers h act) (act_of act)) (device_in port.old) (device_in port.new) caller result }
+    ensures { PortCallsWhere Nothing (option_map (λ act. steers h act) (act_of act)) (device_in port.old)
+        (device_in port.new) caller result }
 {
     let Some(act) = act_of(act) else {
         return NO_FLAG;
@@ -303,7 +312,8 @@ pub extern "C" fn jw_port_take(
     place: &mut [u8],
 ) -> i64
     ensures calls { PortCalls Nothing (device_in port.old) (device_in port.new) caller (takes_packet h) result }
-    ensures place { result ≢ no_memory → place.new ≡ place_after_call (device_in port.old) caller (takes_packet h) place.old }
+    ensures place { result ≢ no_memory
+        → place.new ≡ place_after_call (device_in port.old) caller (takes_packet h) place.old }
     ensures kept { result ≡ no_memory → place.new ≡ place.old }
 {
     make_read(alloc, port, caller, &Call::TakePacket { h }, place)

@@ -88,7 +88,8 @@ fn vacancy() -> PortSlot
 
 /// Takes the slot with a port out of a handle.
 pub fn vacated(handle: &mut Port) -> Option<PortSlot>
-    ensures slot { MatchOption result (handle.old.slot.device ≡ None) (λ slot. (slot.device ≡ handle.old.slot.device) × (is_some slot.device ≡ true)) }
+    ensures slot { MatchOption result (handle.old.slot.device ≡ None)
+        (λ slot. (slot.device ≡ handle.old.slot.device) × (is_some slot.device ≡ true)) }
     ensures left { handle.new.slot.device ≡ None }
 {
     if !handle.live {

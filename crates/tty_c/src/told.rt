@@ -5,7 +5,8 @@ ghost use Rattle.tty_calls.specs.Plain.{answer_of};
 ghost use Rattle.tty_terminal.specs.Outcomes.{Outcome};
 ghost use Rattle.tty_terminal.specs.Meeting.{Meets};
 ghost use Rattle.tty_c.specs.Answers.{no_memory};
-ghost use Rattle.tty_c.specs.Calls.{errno_number, modes_number, counts_number, count_at, answer_number, outcome_number, access_of, when_of, queue_of, act_of};
+ghost use Rattle.tty_c.specs.Calls.{errno_number, modes_number, counts_number, count_at, answer_number};
+ghost use Rattle.tty_c.specs.Calls.{outcome_number, access_of, when_of, queue_of, act_of};
 
 use crate::answers::WAITS;
 use tty_base::{Counts, Errno};

@@ -88,7 +88,8 @@ fn vacancy() -> UartSlot
 
 /// Takes the slot with a 16550 out of a handle.
 pub fn vacated(handle: &mut Receiver) -> Option<UartSlot>
-    ensures slot { MatchOption result (handle.old.slot.uart ≡ None) (λ slot. (slot.uart ≡ handle.old.slot.uart) × (is_some slot.uart ≡ true)) }
+    ensures slot { MatchOption result (handle.old.slot.uart ≡ None)
+        (λ slot. (slot.uart ≡ handle.old.slot.uart) × (is_some slot.uart ≡ true)) }
     ensures left { handle.new.slot.uart ≡ None }
 {
     if !handle.live {

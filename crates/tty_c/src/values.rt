@@ -3,8 +3,11 @@
 ghost use Rattle.std.specs.Prelude.{◌≡◌, ◌≢◌, pos, Some, None, length, take, is_some};
 ghost use Rattle.tty_modes.specs.Reading.{word_of};
 ghost use Rattle.n_tty.specs.Writing.{piece_size};
-ghost use Rattle.tty_embed.specs.Embedded.{received_count, after_receiving, read_answer, place_after_read, after_reading, after_writing, after_setting, wire_of, taken_count, at_front, without_wire_front, first_signal, without_first_signal};
-ghost use Rattle.tty_c.specs.Answers.{no_memory, of_truth, flag_of, receipt_answer, after_numbered_receipt, count_or_wait, signal_number};
+ghost use Rattle.tty_embed.specs.Embedded.{received_count, after_receiving, read_answer, place_after_read};
+ghost use Rattle.tty_embed.specs.Embedded.{after_reading, after_writing, after_setting, wire_of, taken_count};
+ghost use Rattle.tty_embed.specs.Embedded.{at_front, without_wire_front, first_signal, without_first_signal};
+ghost use Rattle.tty_c.specs.Answers.{no_memory, of_truth, flag_of, receipt_answer};
+ghost use Rattle.tty_c.specs.Answers.{after_numbered_receipt, count_or_wait, signal_number};
 
 use crate::answers::{NO_FLAG, NO_MEMORY, WAITS};
 use tty_base::{Flag, NoMemory, Signal};
@@ -69,7 +72,8 @@ pub fn receive_bytes(tty: &mut Tty, bytes: &[u8]) -> i64
 }
 
 pub fn read(tty: &mut Tty, nonblock: bool, since: u64, place: &mut [u8]) -> i64
-    ensures answer { result ≢ no_memory → result ≡ count_or_wait (read_answer tty.old nonblock since (length place.old)) }
+    ensures answer { result ≢ no_memory
+        → result ≡ count_or_wait (read_answer tty.old nonblock since (length place.old)) }
     ensures place { result ≢ no_memory → place.new ≡ place_after_read tty.old nonblock since place.old }
     ensures after { result ≢ no_memory → tty.new ≡ after_reading tty.old nonblock since (length place.old) }
     ensures no_memory { result ≡ no_memory → (tty.new ≡ tty.old) × (place.new ≡ place.old) }
@@ -82,7 +86,8 @@ pub fn read(tty: &mut Tty, nonblock: bool, since: u64, place: &mut [u8]) -> i64
 }
 
 pub fn write(tty: &mut Tty, bytes: &[u8]) -> i64
-    ensures answer { result ≢ no_memory → result ≡ pos (piece_size tty.old.modes tty.old.port.tty tty.old.port.output bytes.now) }
+    ensures answer { result ≢ no_memory
+        → result ≡ pos (piece_size tty.old.modes tty.old.port.tty tty.old.port.output bytes.now) }
     ensures after { result ≢ no_memory → tty.new ≡ after_writing tty.old bytes.now }
     ensures no_memory { result ≡ no_memory → tty.new ≡ tty.old }
 {
@@ -105,7 +110,8 @@ pub fn set(tty: &mut Tty, word: &[u8]) -> i64
 
 pub fn take_wire(tty: &mut Tty, place: &mut [u8]) -> i64
     ensures answer { result ≢ no_memory → result ≡ pos (taken_count tty.old place.old) }
-    ensures place { result ≢ no_memory → place.new ≡ at_front place.old (take (taken_count tty.old place.old) (wire_of tty.old)) }
+    ensures place { result ≢ no_memory
+        → place.new ≡ at_front place.old (take (taken_count tty.old place.old) (wire_of tty.old)) }
     ensures after { result ≢ no_memory → tty.new ≡ without_wire_front (taken_count tty.old place.old) tty.old }
     ensures no_memory { result ≡ no_memory → (tty.new ≡ tty.old) × (place.new ≡ place.old) }
 {

@@ -10,12 +10,16 @@ use Rattle.tty_calls.specs.Plain.{PlainCall, writes, sets_modes, sends_packet}
 use Rattle.tty_calls.specs.Kept.{IsKept, kept_in}
 use Rattle.tty_calls.specs.Parts.{Extends, IsPartOf, part_of}
 
-pub part_stays : {A : Type 0} (xs ys : List A) (part : Part) → IsPartOf (length xs) part → part_of (xs ++ ys) part ≡ part_of xs part
+pub part_stays : {A : Type 0} (xs ys : List A) (part : Part)
+    → IsPartOf (length xs) part
+    → part_of (xs ++ ys) part ≡ part_of xs part
 part_stays xs ys part within =
     ap (take part.count) (drop-append-le part.first xs ys (omega (arith, within)))
     ∙ take-append-le part.count (drop part.first xs) ys (omega (arith, within, length-drop part.first xs))
 
-stays : (bytes more : List ℕ) (words others : List Word) (k : KeptCall) → IsKept (length bytes) (length words) k → kept_in (bytes ++ more) (words ++ others) k ≡ kept_in bytes words k
+stays : (bytes more : List ℕ) (words others : List Word) (k : KeptCall)
+    → IsKept (length bytes) (length words) k
+    → kept_in (bytes ++ more) (words ++ others) k ≡ kept_in bytes words k
 stays bytes more words others (kept.Open h access nonblock) w = refl
 stays bytes more words others (kept.Close h) w = refl
 stays bytes more words others (kept.Read h n) w = refl
@@ -36,11 +40,15 @@ stays bytes more words others (kept.Vhangup h) w = refl
 stays bytes more words others (kept.SendPacket h part) w = ap (sends_packet h) (part_stays bytes more part w)
 stays bytes more words others (kept.TakePacket h) w = refl
 
-all_stay : (bytes more : List ℕ) (words others : List Word) (ks : List KeptCall) → All (IsKept (length bytes) (length words)) ks → map (kept_in (bytes ++ more) (words ++ others)) ks ≡ map (kept_in bytes words) ks
+all_stay : (bytes more : List ℕ) (words others : List Word) (ks : List KeptCall)
+    → All (IsKept (length bytes) (length words)) ks
+    → map (kept_in (bytes ++ more) (words ++ others)) ks ≡ map (kept_in bytes words) ks
 all_stay bytes more words others [] w = refl
 all_stay bytes more words others (k ∷ ks) w =
-    ap (λ c. c ∷ map (kept_in (bytes ++ more) (words ++ others)) ks) (stays bytes more words others k (w 0 k (omega arith)))
-    ∙ ap (λ cs. kept_in bytes words k ∷ cs) (all_stay bytes more words others ks (λ i d lt. w (suc i) d (omega (arith, lt))))
+    ap (λ c. c ∷ map (kept_in (bytes ++ more) (words ++ others)) ks)
+    (stays bytes more words others k (w 0 k (omega arith)))
+    ∙ ap (λ cs. kept_in bytes words k ∷ cs)
+    (all_stay bytes more words others ks (λ i d lt. w (suc i) d (omega (arith, lt))))
 
 -- one more call, behind those before
 pub one_more : (bytes now : List ℕ) (words here : List Word) (ks : List KeptCall) (k : KeptCall) (call : PlainCall)
@@ -49,4 +57,7 @@ pub one_more : (bytes now : List ℕ) (words here : List Word) (ks : List KeptCa
 one_more bytes now words here ks k call (more, grown) (others, longer) w is =
     map-append (kept_in now here) ks (k ∷ [])
     ∙ ap (λ c. map (kept_in now here) ks ++ c ∷ []) is
-    ∙ ap (λ cs. cs ++ call ∷ []) (ap (λ b. map (kept_in b here) ks) grown ∙ ap (λ v. map (kept_in (bytes ++ more) v) ks) longer ∙ all_stay bytes more words others ks w)
+    ∙ ap (λ cs. cs ++ call ∷ [])
+    (ap (λ b. map (kept_in b here) ks) grown
+    ∙ ap (λ v. map (kept_in (bytes ++ more) v) ks) longer
+    ∙ all_stay bytes more words others ks w)

@@ -8,7 +8,9 @@ use Rattle.tty_calls.specs.declared.kept_entries.KeptEvent.TheVariants as events
 use Rattle.tty_calls.specs.declared.kept_entries.KeptEntry.{KeptEntry}
 use Rattle.tty_calls.specs.declared.kept_entries.Lists.{Lists}
 use Rattle.tty_calls.specs.Parts.{Extends, IsPartOf, part_of}
-use Rattle.tty_calls.specs.Plain.{PlainAnswer, done, count_is, got, number_is, modes_are, counts_are, refused, idle, PlainEvent, answered, parted, waited, flushed, ticked, line_ended, clock_ended, caller_ended, phase_ended, hung_up, PlainEntry}
+use Rattle.tty_calls.specs.Plain.{PlainAnswer, done, count_is, got, number_is, modes_are, counts_are}
+use Rattle.tty_calls.specs.Plain.{refused, idle, PlainEvent, answered, parted, waited, flushed, ticked}
+use Rattle.tty_calls.specs.Plain.{line_ended, clock_ended, caller_ended, phase_ended, hung_up, PlainEntry}
 
 -- the entries, in order; how many more can be added without asking for memory, and how many bytes and characters they
 -- may give
@@ -61,7 +63,8 @@ event_in b (events.Hangup part) = hung_up (part_of b.characters.items part)
 event_in b other = answered (answer_in b other) []
 
 abbrev pub entry_in : Lists → KeptEntry → PlainEntry
-entry_in b e = record { who = e.who; step = e.step; part = e.part; generation = e.generation; event = event_in b e.event }
+entry_in b e =
+    record { who = e.who; step = e.step; part = e.part; generation = e.generation; event = event_in b e.event }
 
 -- so many more modes, counts, purges and numbers can be added without asking for memory
 abbrev pub rare_spare : Lists → ℕ

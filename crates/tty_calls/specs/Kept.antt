@@ -5,7 +5,9 @@ use Rattle.tty_modes.specs.declared.words.Word.{Word}
 use Rattle.tty_calls.specs.Parts.{IsPartOf, part_of}
 use Rattle.tty_calls.specs.declared.kept_calls.KeptCall.{KeptCall}
 use Rattle.tty_calls.specs.declared.kept_calls.KeptCall.TheVariants as kept
-use Rattle.tty_calls.specs.Plain.{PlainCall, opens, closes, reads, writes, gets_modes, sets_modes, gets_disc, sets_disc, flushes, steers, counts_input, counts_output, excludes, admits, drains, gets_counts, hangs_up, sends_packet, takes_packet}
+use Rattle.tty_calls.specs.Plain.{PlainCall, opens, closes, reads, writes, gets_modes, sets_modes, gets_disc}
+use Rattle.tty_calls.specs.Plain.{sets_disc, flushes, steers, counts_input, counts_output, excludes, admits}
+use Rattle.tty_calls.specs.Plain.{drains, gets_counts, hangs_up, sends_packet, takes_packet}
 
 -- the calls, in order
 pub record CallList : Type 0 where

@@ -1,5 +1,6 @@
 -- A session as plain data, and what it asks of each of its ports.
-use Rattle.std.specs.Prelude.{ℕ, List, [], ◌∷◌, ◌++◌, ◌==◌, Option, None, Some, if◌then◌else◌, map, filter, fold, flat_map, length, position, slice_get, slice_index_or}
+use Rattle.std.specs.Prelude.{ℕ, List, [], ◌∷◌, ◌++◌, ◌==◌, Option, None, Some, if◌then◌else◌, map}
+use Rattle.std.specs.Prelude.{filter, fold, flat_map, length, position, slice_get, slice_index_or}
 use Rattle.std.specs.Str.{bytes_eq}
 use Rattle.std.specs.List.{list_any}
 use Rattle.tty_base.specs.declared.lines.LineStep.{LineStep}
@@ -30,10 +31,15 @@ abbrev pub script_of : Script → PlainScript
 script_of s = record { port = s.port; name = s.name.bytes; calls = s.calls.items }
 
 abbrev pub phase_of : Phase → PlainPhase
-phase_of p = record { lines = map (λ steps. steps.items) p.lines.items; ticks = p.ticks.items; callers = map script_of p.callers.items }
+phase_of p = record {
+  lines = map (λ steps. steps.items) p.lines.items;
+  ticks = p.ticks.items;
+  callers = map script_of p.callers.items;
+}
 
 abbrev pub session_of : Session → PlainSession
-session_of s = record { version = s.version; ports = s.ports; flips = s.flips.items; phases = map phase_of s.phases.items }
+session_of s =
+    record { version = s.version; ports = s.ports; flips = s.flips.items; phases = map phase_of s.phases.items }
 
 -- what a port's line and clock do in a phase
 abbrev pub line_on : ℕ → PlainPhase → List LineStep

@@ -3,7 +3,8 @@
 ghost use Rattle.std.specs.Prelude.{◌≡◌, ◌<◌, ◌≤◌, Some, [], ◌∷◌, ◌++◌, OnOk, length, slice_get};
 ghost use Rattle.std.specs.Option.{option_map};
 ghost use Rattle.tty_calls.specs.Plain.{answer_lent, answered, bytes_by, bytes_in, chars_in, entry_of, event_of};
-ghost use Rattle.tty_calls.specs.Entries.{Grows, IsSame, HasAnswer, HasEntry, HasEvent, HasPurge, answer_in, entry_in, event_in, purge_at, rare_spare};
+ghost use Rattle.tty_calls.specs.Entries.{Grows, IsSame, HasAnswer, HasEntry, HasEvent, HasPurge};
+ghost use Rattle.tty_calls.specs.Entries.{answer_in, entry_in, event_in, purge_at, rare_spare};
 
 use super::answers::AnswerRef;
 use super::journals::{Entry, Event, Who};
@@ -79,7 +80,12 @@ impl Model for Journal {
 
     ghost Value = { JournalValue };
 
-    ghost view = { λ j. record { items = map (entry_in j.lists) j.entries.items; spare = min j.entries.spare (rare_spare j.lists); spare_bytes = j.lists.bytes.spare; spare_characters = j.lists.characters.spare } };
+    ghost view = { λ j. record {
+      items = map (entry_in j.lists) j.entries.items;
+      spare = min j.entries.spare (rare_spare j.lists);
+      spare_bytes = j.lists.bytes.spare;
+      spare_characters = j.lists.characters.spare;
+    } };
 
     ghost invariant = { λ j. All (HasEntry j.lists) j.entries.items };
 }

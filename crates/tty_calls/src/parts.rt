@@ -54,7 +54,8 @@ impl<T> Model for Store<T> {
 
     ghost view = { λ s. record { items = s.items.items; spare = s.spare } };
 
-    ghost invariant = { λ s. (vec_len s.items + s.spare ≤ vec_capacity s.items) × (vec_len s.items + s.spare < 2 ^ 32) };
+    ghost invariant = { λ s.
+        (vec_len s.items + s.spare ≤ vec_capacity s.items) × (vec_len s.items + s.spare < 2 ^ 32) };
 }
 
 impl<T> Store<T> {
@@ -141,7 +142,8 @@ impl<T: Copy> Store<T> {
     #[inline(always)]
     pub(crate) fn keep(&mut self, more: &[T]) -> Part
         requires { length more.now ≤ self.old.spare }
-        ensures list { self.new ≡ record { items = self.old.items ++ more.now; spare = self.old.spare - length more.now } }
+        ensures list { self.new
+            ≡ record { items = self.old.items ++ more.now; spare = self.old.spare - length more.now } }
         ensures part { result ≡ record { first = length self.old.items; count = length more.now } }
     {
         let first = self.items.len() as u32;

@@ -16,7 +16,8 @@ abbrev pub empty_val : Val
 empty_val = vstruct vnil
 
 module _ {M : Type 1} {𝓤 : Ura M} {𝓛 : Logic 𝓤} {K : Type 0} {Γ : List (Item 𝓤)} {G : Goal 𝓤 𝓛.H} where
-  pub taken_in : K → (xs : List Taken) → Step K 𝓛 (‵ ((chars.the_row).own_val (record { items = xs }) (empty_val ∷ [])) ∷ Γ) G (‵ ftrue ∷ Γ) G
+  pub taken_in : K → (xs : List Taken)
+      → Step K 𝓛 (‵ ((chars.the_row).own_val (record { items = xs }) (empty_val ∷ [])) ∷ Γ) G (‵ ftrue ∷ Γ) G
   taken_in t xs = step (λ s.
       nothing t $ feq_i t (List Val) (empty_val ∷ []) (empty_val ∷ []) refl $ fjoin t $
       fpack t (Valss []) (within (shape chars.the_type) tt (empty_val ∷ [])) tt $ fjoin t $ s)

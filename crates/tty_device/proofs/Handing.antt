@@ -1,5 +1,6 @@
 -- Characters that leave the flip buffer.
-use Rattle.std.proofs.Common.{◌≡◌, ℕ, ◌+◌, ◌-◌, ◌<◌, ◌≤◌, ◌^◌, min, Bool, true, false, List, [], ◌∷◌, ◌++◌, length, map, refl, sym, ◌∙◌, ap, subst, arith}
+use Rattle.std.proofs.Common.{◌≡◌, ℕ, ◌+◌, ◌-◌, ◌<◌, ◌≤◌, ◌^◌, min, Bool, true, false, List}
+use Rattle.std.proofs.Common.{[], ◌∷◌, ◌++◌, length, map, refl, sym, ◌∙◌, ap, subst, arith}
 use Rattle.std.proofs.lemmas.List.{length-map}
 use Rattle.tty_base.specs.declared.characters.Flagged.{Flagged}
 use Rattle.word_ring.specs.Ends.{TakerState}
@@ -25,7 +26,8 @@ pub kept_column : (t u : Terminal) → u ≡ kept t → column_in u.disc < 2 ^ 3
 kept_column t u is = subst (λ (v : Terminal). column_in v.disc < 2 ^ 32) (sym is) (column_fits t.disc)
 
 -- what is noted of the characters that were flushed
-module _ (t u : Terminal) (f g : TakerState Flagged) (cs : List Flagged) (most n : ℕ) (h : HandsOver t u f g cs most n) where
+module _ (t u : Terminal) (f g : TakerState Flagged) (cs : List Flagged) (most n : ℕ)
+    (h : HandsOver t u f g cs most n) where
   pub flushed_callers : length u.callers ≡ length t.callers
   flushed_callers = ap (λ (v : Terminal). length v.callers) h.left ∙ ap length (same_callers t cs)
 
@@ -33,11 +35,20 @@ module _ (t u : Terminal) (f g : TakerState Flagged) (cs : List Flagged) (most n
   flushed_noted xs ys so_far is =
       ap chars_of is ∙ (more_flushed xs cs ∙ (ap (λ (z : List Flagged). z ++ cs) so_far ∙ sym h.moved))
 
-  pub flushed_counted : (xs ys : List Taken) (count : ℕ) → count ≡ length (dropped_of xs) → ys ≡ xs ++ map flushed cs → count ≡ length (dropped_of ys)
-  flushed_counted xs ys count so_far is = so_far ∙ (sym (count_flushed xs cs) ∙ ap (λ (z : List Taken). length (dropped_of z)) (sym is))
+  pub flushed_counted : (xs ys : List Taken) (count : ℕ)
+      → count ≡ length (dropped_of xs)
+      → ys ≡ xs ++ map flushed cs
+      → count ≡ length (dropped_of ys)
+  flushed_counted xs ys count so_far is =
+      so_far ∙ (sym (count_flushed xs cs) ∙ ap (λ (z : List Taken). length (dropped_of z)) (sym is))
 
-  pub flushes_from : (d v : DeviceState) (asked : ℕ) → t ≡ d.terminal → d.shown ≡ f.floor → length d.taken ≡ length f.taken → most ≡ min asked 256
-      → v ≡ record d { terminal = u; taken = d.taken ++ map flushed cs; shown = g.floor } → Flushes d v asked n
+  pub flushes_from : (d v : DeviceState) (asked : ℕ)
+      → t ≡ d.terminal
+      → d.shown ≡ f.floor
+      → length d.taken ≡ length f.taken
+      → most ≡ min asked 256
+      → v ≡ record d { terminal = u; taken = d.taken ++ map flushed cs; shown = g.floor }
+      → Flushes d v asked n
   flushes_from d v asked same shown taken few is =
       let looked : f.floor ≤ g.floor = h.looked in
       record {
@@ -45,14 +56,22 @@ module _ (t u : Terminal) (f g : TakerState Flagged) (cs : List Flagged) (most n
         tail = g.floor;
         counted = h.counted;
         looked = omega (arith, shown, looked);
-        few = subst (λ (k : ℕ). length cs ≤ min k (g.floor - length d.taken)) few (subst (λ (k : ℕ). length cs ≤ min most (g.floor - k)) (sym taken) h.few);
+        few = subst (λ (k : ℕ). length cs ≤ min k (g.floor - length d.taken)) few
+            (subst (λ (k : ℕ). length cs ≤ min most (g.floor - k)) (sym taken) h.few);
         accepted = subst (λ (x : Terminal). AcceptsAll x cs) same h.accepted;
-        left = is ∙ ap (λ (x : Terminal). record d { terminal = x; taken = d.taken ++ map flushed cs; shown = g.floor }) (h.left ∙ ap (λ (x : Terminal). kept (after_characters x cs)) same);
+        left =
+            is
+            ∙ ap (λ (x : Terminal). record d { terminal = x; taken = d.taken ++ map flushed cs; shown = g.floor })
+            (h.left ∙ ap (λ (x : Terminal). kept (after_characters x cs)) same);
         all = λ less. ap (λ (x : DeviceState). accepts x.terminal) is
-            ∙ h.all (subst (λ (k : ℕ). length cs < min most (g.floor - k)) taken (subst (λ (k : ℕ). length cs < min k (g.floor - length d.taken)) (sym few) less));
+            ∙ h.all (subst (λ (k : ℕ). length cs < min most (g.floor - k)) taken
+            (subst (λ (k : ℕ). length cs < min k (g.floor - length d.taken)) (sym few) less));
       }
 
-pub flushes_where : (b : Bool) (d v : DeviceState) (asked n : ℕ) → b ≡ false → Flushes d v asked n → FlushesWhere b d v asked n
+pub flushes_where : (b : Bool) (d v : DeviceState) (asked n : ℕ)
+    → b ≡ false
+    → Flushes d v asked n
+    → FlushesWhere b d v asked n
 flushes_where b d v asked n is h = subst (λ (x : Bool). FlushesWhere x d v asked n) (sym is) h
 
 -- what is noted of the characters that were dropped
@@ -61,7 +80,13 @@ module _ (f g : TakerState Flagged) (xs ys : List Taken) (h : DropsOut f g xs ys
   dropped_noted so_far =
       ap chars_of h.notes ∙ (more_dropped xs h.chars ∙ (ap (λ (z : List Flagged). z ++ h.chars) so_far ∙ sym h.moved))
 
-  pub drops_from : (d v : DeviceState) → d.shown ≡ f.floor → d.taken ≡ xs → chars_of xs ≡ f.taken → v.taken ≡ ys → v.shown ≡ g.floor → Drops d v
+  pub drops_from : (d v : DeviceState)
+      → d.shown ≡ f.floor
+      → d.taken ≡ xs
+      → chars_of xs ≡ f.taken
+      → v.taken ≡ ys
+      → v.shown ≡ g.floor
+      → Drops d v
   drops_from d v shown taken so_far taken' shown' =
       let looked : f.floor ≤ h.tail = h.looked in
       let all : length f.taken + length h.chars ≡ h.tail = h.all in

@@ -1,5 +1,6 @@
 -- What was taken, and what became of it.
-use Rattle.std.proofs.Common.{◌≡◌, ℕ, ◌+◌, List, [], ◌∷◌, ◌++◌, Bool, true, false, if◌then◌else◌, length, map, refl, sym, ◌∙◌, ap, arith}
+use Rattle.std.proofs.Common.{◌≡◌, ℕ, ◌+◌, List, [], ◌∷◌, ◌++◌, Bool, true, false}
+use Rattle.std.proofs.Common.{if◌then◌else◌, length, map, refl, sym, ◌∙◌, ap, arith}
 use Rattle.std.proofs.lemmas.List.{length-map, map-append}
 use Rattle.tty_base.specs.declared.characters.Flagged.{Flagged}
 use Rattle.tty_device.specs.Kept.{Taken, flushed, dropped, chars_of, flushed_of, dropped_of}
@@ -14,10 +15,14 @@ chars_flushed (c ∷ cs) = ap (λ (xs : List Flagged). c ∷ xs) (chars_flushed 
 
 -- more characters were taken, and dropped, or flushed
 pub more_dropped : (xs : List Taken) (cs : List Flagged) → chars_of (xs ++ map dropped cs) ≡ chars_of xs ++ cs
-more_dropped xs cs = map-append (λ (x : Taken). x.char) xs (map dropped cs) ∙ ap (λ (ys : List Flagged). chars_of xs ++ ys) (chars_dropped cs)
+more_dropped xs cs =
+    map-append (λ (x : Taken). x.char) xs (map dropped cs)
+    ∙ ap (λ (ys : List Flagged). chars_of xs ++ ys) (chars_dropped cs)
 
 pub more_flushed : (xs : List Taken) (cs : List Flagged) → chars_of (xs ++ map flushed cs) ≡ chars_of xs ++ cs
-more_flushed xs cs = map-append (λ (x : Taken). x.char) xs (map flushed cs) ∙ ap (λ (ys : List Flagged). chars_of xs ++ ys) (chars_flushed cs)
+more_flushed xs cs =
+    map-append (λ (x : Taken). x.char) xs (map flushed cs)
+    ∙ ap (λ (ys : List Flagged). chars_of xs ++ ys) (chars_flushed cs)
 
 dropped_among_dropped : (cs : List Flagged) → dropped_of (map dropped cs) ≡ cs
 dropped_among_dropped [] = refl
@@ -27,19 +32,25 @@ dropped_among_flushed : (cs : List Flagged) → dropped_of (map flushed cs) ≡ 
 dropped_among_flushed [] = refl
 dropped_among_flushed (c ∷ cs) = dropped_among_flushed cs
 
-counted_by : (b : Bool) (x : Taken) (ds : List Flagged) (xs : List Taken) (n : ℕ) → length ds ≡ length (dropped_of xs) + n
+counted_by : (b : Bool) (x : Taken) (ds : List Flagged) (xs : List Taken) (n : ℕ)
+    → length ds ≡ length (dropped_of xs) + n
     → length (if b then x.char ∷ ds else ds) ≡ length (if b then x.char ∷ dropped_of xs else dropped_of xs) + n
 counted_by true x ds xs n is = omega (arith, is)
 counted_by false x ds xs n is = is
 
 dropped_past : (xs ys : List Taken) → length (dropped_of (xs ++ ys)) ≡ length (dropped_of xs) + length (dropped_of ys)
 dropped_past [] ys = omega arith
-dropped_past (x ∷ xs) ys = counted_by x.dropped x (dropped_of (xs ++ ys)) xs (length (dropped_of ys)) (dropped_past xs ys)
+dropped_past (x ∷ xs) ys =
+    counted_by x.dropped x (dropped_of (xs ++ ys)) xs (length (dropped_of ys)) (dropped_past xs ys)
 
-pub count_dropped : (xs : List Taken) (cs : List Flagged) → length (dropped_of (xs ++ map dropped cs)) ≡ length (dropped_of xs) + length cs
-count_dropped xs cs = dropped_past xs (map dropped cs) ∙ ap (λ (ys : List Flagged). length (dropped_of xs) + length ys) (dropped_among_dropped cs)
+pub count_dropped : (xs : List Taken) (cs : List Flagged)
+    → length (dropped_of (xs ++ map dropped cs)) ≡ length (dropped_of xs) + length cs
+count_dropped xs cs =
+    dropped_past xs (map dropped cs)
+    ∙ ap (λ (ys : List Flagged). length (dropped_of xs) + length ys) (dropped_among_dropped cs)
 
-pub count_flushed : (xs : List Taken) (cs : List Flagged) → length (dropped_of (xs ++ map flushed cs)) ≡ length (dropped_of xs)
+pub count_flushed : (xs : List Taken) (cs : List Flagged)
+    → length (dropped_of (xs ++ map flushed cs)) ≡ length (dropped_of xs)
 count_flushed xs cs =
     let none : length (dropped_of (map flushed cs)) ≡ 0 = ap length (dropped_among_flushed cs) in
     omega (arith, dropped_past xs (map flushed cs), none)
@@ -57,5 +68,7 @@ each_is_one (x ∷ xs) =
     omega (arith, all)
 
 -- of those that were taken each was flushed or dropped
-pub taken_is : (xs : List Taken) (taken : List Flagged) → chars_of xs ≡ taken → length taken ≡ length (flushed_of xs) + length (dropped_of xs)
+pub taken_is : (xs : List Taken) (taken : List Flagged)
+    → chars_of xs ≡ taken
+    → length taken ≡ length (flushed_of xs) + length (dropped_of xs)
 taken_is xs taken is = ap length (sym is) ∙ (length-map xs (λ (x : Taken). x.char) ∙ sym (each_is_one xs))

@@ -8,12 +8,17 @@ use Rattle.word_ring.specs.Ends.{PutterState}
 use Rattle.flip_buffer.specs.Packed.{with_flag}
 use Rattle.tty_device.specs.Lines.{Puts}
 
-runs_are_one : (flag : Flag) (bytes : List ℕ) (done count : ℕ) → with_flag flag (take (done + count) bytes) ≡ with_flag flag (take done bytes) ++ with_flag flag (take count (drop done bytes))
+runs_are_one : (flag : Flag) (bytes : List ℕ) (done count : ℕ)
+    → with_flag flag (take (done + count) bytes)
+    ≡ with_flag flag (take done bytes) ++ with_flag flag (take count (drop done bytes))
 runs_are_one flag bytes done count =
-    ap (with_flag flag) (take-add done count bytes) ∙ map-append (λ (byte : ℕ). record { byte = byte; flag = flag }) (take done bytes) (take count (drop done bytes))
+    ap (with_flag flag) (take-add done count bytes)
+    ∙ map-append (λ (byte : ℕ). record { byte = byte; flag = flag }) (take done bytes) (take count (drop done bytes))
 
 pub more_put : (a b c : PutterState Flagged) (flag : Flag) (bytes : List ℕ) (done count : ℕ)
-    → Puts a b (with_flag flag (take done bytes)) → Puts b c (with_flag flag (take count (drop done bytes))) → Puts a c (with_flag flag (take (done + count) bytes))
+    → Puts a b (with_flag flag (take done bytes))
+    → Puts b c (with_flag flag (take count (drop done bytes)))
+    → Puts a c (with_flag flag (take (done + count) bytes))
 more_put a b c flag bytes done count first then =
     let low : a.floor ≤ b.floor = first.known in
     let high : b.floor ≤ c.floor = then.known in

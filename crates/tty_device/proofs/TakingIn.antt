@@ -1,7 +1,9 @@
 -- Bytes that are put and handed over in one call.
-use Rattle.std.proofs.Common.{◌≡◌, ℕ, ◌+◌, ◌-◌, ◌<◌, ◌≤◌, ◌^◌, min, max, false, List, [], ◌++◌, length, take, drop, refl, sym, ◌∙◌, ap, subst, arith, append_assoc}
+use Rattle.std.proofs.Common.{◌≡◌, ℕ, ◌+◌, ◌-◌, ◌<◌, ◌≤◌, ◌^◌, min, max, false, List, [], ◌++◌}
+use Rattle.std.proofs.Common.{length, take, drop, refl, sym, ◌∙◌, ap, subst, arith, append_assoc}
 use Rattle.std.specs.Prelude.{Option, Some, IfSome}
-use Rattle.std.proofs.lemmas.List.{length-append, length-map, length-take-le, map-append, take_all, take-append-drop, take-map}
+use Rattle.std.proofs.lemmas.List.{length-append, length-map, length-take-le}
+use Rattle.std.proofs.lemmas.List.{map-append, take_all, take-append-drop, take-map}
 use Rattle.atomic_table.specs.Seated.{TableId}
 use Rattle.tty_base.specs.Characters.{good_character, good_characters}
 use Rattle.tty_base.specs.declared.characters.Flag.{Flag}
@@ -20,27 +22,43 @@ use Rattle.tty_device.specs.Devices.{DeviceState, TakesIn, TakesInWhere}
 -- ---- what the line puts
 
 -- bytes are put, and then pushed
-pub puts_then : (old l m : LineState) (flag : Flag) (bytes : List ℕ) (n : ℕ) → n ≤ length bytes → l ≡ record (after_put flag bytes n old) { known = l.known } → old.known ≤ l.known
-    → (n < length bytes → IsFull l.sent l.known old.capacity) → m ≡ record l { pushed = l.sent } → PutsAndPushes old m flag bytes n
+pub puts_then : (old l m : LineState) (flag : Flag) (bytes : List ℕ) (n : ℕ)
+    → n ≤ length bytes
+    → l ≡ record (after_put flag bytes n old) { known = l.known }
+    → old.known ≤ l.known
+    → (n < length bytes → IsFull l.sent l.known old.capacity)
+    → m ≡ record l { pushed = l.sent }
+    → PutsAndPushes old m flag bytes n
 puts_then old l m flag bytes n within put known full push =
     let sent : m.sent ≡ l.sent = ap (λ (x : LineState). x.sent) push in
     let same : m.known ≡ l.known = ap (λ (x : LineState). x.known) push in
     record {
       within = within;
-      after = push ∙ (ap (λ (x : LineState). record x { pushed = l.sent }) put ∙ (λ i. record (after_put flag bytes n old) { pushed = sym sent i; known = sym same i }));
+      after =
+          push
+          ∙ (ap (λ (x : LineState). record x { pushed = l.sent }) put
+          ∙ (λ i. record (after_put flag bytes n old) { pushed = sym sent i; known = sym same i }));
       known = omega (arith, known, same);
-      full = λ less. subst (λ (z : List Flagged × ℕ). IsFull z.0 z.1 old.capacity) (λ i. (sym sent i, sym same i)) (full less);
+      full = λ less.
+          subst (λ (z : List Flagged × ℕ). IsFull z.0 z.1 old.capacity) (λ i. (sym sent i, sym same i)) (full less);
     }
 
 -- more was known before they were put
-pub puts_from : (old w m : LineState) (flag : Flag) (bytes : List ℕ) (n : ℕ) → w ≡ record old { known = w.known } → old.known ≤ w.known → PutsAndPushes w m flag bytes n → PutsAndPushes old m flag bytes n
+pub puts_from : (old w m : LineState) (flag : Flag) (bytes : List ℕ) (n : ℕ)
+    → w ≡ record old { known = w.known }
+    → old.known ≤ w.known
+    → PutsAndPushes w m flag bytes n
+    → PutsAndPushes old m flag bytes n
 puts_from old w m flag bytes n is rises puts =
     let known : w.known ≤ m.known = puts.known in
     record {
       within = puts.within;
-      after = puts.after ∙ ap (λ (x : LineState). record (after_put flag bytes n x) { pushed = m.sent; known = m.known }) is;
+      after =
+          puts.after
+          ∙ ap (λ (x : LineState). record (after_put flag bytes n x) { pushed = m.sent; known = m.known }) is;
       known = omega (arith, rises, known);
-      full = λ less. subst (λ (k : ℕ). IsFull m.sent m.known k) (ap (λ (x : LineState). x.capacity) is) (puts.full less);
+      full = λ less.
+          subst (λ (k : ℕ). IsFull m.sent m.known k) (ap (λ (x : LineState). x.capacity) is) (puts.full less);
     }
 
 -- a count that has room is no higher after none
@@ -48,14 +66,35 @@ none_more : (count : ℕ) → count < 2 ^ 64 → count_after count 0 ≡ count
 none_more count small = omega (arith, small)
 
 -- all of them are put, where they are good and there is room
-pub puts_all : (w m : LineState) (f g : TakerState Flagged) (p q : PutterState Flagged) (flag : Flag) (bytes : List ℕ) (n : ℕ) → Gives f g p q bytes n → flag ≡ Normal → w.overruns < 2 ^ 64
-    → w ≡ record { ring = p.ring; capacity = p.capacity; sent = p.sent; pushed = p.pushed; overruns = w.overruns; known = p.floor }
-    → m ≡ record { ring = q.ring; capacity = q.capacity; sent = q.sent; pushed = q.pushed; overruns = w.overruns; known = q.floor }
+pub puts_all : (w m : LineState) (f g : TakerState Flagged) (p q : PutterState Flagged) (flag : Flag) (bytes : List ℕ)
+    (n : ℕ)
+    → Gives f g p q bytes n
+    → flag ≡ Normal
+    → w.overruns < 2 ^ 64
+    → w
+    ≡ record {
+      ring = p.ring;
+      capacity = p.capacity;
+      sent = p.sent;
+      pushed = p.pushed;
+      overruns = w.overruns;
+      known = p.floor;
+    }
+    → m
+    ≡ record {
+      ring = q.ring;
+      capacity = q.capacity;
+      sent = q.sent;
+      pushed = q.pushed;
+      overruns = w.overruns;
+      known = q.floor;
+    }
     → PutsAndPushes w m flag bytes (length bytes)
 puts_all w m f g p q flag bytes n gives good small was is =
     let all : take (length bytes) bytes ≡ bytes = take_all (length bytes) bytes (omega arith) in
     let none : length bytes - length bytes ≡ 0 = omega arith in
-    let same : count_after w.overruns (length bytes - length bytes) ≡ w.overruns = ap (count_after w.overruns) none ∙ none_more w.overruns small in
+    let same : count_after w.overruns (length bytes - length bytes) ≡ w.overruns =
+    ap (count_after w.overruns) none ∙ none_more w.overruns small in
     let sent : m.sent ≡ q.sent = ap (λ (x : LineState). x.sent) is in
     let put : q.sent ≡ w.sent ++ with_flag flag (take (length bytes) bytes) =
     gives.sent ∙ (λ i. ap (λ (x : LineState). x.sent) (sym was) i ++ with_flag (sym good i) (sym all i)) in
@@ -79,7 +118,11 @@ puts_all w m f g p q flag bytes n gives good small was is =
 -- ---- what the flip buffer has
 
 -- what was handed over from a later standing was handed over from an earlier one
-pub handed_from : (t u : Terminal) (f e g : TakerState Flagged) (cs : List Flagged) (most n : ℕ) → e.ring ≡ f.ring → e.taken ≡ f.taken → f.floor ≤ e.floor → HandsOver t u e g cs most n
+pub handed_from : (t u : Terminal) (f e g : TakerState Flagged) (cs : List Flagged) (most n : ℕ)
+    → e.ring ≡ f.ring
+    → e.taken ≡ f.taken
+    → f.floor ≤ e.floor
+    → HandsOver t u e g cs most n
     → HandsOver t u f g cs most (length cs)
 handed_from t u f e g cs most n ring taken rises h =
     let looked : e.floor ≤ g.floor = h.looked in
@@ -96,7 +139,8 @@ handed_from t u f e g cs most n ring taken rises h =
     }
 
 -- what passed, and what of the bytes was kept after it
-module _ (f g : TakerState Flagged) (p q : PutterState Flagged) (bytes : List ℕ) (n : ℕ) (clear : IsClear f p (length bytes)) (passes : Passes p q f g (good_characters (take n bytes))) where
+module _ (f g : TakerState Flagged) (p q : PutterState Flagged) (bytes : List ℕ) (n : ℕ)
+    (clear : IsClear f p (length bytes)) (passes : Passes p q f g (good_characters (take n bytes))) where
   abbrev passed : List Flagged
   passed = p.sent ++ good_characters (take n bytes)
 
@@ -110,11 +154,14 @@ module _ (f g : TakerState Flagged) (p q : PutterState Flagged) (bytes : List �
   passed_all whole =
       let known : p.floor ≡ length p.sent = clear.clear.known in
       let loaded : q.floor ≡ length passed = ap (λ (x : PutterState Flagged). x.floor) passes.putter in
-      let longer : length passed ≡ length p.sent + length (good_characters (take n bytes)) = length-append p.sent (good_characters (take n bytes)) in
+      let longer : length passed ≡ length p.sent + length (good_characters (take n bytes)) =
+      length-append p.sent (good_characters (take n bytes)) in
       let before : f.floor ≤ length p.sent = passes.floor in
       record {
         ring = ap (λ (x : TakerState Flagged). x.ring) passes.taker;
-        moved = ap (λ (x : TakerState Flagged). x.taken) passes.taker ∙ ap (λ (z : List Flagged). z ++ good_characters (take n bytes)) (sym passes.met);
+        moved =
+            ap (λ (x : TakerState Flagged). x.taken) passes.taker
+            ∙ ap (λ (z : List Flagged). z ++ good_characters (take n bytes)) (sym passes.met);
         looked = omega (arith, before, floor_is, longer);
         shown = floor_is ∙ sym (ap length sent_is);
         same = ap (λ (x : PutterState Flagged). x.ring) passes.putter;
@@ -125,45 +172,65 @@ module _ (f g : TakerState Flagged) (p q : PutterState Flagged) (bytes : List �
       }
 
   pub passed_some : (h : TakerState Flagged) (r : PutterState Flagged)
-      → r ≡ record q { sent = q.sent ++ good_characters (drop n bytes); pushed = q.sent ++ good_characters (drop n bytes) }
-      → h ≡ record g { peeked = []; floor = max g.floor (length q.sent + length (drop n bytes)) } → Gives f h p r bytes n
+      → r
+      ≡ record q { sent = q.sent ++ good_characters (drop n bytes); pushed = q.sent ++ good_characters (drop n bytes) }
+      → h ≡ record g { peeked = []; floor = max g.floor (length q.sent + length (drop n bytes)) }
+      → Gives f h p r bytes n
   passed_some h r put told =
       let rest : List Flagged = good_characters (drop n bytes) in
       let known : p.floor ≡ length p.sent = clear.clear.known in
       let loaded : q.floor ≡ length passed = ap (λ (x : PutterState Flagged). x.floor) passes.putter in
-      let longer : length passed ≡ length p.sent + length (good_characters (take n bytes)) = length-append p.sent (good_characters (take n bytes)) in
+      let longer : length passed ≡ length p.sent + length (good_characters (take n bytes)) =
+      length-append p.sent (good_characters (take n bytes)) in
       let before : f.floor ≤ length p.sent = passes.floor in
       let many : length q.sent ≡ length passed = ap length sent_is in
-      let more : length r.sent ≡ length q.sent + length rest = ap (λ (x : PutterState Flagged). length x.sent) put ∙ length-append q.sent rest in
+      let more : length r.sent ≡ length q.sent + length rest =
+      ap (λ (x : PutterState Flagged). length x.sent) put ∙ length-append q.sent rest in
       let as_many : length rest ≡ length (drop n bytes) = length-map (drop n bytes) good_character in
-      let shown : h.floor ≡ max g.floor (length q.sent + length (drop n bytes)) = ap (λ (x : TakerState Flagged). x.floor) told in
+      let shown : h.floor ≡ max g.floor (length q.sent + length (drop n bytes)) =
+      ap (λ (x : TakerState Flagged). x.floor) told in
       let last : r.floor ≡ q.floor = ap (λ (x : PutterState Flagged). x.floor) put in
       let both : good_characters (take n bytes) ++ rest ≡ good_characters bytes =
       sym (map-append good_character (take n bytes) (drop n bytes)) ∙ ap good_characters (take-append-drop n bytes) in
       record {
         ring = ap (λ (x : TakerState Flagged). x.ring) told ∙ ap (λ (x : TakerState Flagged). x.ring) passes.taker;
         moved = ap (λ (x : TakerState Flagged). x.taken) told
-            ∙ (ap (λ (x : TakerState Flagged). x.taken) passes.taker ∙ ap (λ (z : List Flagged). z ++ good_characters (take n bytes)) (sym passes.met));
+            ∙ (ap (λ (x : TakerState Flagged). x.taken) passes.taker
+            ∙ ap (λ (z : List Flagged). z ++ good_characters (take n bytes)) (sym passes.met));
         looked = omega (arith, before, floor_is, longer, shown);
         shown = omega (arith, shown, more, as_many, floor_is, many);
         same = ap (λ (x : PutterState Flagged). x.ring) put ∙ ap (λ (x : PutterState Flagged). x.ring) passes.putter;
-        holds = ap (λ (x : PutterState Flagged). x.capacity) put ∙ ap (λ (x : PutterState Flagged). x.capacity) passes.putter;
+        holds =
+            ap (λ (x : PutterState Flagged). x.capacity) put
+            ∙ ap (λ (x : PutterState Flagged). x.capacity) passes.putter;
         sent = ap (λ (x : PutterState Flagged). x.sent) put
-            ∙ (ap (λ (z : List Flagged). z ++ rest) sent_is ∙ (append_assoc p.sent (good_characters (take n bytes)) rest ∙ ap (λ (z : List Flagged). p.sent ++ z) both));
+            ∙ (ap (λ (z : List Flagged). z ++ rest) sent_is
+            ∙ (append_assoc p.sent (good_characters (take n bytes)) rest
+            ∙ ap (λ (z : List Flagged). p.sent ++ z) both));
         pushed = ap (λ (x : PutterState Flagged). x.pushed) put ∙ sym (ap (λ (x : PutterState Flagged). x.sent) put);
         known = omega (arith, known, loaded, longer, last);
       }
 
 -- those that the discipline accepted of these were handed over
-pub handed_straight : (t u : Terminal) (f g : TakerState Flagged) (p q : PutterState Flagged) (bytes : List ℕ) (n : ℕ) (cs : List Flagged) → Gives f g p q bytes n → IsClear f p (length bytes)
-    → length bytes ≤ 256 → n ≤ length bytes → cs ≡ take n (good_characters bytes) → (accepted : AcceptsAll t cs) → u ≡ kept (after_characters t cs) → (n < length bytes → accepts u ≡ false)
+pub handed_straight : (t u : Terminal) (f g : TakerState Flagged) (p q : PutterState Flagged) (bytes : List ℕ) (n : ℕ)
+    (cs : List Flagged)
+    → Gives f g p q bytes n
+    → IsClear f p (length bytes)
+    → length bytes ≤ 256
+    → n ≤ length bytes
+    → cs ≡ take n (good_characters bytes)
+    → (accepted : AcceptsAll t cs)
+    → u ≡ kept (after_characters t cs)
+    → (n < length bytes → accepts u ≡ false)
     → HandsOver t u f g cs 256 (length cs)
 handed_straight t u f g p q bytes n cs gives clear few within are accepted left stops =
     let taken : length f.taken ≡ length p.sent = clear.clear.taken in
-    let all : length q.sent ≡ length p.sent + length (good_characters bytes) = ap length gives.sent ∙ length-append p.sent (good_characters bytes) in
+    let all : length q.sent ≡ length p.sent + length (good_characters bytes) =
+    ap length gives.sent ∙ length-append p.sent (good_characters bytes) in
     let many : length (good_characters bytes) ≡ length bytes = length-map bytes good_character in
     let shown : g.floor ≡ length q.sent = gives.shown in
-    let count : length cs ≡ n = ap length are ∙ length-take-le n (good_characters bytes) (omega (arith, within, many)) in
+    let count : length cs ≡ n =
+    ap length are ∙ length-take-le n (good_characters bytes) (omega (arith, within, many)) in
     record {
       counted = refl;
       ring = gives.ring;
@@ -176,10 +243,17 @@ handed_straight t u f g p q bytes n cs gives clear few within are accepted left 
     }
 
 -- an end that puts in stays that of the same buffer
-pub line_stays : (line : Option LineState) (r s : TableId) → s ≡ r → IfSome line (λ l. l.ring ≡ r) → IfSome line (λ l. l.ring ≡ s)
+pub line_stays : (line : Option LineState) (r s : TableId)
+    → s ≡ r
+    → IfSome line (λ l. l.ring ≡ r)
+    → IfSome line (λ l. l.ring ≡ s)
 line_stays line r s same h = subst (λ (x : TableId). IfSome line (λ l. l.ring ≡ x)) (sym same) h
 
 -- a device that has an end takes in what it takes in by that end
-pub takes_in_where : (o : Option LineState) (l : LineState) (old new : DeviceState) (flag : Flag) (bytes : List ℕ) (n : ℕ) → o ≡ Some l → TakesIn old new l flag bytes n
+pub takes_in_where : (o : Option LineState) (l : LineState) (old new : DeviceState) (flag : Flag) (bytes : List ℕ)
+    (n : ℕ)
+    → o ≡ Some l
+    → TakesIn old new l flag bytes n
     → TakesInWhere o old new flag bytes (Some n)
-takes_in_where o l old new flag bytes n is h = subst (λ (x : Option LineState). TakesInWhere x old new flag bytes (Some n)) (sym is) (n, refl, h)
+takes_in_where o l old new flag bytes n is h =
+    subst (λ (x : Option LineState). TakesInWhere x old new flag bytes (Some n)) (sym is) (n, refl, h)

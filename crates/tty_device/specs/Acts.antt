@@ -41,7 +41,8 @@ pub record DropsOut (old new : TakerState Flagged) (noted noted' : List Taken) :
   pub shown : tail ≤ new.floor
 
 -- these were taken, and received
-pub record HandsOver (t u : Terminal) (old new : TakerState Flagged) (chars : List Flagged) (most count : ℕ) : Type 0 where
+pub record HandsOver (t u : Terminal) (old new : TakerState Flagged) (chars : List Flagged)
+    (most count : ℕ) : Type 0 where
   pub counted : count ≡ length chars
   pub ring : new.ring ≡ old.ring
   pub moved : new.taken ≡ old.taken ++ chars
@@ -72,7 +73,8 @@ pub record Gives (f g : TakerState Flagged) (p q : PutterState Flagged) (bytes :
   pub known : p.floor ≤ q.floor
 
 -- bytes were put and pushed, and a look showed all of them; these were taken, and received
-pub record HandsIn (t u : Terminal) (f g : TakerState Flagged) (old new : LineState) (chars : List Flagged) (flag : Flag) (bytes : List ℕ) (count : ℕ) : Type 0 where
+pub record HandsIn (t u : Terminal) (f g : TakerState Flagged) (old new : LineState) (chars : List Flagged)
+    (flag : Flag) (bytes : List ℕ) (count : ℕ) : Type 0 where
   pub puts : PutsAndPushes old new flag bytes count
   pub hands : HandsOver t u f g chars 256 (length chars)
   pub seen : length new.sent ≤ g.floor

@@ -1,5 +1,7 @@
 -- A port that runs for ever.
-use Rattle.std.specs.Prelude.{◌≡◌, ℕ, ◌+◌, ◌-◌, ◌<◌, ◌≤◌, ◌==◌, min, max, nat_lt, Bool, true, false, not, ◌&&◌, ◌||◌, List, [], ◌++◌, length, map, drop, replicate, Option, None, Some, is_some, if◌then◌else◌, slice_get, slice_index_or, slice_set}
+use Rattle.std.specs.Prelude.{◌≡◌, ℕ, ◌+◌, ◌-◌, ◌<◌, ◌≤◌, ◌==◌, min, max, nat_lt, Bool, true, false}
+use Rattle.std.specs.Prelude.{not, ◌&&◌, ◌||◌, List, [], ◌++◌, length, map, drop, replicate, Option}
+use Rattle.std.specs.Prelude.{None, Some, is_some, if◌then◌else◌, slice_get, slice_index_or, slice_set}
 use Rattle.atomic_table.specs.Seated.{TableId}
 use Rattle.tty_base.specs.declared.characters.Flag.{Flag}
 use Rattle.tty_base.specs.declared.characters.Flagged.{Flagged}
@@ -37,10 +39,18 @@ pub record DeviceState : Type 0 where
 -- at first: where the end that puts in is an object of its own, and where the device has it
 abbrev pub fresh_device : TableId → (callers capacity : ℕ) → DeviceState
 fresh_device ring callers capacity =
-    record { terminal = opening callers capacity; verbs = replicate callers verb.Never; ring = ring; taken = []; shown = 0; line = None }
+    record {
+      terminal = opening callers capacity;
+      verbs = replicate callers verb.Never;
+      ring = ring;
+      taken = [];
+      shown = 0;
+      line = None;
+    }
 
 abbrev pub fresh_whole : TableId → (callers capacity : ℕ) → DeviceState
-fresh_whole ring callers capacity = record (fresh_device ring callers capacity) { line = Some (fresh_line ring capacity) }
+fresh_whole ring callers capacity =
+    record (fresh_device ring callers capacity) { line = Some (fresh_line ring capacity) }
 
 -- ---- calls
 
@@ -73,7 +83,8 @@ after_outcome d c call waits =
       verbs = slice_set d.verbs c (verb_of call);
     }
 after_outcome d c call (takes n left) = record d { terminal = kept (with_caller left c idle_caller) }
-after_outcome d c call (gives answer drops left) = record d { terminal = kept (with_caller (after_ixoff left) c idle_caller) }
+after_outcome d c call (gives answer drops left) =
+    record d { terminal = kept (with_caller (after_ixoff left) c idle_caller) }
 
 -- what a call leaves, beside what is dropped; one of no caller, or on a number of no handle, changes nothing
 abbrev pub after_call : DeviceState → (c : ℕ) → PlainCall → DeviceState
@@ -124,7 +135,12 @@ pub record Flushes (old new : DeviceState) (most count : ℕ) : Type 0 where
   pub looked : old.shown ≤ tail
   pub few : length chars ≤ min (min most 256) (tail - length old.taken)
   pub accepted : AcceptsAll old.terminal chars
-  pub left : new ≡ record old { terminal = kept (after_characters old.terminal chars); taken = old.taken ++ map flushed chars; shown = tail }
+  pub left : new
+      ≡ record old {
+        terminal = kept (after_characters old.terminal chars);
+        taken = old.taken ++ map flushed chars;
+        shown = tail;
+      }
   pub all : length chars < min (min most 256) (tail - length old.taken) → accepts new.terminal ≡ false
 
 -- where nothing can be flushed nothing changes
@@ -144,9 +160,11 @@ pub record TakesIn (old new : DeviceState) (line : LineState) (flag : Flag) (byt
   pub seen : is_stuck old ≡ false → length put.sent ≤ new.shown
 
 -- a device that has no such end answers so, and changes nothing
-abbrev pub TakesInWhere : Option LineState → (old new : DeviceState) → Flag → (bytes : List ℕ) → (answer : Option ℕ) → Type 0
+abbrev pub TakesInWhere : Option LineState → (old new : DeviceState) → Flag → (bytes : List ℕ) → (answer : Option ℕ)
+    → Type 0
 TakesInWhere None old new flag bytes answer = (answer ≡ None) × (new ≡ old)
-TakesInWhere (Some line) old new flag bytes answer = (count : ℕ) × (answer ≡ Some count) × TakesIn old new line flag bytes count
+TakesInWhere (Some line) old new flag bytes answer =
+    (count : ℕ) × (answer ≡ Some count) × TakesIn old new line flag bytes count
 
 -- ---- the clock, and what went out
 
@@ -167,7 +185,8 @@ abbrev pub at_front : (place bytes : List ℕ) → List ℕ
 at_front place bytes = bytes ++ drop (length bytes) place
 
 abbrev pub without_wire_front : (n : ℕ) → DeviceState → DeviceState
-without_wire_front n d = record d { terminal = record d.terminal { output = record d.terminal.output { wire = drop n (wire_of d) } } }
+without_wire_front n d =
+    record d { terminal = record d.terminal { output = record d.terminal.output { wire = drop n (wire_of d) } } }
 
 -- the signals that were raised, and are not taken yet
 abbrev pub signals_of : DeviceState → List Signal
@@ -178,4 +197,8 @@ first_signal d = slice_get (signals_of d) 0
 
 abbrev pub without_first_signal : DeviceState → DeviceState
 without_first_signal d =
-    record d { terminal = record d.terminal { tally = record d.terminal.tally { signals = record d.terminal.tally.signals { items = drop 1 (signals_of d) } } } }
+    record d {
+      terminal = record d.terminal {
+        tally = record d.terminal.tally { signals = record d.terminal.tally.signals { items = drop 1 (signals_of d) } };
+      };
+    }

@@ -18,8 +18,8 @@ device_of d =
       line = d.line;
     }
 
--- nothing is counted that is not kept, each caller has a verb, what was taken from the flip buffer is what is noted, and
--- an end that puts in is that of the same buffer
+-- nothing is counted that is not kept, each caller has a verb, what was taken from the flip buffer is what is noted,
+-- and an end that puts in is that of the same buffer
 pub record IsSound (d : DeviceInside) : Type 0 where
   pub generation : d.terminal.terminal.generation ≡ 0
   pub uncounted : d.terminal.terminal.taken ≡ 0

@@ -35,7 +35,10 @@ IsFull sent known capacity = (length sent ≡ known + capacity) ⊎ (2 ^ 63 ≤ 
 -- so many of these bytes are put, each with this flag, and the others are refused
 abbrev pub after_put : Flag → (bytes : List ℕ) → (count : ℕ) → LineState → LineState
 after_put flag bytes count l =
-    record l { sent = l.sent ++ with_flag flag (take count bytes); overruns = count_after l.overruns (length bytes - count) }
+    record l {
+      sent = l.sent ++ with_flag flag (take count bytes);
+      overruns = count_after l.overruns (length bytes - count);
+    }
 
 -- Bytes are put, each with this flag, up to the first that there is no room for, and pushed.
 pub record PutsAndPushes (old new : LineState) (flag : Flag) (bytes : List ℕ) (count : ℕ) : Type 0 where

@@ -54,7 +54,8 @@ impl Device {
         ensures overruns { result.overruns ≡ line.old.overruns }
         ensures flushed { result.account.flushed ≡ length (flushed_of self.old.taken) }
         ensures dropped { result.account.dropped ≡ length (dropped_of self.old.taken) }
-        ensures waiting { result.account.flushed + result.account.dropped + result.account.waiting ≡ length line.old.sent }
+        ensures waiting { result.account.flushed + result.account.dropped
+            + result.account.waiting ≡ length line.old.sent }
         ensures begins { IsPrefix (chars_of self.old.taken) line.old.sent }
         ensures after { self.new ≡ record self.old { shown = max self.old.shown (length line.old.sent) } }
         ensures line { line.new ≡ record line.old { pushed = line.old.sent; known = line.new.known } }

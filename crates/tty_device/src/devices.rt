@@ -10,7 +10,10 @@ ghost use Rattle.tty_terminal.specs.Terminals.{idle_caller};
 ghost use Rattle.tty_device.specs.Askers.{state_of};
 ghost use Rattle.tty_device.specs.Acts.{settled, verbs_after, DropsOut, HandsOver};
 ghost use Rattle.tty_device.specs.Kept.{chars_of, dropped_of};
-ghost use Rattle.tty_device.specs.Devices.{DeviceState, fresh_device, fresh_whole, caller_waiting, outcome_for, after_call, after_cancel, Drops, DropsWhere, with_taken_of, after_hang_up, is_stuck, FlushesWhere, TakesInWhere, after_advance, wire_of, taken_count, at_front, without_wire_front, first_signal, without_first_signal};
+ghost use Rattle.tty_device.specs.Devices.{DeviceState, fresh_device, fresh_whole, caller_waiting, outcome_for};
+ghost use Rattle.tty_device.specs.Devices.{after_call, after_cancel, Drops, DropsWhere, with_taken_of, after_hang_up};
+ghost use Rattle.tty_device.specs.Devices.{is_stuck, FlushesWhere, TakesInWhere, after_advance, wire_of, taken_count};
+ghost use Rattle.tty_device.specs.Devices.{at_front, without_wire_front, first_signal, without_first_signal};
 ghost use Rattle.tty_device.specs.Lines.{buffer_size, fresh_line};
 
 use crate::askers::{Asker, IDLE, Verbs, asker_for, verb_of};
@@ -111,8 +114,10 @@ impl Device {
     /// for a handle's number from 32 on.
     pub fn call(&mut self, caller: usize, call: &Call) -> Result<Met, NoMemory>
         ensures met { IfOk result (λ met. Meets (outcome_for self.old caller (call_of call.now)) met) }
-        ensures after { OnOk result (self.new ≡ with_taken_of self.new (after_call self.old caller (call_of call.now))) }
-        ensures drops { OnOk result (DropsWhere (drops_of (outcome_for self.old caller (call_of call.now))) self.old self.new) }
+        ensures after { OnOk result
+            (self.new ≡ with_taken_of self.new (after_call self.old caller (call_of call.now))) }
+        ensures drops { OnOk result
+            (DropsWhere (drops_of (outcome_for self.old caller (call_of call.now))) self.old self.new) }
         ensures err { OnErr result (self.new ≡ self.old) }
     {
         if caller >= self.terminal.callers() {
@@ -287,8 +292,10 @@ fn meet(terminal: &mut Terminal, alloc: Global, asker: &Asker, call: &Call) -> R
     requires number { handle_of (call_of call.now) < 32 }
     requires few { terminal.old.terminal.generation < 2 ^ 31 }
     requires column { column_in terminal.old.terminal.disc < 2 ^ 62 }
-    ensures met { IfOk result (λ met. Meets (outcome terminal.old.terminal (state_of asker.now) (call_of call.now)) met) }
-    ensures left { OnOk result (terminal.new.terminal ≡ left_by (outcome terminal.old.terminal (state_of asker.now) (call_of call.now)) terminal.old.terminal) }
+    ensures met { IfOk result
+        (λ met. Meets (outcome terminal.old.terminal (state_of asker.now) (call_of call.now)) met) }
+    ensures left { OnOk result (terminal.new.terminal
+        ≡ left_by (outcome terminal.old.terminal (state_of asker.now) (call_of call.now)) terminal.old.terminal) }
     ensures err { OnErr result (terminal.new.terminal ≡ terminal.old.terminal) }
 {
     terminal.reserve(ROOM_FOR_CALL, 0)?;
@@ -332,7 +339,8 @@ fn settle(
 )
     requires known { caller < length terminal.old.terminal.callers }
     requires verbs { length verbs.old ≡ length terminal.old.terminal.callers }
-    ensures terminal { terminal.new ≡ record terminal.old { terminal = settled terminal.old.terminal caller asker.now (call_of call.now) met.now } }
+    ensures terminal { terminal.new
+        ≡ record terminal.old { terminal = settled terminal.old.terminal caller asker.now (call_of call.now) met.now } }
     ensures verbs { verbs.new ≡ verbs_after verbs.old caller (call_of call.now) met.now }
 {
     match met {

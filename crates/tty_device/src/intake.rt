@@ -42,7 +42,8 @@ pub(crate) fn hand_in(
     requires signals { 256 ≤ terminal.old.signal_room }
     requires uncounted { terminal.old.terminal.taken ≡ 0 }
     requires column { column_in terminal.old.terminal.disc < 2 ^ 32 }
-    ensures { HandsIn terminal.old.terminal terminal.new.terminal flip.old flip.new line.old line.new chars.new.items flag bytes.now result }
+    ensures { HandsIn terminal.old.terminal terminal.new.terminal flip.old flip.new
+        line.old line.new chars.new.items flag bytes.now result }
 {
     line.waiting();
     if is_short_run(bytes, flag) && is_clear(flip, &line.input, bytes.len()) {
@@ -125,8 +126,13 @@ fn keep(flip: &mut FlipOut, input: &mut FlipIn, bytes: &[u8])
     requires ring { input.old.ring ≡ flip.old.ring }
     requires room { length input.old.sent + length bytes.now ≤ input.old.floor + input.old.capacity }
     requires small { length input.old.sent + length bytes.now ≤ 2 ^ 63 }
-    ensures input { input.new ≡ record input.old { sent = input.old.sent ++ good_characters bytes.now; pushed = input.old.sent ++ good_characters bytes.now } }
-    ensures flip { flip.new ≡ record flip.old { peeked = []; floor = max flip.old.floor (length input.old.sent + length bytes.now) } }
+    ensures input { input.new
+        ≡ record input.old {
+          sent = input.old.sent ++ good_characters bytes.now;
+          pushed = input.old.sent ++ good_characters bytes.now;
+        } }
+    ensures flip { flip.new
+        ≡ record flip.old { peeked = []; floor = max flip.old.floor (length input.old.sent + length bytes.now) } }
 {
     input.put_run(bytes, Flag::Normal);
     flip.meet(input.note());

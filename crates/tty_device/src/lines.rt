@@ -35,7 +35,15 @@ impl Moves for Line {}
 impl Line {
     /// An end that has put nothing.
     pub(crate) fn new(input: FlipIn) -> Line
-        ensures { result ≡ record { ring = input.ring; capacity = input.capacity; sent = input.sent; pushed = input.pushed; overruns = 0; known = input.floor } }
+        ensures { result
+            ≡ record {
+              ring = input.ring;
+              capacity = input.capacity;
+              sent = input.sent;
+              pushed = input.pushed;
+              overruns = 0;
+              known = input.floor;
+            } }
     {
         Line { input, overruns: 0 }
     }

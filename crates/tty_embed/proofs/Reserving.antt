@@ -1,5 +1,6 @@
 -- Reserved room makes no difference: what the fields do is what the terminal does.
-use Rattle.std.proofs.Common.{◌≡◌, ℕ, ◌≤◌, ◌%◌, ◌^◌, min, Bool, true, false, if◌then◌else◌, List, length, map, take, ap, sym, ◌∙◌, arith}
+use Rattle.std.proofs.Common.{◌≡◌, ℕ, ◌≤◌, ◌%◌, ◌^◌, min, Bool, true, false}
+use Rattle.std.proofs.Common.{if◌then◌else◌, List, length, map, take, ap, sym, ◌∙◌, arith}
 use Rattle.std.proofs.lemmas.List.{length-take, take_min}
 use Rattle.tty_base.specs.declared.characters.Flagged.{Flagged}
 use Rattle.tty_modes.specs.declared.places.TheConstants.{ICANON}
@@ -15,25 +16,32 @@ use Rattle.n_tty.specs.Reading.{bytes_read}
 use Rattle.n_tty.specs.Writing.{piece_size, piece_text, after_write}
 use Rattle.n_tty.proofs.WithoutRoom.{after_character-room, piece_size-room, piece_text-room, after_write-room}
 use Rattle.tty_embed.proofs.Accepting.{after_accepted-room, accepted_count-room}
-use Rattle.tty_embed.specs.Embedded.{Embedded, good, offered, with_column_in_32_bits, accepts, after_receipt, after_accepted, accepted_count, after_receiving, received_count, after_writing}
+use Rattle.tty_embed.specs.Embedded.{Embedded, good, offered, with_column_in_32_bits, accepts, after_receipt}
+use Rattle.tty_embed.specs.Embedded.{after_accepted, accepted_count, after_receiving, received_count, after_writing}
 
 -- a terminal of these fields
 abbrev pub of_fields : Settings → (tick : ℕ) → NTtyState → Output → Tally → Embedded
-of_fields modes tick tty wire tally = record { port = port_without_room (on_port tty wire tally); modes = modes; tick = tick }
+of_fields modes tick tty wire tally =
+    record { port = port_without_room (on_port tty wire tally); modes = modes; tick = tick }
 
 then_is : (test : Bool) (x y : Embedded) → test ≡ true → (if test then x else y) ≡ x
 then_is test x y e = ap (λ (b : Bool). if b then x else y) e
 
 -- a port on which room was reserved is the same without room
-pub reserved : (tty : NTtyState) (wire more : Output) (tally signals : Tally) → more ≡ record wire { spare = more.spare }
-    → signals.counts ≡ tally.counts → signals.signals.items ≡ tally.signals.items
+pub reserved : (tty : NTtyState) (wire more : Output) (tally signals : Tally)
+    → more ≡ record wire { spare = more.spare }
+    → signals.counts ≡ tally.counts
+    → signals.signals.items ≡ tally.signals.items
     → port_without_room (on_port tty more signals) ≡ port_without_room (on_port tty wire tally)
 reserved tty wire more tally signals same counts items =
-    λ i. on_port tty (ap without_room same i) (record { counts = counts i; signals = record { items = items i; spare = 0 } })
+    λ i.
+    on_port tty (ap without_room same i) (record { counts = counts i; signals = record { items = items i; spare = 0 } })
 
 -- a character that was received, with room that was reserved for it, is received without room
-pub receipt_made : (modes : Settings) (tick : ℕ) (c : Flagged) (tty : NTtyState) (wire more : Output) (tally signals : Tally) (heard wrapped : NTtyState) (output : Output) (counted : Tally)
-    → is_accepting modes tty ≡ true → port_without_room (on_port tty more signals) ≡ port_without_room (on_port tty wire tally)
+pub receipt_made : (modes : Settings) (tick : ℕ) (c : Flagged) (tty : NTtyState) (wire more : Output)
+    (tally signals : Tally) (heard wrapped : NTtyState) (output : Output) (counted : Tally)
+    → is_accepting modes tty ≡ true
+    → port_without_room (on_port tty more signals) ≡ port_without_room (on_port tty wire tally)
     → on_port heard output counted ≡ after_character modes tick c (on_port tty more signals)
     → wrapped ≡ record heard { column = heard.column % 2 ^ 32 }
     → of_fields modes tick wrapped output counted ≡ after_receipt (of_fields modes tick tty wire tally) c
@@ -47,20 +55,29 @@ receipt_made modes tick c tty wire more tally signals heard wrapped output count
     ∙ sym (then_is (accepts t) (step (after_character modes tick c t.port)) t accepted))))
 
 -- so many characters are offered to a call
-pub offered_in : (bytes front : List ℕ) (n : ℕ) → n ≡ min 64 (length bytes) → front ≡ take n bytes → map good front ≡ offered bytes
+pub offered_in : (bytes front : List ℕ) (n : ℕ)
+    → n ≡ min 64 (length bytes)
+    → front ≡ take n bytes
+    → map good front ≡ offered bytes
 offered_in bytes front n is first = ap (map good) (first ∙ (ap (λ (k : ℕ). take k bytes) is ∙ take_min 64 bytes))
 
 -- how many good characters a call receives, with room that was reserved for them
-pub receiving_counted : (modes : Settings) (tick : ℕ) (bytes : List ℕ) (cs : List Flagged) (tty : NTtyState) (wire more : Output) (tally signals : Tally) (count : ℕ)
-    → cs ≡ offered bytes → port_without_room (on_port tty more signals) ≡ port_without_room (on_port tty wire tally)
+pub receiving_counted : (modes : Settings) (tick : ℕ) (bytes : List ℕ) (cs : List Flagged) (tty : NTtyState)
+    (wire more : Output) (tally signals : Tally) (count : ℕ)
+    → cs ≡ offered bytes
+    → port_without_room (on_port tty more signals) ≡ port_without_room (on_port tty wire tally)
     → count ≡ accepted_count modes tick cs (on_port tty more signals)
     → count ≡ received_count (of_fields modes tick tty wire tally) bytes
 receiving_counted modes tick bytes cs tty wire more tally signals count same room is =
-    is ∙ (accepted_count-room modes tick cs (on_port tty more signals) ∙ (λ i. accepted_count modes tick (same i) (room i)))
+    is
+    ∙ (accepted_count-room modes tick cs (on_port tty more signals)
+    ∙ (λ i. accepted_count modes tick (same i) (room i)))
 
 -- good characters that were received in one call, with room that was reserved for them, are received without room
-pub receiving_made : (modes : Settings) (tick : ℕ) (bytes : List ℕ) (cs : List Flagged) (tty : NTtyState) (wire more : Output) (tally signals : Tally) (heard wrapped : NTtyState) (output : Output) (counted : Tally)
-    → cs ≡ offered bytes → port_without_room (on_port tty more signals) ≡ port_without_room (on_port tty wire tally)
+pub receiving_made : (modes : Settings) (tick : ℕ) (bytes : List ℕ) (cs : List Flagged) (tty : NTtyState)
+    (wire more : Output) (tally signals : Tally) (heard wrapped : NTtyState) (output : Output) (counted : Tally)
+    → cs ≡ offered bytes
+    → port_without_room (on_port tty more signals) ≡ port_without_room (on_port tty wire tally)
     → on_port heard output counted ≡ after_accepted modes tick cs (on_port tty more signals)
     → wrapped ≡ record heard { column = heard.column % 2 ^ 32 }
     → of_fields modes tick wrapped output counted ≡ after_receiving (of_fields modes tick tty wire tally) bytes
@@ -73,27 +90,40 @@ receiving_made modes tick bytes cs tty wire more tally signals heard wrapped out
     ∙ (λ i. step (after_accepted modes tick (same i) (room i)))))
 
 -- how many bytes a piece of a write takes, with room that was reserved for it
-pub piece_counted : (modes : Settings) (tty : NTtyState) (wire more : Output) (bytes : List ℕ) (count : ℕ) → more ≡ record wire { spare = more.spare }
-    → count ≡ piece_size modes tty more bytes → count ≡ piece_size modes tty (without_room wire) bytes
+pub piece_counted : (modes : Settings) (tty : NTtyState) (wire more : Output) (bytes : List ℕ) (count : ℕ)
+    → more ≡ record wire { spare = more.spare }
+    → count ≡ piece_size modes tty more bytes
+    → count ≡ piece_size modes tty (without_room wire) bytes
 piece_counted modes tty wire more bytes count same is =
-    is ∙ (sym (piece_size-room modes tty more bytes) ∙ ap (λ (o : Output). piece_size modes tty (without_room o) bytes) same)
+    is
+    ∙ (sym (piece_size-room modes tty more bytes)
+    ∙ ap (λ (o : Output). piece_size modes tty (without_room o) bytes) same)
 
 -- a piece of a write that was posted, with room that was reserved for it, is posted without room
-pub writing_made : (modes : Settings) (tick : ℕ) (bytes : List ℕ) (tty : NTtyState) (wire more : Output) (tally : Tally) (written wrapped : NTtyState) (output : Output)
+pub writing_made : (modes : Settings) (tick : ℕ) (bytes : List ℕ) (tty : NTtyState) (wire more : Output) (tally : Tally)
+    (written wrapped : NTtyState) (output : Output)
     → more ≡ record wire { spare = more.spare }
-    → written ≡ after_write modes more bytes tty → output ≡ after_send more (piece_text modes tty more bytes)
+    → written ≡ after_write modes more bytes tty
+    → output ≡ after_send more (piece_text modes tty more bytes)
     → wrapped ≡ record written { column = written.column % 2 ^ 32 }
     → of_fields modes tick wrapped output tally ≡ after_writing (of_fields modes tick tty wire tally) bytes
 writing_made modes tick bytes tty wire more tally written wrapped output same wrote sent wraps =
     let t = of_fields modes tick tty wire tally in
-    let step = λ (s : NTtyState) (o : Output). record t { port = with_column_in_32_bits (record t.port { tty = s; output = o }) } in
+    let step = λ (s : NTtyState) (o : Output).
+    record t { port = with_column_in_32_bits (record t.port { tty = s; output = o }) } in
     let bare = ap without_room same in
-    let state = wrote ∙ (sym (after_write-room modes more bytes tty) ∙ ap (λ (o : Output). after_write modes o bytes tty) bare) in
+    let state =
+    wrote ∙ (sym (after_write-room modes more bytes tty) ∙ ap (λ (o : Output). after_write modes o bytes tty) bare) in
     let text = sym (piece_text-room modes tty more bytes) ∙ ap (λ (o : Output). piece_text modes tty o bytes) bare in
-    let posted = ap without_room sent ∙ (after_send-room (piece_text modes tty more bytes) more ∙ (λ i. after_send (bare i) (text i))) in
+    let posted =
+    ap without_room sent
+    ∙ (after_send-room (piece_text modes tty more bytes) more ∙ (λ i. after_send (bare i) (text i))) in
     ap (λ (s : NTtyState). of_fields modes tick s output tally) wraps ∙ (λ i. step (state i) (posted i))
 
-few_of_either : (test : Bool) (n : ℕ) (xs ys : List ℕ) → length xs ≤ n → length ys ≤ n → length (if test then xs else ys) ≤ n
+few_of_either : (test : Bool) (n : ℕ) (xs ys : List ℕ)
+    → length xs ≤ n
+    → length ys ≤ n
+    → length (if test then xs else ys) ≤ n
 few_of_either true n xs ys few others = few
 few_of_either false n xs ys few others = others
 
@@ -103,5 +133,6 @@ few_taken n xs = omega (arith, length-take (read_size n) xs)
 -- a read gives no more than it asks for
 pub length-bytes_read : (modes : Settings) (n : ℕ) (tty : NTtyState) → length (bytes_read modes n tty) ≤ n
 length-bytes_read modes n tty =
-    few_of_either (has_flag modes ICANON) n (take (read_size n) (first_piece tty.items)) (take (read_size n) (bytes_of tty.items))
+    few_of_either (has_flag modes ICANON) n (take (read_size n) (first_piece tty.items))
+    (take (read_size n) (bytes_of tty.items))
     (few_taken n (first_piece tty.items)) (few_taken n (bytes_of tty.items))

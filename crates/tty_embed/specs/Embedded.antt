@@ -1,5 +1,6 @@
 -- N_TTY on a port of its own, for a program that runs it for ever.
-use Rattle.std.specs.Prelude.{ℕ, suc, ◌%◌, ◌^◌, min, max, Bool, not, ◌&&◌, List, [], ◌∷◌, ◌++◌, length, map, take, drop, Option, None, Some, slice_get, if◌then◌else◌}
+use Rattle.std.specs.Prelude.{ℕ, suc, ◌%◌, ◌^◌, min, max, Bool, not, ◌&&◌, List, [], ◌∷◌, ◌++◌}
+use Rattle.std.specs.Prelude.{length, map, take, drop, Option, None, Some, slice_get, if◌then◌else◌}
 use Rattle.tty_base.specs.Sizes.{MOST_READ, PIECE}
 use Rattle.tty_base.specs.declared.characters.Flag.TheVariants as flag
 use Rattle.tty_base.specs.declared.characters.Flagged.{Flagged}
@@ -34,7 +35,8 @@ with_column_in_32_bits port = record port { tty = record port.tty { column = por
 
 -- the rule for ixoff is applied once
 abbrev pub with_rule : Settings → OnPort → OnPort
-with_rule modes port = record port { output = after_ixoff_rule modes (unread_count port.tty) (has_piece port.tty) port.output }
+with_rule modes port =
+    record port { output = after_ixoff_rule modes (unread_count port.tty) (has_piece port.tty) port.output }
 
 -- ---- characters
 
@@ -71,7 +73,8 @@ offered bytes = map good (take PIECE bytes)
 
 -- good characters are received in one call
 abbrev pub after_receiving : Embedded → (bytes : List ℕ) → Embedded
-after_receiving t bytes = record t { port = with_column_in_32_bits (after_accepted t.modes t.tick (offered bytes) t.port) }
+after_receiving t bytes =
+    record t { port = with_column_in_32_bits (after_accepted t.modes t.tick (offered bytes) t.port) }
 
 abbrev pub received_count : Embedded → (bytes : List ℕ) → ℕ
 received_count t bytes = accepted_count t.modes t.tick (offered bytes) t.port
@@ -159,7 +162,8 @@ abbrev pub taken_count : Embedded → (place : List ℕ) → ℕ
 taken_count t place = min (length place) (length (wire_of t))
 
 abbrev pub without_wire_front : (n : ℕ) → Embedded → Embedded
-without_wire_front n t = record t { port = record t.port { output = record t.port.output { wire = drop n (wire_of t) } } }
+without_wire_front n t =
+    record t { port = record t.port { output = record t.port.output { wire = drop n (wire_of t) } } }
 
 -- the signals that were raised, and are not taken yet
 abbrev pub first_signal : Embedded → Option Signal
@@ -167,4 +171,9 @@ first_signal t = slice_get t.port.tally.signals.items 0
 
 abbrev pub without_first_signal : Embedded → Embedded
 without_first_signal t =
-    record t { port = record t.port { tally = record t.port.tally { signals = record t.port.tally.signals { items = drop 1 t.port.tally.signals.items } } } }
+    record t {
+      port = record t.port {
+        tally =
+            record t.port.tally { signals = record t.port.tally.signals { items = drop 1 t.port.tally.signals.items } };
+      };
+    }

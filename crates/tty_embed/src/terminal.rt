@@ -5,7 +5,10 @@ ghost use Rattle.tty_base.specs.Sizes.{MOST_UNREAD};
 ghost use Rattle.tty_modes.specs.Reading.{word_of};
 ghost use Rattle.n_tty.specs.States.{unread_count};
 ghost use Rattle.n_tty.specs.Writing.{piece_size};
-ghost use Rattle.tty_embed.specs.Embedded.{fresh, accepts, after_receipt, received_count, after_receiving, after_advance, is_ready_for, read_answer, place_after_read, after_reading, after_writing, after_setting, wire_of, taken_count, at_front, without_wire_front, first_signal, without_first_signal};
+ghost use Rattle.tty_embed.specs.Embedded.{fresh, accepts, after_receipt, received_count, after_receiving};
+ghost use Rattle.tty_embed.specs.Embedded.{after_advance, is_ready_for, read_answer, place_after_read};
+ghost use Rattle.tty_embed.specs.Embedded.{after_reading, after_writing, after_setting, wire_of, taken_count};
+ghost use Rattle.tty_embed.specs.Embedded.{at_front, without_wire_front, first_signal, without_first_signal};
 
 use crate::pieces::receive_bytes;
 use crate::places::{make_room, put_front};
@@ -154,7 +157,8 @@ impl Tty {
 
     /// Posts bytes of a write, 64 at most, up to the first that does not fit while output is halted. Answers how many.
     pub fn write(&mut self, bytes: &[u8]) -> Result<usize, NoMemory>
-        ensures count { IfOk result (λ count. count ≡ piece_size self.old.modes self.old.port.tty self.old.port.output bytes.now) }
+        ensures count { IfOk result
+            (λ count. count ≡ piece_size self.old.modes self.old.port.tty self.old.port.output bytes.now) }
         ensures few { IfOk result (λ count. count ≤ PIECE) }
         ensures after { OnOk result (self.new ≡ after_writing self.old bytes.now) }
         ensures err { OnErr result (self.new ≡ self.old) }

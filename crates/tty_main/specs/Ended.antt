@@ -1,7 +1,8 @@
 -- How the program ends: what `tty_run` promises of its status, said of the exit status.
 use Rattle.std.specs.Prelude.{◌≡◌, ◌≢◌, ◌⊎◌, ◌≤◌, ℕ, List, [], Option, IfSome, length, map, drop, string_bytes, String}
 use Rattle.tty_base.specs.Outside.{Rose, TookCount, LeavesRest}
-use Rattle.tty_one.specs.Endings.{AreKnown, AreRun, AreRunOne, AreGen, AskCheck, AskJobs, AskVtOne, AskToRead, IsStatus, IsStatusOr, IsTold}
+use Rattle.tty_one.specs.Endings.{AreKnown, AreRun, AreRunOne, AreGen, AskCheck, AskJobs}
+use Rattle.tty_one.specs.Endings.{AskVtOne, AskToRead, IsStatus, IsStatusOr, IsTold}
 use Rattle.tty_one.specs.Reported.{Returned, nothing}
 use Rattle.tty_one.specs.Consoles.{CompletesConsoles}
 use Rattle.tty_one.specs.Processes.{CompletesProcesses}
@@ -19,7 +20,8 @@ IsStarved Unread Untold status = (status ≡ 5) × Unread × Untold
 -- The call of these words ended with this status: by the faults of the source and of the sink, before and now, and by
 -- what the source has left and what the sink was given, before and now, where they tell; and by what the call returned
 -- beside its status.
-pub record IsEnded (Unread : Type 0) (words : List (List ℕ)) (faults faults' misses misses' : ℕ) (left rest before now : Option (List ℕ)) (status : ℕ) : Type 0 where
+pub record IsEnded (Unread : Type 0) (words : List (List ℕ)) (faults faults' misses misses' : ℕ)
+    (left rest before now : Option (List ℕ)) (status : ℕ) : Type 0 where
   pub back : Returned
   pub headline : AreRun words → status ≡ 0 → IsPlayedOnThreads words left before now back.runs
   pub other_words : (AreKnown words → ⊥) → ((status ≡ 2) ⊎ (status ≡ 4)) × Unread × (back ≡ nothing)
@@ -39,9 +41,13 @@ pub record IsEnded (Unread : Type 0) (words : List (List ℕ)) (faults faults' m
   pub no_entries : (AskVtOne words → ⊥) → back.entries ≡ []
   pub no_log : (AskJobs words → ⊥) → back.log ≡ []
   pub rest_left : IfSome left (λ bytes. LeavesRest bytes rest)
-  pub complete : IfSome left (λ bytes. AreRun words ⊎ AreRunOne words → length bytes ≤ 4194304 → (Rose faults faults' → ⊥) → Completes bytes status)
+  pub complete : IfSome left (λ bytes.
+      AreRun words ⊎ AreRunOne words → length bytes ≤ 4194304 → (Rose faults faults' → ⊥) → Completes bytes status)
   pub made : AreGen words → IsStatusOr 0 status
   pub unread : AreGen words → Unread
-  pub judged : IfSome left (λ bytes. AskCheck words → length bytes ≤ 4194304 → (Rose faults faults' → ⊥) → CompletesCheck bytes status)
-  pub consoles : IfSome left (λ bytes. AskVtOne words → length bytes ≤ 4194304 → (Rose faults faults' → ⊥) → CompletesConsoles bytes status)
-  pub processes : IfSome left (λ bytes. AskJobs words → length bytes ≤ 4194304 → (Rose faults faults' → ⊥) → CompletesProcesses bytes status)
+  pub judged : IfSome left
+      (λ bytes. AskCheck words → length bytes ≤ 4194304 → (Rose faults faults' → ⊥) → CompletesCheck bytes status)
+  pub consoles : IfSome left
+      (λ bytes. AskVtOne words → length bytes ≤ 4194304 → (Rose faults faults' → ⊥) → CompletesConsoles bytes status)
+  pub processes : IfSome left
+      (λ bytes. AskJobs words → length bytes ≤ 4194304 → (Rose faults faults' → ⊥) → CompletesProcesses bytes status)

@@ -32,11 +32,14 @@ pub fn run_main<R: Threads + Wait + Sync, I: Read, O: Write>(
     source: &mut StdSource<I>,
     sink: &mut StdSink<O>,
 ) -> ExitCode
-    ensures words { IfOk arguments (λ found. IfSome found (λ all. IsStarved (source.new ≡ source.old) (sink.new ≡ sink.old) (exit_status result)
-        ⊎ IsEnded (source.new ≡ source.old) (words_after_name all.items) source.old.faults source.new.faults sink.old.faults sink.new.faults
-        source.old.bytes source.new.bytes sink.old.bytes sink.new.bytes (exit_status result))) }
-    ensures no_text { IfOk arguments (λ found. IfNone found (IsEnded (source.new ≡ source.old) [] source.old.faults source.new.faults
-        sink.old.faults sink.new.faults source.old.bytes source.new.bytes sink.old.bytes sink.new.bytes (exit_status result))) }
+    ensures words { IfOk arguments (λ found. IfSome found (λ all.
+        IsStarved (source.new ≡ source.old) (sink.new ≡ sink.old) (exit_status result)
+        ⊎ IsEnded (source.new ≡ source.old) (words_after_name all.items) source.old.faults source.new.faults
+        sink.old.faults sink.new.faults source.old.bytes source.new.bytes sink.old.bytes sink.new.bytes
+        (exit_status result))) }
+    ensures no_text { IfOk arguments (λ found. IfNone found (IsEnded (source.new ≡ source.old) [] source.old.faults
+        source.new.faults sink.old.faults sink.new.faults source.old.bytes source.new.bytes sink.old.bytes
+        sink.new.bytes (exit_status result))) }
     ensures starved { OnErr arguments (IsStarved (source.new ≡ source.old) (sink.new ≡ sink.old) (exit_status result)) }
 {
     match arguments {
@@ -54,8 +57,9 @@ fn run_arguments<R: Threads + Wait + Sync, S: Source, K: Sink>(
     sink: &mut K,
 ) -> ExitCode
     ensures { IsStarved (source.new ≡ source.old) (sink.new ≡ sink.old) (exit_status result)
-        ⊎ IsEnded (source.new ≡ source.old) (words_after_name arguments.now) (S.faults source.old) (S.faults source.new) (K.faults sink.old) (K.faults sink.new)
-        (S.left source.old) (S.left source.new) (K.given sink.old) (K.given sink.new) (exit_status result) }
+        ⊎ IsEnded (source.new ≡ source.old) (words_after_name arguments.now) (S.faults source.old) (S.faults source.new)
+        (K.faults sink.old) (K.faults sink.new) (S.left source.old) (S.left source.new) (K.given sink.old)
+        (K.given sink.new) (exit_status result) }
 {
     match words_of(alloc, arguments) {
         Ok(words) => run_words(rt, alloc, words.as_slice(), source, sink),
@@ -71,8 +75,9 @@ fn run_words<R: Threads + Wait + Sync, S: Source, K: Sink>(
     source: &mut S,
     sink: &mut K,
 ) -> ExitCode
-    ensures { IsEnded (source.new ≡ source.old) (texts_of words.now) (S.faults source.old) (S.faults source.new) (K.faults sink.old) (K.faults sink.new)
-        (S.left source.old) (S.left source.new) (K.given sink.old) (K.given sink.new) (exit_status result) }
+    ensures { IsEnded (source.new ≡ source.old) (texts_of words.now) (S.faults source.old) (S.faults source.new)
+        (K.faults sink.old) (K.faults sink.new) (S.left source.old) (S.left source.new) (K.given sink.old)
+        (K.given sink.new) (exit_status result) }
 {
     let Ran {
         status,

@@ -1,5 +1,6 @@
 -- A word that sets a control character, parted at its `=`.
-use Rattle.std.proofs.Common.{◌≡◌, ◌+◌, ◌-◌, ℕ, Bool, true, false, eqb, cond, List, length, take, drop, Option, Some, None, refl, sym, ap, ◌∙◌}
+use Rattle.std.proofs.Common.{◌≡◌, ◌+◌, ◌-◌, ℕ, Bool, true, false, eqb, cond, List}
+use Rattle.std.proofs.Common.{length, take, drop, Option, Some, None, refl, sym, ap, ◌∙◌}
 use Rattle.std.specs.Prelude.{position, nat_lt}
 use Rattle.std.specs.List.{position_or_len}
 use Rattle.std.proofs.lemmas.List.{take_rest}
@@ -14,10 +15,15 @@ found_at true n at h = cc
 found_at false n at h = cc
 
 -- the name before `=`, and the digits behind it
-pub parted_at : (text : List ℕ) (at : ℕ) (place value : Option ℕ) → Some at ≡ position is_equals text → place ≡ place_of character_names (take at text) → value ≡ byte_of (take (length text - (at + 1)) (drop (at + 1) text))
+pub parted_at : (text : List ℕ) (at : ℕ) (place value : Option ℕ)
+    → Some at ≡ position is_equals text
+    → place ≡ place_of character_names (take at text)
+    → value ≡ byte_of (take (length text - (at + 1)) (drop (at + 1) text))
     → character_word place value ≡ character_word_of text
 parted_at text at place value found named read =
-    let first : at ≡ position_or_len is_equals text = sym (found_at (nat_lt (position_or_len is_equals text) (length text)) (position_or_len is_equals text) at (sym found)) in
+    let first : at ≡ position_or_len is_equals text =
+    sym (found_at (nat_lt (position_or_len is_equals text) (length text)) (position_or_len is_equals text) at
+    (sym found)) in
     let digits : value ≡ byte_of (drop (at + 1) text) = read ∙ ap byte_of (take_rest text (at + 1)) in
     ap (λ p. character_word p value) named
     ∙ ap (λ v. character_word (place_of character_names (take at text)) v) digits

@@ -1,6 +1,8 @@
 //! Mode words from their texts.
 
-ghost use Rattle.std.specs.Prelude.{◌≡◌, ◌≢◌, ℕ, List, None, Some, IfOk, OnErr, IfSome, ◌+◌, ◌-◌, ◌*◌, ◌<◌, ◌&&◌, ◌==◌, ◌||◌, nat_lt, bytes_eq, codes, length, option_map, position, slice_index, if◌then◌else◌};
+ghost use Rattle.std.specs.Prelude.{◌≡◌, ◌≢◌, ℕ, List, None, Some, IfOk, OnErr, IfSome, ◌+◌};
+ghost use Rattle.std.specs.Prelude.{◌-◌, ◌*◌, ◌<◌, ◌&&◌, ◌==◌, ◌||◌, nat_lt, bytes_eq, codes};
+ghost use Rattle.std.specs.Prelude.{length, option_map, position, slice_index, if◌then◌else◌};
 ghost use Rattle.std.specs.Char.{is_ascii_digit};
 ghost use Rattle.std.specs.Result.{result_ok};
 ghost use Rattle.tty_modes.specs.declared.words.Word.{Word};
@@ -140,14 +142,18 @@ fn byte_of(digits: &[u8]) -> Option<u8>
 
 // Some digit stands first, and no zero with more behind it.
 fn starts_plainly(digits: &[u8]) -> bool
-    ensures { result ≡ (nat_lt 0 (length digits.now) && (nat_lt 48 (slice_index digits.now 0) || length digits.now == 1)) }
+    ensures { result
+        ≡ (nat_lt 0 (length digits.now) && (nat_lt 48 (slice_index digits.now 0) || length digits.now == 1)) }
 {
     !digits.is_empty() && (digits[0] > b'0' || digits.len() == 1)
 }
 
 // A number with one digit more, where that is a digit and the number still a byte.
 fn with_digit(value: u8, digit: u8) -> Option<u8>
-    ensures { result ≡ (if is_ascii_digit digit && nat_lt (value * 10 + (digit - 48)) 256 then Some (value * 10 + (digit - 48)) else None) }
+    ensures { result
+        ≡ (if is_ascii_digit digit && nat_lt (value * 10 + (digit - 48)) 256
+        then Some (value * 10 + (digit - 48))
+        else None) }
 {
     if !digit.is_ascii_digit() {
         return None;

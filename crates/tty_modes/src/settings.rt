@@ -32,11 +32,18 @@ impl Model for Modes {
 
     ghost invariant = { λ m. IsKept m.bits.0 m.characters m.unprinted };
 
-    ghost inverse = { λ s. record { bits = record { 0 = bits_of s.flags }; characters = s.characters; unprinted = are_unprinted s.characters } };
+    ghost inverse = { λ s. record {
+      bits = record { 0 = bits_of s.flags };
+      characters = s.characters;
+      unprinted = are_unprinted s.characters;
+    } };
 
     ghost inverse_ok = { λ m kept.
-        ap (λ bits. record { bits = record { 0 = bits }; characters = m.characters; unprinted = are_unprinted m.characters }) (bits_of-flags_of 29 m.bits.0 kept.fits)
-        ∙ ap (λ unprinted. record { bits = m.bits; characters = m.characters; unprinted = unprinted }) (sym kept.unprinted) };
+        ap (λ bits.
+        record { bits = record { 0 = bits }; characters = m.characters; unprinted = are_unprinted m.characters })
+        (bits_of-flags_of 29 m.bits.0 kept.fits)
+        ∙ ap (λ unprinted. record { bits = m.bits; characters = m.characters; unprinted = unprinted })
+        (sym kept.unprinted) };
 }
 
 impl PartialEq for Modes {
@@ -157,8 +164,11 @@ fn are_unprinted(characters: &[u8]) -> bool
 /// Whether none is from blank to tilde after one of them was changed, by what held before: where none was, the
 /// new value alone counts.
 fn stay_unprinted(before: bool, value: u8, characters: &[u8]) -> bool
-    ensures { (old : List ℕ) (place : ℕ) → before ≡ are_unprinted old → place < length old → characters.now ≡ slice_set old place value →
-        result ≡ are_unprinted characters.now }
+    ensures { (old : List ℕ) (place : ℕ)
+        → before ≡ are_unprinted old
+        → place < length old
+        → characters.now ≡ slice_set old place value
+        → result ≡ are_unprinted characters.now }
 {
     if is_printed(value) {
         return false;

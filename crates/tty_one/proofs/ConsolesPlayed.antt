@@ -31,14 +31,20 @@ module _ (session now : PlainVtSession) (played : VtPlayed) (can : CanBePlayed s
   told_now : report_text now played.board.entries played.consoles.runs.items (map end_of played.consoles.ends.items)
       ≡ report_text session played.board.entries played.consoles.runs.items (map end_of played.consoles.ends.items)
   told_now =
-      let same : now ≡ record session { calls = keyed session played.board.entries } = λ i. record { calls = calls i; phases = phases i } in
-      ap (λ (s : PlainVtSession). report_text s played.board.entries played.consoles.runs.items (map end_of played.consoles.ends.items)) same
-      ∙ same_report session played.board.entries played.consoles.runs.items (map end_of played.consoles.ends.items) can.within.whole
+      let same : now ≡ record session { calls = keyed session played.board.entries } = λ i.
+      record { calls = calls i; phases = phases i } in
+      ap (λ (s : PlainVtSession).
+      report_text s played.board.entries played.consoles.runs.items (map end_of played.consoles.ends.items)) same
+      ∙ same_report session played.board.entries played.consoles.runs.items (map end_of played.consoles.ends.items)
+      can.within.whole
 
   never_full : IsNeverFull (keyed session played.board.entries)
   never_full = subst (λ (es : List VtEntry). IsNeverFull (keyed session es)) (sym ordered.board) can.never_full
 
-  work_at : (e : Ending) (back : Returned) → IsReportOf now played e → back ≡ record { runs = played.consoles.runs.items; entries = played.board.entries; log = [] } → IsConsolesWork session e back
+  work_at : (e : Ending) (back : Returned)
+      → IsReportOf now played e
+      → back ≡ record { runs = played.consoles.runs.items; entries = played.board.entries; log = [] }
+      → IsConsolesWork session e back
   work_at (Done text) back told same =
       subst (λ (b : Returned). AreConsolesPlayed session b text.items) (sym same) (
       record {
@@ -48,7 +54,8 @@ module _ (session now : PlainVtSession) (played : VtPlayed) (can : CanBePlayed s
           ends = map end_of played.consoles.ends.items;
           runs_of_all = plays.consoles.runs_of_all;
           ends_of_all = length-map played.consoles.ends.items end_of ∙ plays.consoles.ends_of_all;
-          each = each_whole IsOrdered (keyed session played.board.entries) played.consoles.runs.items played.consoles.ends.items never_full plays.consoles (λ p run is. (ordered.consoles p run is).whole);
+          each = each_whole IsOrdered (keyed session played.board.entries) played.consoles.runs.items
+              played.consoles.ends.items never_full plays.consoles (λ p run is. (ordered.consoles p run is).whole);
           told = told ∙ told_now;
         };
       }
@@ -59,33 +66,58 @@ module _ (session now : PlainVtSession) (played : VtPlayed) (can : CanBePlayed s
   work_at TooLong back told same = told
   work_at (NotLegal line) back told same = told
 
-  pub played_consoles : (r : Result Work NoMemory) → IfOk r (λ work. IsReportOf now played work.ending)
-      → IfOk r (λ work. brought work ≡ record { runs = played.consoles.runs.items; entries = played.board.entries; log = [] }) → IfOk r (λ work. IsConsolesWork session work.ending (brought work))
+  pub played_consoles : (r : Result Work NoMemory)
+      → IfOk r (λ work. IsReportOf now played work.ending)
+      → IfOk r
+      (λ work. brought work ≡ record { runs = played.consoles.runs.items; entries = played.board.entries; log = [] })
+      → IfOk r (λ work. IsConsolesWork session work.ending (brought work))
   played_consoles (Ok work) told same = work_at work.ending (brought work) told same
   played_consoles (Err e) told same = told
 
 -- ---- a text
 
 -- the text is all that the source had left
-told_from : (left : Option (List ℕ)) (text report : List ℕ) (back : Returned) → IsAllOf left text → IsToldOfConsoles (Some text) back report → IsToldOfConsoles left back report
+told_from : (left : Option (List ℕ)) (text report : List ℕ) (back : Returned)
+    → IsAllOf left text
+    → IsToldOfConsoles (Some text) back report
+    → IsToldOfConsoles left back report
 told_from left text report back whole h =
-    record { read = h.read; session = h.session; whole = subst (IsAllOf left) (sym h.whole) whole; spelled = h.spelled; played = h.played }
+    record {
+      read = h.read;
+      session = h.session;
+      whole = subst (IsAllOf left) (sym h.whole) whole;
+      spelled = h.spelled;
+      played = h.played;
+    }
 
-consoles_at : (faults now : ℕ) (left rest : Option (List ℕ)) (text : List ℕ) (e : Ending) (back : Returned) → IsAllOf left text → IsShort left rest → IsConsolesText text e back
+consoles_at : (faults now : ℕ) (left rest : Option (List ℕ)) (text : List ℕ) (e : Ending) (back : Returned)
+    → IsAllOf left text
+    → IsShort left rest
+    → IsConsolesText text e back
     → IsWork VtOne left e back × IsOfSource e faults now left rest
-consoles_at faults now left rest text (Done report) back whole short h = (told_from left text report.items back whole h, short)
-consoles_at faults now left rest text (BadSession line) back whole short h = ((h.0, line_from consoles_refusal left text line.items whole h.1), short)
+consoles_at faults now left rest text (Done report) back whole short h =
+    (told_from left text report.items back whole h, short)
+consoles_at faults now left rest text (BadSession line) back whole short h =
+    ((h.0, line_from consoles_refusal left text line.items whole h.1), short)
 consoles_at faults now left rest text BadWords back whole short h = absurd h
 consoles_at faults now left rest text ReadFault back whole short h = absurd h
 consoles_at faults now left rest text TooLong back whole short h = absurd h
 consoles_at faults now left rest text (NotLegal line) back whole short h = absurd h
 
-pub consoles_work : (faults now : ℕ) (left rest : Option (List ℕ)) (text : List ℕ) (r : Result Work NoMemory) → IsAllOf left text → IsShort left rest → IfOk r (λ work. IsConsolesText text work.ending (brought work))
+pub consoles_work : (faults now : ℕ) (left rest : Option (List ℕ)) (text : List ℕ) (r : Result Work NoMemory)
+    → IsAllOf left text
+    → IsShort left rest
+    → IfOk r (λ work. IsConsolesText text work.ending (brought work))
     → IfOk r (λ work. IsWork VtOne left work.ending (brought work))
-consoles_work faults now left rest text (Ok work) whole short h = (consoles_at faults now left rest text work.ending (brought work) whole short h).0
+consoles_work faults now left rest text (Ok work) whole short h =
+    (consoles_at faults now left rest text work.ending (brought work) whole short h).0
 consoles_work faults now left rest text (Err e) whole short h = h
 
-pub consoles_source : (faults now : ℕ) (left rest : Option (List ℕ)) (text : List ℕ) (r : Result Work NoMemory) → IsAllOf left text → IsShort left rest → IfOk r (λ work. IsConsolesText text work.ending (brought work))
+pub consoles_source : (faults now : ℕ) (left rest : Option (List ℕ)) (text : List ℕ) (r : Result Work NoMemory)
+    → IsAllOf left text
+    → IsShort left rest
+    → IfOk r (λ work. IsConsolesText text work.ending (brought work))
     → IfOk r (λ work. IsOfSource work.ending faults now left rest)
-consoles_source faults now left rest text (Ok work) whole short h = (consoles_at faults now left rest text work.ending (brought work) whole short h).1
+consoles_source faults now left rest text (Ok work) whole short h =
+    (consoles_at faults now left rest text work.ending (brought work) whole short h).1
 consoles_source faults now left rest text (Err e) whole short h = h

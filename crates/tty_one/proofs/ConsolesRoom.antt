@@ -21,25 +21,47 @@ use Rattle.vt_report.proofs.Played.{same_scripts}
 use Rattle.tty_one.proofs.Roomy.{scripts_handed}
 
 -- A journal's bound, where what is asked of the console is no more than the text is long, but for two letters.
-few_entries_by : (entries written calls characters ticks long : ℕ) → 16 * entries ≤ 31 * written + 48 * calls + 32 * characters + 16 * ticks + 19504
-    → 2 * written + 3 * calls + 2 * characters ≤ long + 2 → long ≤ 4194304 → calls ≤ 65536 → characters ≤ 262144 → ticks ≤ 65536 → entries < 4194304
-few_entries_by entries written calls characters ticks long bound asked few k c t = omega (arith, bound, asked, few, k, c, t)
+few_entries_by : (entries written calls characters ticks long : ℕ)
+    → 16 * entries ≤ 31 * written + 48 * calls + 32 * characters + 16 * ticks + 19504
+    → 2 * written + 3 * calls + 2 * characters ≤ long + 2
+    → long ≤ 4194304
+    → calls ≤ 65536
+    → characters ≤ 262144
+    → ticks ≤ 65536
+    → entries < 4194304
+few_entries_by entries written calls characters ticks long bound asked few k c t =
+    omega (arith, bound, asked, few, k, c, t)
 
-pub console_never_full : (text : List ℕ) (session : PlainVtSession) (entries : List VtEntry) (p : ℕ) (run : PortRun) (t : Terminal) → SpellsConsoles text session → length text ≤ 4194304
-    → IsCutShort p (keyed session entries) run t → length run.journal.items < 4194304
+pub console_never_full : (text : List ℕ) (session : PlainVtSession) (entries : List VtEntry) (p : ℕ) (run : PortRun)
+    (t : Terminal)
+    → SpellsConsoles text session
+    → length text ≤ 4194304
+    → IsCutShort p (keyed session entries) run t
+    → length run.journal.items < 4194304
 console_never_full text session entries p run t spells few short =
     let keys = within_keys session (read_within text session spells) in
     let within = keyed_within session entries keys in
     let phases = (keyed session entries).phases in
-    let scripts : scripts_over p phases ≡ scripts_over p session.calls.phases = same_scripts p session.calls.ports (consoles_in entries) session.phases session.calls.phases keys.whole in
-    let handed : byte_count_on p phases ≤ sum_by (λ script. sum_by byte_count script.calls) (scripts_over p session.calls.phases) =
-    subst (λ (ss : List PlainScript). byte_count_on p phases ≤ sum_by (λ script. sum_by byte_count script.calls) ss) scripts (scripts_handed (scripts_over p phases)) in
-    let calls : call_count_on p phases ≡ sum_by (λ script. length script.calls) (scripts_over p session.calls.phases) = ap (λ (ss : List PlainScript). sum_by (λ script. length script.calls) ss) scripts in
-    let characters = few_characters p session.calls.ports (consoles_in entries) session.phases session.calls.phases keys.whole in
-    few_entries_by (length run.journal.items) (byte_count_on p phases) (call_count_on p phases) (character_count p phases) (tick_count p phases) (length text) (bounded p (keyed session entries) run t within short)
-    (omega (arith, read_asks text session p spells, handed, calls, characters, all_counted session.phases)) few (omega (arith, few_calls p phases, within.few_calls)) (within.few_characters p) (within.few_ticks p)
+    let scripts : scripts_over p phases ≡ scripts_over p session.calls.phases =
+    same_scripts p session.calls.ports (consoles_in entries) session.phases session.calls.phases keys.whole in
+    let handed : byte_count_on p phases
+    ≤ sum_by (λ script. sum_by byte_count script.calls) (scripts_over p session.calls.phases) =
+    subst (λ (ss : List PlainScript). byte_count_on p phases ≤ sum_by (λ script. sum_by byte_count script.calls) ss)
+    scripts (scripts_handed (scripts_over p phases)) in
+    let calls : call_count_on p phases ≡ sum_by (λ script. length script.calls) (scripts_over p session.calls.phases) =
+    ap (λ (ss : List PlainScript). sum_by (λ script. length script.calls) ss) scripts in
+    let characters =
+    few_characters p session.calls.ports (consoles_in entries) session.phases session.calls.phases keys.whole in
+    few_entries_by (length run.journal.items) (byte_count_on p phases) (call_count_on p phases)
+    (character_count p phases) (tick_count p phases) (length text)
+    (bounded p (keyed session entries) run t within short)
+    (omega (arith, read_asks text session p spells, handed, calls, characters, all_counted session.phases)) few
+    (omega (arith, few_calls p phases, within.few_calls)) (within.few_characters p) (within.few_ticks p)
 
-pub can_be_played : (text : List ℕ) (session : PlainVtSession) → SpellsConsoles text session → length text ≤ 4194304 → CanBePlayed session
+pub can_be_played : (text : List ℕ) (session : PlainVtSession)
+    → SpellsConsoles text session
+    → length text ≤ 4194304
+    → CanBePlayed session
 can_be_played text session spells few =
     let within = read_within text session spells in
     record {

@@ -1,5 +1,6 @@
 -- No journal of a session of processes is ever full, and a session that a text spells can be played.
-use Rattle.std.proofs.Common.{◌≡◌, ℕ, ◌+◌, ◌*◌, ◌<◌, ◌≤◌, Bool, true, false, if◌then◌else◌, List, [], ◌∷◌, Ok, length, refl, subst, arith}
+use Rattle.std.proofs.Common.{◌≡◌, ℕ, ◌+◌, ◌*◌, ◌<◌, ◌≤◌, Bool, true, false, if◌then◌else◌}
+use Rattle.std.proofs.Common.{List, [], ◌∷◌, Ok, length, refl, subst, arith}
 use Rattle.std.specs.Prelude.{All, flat_map}
 use Rattle.std.specs.List.{range_with_len}
 use Rattle.std.proofs.lemmas.List.Elements.{All-nil, All-cons, All-append}
@@ -37,50 +38,87 @@ module _ (session : JobsSession) (log : JobLog) (p : ℕ) (journal : List PlainE
   abbrev Own : Passing → Type 0
   Own m = OfCall (job_call_at p session) m
 
-  begun_if : (b : Bool) (c : ℕ) → All Own (if b then record { caller = c; step = answered_by c (events_on p log); calls = plain_call (job_call_at p session c (answered_by c (events_on p log))) } ∷ [] else [])
+  begun_if : (b : Bool) (c : ℕ)
+      → All Own (if b
+      then record {
+        caller = c;
+        step = answered_by c (events_on p log);
+        calls = plain_call (job_call_at p session c (answered_by c (events_on p log)));
+      } ∷ []
+      else [])
   begun_if true c =
-      All-cons Own (record { caller = c; step = answered_by c (events_on p log); calls = plain_call (job_call_at p session c (answered_by c (events_on p log))) }) []
+      All-cons Own
+      (record {
+        caller = c;
+        step = answered_by c (events_on p log);
+        calls = plain_call (job_call_at p session c (answered_by c (events_on p log)));
+      }) []
       (plain_from (job_call_at p session c (answered_by c (events_on p log)))) (All-nil Own)
   begun_if false c = All-nil Own
 
-  begun_all : (callers : List ℕ) → All Own (flat_map (λ c. begun_by session log p c (standing_in c journal at_first)) callers)
+  begun_all : (callers : List ℕ)
+      → All Own (flat_map (λ c. begun_by session log p c (standing_in c journal at_first)) callers)
   begun_all [] = All-nil Own
   begun_all (c ∷ callers) =
-      All-append Own (begun_by session log p c (standing_in c journal at_first)) (flat_map (λ d. begun_by session log p d (standing_in d journal at_first)) callers)
+      All-append Own (begun_by session log p c (standing_in c journal at_first))
+      (flat_map (λ d. begun_by session log p d (standing_in d journal at_first)) callers)
       (begun_if (standing_in c journal at_first).begun c) (begun_all callers)
 
-pub given_of_calls : (session : JobsSession) (log : JobLog) (runs : List PortRun) (p : ℕ) → AreOfCalls p session (given_to session log runs p)
+pub given_of_calls : (session : JobsSession) (log : JobLog) (runs : List PortRun) (p : ℕ)
+    → AreOfCalls p session (given_to session log runs p)
 given_of_calls session log runs p =
-    All-append (OfCall (job_call_at p session)) (passings_on session log p) (begun_in session log p (journal_on runs p)) (logged_of_calls session log p)
+    All-append (OfCall (job_call_at p session)) (passings_on session log p) (begun_in session log p (journal_on runs p))
+    (logged_of_calls session log p)
     (begun_all session log p (journal_on runs p) (range_with_len 0 (length (names_on p (blocks_in session)))))
 
 -- ---- a journal
 
 -- a journal's bound, where what is asked of the port is no more than the text is long, but for a letter
-few_entries_by : (entries written calls characters ticks long : ℕ) → 16 * entries ≤ 31 * written + 48 * calls + 32 * characters + 16 * ticks + 19504
-    → 2 * written + 3 * calls + 2 * characters ≤ long + 1 → long ≤ 4194304 → calls ≤ 65536 → characters ≤ 262144 → ticks ≤ 65536 → entries < 4194304
-few_entries_by entries written calls characters ticks long bound asked few k c t = omega (arith, bound, asked, few, k, c, t)
+few_entries_by : (entries written calls characters ticks long : ℕ)
+    → 16 * entries ≤ 31 * written + 48 * calls + 32 * characters + 16 * ticks + 19504
+    → 2 * written + 3 * calls + 2 * characters ≤ long + 1
+    → long ≤ 4194304
+    → calls ≤ 65536
+    → characters ≤ 262144
+    → ticks ≤ 65536
+    → entries < 4194304
+few_entries_by entries written calls characters ticks long bound asked few k c t =
+    omega (arith, bound, asked, few, k, c, t)
 
-pub processes_never_full : (text : List ℕ) (session : JobsSession) (log : JobLog) (runs : List PortRun) (p : ℕ) (run : PortRun) (t : Terminal) → jobs_in text ≡ Ok (bare_of session) → length text ≤ 4194304
-    → ArePassedWithin (given_to session log runs) → IsCutShort p (derived_with session log runs) run t → length run.journal.items < 4194304
+pub processes_never_full : (text : List ℕ) (session : JobsSession) (log : JobLog) (runs : List PortRun) (p : ℕ)
+    (run : PortRun) (t : Terminal)
+    → jobs_in text ≡ Ok (bare_of session)
+    → length text ≤ 4194304
+    → ArePassedWithin (given_to session log runs)
+    → IsCutShort p (derived_with session log runs) run t
+    → length run.journal.items < 4194304
 processes_never_full text session log runs p run t spells few within short =
     let played = derived_with session log runs in
     let of_text = session_within text (bare_of session) spells in
     let limits = within_limits (block_phases session) (given_to session log runs) played refl of_text.blocks within in
-    let asks = asks_no_more session (given_to session log runs) played p refl within (given_of_calls session log runs p) in
+    let asks =
+    asks_no_more session (given_to session log runs) played p refl within (given_of_calls session log runs p) in
     let written = scripts_handed (scripts_over p played.phases) in
-    few_entries_by (length run.journal.items) (byte_count_on p played.phases) (call_count_on p played.phases) (character_count p played.phases) (tick_count p played.phases) (length text) (bounded p played run t limits short)
-    (omega (arith, asks, text_asks_all text (bare_of session) p spells, written)) few (omega (arith, few_calls p played.phases, limits.few_calls)) (limits.few_characters p) (limits.few_ticks p)
+    few_entries_by (length run.journal.items) (byte_count_on p played.phases) (call_count_on p played.phases)
+    (character_count p played.phases) (tick_count p played.phases) (length text) (bounded p played run t limits short)
+    (omega (arith, asks, text_asks_all text (bare_of session) p spells, written)) few
+    (omega (arith, few_calls p played.phases, limits.few_calls)) (limits.few_characters p) (limits.few_ticks p)
 
 -- ---- a session that is kept
 
-pub spelled_kept : (text : List ℕ) (s : KeptSession) → jobs_in text ≡ Ok (bare_session_of s) → jobs_in text ≡ Ok (bare_of (jobs_session_of s))
+pub spelled_kept : (text : List ℕ) (s : KeptSession)
+    → jobs_in text ≡ Ok (bare_session_of s)
+    → jobs_in text ≡ Ok (bare_of (jobs_session_of s))
 spelled_kept text s spells = subst (λ (session : JobsSession). jobs_in text ≡ Ok session) (kept_bare s) spells
 
-pub can_processes_be_played : (text : List ℕ) (s : KeptSession) → jobs_in text ≡ Ok (bare_session_of s) → length text ≤ 4194304 → CanProcessesBePlayed (jobs_session_of s)
+pub can_processes_be_played : (text : List ℕ) (s : KeptSession)
+    → jobs_in text ≡ Ok (bare_session_of s)
+    → length text ≤ 4194304
+    → CanProcessesBePlayed (jobs_session_of s)
 can_processes_be_played text s spells few =
     let spelled = spelled_kept text s spells in
     record {
       within = within_kept (jobs_session_of s) (session_within text (bare_of (jobs_session_of s)) spelled);
-      never_full = λ log runs within p run t short. processes_never_full text (jobs_session_of s) log runs p run t spelled few within short;
+      never_full = λ log runs within p run t short.
+          processes_never_full text (jobs_session_of s) log runs p run t spelled few within short;
     }

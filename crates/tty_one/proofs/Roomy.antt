@@ -3,7 +3,9 @@ use Rattle.std.proofs.Common.{ℕ, ◌<◌, ◌≤◌, List, [], ◌∷◌, leng
 use Rattle.std.specs.Prelude.{sum_by}
 use Rattle.std.proofs.lemmas.List.Sums.{sum_by-cons}
 use Rattle.tty_calls.specs.declared.journals.PortRun.{PortRun}
-use Rattle.tty_calls.specs.Plain.{PlainCall, opens, closes, reads, writes, gets_modes, sets_modes, gets_disc, sets_disc, flushes, steers, counts_input, counts_output, excludes, admits, drains, gets_counts, hangs_up, sends_packet, takes_packet}
+use Rattle.tty_calls.specs.Plain.{PlainCall, opens, closes, reads, writes, gets_modes, sets_modes, gets_disc}
+use Rattle.tty_calls.specs.Plain.{sets_disc, flushes, steers, counts_input, counts_output, excludes, admits}
+use Rattle.tty_calls.specs.Plain.{drains, gets_counts, hangs_up, sends_packet, takes_packet}
 use Rattle.tty_calls.specs.Sessions.{PlainScript, PlainSession, scripts_over}
 use Rattle.tty_calls.specs.Limits.{byte_count}
 use Rattle.session_text.specs.Grammar.{Spells}
@@ -38,16 +40,23 @@ handed (takes_packet h) = omega arith
 
 calls_handed : (calls : List PlainCall) → sum_by written_count calls ≤ sum_by byte_count calls
 calls_handed [] = omega arith
-calls_handed (call ∷ calls) = omega (arith, sum_by-cons written_count call calls, sum_by-cons byte_count call calls, handed call, calls_handed calls)
+calls_handed (call ∷ calls) = omega
+    (arith, sum_by-cons written_count call calls, sum_by-cons byte_count call calls, handed call, calls_handed calls)
 
-pub scripts_handed : (scripts : List PlainScript) → sum_by (λ script. sum_by written_count script.calls) scripts ≤ sum_by (λ script. sum_by byte_count script.calls) scripts
+pub scripts_handed : (scripts : List PlainScript)
+    → sum_by (λ script. sum_by written_count script.calls) scripts
+    ≤ sum_by (λ script. sum_by byte_count script.calls) scripts
 scripts_handed [] = omega arith
 scripts_handed (script ∷ scripts) =
     let written = sum_by-cons (λ (s : PlainScript). sum_by written_count s.calls) script scripts in
     let all = sum_by-cons (λ (s : PlainScript). sum_by byte_count s.calls) script scripts in
     omega (arith, written, all, calls_handed script.calls, scripts_handed scripts)
 
-pub never_full_here : (text : List ℕ) (session : PlainSession) (p : ℕ) (run : PortRun) (t : Terminal) → Spells text session → length text ≤ 4194304 → IsCutShort p session run t → length run.journal.items < 4194304
+pub never_full_here : (text : List ℕ) (session : PlainSession) (p : ℕ) (run : PortRun) (t : Terminal)
+    → Spells text session
+    → length text ≤ 4194304
+    → IsCutShort p session run t
+    → length run.journal.items < 4194304
 never_full_here text session p run t spells few short =
     let asked = text_asks text session p spells in
     let written = scripts_handed (scripts_over p session.phases) in

@@ -1,5 +1,6 @@
 -- How a call of the program ends: its words, its status, and the line that it gives.
-use Rattle.std.specs.Prelude.{◌≡◌, ◌≢◌, ◌≤◌, map, ℕ, List, [], ◌∷◌, ◌++◌, Bool, true, false, Option, Some, codes, decimal, ◌⊎◌, IfSome, IsTrue, ◌==◌, if◌then◌else◌}
+use Rattle.std.specs.Prelude.{◌≡◌, ◌≢◌, ◌≤◌, map, ℕ, List, [], ◌∷◌, ◌++◌, Bool, true, false, Option}
+use Rattle.std.specs.Prelude.{Some, codes, decimal, ◌⊎◌, IfSome, IsTrue, ◌==◌, if◌then◌else◌}
 use denote.Ref.{Bor}
 use Rattle.tty_base.specs.Outside.{Rose, TookCount}
 use Rattle.session_text.specs.declared.faults.Reason.{Reason}
@@ -23,7 +24,8 @@ AskRun true words = words ≡ codes "run" ∷ codes "--journal" ∷ []
 abbrev pub AskRunOne : Bool → List (List ℕ) → Type 0
 AskRunOne false words = words ≡ codes "run" ∷ codes "--one" ∷ []
 AskRunOne true words =
-    (words ≡ codes "run" ∷ codes "--one" ∷ codes "--journal" ∷ []) ⊎ (words ≡ codes "run" ∷ codes "--journal" ∷ codes "--one" ∷ [])
+    (words ≡ codes "run" ∷ codes "--one" ∷ codes "--journal" ∷ [])
+    ⊎ (words ≡ codes "run" ∷ codes "--journal" ∷ codes "--one" ∷ [])
 
 -- the digits write a number of 32 bits
 pub record IsNumberOf (digits : List ℕ) (number : ℕ) : Type 0 where
@@ -102,12 +104,14 @@ reason_name Limit = codes "limit"
 
 -- the line that tells the first wrong line of a text
 abbrev pub bad_session_line : BadLine → List ℕ
-bad_session_line bad = codes "bad session line " ++ (decimal bad.line ++ (codes ": " ++ (reason_name bad.reason ++ newline)))
+bad_session_line bad =
+    codes "bad session line " ++ (decimal bad.line ++ (codes ": " ++ (reason_name bad.reason ++ newline)))
 
 -- the line that tells a verdict
 abbrev pub verdict_line : Verdict → List ℕ
 verdict_line Legal = codes "legal\n"
-verdict_line (Wrong port entry) = codes "not legal port " ++ (decimal port ++ (codes " entry " ++ (decimal entry ++ newline)))
+verdict_line (Wrong port entry) =
+    codes "not legal port " ++ (decimal port ++ (codes " entry " ++ (decimal entry ++ newline)))
 verdict_line (Account port) = codes "not legal port " ++ (decimal port ++ codes " account\n")
 
 -- the line of a status that refuses without having read a text

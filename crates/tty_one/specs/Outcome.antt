@@ -1,5 +1,6 @@
 -- What a call of the program came to: what was read, the runs, and the text that was given.
-use Rattle.std.specs.Prelude.{◌≡◌, ◌≢◌, ℕ, List, [], ◌∷◌, ◌++◌, Bool, if◌then◌else◌, codes, Option, None, Some, length, map, flat_map, option_to_list, slice_get, IfSome}
+use Rattle.std.specs.Prelude.{◌≡◌, ◌≢◌, ℕ, List, [], ◌∷◌, ◌++◌, Bool, if◌then◌else◌, codes, Option}
+use Rattle.std.specs.Prelude.{None, Some, length, map, flat_map, option_to_list, slice_get, IfSome}
 use Rattle.std.specs.List.{concat, AllZip}
 use Rattle.tty_base.specs.Outside.{Rose, TookCount, GivesFront}
 use Rattle.tty_calls.specs.declared.journals.PortRun.{PortRun}
@@ -48,7 +49,8 @@ pub record IsJudged (left : Option (List ℕ)) (verdict : Verdict) : Type 0 wher
   pub fits : Fits session runs verdict
 
 -- The runs that were read were judged, none is returned, and the text tells the verdict.
-pub record IsToldVerdict (left : Option (List ℕ)) (verdict : Verdict) (runs : List PortRun) (text : List ℕ) : Type 0 where
+pub record IsToldVerdict (left : Option (List ℕ)) (verdict : Verdict) (runs : List PortRun)
+    (text : List ℕ) : Type 0 where
   pub judged : IsJudged left verdict
   pub no_runs : runs ≡ []
   pub told : text ≡ verdict_line verdict
@@ -56,8 +58,10 @@ pub record IsToldVerdict (left : Option (List ℕ)) (verdict : Verdict) (runs : 
 -- What a command asks for was done, and the text tells it: the session that was read, or the one of the number, was
 -- played; or each run that was read is legal.
 abbrev pub IsToldBy : Command → Option (List ℕ) → Returned → List ℕ → Type 0
-IsToldBy (Run journals) left back text = IsPlayedText left (λ session. IsReported IsInAnyOrder (Report journals) session back.runs text)
-IsToldBy (RunOne journals) left back text = IsPlayedText left (λ session. IsReported IsOrdered (Report journals) session back.runs text)
+IsToldBy (Run journals) left back text =
+    IsPlayedText left (λ session. IsReported IsInAnyOrder (Report journals) session back.runs text)
+IsToldBy (RunOne journals) left back text =
+    IsPlayedText left (λ session. IsReported IsOrdered (Report journals) session back.runs text)
 IsToldBy Jobs left back text = IsToldOfProcesses left back text
 IsToldBy (Gen number) left back text = IsReported IsOrdered (Summary number) (generated_session number) back.runs text
 IsToldBy Check left back text = IsToldVerdict left Legal back.runs text
@@ -116,13 +120,39 @@ pub record IsDone (words : List (List ℕ)) (left before now : Option (List ℕ)
 -- A text could not be given whole: the line for other words; the line of a fault of the source, or of a text that is
 -- too long, where the words ask for a text to be read; the line of a text that was refused; what was to be told of
 -- what was done; or the line of runs that are not all legal.
-pub data IsBroken (Known Reading : Type 0) (words : List (List ℕ)) (faults faults' : ℕ) (left rest before now : Option (List ℕ)) (back : Returned) : Type 0 where
-  breaks_words : (Known → ⊥) → back ≡ nothing → WasGivenFront before now (line_of 2) → IsBroken Known Reading words faults faults' left rest before now back
-  breaks_fault : Reading → Rose faults faults' → back ≡ nothing → WasGivenFront before now (line_of 3) → IsBroken Known Reading words faults faults' left rest before now back
-  breaks_long : Reading → IfSome left (λ bytes. TookCount 4194305 bytes rest) → back ≡ nothing → WasGivenFront before now (line_of 6) → IsBroken Known Reading words faults faults' left rest before now back
-  breaks_refusal : (command : Command) (bad : BadLine) → Ask command words → IsRefused (refusal_by command) left bad → back ≡ nothing → WasGivenFront before now (bad_session_line bad) → IsBroken Known Reading words faults faults' left rest before now back
-  breaks_text : (command : Command) (text : List ℕ) → Ask command words → IsToldBy command left back text → WasGivenFront before now text → IsBroken Known Reading words faults faults' left rest before now back
-  breaks_verdict : (verdict : Verdict) (text : List ℕ) → Ask Check words → IsToldVerdict left verdict back.runs text → verdict ≢ Legal → WasGivenFront before now text → IsBroken Known Reading words faults faults' left rest before now back
+pub data IsBroken (Known Reading : Type 0) (words : List (List ℕ)) (faults faults' : ℕ)
+    (left rest before now : Option (List ℕ)) (back : Returned) : Type 0 where
+  breaks_words : (Known → ⊥)
+      → back ≡ nothing
+      → WasGivenFront before now (line_of 2)
+      → IsBroken Known Reading words faults faults' left rest before now back
+  breaks_fault : Reading
+      → Rose faults faults'
+      → back ≡ nothing
+      → WasGivenFront before now (line_of 3)
+      → IsBroken Known Reading words faults faults' left rest before now back
+  breaks_long : Reading
+      → IfSome left (λ bytes. TookCount 4194305 bytes rest)
+      → back ≡ nothing
+      → WasGivenFront before now (line_of 6)
+      → IsBroken Known Reading words faults faults' left rest before now back
+  breaks_refusal : (command : Command) (bad : BadLine)
+      → Ask command words
+      → IsRefused (refusal_by command) left bad
+      → back ≡ nothing
+      → WasGivenFront before now (bad_session_line bad)
+      → IsBroken Known Reading words faults faults' left rest before now back
+  breaks_text : (command : Command) (text : List ℕ)
+      → Ask command words
+      → IsToldBy command left back text
+      → WasGivenFront before now text
+      → IsBroken Known Reading words faults faults' left rest before now back
+  breaks_verdict : (verdict : Verdict) (text : List ℕ)
+      → Ask Check words
+      → IsToldVerdict left verdict back.runs text
+      → verdict ≢ Legal
+      → WasGivenFront before now text
+      → IsBroken Known Reading words faults faults' left rest before now back
 
 -- A text that spells a session is played, and one that is refused is told as that.
 pub record Completes (bytes : List ℕ) (status : ℕ) : Type 0 where
@@ -131,8 +161,14 @@ pub record Completes (bytes : List ℕ) (status : ℕ) : Type 0 where
 
 -- Runs that a text spells are told as legal exactly where all are, and a text that is refused is told as that.
 pub record CompletesCheck (bytes : List ℕ) (status : ℕ) : Type 0 where
-  pub legal : (session : PlainSession) (runs : List PortRun) → SpellsRuns bytes session (map run_of runs) → AreLegal session runs → IsStatusOr 0 status
-  pub illegal : (session : PlainSession) (runs : List PortRun) → SpellsRuns bytes session (map run_of runs) → (AreLegal session runs → ⊥) → IsStatusOr 7 status
+  pub legal : (session : PlainSession) (runs : List PortRun)
+      → SpellsRuns bytes session (map run_of runs)
+      → AreLegal session runs
+      → IsStatusOr 0 status
+  pub illegal : (session : PlainSession) (runs : List PortRun)
+      → SpellsRuns bytes session (map run_of runs)
+      → (AreLegal session runs → ⊥)
+      → IsStatusOr 7 status
   pub refused : (bad : BadLine) → refusal_of_runs bytes ≡ Some bad → IsStatusOr 1 status
 
 -- behind a session's text, what its report has from the journals on
@@ -167,7 +203,8 @@ pub record IsAnsweredOnce (es : List PlainEntry) (c step : ℕ) : Type 0 where
   pub printed : answer_in es c step ≡ Some answer
 
 -- The line of a call in a report: the answer that it has is that of the one Answer entry of this caller and step.
-pub record IsOnlyLineOf (p : ℕ) (session : PlainSession) (es : List PlainEntry) (told : Told) (line : List ℕ) : Type 0 where
+pub record IsOnlyLineOf (p : ℕ) (session : PlainSession) (es : List PlainEntry) (told : Told)
+    (line : List ℕ) : Type 0 where
   pub tells : IsLineOf p session es told line
   pub once : answers_to es tells.caller told.step ≡ tells.answer ∷ []
 
@@ -177,12 +214,17 @@ AreLinesOf p session run lines = AllZip (IsOnlyLineOf p session run.journal.item
 
 -- what a report has behind the lines of the calls
 abbrev pub after_calls : Bool → PlainSession → List PortRun → List PlainEnd → List ℕ
-after_calls journals session runs ends = ports_from 0 session runs ends ++ ((if journals then journals_text session runs else []) ++ (codes "done" ++ newline))
+after_calls journals session runs ends =
+    ports_from 0 session runs ends
+    ++ ((if journals then journals_text session runs else []) ++ (codes "done" ++ newline))
 
 -- The text of a report is the lines of the calls, port by port, and what stands behind them.
 pub record TellsEachOnce (journals : Bool) (session : PlainSession) (runs : List PortRun) (text : List ℕ) : Type 0 where
   pub ports : List (List (List ℕ))
   pub ends : List PlainEnd
   pub of_all : length ports ≡ length runs
-  pub each : (p : ℕ) (run : PortRun) (lines : List (List ℕ)) → slice_get runs p ≡ Some run → slice_get ports p ≡ Some lines → AreLinesOf p session run lines
+  pub each : (p : ℕ) (run : PortRun) (lines : List (List ℕ))
+      → slice_get runs p ≡ Some run
+      → slice_get ports p ≡ Some lines
+      → AreLinesOf p session run lines
   pub told : text ≡ concat (map concat ports) ++ after_calls journals session runs ends

@@ -38,19 +38,20 @@ log_of back = map logged_of back.log
 abbrev pub given_to : JobsSession → JobLog → List PortRun → Passed
 given_to session log runs p = passings_on session log p ++ begun_in session log p (journal_on runs p)
 
--- The log of a port is a whole run of job control beside the port's journal: each call of each process is answered once,
--- in its order; who is in the background reads nothing, and each of the port's signals goes to the group that is in the
--- foreground then. And each event is in its turn in the order of one thread.
+-- The log of a port is a whole run of job control beside the port's journal: each call of each process is answered
+-- once, in its order; who is in the background reads nothing, and each of the port's signals goes to the group that is
+-- in the foreground then. And each event is in its turn in the order of one thread.
 pub record IsLoggedOn (p : ℕ) (session : JobsSession) (log : JobLog) (run : PortRun) : Type 0 where
   pub whole : IsLoggedWhole (port_in session (derived session log) p run.journal.items) log
   pub in_turn : AreEventsInTurn (derived session log) (port_in session (derived session log) p run.journal.items)
       (first_state (port_in session (derived session log) p run.journal.items)) (logged_on p log)
 
 -- A session of processes was played on one thread. The run of each port is legal, and in the order of one thread, for
--- the session that the log derives of it: the calls that were passed down, and the hangups of processes that ended. Each
--- port has its log. And the text is the report of the session, of the log, of these runs and of the ports' ends.
+-- the session that the log derives of it: the calls that were passed down, and the hangups of processes that ended.
+-- Each port has its log. And the text is the report of the session, of the log, of these runs and of the ports' ends.
 pub record AreProcessesPlayed (session : JobsSession) (back : Returned) (text : List ℕ) : Type 0 where
-  pub told : IsToldAs IsOrdered (jobs_report_text (bare_of session) (log_of back)) (derived session (log_of back)) back.runs text
+  pub told : IsToldAs IsOrdered (jobs_report_text (bare_of session) (log_of back)) (derived session (log_of back))
+      back.runs text
   pub logged : (p : ℕ) (run : PortRun) → slice_get back.runs p ≡ Some run → IsLoggedOn p session (log_of back) run
 
 -- the text that was read spells a session of processes, which was played

@@ -30,7 +30,8 @@ nothing = record { runs = []; entries = []; log = [] }
 
 -- what a report says of the end of a terminal
 abbrev pub end_at : Terminal → PlainEnd
-end_at t = record { counts = t.tally.counts; signals = t.tally.signals.items; generation = t.generation; wire = t.output.wire }
+end_at t =
+    record { counts = t.tally.counts; signals = t.tally.signals.items; generation = t.generation; wire = t.output.wire }
 
 -- the run of a port is in the order of one thread
 abbrev pub IsOrdered : ℕ → PlainSession → PortRun → Type 0
@@ -42,7 +43,8 @@ IsInAnyOrder p session run = Unit {0}
 
 -- The run of a port is legal and in order, this is the end of the terminal to which it leads, and its journal did not
 -- reach the limit.
-pub record IsWhole (InOrder : ℕ → PlainSession → PortRun → Type 0) (p : ℕ) (session : PlainSession) (run : PortRun) (end : PlainEnd) : Type 0 where
+pub record IsWhole (InOrder : ℕ → PlainSession → PortRun → Type 0) (p : ℕ) (session : PlainSession) (run : PortRun)
+    (end : PlainEnd) : Type 0 where
   pub terminal : Terminal
   pub at_end : end ≡ end_at terminal
   pub legal : IsLegal p session run terminal
@@ -56,15 +58,21 @@ text_by (Summary number) session runs ends = summary_text number session runs en
 
 -- The runs are those of the session's ports, one of each, each of them whole. The text is what is told of these runs,
 -- and of their ends.
-pub record IsToldAs (InOrder : ℕ → PlainSession → PortRun → Type 0) (text_of : List PortRun → List PlainEnd → List ℕ) (session : PlainSession) (runs : List PortRun) (text : List ℕ) : Type 0 where
+pub record IsToldAs (InOrder : ℕ → PlainSession → PortRun → Type 0) (text_of : List PortRun → List PlainEnd → List ℕ)
+    (session : PlainSession) (runs : List PortRun) (text : List ℕ) : Type 0 where
   pub ends : List PlainEnd
   pub runs_of_all : length runs ≡ session.ports
   pub ends_of_all : length ends ≡ session.ports
-  pub each : (p : ℕ) (run : PortRun) (end : PlainEnd) → slice_get runs p ≡ Some run → slice_get ends p ≡ Some end → IsWhole InOrder p session run end
+  pub each : (p : ℕ) (run : PortRun) (end : PlainEnd)
+      → slice_get runs p ≡ Some run
+      → slice_get ends p ≡ Some end
+      → IsWhole InOrder p session run end
   pub told : text ≡ text_of runs ends
 
 -- .. and it is what is told of the session
-abbrev pub IsReported : (InOrder : ℕ → PlainSession → PortRun → Type 0) (telling : Telling) (session : PlainSession) (runs : List PortRun) (text : List ℕ) → Type 0
+abbrev pub IsReported : (InOrder : ℕ → PlainSession → PortRun → Type 0) (telling : Telling) (session : PlainSession)
+    (runs : List PortRun) (text : List ℕ)
+    → Type 0
 IsReported InOrder telling session runs text = IsToldAs InOrder (text_by telling session) session runs text
 
 -- a text that was read is all that the source had left, where it tells

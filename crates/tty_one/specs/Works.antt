@@ -63,9 +63,11 @@ IsUnread first_wrong left TooLong = Unit {0}
 IsUnread first_wrong left (NotLegal line) = ⊥
 
 -- what reading a text came to, by the faults of the source and what it has left, before and now
-abbrev pub IsTextRead : (List ℕ → Option BadLine) → Reading (Contents ℕ) → ℕ → ℕ → Option (List ℕ) → Option (List ℕ) → Type 0
+abbrev pub IsTextRead : (List ℕ → Option BadLine) → Reading (Contents ℕ) → ℕ → ℕ → Option (List ℕ) → Option (List ℕ)
+    → Type 0
 IsTextRead first_wrong (Of text) faults now left rest = IsAllOf left text.items × IsShort left rest
-IsTextRead first_wrong (Ended ending) faults now left rest = IsUnread first_wrong left ending × IsOfSource ending faults now left rest
+IsTextRead first_wrong (Ended ending) faults now left rest =
+    IsUnread first_wrong left ending × IsOfSource ending faults now left rest
 
 -- a text that was read is no longer than the longest
 abbrev pub IsShortText : Reading (Contents ℕ) → Type 0
@@ -74,7 +76,8 @@ IsShortText (Ended ending) = Unit {0}
 
 -- no journal of the session is ever full
 abbrev pub IsNeverFull : PlainSession → Type 0
-IsNeverFull session = (p : ℕ) (run : PortRun) (t : Terminal) → IsCutShort p session run t → length run.journal.items < 4194304
+IsNeverFull session =
+    (p : ℕ) (run : PortRun) (t : Terminal) → IsCutShort p session run t → length run.journal.items < 4194304
 
 -- the text that was read spells the session, and is no longer than the longest
 pub record IsReadAs (left : Option (List ℕ)) (session : PlainSession) : Type 0 where
@@ -86,7 +89,8 @@ pub record IsReadAs (left : Option (List ℕ)) (session : PlainSession) : Type 0
 -- what reading a session came to
 abbrev pub IsSessionRead : Reading Session → ℕ → ℕ → Option (List ℕ) → Option (List ℕ) → Type 0
 IsSessionRead (Of session) faults now left rest = IsReadAs left (session_of session) × IsShort left rest
-IsSessionRead (Ended ending) faults now left rest = IsUnread refusal left ending × IsOfSource ending faults now left rest
+IsSessionRead (Ended ending) faults now left rest =
+    IsUnread refusal left ending × IsOfSource ending faults now left rest
 
 -- how work ends at the first wrong line of a text
 abbrev pub IsRefusal : (List ℕ → Option BadLine) → List ℕ → Ending → Type 0
@@ -106,7 +110,8 @@ IsSessionIn text (Ended ending) = IsRefusal refusal text ending
 
 -- of what was played
 abbrev pub IsEndingOf : Telling → PlainSession → Played → Ending → Type 0
-IsEndingOf telling session played (Done text) = text.items ≡ text_by telling session played.runs.items (map end_of played.ends.items)
+IsEndingOf telling session played (Done text) =
+    text.items ≡ text_by telling session played.runs.items (map end_of played.ends.items)
 IsEndingOf telling session played (BadSession line) = ⊥
 IsEndingOf telling session played BadWords = ⊥
 IsEndingOf telling session played ReadFault = ⊥
@@ -114,7 +119,9 @@ IsEndingOf telling session played TooLong = ⊥
 IsEndingOf telling session played (NotLegal line) = ⊥
 
 -- of a session
-abbrev pub IsSessionWork : (ℕ → PlainSession → PortRun → Type 0) → Telling → PlainSession → Ending → List PortRun → Type 0
+abbrev pub IsSessionWork : (ℕ → PlainSession → PortRun → Type 0)
+    → Telling → PlainSession → Ending → List PortRun
+    → Type 0
 IsSessionWork InOrder telling session (Done text) runs = IsReported InOrder telling session runs text.items
 IsSessionWork InOrder telling session (BadSession line) runs = ⊥
 IsSessionWork InOrder telling session BadWords runs = ⊥
@@ -168,7 +175,8 @@ IsConsolesWork session (NotLegal line) back = ⊥
 -- of consoles that were played
 abbrev pub IsReportOf : PlainVtSession → VtPlayed → Ending → Type 0
 IsReportOf session played (Done text) =
-    text.items ≡ report_text session played.board.entries played.consoles.runs.items (map end_of played.consoles.ends.items)
+    text.items
+    ≡ report_text session played.board.entries played.consoles.runs.items (map end_of played.consoles.ends.items)
 IsReportOf session played (BadSession line) = ⊥
 IsReportOf session played BadWords = ⊥
 IsReportOf session played ReadFault = ⊥
@@ -189,7 +197,9 @@ IsConsolesText text (NotLegal line) back = ⊥
 -- what playing a session of processes needs
 pub record CanProcessesBePlayed (session : JobsSession) : Type 0 where
   pub within : IsJobsSessionWithin session
-  pub never_full : (log : JobLog) (runs : List PortRun) → ArePassedWithin (given_to session log runs) → IsNeverFull (derived_with session log runs)
+  pub never_full : (log : JobLog) (runs : List PortRun)
+      → ArePassedWithin (given_to session log runs)
+      → IsNeverFull (derived_with session log runs)
 
 -- of a session of processes
 abbrev pub AreProcessesWork : JobsSession → Ending → Returned → Type 0
@@ -203,7 +213,9 @@ AreProcessesWork session (NotLegal line) back = ⊥
 -- of processes that were played
 abbrev pub IsReportOfProcesses : KeptSession → JobsRan → Ending → Type 0
 IsReportOfProcesses session ran (Done text) =
-    text.items ≡ jobs_report_text (bare_session_of session) (map logged_of ran.log.items) ran.runs.items (map end_of ran.ends.items)
+    text.items
+    ≡ jobs_report_text (bare_session_of session) (map logged_of ran.log.items) ran.runs.items
+    (map end_of ran.ends.items)
 IsReportOfProcesses session ran (BadSession line) = ⊥
 IsReportOfProcesses session ran BadWords = ⊥
 IsReportOfProcesses session ran ReadFault = ⊥

@@ -20,7 +20,8 @@ use vt_text::{VtSession, parse_vt};
 
 /// Reads a session of consoles, plays it on one thread and makes its report.
 pub(crate) fn run_vt<S: Source>(alloc: Global, source: &mut S) -> Result<Work, NoMemory>
-    ensures from { IfOk result (λ work. IsOfSource work.ending (S.faults source.old) (S.faults source.new) (S.left source.old) (S.left source.new)) }
+    ensures from { IfOk result (λ work.
+        IsOfSource work.ending (S.faults source.old) (S.faults source.new) (S.left source.old) (S.left source.new)) }
     ensures work { IfOk result (λ work. IsWork VtOne (S.left source.old) work.ending (brought work)) }
     ensures no_log { IfOk result (λ work. work.jobs.items ≡ []) }
     ensures short { OnErr result (IsShort (S.left source.old) (S.left source.new)) }
@@ -65,7 +66,8 @@ fn run_session(alloc: Global, session: &mut VtSession) -> Result<Work, NoMemory>
 /// The work on a session of consoles that was played: its report, with the runs and the entries.
 fn work_of(alloc: Global, session: &VtSession, played: VtPlayed) -> Result<Work, NoMemory>
     ensures ending { IfOk result (λ work. IsReportOf (vt_session_of session.now) played work.ending) }
-    ensures brought { IfOk result (λ work. brought work ≡ record { runs = played.consoles.runs.items; entries = played.board.entries; log = [] }) }
+    ensures brought { IfOk result (λ work.
+        brought work ≡ record { runs = played.consoles.runs.items; entries = played.board.entries; log = [] }) }
     ensures no_log { IfOk result (λ work. work.jobs.items ≡ []) }
 {
     let VtPlayed { board, consoles } = played;

@@ -16,7 +16,8 @@ use tty_base::{Bytes, NoMemory, Source};
 
 /// Reads a session with its journals, and judges these.
 pub(crate) fn run_check<S: Source>(alloc: Global, source: &mut S) -> Result<Work, NoMemory>
-    ensures from { IfOk result (λ work. IsOfSource work.ending (S.faults source.old) (S.faults source.new) (S.left source.old) (S.left source.new)) }
+    ensures from { IfOk result (λ work.
+        IsOfSource work.ending (S.faults source.old) (S.faults source.new) (S.left source.old) (S.left source.new)) }
     ensures work { IfOk result (λ work. IsWork Check (S.left source.old) work.ending (brought work)) }
     ensures none { IfOk result (λ work. work.runs.items ≡ []) }
     ensures no_entries { IfOk result (λ work. work.vt.items ≡ []) }

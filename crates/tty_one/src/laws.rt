@@ -30,8 +30,11 @@ use session_print::each_call_has_its_line;
 /// A law: in a legal run each call of the session is answered by one entry; and a report of legal runs has
 /// one line for each call of each port, in the text's order, with the answer of that entry.
 pub fn each_call_has_one_line()
-    ensures answered { (p : ℕ) (session : PlainSession) (run : PortRun) (t : Terminal) → IsLegal p session run t
-        → (c step : ℕ) (call : PlainCall) → call_at p session c step ≡ Some call → IsAnsweredOnce run.journal.items c step }
+    ensures answered { (p : ℕ) (session : PlainSession) (run : PortRun) (t : Terminal)
+        → IsLegal p session run t
+        → (c step : ℕ) (call : PlainCall)
+        → call_at p session c step ≡ Some call
+        → IsAnsweredOnce run.journal.items c step }
     ensures in_any_order { (journals : Bool) (session : PlainSession) (runs : List PortRun) (text : List ℕ)
         → IsReported IsInAnyOrder (Report journals) session runs text → TellsEachOnce journals session runs text }
     ensures in_one_order { (journals : Bool) (session : PlainSession) (runs : List PortRun) (text : List ℕ)
@@ -45,41 +48,68 @@ pub fn each_call_has_one_line()
 /// they read the same text, and by `gen` with the same number.
 pub fn a_session_has_one_report()
     ensures report { (telling : Telling) (session : PlainSession) (runs others : List PortRun) (text other : List ℕ)
-        → IsReported IsOrdered telling session runs text → IsReported IsOrdered telling session others other → text ≡ other }
-    ensures read { (words : List (List ℕ)) (bytes before before' : List ℕ) (now now' : Option (List ℕ)) (back other : Returned) → AreRunOne words
-        → IsDone words (Some bytes) (Some before) now back → IsDone words (Some bytes) (Some before') now' other → GaveTheSame before before' now now' }
-    ensures made { (words : List (List ℕ)) (left left' : Option (List ℕ)) (before before' : List ℕ) (now now' : Option (List ℕ)) (back other : Returned) → AreGen words
-        → IsDone words left (Some before) now back → IsDone words left' (Some before') now' other → GaveTheSame before before' now now' }
+        → IsReported IsOrdered telling session runs text
+        → IsReported IsOrdered telling session others other
+        → text ≡ other }
+    ensures read { (words : List (List ℕ)) (bytes before before' : List ℕ) (now now' : Option (List ℕ))
+        (back other : Returned)
+        → AreRunOne words
+        → IsDone words (Some bytes) (Some before) now back
+        → IsDone words (Some bytes) (Some before') now' other
+        → GaveTheSame before before' now now' }
+    ensures made { (words : List (List ℕ)) (left left' : Option (List ℕ)) (before before' : List ℕ)
+        (now now' : Option (List ℕ)) (back other : Returned)
+        → AreGen words
+        → IsDone words left (Some before) now back
+        → IsDone words left' (Some before') now' other
+        → GaveTheSame before before' now now' }
 {}
 
 /// A law: no journal is ever full. A run of a session that a text of at most 4,194,304 bytes spells, as far
 /// as it went, has fewer entries than that.
 pub fn no_journal_is_ever_full()
-    ensures { (text : List ℕ) (session : PlainSession) (p : ℕ) (run : PortRun) (t : Terminal) → Spells text session → length text ≤ 4194304
-        → IsCutShort p session run t → length run.journal.items < 4194304 }
+    ensures { (text : List ℕ) (session : PlainSession) (p : ℕ) (run : PortRun) (t : Terminal)
+        → Spells text session
+        → length text ≤ 4194304
+        → IsCutShort p session run t
+        → length run.journal.items < 4194304 }
 {}
 
 /// A law: no journal of a console is ever full. A run of a console of a session that a text of at most 4,194,304 bytes
 /// spells, as far as it went, has fewer entries than that, whatever the entries of the board.
 pub fn no_journal_of_a_console_is_ever_full()
-    ensures { (text : List ℕ) (session : PlainVtSession) (entries : List VtEntry) (p : ℕ) (run : PortRun) (t : Terminal) → SpellsConsoles text session
-        → length text ≤ 4194304 → IsCutShort p (keyed session entries) run t → length run.journal.items < 4194304 }
+    ensures { (text : List ℕ) (session : PlainVtSession) (entries : List VtEntry) (p : ℕ) (run : PortRun) (t : Terminal)
+        → SpellsConsoles text session
+        → length text ≤ 4194304
+        → IsCutShort p (keyed session entries) run t
+        → length run.journal.items < 4194304 }
 {}
 
 /// A law: no journal of a session of processes is ever full. A run of the session that its ports were played, as far as
 /// it went, has fewer entries than that, where at most one call was passed down for each call of a process.
 pub fn no_journal_of_processes_is_ever_full()
-    ensures { (text : List ℕ) (session : JobsSession) (log : JobLog) (runs : List PortRun) (p : ℕ) (run : PortRun) (t : Terminal) → jobs_in text ≡ Ok (bare_of session)
-        → length text ≤ 4194304 → ArePassedWithin (given_to session log runs) → IsCutShort p (derived_with session log runs) run t → length run.journal.items < 4194304 }
+    ensures { (text : List ℕ) (session : JobsSession) (log : JobLog) (runs : List PortRun) (p : ℕ) (run : PortRun)
+        (t : Terminal)
+        → jobs_in text ≡ Ok (bare_of session)
+        → length text ≤ 4194304
+        → ArePassedWithin (given_to session log runs)
+        → IsCutShort p (derived_with session log runs) run t
+        → length run.journal.items < 4194304 }
 {}
 
 /// A law: a session of consoles has one report on one thread. So two calls of `tty_one` that ended with 0 gave the same
 /// bytes by `vt --one` where they read the same text.
 pub fn consoles_have_one_report()
-    ensures report { (session : PlainVtSession) (back other : Returned) (text told : List ℕ) → AreConsolesPlayed session back text → AreConsolesPlayed session other told
+    ensures report { (session : PlainVtSession) (back other : Returned) (text told : List ℕ)
+        → AreConsolesPlayed session back text
+        → AreConsolesPlayed session other told
         → text ≡ told }
-    ensures read { (words : List (List ℕ)) (bytes before before' : List ℕ) (now now' : Option (List ℕ)) (back other : Returned) → AskVtOne words
-        → IsDone words (Some bytes) (Some before) now back → IsDone words (Some bytes) (Some before') now' other → GaveTheSame before before' now now' }
+    ensures read { (words : List (List ℕ)) (bytes before before' : List ℕ) (now now' : Option (List ℕ))
+        (back other : Returned)
+        → AskVtOne words
+        → IsDone words (Some bytes) (Some before) now back
+        → IsDone words (Some bytes) (Some before') now' other
+        → GaveTheSame before before' now now' }
 {}
 
 /// A law: journals that are printed are legal. What `run --journal` tells of a session, from the line
@@ -87,10 +117,16 @@ pub fn consoles_have_one_report()
 /// is told of; and `check` tells `legal` to it, wherever it can read that text and give its line. So it is
 /// with what was given by each call with these words that ended with 0.
 pub fn printed_journals_are_legal()
-    ensures in_any_order { (text : List ℕ) (session : PlainSession) (runs : List PortRun) (report : List ℕ) → Spells text session
-        → IsReported IsInAnyOrder (Report true) session runs report → IsReadBack text session runs report }
-    ensures in_one_order { (text : List ℕ) (session : PlainSession) (runs : List PortRun) (report : List ℕ) → Spells text session
-        → IsReported IsOrdered (Report true) session runs report → IsReadBack text session runs report }
-    ensures given { (words : List (List ℕ)) (bytes before : List ℕ) (now : Option (List ℕ)) (back : Returned) → AskJournals words
-        → IsDone words (Some bytes) (Some before) now back → GaveJournals bytes before now back.runs }
+    ensures in_any_order { (text : List ℕ) (session : PlainSession) (runs : List PortRun) (report : List ℕ)
+        → Spells text session
+        → IsReported IsInAnyOrder (Report true) session runs report
+        → IsReadBack text session runs report }
+    ensures in_one_order { (text : List ℕ) (session : PlainSession) (runs : List PortRun) (report : List ℕ)
+        → Spells text session
+        → IsReported IsOrdered (Report true) session runs report
+        → IsReadBack text session runs report }
+    ensures given { (words : List (List ℕ)) (bytes before : List ℕ) (now : Option (List ℕ)) (back : Returned)
+        → AskJournals words
+        → IsDone words (Some bytes) (Some before) now back
+        → GaveJournals bytes before now back.runs }
 {}

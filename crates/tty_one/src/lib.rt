@@ -1,6 +1,6 @@
 //! What the program does without threads: a session's text is read, played on its ports, and what
-//! happened is told; journals are read and judged; sessions of consoles and of processes are read, played and told. What
-//! reading and telling take is also for the crate above, which plays sessions on threads.
+//! happened is told; journals are read and judged; sessions of consoles and of processes are read, played and told.
+//! What reading and telling take is also for the crate above, which plays sessions on threads.
 #![tactic(auto)]
 
 mod consoles;

@@ -36,7 +36,8 @@ pub(crate) fn run_one<S: Source>(
     source: &mut S,
     journals: bool,
 ) -> Result<Work, NoMemory>
-    ensures from { IfOk result (λ work. IsOfSource work.ending (S.faults source.old) (S.faults source.new) (S.left source.old) (S.left source.new)) }
+    ensures from { IfOk result (λ work.
+        IsOfSource work.ending (S.faults source.old) (S.faults source.new) (S.left source.old) (S.left source.new)) }
     ensures work { IfOk result (λ work. IsWork (RunOne journals) (S.left source.old) work.ending (brought work)) }
     ensures no_entries { IfOk result (λ work. work.vt.items ≡ []) }
     ensures no_log { IfOk result (λ work. work.jobs.items ≡ []) }
@@ -52,7 +53,8 @@ pub(crate) fn run_one<S: Source>(
 
 /// Makes the session of a number, plays it on one thread and makes its summary.
 pub(crate) fn run_number(alloc: Global, number: u32) -> Result<Work, NoMemory>
-    ensures played { IfOk result (λ work. IsSessionWork IsOrdered (Summary number) (generated_session number) work.ending work.runs.items) }
+    ensures played { IfOk result
+        (λ work. IsSessionWork IsOrdered (Summary number) (generated_session number) work.ending work.runs.items) }
     ensures can { IfOk result (λ work. CanEnd (Gen number) work.ending) }
     ensures no_entries { IfOk result (λ work. work.vt.items ≡ []) }
     ensures no_log { IfOk result (λ work. work.jobs.items ≡ []) }
@@ -69,7 +71,8 @@ fn run_session(
     telling: Telling,
 ) -> Result<Work, NoMemory>
     requires { IsWithinLimits (session_of session.now) × IsNeverFull (session_of session.now) }
-    ensures played { IfOk result (λ work. IsSessionWork IsOrdered telling (session_of session.now) work.ending work.runs.items) }
+    ensures played { IfOk result
+        (λ work. IsSessionWork IsOrdered telling (session_of session.now) work.ending work.runs.items) }
     ensures no_entries { IfOk result (λ work. work.vt.items ≡ []) }
     ensures no_log { IfOk result (λ work. work.jobs.items ≡ []) }
 {
@@ -109,7 +112,9 @@ fn text_by(
     played: &Played,
     telling: Telling,
 ) -> Result<Bytes, NoMemory>
-    ensures { IfOk result (λ text. text.items ≡ text_of_telling telling (session_of session.now) played.now.runs.items (map end_of played.now.ends.items)) }
+    ensures { IfOk result (λ text.
+        text.items
+        ≡ text_of_telling telling (session_of session.now) played.now.runs.items (map end_of played.now.ends.items)) }
 {
     let runs = played.runs.as_slice();
     let ends = played.ends.as_slice();

@@ -5,7 +5,8 @@ ghost use Rattle.tty_base.specs.Outside.{LeavesRest};
 ghost use Rattle.job_text.specs.Sessions.{jobs_session_of};
 ghost use Rattle.tty_one.specs.declared.words.Command.TheVariants.{Jobs};
 ghost use Rattle.tty_one.specs.Endings.{IsShort, IsOfSource};
-ghost use Rattle.tty_one.specs.Works.{brought, AreProcessesWork, CanProcessesBePlayed, IsProcessesText, IsReportOfProcesses, IsWork};
+ghost use Rattle.tty_one.specs.Works.{brought, AreProcessesWork, CanProcessesBePlayed};
+ghost use Rattle.tty_one.specs.Works.{IsProcessesText, IsReportOfProcesses, IsWork};
 
 use crate::reading::{Reading, read_text, refusal_line};
 use crate::works::{Ending, VtEntries, Work};
@@ -18,7 +19,8 @@ use tty_base::{NoMemory, Source};
 
 /// Reads a session of processes, plays it on one thread and makes its report.
 pub(crate) fn run_jobs<S: Source>(alloc: Global, source: &mut S) -> Result<Work, NoMemory>
-    ensures from { IfOk result (λ work. IsOfSource work.ending (S.faults source.old) (S.faults source.new) (S.left source.old) (S.left source.new)) }
+    ensures from { IfOk result (λ work.
+        IsOfSource work.ending (S.faults source.old) (S.faults source.new) (S.left source.old) (S.left source.new)) }
     ensures work { IfOk result (λ work. IsWork Jobs (S.left source.old) work.ending (brought work)) }
     ensures no_entries { IfOk result (λ work. work.vt.items ≡ []) }
     ensures short { OnErr result (IsShort (S.left source.old) (S.left source.new)) }
@@ -59,7 +61,8 @@ fn run_session(alloc: Global, session: &JobsSession) -> Result<Work, NoMemory>
 /// The work on a session of processes that was played: its report, with the runs and the log.
 fn work_of(alloc: Global, session: &JobsSession, ran: JobsRan) -> Result<Work, NoMemory>
     ensures ending { IfOk result (λ work. IsReportOfProcesses session.now ran work.ending) }
-    ensures brought { IfOk result (λ work. brought work ≡ record { runs = ran.runs.items; entries = []; log = ran.log.items }) }
+    ensures brought { IfOk result
+        (λ work. brought work ≡ record { runs = ran.runs.items; entries = []; log = ran.log.items }) }
     ensures no_entries { IfOk result (λ work. work.vt.items ≡ []) }
 {
     let JobsRan { log, runs, ends } = ran;

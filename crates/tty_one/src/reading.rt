@@ -27,7 +27,9 @@ pub(crate) fn read_text<S: Source>(
     alloc: Global,
     source: &mut S,
 ) -> Result<Reading<Bytes>, NoMemory>
-    ensures read { (first_wrong : List ℕ → Option WrongLine) → IfOk result (λ reading. IsTextRead first_wrong reading (S.faults source.old) (S.faults source.new) (S.left source.old) (S.left source.new)) }
+    ensures read { (first_wrong : List ℕ → Option WrongLine)
+        → IfOk result (λ reading. IsTextRead first_wrong reading (S.faults source.old) (S.faults source.new)
+        (S.left source.old) (S.left source.new)) }
     ensures few { IfOk result IsShortText }
     ensures short { OnErr result (IsShort (S.left source.old) (S.left source.new)) }
     ensures rest { IfSome (S.left source.old) (λ bytes. LeavesRest bytes (S.left source.new)) }
@@ -46,7 +48,8 @@ pub fn read_session<S: Source>(
     source: &mut S,
     text: &mut Bytes,
 ) -> Result<Reading<Session>, NoMemory>
-    ensures read { IfOk result (λ reading. IsSessionRead reading (S.faults source.old) (S.faults source.new) (S.left source.old) (S.left source.new)) }
+    ensures read { IfOk result (λ reading.
+        IsSessionRead reading (S.faults source.old) (S.faults source.new) (S.left source.old) (S.left source.new)) }
     ensures short { OnErr result (IsShort (S.left source.old) (S.left source.new)) }
     ensures rest { IfSome (S.left source.old) (λ bytes. LeavesRest bytes (S.left source.new)) }
 {

@@ -2,7 +2,8 @@
 
 ghost use Rattle.std.specs.Prelude.{◌≡◌, ◌⊎◌, ◌≢◌, ◌≤◌, [], IfSome, IfOk, OnErr, length};
 ghost use Rattle.tty_base.specs.Outside.{Rose, TookCount, LeavesRest};
-ghost use Rattle.tty_one.specs.Endings.{AreOfOne, IsOfOne, AreRunOne, AreGen, AskCheck, AskJobs, AskVtOne, AskOneToRead, IsStatus, IsStatusOr, IsShort, IsOfSource, IsTold, texts_of};
+ghost use Rattle.tty_one.specs.Endings.{AreOfOne, IsOfOne, AreRunOne, AreGen, AskCheck, AskJobs, AskVtOne};
+ghost use Rattle.tty_one.specs.Endings.{AskOneToRead, IsStatus, IsStatusOr, IsShort, IsOfSource, IsTold, texts_of};
 ghost use Rattle.tty_one.specs.Reported.{nothing, returned};
 ghost use Rattle.tty_one.specs.Consoles.{CompletesConsoles};
 ghost use Rattle.tty_one.specs.Processes.{CompletesProcesses};
@@ -26,8 +27,8 @@ use tty_base::{NoMemory, Sink, Source};
 ///
 /// The words are `run --one`, and with journals `run --one --journal` or `run --journal --one`; `gen` with a
 /// number up to 4,294,967,295, whose session is played and nothing read; `check`; and `vt --one`, by which a session of
-/// consoles is read and played; and `jobs`, by which a session of processes is. The words that ask for threads are other
-/// words here.
+/// consoles is read and played; and `jobs`, by which a session of processes is. The words that ask for threads are
+/// other words here.
 pub fn tty_one<S: Source, K: Sink>(
     alloc: Global,
     words: &[&str],
@@ -35,30 +36,39 @@ pub fn tty_one<S: Source, K: Sink>(
     sink: &mut K,
 ) -> Ran
     // 2 comes exactly for other words, unless its line could not be given, and nothing is read.
-    ensures other_words { (AreOfOne (texts_of words.now) → ⊥) → ((result.status ≡ 2) ⊎ (result.status ≡ 4)) × (source.new ≡ source.old) × (returned result ≡ nothing) }
+    ensures other_words { (AreOfOne (texts_of words.now) → ⊥)
+        → ((result.status ≡ 2) ⊎ (result.status ≡ 4)) × (source.new ≡ source.old) × (returned result ≡ nothing) }
     ensures known_words { AreOfOne (texts_of words.now) → result.status ≢ 2 }
     ensures read_fault { result.status ≡ 3 → Rose (S.faults source.old) (S.faults source.new) }
     ensures write_fault { result.status ≡ 4 → Rose (K.faults sink.old) (K.faults sink.new) }
     // 6 comes exactly where one byte more than the longest text was read, unless its line could not
     // be given.
-    ensures too_long { IfSome (S.left source.old) (λ bytes. result.status ≡ 6 → TookCount 4194305 bytes (S.left source.new)) }
-    ensures long { IfSome (S.left source.old) (λ bytes. TookCount 4194305 bytes (S.left source.new) → (result.status ≡ 6) ⊎ (result.status ≡ 4)) }
+    ensures too_long { IfSome (S.left source.old)
+        (λ bytes. result.status ≡ 6 → TookCount 4194305 bytes (S.left source.new)) }
+    ensures long { IfSome (S.left source.old)
+        (λ bytes. TookCount 4194305 bytes (S.left source.new) → (result.status ≡ 6) ⊎ (result.status ≡ 4)) }
     ensures told { IfSome (K.given sink.old) (λ before. IsTold result.status before (K.given sink.new)) }
     ensures statuses { IsStatus result.status }
     // 0: the session is the one that the text spells that was read, or the one of the number; each run is
     // legal and in the order of one thread, and the sink was given the text of that session and these
     // runs, or their summary. Or the runs that the text spells are all legal, and it was given that. Or the text
     // spells a session of consoles, and each of them and their board was played likewise. Or it spells a session of
-    // processes: each run is legal, and in that order, for the session that its log passes down to the ports, and the log
-    // has just what job control says.
-    ensures done { result.status ≡ 0 → IsDone (texts_of words.now) (S.left source.old) (K.given sink.old) (K.given sink.new) (returned result) }
+    // processes: each run is legal, and in that order, for the session that its log passes down to the ports, and the
+    // log has just what job control says.
+    ensures done { result.status ≡ 0
+        → IsDone (texts_of words.now) (S.left source.old) (K.given sink.old) (K.given sink.new) (returned result) }
     // 1: the text that was read is not in its grammar, and the sink was given its first wrong line.
-    ensures bad_session { result.status ≡ 1 → IsToldRefused (texts_of words.now) (S.left source.old) (K.given sink.old) (K.given sink.new) }
+    ensures bad_session { result.status ≡ 1
+        → IsToldRefused (texts_of words.now) (S.left source.old) (K.given sink.old) (K.given sink.new) }
     // 7: the runs that the text spells are not all legal, and the sink was given the verdict that fits them.
-    ensures not_legal { result.status ≡ 7 → IsToldIllegal (texts_of words.now) (S.left source.old) (K.given sink.old) (K.given sink.new) }
+    ensures not_legal { result.status ≡ 7
+        → IsToldIllegal (texts_of words.now) (S.left source.old) (K.given sink.old) (K.given sink.new) }
     // 4: what was to be given is the text of the status that there would have been; that of 3 or of 6 stands
     // only where the words ask for a text to be read.
-    ensures broken { result.status ≡ 4 → IsBroken (AreOfOne (texts_of words.now)) (AskOneToRead (texts_of words.now)) (texts_of words.now) (S.faults source.old) (S.faults source.new) (S.left source.old) (S.left source.new) (K.given sink.old) (K.given sink.new) (returned result) }
+    ensures broken { result.status ≡ 4
+        → IsBroken (AreOfOne (texts_of words.now)) (AskOneToRead (texts_of words.now)) (texts_of words.now)
+        (S.faults source.old) (S.faults source.new) (S.left source.old) (S.left source.new) (K.given sink.old)
+        (K.given sink.new) (returned result) }
     ensures no_runs { result.status ≢ 0 → result.status ≢ 4 → returned result ≡ nothing }
     ensures none_judged { AskCheck (texts_of words.now) → result.runs.items ≡ [] }
     ensures no_entries { (AskVtOne (texts_of words.now) → ⊥) → result.vt.items ≡ [] }
@@ -100,7 +110,8 @@ pub fn tty_one<S: Source, K: Sink>(
 /// Does what a command asks for.
 fn work_on<S: Source>(alloc: Global, source: &mut S, command: Command) -> Result<Work, NoMemory>
     requires { IsOfOne command }
-    ensures from { IfOk result (λ work. IsOfSource work.ending (S.faults source.old) (S.faults source.new) (S.left source.old) (S.left source.new)) }
+    ensures from { IfOk result (λ work.
+        IsOfSource work.ending (S.faults source.old) (S.faults source.new) (S.left source.old) (S.left source.new)) }
     ensures work { IfOk result (λ work. IsWork command (S.left source.old) work.ending (brought work)) }
     ensures entries { IfOk result (λ work. HasEntries command (brought work)) }
     ensures log { IfOk result (λ work. HasLog command (brought work)) }

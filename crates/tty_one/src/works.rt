@@ -55,7 +55,13 @@ pub struct Work {
 impl Work {
     /// Work that ended without a run.
     pub fn ended(alloc: Global, ending: Ending) -> Work
-        ensures { result ≡ record { ending = ending; runs = record { items = []; spare = 0 }; vt = record { items = []; spare = 0 }; jobs = record { items = []; spare = 0 } } }
+        ensures { result
+            ≡ record {
+              ending = ending;
+              runs = record { items = []; spare = 0 };
+              vt = record { items = []; spare = 0 };
+              jobs = record { items = []; spare = 0 };
+            } }
     {
         Work {
             ending,
@@ -72,8 +78,10 @@ impl Work {
         ensures jobs { result.jobs ≡ self.jobs }
         ensures status { (result.status ≡ status_of self.ending) ⊎ (result.status ≡ 4) }
         ensures fault { result.status ≡ 4 → Rose (K.faults sink.old) (K.faults sink.new) }
-        ensures whole { result.status ≢ 4 → IfSome (K.given sink.old) (λ before. K.given sink.new ≡ Some (before ++ text_of self.ending)) }
-        ensures front { IfSome (K.given sink.old) (λ before. GivesFront before (text_of self.ending) (K.given sink.new)) }
+        ensures whole { result.status ≢ 4
+            → IfSome (K.given sink.old) (λ before. K.given sink.new ≡ Some (before ++ text_of self.ending)) }
+        ensures front { IfSome (K.given sink.old)
+            (λ before. GivesFront before (text_of self.ending) (K.given sink.new)) }
     {
         let Work {
             ending,

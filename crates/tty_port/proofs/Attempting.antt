@@ -1,5 +1,7 @@
 -- What one turn with the port adds to its history.
-use Rattle.std.proofs.Common.{◌≡◌, ◌⊎◌, inl, inr, ℕ, ◌+◌, ◌<◌, ◌≤◌, ◌^◌, zero, suc, nat_lt, List, [], ◌∷◌, ◌++◌, Bool, true, false, IsTrue, ◌==◌, MatchBool, if◌then◌else◌, Option, None, Some, is_some, length, sum, refl, sym, ◌∙◌, ap, subst, arith}
+use Rattle.std.proofs.Common.{◌≡◌, ◌⊎◌, inl, inr, ℕ, ◌+◌, ◌<◌, ◌≤◌, ◌^◌, zero, suc, nat_lt, List, []}
+use Rattle.std.proofs.Common.{◌∷◌, ◌++◌, Bool, true, false, IsTrue, ◌==◌, MatchBool, if◌then◌else◌}
+use Rattle.std.proofs.Common.{Option, None, Some, is_some, length, sum, refl, sym, ◌∙◌, ap, subst, arith}
 use Rattle.std.proofs.lemmas.Bool.{eqb-true, eq-eqb, false≢true}
 use Rattle.std.proofs.lemmas.Bool.Decides.{nat_tests}
 use Rattle.tty_base.specs.declared.characters.Flagged.{Flagged}
@@ -19,7 +21,8 @@ use Rattle.tty_terminal.specs.Runs.{is_of_call}
 use Rattle.tty_terminal.specs.Standing.{Standing, standing_of, standing_after, standing_after_own, standing_after_other}
 use Rattle.tty_terminal.proofs.Effects.{outcome_keeps}
 use Rattle.tty_terminal.proofs.WaitLaws.{run_parts}
-use Rattle.port_core.specs.Ports.{PortValue, IsPort, call_in, with_entry, with_call, kept_with, caller_entry, Appends, Denies}
+use Rattle.port_core.specs.Ports.{PortValue, IsPort, call_in, with_entry, with_call}
+use Rattle.port_core.specs.Ports.{kept_with, caller_entry, Appends, Denies}
 use Rattle.port_core.specs.Flips.{DropsShown}
 use Rattle.port_core.specs.Attempts.{IsReady, PlainTried, done_by, took_part, must_wait, Attempts, Raises}
 use Rattle.port_core.proofs.Calls.{grows_kept, known_call}
@@ -33,17 +36,28 @@ use Rattle.tty_port.proofs.Histories.{history_length, history_adds, port_generat
 
 -- ---- what the caller of a call knows is what the port needs
 
-told_step : (m : ℕ) (f : ℕ → ℕ → Option PlainCall) (c step : ℕ) (call : PlainCall) (e : PlainEntry) (now : ℕ) → IsOfStep c step call (stamped_entry m f e now) → f c step ≡ Some call
+told_step : (m : ℕ) (f : ℕ → ℕ → Option PlainCall) (c step : ℕ) (call : PlainCall) (e : PlainEntry) (now : ℕ)
+    → IsOfStep c step call (stamped_entry m f e now)
+    → f c step ≡ Some call
 told_step m f c step call e now h =
-    let of : call_by f e.who e.step ≡ Some call = sym (ap (λ (b : Bool). if b then call_by f e.who e.step else None) h.of_call) ∙ h.keeps in
+    let of : call_by f e.who e.step ≡ Some call =
+    sym (ap (λ (b : Bool). if b then call_by f e.who e.step else None) h.of_call) ∙ h.keeps in
     sym (ap (λ (w : Who). call_by f w e.step) h.who ∙ ap (λ (k : ℕ). f c k) h.at_step) ∙ of
 
-told_call : (m : ℕ) (f : ℕ → ℕ → Option PlainCall) (c step : ℕ) (call : PlainCall) (es : List PlainEntry) (now : ℕ) → IsTold c step call (history m f es now) → f c step ≡ Some call
+told_call : (m : ℕ) (f : ℕ → ℕ → Option PlainCall) (c step : ℕ) (call : PlainCall) (es : List PlainEntry) (now : ℕ)
+    → IsTold c step call (history m f es now)
+    → f c step ≡ Some call
 told_call m f c step call [] now h = absurd h
 told_call m f c step call (e ∷ es) now (inl h) = told_step m f c step call e _ h
 told_call m f c step call (e ∷ es) now (inr h) = told_call m f c step call es now h
 
-pub is_ready : (m : ℕ) (v : PortValue) (c step : ℕ) (call : PlainCall) → IsPort v → c < sum v.counts → handle_of call < 32 → byte_count call < 2 ^ 32 → IsUnderWay c step call (generation_of (history_in m v)) (history_in m v) → IsReady v c step call
+pub is_ready : (m : ℕ) (v : PortValue) (c step : ℕ) (call : PlainCall)
+    → IsPort v
+    → c < sum v.counts
+    → handle_of call < 32
+    → byte_count call < 2 ^ 32
+    → IsUnderWay c step call (generation_of (history_in m v)) (history_in m v)
+    → IsReady v c step call
 is_ready m v c step call p known number bytes u =
     let st = port_stands m v p c in
     record {
@@ -52,10 +66,15 @@ is_ready m v c step call p known number bytes u =
       not_over = ap (λ (s : Standing). s.over) st ∙ u.not_over;
       number = number;
       bytes = bytes;
-      same = λ begun. told_call m (call_in v.kept) c step call v.journal v.terminal.generation (u.same (sym (ap (λ (s : Standing). s.begun) st) ∙ begun));
+      same = λ begun. told_call m (call_in v.kept) c step call v.journal v.terminal.generation
+          (u.same (sym (ap (λ (s : Standing). s.begun) st) ∙ begun));
       generation = λ waits parts.
           ap (λ (s : Standing). s.generation) st
-          ∙ u.one (sym (ap (λ (s : Standing). s.begun) st) ∙ run_parts (call_in v.kept) v.counts v.flip.capacity v.journal v.terminal p.run c parts) (sym (ap (λ (s : Standing). s.waits) st) ∙ ap (λ (o : Option ℕ). is_some o) waits) (subst (λ (s : Standing). 0 < s.parts) st parts)
+          ∙ u.one
+          (sym (ap (λ (s : Standing). s.begun) st)
+          ∙ run_parts (call_in v.kept) v.counts v.flip.capacity v.journal v.terminal p.run c parts)
+          (sym (ap (λ (s : Standing). s.waits) st) ∙ ap (λ (o : Option ℕ). is_some o) waits)
+          (subst (λ (s : Standing). 0 < s.parts) st parts)
           ∙ port_generation m v p;
     }
 
@@ -66,62 +85,114 @@ own_standing c x y = ap (λ (b : Bool). if b then x else y) (eq-eqb c c refl)
 
 -- the port after an entry of a call
 abbrev entered : PortValue → ℕ → ℕ → PlainCall → TakerState Flagged → PlainEvent → PortValue
-entered v c step call flip event = record (with_entry (with_call v c step call) (caller_entry v c event)) { flip = flip }
+entered v c step call flip event =
+    record (with_entry (with_call v c step call) (caller_entry v c event)) { flip = flip }
 
 abbrev entry_of : ℕ → PortValue → ℕ → ℕ → PlainCall → TakerState Flagged → PlainEvent → Stamped EntryWithCall
 entry_of m v c step call flip event =
-    stamped_entry m (call_in (with_call v c step call).kept) (caller_entry v c event) (entered v c step call flip event).terminal.generation
+    stamped_entry m (call_in (with_call v c step call).kept) (caller_entry v c event)
+    (entered v c step call flip event).terminal.generation
 
-adds_to : (m : ℕ) (v : PortValue) (c step : ℕ) (call : PlainCall) (flip : TakerState Flagged) (event : PlainEvent) → IsPort v → history_in m (entered v c step call flip event) ≡ history_in m v ++ entry_of m v c step call flip event ∷ []
+adds_to : (m : ℕ) (v : PortValue) (c step : ℕ) (call : PlainCall) (flip : TakerState Flagged) (event : PlainEvent)
+    → IsPort v
+    → history_in m (entered v c step call flip event) ≡ history_in m v ++ entry_of m v c step call flip event ∷ []
 adds_to m v c step call flip event p =
-    history_adds m v (entered v c step call flip event) (caller_entry v c event) p (grows_kept (has_begun (caller_at v.terminal c)) v.kept c step call) refl refl
+    history_adds m v (entered v c step call flip event) (caller_entry v c event) p
+    (grows_kept (has_begun (caller_at v.terminal c)) v.kept c step call) refl refl
 
-keeps_call : (m : ℕ) (v : PortValue) (c step : ℕ) (call : PlainCall) (flip : TakerState Flagged) (event : PlainEvent) → IsPort v → IsReady v c step call → is_of_call event ≡ true → (entry_of m v c step call flip event).what.call ≡ Some call
+keeps_call : (m : ℕ) (v : PortValue) (c step : ℕ) (call : PlainCall) (flip : TakerState Flagged) (event : PlainEvent)
+    → IsPort v
+    → IsReady v c step call
+    → is_of_call event ≡ true
+    → (entry_of m v c step call flip event).what.call ≡ Some call
 keeps_call m v c step call flip event p r of =
     let f = call_in (with_call v c step call).kept in
     ap (λ (b : Bool). if b then f c (caller_at v.terminal c).next else None) of
     ∙ ap (λ (k : ℕ). f c k) (sym r.next)
     ∙ known_call v c step call p r
 
-is_of : (m : ℕ) (v : PortValue) (c step : ℕ) (call : PlainCall) (flip : TakerState Flagged) (event : PlainEvent) → IsPort v → IsReady v c step call → is_of_call event ≡ true → IsOf c step call event (entry_of m v c step call flip event)
-is_of m v c step call flip event p r of = record { seat = refl; who = refl; at_step = sym r.next; happened = refl; keeps = keeps_call m v c step call flip event p r of }
+is_of : (m : ℕ) (v : PortValue) (c step : ℕ) (call : PlainCall) (flip : TakerState Flagged) (event : PlainEvent)
+    → IsPort v
+    → IsReady v c step call
+    → is_of_call event ≡ true
+    → IsOf c step call event (entry_of m v c step call flip event)
+is_of m v c step call flip event p r of = record {
+  seat = refl;
+  who = refl;
+  at_step = sym r.next;
+  happened = refl;
+  keeps = keeps_call m v c step call flip event p r of;
+}
 
-told_last : (c step : ℕ) (call : PlainCall) (xs : List (Stamped EntryWithCall)) (x : Stamped EntryWithCall) → IsOfStep c step call x → IsTold c step call (xs ++ x ∷ [])
+told_last : (c step : ℕ) (call : PlainCall) (xs : List (Stamped EntryWithCall)) (x : Stamped EntryWithCall)
+    → IsOfStep c step call x
+    → IsTold c step call (xs ++ x ∷ [])
 told_last c step call [] x h = inl h
 told_last c step call (y ∷ ys) x h = inr (told_last c step call ys x h)
 
-is_told : (m : ℕ) (v : PortValue) (c step : ℕ) (call : PlainCall) (flip : TakerState Flagged) (event : PlainEvent) → IsPort v → IsReady v c step call → is_of_call event ≡ true → IsTold c step call (history_in m v ++ entry_of m v c step call flip event ∷ [])
+is_told : (m : ℕ) (v : PortValue) (c step : ℕ) (call : PlainCall) (flip : TakerState Flagged) (event : PlainEvent)
+    → IsPort v
+    → IsReady v c step call
+    → is_of_call event ≡ true
+    → IsTold c step call (history_in m v ++ entry_of m v c step call flip event ∷ [])
 is_told m v c step call flip event p r of =
     told_last c step call (history_in m v) (entry_of m v c step call flip event)
     (record { who = refl; at_step = sym r.next; of_call = of; keeps = keeps_call m v c step call flip event p r of })
 
 -- where the caller stands after its entry
-stands : (m : ℕ) (v : PortValue) (c step : ℕ) (call : PlainCall) (flip : TakerState Flagged) (event : PlainEvent) → standing_at c (history_in m v ++ entry_of m v c step call flip event ∷ []) ≡ standing_after_own event v.terminal.generation (standing_at c (history_in m v))
+stands : (m : ℕ) (v : PortValue) (c step : ℕ) (call : PlainCall) (flip : TakerState Flagged) (event : PlainEvent)
+    → standing_at c (history_in m v ++ entry_of m v c step call flip event ∷ [])
+    ≡ standing_after_own event v.terminal.generation (standing_at c (history_in m v))
 stands m v c step call flip event =
     standing_append c (history_in m v) (entry_of m v c step call flip event ∷ [])
-    ∙ own_standing c (standing_after_own event v.terminal.generation (standing_at c (history_in m v))) (standing_after_other event (standing_at c (history_in m v)))
+    ∙ own_standing c (standing_after_own event v.terminal.generation (standing_at c (history_in m v)))
+    (standing_after_other event (standing_at c (history_in m v)))
 
 -- the generation of a write's parts, where the first of them may be of now
-part_generation : (parts own now : ℕ) → (nat_lt 0 parts ≡ true → own ≡ now) → (b : Bool) → (parts == 0) ≡ b → (if b then now else own) ≡ now
+part_generation : (parts own now : ℕ)
+    → (nat_lt 0 parts ≡ true → own ≡ now)
+    → (b : Bool)
+    → (parts == 0) ≡ b
+    → (if b then now else own) ≡ now
 part_generation parts own now h true e = refl
 part_generation zero own now h false e = absurd (false≢true (sym e))
 part_generation (suc parts) own now h false e = h (grind (arith, nat_tests))
 
 -- ---- what an attempt comes to
 
-done : (m : ℕ) (old new : PortValue) (c step : ℕ) (call : PlainCall) (a : PlainAnswer) → IsPort old → IsReady old c step call → IsUnderWay c step call (generation_of (history_in m old)) (history_in m old) → Attempts old new c step call (done_by a) → Tries c step call (history_in m old) (history_in m new) (done_by a)
+done : (m : ℕ) (old new : PortValue) (c step : ℕ) (call : PlainCall) (a : PlainAnswer)
+    → IsPort old
+    → IsReady old c step call
+    → IsUnderWay c step call (generation_of (history_in m old)) (history_in m old)
+    → Attempts old new c step call (done_by a)
+    → Tries c step call (history_in m old) (history_in m new) (done_by a)
 done m old new c step call a p r u h =
     let flip = new.flip in
     let event = answered a h.dropped in
     let x = entry_of m old c step call flip event in
     let st = stands m old c step call flip event in
     let goal : Tries c step call (history_in m old) (history_in m old ++ x ∷ []) (done_by a) = (
-      record { entry = x; added = refl; generation = sym (port_generation m old p); is = (h.dropped, is_of m old c step call flip event p r refl) },
-      record { next = ap (λ (s : Standing). s.next) st ∙ ap (λ (n : ℕ). n + 1) u.next; not_over = ap (λ (s : Standing). s.over) st ∙ u.not_over; not_begun = ap (λ (s : Standing). s.begun) st },
+      record {
+        entry = x;
+        added = refl;
+        generation = sym (port_generation m old p);
+        is = (h.dropped, is_of m old c step call flip event p r refl);
+      },
+      record {
+        next = ap (λ (s : Standing). s.next) st ∙ ap (λ (n : ℕ). n + 1) u.next;
+        not_over = ap (λ (s : Standing). s.over) st ∙ u.not_over;
+        not_begun = ap (λ (s : Standing). s.begun) st;
+      },
     ) in
-    subst (λ (xs : List (Stamped EntryWithCall)). Tries c step call (history_in m old) xs (done_by a)) (sym (ap (history_in m) h.appends.appended ∙ adds_to m old c step call flip event p)) goal
+    subst (λ (xs : List (Stamped EntryWithCall)). Tries c step call (history_in m old) xs (done_by a))
+    (sym (ap (history_in m) h.appends.appended ∙ adds_to m old c step call flip event p)) goal
 
-took : (m : ℕ) (old new : PortValue) (c step : ℕ) (call : PlainCall) → IsPort old → IsReady old c step call → IsUnderWay c step call (generation_of (history_in m old)) (history_in m old) → Attempts old new c step call took_part → Tries c step call (history_in m old) (history_in m new) took_part
+took : (m : ℕ) (old new : PortValue) (c step : ℕ) (call : PlainCall)
+    → IsPort old
+    → IsReady old c step call
+    → IsUnderWay c step call (generation_of (history_in m old)) (history_in m old)
+    → Attempts old new c step call took_part
+    → Tries c step call (history_in m old) (history_in m new) took_part
 took m old new c step call p r u h =
     let flip = old.flip in
     let event = parted h.count in
@@ -130,39 +201,70 @@ took m old new c step call p r u h =
     let s = standing_at c (history_in m old) in
     let of = port_stands m old p c in
     let f = call_in (with_call old c step call).kept in
-    let own = ((outcome_keeps old.terminal (caller_at old.terminal c) (f c (caller_at old.terminal c).next)).part h.count h.appends.allowed.1.takes).own in
-    let own_now : nat_lt 0 s.parts ≡ true → s.generation ≡ old.terminal.generation = λ lt. sym (ap (λ (k : Standing). k.generation) of) ∙ own (ap (λ (k : Standing). nat_lt 0 k.parts) of ∙ lt) in
+    let own = ((outcome_keeps old.terminal (caller_at old.terminal c) (f c (caller_at old.terminal c).next)).part
+    h.count h.appends.allowed.1.takes).own in
+    let own_now : nat_lt 0 s.parts ≡ true → s.generation ≡ old.terminal.generation = λ lt.
+    sym (ap (λ (k : Standing). k.generation) of) ∙ own (ap (λ (k : Standing). nat_lt 0 k.parts) of ∙ lt) in
     let goal : Tries c step call (history_in m old) (history_in m old ++ x ∷ []) took_part = (
-      record { entry = x; added = refl; generation = sym (port_generation m old p); is = (h.count, is_of m old c step call flip event p r refl) },
+      record {
+        entry = x;
+        added = refl;
+        generation = sym (port_generation m old p);
+        is = (h.count, is_of m old c step call flip event p r refl);
+      },
       record {
         next = ap (λ (k : Standing). k.next) st ∙ u.next;
         not_over = ap (λ (k : Standing). k.over) st ∙ u.not_over;
         same = λ begun. is_told m old c step call flip event p r refl;
-        one = λ begun waits parts. ap (λ (k : Standing). k.generation) st ∙ part_generation s.parts s.generation old.terminal.generation own_now (s.parts == 0) refl ∙ sym (port_generation m old p);
+        one = λ begun waits parts.
+            ap (λ (k : Standing). k.generation) st
+            ∙ part_generation s.parts s.generation old.terminal.generation own_now (s.parts == 0) refl
+            ∙ sym (port_generation m old p);
       },
       ap (λ (k : Standing). k.waits) st,
     ) in
-    subst (λ (xs : List (Stamped EntryWithCall)). Tries c step call (history_in m old) xs took_part) (sym (ap (history_in m) h.appends.appended ∙ adds_to m old c step call flip event p)) goal
+    subst (λ (xs : List (Stamped EntryWithCall)). Tries c step call (history_in m old) xs took_part)
+    (sym (ap (history_in m) h.appends.appended ∙ adds_to m old c step call flip event p)) goal
 
 -- it waits already
-still : (m : ℕ) (old new : PortValue) (c step : ℕ) (call : PlainCall) → IsPort old → IsUnderWay c step call (generation_of (history_in m old)) (history_in m old) → is_some (caller_at old.terminal c).waits ≡ true → new ≡ old → Tries c step call (history_in m old) (history_in m new) must_wait
+still : (m : ℕ) (old new : PortValue) (c step : ℕ) (call : PlainCall)
+    → IsPort old
+    → IsUnderWay c step call (generation_of (history_in m old)) (history_in m old)
+    → is_some (caller_at old.terminal c).waits ≡ true
+    → new ≡ old
+    → Tries c step call (history_in m old) (history_in m new) must_wait
 still m old new c step call p u waits same =
     let xs = history_in m old in
     let st = port_stands m old p c in
     let goal : Tries c step call xs xs must_wait = (
       inl (refl, sym (ap (λ (s : Standing). s.waits) st) ∙ waits),
-      λ g. record { next = u.next; not_over = u.not_over; same = u.same; one = λ begun not parts. absurd (false≢true (sym not ∙ (sym (ap (λ (s : Standing). s.waits) st) ∙ waits))) },
+      λ g. record {
+        next = u.next;
+        not_over = u.not_over;
+        same = u.same;
+        one = λ begun not parts. absurd (false≢true (sym not ∙ (sym (ap (λ (s : Standing). s.waits) st) ∙ waits)));
+      },
     ) in
     subst (λ (ys : List (Stamped EntryWithCall)). Tries c step call xs ys must_wait) (sym (ap (history_in m) same)) goal
 
 -- it waits from now on
-begins : (m : ℕ) (old new : PortValue) (c step : ℕ) (call : PlainCall) → IsPort old → IsReady old c step call → IsUnderWay c step call (generation_of (history_in m old)) (history_in m old) → Appends (with_call old c step call) new old.flip (caller_entry old c waited) → Tries c step call (history_in m old) (history_in m new) must_wait
+begins : (m : ℕ) (old new : PortValue) (c step : ℕ) (call : PlainCall)
+    → IsPort old
+    → IsReady old c step call
+    → IsUnderWay c step call (generation_of (history_in m old)) (history_in m old)
+    → Appends (with_call old c step call) new old.flip (caller_entry old c waited)
+    → Tries c step call (history_in m old) (history_in m new) must_wait
 begins m old new c step call p r u h =
     let flip = old.flip in
     let x = entry_of m old c step call flip waited in
     let st = stands m old c step call flip waited in
     let goal : Tries c step call (history_in m old) (history_in m old ++ x ∷ []) must_wait = (
-      inr (record { entry = x; added = refl; generation = sym (port_generation m old p); is = is_of m old c step call flip waited p r refl }),
+      inr (record {
+        entry = x;
+        added = refl;
+        generation = sym (port_generation m old p);
+        is = is_of m old c step call flip waited p r refl;
+      }),
       λ g. record {
         next = ap (λ (k : Standing). k.next) st ∙ u.next;
         not_over = ap (λ (k : Standing). k.over) st ∙ u.not_over;
@@ -170,41 +272,78 @@ begins m old new c step call p r u h =
         one = λ begun not parts. absurd (false≢true (sym not ∙ ap (λ (k : Standing). k.waits) st));
       },
     ) in
-    subst (λ (xs : List (Stamped EntryWithCall)). Tries c step call (history_in m old) xs must_wait) (sym (ap (history_in m) h.appended ∙ adds_to m old c step call flip waited p)) goal
+    subst (λ (xs : List (Stamped EntryWithCall)). Tries c step call (history_in m old) xs must_wait)
+    (sym (ap (history_in m) h.appended ∙ adds_to m old c step call flip waited p)) goal
 
-waiting : (m : ℕ) (old new : PortValue) (c step : ℕ) (call : PlainCall) → IsPort old → IsReady old c step call → IsUnderWay c step call (generation_of (history_in m old)) (history_in m old) → (b : Bool) → is_some (caller_at old.terminal c).waits ≡ b → MatchBool b ((new ≡ old) × (quiet old.counts old.terminal ≡ false)) (Appends (with_call old c step call) new old.flip (caller_entry old c waited)) → Tries c step call (history_in m old) (history_in m new) must_wait
+waiting : (m : ℕ) (old new : PortValue) (c step : ℕ) (call : PlainCall)
+    → IsPort old
+    → IsReady old c step call
+    → IsUnderWay c step call (generation_of (history_in m old)) (history_in m old)
+    → (b : Bool)
+    → is_some (caller_at old.terminal c).waits ≡ b
+    → MatchBool b ((new ≡ old) × (quiet old.counts old.terminal ≡ false))
+    (Appends (with_call old c step call) new old.flip (caller_entry old c waited))
+    → Tries c step call (history_in m old) (history_in m new) must_wait
 waiting m old new c step call p r u true e h = still m old new c step call p u e h.0
 waiting m old new c step call p r u false e h = begins m old new c step call p r u h
 
-pub tries : (m : ℕ) (old new : PortValue) (c step : ℕ) (call : PlainCall) (x : PlainTried) → IsPort old → IsReady old c step call → IsUnderWay c step call (generation_of (history_in m old)) (history_in m old) → Attempts old new c step call x → Tries c step call (history_in m old) (history_in m new) x
+pub tries : (m : ℕ) (old new : PortValue) (c step : ℕ) (call : PlainCall) (x : PlainTried)
+    → IsPort old
+    → IsReady old c step call
+    → IsUnderWay c step call (generation_of (history_in m old)) (history_in m old)
+    → Attempts old new c step call x
+    → Tries c step call (history_in m old) (history_in m new) x
 tries m old new c step call (done_by a) p r u h = done m old new c step call a p r u h
 tries m old new c step call took_part p r u h = took m old new c step call p r u h
-tries m old new c step call must_wait p r u h = waiting m old new c step call p r u (is_some (caller_at old.terminal c).waits) refl h.waits
+tries m old new c step call must_wait p r u h =
+    waiting m old new c step call p r u (is_some (caller_at old.terminal c).waits) refl h.waits
 
 -- what an attempt leaves of the name
-answer_named : (m : ℕ) (old new : PortValue) (c step : ℕ) (call : PlainCall) (flip : TakerState Flagged) (event : PlainEvent) → Appends (with_call old c step call) new flip (caller_entry old c event) → flip.ring ≡ old.flip.ring → flip.capacity ≡ old.flip.capacity → name_in m new ≡ name_in m old
+answer_named : (m : ℕ) (old new : PortValue) (c step : ℕ) (call : PlainCall) (flip : TakerState Flagged)
+    (event : PlainEvent)
+    → Appends (with_call old c step call) new flip (caller_entry old c event)
+    → flip.ring ≡ old.flip.ring
+    → flip.capacity ≡ old.flip.capacity
+    → name_in m new ≡ name_in m old
 answer_named m old new c step call flip event h ring capacity =
-    ap (name_in m) h.appended ∙ (λ i. record { counts = old.counts; limit = old.limit; callers = m; ring = ring i; capacity = capacity i })
+    ap (name_in m) h.appended
+    ∙ (λ i. record { counts = old.counts; limit = old.limit; callers = m; ring = ring i; capacity = capacity i })
 
-drops_named : (t : Terminal) (b : Bool) (f g : TakerState Flagged) (dropped : List Flagged) → MatchBool b (DropsShown t f g dropped) ((dropped ≡ []) × (g ≡ f)) → (g.ring ≡ f.ring) × (g.capacity ≡ f.capacity)
+drops_named : (t : Terminal) (b : Bool) (f g : TakerState Flagged) (dropped : List Flagged)
+    → MatchBool b (DropsShown t f g dropped) ((dropped ≡ []) × (g ≡ f))
+    → (g.ring ≡ f.ring) × (g.capacity ≡ f.capacity)
 drops_named t true f g dropped h = (h.takes_out.ring, h.takes_out.capacity)
-drops_named t false f g dropped h = (ap (λ (x : TakerState Flagged). x.ring) h.1, ap (λ (x : TakerState Flagged). x.capacity) h.1)
+drops_named t false f g dropped h =
+    (ap (λ (x : TakerState Flagged). x.ring) h.1, ap (λ (x : TakerState Flagged). x.capacity) h.1)
 
-waits_named : (m : ℕ) (old new : PortValue) (c step : ℕ) (call : PlainCall) (b : Bool) → MatchBool b ((new ≡ old) × (quiet old.counts old.terminal ≡ false)) (Appends (with_call old c step call) new old.flip (caller_entry old c waited)) → name_in m new ≡ name_in m old
+waits_named : (m : ℕ) (old new : PortValue) (c step : ℕ) (call : PlainCall) (b : Bool)
+    → MatchBool b ((new ≡ old) × (quiet old.counts old.terminal ≡ false))
+    (Appends (with_call old c step call) new old.flip (caller_entry old c waited))
+    → name_in m new ≡ name_in m old
 waits_named m old new c step call true h = ap (name_in m) h.0
 waits_named m old new c step call false h = answer_named m old new c step call old.flip waited h refl refl
 
-pub tries_name : (m : ℕ) (old new : PortValue) (c step : ℕ) (call : PlainCall) (x : PlainTried) → Attempts old new c step call x → name_in m new ≡ name_in m old
+pub tries_name : (m : ℕ) (old new : PortValue) (c step : ℕ) (call : PlainCall) (x : PlainTried)
+    → Attempts old new c step call x
+    → name_in m new ≡ name_in m old
 tries_name m old new c step call (done_by a) h =
-    let same = drops_named old.terminal (drops_of (outcome old.terminal (caller_at old.terminal c) call)) old.flip new.flip h.dropped h.drops in
+    let same = drops_named old.terminal (drops_of (outcome old.terminal (caller_at old.terminal c) call))
+    old.flip new.flip h.dropped h.drops in
     answer_named m old new c step call new.flip (answered a h.dropped) h.appends same.0 same.1
-tries_name m old new c step call took_part h = answer_named m old new c step call old.flip (parted h.count) h.appends refl refl
-tries_name m old new c step call must_wait h = waits_named m old new c step call (is_some (caller_at old.terminal c).waits) h.waits
+tries_name m old new c step call took_part h =
+    answer_named m old new c step call old.flip (parted h.count) h.appends refl refl
+tries_name m old new c step call must_wait h =
+    waits_named m old new c step call (is_some (caller_at old.terminal c).waits) h.waits
 
 -- the generation, as the history tells it
-pub raises_of : (m : ℕ) (changes : Bool) (old new : PortValue) → IsPort old → IsPort new → Raises changes old.terminal.generation new.terminal.generation → Raises changes (generation_of (history_in m old)) (generation_of (history_in m new))
+pub raises_of : (m : ℕ) (changes : Bool) (old new : PortValue)
+    → IsPort old
+    → IsPort new
+    → Raises changes old.terminal.generation new.terminal.generation
+    → Raises changes (generation_of (history_in m old)) (generation_of (history_in m new))
 raises_of m changes old new p q h =
-    subst (λ (k : ℕ). Raises changes (generation_of (history_in m old)) k) (sym (port_generation m new q)) (subst (λ (k : ℕ). Raises changes k new.terminal.generation) (sym (port_generation m old p)) h)
+    subst (λ (k : ℕ). Raises changes (generation_of (history_in m old)) k) (sym (port_generation m new q))
+    (subst (λ (k : ℕ). Raises changes k new.terminal.generation) (sym (port_generation m old p)) h)
 
 -- ---- a denied turn
 
@@ -216,7 +355,12 @@ pub denied_name : (m : ℕ) (d : Denied) (old new : PortValue) → Denies d old 
 denied_name m Full old new h = ap (name_in m) h.1
 denied_name m NoMemory old new h = ap (name_in m) h.1
 
-pub denied_full : (m : ℕ) (d : Denied) (old new : PortValue) → Denies d old new → IsFull (name_in m new) d (history_in m new)
+pub denied_full : (m : ℕ) (d : Denied) (old new : PortValue)
+    → Denies d old new
+    → IsFull (name_in m new) d (history_in m new)
 denied_full m Full old new h =
-    history_length m (call_in new.kept) new.journal new.terminal.generation ∙ ap (λ (v : PortValue). length v.journal) h.1 ∙ h.0 ∙ sym (ap (λ (v : PortValue). v.limit) h.1)
+    history_length m (call_in new.kept) new.journal new.terminal.generation
+    ∙ ap (λ (v : PortValue). length v.journal) h.1
+    ∙ h.0
+    ∙ sym (ap (λ (v : PortValue). v.limit) h.1)
 denied_full m NoMemory old new h = tt

@@ -1,9 +1,12 @@
 -- What the entries of others leave as it is.
-use Rattle.std.proofs.Common.{◌≡◌, ◌≢◌, ◌⊎◌, inl, inr, ℕ, ◌+◌, ◌<◌, ◌≤◌, List, [], ◌∷◌, ◌++◌, Bool, true, false, IsTrue, ◌&&◌, ◌==◌, if◌then◌else◌, Option, None, Some, length, refl, sym, ◌∙◌, ap, subst, arith, ne_eqb}
+use Rattle.std.proofs.Common.{◌≡◌, ◌≢◌, ◌⊎◌, inl, inr, ℕ, ◌+◌, ◌<◌, ◌≤◌, List, [], ◌∷◌, ◌++◌}
+use Rattle.std.proofs.Common.{Bool, true, false, IsTrue, ◌&&◌, ◌==◌, if◌then◌else◌, Option}
+use Rattle.std.proofs.Common.{None, Some, length, refl, sym, ◌∙◌, ap, subst, arith, ne_eqb}
 use Rattle.std.proofs.lemmas.Bool.{and_parts, eqb-true, false≢true}
 use Rattle.tty_calls.specs.declared.journals.Who.{Who}
 use Rattle.tty_calls.specs.declared.journals.Who.TheVariants.{Caller, Flusher, Line, Clock, Session}
-use Rattle.tty_calls.specs.Plain.{PlainCall, PlainEvent, answered, parted, waited, flushed, ticked, line_ended, clock_ended, caller_ended, phase_ended, hung_up, PlainEntry, is_caller}
+use Rattle.tty_calls.specs.Plain.{PlainCall, PlainEvent, answered, parted, waited, flushed, ticked, line_ended}
+use Rattle.tty_calls.specs.Plain.{clock_ended, caller_ended, phase_ended, hung_up, PlainEntry, is_caller}
 use Rattle.tty_terminal.specs.declared.callers.Piece.{Piece}
 use Rattle.tty_terminal.specs.Steps.{follows}
 use Rattle.tty_terminal.specs.Runs.{is_flush, RunHas}
@@ -49,40 +52,76 @@ pub when_false : {A : Type 0} (b : Bool) (x y : A) → b ≡ false → (if b the
 when_false true x y e = absurd (false≢true (sym e))
 when_false false x y e = refl
 
-entry_leaves : (c : ℕ) (e : PlainEntry) (s : Standing) → is_caller e.who c ≡ false → s.over ≡ false → standing_after c e s ≡ s
-entry_leaves c e s other over = when_false (is_caller e.who c) (standing_after_own e.event e.generation s) (standing_after_other e.event s) other ∙ other_leaves e.event s over
+entry_leaves : (c : ℕ) (e : PlainEntry) (s : Standing)
+    → is_caller e.who c ≡ false
+    → s.over ≡ false
+    → standing_after c e s ≡ s
+entry_leaves c e s other over =
+    when_false (is_caller e.who c) (standing_after_own e.event e.generation s) (standing_after_other e.event s) other
+    ∙ other_leaves e.event s over
 
-others_leave : (m n c : ℕ) (xs : List (Stamped EntryWithCall)) (s : Standing) → ArePlaced m n xs → Each (λ k. k ≢ c) xs → s.over ≡ false → standing_in c (entries_in xs) s ≡ s
+others_leave : (m n c : ℕ) (xs : List (Stamped EntryWithCall)) (s : Standing)
+    → ArePlaced m n xs
+    → Each (λ k. k ≢ c) xs
+    → s.over ≡ false
+    → standing_in c (entries_in xs) s ≡ s
 others_leave m n c [] s placed others over = refl
 others_leave m n c (x ∷ xs) s placed others over =
     let by = not_caller m c x.what.entry.who (λ e. others.0 (placed.0.seat ∙ e)) in
-    ap (λ (k : Standing). standing_in c (entries_in xs) k) (entry_leaves c x.what.entry s by over) ∙ others_leave m n c xs s placed.1 others.1 over
+    ap (λ (k : Standing). standing_in c (entries_in xs) k) (entry_leaves c x.what.entry s by over)
+    ∙ others_leave m n c xs s placed.1 others.1 over
 
-pub standing_kept : (m n c : ℕ) (xs ys : List (Stamped EntryWithCall)) → ArePlaced m n ys → Keeps c xs ys → (standing_at c xs).over ≡ false → standing_at c ys ≡ standing_at c xs
+pub standing_kept : (m n c : ℕ) (xs ys : List (Stamped EntryWithCall))
+    → ArePlaced m n ys
+    → Keeps c xs ys
+    → (standing_at c xs).over ≡ false
+    → standing_at c ys ≡ standing_at c xs
 standing_kept m n c xs ys placed h over =
-    ap (standing_at c) h.1 ∙ standing_append c xs h.0 ∙ others_leave m n c h.0 (standing_at c xs) (placed_right m n xs h.0 (subst (ArePlaced m n) h.1 placed)) h.2 over
+    ap (standing_at c) h.1
+    ∙ standing_append c xs h.0
+    ∙ others_leave m n c h.0 (standing_at c xs) (placed_right m n xs h.0 (subst (ArePlaced m n) h.1 placed)) h.2 over
 
-pub told_more : (c step : ℕ) (call : PlainCall) (xs ys : List (Stamped EntryWithCall)) → IsTold c step call xs → IsTold c step call (xs ++ ys)
+pub told_more : (c step : ℕ) (call : PlainCall) (xs ys : List (Stamped EntryWithCall))
+    → IsTold c step call xs
+    → IsTold c step call (xs ++ ys)
 told_more c step call [] ys h = absurd h
 told_more c step call (x ∷ xs) ys (inl h) = inl h
 told_more c step call (x ∷ xs) ys (inr h) = inr (told_more c step call xs ys h)
 
-pub told_kept : (c k step : ℕ) (call : PlainCall) (xs ys : List (Stamped EntryWithCall)) → Keeps k xs ys → IsTold c step call xs → IsTold c step call ys
+pub told_kept : (c k step : ℕ) (call : PlainCall) (xs ys : List (Stamped EntryWithCall))
+    → Keeps k xs ys
+    → IsTold c step call xs
+    → IsTold c step call ys
 told_kept c k step call xs ys h told = subst (IsTold c step call) (sym h.1) (told_more c step call xs h.0 told)
 
-pub between_kept : (m n c step : ℕ) (xs ys : List (Stamped EntryWithCall)) → ArePlaced m n ys → Keeps c xs ys → IsBetween c step xs → IsBetween c step ys
+pub between_kept : (m n c step : ℕ) (xs ys : List (Stamped EntryWithCall))
+    → ArePlaced m n ys
+    → Keeps c xs ys
+    → IsBetween c step xs
+    → IsBetween c step ys
 between_kept m n c step xs ys placed h b =
     let same = standing_kept m n c xs ys placed h b.not_over in
-    record { next = ap (λ (s : Standing). s.next) same ∙ b.next; not_over = ap (λ (s : Standing). s.over) same ∙ b.not_over; not_begun = ap (λ (s : Standing). s.begun) same ∙ b.not_begun }
+    record {
+      next = ap (λ (s : Standing). s.next) same ∙ b.next;
+      not_over = ap (λ (s : Standing). s.over) same ∙ b.not_over;
+      not_begun = ap (λ (s : Standing). s.begun) same ∙ b.not_begun;
+    }
 
-pub under_way_kept : (m n c step : ℕ) (call : PlainCall) (generation : ℕ) (xs ys : List (Stamped EntryWithCall)) → ArePlaced m n ys → Keeps c xs ys → IsUnderWay c step call generation xs → IsUnderWay c step call generation ys
+pub under_way_kept : (m n c step : ℕ) (call : PlainCall) (generation : ℕ) (xs ys : List (Stamped EntryWithCall))
+    → ArePlaced m n ys
+    → Keeps c xs ys
+    → IsUnderWay c step call generation xs
+    → IsUnderWay c step call generation ys
 under_way_kept m n c step call generation xs ys placed h u =
     let same = standing_kept m n c xs ys placed h u.not_over in
     record {
       next = ap (λ (s : Standing). s.next) same ∙ u.next;
       not_over = ap (λ (s : Standing). s.over) same ∙ u.not_over;
       same = λ begun. told_kept c c step call xs ys h (u.same (sym (ap (λ (s : Standing). s.begun) same) ∙ begun));
-      one = λ begun waits parts. ap (λ (s : Standing). s.generation) same ∙ u.one (sym (ap (λ (s : Standing). s.begun) same) ∙ begun) (sym (ap (λ (s : Standing). s.waits) same) ∙ waits) (subst (λ (s : Standing). 0 < s.parts) same parts);
+      one = λ begun waits parts.
+          ap (λ (s : Standing). s.generation) same
+          ∙ u.one (sym (ap (λ (s : Standing). s.begun) same) ∙ begun)
+          (sym (ap (λ (s : Standing). s.waits) same) ∙ waits) (subst (λ (s : Standing). 0 < s.parts) same parts);
     }
 
 -- ---- line, clock and flush runs
@@ -91,7 +130,10 @@ under_way_kept m n c step call generation xs ys placed h u =
 pub by_another : (m k : ℕ) (who maker : Who) → seat_of m maker ≡ k → who ≡ maker → seat_of m who ≢ k → ⊥
 by_another m k who maker seat is other = other (ap (seat_of m) is ∙ seat)
 
-flush_leaves : (m n : ℕ) (f : ℕ → ℕ → Option PlainCall) (who : Who) (step part : ℕ) (event : PlainEvent) (k : Marks) → IsByItsMaker f n who step event → seat_of m who ≢ m → (marks_after event step part k).latest ≡ k.latest
+flush_leaves : (m n : ℕ) (f : ℕ → ℕ → Option PlainCall) (who : Who) (step part : ℕ) (event : PlainEvent) (k : Marks)
+    → IsByItsMaker f n who step event
+    → seat_of m who ≢ m
+    → (marks_after event step part k).latest ≡ k.latest
 flush_leaves m n f who step part (answered a dropped) k by other = refl
 flush_leaves m n f who step part (parted i) k by other = refl
 flush_leaves m n f who step part waited k by other = refl
@@ -103,17 +145,29 @@ flush_leaves m n f who step part caller_ended k by other = refl
 flush_leaves m n f who step part phase_ended k by other = refl
 flush_leaves m n f who step part (hung_up dropped) k by other = refl
 
-flushes_leave : (m n : ℕ) (xs : List (Stamped EntryWithCall)) (k : Marks) → ArePlaced m n xs → Each (λ i. i ≢ m) xs → (marks_in (entries_in xs) k).latest ≡ k.latest
+flushes_leave : (m n : ℕ) (xs : List (Stamped EntryWithCall)) (k : Marks)
+    → ArePlaced m n xs
+    → Each (λ i. i ≢ m) xs
+    → (marks_in (entries_in xs) k).latest ≡ k.latest
 flushes_leave m n [] k placed others = refl
 flushes_leave m n (x ∷ xs) k placed others =
     flushes_leave m n xs (marks_after x.what.entry.event x.what.entry.step x.what.entry.part k) placed.1 others.1
-    ∙ flush_leaves m n (λ (c s : ℕ). x.what.call) x.what.entry.who x.what.entry.step x.what.entry.part x.what.entry.event k placed.0.maker (λ e. others.0 (placed.0.seat ∙ e))
+    ∙ flush_leaves m n (λ (c s : ℕ). x.what.call) x.what.entry.who x.what.entry.step x.what.entry.part
+    x.what.entry.event k placed.0.maker (λ e. others.0 (placed.0.seat ∙ e))
 
-pub latest_kept : (m n : ℕ) (xs ys : List (Stamped EntryWithCall)) → ArePlaced m n ys → Keeps m xs ys → (marks_at ys).latest ≡ (marks_at xs).latest
+pub latest_kept : (m n : ℕ) (xs ys : List (Stamped EntryWithCall))
+    → ArePlaced m n ys
+    → Keeps m xs ys
+    → (marks_at ys).latest ≡ (marks_at xs).latest
 latest_kept m n xs ys placed h =
-    ap (λ (k : Marks). k.latest) (ap marks_at h.1 ∙ marks_append xs h.0) ∙ flushes_leave m n h.0 (marks_at xs) (placed_right m n xs h.0 (subst (ArePlaced m n) h.1 placed)) h.2
+    ap (λ (k : Marks). k.latest) (ap marks_at h.1 ∙ marks_append xs h.0)
+    ∙ flushes_leave m n h.0 (marks_at xs) (placed_right m n xs h.0 (subst (ArePlaced m n) h.1 placed)) h.2
 
-not_flush : (m n : ℕ) (f : ℕ → ℕ → Option PlainCall) (who : Who) (step : ℕ) (event : PlainEvent) → IsByItsMaker f n who step event → seat_of m who ≢ m → is_flush event ≡ true → ⊥
+not_flush : (m n : ℕ) (f : ℕ → ℕ → Option PlainCall) (who : Who) (step : ℕ) (event : PlainEvent)
+    → IsByItsMaker f n who step event
+    → seat_of m who ≢ m
+    → is_flush event ≡ true
+    → ⊥
 not_flush m n f who step (answered a dropped) by other e = false≢true e
 not_flush m n f who step (parted i) by other e = false≢true e
 not_flush m n f who step waited by other e = false≢true e
@@ -125,27 +179,46 @@ not_flush m n f who step caller_ended by other e = false≢true e
 not_flush m n f who step phase_ended by other e = false≢true e
 not_flush m n f who step (hung_up dropped) by other e = false≢true e
 
-run_others : (m n run generation : ℕ) (xs : List (Stamped EntryWithCall)) → ArePlaced m n xs → Each (λ i. i ≢ m) xs → RunHas run generation (entries_in xs)
+run_others : (m n run generation : ℕ) (xs : List (Stamped EntryWithCall))
+    → ArePlaced m n xs
+    → Each (λ i. i ≢ m) xs
+    → RunHas run generation (entries_in xs)
 run_others m n run generation [] placed others = tt
 run_others m n run generation (x ∷ xs) placed others = (
-  λ is. absurd (not_flush m n (λ (c s : ℕ). x.what.call) x.what.entry.who x.what.entry.step x.what.entry.event placed.0.maker (λ e. others.0 (placed.0.seat ∙ e)) (and_parts (is_flush x.what.entry.event) (x.what.entry.step == run) is).0),
+  λ is. absurd (not_flush m n (λ (c s : ℕ). x.what.call) x.what.entry.who x.what.entry.step x.what.entry.event
+      placed.0.maker (λ e. others.0 (placed.0.seat ∙ e))
+      (and_parts (is_flush x.what.entry.event) (x.what.entry.step == run) is).0),
   run_others m n run generation xs placed.1 others.1,
 )
 
-pub run_append : (run generation : ℕ) (es fs : List PlainEntry) → RunHas run generation es → RunHas run generation fs → RunHas run generation (es ++ fs)
+pub run_append : (run generation : ℕ) (es fs : List PlainEntry)
+    → RunHas run generation es
+    → RunHas run generation fs
+    → RunHas run generation (es ++ fs)
 run_append run generation [] fs h k = k
 run_append run generation (e ∷ es) fs h k = (h.0, run_append run generation es fs h.1 k)
 
-pub goes_on_kept : (m n run part generation : ℕ) (xs ys : List (Stamped EntryWithCall)) → ArePlaced m n ys → Keeps m xs ys → GoesOnAt run part generation xs → GoesOnAt run part generation ys
+pub goes_on_kept : (m n run part generation : ℕ) (xs ys : List (Stamped EntryWithCall))
+    → ArePlaced m n ys
+    → Keeps m xs ys
+    → GoesOnAt run part generation xs
+    → GoesOnAt run part generation ys
 goes_on_kept m n run part generation xs ys placed h g =
     let rest = placed_right m n xs h.0 (subst (ArePlaced m n) h.1 placed) in
-    let more = λ (lt : 0 < part). run_append run generation (entries_in xs) (entries_in h.0) (g.one lt) (run_others m n run generation h.0 rest h.2) in
+    let more = λ (lt : 0 < part). run_append run generation (entries_in xs) (entries_in h.0) (g.one lt)
+    (run_others m n run generation h.0 rest h.2) in
     record {
-      numbered = subst (λ (p : Option Piece). IsTrue (follows p run part)) (sym (latest_kept m n xs ys placed h)) g.numbered;
-      one = λ lt. subst (λ (zs : List (Stamped EntryWithCall)). RunHas run generation (entries_in zs)) (sym h.1) (subst (RunHas run generation) (sym (entries_append xs h.0)) (more lt));
+      numbered =
+          subst (λ (p : Option Piece). IsTrue (follows p run part)) (sym (latest_kept m n xs ys placed h)) g.numbered;
+      one = λ lt. subst (λ (zs : List (Stamped EntryWithCall)). RunHas run generation (entries_in zs)) (sym h.1)
+          (subst (RunHas run generation) (sym (entries_append xs h.0)) (more lt));
     }
 
-clock_stays : (m n : ℕ) (f : ℕ → ℕ → Option PlainCall) (who : Who) (step part : ℕ) (event : PlainEvent) (k : Marks) → IsByItsMaker f n who step event → seat_of m who ≢ m + 2 → k.clock_over ≡ false → (marks_after event step part k).clock_over ≡ false
+clock_stays : (m n : ℕ) (f : ℕ → ℕ → Option PlainCall) (who : Who) (step part : ℕ) (event : PlainEvent) (k : Marks)
+    → IsByItsMaker f n who step event
+    → seat_of m who ≢ m + 2
+    → k.clock_over ≡ false
+    → (marks_after event step part k).clock_over ≡ false
 clock_stays m n f who step part (answered a dropped) k by other e = e
 clock_stays m n f who step part (parted i) k by other e = e
 clock_stays m n f who step part waited k by other e = e
@@ -157,22 +230,37 @@ clock_stays m n f who step part caller_ended k by other e = e
 clock_stays m n f who step part phase_ended k by other e = refl
 clock_stays m n f who step part (hung_up dropped) k by other e = e
 
-clocks_stay : (m n : ℕ) (xs : List (Stamped EntryWithCall)) (k : Marks) → ArePlaced m n xs → Each (λ i. i ≢ m + 2) xs → k.clock_over ≡ false → (marks_in (entries_in xs) k).clock_over ≡ false
+clocks_stay : (m n : ℕ) (xs : List (Stamped EntryWithCall)) (k : Marks)
+    → ArePlaced m n xs
+    → Each (λ i. i ≢ m + 2) xs
+    → k.clock_over ≡ false
+    → (marks_in (entries_in xs) k).clock_over ≡ false
 clocks_stay m n [] k placed others e = e
 clocks_stay m n (x ∷ xs) k placed others e =
     clocks_stay m n xs (marks_after x.what.entry.event x.what.entry.step x.what.entry.part k) placed.1 others.1
-    (clock_stays m n (λ (c s : ℕ). x.what.call) x.what.entry.who x.what.entry.step x.what.entry.part x.what.entry.event k placed.0.maker (λ i. others.0 (placed.0.seat ∙ i)) e)
+    (clock_stays m n (λ (c s : ℕ). x.what.call) x.what.entry.who x.what.entry.step x.what.entry.part x.what.entry.event
+    k placed.0.maker (λ i. others.0 (placed.0.seat ∙ i)) e)
 
-pub clock_kept : (m n : ℕ) (xs ys : List (Stamped EntryWithCall)) → ArePlaced m n ys → Keeps (m + 2) xs ys → (marks_at xs).clock_over ≡ false → (marks_at ys).clock_over ≡ false
+pub clock_kept : (m n : ℕ) (xs ys : List (Stamped EntryWithCall))
+    → ArePlaced m n ys
+    → Keeps (m + 2) xs ys
+    → (marks_at xs).clock_over ≡ false
+    → (marks_at ys).clock_over ≡ false
 clock_kept m n xs ys placed h e =
-    ap (λ (k : Marks). k.clock_over) (ap marks_at h.1 ∙ marks_append xs h.0) ∙ clocks_stay m n h.0 (marks_at xs) (placed_right m n xs h.0 (subst (ArePlaced m n) h.1 placed)) h.2 e
+    ap (λ (k : Marks). k.clock_over) (ap marks_at h.1 ∙ marks_append xs h.0)
+    ∙ clocks_stay m n h.0 (marks_at xs) (placed_right m n xs h.0 (subst (ArePlaced m n) h.1 placed)) h.2 e
 
 -- the line of the phase is not over, and the last one sent so many
 record IsOpenLine (sent : ℕ) (k : Marks) : Type 0 where
   not_over : k.line_over ≡ false
   count : k.sent ≡ sent
 
-line_stays : (m n : ℕ) (f : ℕ → ℕ → Option PlainCall) (who : Who) (step part : ℕ) (event : PlainEvent) (sent : ℕ) (k : Marks) → IsByItsMaker f n who step event → seat_of m who ≢ m + 1 → IsOpenLine sent k → IsOpenLine sent (marks_after event step part k)
+line_stays : (m n : ℕ) (f : ℕ → ℕ → Option PlainCall) (who : Who) (step part : ℕ) (event : PlainEvent) (sent : ℕ)
+    (k : Marks)
+    → IsByItsMaker f n who step event
+    → seat_of m who ≢ m + 1
+    → IsOpenLine sent k
+    → IsOpenLine sent (marks_after event step part k)
 line_stays m n f who step part (answered a dropped) sent k by other h = h
 line_stays m n f who step part (parted i) sent k by other h = h
 line_stays m n f who step part waited sent k by other h = h
@@ -184,19 +272,37 @@ line_stays m n f who step part caller_ended sent k by other h = h
 line_stays m n f who step part phase_ended sent k by other h = record { not_over = refl; count = h.count }
 line_stays m n f who step part (hung_up dropped) sent k by other h = h
 
-lines_stay : (m n : ℕ) (xs : List (Stamped EntryWithCall)) (sent : ℕ) (k : Marks) → ArePlaced m n xs → Each (λ i. i ≢ m + 1) xs → IsOpenLine sent k → IsOpenLine sent (marks_in (entries_in xs) k)
+lines_stay : (m n : ℕ) (xs : List (Stamped EntryWithCall)) (sent : ℕ) (k : Marks)
+    → ArePlaced m n xs
+    → Each (λ i. i ≢ m + 1) xs
+    → IsOpenLine sent k
+    → IsOpenLine sent (marks_in (entries_in xs) k)
 lines_stay m n [] sent k placed others h = h
 lines_stay m n (x ∷ xs) sent k placed others h =
     lines_stay m n xs sent (marks_after x.what.entry.event x.what.entry.step x.what.entry.part k) placed.1 others.1
-    (line_stays m n (λ (c s : ℕ). x.what.call) x.what.entry.who x.what.entry.step x.what.entry.part x.what.entry.event sent k placed.0.maker (λ e. others.0 (placed.0.seat ∙ e)) h)
+    (line_stays m n (λ (c s : ℕ). x.what.call) x.what.entry.who x.what.entry.step x.what.entry.part x.what.entry.event
+    sent k placed.0.maker (λ e. others.0 (placed.0.seat ∙ e)) h)
 
-line_kept : (m n : ℕ) (xs ys : List (Stamped EntryWithCall)) → ArePlaced m n ys → Keeps (m + 1) xs ys → (marks_at xs).line_over ≡ false → IsOpenLine (marks_at xs).sent (marks_at ys)
+line_kept : (m n : ℕ) (xs ys : List (Stamped EntryWithCall))
+    → ArePlaced m n ys
+    → Keeps (m + 1) xs ys
+    → (marks_at xs).line_over ≡ false
+    → IsOpenLine (marks_at xs).sent (marks_at ys)
 line_kept m n xs ys placed h e =
     subst (IsOpenLine (marks_at xs).sent) (sym (ap marks_at h.1 ∙ marks_append xs h.0))
-    (lines_stay m n h.0 (marks_at xs).sent (marks_at xs) (placed_right m n xs h.0 (subst (ArePlaced m n) h.1 placed)) h.2 (record { not_over = e; count = refl }))
+    (lines_stay m n h.0 (marks_at xs).sent (marks_at xs) (placed_right m n xs h.0 (subst (ArePlaced m n) h.1 placed))
+    h.2 (record { not_over = e; count = refl }))
 
-pub line_open_kept : (m n : ℕ) (xs ys : List (Stamped EntryWithCall)) → ArePlaced m n ys → Keeps (m + 1) xs ys → (marks_at xs).line_over ≡ false → (marks_at ys).line_over ≡ false
+pub line_open_kept : (m n : ℕ) (xs ys : List (Stamped EntryWithCall))
+    → ArePlaced m n ys
+    → Keeps (m + 1) xs ys
+    → (marks_at xs).line_over ≡ false
+    → (marks_at ys).line_over ≡ false
 line_open_kept m n xs ys placed h e = (line_kept m n xs ys placed h e).not_over
 
-pub line_sent_kept : (m n : ℕ) (xs ys : List (Stamped EntryWithCall)) → ArePlaced m n ys → Keeps (m + 1) xs ys → (marks_at xs).line_over ≡ false → (marks_at ys).sent ≡ (marks_at xs).sent
+pub line_sent_kept : (m n : ℕ) (xs ys : List (Stamped EntryWithCall))
+    → ArePlaced m n ys
+    → Keeps (m + 1) xs ys
+    → (marks_at xs).line_over ≡ false
+    → (marks_at ys).sent ≡ (marks_at xs).sent
 line_sent_kept m n xs ys placed h e = (line_kept m n xs ys placed h e).count

@@ -1,6 +1,7 @@
 -- What a turn adds, whether or not it is denied.
 use Rattle.std.specs.Prelude.{IfOk, IfErr, OnOk, OnErr}
-use Rattle.std.proofs.Common.{◌≡◌, ◌⊎◌, inl, inr, ℕ, ◌+◌, ◌<◌, ◌≤◌, length, List, [], ◌∷◌, ◌++◌, Bool, true, false, Option, Some, None, Result, Ok, Err, refl, sym, ◌∙◌, ap, subst}
+use Rattle.std.proofs.Common.{◌≡◌, ◌⊎◌, inl, inr, ℕ, ◌+◌, ◌<◌, ◌≤◌, length, List, [], ◌∷◌, ◌++◌, Bool}
+use Rattle.std.proofs.Common.{true, false, Option, Some, None, Result, Ok, Err, refl, sym, ◌∙◌, ap, subst}
 use Rattle.tty_base.specs.declared.characters.Flagged.{Flagged}
 use Rattle.tty_calls.specs.declared.answers.Denied.{Denied}
 use Rattle.tty_calls.specs.Plain.{PlainCall}
@@ -36,37 +37,67 @@ on_err (Ok x) P Q f h = tt
 on_err (Err d) P Q f h = f d h
 
 -- what holds where it is done, and where it is denied
-pub either_way : {A E : Type 0} (r : Result A E) (P : A → Type 0) (F : E → Type 0) (Q : Type 0) → ((x : A) → P x → Q) → ((d : E) → F d → Q) → IfOk r P → IfErr r F → Q
+pub either_way : {A E : Type 0} (r : Result A E) (P : A → Type 0) (F : E → Type 0) (Q : Type 0)
+    → ((x : A) → P x → Q)
+    → ((d : E) → F d → Q)
+    → IfOk r P
+    → IfErr r F
+    → Q
 either_way (Ok x) P F Q f g h k = f x h
 either_way (Err d) P F Q f g h k = g d k
 
-pub either_on : {A E : Type 0} (r : Result A E) (P : Type 0) (F : E → Type 0) (Q : Type 0) → (P → Q) → ((d : E) → F d → Q) → OnOk r P → IfErr r F → Q
+pub either_on : {A E : Type 0} (r : Result A E) (P : Type 0) (F : E → Type 0) (Q : Type 0) → (P → Q)
+    → ((d : E) → F d → Q)
+    → OnOk r P
+    → IfErr r F
+    → Q
 either_on (Ok x) P F Q f g h k = f h
 either_on (Err d) P F Q f g h k = g d k
 
-pub tries_by : (c step : ℕ) (call : PlainCall) (old new : List (Stamped EntryWithCall)) (x : PlainTried) → Tries c step call old new x → AddsBy c old new
+pub tries_by : (c step : ℕ) (call : PlainCall) (old new : List (Stamped EntryWithCall)) (x : PlainTried)
+    → Tries c step call old new x
+    → AddsBy c old new
 tries_by c step call old new (done_by a) h = adds_by c _ old new (λ x is. is.1.seat) h.0
 tries_by c step call old new took_part h = adds_by c _ old new (λ x is. is.1.seat) h.0
-tries_by c step call old new must_wait h = elim (h.0) [ inl same ↦ adds_nothing c old new same.0 | inr adds ↦ adds_by c _ old new (λ x is. is.seat) adds ]
+tries_by c step call old new must_wait h =
+    elim (h.0) [ inl same ↦ adds_nothing c old new same.0 | inr adds ↦ adds_by c _ old new (λ x is. is.seat) adds ]
 
 pub raises_none : (changes : Bool) (g h : ℕ) → h ≡ g → Raises changes g h
 raises_none true g h e = inl e
 raises_none false g h e = e
 
-pub hands_by : (name : Name) (run part : ℕ) (old new : List (Stamped EntryWithCall)) (x : Flushed) → Hands name run part old new x → AddsBy name.callers old new
+pub hands_by : (name : Name) (run part : ℕ) (old new : List (Stamped EntryWithCall)) (x : Flushed)
+    → Hands name run part old new x
+    → AddsBy name.callers old new
 hands_by name run part old new (outcome.Took n) h = adds_by name.callers _ old new (λ x is. is.0.seat) h.0
 hands_by name run part old new outcome.Nothing h = adds_nothing name.callers old new h.0
 
 -- a piece, or none
-pub flushes : (m : ℕ) (old new : PortValue) (run part most : ℕ) (x : Flushed) → IsPort old → IsPort new → length old.journal < old.limit → GoesOnAt run part (generation_of (history_in m old)) (history_in m old) → most ≤ 64 → 64 ≤ most → Flushes old new run part most x → Hands (name_in m old) run part (history_in m old) (history_in m new) x
-flushes m old new run part most (outcome.Took n) p q few goes small large h = hands m old new run part most n p q few goes small large h
+pub flushes : (m : ℕ) (old new : PortValue) (run part most : ℕ) (x : Flushed)
+    → IsPort old
+    → IsPort new
+    → length old.journal < old.limit
+    → GoesOnAt run part (generation_of (history_in m old)) (history_in m old)
+    → most ≤ 64
+    → 64 ≤ most
+    → Flushes old new run part most x
+    → Hands (name_in m old) run part (history_in m old) (history_in m new) x
+flushes m old new run part most (outcome.Took n) p q few goes small large h =
+    hands m old new run part most n p q few goes small large h
 flushes m old new run part most outcome.Nothing p q few goes small large h = hands_none m old new run part p h
 
-pub flushes_same : (m : ℕ) (old new : PortValue) (run part most : ℕ) (x : Flushed) → IsPort old → Flushes old new run part most x → generation_of (history_in m new) ≡ generation_of (history_in m old)
+pub flushes_same : (m : ℕ) (old new : PortValue) (run part most : ℕ) (x : Flushed)
+    → IsPort old
+    → Flushes old new run part most x
+    → generation_of (history_in m new) ≡ generation_of (history_in m old)
 flushes_same m old new run part most (outcome.Took n) p h = hands_same m old new run part most n p h
 flushes_same m old new run part most outcome.Nothing p h = ap generation_of (none_history m old new h)
 
-pub both_ok : {A E : Type 0} (r : Result A E) (P : A → Type 0) (Q : Type 0) (Z : A → Type 0) → ((x : A) → P x → Q → Z x) → IfOk r P → OnOk r Q → IfOk r Z
+pub both_ok : {A E : Type 0} (r : Result A E) (P : A → Type 0) (Q : Type 0) (Z : A → Type 0)
+    → ((x : A) → P x → Q → Z x)
+    → IfOk r P
+    → OnOk r Q
+    → IfOk r Z
 both_ok (Ok x) P Q Z f h k = f x h k
 both_ok (Err d) P Q Z f h k = tt
 

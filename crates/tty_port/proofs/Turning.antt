@@ -1,5 +1,6 @@
 -- What a turn adds to what a seat knows.
-use Rattle.std.proofs.Common.{◌≡◌, ◌≢◌, ◌⊎◌, inl, inr, ℕ, ◌+◌, ◌<◌, ◌≤◌, List, [], ◌∷◌, ◌++◌, false, length, refl, sym, ◌∙◌, ap, subst, arith, append-nil, length-append, Option, Some, sum}
+use Rattle.std.proofs.Common.{◌≡◌, ◌≢◌, ◌⊎◌, inl, inr, ℕ, ◌+◌, ◌<◌, ◌≤◌, List, [], ◌∷◌, ◌++◌, false, length}
+use Rattle.std.proofs.Common.{refl, sym, ◌∙◌, ap, subst, arith, append-nil, length-append, Option, Some, sum}
 use Rattle.port_cell.specs.declared.kept.Stamped.{Stamped}
 use Rattle.port_cell.specs.Entries.{generation_of, entries_by, Each, Keeps, AddsBy}
 use Rattle.port_cell.specs.Knowledge.{number_of, name_of, list_seen, own_entries, is_raised, generation_installed}
@@ -14,16 +15,30 @@ use Rattle.tty_port.specs.Lines.{MakesOne, MakesNone}
 use Rattle.tty_port.specs.Shared.{IsFound}
 use Rattle.tty_port.specs.declared.kept_port.KeptPort.{KeptPort}
 
-pub adds_by : (n : ℕ) (P : Stamped EntryWithCall → Type 0) (old new : List (Stamped EntryWithCall)) → ((x : Stamped EntryWithCall) → P x → x.seat ≡ n) → Adds P old new → AddsBy n old new
+pub adds_by : (n : ℕ) (P : Stamped EntryWithCall → Type 0) (old new : List (Stamped EntryWithCall))
+    → ((x : Stamped EntryWithCall) → P x → x.seat ≡ n)
+    → Adds P old new
+    → AddsBy n old new
 adds_by n P old new seat h = (h.entry ∷ [], h.added, (seat h.entry h.is, tt))
 
 pub adds_nothing : (n : ℕ) (old new : List (Stamped EntryWithCall)) → new ≡ old → AddsBy n old new
 adds_nothing n old new h = ([], h ∙ sym (append-nil old), tt)
 
-own_now : (n : ℕ) (s : PortSeat) (xs : List (Stamped EntryWithCall)) → number_of s ≡ n → list_seen s ≡ xs → own_entries s ≡ entries_by n xs
+own_now : (n : ℕ) (s : PortSeat) (xs : List (Stamped EntryWithCall))
+    → number_of s ≡ n
+    → list_seen s ≡ xs
+    → own_entries s ≡ entries_by n xs
 own_now n s xs number seen = ap (λ (k : ℕ). entries_by k (list_seen s)) number ∙ ap (entries_by n) seen
 
-pub makes_one : (P : List (Stamped EntryWithCall) → Stamped EntryWithCall → Type 0) (n : ℕ) (old new : PortSeat) (before after : List (Stamped EntryWithCall)) → ((x : Stamped EntryWithCall) → P before x → x.seat ≡ n) → number_of old ≡ n → number_of new ≡ n → Keeps n (list_seen old) before → Adds (P before) before after → list_seen new ≡ after → MakesOne P old new
+pub makes_one : (P : List (Stamped EntryWithCall) → Stamped EntryWithCall → Type 0) (n : ℕ) (old new : PortSeat)
+    (before after : List (Stamped EntryWithCall))
+    → ((x : Stamped EntryWithCall) → P before x → x.seat ≡ n)
+    → number_of old ≡ n
+    → number_of new ≡ n
+    → Keeps n (list_seen old) before
+    → Adds (P before) before after
+    → list_seen new ≡ after
+    → MakesOne P old new
 makes_one P n old new before after seat was now keeps h seen =
     record {
       before = before;
@@ -31,17 +46,29 @@ makes_one P n old new before after seat was now keeps h seen =
       found = subst (λ (k : ℕ). Keeps k (list_seen old) before) (sym was) keeps;
       added = seen ∙ h.added;
       own =
-          own_now n new after now seen ∙ entries_by_added n before after (h.entry ∷ [], h.added, (seat h.entry h.is, tt))
-          ∙ ap (λ (xs : List (Stamped EntryWithCall)). xs ++ h.entry ∷ []) (entries_by_kept n (list_seen old) before keeps ∙ sym (own_now n old (list_seen old) was refl));
+          own_now n new after now seen
+          ∙ entries_by_added n before after (h.entry ∷ [], h.added, (seat h.entry h.is, tt))
+          ∙ ap (λ (xs : List (Stamped EntryWithCall)). xs ++ h.entry ∷ [])
+          (entries_by_kept n (list_seen old) before keeps ∙ sym (own_now n old (list_seen old) was refl));
       generation = h.generation;
       is = h.is;
     }
 
-pub makes_none : (n : ℕ) (old new : PortSeat) (before after : List (Stamped EntryWithCall)) → number_of old ≡ n → number_of new ≡ n → Keeps n (list_seen old) before → after ≡ before → list_seen new ≡ after → MakesNone old new
+pub makes_none : (n : ℕ) (old new : PortSeat) (before after : List (Stamped EntryWithCall))
+    → number_of old ≡ n
+    → number_of new ≡ n
+    → Keeps n (list_seen old) before
+    → after ≡ before
+    → list_seen new ≡ after
+    → MakesNone old new
 makes_none n old new before after was now keeps same seen =
     record {
-      found = subst (λ (k : ℕ). Keeps k (list_seen old) (list_seen new)) (sym was) (subst (Keeps n (list_seen old)) (sym (seen ∙ same)) keeps);
-      own = own_now n new before now (seen ∙ same) ∙ entries_by_kept n (list_seen old) before keeps ∙ sym (own_now n old (list_seen old) was refl);
+      found = subst (λ (k : ℕ). Keeps k (list_seen old) (list_seen new)) (sym was)
+          (subst (Keeps n (list_seen old)) (sym (seen ∙ same)) keeps);
+      own =
+          own_now n new before now (seen ∙ same)
+          ∙ entries_by_kept n (list_seen old) before keeps
+          ∙ sym (own_now n old (list_seen old) was refl);
     }
 
 -- where the list is no longer than it was, nothing was added
@@ -49,7 +76,10 @@ none_more : (old more : List (Stamped EntryWithCall)) → length (old ++ more) �
 none_more old [] h = append-nil old
 none_more old (x ∷ xs) h = let size = length-append old (x ∷ xs) in absurd (omega arith)
 
-pub added_none : (n : ℕ) (old new : List (Stamped EntryWithCall)) → AddsBy n old new → length new ≡ length old → new ≡ old
+pub added_none : (n : ℕ) (old new : List (Stamped EntryWithCall))
+    → AddsBy n old new
+    → length new ≡ length old
+    → new ≡ old
 added_none n old new h same = h.1 ∙ none_more old h.0 (sym (ap length h.1) ∙ same)
 
 -- the installed generation, where nothing raised was stamped
@@ -60,29 +90,55 @@ some_name : (x y : Name) (o : Option Name) → o ≡ Some x → o ≡ Some y →
 some_name x y o h k = cc
 
 -- what a turn found, by the port as it was looked at
-pub found : (name : Name) (n : ℕ) (old : PortSeat) (v w : KeptPort) → name_of old ≡ Some name → name_of old ≡ Some (port_name v) → Keeps n (list_seen old) (history_of v) → w ≡ v → IsHistoryOf w.callers w.port.value (history_of w) → IsFound name n old v
+pub found : (name : Name) (n : ℕ) (old : PortSeat) (v w : KeptPort)
+    → name_of old ≡ Some name
+    → name_of old ≡ Some (port_name v)
+    → Keeps n (list_seen old) (history_of v)
+    → w ≡ v
+    → IsHistoryOf w.callers w.port.value (history_of w)
+    → IsFound name n old v
 found name n old v w named named_now keeps same history =
     let named_so : port_name v ≡ name = some_name name (port_name v) (name_of old) named named_now in
-    let first : IsHistoryOf v.callers v.port.value (history_of v) = subst (λ (x : KeptPort). IsHistoryOf x.callers x.port.value (history_of x)) same history in
+    let first : IsHistoryOf v.callers v.port.value (history_of v) =
+    subst (λ (x : KeptPort). IsHistoryOf x.callers x.port.value (history_of x)) same history in
     record {
       named = named_so;
       keeps = keeps;
-      history = subst (λ (k : ℕ). IsHistoryOf k v.port.value (history_of v)) (ap (λ (x : Name). x.callers) named_so) first;
+      history =
+          subst (λ (k : ℕ). IsHistoryOf k v.port.value (history_of v)) (ap (λ (x : Name). x.callers) named_so) first;
     }
 
 -- it found the port as it is looked at again
-pub found_still : (name : Name) (n : ℕ) (old : PortSeat) (v w : KeptPort) → number_of old ≡ n → w ≡ v → IsFound name (number_of old) old v → IsFound name n old w
-found_still name n old v w number same h = subst (IsFound name n old) (sym same) (subst (λ (k : ℕ). IsFound name k old v) number h)
+pub found_still : (name : Name) (n : ℕ) (old : PortSeat) (v w : KeptPort)
+    → number_of old ≡ n
+    → w ≡ v
+    → IsFound name (number_of old) old v
+    → IsFound name n old w
+found_still name n old v w number same h =
+    subst (IsFound name n old) (sym same) (subst (λ (k : ℕ). IsFound name k old v) number h)
 
 -- The turn added an entry of no call, which its maker has made, with the seat so many places after the callers'.
-pub enters_one : (P : ℕ → List (Stamped EntryWithCall) → Stamped EntryWithCall → Type 0) (place : ℕ) → ((m : ℕ) (before : List (Stamped EntryWithCall)) (x : Stamped EntryWithCall) → P m before x → x.seat ≡ m + place)
-    → (name : Name) (old new : PortSeat) (v w : KeptPort) → IsFound name (name.callers + place) old v → number_of old ≡ name.callers + place → number_of new ≡ number_of old → list_seen new ≡ history_of w
-    → Adds (P (port_name v).callers (history_of v)) (history_of v) (history_of w) → MakesOne (P name.callers) old new
+pub enters_one : (P : ℕ → List (Stamped EntryWithCall) → Stamped EntryWithCall → Type 0) (place : ℕ)
+    → ((m : ℕ) (before : List (Stamped EntryWithCall)) (x : Stamped EntryWithCall) → P m before x → x.seat ≡ m + place)
+    → (name : Name) (old new : PortSeat) (v w : KeptPort)
+    → IsFound name (name.callers + place) old v
+    → number_of old ≡ name.callers + place
+    → number_of new ≡ number_of old
+    → list_seen new ≡ history_of w
+    → Adds (P (port_name v).callers (history_of v)) (history_of v) (history_of w)
+    → MakesOne (P name.callers) old new
 enters_one P place seat name old new v w at was same seen h =
-    makes_one (P name.callers) (name.callers + place) old new (history_of v) (history_of w) (seat name.callers (history_of v)) was (same ∙ was) at.keeps
-    (subst (λ (m : ℕ). Adds (P m (history_of v)) (history_of v) (history_of w)) (ap (λ (x : Name). x.callers) at.named) h) seen
+    makes_one (P name.callers) (name.callers + place) old new (history_of v) (history_of w)
+    (seat name.callers (history_of v)) was (same ∙ was) at.keeps
+    (subst (λ (m : ℕ). Adds (P m (history_of v)) (history_of v) (history_of w)) (ap (λ (x : Name). x.callers) at.named)
+    h) seen
 
 -- the history that the seat has seen is that of the port
-pub placed_now : (name : Name) (w : KeptPort) (s : PortSeat) → port_name w ≡ name → IsHistoryOf w.callers w.port.value (history_of w) → list_seen s ≡ history_of w → ArePlaced name.callers (sum name.counts) (list_seen s)
+pub placed_now : (name : Name) (w : KeptPort) (s : PortSeat)
+    → port_name w ≡ name
+    → IsHistoryOf w.callers w.port.value (history_of w)
+    → list_seen s ≡ history_of w
+    → ArePlaced name.callers (sum name.counts) (list_seen s)
 placed_now name w s named h seen =
-    subst (ArePlaced name.callers (sum name.counts)) (sym seen) (subst (λ (x : Name). ArePlaced x.callers (sum x.counts) (history_of w)) named h.placed)
+    subst (ArePlaced name.callers (sum name.counts)) (sym seen)
+    (subst (λ (x : Name). ArePlaced x.callers (sum x.counts) (history_of w)) named h.placed)

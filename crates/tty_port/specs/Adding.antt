@@ -66,11 +66,15 @@ IsTold c step call (x ∷ xs) = IsOfStep c step call x ⊎ IsTold c step call xs
 
 -- the call is the caller's next, or the one that has begun; where parts of it were taken, and it does not wait, that
 -- was in this generation
-pub record IsUnderWay (c step : ℕ) (call : PlainCall) (generation : ℕ) (xs : List (Stamped EntryWithCall)) : Type 0 where
+pub record IsUnderWay (c step : ℕ) (call : PlainCall) (generation : ℕ)
+    (xs : List (Stamped EntryWithCall)) : Type 0 where
   pub next : (standing_at c xs).next ≡ step
   pub not_over : (standing_at c xs).over ≡ false
   pub same : (standing_at c xs).begun ≡ true → IsTold c step call xs
-  pub one : (standing_at c xs).begun ≡ true → (standing_at c xs).waits ≡ false → 0 < (standing_at c xs).parts → (standing_at c xs).generation ≡ generation
+  pub one : (standing_at c xs).begun ≡ true
+      → (standing_at c xs).waits ≡ false
+      → 0 < (standing_at c xs).parts
+      → (standing_at c xs).generation ≡ generation
 
 -- the call is under way, in whatever generation it goes on
 abbrev pub Rests : ℕ → ℕ → PlainCall → List (Stamped EntryWithCall) → Type 0
@@ -80,6 +84,8 @@ Rests c step call xs = (generation : ℕ) → IsUnderWay c step call generation 
 abbrev pub Tries : ℕ → ℕ → PlainCall → List (Stamped EntryWithCall) → List (Stamped EntryWithCall) → PlainTried → Type 0
 Tries c step call old new (done_by a) = Adds (IsAnswerOf c step call a) old new × IsBetween c (step + 1) new
 Tries c step call old new took_part =
-    Adds (IsPartOf c step call) old new × IsUnderWay c step call (generation_of old) new × ((standing_at c new).waits ≡ false)
+    Adds (IsPartOf c step call) old new
+    × IsUnderWay c step call (generation_of old) new
+    × ((standing_at c new).waits ≡ false)
 Tries c step call old new must_wait =
     (((new ≡ old) × ((standing_at c old).waits ≡ true)) ⊎ Adds (IsWaitOf c step call) old new) × Rests c step call new

@@ -1,6 +1,7 @@
 -- What the calls of a caller come to, as its seat knows it.
 use Rattle.std.specs.Prelude.{◌≡◌, ◌⊎◌, ℕ, ◌+◌, ◌<◌, ◌≤◌, List, [], ◌∷◌, ◌++◌, Bool, true, false, MatchBool}
-use Rattle.tty_calls.specs.Plain.{PlainCall, PlainAnswer, PlainEvent, answered, parted, waited, flushed, ticked, line_ended, clock_ended, caller_ended, phase_ended, hung_up, changes}
+use Rattle.tty_calls.specs.Plain.{PlainCall, PlainAnswer, PlainEvent, answered, parted, waited, flushed}
+use Rattle.tty_calls.specs.Plain.{ticked, line_ended, clock_ended, caller_ended, phase_ended, hung_up, changes}
 use Rattle.port_cell.specs.declared.kept.Stamped.{Stamped}
 use Rattle.port_cell.specs.Entries.{Begins}
 use Rattle.port_cell.specs.Views.{bit_of}
@@ -47,7 +48,8 @@ FirstHas generation (x ∷ xs) = x.what.entry.generation ≡ generation
 -- a wait.
 abbrev pub KeepGeneration : List (Stamped EntryWithCall) → Type 0
 KeepGeneration [] = Unit {0}
-KeepGeneration (x ∷ xs) = MatchBool (is_wait x.what.entry.event) (Unit {0}) (FirstHas x.what.entry.generation xs) × KeepGeneration xs
+KeepGeneration (x ∷ xs) =
+    MatchBool (is_wait x.what.entry.event) (Unit {0}) (FirstHas x.what.entry.generation xs) × KeepGeneration xs
 
 -- The call is answered, by the last of the entries that the seat made meanwhile; those before are its parts and waits.
 pub record IsAnswered (c step : ℕ) (call : PlainCall) (a : PlainAnswer) (old new : PortSeat) : Type 0 where

@@ -1,5 +1,6 @@
 -- What a flush run comes to, as the flusher's seat knows it.
-use Rattle.std.specs.Prelude.{◌≡◌, ℕ, ◌+◌, ◌<◌, ◌≤◌, List, [], ◌∷◌, ◌++◌, Bool, true, false, IsTrue, Option, None, ◌==◌, if◌then◌else◌, length}
+use Rattle.std.specs.Prelude.{◌≡◌, ℕ, ◌+◌, ◌<◌, ◌≤◌, List, [], ◌∷◌, ◌++◌, Bool, true}
+use Rattle.std.specs.Prelude.{false, IsTrue, Option, None, ◌==◌, if◌then◌else◌, length}
 use Rattle.tty_base.specs.declared.characters.Flagged.{Flagged}
 use Rattle.tty_calls.specs.declared.journals.Who.TheVariants.{Flusher}
 use Rattle.tty_calls.specs.Plain.{flushed}
@@ -48,7 +49,9 @@ IsWhole name before x = length (chars_at (x ∷ [])) < 64 → IsCaughtUp (termin
 -- each of these pieces, on the front of the history before it
 abbrev pub AreWhole : Name → (all made : List (Stamped EntryWithCall)) → Type 0
 AreWhole name all [] = Unit {0}
-AreWhole name all (x ∷ xs) = ((before : List (Stamped EntryWithCall)) × Begins (before ++ x ∷ []) all × IsWhole name before x) × AreWhole name all xs
+AreWhole name all (x ∷ xs) =
+    ((before : List (Stamped EntryWithCall)) × Begins (before ++ x ∷ []) all × IsWhole name before x)
+    × AreWhole name all xs
 
 -- No more can be flushed, and once the line is over nothing is left to flush.
 pub record HasNothingLeft (t : Terminal) : Type 0 where
@@ -81,6 +84,8 @@ pub record GoesOnAt (run part generation : ℕ) (xs : List (Stamped EntryWithCal
 -- what a piece came to
 abbrev pub Hands : (name : Name) (run part : ℕ) (old new : List (Stamped EntryWithCall)) → Flushed → Type 0
 Hands name run part old new (outcome.Took n) =
-    Adds (λ x. IsPiece name.callers run part (generation_of old) x × (n ≡ length (chars_at (x ∷ []))) × IsWhole name old x) old new
+    Adds
+    (λ x. IsPiece name.callers run part (generation_of old) x × (n ≡ length (chars_at (x ∷ []))) × IsWhole name old x)
+    old new
     × GoesOnAt run (part + 1) (generation_of old) new × (next_run new ≡ run + 1) × (length new ≤ 4194304)
 Hands name run part old new outcome.Nothing = (new ≡ old) × HasNothingLeft (terminal_at name old)

@@ -1,5 +1,6 @@
 -- How a call, or a flush run, goes on from turn to turn.
-use Rattle.std.specs.Prelude.{◌≡◌, ◌⊎◌, ℕ, ◌+◌, ◌*◌, ◌<◌, ◌≤◌, List, [], ◌∷◌, ◌++◌, Bool, true, false, MatchBool, length}
+use Rattle.std.specs.Prelude.{◌≡◌, ◌⊎◌, ℕ, ◌+◌, ◌*◌, ◌<◌, ◌≤◌, List, [], ◌∷◌}
+use Rattle.std.specs.Prelude.{◌++◌, Bool, true, false, MatchBool, length}
 use Rattle.tty_calls.specs.Plain.{PlainCall, PlainAnswer, changes}
 use Rattle.port_core.specs.Attempts.{PlainTried, done_by, took_part, must_wait}
 use Rattle.port_core.specs.declared.ports.flushing.Flushed.{Flushed}
@@ -16,7 +17,8 @@ use Rattle.tty_port.specs.Lines.{MakesOne, MakesNone}
 use Rattle.tty_port.specs.Flushing.{IsPiece, ArePieces, IsWhole, AreWhole, GoesOnAt, HasNothingLeft, run_past}
 
 -- an entry of this kind, made in this generation
-pub record IsMadeIn (generation : ℕ) (P : Stamped EntryWithCall → Type 0) (before : List (Stamped EntryWithCall)) (x : Stamped EntryWithCall) : Type 0 where
+pub record IsMadeIn (generation : ℕ) (P : Stamped EntryWithCall → Type 0) (before : List (Stamped EntryWithCall))
+    (x : Stamped EntryWithCall) : Type 0 where
   pub at_generation : x.what.entry.generation ≡ generation
   pub is : P x
 
@@ -28,7 +30,8 @@ Turns c step call generation old new took_part =
     MakesOne (IsMadeIn generation (IsPartOf c step call)) old new
     × IsUnderWay c step call generation (list_seen new) × ((standing_at c (list_seen new)).waits ≡ false)
 Turns c step call generation old new must_wait =
-    ((MakesNone old new × ((standing_at c (list_seen old)).waits ≡ true)) ⊎ MakesOne (IsMadeIn generation (IsWaitOf c step call)) old new)
+    ((MakesNone old new × ((standing_at c (list_seen old)).waits ≡ true))
+    ⊎ MakesOne (IsMadeIn generation (IsWaitOf c step call)) old new)
     × Rests c step call (list_seen new)
 
 -- a turn that took a part, under the same reference
@@ -47,7 +50,8 @@ Waits c step call old new =
 -- the call goes on after a turn
 abbrev pub StepsOn : ℕ → ℕ → PlainCall → PortSeat → PortSeat → Type 0
 StepsOn c step call old new =
-    (TakesPart c step call old new ⊎ Waits c step call old new) × IsUnderWay c step call (generation_in (last_word new)) (list_seen new)
+    (TakesPart c step call old new ⊎ Waits c step call old new)
+    × IsUnderWay c step call (generation_in (last_word new)) (list_seen new)
 
 -- the last entry is a wait, or has this generation
 abbrev pub LastHas : ℕ → List (Stamped EntryWithCall) → Type 0
@@ -84,7 +88,13 @@ pub record IsFlushing (name : Name) (run part n : ℕ) (old new : PortSeat) : Ty
 -- what a turn of a flush run came to
 abbrev pub FlushTurns : (name : Name) (run part generation : ℕ) → PortSeat → PortSeat → Flushed → Type 0
 FlushTurns name run part generation old new (outcome.Took n) =
-    MakesOne (λ before x. IsPiece name.callers run part generation x × (n ≡ length (chars_at (x ∷ []))) × IsWhole name before x) old new
-    × GoesOnAt run (part + 1) generation (list_seen new) × (next_run (list_seen new) ≡ run + 1) × (length (list_seen new) ≤ 4194304)
+    MakesOne
+    (λ before x. IsPiece name.callers run part generation x × (n ≡ length (chars_at (x ∷ []))) × IsWhole name before x)
+    old new
+    × GoesOnAt run (part + 1) generation (list_seen new)
+    × (next_run (list_seen new) ≡ run + 1)
+    × (length (list_seen new) ≤ 4194304)
 FlushTurns name run part generation old new outcome.Nothing =
-    MakesNone old new × (next_run (list_seen new) ≡ next_run (list_seen old)) × HasNothingLeft (terminal_at name (list_seen new))
+    MakesNone old new
+    × (next_run (list_seen new) ≡ next_run (list_seen old))
+    × HasNothingLeft (terminal_at name (list_seen new))

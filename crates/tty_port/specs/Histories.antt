@@ -32,7 +32,8 @@ abbrev pub call_for : (ℕ → ℕ → Option PlainCall) → PlainEntry → Opti
 call_for calls e = if is_of_call e.event then call_by calls e.who e.step else None
 
 abbrev pub stamped_entry : ℕ → (ℕ → ℕ → Option PlainCall) → PlainEntry → ℕ → Stamped EntryWithCall
-stamped_entry m calls e after = record { seat = seat_of m e.who; after = after; what = record { entry = e; call = call_for calls e } }
+stamped_entry m calls e after =
+    record { seat = seat_of m e.who; after = after; what = record { entry = e; call = call_for calls e } }
 
 -- the generation in which the first of these entries was made, or else that of now
 abbrev pub generation_next : List PlainEntry → ℕ → ℕ

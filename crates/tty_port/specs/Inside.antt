@@ -20,7 +20,8 @@ pub record EntryWithCall : Type 0 where
   pub call : Option PlainCall
 
 abbrev pub plain_name : name.Inside → Name
-plain_name n = record { counts = n.counts; limit = n.limit; callers = n.callers; ring = n.flip.ring; capacity = n.flip.capacity }
+plain_name n =
+    record { counts = n.counts; limit = n.limit; callers = n.callers; ring = n.flip.ring; capacity = n.flip.capacity }
 
 abbrev pub plain_call : Option Call → Option PlainCall
 plain_call None = None

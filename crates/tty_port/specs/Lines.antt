@@ -15,7 +15,8 @@ use Rattle.tty_port.specs.Adding.{IsEntry}
 use Rattle.tty_port.specs.Calls.{PortSeat}
 
 -- the seat made one entry, which has this relation to the history that its turn found
-pub record MakesOne (P : List (Stamped EntryWithCall) → Stamped EntryWithCall → Type 0) (old new : PortSeat) : Type 0 where
+pub record MakesOne (P : List (Stamped EntryWithCall) → Stamped EntryWithCall → Type 0)
+    (old new : PortSeat) : Type 0 where
   pub before : List (Stamped EntryWithCall)
   pub entry : Stamped EntryWithCall
   pub found : Keeps (number_of old) (list_seen old) before
@@ -39,6 +40,7 @@ pub record Meets (taken : List Flagged) (old new : PutterState Flagged) : Type 0
   pub rises : old.floor ≤ length taken
 
 -- the line is over, with the number of all that its putter put
-pub record EndsLine (n : ℕ) (old new : PutterState Flagged) (before : List (Stamped EntryWithCall)) (x : Stamped EntryWithCall) : Type 0 where
+pub record EndsLine (n : ℕ) (old new : PutterState Flagged) (before : List (Stamped EntryWithCall))
+    (x : Stamped EntryWithCall) : Type 0 where
   pub entry : IsEntry n Line (marks_at before).phase (line_ended (length old.sent)) x
   pub meets : Meets (chars_at before) old new

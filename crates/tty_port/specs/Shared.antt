@@ -6,7 +6,8 @@ use Rattle.port_cell.specs.declared.view.User.{User}
 use Rattle.port_cell.specs.declared.view.User.TheVariants.{Free, Held, Marked, Alone}
 use Rattle.port_cell.specs.Entries.{Keeps, entries_by}
 use Rattle.port_cell.specs.Word.{generation_in}
-use Rattle.port_cell.specs.Knowledge.{number_of, name_of, list_seen, own_entries, user_of, has_turn, is_raised, last_word}
+use Rattle.port_cell.specs.Knowledge.{number_of, name_of, list_seen, own_entries}
+use Rattle.port_cell.specs.Knowledge.{user_of, has_turn, is_raised, last_word}
 use Rattle.port_cell.specs.Seats.{IsSeat}
 use Rattle.port_cell.specs.Cells.{identity_of, opening_value}
 use Rattle.tty_port.specs.Inside.{Name, EntryWithCall}

@@ -43,7 +43,8 @@ impl SharedPort {
         requires bytes { byte_count (call_of call.now) < 2 ^ 32 }
         requires ready { IsBetween caller step (list_seen seat.old) }
         ensures seat { IsHere self.now caller seat.new }
-        ensures placed { ArePlaced (name_of_port self.now).callers (sum (name_of_port self.now).counts) (list_seen seat.new) }
+        ensures placed { ArePlaced (name_of_port self.now).callers (sum (name_of_port self.now).counts)
+            (list_seen seat.new) }
         ensures ok { IfOk result (λ a. Answers caller step (call_of call.now) (answer_of a) seat.old seat.new) }
         ensures err { OnErr result (Pauses caller step (call_of call.now) seat.old seat.new) }
         ensures full { IfErr result (λ d. IsFull (name_of_port self.now) d (list_seen seat.new)) }
@@ -75,9 +76,11 @@ impl SharedPort {
         requires number { handle_of (call_of call.now) < 32 }
         requires bytes { byte_count (call_of call.now) < 2 ^ 32 }
         requires keeps { changes (call_of call.now) ≡ false }
-        requires ready { IsUnderWay caller step (call_of call.now) (generation_in (last_word seat.old)) (list_seen seat.old) }
+        requires ready { IsUnderWay caller step (call_of call.now) (generation_in (last_word seat.old))
+            (list_seen seat.old) }
         ensures seat { IsHolding self.now caller seat.new }
-        ensures placed { ArePlaced (name_of_port self.now).callers (sum (name_of_port self.now).counts) (list_seen seat.new) }
+        ensures placed { ArePlaced (name_of_port self.now).callers (sum (name_of_port self.now).counts)
+            (list_seen seat.new) }
         ensures steps { step_count seat.old ≤ step_count seat.new }
         ensures found { changing_in (last_word seat.new) ≡ 0 }
         ensures ok { IfOk result (λ a. IsAnswered caller step (call_of call.now) (answer_of a) seat.old seat.new) }
@@ -114,16 +117,22 @@ impl SharedPort {
         requires number { handle_of (call_of call.now) < 32 }
         requires bytes { byte_count (call_of call.now) < 2 ^ 32 }
         requires keeps { changes (call_of call.now) ≡ false }
-        requires ready { IsUnderWay caller step (call_of call.now) (generation_in (last_word seat.old)) (list_seen seat.old) }
+        requires ready { IsUnderWay caller step (call_of call.now) (generation_in (last_word seat.old))
+            (list_seen seat.old) }
         ensures seat { IsHolding self.now caller seat.new }
-        ensures placed { ArePlaced (name_of_port self.now).callers (sum (name_of_port self.now).counts) (list_seen seat.new) }
+        ensures placed { ArePlaced (name_of_port self.now).callers (sum (name_of_port self.now).counts)
+            (list_seen seat.new) }
         ensures found { changing_in (last_word seat.new) ≡ 0 }
         ensures steps { step_count seat.old ≤ step_count seat.new }
         ensures installs { install_count seat.new ≡ install_count seat.old }
-        ensures none { IfOk result (λ answered. IfNone answered (StepsOn caller step (call_of call.now) seat.old seat.new)) }
-        ensures some { IfOk result (λ answered. IfSome answered (λ a. Turns caller step (call_of call.now) (generation_in (last_word seat.new)) seat.old seat.new (done_by (answer_of a)))) }
-        ensures generation { IfOk result (λ answered. IfSome answered (λ a. generation_of (list_seen seat.new) ≡ generation_in (last_word seat.new))) }
-        ensures same { IfOk result (λ answered. IfSome answered (λ a. generation_in (last_word seat.new) ≡ generation_in (last_word seat.old))) }
+        ensures none { IfOk result
+            (λ answered. IfNone answered (StepsOn caller step (call_of call.now) seat.old seat.new)) }
+        ensures some { IfOk result (λ answered. IfSome answered (λ a. Turns caller step (call_of call.now)
+            (generation_in (last_word seat.new)) seat.old seat.new (done_by (answer_of a)))) }
+        ensures generation { IfOk result (λ answered.
+            IfSome answered (λ a. generation_of (list_seen seat.new) ≡ generation_in (last_word seat.new))) }
+        ensures same { IfOk result (λ answered.
+            IfSome answered (λ a. generation_in (last_word seat.new) ≡ generation_in (last_word seat.old))) }
         ensures err { OnErr result (MakesNone seat.old seat.new) }
         ensures full { IfErr result (λ d. IsFull (name_of_port self.now) d (list_seen seat.new)) }
     {
@@ -154,11 +163,14 @@ impl SharedPort {
         requires number { handle_of (call_of call.now) < 32 }
         requires bytes { byte_count (call_of call.now) < 2 ^ 32 }
         requires keeps { changes (call_of call.now) ≡ false }
-        requires ready { IsUnderWay caller step (call_of call.now) (generation_in (last_word seat.old)) (list_seen seat.old) }
+        requires ready { IsUnderWay caller step (call_of call.now) (generation_in (last_word seat.old))
+            (list_seen seat.old) }
         ensures seat { IsHolding self.now caller seat.new }
-        ensures placed { ArePlaced (name_of_port self.now).callers (sum (name_of_port self.now).counts) (list_seen seat.new) }
+        ensures placed { ArePlaced (name_of_port self.now).callers (sum (name_of_port self.now).counts)
+            (list_seen seat.new) }
         ensures references { KeepsUse seat.old seat.new }
-        ensures tried { IfOk result (λ tried. Turns caller step (call_of call.now) (generation_in (last_word seat.old)) seat.old seat.new (tried_of tried)) }
+        ensures tried { IfOk result (λ tried. Turns caller step (call_of call.now) (generation_in (last_word seat.old))
+            seat.old seat.new (tried_of tried)) }
         ensures generation { generation_of (list_seen seat.new) ≡ generation_in (last_word seat.old) }
         ensures err { OnErr result (MakesNone seat.old seat.new) }
         ensures full { IfErr result (λ d. IsFull (name_of_port self.now) d (list_seen seat.new)) }

@@ -1,11 +1,13 @@
 //! Calls that may change the line discipline.
 
-ghost use Rattle.std.specs.Prelude.{◌≡◌, ◌⊎◌, ◌+◌, ◌<◌, ◌≤◌, ◌^◌, true, false, Some, IfOk, IfErr, OnErr, IsTrue, MatchBool, length, sum, if◌then◌else◌};
+ghost use Rattle.std.specs.Prelude.{◌≡◌, ◌⊎◌, ◌+◌, ◌<◌, ◌≤◌, ◌^◌, true, false, Some, IfOk};
+ghost use Rattle.std.specs.Prelude.{IfErr, OnErr, IsTrue, MatchBool, length, sum, if◌then◌else◌};
 ghost use Rattle.tty_calls.specs.Plain.{call_of, handle_of, changes, answer_of};
 ghost use Rattle.tty_calls.specs.Limits.{byte_count};
 ghost use Rattle.port_cell.specs.Entries.{generation_of, AddsBy};
 ghost use Rattle.port_cell.specs.declared.view.User.TheVariants.{Free};
-ghost use Rattle.port_cell.specs.Knowledge.{number_of, name_of, list_seen, user_of, has_turn, is_raised, install_count, IsAlone};
+ghost use Rattle.port_cell.specs.Knowledge.{number_of, name_of, list_seen, user_of};
+ghost use Rattle.port_cell.specs.Knowledge.{has_turn, is_raised, install_count, IsAlone};
 ghost use Rattle.port_cell.specs.Seats.{IsSeat, IsSameSeat, KeepsWord};
 ghost use Rattle.port_cell.specs.Lent.{value_in};
 ghost use Rattle.tty_port.specs.Histories.{history_of, name_of as port_name};
@@ -41,7 +43,8 @@ impl SharedPort {
         requires may { changes (call_of call.now) ≡ true }
         requires ready { IsBetween caller step (list_seen seat.old) }
         ensures seat { IsHere self.now caller seat.new }
-        ensures placed { ArePlaced (name_of_port self.now).callers (sum (name_of_port self.now).counts) (list_seen seat.new) }
+        ensures placed { ArePlaced (name_of_port self.now).callers (sum (name_of_port self.now).counts)
+            (list_seen seat.new) }
         ensures word { KeepsWord seat.old seat.new }
         ensures ok { IfOk result (λ a. Changes caller step (call_of call.now) (answer_of a) seat.old seat.new) }
         ensures err { OnErr result (MakesNone seat.old seat.new) }
@@ -72,7 +75,8 @@ impl SharedPort {
         requires named { port_name (value_in turn) ≡ name_of_port self.now }
         requires list { AddsBy (number_of seat.old) (list_seen seat.old) (history_of (value_in turn)) }
         requires generation { MatchBool raised
-            ((generation_of (history_of (value_in turn)) ≡ generation_of (list_seen seat.old) + 1) × (generation_of (history_of (value_in turn)) ≤ 4194304))
+            ((generation_of (history_of (value_in turn)) ≡ generation_of (list_seen seat.old) + 1)
+            × (generation_of (history_of (value_in turn)) ≤ 4194304))
             (generation_of (history_of (value_in turn)) ≡ generation_of (list_seen seat.old)) }
         ensures seat { IsSeat (table_of self.now) seat.new }
         ensures same { IsSameSeat seat.old seat.new }
@@ -80,7 +84,8 @@ impl SharedPort {
         ensures turn { has_turn seat.new ≡ false }
         ensures user { user_of seat.new ≡ Free }
         ensures list { list_seen seat.new ≡ history_of (value_in turn) }
-        ensures installed { install_count seat.new ≡ (if raised then install_count seat.old + 1 else install_count seat.old) }
+        ensures installed { install_count seat.new
+            ≡ (if raised then install_count seat.old + 1 else install_count seat.old) }
     {
         if raised {
             self.install(seat, turn);

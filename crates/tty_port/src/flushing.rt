@@ -26,7 +26,8 @@ impl SharedPort {
         requires seat { IsHere self.now (name_of_port self.now).callers seat.old }
         requires next { run ≡ next_run (list_seen seat.old) }
         ensures seat { IsHere self.now (name_of_port self.now).callers seat.new }
-        ensures placed { ArePlaced (name_of_port self.now).callers (sum (name_of_port self.now).counts) (list_seen seat.new) }
+        ensures placed { ArePlaced (name_of_port self.now).callers (sum (name_of_port self.now).counts)
+            (list_seen seat.new) }
         ensures ok { IfOk result (λ n. FlushesRun (name_of_port self.now) run n seat.old seat.new) }
         ensures last { OnOk result (HasNothingLeft (terminal_at (name_of_port self.now) (list_seen seat.new))) }
         ensures err { OnErr result ((n : ℕ) × FlushesRun (name_of_port self.now) run n seat.old seat.new) }
@@ -46,11 +47,13 @@ impl SharedPort {
         requires seat { IsHolding self.now (name_of_port self.now).callers seat.old }
         requires next { run ≡ next_run (list_seen seat.old) }
         ensures seat { IsHolding self.now (name_of_port self.now).callers seat.new }
-        ensures placed { ArePlaced (name_of_port self.now).callers (sum (name_of_port self.now).counts) (list_seen seat.new) }
+        ensures placed { ArePlaced (name_of_port self.now).callers (sum (name_of_port self.now).counts)
+            (list_seen seat.new) }
         ensures references { KeepsUse seat.old seat.new }
         ensures ok { IfOk result (λ n. (part : ℕ) × IsFlushing (name_of_port self.now) run part n seat.old seat.new) }
         ensures last { OnOk result (HasNothingLeft (terminal_at (name_of_port self.now) (list_seen seat.new))) }
-        ensures err { OnErr result ((part : ℕ) × (n : ℕ) × IsFlushing (name_of_port self.now) run part n seat.old seat.new) }
+        ensures err { OnErr result
+            ((part : ℕ) × (n : ℕ) × IsFlushing (name_of_port self.now) run part n seat.old seat.new) }
         ensures full { IfErr result (λ d. IsFull (name_of_port self.now) d (list_seen seat.new)) }
         ensures few { next_run (list_seen seat.new) ≤ 4194304 }
     {
@@ -80,9 +83,11 @@ impl SharedPort {
         requires seat { IsHolding self.now (name_of_port self.now).callers seat.old }
         requires piece { GoesOnAt run part (generation_in (last_word seat.old)) (list_seen seat.old) }
         ensures seat { IsHolding self.now (name_of_port self.now).callers seat.new }
-        ensures placed { ArePlaced (name_of_port self.now).callers (sum (name_of_port self.now).counts) (list_seen seat.new) }
+        ensures placed { ArePlaced (name_of_port self.now).callers (sum (name_of_port self.now).counts)
+            (list_seen seat.new) }
         ensures references { KeepsUse seat.old seat.new }
-        ensures flushed { IfOk result (λ flushed. FlushTurns (name_of_port self.now) run part (generation_in (last_word seat.old)) seat.old seat.new flushed) }
+        ensures flushed { IfOk result (λ flushed. FlushTurns (name_of_port self.now) run part
+            (generation_in (last_word seat.old)) seat.old seat.new flushed) }
         ensures err { OnErr result (MakesNone seat.old seat.new) }
         ensures next { OnErr result (next_run (list_seen seat.new) ≡ next_run (list_seen seat.old)) }
         ensures full { IfErr result (λ d. IsFull (name_of_port self.now) d (list_seen seat.new)) }

@@ -1,6 +1,7 @@
 //! The port in the cell, and what one turn does with it.
 
-ghost use Rattle.std.specs.Prelude.{◌≡◌, ◌+◌, ◌<◌, ◌≤◌, ◌^◌, true, false, IfOk, IfErr, OnOk, OnErr, IsTrue, length, sum};
+ghost use Rattle.std.specs.Prelude.{◌≡◌, ◌+◌, ◌<◌, ◌≤◌, ◌^◌, true, false, IfOk};
+ghost use Rattle.std.specs.Prelude.{IfErr, OnOk, OnErr, IsTrue, length, sum};
 ghost use Rattle.tty_calls.specs.Plain.{call_of, handle_of, changes, ticked, clock_ended, caller_ended};
 ghost use Rattle.tty_calls.specs.declared.journals.Who.TheVariants.{Caller, Clock};
 ghost use Rattle.tty_calls.specs.Limits.{byte_count};
@@ -66,14 +67,17 @@ impl KeptPort {
         requires known { caller < sum (name_of self.old).counts }
         requires number { handle_of (call_of call.now) < 32 }
         requires bytes { byte_count (call_of call.now) < 2 ^ 32 }
-        requires ready { IsUnderWay caller step (call_of call.now) (generation_of (history_of self.old)) (history_of self.old) }
+        requires ready { IsUnderWay caller step (call_of call.now) (generation_of (history_of self.old))
+            (history_of self.old) }
         ensures name { name_of self.new ≡ name_of self.old }
-        ensures tried { IfOk result (λ tried. Tries caller step (call_of call.now) (history_of self.old) (history_of self.new) (tried_of tried)) }
+        ensures tried { IfOk result (λ tried.
+            Tries caller step (call_of call.now) (history_of self.old) (history_of self.new) (tried_of tried)) }
         ensures same { OnErr result (history_of self.new ≡ history_of self.old) }
         ensures full { IfErr result (λ d. IsFull (name_of self.new) d (history_of self.new)) }
         ensures at_once { changes (call_of call.now) ≡ true → IfOk result (λ tried. IsAtOnce (tried_of tried)) }
         ensures by { AddsBy caller (history_of self.old) (history_of self.new) }
-        ensures generation { Raises (changes (call_of call.now)) (generation_of (history_of self.old)) (generation_of (history_of self.new)) }
+        ensures generation { Raises (changes (call_of call.now)) (generation_of (history_of self.old))
+            (generation_of (history_of self.new)) }
         ensures few { generation_of (history_of self.new) ≤ 4194304 }
         ensures history { IsHistoryOf self.new.callers self.new.port.value (history_of self.new) }
     {
@@ -90,7 +94,8 @@ impl KeptPort {
     pub(crate) fn flush_piece(&mut self, run: u32, part: u32) -> Result<Flushed, Denied>
         requires { GoesOnAt run part (generation_of (history_of self.old)) (history_of self.old) }
         ensures name { name_of self.new ≡ name_of self.old }
-        ensures flushed { IfOk result (λ flushed. Hands (name_of self.old) run part (history_of self.old) (history_of self.new) flushed) }
+        ensures flushed { IfOk result
+            (λ flushed. Hands (name_of self.old) run part (history_of self.old) (history_of self.new) flushed) }
         ensures same { OnErr result (history_of self.new ≡ history_of self.old) }
         ensures full { IfErr result (λ d. IsFull (name_of self.new) d (history_of self.new)) }
         ensures by { AddsBy (name_of self.old).callers (history_of self.old) (history_of self.new) }
@@ -108,7 +113,9 @@ impl KeptPort {
     pub(crate) fn tick(&mut self) -> Result<(), Denied>
         requires { (marks_at (history_of self.old)).clock_over ≡ false }
         ensures name { name_of self.new ≡ name_of self.old }
-        ensures ok { OnOk result (Adds (IsEntry ((name_of self.old).callers + 2) Clock (marks_at (history_of self.old)).phase ticked) (history_of self.old) (history_of self.new)) }
+        ensures ok { OnOk result (Adds
+            (IsEntry ((name_of self.old).callers + 2) Clock (marks_at (history_of self.old)).phase ticked)
+            (history_of self.old) (history_of self.new)) }
         ensures same { OnErr result (history_of self.new ≡ history_of self.old) }
         ensures full { IfErr result (λ d. IsFull (name_of self.new) d (history_of self.new)) }
         ensures by { AddsBy ((name_of self.old).callers + 2) (history_of self.old) (history_of self.new) }
@@ -123,7 +130,9 @@ impl KeptPort {
     pub(crate) fn clock_end(&mut self) -> Result<(), Denied>
         requires { (marks_at (history_of self.old)).clock_over ≡ false }
         ensures name { name_of self.new ≡ name_of self.old }
-        ensures ok { OnOk result (Adds (IsEntry ((name_of self.old).callers + 2) Clock (marks_at (history_of self.old)).phase clock_ended) (history_of self.old) (history_of self.new)) }
+        ensures ok { OnOk result (Adds
+            (IsEntry ((name_of self.old).callers + 2) Clock (marks_at (history_of self.old)).phase clock_ended)
+            (history_of self.old) (history_of self.new)) }
         ensures same { OnErr result (history_of self.new ≡ history_of self.old) }
         ensures full { IfErr result (λ d. IsFull (name_of self.new) d (history_of self.new)) }
         ensures by { AddsBy ((name_of self.old).callers + 2) (history_of self.old) (history_of self.new) }
@@ -140,7 +149,9 @@ impl KeptPort {
         requires ring { putter.old.ring ≡ (name_of self.old).ring }
         requires sent { (marks_at (history_of self.old)).sent ≤ length putter.old.sent }
         ensures name { name_of self.new ≡ name_of self.old }
-        ensures ok { OnOk result (Adds (EndsLine ((name_of self.old).callers + 1) putter.old putter.new (history_of self.old)) (history_of self.old) (history_of self.new)) }
+        ensures ok { OnOk result (Adds
+            (EndsLine ((name_of self.old).callers + 1) putter.old putter.new (history_of self.old))
+            (history_of self.old) (history_of self.new)) }
         ensures putter { OnErr result (putter.new ≡ putter.old) }
         ensures same { OnErr result (history_of self.new ≡ history_of self.old) }
         ensures full { IfErr result (λ d. IsFull (name_of self.new) d (history_of self.new)) }
@@ -157,7 +168,9 @@ impl KeptPort {
         requires known { caller < sum (name_of self.old).counts }
         requires between { IsBetween caller (standing_at caller (history_of self.old)).next (history_of self.old) }
         ensures name { name_of self.new ≡ name_of self.old }
-        ensures ok { OnOk result (Adds (IsEntry caller (Caller caller) (standing_at caller (history_of self.old)).next caller_ended) (history_of self.old) (history_of self.new)) }
+        ensures ok { OnOk result (Adds
+            (IsEntry caller (Caller caller) (standing_at caller (history_of self.old)).next caller_ended)
+            (history_of self.old) (history_of self.new)) }
         ensures same { OnErr result (history_of self.new ≡ history_of self.old) }
         ensures full { IfErr result (λ d. IsFull (name_of self.new) d (history_of self.new)) }
         ensures by { AddsBy caller (history_of self.old) (history_of self.new) }

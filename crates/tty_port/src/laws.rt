@@ -27,8 +27,11 @@ pub fn others_leave_what_is_open()
 /// Within one phase they leave also what is over: where a caller stands, whether the line is over and
 /// how many characters it sent, and whether the clock is over and how often it ticked.
 pub fn others_leave_what_is_over_within_a_phase()
-    ensures standing { (m n c : ℕ) (xs ys : List (Stamped EntryWithCall)) →
-        ArePlaced m n ys → Keeps c xs ys → (marks_at ys).phase ≡ (marks_at xs).phase → standing_at c ys ≡ standing_at c xs }
+    ensures standing { (m n c : ℕ) (xs ys : List (Stamped EntryWithCall))
+        → ArePlaced m n ys
+        → Keeps c xs ys
+        → (marks_at ys).phase ≡ (marks_at xs).phase
+        → standing_at c ys ≡ standing_at c xs }
     ensures line { (m n : ℕ) (xs ys : List (Stamped EntryWithCall)) →
         ArePlaced m n ys → Keeps (m + 1) xs ys → (marks_at ys).phase ≡ (marks_at xs).phase
         → ((marks_at ys).line_over ≡ (marks_at xs).line_over) × ((marks_at ys).sent ≡ (marks_at xs).sent) }

@@ -66,9 +66,12 @@ impl SharedPort {
         ensures port { IsPort result }
         ensures name { name_in (name_of_port self).callers result ≡ name_of_port self }
         ensures seats { EachSeat (HasAllOf (history_in (name_of_port self).callers result)) seats.items }
-        ensures list { GoesOn (λ k. k < (name_of_port self).callers + 4) (opening_history self) (history_in (name_of_port self).callers result) }
-        ensures history { IsHistoryOf (name_of_port self).callers result (history_in (name_of_port self).callers result) }
-        ensures generation { generation_of (history_in (name_of_port self).callers result) ≡ generation_of (opening_history self) + total install_count seats.items }
+        ensures list { GoesOn (λ k. k < (name_of_port self).callers + 4) (opening_history self)
+            (history_in (name_of_port self).callers result) }
+        ensures history { IsHistoryOf (name_of_port self).callers result
+            (history_in (name_of_port self).callers result) }
+        ensures generation { generation_of (history_in (name_of_port self).callers result)
+            ≡ generation_of (opening_history self) + total install_count seats.items }
     {
         let SharedPort {
             cell,

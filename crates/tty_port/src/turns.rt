@@ -71,7 +71,8 @@ impl SharedPort {
         ensures turn { has_turn seat.new ≡ false }
         ensures lowered { is_raised seat.new ≡ false }
         ensures list { list_seen seat.new ≡ history_of (value_in turn) }
-        ensures placed { ArePlaced (name_of_port self.now).callers (sum (name_of_port self.now).counts) (list_seen seat.new) }
+        ensures placed { ArePlaced (name_of_port self.now).callers (sum (name_of_port self.now).counts)
+            (list_seen seat.new) }
     {
         if turn.value().entry_count() != found {
             self.cell.note(seat, &mut turn);
@@ -86,8 +87,11 @@ impl SharedPort {
         requires not_over { (marks_at (list_seen seat.old)).clock_over ≡ false }
         ensures seat { IsHere self.now ((name_of_port self.now).callers + 2) seat.new }
         ensures references { KeepsUse seat.old seat.new }
-        ensures ok { OnOk result (MakesOne (λ before. IsEntry ((name_of_port self.now).callers + 2) Clock (marks_at before).phase ticked) seat.old seat.new) }
-        ensures placed { ArePlaced (name_of_port self.now).callers (sum (name_of_port self.now).counts) (list_seen seat.new) }
+        ensures ok { OnOk result (MakesOne
+            (λ before. IsEntry ((name_of_port self.now).callers + 2) Clock (marks_at before).phase ticked)
+            seat.old seat.new) }
+        ensures placed { ArePlaced (name_of_port self.now).callers (sum (name_of_port self.now).counts)
+            (list_seen seat.new) }
         ensures err { OnErr result (MakesNone seat.old seat.new) }
         ensures full { IfErr result (λ d. IsFull (name_of_port self.now) d (list_seen seat.new)) }
     {
@@ -103,8 +107,11 @@ impl SharedPort {
         requires not_over { (marks_at (list_seen seat.old)).clock_over ≡ false }
         ensures seat { IsHere self.now ((name_of_port self.now).callers + 2) seat.new }
         ensures references { KeepsUse seat.old seat.new }
-        ensures ok { OnOk result (MakesOne (λ before. IsEntry ((name_of_port self.now).callers + 2) Clock (marks_at before).phase clock_ended) seat.old seat.new) }
-        ensures placed { ArePlaced (name_of_port self.now).callers (sum (name_of_port self.now).counts) (list_seen seat.new) }
+        ensures ok { OnOk result (MakesOne
+            (λ before. IsEntry ((name_of_port self.now).callers + 2) Clock (marks_at before).phase clock_ended)
+            seat.old seat.new) }
+        ensures placed { ArePlaced (name_of_port self.now).callers (sum (name_of_port self.now).counts)
+            (list_seen seat.new) }
         ensures err { OnErr result (MakesNone seat.old seat.new) }
         ensures full { IfErr result (λ d. IsFull (name_of_port self.now) d (list_seen seat.new)) }
     {
@@ -128,8 +135,10 @@ impl SharedPort {
         requires sent { (marks_at (list_seen seat.old)).sent ≤ length putter.old.sent }
         ensures seat { IsHere self.now ((name_of_port self.now).callers + 1) seat.new }
         ensures references { KeepsUse seat.old seat.new }
-        ensures ok { OnOk result (MakesOne (EndsLine ((name_of_port self.now).callers + 1) putter.old putter.new) seat.old seat.new) }
-        ensures placed { ArePlaced (name_of_port self.now).callers (sum (name_of_port self.now).counts) (list_seen seat.new) }
+        ensures ok { OnOk result
+            (MakesOne (EndsLine ((name_of_port self.now).callers + 1) putter.old putter.new) seat.old seat.new) }
+        ensures placed { ArePlaced (name_of_port self.now).callers (sum (name_of_port self.now).counts)
+            (list_seen seat.new) }
         ensures putter { OnErr result (putter.new ≡ putter.old) }
         ensures err { OnErr result (MakesNone seat.old seat.new) }
         ensures full { IfErr result (λ d. IsFull (name_of_port self.now) d (list_seen seat.new)) }
@@ -147,8 +156,11 @@ impl SharedPort {
         requires between { IsBetween caller (standing_at caller (list_seen seat.old)).next (list_seen seat.old) }
         ensures seat { IsHere self.now caller seat.new }
         ensures references { KeepsUse seat.old seat.new }
-        ensures ok { OnOk result (MakesOne (λ before. IsEntry caller (Caller caller) (standing_at caller (list_seen seat.old)).next caller_ended) seat.old seat.new) }
-        ensures placed { ArePlaced (name_of_port self.now).callers (sum (name_of_port self.now).counts) (list_seen seat.new) }
+        ensures ok { OnOk result (MakesOne
+            (λ before. IsEntry caller (Caller caller) (standing_at caller (list_seen seat.old)).next caller_ended)
+            seat.old seat.new) }
+        ensures placed { ArePlaced (name_of_port self.now).callers (sum (name_of_port self.now).counts)
+            (list_seen seat.new) }
         ensures err { OnErr result (MakesNone seat.old seat.new) }
         ensures full { IfErr result (λ d. IsFull (name_of_port self.now) d (list_seen seat.new)) }
     {
@@ -165,8 +177,10 @@ impl SharedPort {
         ensures seat { IsHere self.now (number_of seat.old) seat.new }
         ensures references { KeepsUse seat.old seat.new }
         ensures kept { MakesNone seat.old seat.new }
-        ensures ended { result ≡ may_end (name_of_port self.now).counts (terminal_at (name_of_port self.now) (list_seen seat.new)) }
-        ensures placed { ArePlaced (name_of_port self.now).callers (sum (name_of_port self.now).counts) (list_seen seat.new) }
+        ensures ended { result
+            ≡ may_end (name_of_port self.now).counts (terminal_at (name_of_port self.now) (list_seen seat.new)) }
+        ensures placed { ArePlaced (name_of_port self.now).callers (sum (name_of_port self.now).counts)
+            (list_seen seat.new) }
     {
         let (mut turn, _) = self.begin_turn(rt, seat);
         let ended = turn.value().may_end();

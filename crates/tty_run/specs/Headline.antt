@@ -9,7 +9,8 @@ use Rattle.tty_one.specs.Outcome.{IsPlayedText, WasGiven}
 -- The text that was read spells a session; each of its ports has one returned run, which is legal and leads to the
 -- end that is reported; and the sink was given the text of that session, of these runs and of their ends, with the
 -- journals where the words ask for them.
-pub record IsPlayedOnThreads (words : List (List ℕ)) (left before now : Option (List ℕ)) (runs : List PortRun) : Type 0 where
+pub record IsPlayedOnThreads (words : List (List ℕ)) (left before now : Option (List ℕ))
+    (runs : List PortRun) : Type 0 where
   pub journals : Bool
   pub text : List ℕ
   pub asked : AskRun journals words

@@ -27,7 +27,8 @@ pub(crate) fn run<R: Threads + Wait + Sync, S: Source, G: Gate + Sync>(
     journals: bool,
     gate: &G,
 ) -> Result<Work, NoMemory>
-    ensures from { IfOk result (λ work. IsOfSource work.ending (S.faults source.old) (S.faults source.new) (S.left source.old) (S.left source.new)) }
+    ensures from { IfOk result (λ work.
+        IsOfSource work.ending (S.faults source.old) (S.faults source.new) (S.left source.old) (S.left source.new)) }
     ensures work { IfOk result (λ work. IsWork (Run journals) (S.left source.old) work.ending (brought work)) }
     ensures no_entries { IfOk result (λ work. work.vt.items ≡ []) }
     ensures no_log { IfOk result (λ work. work.jobs.items ≡ []) }
@@ -51,7 +52,8 @@ fn run_session<R: Threads + Wait + Sync, G: Gate + Sync>(
     gate: &G,
 ) -> Result<Work, NoMemory>
     requires { IsWithinLimits (session_of session.now) × IsNeverFull (session_of session.now) }
-    ensures played { IfOk result (λ work. IsSessionWork IsInAnyOrder (Report journals) (session_of session.now) work.ending work.runs.items) }
+    ensures played { IfOk result
+        (λ work. IsSessionWork IsInAnyOrder (Report journals) (session_of session.now) work.ending work.runs.items) }
     ensures no_entries { IfOk result (λ work. work.vt.items ≡ []) }
     ensures no_log { IfOk result (λ work. work.jobs.items ≡ []) }
 {

@@ -2,7 +2,8 @@
 
 ghost use Rattle.std.specs.Prelude.{◌≡◌, ◌⊎◌, ◌≢◌, ◌≤◌, [], IfSome, length};
 ghost use Rattle.tty_base.specs.Outside.{Rose, TookCount, LeavesRest};
-ghost use Rattle.tty_one.specs.Endings.{AreKnown, AreRun, AreRunOne, AreGen, AskCheck, AskJobs, AskVtOne, AskToRead, IsStatus, IsStatusOr, IsTold, texts_of};
+ghost use Rattle.tty_one.specs.Endings.{AreKnown, AreRun, AreRunOne, AreGen, AskCheck, AskJobs};
+ghost use Rattle.tty_one.specs.Endings.{AskVtOne, AskToRead, IsStatus, IsStatusOr, IsTold, texts_of};
 ghost use Rattle.tty_one.specs.Reported.{nothing, returned};
 ghost use Rattle.tty_one.specs.Consoles.{CompletesConsoles};
 ghost use Rattle.tty_one.specs.Processes.{CompletesProcesses};
@@ -21,8 +22,8 @@ use tty_port::Gate;
 /// grammar, 2 the words are none of the program's, 3 reading failed, 4 writing failed, 5 no memory was left,
 /// 6 the text is too long, 7 the journals that were read are not all legal. What is told goes to the sink:
 /// at 0 the session's report, with its journals where the words ask for them, the summary of a number's
-/// session, or that the journals are legal; else the line of the status. Of a session of consoles, and of one of processes, the report
-/// is its own.
+/// session, or that the journals are legal; else the line of the status. Of a session of consoles, and of one of
+/// processes, the report is its own.
 ///
 /// By `run` the session is played on threads: in each phase each port has one for each caller, one each for
 /// line and flusher, and one for a clock that has ticks. The other words are those of `tty_one`, which needs no thread.
@@ -37,31 +38,43 @@ pub fn tty_run<R: Threads + Wait + Sync, S: Source, K: Sink, G: Gate + Sync>(
     // On threads, for every schedule: on status 0 the text that was read spells a session; each of its ports
     // has one returned run, which is legal; and the sink was given the text of that session and these runs.
     // On status 4 after a run it was given a front of it.
-    ensures headline { AreRun (texts_of words.now) → result.status ≡ 0 → IsPlayedOnThreads (texts_of words.now) (S.left source.old) (K.given sink.old) (K.given sink.new) result.runs.items }
+    ensures headline { AreRun (texts_of words.now)
+        → result.status ≡ 0
+        → IsPlayedOnThreads (texts_of words.now) (S.left source.old) (K.given sink.old) (K.given sink.new)
+        result.runs.items }
     // 2 comes exactly for other words, unless its line could not be given, and nothing is read.
-    ensures other_words { (AreKnown (texts_of words.now) → ⊥) → ((result.status ≡ 2) ⊎ (result.status ≡ 4)) × (source.new ≡ source.old) × (returned result ≡ nothing) }
+    ensures other_words { (AreKnown (texts_of words.now) → ⊥)
+        → ((result.status ≡ 2) ⊎ (result.status ≡ 4)) × (source.new ≡ source.old) × (returned result ≡ nothing) }
     ensures known_words { AreKnown (texts_of words.now) → result.status ≢ 2 }
     ensures read_fault { result.status ≡ 3 → Rose (S.faults source.old) (S.faults source.new) }
     ensures write_fault { result.status ≡ 4 → Rose (K.faults sink.old) (K.faults sink.new) }
     // 6 comes exactly where one byte more than the longest text was read, unless its line could not
     // be given.
-    ensures too_long { IfSome (S.left source.old) (λ bytes. result.status ≡ 6 → TookCount 4194305 bytes (S.left source.new)) }
-    ensures long { IfSome (S.left source.old) (λ bytes. TookCount 4194305 bytes (S.left source.new) → (result.status ≡ 6) ⊎ (result.status ≡ 4)) }
+    ensures too_long { IfSome (S.left source.old)
+        (λ bytes. result.status ≡ 6 → TookCount 4194305 bytes (S.left source.new)) }
+    ensures long { IfSome (S.left source.old)
+        (λ bytes. TookCount 4194305 bytes (S.left source.new) → (result.status ≡ 6) ⊎ (result.status ≡ 4)) }
     ensures told { IfSome (K.given sink.old) (λ before. IsTold result.status before (K.given sink.new)) }
     ensures statuses { IsStatus result.status }
     // 0: the session is the one that the text spells that was read, or the one of the number; each run is
     // legal, and on one thread in its order, and the sink was given the text of that session and these
     // runs, or their summary. Or the runs that the text spells are all legal, and it was given that. Or the text
-    // spells a session of consoles, and each of them and their board was played on one thread. Or it spells a session of
-    // processes, and their ports were.
-    ensures done { result.status ≡ 0 → IsDone (texts_of words.now) (S.left source.old) (K.given sink.old) (K.given sink.new) (returned result) }
+    // spells a session of consoles, and each of them and their board was played on one thread. Or it spells a session
+    // of processes, and their ports were.
+    ensures done { result.status ≡ 0
+        → IsDone (texts_of words.now) (S.left source.old) (K.given sink.old) (K.given sink.new) (returned result) }
     // 1: the text that was read is not in its grammar, and the sink was given its first wrong line.
-    ensures bad_session { result.status ≡ 1 → IsToldRefused (texts_of words.now) (S.left source.old) (K.given sink.old) (K.given sink.new) }
+    ensures bad_session { result.status ≡ 1
+        → IsToldRefused (texts_of words.now) (S.left source.old) (K.given sink.old) (K.given sink.new) }
     // 7: the runs that the text spells are not all legal, and the sink was given the verdict that fits them.
-    ensures not_legal { result.status ≡ 7 → IsToldIllegal (texts_of words.now) (S.left source.old) (K.given sink.old) (K.given sink.new) }
+    ensures not_legal { result.status ≡ 7
+        → IsToldIllegal (texts_of words.now) (S.left source.old) (K.given sink.old) (K.given sink.new) }
     // 4: what was to be given is the text of the status that there would have been; that of 3 or of 6 stands
     // only where the words ask for a text to be read.
-    ensures broken { result.status ≡ 4 → IsBroken (AreKnown (texts_of words.now)) (AskToRead (texts_of words.now)) (texts_of words.now) (S.faults source.old) (S.faults source.new) (S.left source.old) (S.left source.new) (K.given sink.old) (K.given sink.new) (returned result) }
+    ensures broken { result.status ≡ 4
+        → IsBroken (AreKnown (texts_of words.now)) (AskToRead (texts_of words.now)) (texts_of words.now)
+        (S.faults source.old) (S.faults source.new) (S.left source.old) (S.left source.new) (K.given sink.old)
+        (K.given sink.new) (returned result) }
     ensures no_runs { result.status ≢ 0 → result.status ≢ 4 → returned result ≡ nothing }
     ensures none_judged { AskCheck (texts_of words.now) → result.runs.items ≡ [] }
     ensures no_entries { (AskVtOne (texts_of words.now) → ⊥) → result.vt.items ≡ [] }
@@ -70,8 +83,11 @@ pub fn tty_run<R: Threads + Wait + Sync, S: Source, K: Sink, G: Gate + Sync>(
     ensures rest { IfSome (S.left source.old) (λ bytes. LeavesRest bytes (S.left source.new)) }
     // Where a session is to be read and reading did not fail, a text that spells a session is played, and
     // one that spells none is refused, unless the text could not be given or memory was wanting.
-    ensures complete { IfSome (S.left source.old) (λ bytes. AreRun (texts_of words.now) ⊎ AreRunOne (texts_of words.now) → length bytes ≤ 4194304
-        → (Rose (S.faults source.old) (S.faults source.new) → ⊥) → Completes bytes result.status) }
+    ensures complete { IfSome (S.left source.old) (λ bytes.
+        AreRun (texts_of words.now) ⊎ AreRunOne (texts_of words.now)
+        → length bytes ≤ 4194304
+        → (Rose (S.faults source.old) (S.faults source.new) → ⊥)
+        → Completes bytes result.status) }
     // The session of a number is played, unless its summary could not be given or memory was wanting, and
     // nothing is read.
     ensures made { AreGen (texts_of words.now) → IsStatusOr 0 result.status }

@@ -1,9 +1,11 @@
 -- A list of callers after one of them, or each, has changed.
-use Rattle.std.proofs.Common.{◌≡◌, ℕ, zero, suc, ◌+◌, ◌≤◌, List, [], ◌∷◌, Bool, true, false, Option, None, Some, if◌then◌else◌, map, set, get_or, replicate, refl, ap, arith}
+use Rattle.std.proofs.Common.{◌≡◌, ℕ, zero, suc, ◌+◌, ◌≤◌, List, [], ◌∷◌, Bool, true, false, Option}
+use Rattle.std.proofs.Common.{None, Some, if◌then◌else◌, map, set, get_or, replicate, refl, ap, arith}
 use Rattle.tty_terminal.specs.declared.callers.Bound.{Bound}
 use Rattle.tty_terminal.specs.declared.callers.CallerState.{CallerState}
 use Rattle.tty_terminal.specs.Terminals.{idle_caller, is_bound, has_begun, begun_of}
-use Rattle.tty_terminal.specs.Generations.{bound_after_close, caller_after_close, bound_after_hangup, caller_after_hangup}
+use Rattle.tty_terminal.specs.Generations.{bound_after_close, caller_after_close}
+use Rattle.tty_terminal.specs.Generations.{bound_after_hangup, caller_after_hangup}
 
 -- one caller changes, and each other one stays
 pub set_relates : (R : CallerState → CallerState → Type 0) → ((s : CallerState) → R s s)
@@ -40,7 +42,16 @@ pub record Stays (s u : CallerState) : Type 0 where
   pub begun : begun_of u ≡ begun_of s
 
 pub stays : (s : CallerState) → Stays s s
-stays s = record { next = refl; over = refl; waits = refl; parts = refl; taken = refl; generation = refl; bound = refl; begun = refl }
+stays s = record {
+  next = refl;
+  over = refl;
+  waits = refl;
+  parts = refl;
+  taken = refl;
+  generation = refl;
+  bound = refl;
+  begun = refl;
+}
 
 closed_is_bound : (h : ℕ) (b : Option Bound) → is_bound (bound_after_close h b) ≡ is_bound b
 closed_is_bound h None = refl

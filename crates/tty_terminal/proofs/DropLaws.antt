@@ -1,5 +1,6 @@
 -- An outcome that drops what waits in the flip buffer is answered Done, and which calls these are.
-use Rattle.std.proofs.Common.{◌≡◌, ℕ, ◌<◌, List, Bool, true, false, Option, None, Some, if◌then◌else◌, length, is_some, ◌&&◌, refl, sym, ◌∙◌, subst, arith}
+use Rattle.std.proofs.Common.{◌≡◌, ℕ, ◌<◌, List, Bool, true, false, Option, None, Some}
+use Rattle.std.proofs.Common.{if◌then◌else◌, length, is_some, ◌&&◌, refl, sym, ◌∙◌, subst, arith}
 use Rattle.std.proofs.lemmas.Bool.{and_parts, false≢true}
 use Rattle.tty_base.specs.declared.characters.Flagged.{Flagged}
 use Rattle.tty_calls.specs.declared.calls.When.{When}
@@ -56,7 +57,9 @@ flush_done t queue.Both = λ drops. (_, refl)
 spares : (t : Terminal) (s : CallerState) (call : PlainCall) → call_drops t s call ≡ false → IsDone (outcome t s call)
 spares t s call none = never (outcome t s call) (outcome_drops t s call ∙ none)
 
-pub outcome_done : (t : Terminal) (s : CallerState) (call : PlainCall) → drops_of (outcome t s call) ≡ true → (left : Terminal) × (outcome t s call ≡ gives done true left)
+pub outcome_done : (t : Terminal) (s : CallerState) (call : PlainCall)
+    → drops_of (outcome t s call) ≡ true
+    → (left : Terminal) × (outcome t s call ≡ gives done true left)
 outcome_done t s (opens h access nonblock) = spares t s (opens h access nonblock) refl
 outcome_done t s (closes h) = spares t s (closes h) refl
 outcome_done t s (reads h n) = spares t s (reads h n) refl
@@ -79,17 +82,24 @@ outcome_done t s (takes_packet h) = spares t s (takes_packet h) refl
 
 -- which calls these are
 purge_of : (t : Terminal) (s : CallerState) (call : PlainCall) → call_drops t s call ≡ true → is_purge call ≡ true
-purge_of t s (sets_modes h w words) drops = (and_parts (drops_input w) (is_drained t) (and_parts (is_live (handle_for t s h)) _ drops).1).0
+purge_of t s (sets_modes h w words) drops =
+    (and_parts (drops_input w) (is_drained t) (and_parts (is_live (handle_for t s h)) _ drops).1).0
 purge_of t s (flushes h q) drops = (and_parts (is_live (handle_for t s h)) (is_of_input q) drops).1
 purge_of t s (hangs_up h) drops = refl
 purge_of t s call drops = drops
 
-pub outcome_purge : (t : Terminal) (s : CallerState) (call : PlainCall) → drops_of (outcome t s call) ≡ true → is_purge call ≡ true
+pub outcome_purge : (t : Terminal) (s : CallerState) (call : PlainCall)
+    → drops_of (outcome t s call) ≡ true
+    → is_purge call ≡ true
 outcome_purge t s call drops = purge_of t s call (sym (outcome_drops t s call) ∙ drops)
 
 -- ---- entries
 
-dropping : (t : Terminal) (may : Bool) (o : Outcome) (a : PlainAnswer) (n : ℕ) → Answers may o a → Drops t o n → 0 < n → drops_of o ≡ true
+dropping : (t : Terminal) (may : Bool) (o : Outcome) (a : PlainAnswer) (n : ℕ)
+    → Answers may o a
+    → Drops t o n
+    → 0 < n
+    → drops_of o ≡ true
 dropping t may unknown a n answers drops some = absurd answers
 dropping t may waits a n answers drops some = absurd (omega arith)
 dropping t may (takes taken left) a n answers drops some = absurd answers
@@ -103,24 +113,37 @@ call_purged t s may call a n answers drops some =
     let is = outcome_done t s call dropped in
     (outcome_purge t s call dropped, subst (λ (o : Outcome). Answers may o a) is.1 answers)
 
-known_purged : (f : ℕ → ℕ → Option PlainCall) (t : Terminal) (c step : ℕ) (may : Bool) (o : Option PlainCall) (a : PlainAnswer) (n : ℕ)
-    → f c step ≡ o → Answers may (outcome_of t (caller_at t c) o) a → Drops t (outcome_of t (caller_at t c) o) n → 0 < n
+known_purged : (f : ℕ → ℕ → Option PlainCall) (t : Terminal) (c step : ℕ) (may : Bool) (o : Option PlainCall)
+    (a : PlainAnswer) (n : ℕ)
+    → f c step ≡ o
+    → Answers may (outcome_of t (caller_at t c) o) a
+    → Drops t (outcome_of t (caller_at t c) o) n
+    → 0 < n
     → IsPurged f (Caller c) step a
 known_purged f t c step may None a n asked answers drops some = absurd answers
 known_purged f t c step may (Some call) a n asked answers drops some =
     let purged = call_purged t (caller_at t c) may call a n answers drops some in
     record { caller = c; call = call; by = refl; asked = asked; purge = purged.0; answer = purged.1 }
 
-answer_purged : (f : ℕ → ℕ → Option PlainCall) (counts : List ℕ) (t : Terminal) (who : Who) (step part : ℕ) (a : PlainAnswer) (dropped : List Flagged)
-    → IsAllowed f counts t who step part (answered a dropped) → 0 < length dropped → IsPurged f who step a
+answer_purged : (f : ℕ → ℕ → Option PlainCall) (counts : List ℕ) (t : Terminal) (who : Who) (step part : ℕ)
+    (a : PlainAnswer) (dropped : List Flagged)
+    → IsAllowed f counts t who step part (answered a dropped)
+    → 0 < length dropped
+    → IsPurged f who step a
 answer_purged f counts t (Caller c) step part a dropped h some =
-    known_purged f t c step (is_some (caller_at t c).waits && quiet counts t) (f c step) a (length dropped) refl h.answer h.drops some
+    known_purged f t c step (is_some (caller_at t c).waits && quiet counts t) (f c step) a (length dropped)
+    refl h.answer h.drops some
 answer_purged f counts t Flusher step part a dropped h some = absurd h
 answer_purged f counts t Line step part a dropped h some = absurd h
 answer_purged f counts t Clock step part a dropped h some = absurd h
 answer_purged f counts t Session step part a dropped h some = absurd h
 
-pub entry_purged : (f : ℕ → ℕ → Option PlainCall) (counts : List ℕ) (t : Terminal) (e : PlainEntry) (a : PlainAnswer) (dropped : List Flagged)
-    → Allowed f counts t e → e.event ≡ answered a dropped → 0 < length dropped → IsPurged f e.who e.step a
+pub entry_purged : (f : ℕ → ℕ → Option PlainCall) (counts : List ℕ) (t : Terminal) (e : PlainEntry) (a : PlainAnswer)
+    (dropped : List Flagged)
+    → Allowed f counts t e
+    → e.event ≡ answered a dropped
+    → 0 < length dropped
+    → IsPurged f e.who e.step a
 entry_purged f counts t e a dropped h is some =
-    answer_purged f counts t e.who e.step e.part a dropped (subst (λ (event : PlainEvent). IsAllowed f counts t e.who e.step e.part event) is h.1) some
+    answer_purged f counts t e.who e.step e.part a dropped
+    (subst (λ (event : PlainEvent). IsAllowed f counts t e.who e.step e.part event) is h.1) some

@@ -1,5 +1,6 @@
 -- Reserved room makes no difference: what the fields do is what the terminal does.
-use Rattle.std.proofs.Common.{◌≡◌, ℕ, List, [], Bool, true, false, not, ◌&&◌, ◌==◌, nat_lt, ◌∷◌, Some, if◌then◌else◌, length, drop, refl, sym, ◌∙◌, ap, arith}
+use Rattle.std.proofs.Common.{◌≡◌, ℕ, List, [], Bool, true, false, not, ◌&&◌, ◌==◌, nat_lt, ◌∷◌}
+use Rattle.std.proofs.Common.{Some, if◌then◌else◌, length, drop, refl, sym, ◌∙◌, ap, arith}
 use Rattle.std.proofs.lemmas.Bool.{false≢true}
 use Rattle.std.proofs.lemmas.Bool.Decides.{nat_tests}
 use Rattle.tty_modes.specs.Settings.{Settings}
@@ -32,7 +33,11 @@ write_is t s bytes handle may live now =
     through (not (may_write handle.access)) _ _ (ap not may)
     ∙ (through (not handle.live) _ _ (ap not live) ∙ through (is_outlived t s) _ _ now)
 
-parts_wait : (all some : Bool) (x y : Outcome) → is_wait x ≡ false → is_wait y ≡ false → (some ≡ false → all ≡ false) → is_wait (if all then x else if some then y else waits) ≡ not some
+parts_wait : (all some : Bool) (x y : Outcome)
+    → is_wait x ≡ false
+    → is_wait y ≡ false
+    → (some ≡ false → all ≡ false)
+    → is_wait (if all then x else if some then y else waits) ≡ not some
 parts_wait true true x y p q h = p
 parts_wait true false x y p q h = absurd (false≢true (sym (h refl)))
 parts_wait false true x y p q h = q
@@ -52,26 +57,36 @@ pub and_not : (a b : Bool) → a ≡ false → (not a && b) ≡ b
 and_not true b e = absurd (false≢true (sym e))
 and_not false b e = refl
 
-empty_waits : (rest : List ℕ) (t : Terminal) (s : CallerState) (tty : NTtyState) → (length rest == 0) ≡ true → is_wait (write_outcome t s false rest (disc.Tty tty)) ≡ false
+empty_waits : (rest : List ℕ) (t : Terminal) (s : CallerState) (tty : NTtyState)
+    → (length rest == 0) ≡ true
+    → is_wait (write_outcome t s false rest (disc.Tty tty)) ≡ false
 empty_waits [] t s tty e = refl
 empty_waits (b ∷ rest) t s tty e = absurd (grind (arith, nat_tests))
 
-by_length : (t : Terminal) (s : CallerState) (rest : List ℕ) (tty : NTtyState) (b : Bool) → (length rest == 0) ≡ b
-    → is_wait (write_outcome t s false rest (disc.Tty tty)) ≡ (not b && not (nat_lt 0 (piece_size t.modes tty t.output rest)))
+by_length : (t : Terminal) (s : CallerState) (rest : List ℕ) (tty : NTtyState) (b : Bool)
+    → (length rest == 0) ≡ b
+    → is_wait (write_outcome t s false rest (disc.Tty tty))
+    ≡ (not b && not (nat_lt 0 (piece_size t.modes tty t.output rest)))
 by_length t s rest tty true e = empty_waits rest t s tty e
 by_length t s rest tty false e = write_waits t s rest tty e
 
-refused_waits : (b : Bool) (x y : Outcome) → is_wait x ≡ false → is_wait y ≡ false → is_wait (if b then x else y) ≡ false
+refused_waits : (b : Bool) (x y : Outcome)
+    → is_wait x ≡ false
+    → is_wait y ≡ false
+    → is_wait (if b then x else y) ≡ false
 refused_waits true x y p q = p
 refused_waits false x y p q = q
 
 -- whether a blocking write must wait, by the discipline
-pub blocking_waits : (t : Terminal) (s : CallerState) (rest : List ℕ) (d : Disc) → is_wait (write_outcome t s false rest d) ≡ rest_waits t rest d
+pub blocking_waits : (t : Terminal) (s : CallerState) (rest : List ℕ) (d : Disc)
+    → is_wait (write_outcome t s false rest d) ≡ rest_waits t rest d
 blocking_waits t s rest (disc.Tty tty) = by_length t s rest tty (length rest == 0) refl
 blocking_waits t s rest (disc.Slip slip) = refused_waits (has_parts s) _ _ refl refl
 
 -- what is posted of a write is the same without room
 pub posted_made : (modes : Settings) (tty : NTtyState) (wire : Output) (rest : List ℕ)
-    → without_room (after_send wire (piece_text modes tty wire rest)) ≡ after_send (without_room wire) (piece_text modes tty (without_room wire) rest)
+    → without_room (after_send wire (piece_text modes tty wire rest))
+    ≡ after_send (without_room wire) (piece_text modes tty (without_room wire) rest)
 posted_made modes tty wire rest =
-    after_send-room (piece_text modes tty wire rest) wire ∙ ap (λ (text : List ℕ). after_send (without_room wire) text) (sym (piece_text-room modes tty wire rest))
+    after_send-room (piece_text modes tty wire rest) wire
+    ∙ ap (λ (text : List ℕ). after_send (without_room wire) text) (sym (piece_text-room modes tty wire rest))

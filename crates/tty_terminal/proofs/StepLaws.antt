@@ -1,11 +1,13 @@
 -- What each step changes, and what it keeps.
-use Rattle.std.proofs.Common.{◌≡◌, ℕ, ◌+◌, ◌-◌, ◌≤◌, List, [], ◌∷◌, Bool, true, false, IsTrue, ◌&&◌, ◌==◌, Option, None, Some, inl, inr, if◌then◌else◌, length, refl, sym, ◌∙◌, ap, arith}
+use Rattle.std.proofs.Common.{◌≡◌, ℕ, ◌+◌, ◌-◌, ◌≤◌, List, [], ◌∷◌, Bool, true, false, IsTrue, ◌&&◌, ◌==◌}
+use Rattle.std.proofs.Common.{Option, None, Some, inl, inr, if◌then◌else◌, length, refl, sym, ◌∙◌, ap, arith}
 use Rattle.std.proofs.lemmas.List.{length-map, length-set}
 use Rattle.std.proofs.lemmas.Bool.{and_parts, or_cases, eqb-true, false≢true}
 use Rattle.tty_base.specs.declared.characters.Flagged.{Flagged}
 use Rattle.tty_calls.specs.declared.journals.Who.{Who}
 use Rattle.tty_calls.specs.declared.journals.Who.TheVariants.{Caller, Flusher, Line, Clock, Session}
-use Rattle.tty_calls.specs.Plain.{PlainCall, PlainAnswer, PlainEvent, answered, parted, waited, flushed, ticked, line_ended, clock_ended, caller_ended, phase_ended, hung_up, PlainEntry, chars_in}
+use Rattle.tty_calls.specs.Plain.{PlainCall, PlainAnswer, PlainEvent, answered, parted, waited, flushed, ticked}
+use Rattle.tty_calls.specs.Plain.{line_ended, clock_ended, caller_ended, phase_ended, hung_up, PlainEntry, chars_in}
 use Rattle.tty_terminal.specs.declared.callers.Bound.{Bound}
 use Rattle.tty_terminal.specs.declared.callers.CallerState.{CallerState}
 use Rattle.tty_terminal.specs.declared.callers.Piece.{Piece}
@@ -72,27 +74,40 @@ goes : (s : CallerState) → Goes s s
 goes s = record { least = omega arith; most = omega arith; begun = omega arith }
 
 stays_goes : (s u : CallerState) → Stays s u → Goes s u
-stays_goes s u h = record { least = omega (arith, h.next); most = omega (arith, h.next); begun = omega (arith, h.begun) }
+stays_goes s u h =
+    record { least = omega (arith, h.next); most = omega (arith, h.next); begun = omega (arith, h.begun) }
 
 goes_on : (s u v : CallerState) → Stays s u → Goes u v → Goes s v
-goes_on s u v h k = record { least = omega (arith, h.next, k.least); most = omega (arith, h.next, k.most); begun = omega (arith, h.begun, k.begun) }
+goes_on s u v h k = record {
+  least = omega (arith, h.next, k.least);
+  most = omega (arith, h.next, k.most);
+  begun = omega (arith, h.begun, k.begun);
+}
 
 -- one caller's state is replaced by one that goes on from it
-set_goes : (t : Terminal) (c : ℕ) (s : CallerState) (d : ℕ) → Goes (caller_at t c) s → Goes (caller_at t d) (caller_at (with_caller t c s) d)
+set_goes : (t : Terminal) (c : ℕ) (s : CallerState) (d : ℕ)
+    → Goes (caller_at t c) s
+    → Goes (caller_at t d) (caller_at (with_caller t c s) d)
 set_goes t c s d h = set_relates Goes goes t.callers c s d h
 
 answered_goes : (s : CallerState) → Goes s (caller_after_answer s)
 answered_goes s = record { least = omega arith; most = omega arith; begun = begun_most s }
 
-drops_in_line : (t : Terminal) (o : Outcome) (n : ℕ) → Drops t o n → IsTrue t.line_over → t.taken ≤ t.sent → t.taken + n ≤ t.sent
+drops_in_line : (t : Terminal) (o : Outcome) (n : ℕ)
+    → Drops t o n
+    → IsTrue t.line_over
+    → t.taken ≤ t.sent
+    → t.taken + n ≤ t.sent
 drops_in_line t unknown n d over h = omega (arith, d)
 drops_in_line t waits n d over h = omega (arith, d)
 drops_in_line t (takes taken left) n d over h = omega (arith, d)
 drops_in_line t (gives answer false left) n d over h = omega (arith, d)
 drops_in_line t (gives answer true left) n d over h = omega (arith, d.2 over)
 
-answered_does : (t : Terminal) (s : CallerState) (total : ℕ) (o : Outcome) (c : ℕ) (a : PlainAnswer) (dropped : List Flagged)
-    → Keeps t s total o → Drops t o (length dropped)
+answered_does : (t : Terminal) (s : CallerState) (total : ℕ) (o : Outcome) (c : ℕ) (a : PlainAnswer)
+    (dropped : List Flagged)
+    → Keeps t s total o
+    → Drops t o (length dropped)
     → Does t (after_answer (with_dropped (left_by o t) (length dropped)) c) (answered a dropped)
 answered_does t s total o c a dropped k d =
     let l = k.left in
@@ -101,13 +116,18 @@ answered_does t s total o c a dropped k d =
       sent = l.sent;
       capacity = l.capacity;
       callers = length-set (left_by o t).callers c (caller_after_answer (caller_at (left_by o t) c)) ∙ l.callers;
-      caller = λ n. goes_on _ _ _ (l.caller n) (set_goes (left_by o t) c (caller_after_answer (caller_at (left_by o t) c)) n (answered_goes (caller_at (left_by o t) c)));
+      caller = λ n. goes_on _ _ _ (l.caller n)
+          (set_goes (left_by o t) c (caller_after_answer (caller_at (left_by o t) c)) n
+          (answered_goes (caller_at (left_by o t) c)));
       least = l.least;
       generation = l.generation;
       tick = omega (arith, l.tick);
       phase = omega (arith, l.phase);
       runs = rw l.flushed (omega arith);
-      in_line = λ h over. let kept : t.taken + length dropped ≤ t.sent = drops_in_line t o (length dropped) d (sym l.line_over ∙ over) (h (sym l.line_over ∙ over)) in omega (arith, l.taken, l.sent);
+      in_line = λ h over.
+          let kept : t.taken + length dropped ≤ t.sent =
+          drops_in_line t o (length dropped) d (sym l.line_over ∙ over) (h (sym l.line_over ∙ over)) in
+          omega (arith, l.taken, l.sent);
       within = λ h. omega (arith, l.taken, l.sent, l.capacity);
     }
 
@@ -129,7 +149,9 @@ waiting_goes t s h =
     let begun = bound_begun s.next (is_bound (bound_at t s.bound h)) (bound_is_bound t s.bound h) in
     record { least = omega arith; most = omega arith; begun = omega (arith, begun, begun_most s) }
 
-parted_does : (t : Terminal) (s : CallerState) (total : ℕ) (o : Outcome) (c h n : ℕ) → Keeps t s total o → Does t (after_part (left_by o t) c h n) (parted n)
+parted_does : (t : Terminal) (s : CallerState) (total : ℕ) (o : Outcome) (c h n : ℕ)
+    → Keeps t s total o
+    → Does t (after_part (left_by o t) c h n) (parted n)
 parted_does t s total o c h n k =
     let l = k.left in
     let u = left_by o t in
@@ -138,7 +160,8 @@ parted_does t s total o c h n k =
       sent = l.sent;
       capacity = l.capacity;
       callers = length-set u.callers c (caller_after_part u (caller_at u c) h n) ∙ l.callers;
-      caller = λ d. goes_on _ _ _ (l.caller d) (set_goes u c (caller_after_part u (caller_at u c) h n) d (part_goes u (caller_at u c) h n));
+      caller = λ d. goes_on _ _ _ (l.caller d)
+          (set_goes u c (caller_after_part u (caller_at u c) h n) d (part_goes u (caller_at u c) h n));
       least = l.least;
       generation = l.generation;
       tick = omega (arith, l.tick);
@@ -149,7 +172,11 @@ parted_does t s total o c h n k =
     }
 
 -- a caller's state changes, and nothing else
-changed_does : (t : Terminal) (c : ℕ) (s : CallerState) (event : PlainEvent) → length (chars_in event) ≡ 0 → sent_of event t.sent ≡ t.sent → Goes (caller_at t c) s → Does t (with_caller t c s) event
+changed_does : (t : Terminal) (c : ℕ) (s : CallerState) (event : PlainEvent)
+    → length (chars_in event) ≡ 0
+    → sent_of event t.sent ≡ t.sent
+    → Goes (caller_at t c) s
+    → Does t (with_caller t c s) event
 changed_does t c s event none sent h =
     record {
       taken = omega (arith, none);
@@ -187,10 +214,28 @@ record Receives (t u : Terminal) (n : ℕ) : Type 0 where
   line_over : u.line_over ≡ t.line_over
 
 receives : (t : Terminal) (chars : List Flagged) → Receives t (after_characters t chars) (length chars)
-receives t [] = record { taken = omega arith; sent = refl; capacity = refl; callers = refl; generation = refl; tick = refl; phase = refl; line_over = refl }
+receives t [] = record {
+  taken = omega arith;
+  sent = refl;
+  capacity = refl;
+  callers = refl;
+  generation = refl;
+  tick = refl;
+  phase = refl;
+  line_over = refl;
+}
 receives t (c ∷ cs) =
     let h = receives (after_character t c) cs in
-    record { taken = omega (arith, h.taken); sent = h.sent; capacity = h.capacity; callers = h.callers; generation = h.generation; tick = h.tick; phase = h.phase; line_over = h.line_over }
+    record {
+      taken = omega (arith, h.taken);
+      sent = h.sent;
+      capacity = h.capacity;
+      callers = h.callers;
+      generation = h.generation;
+      tick = h.tick;
+      phase = h.phase;
+      line_over = h.line_over;
+    }
 
 follows_runs : (p : Option Piece) (run part : ℕ) → IsTrue (follows p run part) → runs_of p ≤ run + 1
 follows_runs None run part h = omega arith
@@ -200,7 +245,9 @@ follows_runs (Some p) run part h =
       | inr e ↦ omega (arith, eqb-true run (p.run + 1) (and_parts (run == p.run + 1) (part == 0) e).0)
     ]
 
-flushed_does : (t : Terminal) (step part : ℕ) (chars : List Flagged) → IsFlush t step part chars → Does t (record (after_characters t chars) { flushed = Some (record { run = step; part = part }) }) (flushed chars)
+flushed_does : (t : Terminal) (step part : ℕ) (chars : List Flagged)
+    → IsFlush t step part chars
+    → Does t (record (after_characters t chars) { flushed = Some (record { run = step; part = part }) }) (flushed chars)
 flushed_does t step part chars f =
     let h = receives t chars in
     record {
@@ -214,7 +261,9 @@ flushed_does t step part chars f =
       tick = omega (arith, h.tick);
       phase = omega (arith, h.phase);
       runs = follows_runs t.flushed step part f.numbered;
-      in_line = λ k over. let kept : t.taken + length chars ≤ t.sent = f.sent (sym h.line_over ∙ over) in omega (arith, h.taken, h.sent);
+      in_line = λ k over.
+          let kept : t.taken + length chars ≤ t.sent = f.sent (sym h.line_over ∙ over) in
+          omega (arith, h.taken, h.sent);
       within = λ k. omega (arith, h.taken, h.sent, h.capacity);
     }
 
@@ -235,7 +284,9 @@ phase_does t =
       within = λ k. k;
     }
 
-hangup_does : (t : Terminal) (dropped : List Flagged) → length dropped ≡ t.sent - t.taken → Does t (with_dropped (after_hangup t) (length dropped)) (hung_up dropped)
+hangup_does : (t : Terminal) (dropped : List Flagged)
+    → length dropped ≡ t.sent - t.taken
+    → Does t (with_dropped (after_hangup t) (length dropped)) (hung_up dropped)
 hangup_does t dropped all =
     record {
       taken = refl;
@@ -253,7 +304,13 @@ hangup_does t dropped all =
     }
 
 -- line, clock and callers stay as they are
-same_does : (t : Terminal) (event : PlainEvent) (n : ℕ) (tick : ℕ) (line clock : Bool) → length (chars_in event) ≡ 0 → sent_of event t.sent ≡ n → tick ≤ t.tick + 1 → (InLine t → IsTrue line → t.taken ≤ n) → (Within t → n ≤ t.taken + t.capacity) → Does t (record t { tick = tick; sent = n; line_over = line; clock_over = clock }) event
+same_does : (t : Terminal) (event : PlainEvent) (n : ℕ) (tick : ℕ) (line clock : Bool)
+    → length (chars_in event) ≡ 0
+    → sent_of event t.sent ≡ n
+    → tick ≤ t.tick + 1
+    → (InLine t → IsTrue line → t.taken ≤ n)
+    → (Within t → n ≤ t.taken + t.capacity)
+    → Does t (record t { tick = tick; sent = n; line_over = line; clock_over = clock }) event
 same_does t event n tick line clock none sent ticks over within =
     record {
       taken = omega (arith, none);
@@ -270,42 +327,67 @@ same_does t event n tick line clock none sent ticks over within =
       within = within;
     }
 
-by_caller_does : (who : Who) (t : Terminal) (P : ℕ → Type 0) (f : ℕ → Terminal) (event : PlainEvent) → ((c : ℕ) → P c → Does t (f c) event) → ByCaller who P → Does t (by_caller who t f) event
+by_caller_does : (who : Who) (t : Terminal) (P : ℕ → Type 0) (f : ℕ → Terminal) (event : PlainEvent)
+    → ((c : ℕ) → P c → Does t (f c) event)
+    → ByCaller who P
+    → Does t (by_caller who t f) event
 by_caller_does (Caller c) t P f event each h = each c h
 by_caller_does Flusher t P f event each h = absurd h
 by_caller_does Line t P f event each h = absurd h
 by_caller_does Clock t P f event each h = absurd h
 by_caller_does Session t P f event each h = absurd h
 
-event_does : (f : ℕ → ℕ → Option PlainCall) (counts : List ℕ) (t : Terminal) (who : Who) (step part : ℕ) (event : PlainEvent)
-    → IsAllowed f counts t who step part event → Does t (after_event f t who step part event) event
+event_does : (f : ℕ → ℕ → Option PlainCall) (counts : List ℕ) (t : Terminal) (who : Who) (step part : ℕ)
+    (event : PlainEvent)
+    → IsAllowed f counts t who step part event
+    → Does t (after_event f t who step part event) event
 event_does f counts t who step part (answered a dropped) h =
-    by_caller_does who t (λ c. IsAnswer f counts t c step part a dropped) (λ c. after_answer (with_dropped (left_by (outcome_of t (caller_at t c) (f c step)) t) (length dropped)) c) (answered a dropped)
-    (λ c k. answered_does t (caller_at t c) (total_of (f c step)) (outcome_of t (caller_at t c) (f c step)) c a dropped (outcome_keeps t (caller_at t c) (f c step)) k.drops) h
+    by_caller_does who t (λ c. IsAnswer f counts t c step part a dropped)
+    (λ c. after_answer (with_dropped (left_by (outcome_of t (caller_at t c) (f c step)) t) (length dropped)) c)
+    (answered a dropped)
+    (λ c k. answered_does t (caller_at t c) (total_of (f c step)) (outcome_of t (caller_at t c) (f c step)) c a dropped
+    (outcome_keeps t (caller_at t c) (f c step)) k.drops) h
 event_does f counts t who step part (parted taken) h =
-    by_caller_does who t (λ c. IsPart f t c step part taken) (λ c. after_part (left_by (outcome_of t (caller_at t c) (f c step)) t) c (handle_number (f c step)) taken) (parted taken)
-    (λ c k. parted_does t (caller_at t c) (total_of (f c step)) (outcome_of t (caller_at t c) (f c step)) c (handle_number (f c step)) taken (outcome_keeps t (caller_at t c) (f c step))) h
+    by_caller_does who t (λ c. IsPart f t c step part taken)
+    (λ c. after_part (left_by (outcome_of t (caller_at t c) (f c step)) t) c (handle_number (f c step)) taken)
+    (parted taken)
+    (λ c k. parted_does t (caller_at t c) (total_of (f c step)) (outcome_of t (caller_at t c) (f c step)) c
+    (handle_number (f c step)) taken (outcome_keeps t (caller_at t c) (f c step))) h
 event_does f counts t who step part waited h =
     by_caller_does who t (λ c. IsWait f t c step part) (λ c. after_wait t c (handle_number (f c step))) waited
-    (λ c k. changed_does t c (caller_after_wait t (caller_at t c) (handle_number (f c step))) waited refl refl (waiting_goes t (caller_at t c) (handle_number (f c step)))) h
+    (λ c k. changed_does t c (caller_after_wait t (caller_at t c) (handle_number (f c step))) waited refl refl
+    (waiting_goes t (caller_at t c) (handle_number (f c step)))) h
 event_does f counts t who step part (flushed chars) h = flushed_does t step part chars h.1
-event_does f counts t who step part ticked h = same_does t ticked t.sent (t.tick + 1) t.line_over t.clock_over refl refl (omega arith) (λ k. k) (λ k. k)
-event_does f counts t who step part (line_ended n) h = same_does t (line_ended n) n t.tick true t.clock_over refl refl (omega arith) (λ k over. h.1.taken) (λ k. h.1.fits)
-event_does f counts t who step part clock_ended h = same_does t clock_ended t.sent t.tick t.line_over true refl refl (omega arith) (λ k. k) (λ k. k)
+event_does f counts t who step part ticked h =
+    same_does t ticked t.sent (t.tick + 1) t.line_over t.clock_over refl refl (omega arith) (λ k. k) (λ k. k)
+event_does f counts t who step part (line_ended n) h =
+    same_does t (line_ended n) n t.tick true t.clock_over refl refl (omega arith) (λ k over. h.1.taken) (λ k. h.1.fits)
+event_does f counts t who step part clock_ended h =
+    same_does t clock_ended t.sent t.tick t.line_over true refl refl (omega arith) (λ k. k) (λ k. k)
 event_does f counts t who step part caller_ended h =
     by_caller_does who t (λ c. IsCallerEnd t c step part) (after_caller_end t) caller_ended
-    (λ c k. changed_does t c (record (caller_at t c) { over = true }) caller_ended refl refl (ended_goes (caller_at t c))) h
+    (λ c k.
+    changed_does t c (record (caller_at t c) { over = true }) caller_ended refl refl (ended_goes (caller_at t c))) h
 event_does f counts t who step part phase_ended h = phase_does t
 event_does f counts t who step part (hung_up dropped) h = hangup_does t dropped h.1.all
 
-pub step_does : (f : ℕ → ℕ → Option PlainCall) (counts : List ℕ) (t : Terminal) (e : PlainEntry) → Allowed f counts t e → Does t (after f t e) e.event
+pub step_does : (f : ℕ → ℕ → Option PlainCall) (counts : List ℕ) (t : Terminal) (e : PlainEntry)
+    → Allowed f counts t e
+    → Does t (after f t e) e.event
 step_does f counts t e h = event_does f counts t e.who e.step e.part e.event h.1
 
-pub taken_after : (f : ℕ → ℕ → Option PlainCall) (counts : List ℕ) (t : Terminal) (e : PlainEntry) → Allowed f counts t e → (after f t e).taken ≡ t.taken + length (chars_in e.event)
+pub taken_after : (f : ℕ → ℕ → Option PlainCall) (counts : List ℕ) (t : Terminal) (e : PlainEntry)
+    → Allowed f counts t e
+    → (after f t e).taken ≡ t.taken + length (chars_in e.event)
 taken_after f counts t e h = (step_does f counts t e h).taken
 
-pub sent_after : (f : ℕ → ℕ → Option PlainCall) (counts : List ℕ) (t : Terminal) (e : PlainEntry) → Allowed f counts t e → (after f t e).sent ≡ sent_of e.event t.sent
+pub sent_after : (f : ℕ → ℕ → Option PlainCall) (counts : List ℕ) (t : Terminal) (e : PlainEntry)
+    → Allowed f counts t e
+    → (after f t e).sent ≡ sent_of e.event t.sent
 sent_after f counts t e h = (step_does f counts t e h).sent
 
-pub begun_after : (f : ℕ → ℕ → Option PlainCall) (counts : List ℕ) (t : Terminal) (e : PlainEntry) → Allowed f counts t e → (c : ℕ) → begun_of (caller_at t c) ≤ begun_of (caller_at (after f t e) c)
+pub begun_after : (f : ℕ → ℕ → Option PlainCall) (counts : List ℕ) (t : Terminal) (e : PlainEntry)
+    → Allowed f counts t e
+    → (c : ℕ)
+    → begun_of (caller_at t c) ≤ begun_of (caller_at (after f t e) c)
 begun_after f counts t e h c = ((step_does f counts t e h).caller c).begun

@@ -19,7 +19,12 @@ after_change t new = record t { disc = fresh_of new; output = after_start t.outp
 -- The last close, after the handle went: N_TTY anew, both halts go and what was held is sent. The modes stay.
 abbrev pub after_last_close : Terminal → Terminal
 after_last_close t =
-    record t { disc = fresh_of kind.Tty; output = after_release t.output; exclusive = false; generation = t.generation + 1 }
+    record t {
+      disc = fresh_of kind.Tty;
+      output = after_release t.output;
+      exclusive = false;
+      generation = t.generation + 1;
+    }
 
 -- a call goes on with a handle that is dead for good
 abbrev pub bound_after_hangup : Option Bound → Option Bound
@@ -56,7 +61,8 @@ caller_after_close h s = record s { bound = bound_after_close h s.bound }
 
 -- a close that need not be the last: the number is free again
 abbrev pub after_close : Terminal → ℕ → Terminal
-after_close t h = record t { handles = table.without_handle t.handles h; callers = map (caller_after_close h) t.callers }
+after_close t h =
+    record t { handles = table.without_handle t.handles h; callers = map (caller_after_close h) t.callers }
 
 -- what a hangup leaves to whoever opens the port next: N_TTY anew, with nothing unread and nothing held, output that
 -- flows, no note for ixoff, no exclusive use, and no live handle

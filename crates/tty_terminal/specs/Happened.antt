@@ -1,5 +1,6 @@
 -- What has happened to the discipline since it was installed, by the entries of a journal.
-use Rattle.std.specs.Prelude.{ℕ, List, [], ◌∷◌, ◌++◌, Bool, true, false, ◌==◌, ◌||◌, Option, None, Some, if◌then◌else◌, nat_lt, length, drop}
+use Rattle.std.specs.Prelude.{ℕ, List, [], ◌∷◌, ◌++◌, Bool, true, false, ◌==◌, ◌||◌}
+use Rattle.std.specs.Prelude.{Option, None, Some, if◌then◌else◌, nat_lt, length, drop}
 use Rattle.tty_base.specs.declared.characters.Flagged.{Flagged}
 use Rattle.tty_modes.specs.Settings.{Settings}
 use Rattle.tty_modes.specs.Word.{after_words}
@@ -12,7 +13,8 @@ use Rattle.tty_calls.specs.declared.calls.Queue.{Queue}
 use Rattle.tty_calls.specs.declared.calls.Queue.TheVariants as queue
 use Rattle.tty_calls.specs.declared.journals.Who.{Who}
 use Rattle.tty_calls.specs.declared.journals.Who.TheVariants.{Caller}
-use Rattle.tty_calls.specs.Plain.{PlainCall, reads, writes, sets_modes, flushes, takes_packet, PlainEvent, answered, parted, flushed, PlainEntry}
+use Rattle.tty_calls.specs.Plain.{PlainCall, reads, writes, sets_modes, flushes, takes_packet}
+use Rattle.tty_calls.specs.Plain.{PlainEvent, answered, parted, flushed, PlainEntry}
 use Rattle.handle_table.specs.declared.HandleState.{HandleState}
 use Rattle.ldisc_switch.specs.declared.discipline.Disc.{Disc}
 use Rattle.ldisc_switch.specs.declared.discipline.Disc.TheVariants as disc
@@ -93,7 +95,8 @@ happens_by_known t s (Some call) = happens_by_call t s call
 abbrev pub happens_by_flush : Terminal → List Flagged → List Happening
 happens_by_flush t [] = []
 happens_by_flush t (c ∷ cs) =
-    character (record { modes = t.modes; tick = t.tick; output = t.output; tally = t.tally }) c ∷ happens_by_flush (after_character t c) cs
+    character (record { modes = t.modes; tick = t.tick; output = t.output; tally = t.tally }) c
+    ∷ happens_by_flush (after_character t c) cs
 
 abbrev pub happens_by_caller : (ℕ → ℕ → Option PlainCall) → Terminal → Who → (step : ℕ) → List Happening
 happens_by_caller calls t (Caller c) step = happens_by_known t (caller_at t c) (calls c step)

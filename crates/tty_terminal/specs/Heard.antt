@@ -3,8 +3,10 @@ use Rattle.std.specs.Prelude.{◌≡◌, ℕ, List, [], ◌∷◌, ◌++◌, Boo
 use Rattle.tty_base.specs.declared.characters.Flagged.{Flagged}
 use Rattle.ldisc_switch.specs.declared.kinds.Kind.{Kind}
 use Rattle.ldisc_switch.specs.declared.discipline.Disc.{Disc}
-use Rattle.ldisc_switch.specs.Happenings.{Happening, character, read, write, flush, mode_change, ixoff_rule, packet_take, HasHappened}
-use Rattle.tty_calls.specs.Plain.{PlainCall, PlainEvent, answered, parted, waited, flushed, ticked, line_ended, clock_ended, caller_ended, phase_ended, hung_up, PlainEntry}
+use Rattle.ldisc_switch.specs.Happenings.{Happening, character, read, write, flush}
+use Rattle.ldisc_switch.specs.Happenings.{mode_change, ixoff_rule, packet_take, HasHappened}
+use Rattle.tty_calls.specs.Plain.{PlainCall, PlainEvent, answered, parted, waited, flushed, ticked}
+use Rattle.tty_calls.specs.Plain.{line_ended, clock_ended, caller_ended, phase_ended, hung_up, PlainEntry}
 use Rattle.tty_terminal.specs.Terminals.{Terminal}
 use Rattle.tty_terminal.specs.Steps.{after}
 use Rattle.tty_terminal.specs.Begins.{begins_generation}

@@ -1,6 +1,7 @@
 -- What the entries of a journal tell of tick, line, clock, phase and flush runs.
 use Rattle.std.specs.Prelude.{ℕ, ◌+◌, List, [], ◌∷◌, Bool, true, false, Option, None, Some}
-use Rattle.tty_calls.specs.Plain.{PlainEvent, answered, parted, waited, flushed, ticked, line_ended, clock_ended, caller_ended, phase_ended, hung_up, PlainEntry}
+use Rattle.tty_calls.specs.Plain.{PlainEvent, answered, parted, waited, flushed, ticked, line_ended}
+use Rattle.tty_calls.specs.Plain.{clock_ended, caller_ended, phase_ended, hung_up, PlainEntry}
 use Rattle.tty_terminal.specs.declared.callers.Piece.{Piece}
 use Rattle.tty_terminal.specs.Terminals.{Terminal}
 
@@ -14,7 +15,14 @@ pub record Marks : Type 0 where
 
 abbrev pub marks_of : Terminal → Marks
 marks_of t =
-    record { tick = t.tick; sent = t.sent; phase = t.phase; line_over = t.line_over; clock_over = t.clock_over; latest = t.flushed }
+    record {
+      tick = t.tick;
+      sent = t.sent;
+      phase = t.phase;
+      line_over = t.line_over;
+      clock_over = t.clock_over;
+      latest = t.flushed;
+    }
 
 -- after an event of this step and part
 abbrev pub marks_after : PlainEvent → (step part : ℕ) → Marks → Marks

@@ -1,5 +1,6 @@
 -- What the code answers of an outcome, and the room that it needs.
-use Rattle.std.specs.Prelude.{◌≡◌, ◌<◌, ◌≤◌, ◌==◌, ◌+◌, ◌-◌, ◌*◌, ◌^◌, min, ℕ, List, [], Option, None, Some, Bool, true, false, nat_lt, if◌then◌else◌, length, option_map}
+use Rattle.std.specs.Prelude.{◌≡◌, ◌<◌, ◌≤◌, ◌==◌, ◌+◌, ◌-◌, ◌*◌, ◌^◌, min, ℕ, List, [], Option, None}
+use Rattle.std.specs.Prelude.{Some, Bool, true, false, nat_lt, if◌then◌else◌, length, option_map}
 use Rattle.tty_base.specs.Sizes.{COUNT_END, MOST_HELD, PIECE}
 use Rattle.tty_base.specs.Contents.{Contents}
 use Rattle.tty_base.specs.declared.counters.Counts.{Counts}

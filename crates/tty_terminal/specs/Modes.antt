@@ -20,7 +20,11 @@ output_under old new output = if has_flag old IXON && not (has_flag new IXON) th
 
 abbrev pub with_modes : Terminal → Settings → Terminal
 with_modes t new =
-    record t { modes = new; disc = after_one t.disc (mode_change t.modes new); output = output_under t.modes new t.output }
+    record t {
+      modes = new;
+      disc = after_one t.disc (mode_change t.modes new);
+      output = output_under t.modes new t.output;
+    }
 
 -- the unread input of the discipline is dropped: bytes with the edited line and the quoting mark, or packets
 abbrev pub without_input : Terminal → Terminal

@@ -33,4 +33,5 @@ abbrev pub taking_outcome : Terminal → Disc → Outcome
 taking_outcome t (disc.Tty tty) = refuses ENOTTY t
 taking_outcome t (disc.Slip slip) =
     if length slip.packets == 0 then refuses EAGAIN t
-    else gives (got (first_packet slip)) false (record t { disc = disc.Slip (record slip { packets = drop 1 slip.packets }) })
+    else gives (got (first_packet slip)) false
+    (record t { disc = disc.Slip (record slip { packets = drop 1 slip.packets }) })

@@ -1,5 +1,6 @@
 -- Worked journals, and how they may be changed.
-use Rattle.std.specs.Prelude.{ℕ, List, [], ◌∷◌, ◌++◌, true, false, Option, None, ◌==◌, if◌then◌else◌, map, replicate, slice_get, slice_index_or}
+use Rattle.std.specs.Prelude.{ℕ, List, [], ◌∷◌, ◌++◌, true, false, Option, None, ◌==◌}
+use Rattle.std.specs.Prelude.{if◌then◌else◌, map, replicate, slice_get, slice_index_or}
 use Rattle.tty_base.specs.declared.characters.Flag.TheVariants.{Normal}
 use Rattle.tty_base.specs.declared.characters.Flagged.{Flagged}
 use Rattle.tty_modes.specs.declared.words.Word.TheVariants.{On, Cc, Raw}
@@ -99,7 +100,8 @@ LeadsFrom callers counts start journal t = Leads (calls_from callers) counts sta
 
 -- an entry of a call of which so many parts were taken
 abbrev pub after_parts : ℕ → Who → ℕ → ℕ → PlainEvent → PlainEntry
-after_parts parts who step generation event = record { who = who; step = step; part = parts; generation = generation; event = event }
+after_parts parts who step generation event =
+    record { who = who; step = step; part = parts; generation = generation; event = event }
 
 abbrev pub answers : PlainAnswer → PlainEvent
 answers answer = answered answer []

@@ -1,10 +1,12 @@
 -- Whole journals: runs of the terminal, flush runs and calls in one generation, and the characters
 -- that a journal accounts for.
-use Rattle.std.specs.Prelude.{◌≡◌, ℕ, List, [], ◌∷◌, ◌++◌, Bool, true, false, Option, Some, is_some, IsTrue, MatchBool, ◌&&◌, ◌==◌, ◌+◌, ◌<◌, sum}
+use Rattle.std.specs.Prelude.{◌≡◌, ℕ, List, [], ◌∷◌, ◌++◌, Bool, true, false, Option}
+use Rattle.std.specs.Prelude.{Some, is_some, IsTrue, MatchBool, ◌&&◌, ◌==◌, ◌+◌, ◌<◌, sum}
 use Rattle.tty_base.specs.declared.characters.Flagged.{Flagged}
 use Rattle.tty_calls.specs.declared.journals.Who.{Who}
 use Rattle.tty_calls.specs.declared.journals.Who.TheVariants.{Caller, Flusher, Line, Clock, Session}
-use Rattle.tty_calls.specs.Plain.{PlainCall, PlainEvent, answered, parted, waited, flushed, ticked, line_ended, clock_ended, caller_ended, phase_ended, hung_up, PlainEntry, is_caller, chars_in}
+use Rattle.tty_calls.specs.Plain.{PlainCall, PlainEvent, answered, parted, waited, flushed, ticked, line_ended}
+use Rattle.tty_calls.specs.Plain.{clock_ended, caller_ended, phase_ended, hung_up, PlainEntry, is_caller, chars_in}
 use Rattle.tty_terminal.specs.Terminals.{Terminal, opening, caller_at}
 use Rattle.tty_terminal.specs.Steps.{Allowed, after}
 
@@ -45,13 +47,15 @@ is_of_call (hung_up dropped) = false
 -- each piece of this flush run has this generation
 abbrev pub RunHas : ℕ → ℕ → List PlainEntry → Type 0
 RunHas run generation [] = Unit {0}
-RunHas run generation (e ∷ es) = (IsTrue (is_flush e.event && (e.step == run)) → e.generation ≡ generation) × RunHas run generation es
+RunHas run generation (e ∷ es) =
+    (IsTrue (is_flush e.event && (e.step == run)) → e.generation ≡ generation) × RunHas run generation es
 
 -- the next entry of this caller's call has this generation
 abbrev pub NextHas : ℕ → ℕ → ℕ → List PlainEntry → Type 0
 NextHas c step generation [] = Unit {0}
 NextHas c step generation (e ∷ es) =
-    MatchBool (is_of_call e.event && is_caller e.who c && (e.step == step)) (e.generation ≡ generation) (NextHas c step generation es)
+    MatchBool (is_of_call e.event && is_caller e.who c && (e.step == step)) (e.generation ≡ generation)
+    (NextHas c step generation es)
 
 abbrev pub CallGoesOn : Who → ℕ → ℕ → List PlainEntry → Type 0
 CallGoesOn (Caller c) step generation es = NextHas c step generation es
@@ -81,7 +85,11 @@ OneGeneration (e ∷ es) = GoesOn e.event e.who e.step e.generation es × OneGen
 -- a call of which a part was taken, and which has not waited since, goes on in the generation of its parts
 abbrev pub GoesOnInGeneration : Terminal → PlainEntry → Type 0
 GoesOnInGeneration t e =
-    (c : ℕ) → is_of_call e.event ≡ true → is_caller e.who c ≡ true → 0 < (caller_at t c).parts → is_some (caller_at t c).waits ≡ false
+    (c : ℕ)
+    → is_of_call e.event ≡ true
+    → is_caller e.who c ≡ true
+    → 0 < (caller_at t c).parts
+    → is_some (caller_at t c).waits ≡ false
     → (caller_at t c).generation ≡ e.generation
 
 -- the characters of a journal, in the order of its entries

@@ -1,6 +1,7 @@
 -- Where a caller stands, as it follows from its own entries and from the ends of phases alone.
 use Rattle.std.specs.Prelude.{ℕ, ◌+◌, ◌==◌, List, [], ◌∷◌, Bool, true, false, is_some, if◌then◌else◌}
-use Rattle.tty_calls.specs.Plain.{PlainEvent, answered, parted, waited, flushed, ticked, line_ended, clock_ended, caller_ended, phase_ended, hung_up, PlainEntry, is_caller}
+use Rattle.tty_calls.specs.Plain.{PlainEvent, answered, parted, waited, flushed, ticked, line_ended}
+use Rattle.tty_calls.specs.Plain.{clock_ended, caller_ended, phase_ended, hung_up, PlainEntry, is_caller}
 use Rattle.tty_terminal.specs.declared.callers.CallerState.{CallerState}
 use Rattle.tty_terminal.specs.Terminals.{has_begun}
 
@@ -61,7 +62,8 @@ standing_after_other phase_ended s = record s { over = false }
 standing_after_other (hung_up dropped) s = s
 
 abbrev pub standing_after : ℕ → PlainEntry → Standing → Standing
-standing_after c e s = if is_caller e.who c then standing_after_own e.event e.generation s else standing_after_other e.event s
+standing_after c e s =
+    if is_caller e.who c then standing_after_own e.event e.generation s else standing_after_other e.event s
 
 -- where a caller stands after these entries
 abbrev pub standing_in : ℕ → List PlainEntry → Standing → Standing

@@ -28,14 +28,16 @@ nothing_to_flush t = (t.taken == t.sent) || ((live_count t == 0) || not (accepts
 
 -- line and clock are over, every caller of the phase is over or waits, and nothing is left to flush
 abbrev pub quiet_with : ℕ → Terminal → Bool
-quiet_with callers t = t.line_over && (t.clock_over && (nat_le callers (count_by is_resting t.callers) && nothing_to_flush t))
+quiet_with callers t =
+    t.line_over && (t.clock_over && (nat_le callers (count_by is_resting t.callers) && nothing_to_flush t))
 
 abbrev pub quiet : List ℕ → Terminal → Bool
 quiet counts t = quiet_with (callers_in counts t.phase) t
 
 -- line and clock are over, every caller of the phase is over, and nothing is left to flush
 abbrev pub may_end_with : ℕ → Terminal → Bool
-may_end_with callers t = t.line_over && (t.clock_over && (nat_le callers (count_by is_over t.callers) && nothing_to_flush t))
+may_end_with callers t =
+    t.line_over && (t.clock_over && (nat_le callers (count_by is_over t.callers) && nothing_to_flush t))
 
 abbrev pub may_end : List ℕ → Terminal → Bool
 may_end counts t = may_end_with (callers_in counts t.phase) t
@@ -92,7 +94,8 @@ pub record IsNext (t : Terminal) (c step part : ℕ) : Type 0 where
   pub at_part : part ≡ (caller_at t c).parts
   pub not_over : (caller_at t c).over ≡ false
 
-pub record IsAnswer (calls : ℕ → ℕ → Option PlainCall) (counts : List ℕ) (t : Terminal) (c step part : ℕ) (a : PlainAnswer) (dropped : List Flagged) : Type 0 where
+pub record IsAnswer (calls : ℕ → ℕ → Option PlainCall) (counts : List ℕ) (t : Terminal) (c step part : ℕ)
+    (a : PlainAnswer) (dropped : List Flagged) : Type 0 where
   pub next : IsNext t c step part
   pub answer : Answers (is_some (caller_at t c).waits && quiet counts t) (outcome_of t (caller_at t c) (calls c step)) a
   pub drops : Drops t (outcome_of t (caller_at t c) (calls c step)) (length dropped)
@@ -165,7 +168,8 @@ ByCaller Clock P = ⊥
 ByCaller Session P = ⊥
 
 abbrev pub IsAllowed : (ℕ → ℕ → Option PlainCall) → List ℕ → Terminal → Who → ℕ → ℕ → PlainEvent → Type 0
-IsAllowed calls counts t who step part (answered a dropped) = ByCaller who (λ c. IsAnswer calls counts t c step part a dropped)
+IsAllowed calls counts t who step part (answered a dropped) =
+    ByCaller who (λ c. IsAnswer calls counts t c step part a dropped)
 IsAllowed calls counts t who step part (parted taken) = ByCaller who (λ c. IsPart calls t c step part taken)
 IsAllowed calls counts t who step part waited = ByCaller who (λ c. IsWait calls t c step part)
 IsAllowed calls counts t who step part (flushed chars) = (who ≡ Flusher) × IsFlush t step part chars
@@ -178,7 +182,8 @@ IsAllowed calls counts t who step part (hung_up dropped) = (who ≡ Session) × 
 
 -- the call is answered: its handle, its bytes and its wait are forgotten
 abbrev pub caller_after_answer : CallerState → CallerState
-caller_after_answer s = record { next = s.next + 1; over = s.over; waits = None; parts = 0; taken = 0; generation = 0; bound = None }
+caller_after_answer s =
+    record { next = s.next + 1; over = s.over; waits = None; parts = 0; taken = 0; generation = 0; bound = None }
 
 abbrev pub with_caller : Terminal → ℕ → CallerState → Terminal
 with_caller t c s = record t { callers = slice_set t.callers c s }
@@ -238,15 +243,19 @@ abbrev pub caller_after_phase : CallerState → CallerState
 caller_after_phase s = record s { over = false }
 
 abbrev pub next_phase : Terminal → Terminal
-next_phase t = record t { phase = t.phase + 1; line_over = false; clock_over = false; callers = map caller_after_phase t.callers }
+next_phase t =
+    record t { phase = t.phase + 1; line_over = false; clock_over = false; callers = map caller_after_phase t.callers }
 
 abbrev pub after_event : (ℕ → ℕ → Option PlainCall) → Terminal → Who → ℕ → ℕ → PlainEvent → Terminal
 after_event calls t who step part (answered a dropped) =
-    by_caller who t (λ c. after_answer (with_dropped (left_by (outcome_of t (caller_at t c) (calls c step)) t) (length dropped)) c)
+    by_caller who t
+    (λ c. after_answer (with_dropped (left_by (outcome_of t (caller_at t c) (calls c step)) t) (length dropped)) c)
 after_event calls t who step part (parted taken) =
-    by_caller who t (λ c. after_part (left_by (outcome_of t (caller_at t c) (calls c step)) t) c (handle_number (calls c step)) taken)
+    by_caller who t
+    (λ c. after_part (left_by (outcome_of t (caller_at t c) (calls c step)) t) c (handle_number (calls c step)) taken)
 after_event calls t who step part waited = by_caller who t (λ c. after_wait t c (handle_number (calls c step)))
-after_event calls t who step part (flushed chars) = record (after_characters t chars) { flushed = Some (record { run = step; part = part }) }
+after_event calls t who step part (flushed chars) =
+    record (after_characters t chars) { flushed = Some (record { run = step; part = part }) }
 after_event calls t who step part ticked = record t { tick = t.tick + 1 }
 after_event calls t who step part (line_ended n) = record t { sent = n; line_over = true }
 after_event calls t who step part clock_ended = record t { clock_over = true }

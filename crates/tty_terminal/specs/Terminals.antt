@@ -1,5 +1,6 @@
 -- The one-thread terminal as a value.
-use Rattle.std.specs.Prelude.{ℕ, ◌+◌, List, Bool, true, false, ◌||◌, Option, None, Some, is_some, if◌then◌else◌, replicate, slice_index_or}
+use Rattle.std.specs.Prelude.{ℕ, ◌+◌, List, Bool, true, false, ◌||◌, Option, None}
+use Rattle.std.specs.Prelude.{Some, is_some, if◌then◌else◌, replicate, slice_index_or}
 use Rattle.tty_modes.specs.Settings.{Settings, sane_modes}
 use Rattle.flow_control.specs.Output.{Output, idle_output}
 use Rattle.flow_control.specs.declared.tally.Tally.{Tally}

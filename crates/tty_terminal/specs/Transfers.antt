@@ -1,5 +1,6 @@
 -- Reading and writing (read(2), write(2)).
-use Rattle.std.specs.Prelude.{ℕ, ◌+◌, ◌==◌, Bool, false, not, ◌&&◌, nat_lt, List, [], Option, None, Some, if◌then◌else◌, length, drop}
+use Rattle.std.specs.Prelude.{ℕ, ◌+◌, ◌==◌, Bool, false, not, ◌&&◌, nat_lt, List}
+use Rattle.std.specs.Prelude.{[], Option, None, Some, if◌then◌else◌, length, drop}
 use Rattle.tty_base.specs.declared.counters.Errno.{Errno}
 use Rattle.tty_base.specs.declared.counters.Errno.TheVariants.{EBADF, EAGAIN, EIO}
 use Rattle.tty_calls.specs.Plain.{count_is, got}

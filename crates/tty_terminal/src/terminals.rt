@@ -1,7 +1,8 @@
 //! The one-thread terminal: what characters, calls, the line, the clock and a hangup do to it, and what can be asked
 //! of it.
 
-ghost use Rattle.std.specs.Prelude.{◌≡◌, ◌↔◌, ℕ, Some, true, false, ◌+◌, ◌*◌, ◌-◌, ◌≤◌, ◌<◌, ◌^◌, IsTrue, IfOk, OnOk, length, take, drop};
+ghost use Rattle.std.specs.Prelude.{◌≡◌, ◌↔◌, ℕ, Some, true, false, ◌+◌, ◌*◌, ◌-◌, ◌≤◌};
+ghost use Rattle.std.specs.Prelude.{◌<◌, ◌^◌, IsTrue, IfOk, OnOk, length, take, drop};
 ghost use Rattle.tty_base.specs.Sizes.{COUNT_END, MOST_FLIP, PIECE};
 ghost use Rattle.tty_calls.specs.Plain.{handle_of, call_of};
 ghost use Rattle.ldisc_switch.specs.Disciplines.{fresh_of, column_in};
@@ -64,13 +65,16 @@ impl Terminal {
     ghost use Rattle.tty_terminal.specs.Receiving.{accepts, after_characters, AcceptsAll, after_ixoff};
     ghost use Rattle.tty_terminal.specs.Generations.{after_hangup};
     ghost use Rattle.tty_terminal.specs.Calls.{outcome};
-    ghost use Rattle.tty_terminal.specs.Steps.{left_by, nothing_to_flush, quiet_with, may_end_with, after_answer, after_wait, after_part, after_caller_end, bound_at, next_phase, with_dropped};
+    ghost use Rattle.tty_terminal.specs.Steps.{left_by, nothing_to_flush, quiet_with, may_end_with};
+    ghost use Rattle.tty_terminal.specs.Steps.{after_answer, after_wait, after_part};
+    ghost use Rattle.tty_terminal.specs.Steps.{after_caller_end, bound_at, next_phase, with_dropped};
     ghost use Rattle.tty_calls.specs.Limits.{byte_count};
     ghost use Rattle.tty_terminal.specs.Meeting.{Meets, IsRoomFor, IsCounted, room_for_characters};
 
     /// A closed terminal for so many callers, on a port whose flip buffer holds so many characters.
     pub fn new(alloc: Global, callers: usize, capacity: u32) -> Result<Terminal, NoMemory>
-        ensures { IfOk result (λ t. t ≡ record { terminal = opening callers capacity; wire_room = 0; signal_room = 0 }) }
+        ensures { IfOk result
+            (λ t. t ≡ record { terminal = opening callers capacity; wire_room = 0; signal_room = 0 }) }
     {
         let callers = Callers::new(alloc, callers)?;
         let wire = Wire::new(alloc)?;
@@ -128,7 +132,8 @@ impl Terminal {
         ensures received { self.new.terminal ≡ after_characters self.old.terminal (take result chars.now) }
         ensures accepted { AcceptsAll self.old.terminal (take result chars.now) }
         ensures stops { result < length chars.now → accepts self.new.terminal ≡ false }
-        ensures column { column_in self.new.terminal.disc ≤ column_in self.old.terminal.disc + 2 ^ 22 * length chars.now }
+        ensures column { column_in self.new.terminal.disc
+            ≤ column_in self.old.terminal.disc + 2 ^ 22 * length chars.now }
     {
         let count = self.disc.receive_all(
             chars,
@@ -151,7 +156,10 @@ impl Terminal {
 
     /// A piece of a flush run was handed over.
     pub fn note_piece(&mut self, run: u32, part: u32)
-        ensures { self.new ≡ record self.old { terminal = record self.old.terminal { flushed = Some (record { run = run; part = part }) } } }
+        ensures { self.new
+            ≡ record self.old {
+              terminal = record self.old.terminal { flushed = Some (record { run = run; part = part }) };
+            } }
     {
         self.flushed = Some(Piece { run, part });
     }
@@ -178,7 +186,9 @@ impl Terminal {
         requires wire { ROOM_FOR_CALL ≤ self.old.wire_room }
         requires column { column_in self.old.terminal.disc < COUNT_END }
         ensures met { Meets (outcome self.old.terminal (caller_at self.old.terminal caller) (call_of call.now)) result }
-        ensures left { self.new.terminal ≡ left_by (outcome self.old.terminal (caller_at self.old.terminal caller) (call_of call.now)) self.old.terminal }
+        ensures left { self.new.terminal
+            ≡ left_by (outcome self.old.terminal (caller_at self.old.terminal caller) (call_of call.now))
+            self.old.terminal }
         ensures column { column_in self.new.terminal.disc ≤ column_in self.old.terminal.disc + 64 * PIECE }
     {
         let state = self.callers.get(caller as usize);
@@ -195,7 +205,8 @@ impl Terminal {
         requires wire { ROOM_FOR_CALL ≤ self.old.wire_room }
         requires column { column_in self.old.terminal.disc < COUNT_END }
         ensures met { Meets (outcome self.old.terminal state.now (call_of call.now)) result }
-        ensures left { self.new.terminal ≡ left_by (outcome self.old.terminal state.now (call_of call.now)) self.old.terminal }
+        ensures left { self.new.terminal
+            ≡ left_by (outcome self.old.terminal state.now (call_of call.now)) self.old.terminal }
         ensures column { column_in self.new.terminal.disc ≤ column_in self.old.terminal.disc + 64 * PIECE }
     {
         let met = self.act(state, call, &mut room);
@@ -311,7 +322,8 @@ impl Terminal {
     /// A tenth of a second passed.
     pub fn raise_tick(&mut self)
         requires { self.old.terminal.tick < 2 ^ 63 }
-        ensures { self.new ≡ record self.old { terminal = record self.old.terminal { tick = self.old.terminal.tick + 1 } } }
+        ensures { self.new
+            ≡ record self.old { terminal = record self.old.terminal { tick = self.old.terminal.tick + 1 } } }
     {
         self.tick += 1;
     }

@@ -1,10 +1,12 @@
 -- How offers follow each other.
-use Rattle.std.proofs.Common.{◌≡◌, ℕ, ◌+◌, ◌<◌, ◌≤◌, List, [], ◌∷◌, ◌++◌, length, refl, sym, ◌∙◌, ap, arith, append_assoc, append-nil, length-append, true, false, ◌==◌}
+use Rattle.std.proofs.Common.{◌≡◌, ℕ, ◌+◌, ◌<◌, ◌≤◌, List, [], ◌∷◌, ◌++◌, length, refl, sym, ◌∙◌}
+use Rattle.std.proofs.Common.{ap, arith, append_assoc, append-nil, length-append, true, false, ◌==◌}
 use Rattle.std.specs.List.{list_any}
 use Rattle.std.proofs.lemmas.Bool.Decides.{nat_tests}
 use Rattle.tty_base.specs.declared.characters.Flagged.{Flagged}
 use Rattle.tty_base.specs.declared.lines.Overrun.{Overrun}
-use Rattle.uart_line.specs.Offered.{PutAnswer, accepts, refuses, accepted_list, overrun_list, IsFullAt, AreAmong, Offers, HandsOver, Adds, kept_list, kept_list_from, AreShown}
+use Rattle.uart_line.specs.Offered.{PutAnswer, accepts, refuses, accepted_list, overrun_list, IsFullAt}
+use Rattle.uart_line.specs.Offered.{AreAmong, Offers, HandsOver, Adds, kept_list, kept_list_from, AreShown}
 
 accepted_list-append : (xs ys : List Flagged) (ps qs : List PutAnswer) → length ps ≡ length xs
     → accepted_list (xs ++ ys) (ps ++ qs) ≡ accepted_list xs ps ++ accepted_list ys qs
@@ -12,7 +14,8 @@ unfolding accepted_list
 accepted_list-append [] ys [] qs e = refl
 accepted_list-append [] ys (a ∷ ps) qs e = cc
 accepted_list-append (x ∷ xs) ys [] qs e = cc
-accepted_list-append (x ∷ xs) ys (accepts ∷ ps) qs e = ap (λ r. x ∷ r) (accepted_list-append xs ys ps qs (omega (arith, e)))
+accepted_list-append (x ∷ xs) ys (accepts ∷ ps) qs e =
+    ap (λ r. x ∷ r) (accepted_list-append xs ys ps qs (omega (arith, e)))
 accepted_list-append (x ∷ xs) ys (refuses _ ∷ ps) qs e = accepted_list-append xs ys ps qs (omega (arith, e))
 
 -- how many characters were accepted
@@ -31,7 +34,8 @@ length-accepted_list (x ∷ xs) (accepts ∷ ps) e = omega (arith, length-accept
 length-accepted_list (x ∷ xs) (refuses _ ∷ ps) e = length-accepted_list xs ps (omega (arith, e))
 
 overrun_list-append : (place sent : ℕ) (ps qs : List PutAnswer)
-    → overrun_list place sent (ps ++ qs) ≡ overrun_list place sent ps ++ overrun_list (place + length ps) (sent + accepted_count ps) qs
+    → overrun_list place sent (ps ++ qs)
+    ≡ overrun_list place sent ps ++ overrun_list (place + length ps) (sent + accepted_count ps) qs
 unfolding overrun_list accepted_count
 overrun_list-append place sent [] qs =
     let p : place + 0 ≡ place = omega arith in let s : sent + 0 ≡ sent = omega arith in rw (p, s)
@@ -41,7 +45,8 @@ overrun_list-append place sent (accepts ∷ ps) qs =
     rw (p, s) (overrun_list-append (place + 1) (sent + 1) ps qs)
 overrun_list-append place sent (refuses seen ∷ ps) qs =
     let p : place + length (refuses seen ∷ ps) ≡ (place + 1) + length ps = omega arith in
-    rw p (ap (λ (r : List Overrun). record { at = place; sent = sent; seen = seen } ∷ r) (overrun_list-append (place + 1) sent ps qs))
+    rw p (ap (λ (r : List Overrun). record { at = place; sent = sent; seen = seen } ∷ r)
+    (overrun_list-append (place + 1) sent ps qs))
 
 IsFullAt-append : (capacity sent : ℕ) (ps qs : List PutAnswer) → IsFullAt capacity sent ps
     → IsFullAt capacity (sent + accepted_count ps) qs → IsFullAt capacity sent (ps ++ qs)
@@ -59,7 +64,10 @@ AreAmong-more (accepts ∷ ps) xs ys h = AreAmong-more ps xs ys h
 AreAmong-more (refuses seen ∷ ps) xs ys h =
     (xs ++ h.0, h.1, ap (λ r. xs ++ r) h.2 ∙ sym (append_assoc xs h.0 (seen ∷ h.1)), h.3)
 
-AreAmong-append : (ps qs : List PutAnswer) (xs ys : List ℕ) → AreAmong ps xs → AreAmong qs ys → AreAmong (ps ++ qs) (xs ++ ys)
+AreAmong-append : (ps qs : List PutAnswer) (xs ys : List ℕ)
+    → AreAmong ps xs
+    → AreAmong qs ys
+    → AreAmong (ps ++ qs) (xs ++ ys)
 unfolding AreAmong
 AreAmong-append [] qs xs ys h g = AreAmong-more qs xs ys g
 AreAmong-append (accepts ∷ ps) qs xs ys h g = AreAmong-append ps qs xs ys h g
@@ -82,8 +90,11 @@ Offers-none capacity place sent heads heads' more overruns h = record {
   among_loaded = tt;
 }
 
-pub Offers-accept : (capacity place : ℕ) (c : Flagged) (sent sent' : List Flagged) (heads heads' more : List ℕ) (overruns : List Overrun)
-    → heads' ≡ heads ++ more → sent' ≡ sent ++ c ∷ [] → Offers capacity place (c ∷ []) sent sent' heads heads' overruns overruns
+pub Offers-accept : (capacity place : ℕ) (c : Flagged) (sent sent' : List Flagged) (heads heads' more : List ℕ)
+    (overruns : List Overrun)
+    → heads' ≡ heads ++ more
+    → sent' ≡ sent ++ c ∷ []
+    → Offers capacity place (c ∷ []) sent sent' heads heads' overruns overruns
 unfolding accepted_list overrun_list IsFullAt AreAmong
 Offers-accept capacity place c sent sent' heads heads' more overruns h e = record {
   answers = accepts ∷ [];
@@ -96,8 +107,12 @@ Offers-accept capacity place c sent sent' heads heads' more overruns h e = recor
   among_loaded = tt;
 }
 
-pub Offers-refuse : (capacity place count seen : ℕ) (c : Flagged) (sent sent' : List Flagged) (heads heads' : List ℕ) (overruns overruns' : List Overrun)
-    → heads' ≡ heads ++ seen ∷ [] → sent' ≡ sent → count ≡ length sent → count ≡ seen + capacity
+pub Offers-refuse : (capacity place count seen : ℕ) (c : Flagged) (sent sent' : List Flagged) (heads heads' : List ℕ)
+    (overruns overruns' : List Overrun)
+    → heads' ≡ heads ++ seen ∷ []
+    → sent' ≡ sent
+    → count ≡ length sent
+    → count ≡ seen + capacity
     → overruns' ≡ overruns ++ (record { at = place; sent = count; seen = seen }) ∷ []
     → Offers capacity place (c ∷ []) sent sent' heads heads' overruns overruns'
 unfolding accepted_list overrun_list IsFullAt AreAmong
@@ -112,35 +127,46 @@ Offers-refuse capacity place count seen c sent sent' heads heads' overruns overr
   among_loaded = ([], [], refl, tt);
 }
 
-pub Offers-append : (capacity place place' : ℕ) (xs ys : List Flagged) (s0 s1 s2 : List Flagged) (h0 h1 h2 : List ℕ) (o0 o1 o2 : List Overrun)
+pub Offers-append : (capacity place place' : ℕ) (xs ys : List Flagged) (s0 s1 s2 : List Flagged) (h0 h1 h2 : List ℕ)
+    (o0 o1 o2 : List Overrun)
     → place' ≡ place + length xs
-    → Offers capacity place xs s0 s1 h0 h1 o0 o1 → Offers capacity place' ys s1 s2 h1 h2 o1 o2
+    → Offers capacity place xs s0 s1 h0 h1 o0 o1
+    → Offers capacity place' ys s1 s2 h1 h2 o1 o2
     → Offers capacity place (xs ++ ys) s0 s2 h0 h2 o0 o2
 Offers-append capacity place place' xs ys s0 s1 s2 h0 h1 h2 o0 o1 o2 e a b =
     let count : length s1 ≡ length s0 + accepted_count a.answers =
-    omega (arith, ap length a.accepts_rest, length-append s0 (accepted_list xs a.answers), length-accepted_list xs a.answers a.one_each) in
+    omega (
+      arith,
+      ap length a.accepts_rest,
+      length-append s0 (accepted_list xs a.answers),
+      length-accepted_list xs a.answers a.one_each,
+    ) in
     let at : place' ≡ place + length a.answers = omega (arith, a.one_each) in
     let is_full : IsFullAt capacity (length s0 + accepted_count a.answers) b.answers = rw count at b.is_full in
     record {
       answers = a.answers ++ b.answers;
       loaded = a.loaded ++ b.loaded;
       one_each = omega (arith, length-append a.answers b.answers, length-append xs ys, a.one_each, b.one_each);
-      accepts_rest = rw (accepted_list-append xs ys a.answers b.answers a.one_each, ← append_assoc, ← a.accepts_rest) b.accepts_rest;
+      accepts_rest = rw (accepted_list-append xs ys a.answers b.answers a.one_each, ← append_assoc, ← a.accepts_rest)
+          b.accepts_rest;
       adds_refused = rw (overrun_list-append, ← append_assoc, ← a.adds_refused, ← count, ← at) b.adds_refused;
       is_full = IsFullAt-append capacity (length s0) a.answers b.answers a.is_full is_full;
       loads = rw (← append_assoc, ← a.loads) b.loads;
       among_loaded = AreAmong-append a.answers b.answers a.loaded b.loaded a.among_loaded b.among_loaded;
     }
 
-pub HandsOver-trans : (capacity : ℕ) (a0 a1 a2 : List Flagged) (s0 s1 s2 : List Flagged) (h0 h1 h2 : List ℕ) (o0 o1 o2 : List Overrun)
-    → HandsOver capacity a0 a1 s0 s1 h0 h1 o0 o1 → HandsOver capacity a1 a2 s1 s2 h1 h2 o1 o2
+pub HandsOver-trans : (capacity : ℕ) (a0 a1 a2 : List Flagged) (s0 s1 s2 : List Flagged) (h0 h1 h2 : List ℕ)
+    (o0 o1 o2 : List Overrun)
+    → HandsOver capacity a0 a1 s0 s1 h0 h1 o0 o1
+    → HandsOver capacity a1 a2 s1 s2 h1 h2 o1 o2
     → HandsOver capacity a0 a2 s0 s2 h0 h2 o0 o2
 HandsOver-trans capacity a0 a1 a2 s0 s1 s2 h0 h1 h2 o0 o1 o2 a b =
     let e : length a1 ≡ length a0 + length a.list = omega (arith, ap length a.grows, length-append a0 a.list) in
     record {
       list = a.list ++ b.list;
       grows = rw (← append_assoc, ← a.grows) b.grows;
-      offers = Offers-append capacity (length a0) (length a1) a.list b.list s0 s1 s2 h0 h1 h2 o0 o1 o2 e a.offers b.offers;
+      offers =
+          Offers-append capacity (length a0) (length a1) a.list b.list s0 s1 s2 h0 h1 h2 o0 o1 o2 e a.offers b.offers;
     }
 
 -- ---- all are accepted
@@ -158,7 +184,8 @@ record AllAccept (capacity place sent : ℕ) (list : List Flagged) : Type 0 wher
 
 all_are_accepted : (capacity place sent : ℕ) (list : List Flagged) → AllAccept capacity place sent list
 unfolding accepted_list overrun_list IsFullAt AreAmong all_accept
-all_are_accepted capacity place sent [] = record { one_each = refl; accepted = refl; refused = refl; is_full = tt; among = tt }
+all_are_accepted capacity place sent [] =
+    record { one_each = refl; accepted = refl; refused = refl; is_full = tt; among = tt }
 all_are_accepted capacity place sent (c ∷ cs) =
     let rest = all_are_accepted capacity (place + 1) (sent + 1) cs in
     record {
@@ -169,8 +196,12 @@ all_are_accepted capacity place sent (c ∷ cs) =
       among = rest.among;
     }
 
-pub Offers-all : (capacity place : ℕ) (list sent sent' : List Flagged) (heads heads' : List ℕ) (overruns overruns' : List Overrun)
-    → sent' ≡ sent ++ list → heads' ≡ heads → overruns' ≡ overruns → Offers capacity place list sent sent' heads heads' overruns overruns'
+pub Offers-all : (capacity place : ℕ) (list sent sent' : List Flagged) (heads heads' : List ℕ)
+    (overruns overruns' : List Overrun)
+    → sent' ≡ sent ++ list
+    → heads' ≡ heads
+    → overruns' ≡ overruns
+    → Offers capacity place list sent sent' heads heads' overruns overruns'
 Offers-all capacity place list sent sent' heads heads' overruns overruns' s h o =
     let all = all_are_accepted capacity place (length sent) list in
     record {
@@ -186,7 +217,9 @@ Offers-all capacity place list sent sent' heads heads' overruns overruns' s h o 
 
 -- ---- overruns by their places
 
-none_before : (q place sent : ℕ) (ps : List PutAnswer) → q < place → list_any (λ o. o.at == q) (overrun_list place sent ps) ≡ false
+none_before : (q place sent : ℕ) (ps : List PutAnswer)
+    → q < place
+    → list_any (λ o. o.at == q) (overrun_list place sent ps) ≡ false
 unfolding overrun_list
 none_before q place sent [] h = refl
 none_before q place sent (accepts ∷ ps) h = none_before q (place + 1) (sent + 1) ps (omega arith)
@@ -212,10 +245,14 @@ kept_list_from-overrun_list place sent (c ∷ cs) (accepts ∷ ps) e =
     (ap (λ r. c ∷ r) (kept_list_from-overrun_list (place + 1) (sent + 1) cs ps (omega (arith, e))))
 kept_list_from-overrun_list place sent (c ∷ cs) (refuses seen ∷ ps) e =
     let here : (place == place) ≡ true = grind (arith, nat_tests) in
-    rw here (kept_list_from-skip (place + 1) cs (record { at = place; sent = sent; seen = seen }) (overrun_list (place + 1) sent ps) (omega arith)
+    rw here (kept_list_from-skip (place + 1) cs (record { at = place; sent = sent; seen = seen })
+    (overrun_list (place + 1) sent ps) (omega arith)
     ∙ kept_list_from-overrun_list (place + 1) sent cs ps (omega (arith, e)))
 
-AreShown-overrun_list : (capacity k floor place sent : ℕ) (ps : List PutAnswer) → floor ≤ place → sent + k ≡ place → IsFullAt capacity sent ps
+AreShown-overrun_list : (capacity k floor place sent : ℕ) (ps : List PutAnswer)
+    → floor ≤ place
+    → sent + k ≡ place
+    → IsFullAt capacity sent ps
     → AreShown capacity k floor (overrun_list place sent ps)
 unfolding AreShown overrun_list IsFullAt
 AreShown-overrun_list capacity k floor place sent [] f e h = tt
@@ -235,7 +272,8 @@ HandsOver-kept capacity all sent heads overruns a =
 pub HandsOver-shown : (capacity : ℕ) (all sent : List Flagged) (heads : List ℕ) (overruns : List Overrun)
     → HandsOver capacity [] all [] sent [] heads [] overruns → AreShown capacity 0 0 overruns
 HandsOver-shown capacity all sent heads overruns a =
-    rw a.offers.adds_refused (AreShown-overrun_list capacity 0 0 0 0 a.offers.answers (omega arith) (omega arith) a.offers.is_full)
+    rw a.offers.adds_refused
+    (AreShown-overrun_list capacity 0 0 0 0 a.offers.answers (omega arith) (omega arith) a.offers.is_full)
 
 -- ---- a buffer that is never full
 
@@ -253,8 +291,10 @@ none_refused capacity place sent (c ∷ cs) (accepts ∷ ps) e h room =
 none_refused capacity place sent (c ∷ cs) (refuses seen ∷ ps) e h room = absurd (omega (arith, h.0))
 
 -- where there is room for all that is handed over, all of it stands there, and none is an overrun
-pub HandsOver-adds : (capacity : ℕ) (all all' items items' : List Flagged) (heads heads' : List ℕ) (overruns overruns' : List Overrun)
-    → HandsOver capacity all all' items items' heads heads' overruns overruns' → length items + length all' ≤ capacity + length all
+pub HandsOver-adds : (capacity : ℕ) (all all' items items' : List Flagged) (heads heads' : List ℕ)
+    (overruns overruns' : List Overrun)
+    → HandsOver capacity all all' items items' heads heads' overruns overruns'
+    → length items + length all' ≤ capacity + length all
     → Adds all all' items items' × (overruns' ≡ overruns)
 HandsOver-adds capacity all all' items items' heads heads' overruns overruns' a room =
     let o = a.offers in

@@ -1,5 +1,7 @@
 -- What the registers say of the window that waits in the receiver.
-use Rattle.std.proofs.Common.{◌≡◌, ◌≢◌, ℕ, ◌+◌, ◌<◌, ◌≤◌, min, Bool, true, false, not, ◌||◌, ◌&&◌, nat_le, nat_lt, ◌==◌, if◌then◌else◌, List, [], ◌∷◌, ◌++◌, length, take, suc, refl, sym, ◌∙◌, ap, arith, length-append, length-take, append-nil}
+use Rattle.std.proofs.Common.{◌≡◌, ◌≢◌, ℕ, ◌+◌, ◌<◌, ◌≤◌, min, Bool, true, false, not, ◌||◌, ◌&&◌}
+use Rattle.std.proofs.Common.{nat_le, nat_lt, ◌==◌, if◌then◌else◌, List, [], ◌∷◌, ◌++◌, length, take}
+use Rattle.std.proofs.Common.{suc, refl, sym, ◌∙◌, ap, arith, length-append, length-take, append-nil}
 use Rattle.std.proofs.lemmas.Bool.Decides.{nat_tests}
 use Rattle.std.proofs.lemmas.List.{take_all, take-append-le}
 use Rattle.tty_base.specs.declared.characters.Flag.{Flag}
@@ -20,8 +22,12 @@ code_pending false true c = refl
 code_pending false false true = refl
 code_pending false false false = refl
 
-pending_by : (r : Registers) → r.interrupts ≡ 5
-    → is_pending r ≡ ((r.overrun || is_error (front_flag r.fifo)) || nat_le r.trigger (length r.fifo) || (not (length r.fifo == 0) && nat_le 4 r.idle))
+pending_by : (r : Registers)
+    → r.interrupts ≡ 5
+    → is_pending r
+    ≡ ((r.overrun || is_error (front_flag r.fifo))
+    || nat_le r.trigger (length r.fifo)
+    || (not (length r.fifo == 0) && nat_le 4 r.idle))
 pending_by r e = rw e (code_pending _ _ _)
 
 error_flagged : (f : Flag) → f ≢ flag.Overrun → is_error f ≡ is_flagged f
@@ -54,7 +60,8 @@ no_cut false t h = refl
 pub is_pending-is_cut : (r : Registers) (past : List LineStep) (cs : List Flagged) → IsReceiver r → IsWaiting r past cs
     → (not (is_masked past) && is_pending r) ≡ is_cut past cs
 unfolding is_cut
-is_pending-is_cut r past [] v w = rw (pending_by r w.interrupts, w.fifo, w.overrun) (no_cut (not (is_masked past)) r.trigger v.some_trigger)
+is_pending-is_cut r past [] v w =
+    rw (pending_by r w.interrupts, w.fifo, w.overrun) (no_cut (not (is_masked past)) r.trigger v.some_trigger)
 is_pending-is_cut r past (c ∷ cs) v w =
     let n : ℕ = length (c ∷ cs) in
     let len : length r.fifo ≡ min 16 n = ap length w.fifo ∙ length-take 16 (c ∷ cs) in
@@ -63,9 +70,14 @@ is_pending-is_cut r past (c ∷ cs) v w =
     let low : trigger_of past ≤ 14 = rw w.trigger at v.low_trigger in
     ap (λ x. not (is_masked past) && x)
     (pending_by r w.interrupts
-    ∙ rw w.trigger (pending_cut r.overrun (is_error (front_flag r.fifo)) (is_flagged c.flag) (length r.fifo) (trigger_of past) r.idle n (idle_of past) w.overrun front len (omega arith) (w.idle (omega arith)) low))
+    ∙ rw w.trigger
+    (pending_cut r.overrun (is_error (front_flag r.fifo)) (is_flagged c.flag) (length r.fifo) (trigger_of past) r.idle n
+    (idle_of past) w.overrun front len (omega arith) (w.idle (omega arith)) low))
   where
-    first_no_mark : (r : Registers) (c : Flagged) (cs : List Flagged) → IsReceiver r → r.fifo ≡ c ∷ cs → c.flag ≢ flag.Overrun
+    first_no_mark : (r : Registers) (c : Flagged) (cs : List Flagged)
+        → IsReceiver r
+        → r.fifo ≡ c ∷ cs
+        → c.flag ≢ flag.Overrun
     first_no_mark r c cs v e = (rw e at v.no_mark) 0 c (omega arith)
 
 mark_first : (k : ℕ) (o : Bool) (c : Flagged) (cs : List Flagged) → nat_lt (suc k) (suc (length cs)) ≡ o
@@ -79,7 +91,8 @@ pub with_mark-window_output : (r : Registers) (past : List LineStep) (cs : List 
     → with_mark r.overrun r.fifo ≡ window_output cs
 unfolding window_output
 with_mark-window_output r past [] w = rw w.fifo
-with_mark-window_output r past (c ∷ cs) w = rw (w.fifo, w.overrun) (mark_first 15 (nat_lt 16 (suc (length cs))) c cs refl)
+with_mark-window_output r past (c ∷ cs) w =
+    rw (w.fifo, w.overrun) (mark_first 15 (nat_lt 16 (suc (length cs))) c cs refl)
 
 -- ---- a step
 
@@ -117,8 +130,11 @@ IsWaiting-after_arrival r past later cs c hi ht w = go (nat_lt (length r.fifo) 1
     idle : 0 ≡ min (idle_of later) 4
     idle = rw hi
 
-    go : (b : Bool) → nat_lt (length r.fifo) 16 ≡ b
-        → IsWaiting (if b then record r { fifo = r.fifo ++ c ∷ []; idle = 0 } else record r { overrun = true; idle = 0 }) later (cs ++ c ∷ [])
+    go : (b : Bool)
+        → nat_lt (length r.fifo) 16 ≡ b
+        → IsWaiting
+        (if b then record r { fifo = r.fifo ++ c ∷ []; idle = 0 } else record r { overrun = true; idle = 0 }) later
+        (cs ++ c ∷ [])
     go true e =
         let few : length cs < 16 = few_wait (length r.fifo) (length cs) len e in
         record {
@@ -153,7 +169,8 @@ IsWaiting-later r past later cs hi ht w = rw append-nil (record {
   line_control = w.line_control;
 })
 
-pub Stands-after_line_step : (line : LineState) (step : LineStep) (past : List LineStep) (cs : List Flagged) → Stands line past cs
+pub Stands-after_line_step : (line : LineState) (step : LineStep) (past : List LineStep) (cs : List Flagged)
+    → Stands line past cs
     → Stands (after_line_step line step) (step ∷ past) (cs ++ arrival step)
 unfolding is_masked trigger_of idle_of
 Stands-after_line_step line (Rx c) past cs s = record {

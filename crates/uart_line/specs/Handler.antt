@@ -1,5 +1,6 @@
 -- The steps of a line and the turns of its interrupt handler, on what contracts see of a line.
-use Rattle.std.specs.Prelude.{◌≡◌, ℕ, ◌+◌, ◌^◌, ◌≤◌, ◌<◌, Bool, true, false, not, ◌&&◌, if◌then◌else◌, List, [], ◌∷◌, length, Option, Some, None}
+use Rattle.std.specs.Prelude.{◌≡◌, ℕ, ◌+◌, ◌^◌, ◌≤◌, ◌<◌, Bool, true, false, not, ◌&&◌}
+use Rattle.std.specs.Prelude.{if◌then◌else◌, List, [], ◌∷◌, length, Option, Some, None}
 use Rattle.tty_base.specs.declared.characters.Flagged.{Flagged}
 use Rattle.tty_base.specs.declared.lines.LineStep.{LineStep}
 use Rattle.tty_base.specs.declared.lines.LineStep.TheVariants.{Rx, Break, Idle, Mask, Unmask, Trigger}
@@ -57,7 +58,8 @@ IsReadOff r r' = r' ≡ record r { fifo = r'.fifo; overrun = r'.overrun; idle = 
 pub record Serves
     (capacity : ℕ) (old new : LineState) (list : List Flagged) (sent sent' : List Flagged) (heads heads' : List ℕ)
     : Type 0 where
-  pub offers : Offers capacity old.handed list sent sent' heads heads' old.report.overruns.items new.report.overruns.items
+  pub offers : Offers capacity old.handed list sent sent' heads
+      heads' old.report.overruns.items new.report.overruns.items
   pub handed : new.handed ≡ old.handed + length list
   pub read_off : IsReadOff old.registers new.registers
   pub masked : new.masked ≡ old.masked

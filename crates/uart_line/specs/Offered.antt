@@ -69,7 +69,10 @@ pub record Adds (all all' items items' : List Flagged) : Type 0 where
 -- the list without the places of the overruns, its first character at `place`
 unfoldable pub kept_list_from : ℕ → List Flagged → List Overrun → List Flagged
 kept_list_from place [] overruns = []
-kept_list_from place (c ∷ cs) overruns = if list_any (λ o. o.at == place) overruns then kept_list_from (place + 1) cs overruns else c ∷ kept_list_from (place + 1) cs overruns
+kept_list_from place (c ∷ cs) overruns =
+    if list_any (λ o. o.at == place) overruns
+    then kept_list_from (place + 1) cs overruns
+    else c ∷ kept_list_from (place + 1) cs overruns
 
 abbrev pub kept_list : List Flagged → List Overrun → List Flagged
 kept_list list overruns = kept_list_from 0 list overruns

@@ -2,7 +2,8 @@
 //! over what was received.
 #![tactic(auto)]
 
-ghost use Rattle.std.specs.Prelude.{◌≡◌, ◌≢◌, ℕ, ◌+◌, ◌-◌, ◌<◌, ◌≤◌, List, [], ◌∷◌, ◌++◌, length, IsTrue, IfOk, MatchBool, false};
+ghost use Rattle.std.specs.Prelude.{◌≡◌, ◌≢◌, ℕ, ◌+◌, ◌-◌, ◌<◌, ◌≤◌, List, [], ◌∷◌};
+ghost use Rattle.std.specs.Prelude.{◌++◌, length, IsTrue, IfOk, MatchBool, false};
 ghost use Rattle.std.proofs.Common.{◌⊎◌};
 ghost use Rattle.std.specs.List.{All};
 ghost use Rattle.std.specs.List.Sorted.{IsNonDecreasing};
@@ -68,7 +69,8 @@ impl Line {
     ghost use Rattle.tty_base.specs.Lines.{arrival, arrival_count};
     ghost use Rattle.uart_line.specs.LineState.{HasDone};
     ghost use Rattle.uart_line.specs.Offered.{Offers, HandsOver, Adds};
-    ghost use Rattle.uart_line.specs.Handler.{IsLine, after_line_step, runs_handler, reading_of, after_turn, with_mark, Serves};
+    ghost use Rattle.uart_line.specs.Handler.{IsLine, after_line_step, runs_handler};
+    ghost use Rattle.uart_line.specs.Handler.{reading_of, after_turn, with_mark, Serves};
 
     /// A line on which nothing has happened, with room for `most` arrivals and so for `most` overruns.
     pub fn new(alloc: Global, most: u32) -> Result<Line, NoMemory>
@@ -112,7 +114,8 @@ impl Line {
             (P.sent put.old) (P.sent put.new) (P.heads put.old) (P.heads put.new)
             self.old.report.overruns.items self.new.report.overruns.items }
         ensures visible { P.visible put.old → P.visible put.new }
-        ensures shown { MatchBool (runs_handler (after_line_step self.old step)) (P.visible put.new) (put.new ≡ put.old) }
+        ensures shown { MatchBool (runs_handler (after_line_step self.old step)) (P.visible put.new)
+            (put.new ≡ put.old) }
         ensures capacity { P.capacity put.new ≡ P.capacity put.old }
         ensures name { P.name put.new ≡ P.name put.old }
         ensures put { self.new.most ≤ P.numbers_left put.new + self.new.handed }
@@ -131,7 +134,9 @@ impl Line {
         requires room { self.old.report.arrived + arrival_count steps.now ≤ self.old.most }
         requires put { self.old.most ≤ P.numbers_left put.old + self.old.handed }
 
-        ensures done { (before : List LineStep) → HasDone self.old before → HasDone self.new (before ++ closed_script steps.now) }
+        ensures done { (before : List LineStep)
+            → HasDone self.old before
+            → HasDone self.new (before ++ closed_script steps.now) }
         ensures room { self.new.most ≡ self.old.most }
         ensures arrived { self.new.report.arrived ≡ self.old.report.arrived + arrival_count steps.now }
         ensures whole { (before : List LineStep) → waiting_list (before ++ closed_script steps.now) ≡ [] }
@@ -163,12 +168,16 @@ impl Line {
         requires room { self.old.report.arrived + arrival_count steps.now ≤ self.old.most }
         requires spare { self.old.most ≤ chars.old.spare + self.old.handed }
 
-        ensures done { (before : List LineStep) → HasDone self.old before → HasDone self.new (before ++ closed_script steps.now) }
+        ensures done { (before : List LineStep)
+            → HasDone self.old before
+            → HasDone self.new (before ++ closed_script steps.now) }
         ensures room { self.new.most ≡ self.old.most }
         ensures arrived { self.new.report.arrived ≡ self.old.report.arrived + arrival_count steps.now }
         ensures whole { (before : List LineStep) → waiting_list (before ++ closed_script steps.now) ≡ [] }
-        ensures adds { (before : List LineStep) → HasDone self.old before
-            → Adds (received_list before) (received_list (before ++ closed_script steps.now)) chars.old.items chars.new.items }
+        ensures adds { (before : List LineStep)
+            → HasDone self.old before
+            → Adds (received_list before) (received_list (before ++ closed_script steps.now))
+            chars.old.items chars.new.items }
         ensures spare { self.new.most ≤ chars.new.spare + self.new.handed }
         ensures overruns { (before : List LineStep) → HasDone self.old before
             → self.new.report.overruns.items ≡ self.old.report.overruns.items }
@@ -208,7 +217,8 @@ impl Line {
             → HandsOver (P.capacity put.old) (received_list before) (received_list (before ++ step ∷ []))
             (P.sent put.old) (P.sent put.new) (P.heads put.old) (P.heads put.new)
             self.old.report.overruns.items self.new.report.overruns.items }
-        ensures shown { MatchBool (runs_handler (after_line_step self.old step)) (P.visible put.new) (put.new ≡ put.old) }
+        ensures shown { MatchBool (runs_handler (after_line_step self.old step)) (P.visible put.new)
+            (put.new ≡ put.old) }
         ensures capacity { P.capacity put.new ≡ P.capacity put.old }
         ensures name { P.name put.new ≡ P.name put.old }
         ensures put { self.new.most ≤ P.numbers_left put.new + self.new.handed }
@@ -235,8 +245,9 @@ impl Line {
     #[inline(never)]
     fn handle<P: Put>(&mut self, put: &mut P)
         requires { self.old.most ≤ P.numbers_left put.old + self.old.handed }
-        ensures serves { Serves (P.capacity put.old) self.old self.new (with_mark self.old.registers.overrun self.old.registers.fifo)
-            (P.sent put.old) (P.sent put.new) (P.heads put.old) (P.heads put.new) }
+        ensures serves { Serves (P.capacity put.old) self.old self.new
+            (with_mark self.old.registers.overrun self.old.registers.fifo) (P.sent put.old) (P.sent put.new)
+            (P.heads put.old) (P.heads put.new) }
         ensures fifo { self.new.registers.fifo ≡ [] }
         ensures overrun { self.new.registers.overrun ≡ false }
         ensures window { self.new.window ≡ 0 }
@@ -257,8 +268,9 @@ impl Line {
     /// Takes all characters off the receiver and offers them.
     fn empty<P: Put>(&mut self, put: &mut P)
         requires { self.old.most ≤ P.numbers_left put.old + self.old.handed }
-        ensures serves { Serves (P.capacity put.old) self.old self.new (with_mark self.old.registers.overrun self.old.registers.fifo)
-            (P.sent put.old) (P.sent put.new) (P.heads put.old) (P.heads put.new) }
+        ensures serves { Serves (P.capacity put.old) self.old self.new
+            (with_mark self.old.registers.overrun self.old.registers.fifo) (P.sent put.old) (P.sent put.new)
+            (P.heads put.old) (P.heads put.new) }
         ensures fifo { self.new.registers.fifo ≡ [] }
         ensures overrun { self.new.registers.overrun ≡ false }
         ensures window { self.new.window ≡ self.old.window }
@@ -279,7 +291,8 @@ impl Line {
     /// Hands over one character.
     #[inline(always)]
     fn offer<P: Put>(&mut self, c: Flagged, put: &mut P)
-        requires room { self.old.handed + length self.old.registers.fifo + bit self.old.registers.overrun < self.old.report.arrived }
+        requires room { self.old.handed + length self.old.registers.fifo + bit self.old.registers.overrun
+            < self.old.report.arrived }
         requires put { 0 < P.numbers_left put.old }
         ensures same { self.new ≡ record self.old {
           handed = self.old.handed + 1;
@@ -329,7 +342,8 @@ impl Line {
     /// One turn of the handler: line status, and where it says so the receiver buffer.
     fn next_reading(&mut self) -> Option<Reading>
         ensures reading { result ≡ reading_of self.old.registers.overrun self.old.registers.fifo }
-        ensures after { self.new ≡ record self.old { registers = after_turn self.old.registers self.old.registers.fifo } }
+        ensures after { self.new
+            ≡ record self.old { registers = after_turn self.old.registers self.old.registers.fifo } }
         ensures line { IsLine self.old }
     {
         let _ = &self.window; // known: its bound

@@ -34,7 +34,9 @@ impl Line {
     pub fn accept_window(&mut self, bytes: &[u8])
         requires open { IsOpen self.old (length bytes.now) }
         requires room { self.old.report.arrived + length bytes.now ≤ self.old.most }
-        ensures done { (before : List LineStep) → HasDone self.old before → HasDone self.new (before ++ good_steps bytes.now) }
+        ensures done { (before : List LineStep)
+            → HasDone self.old before
+            → HasDone self.new (before ++ good_steps bytes.now) }
         ensures room { self.new.most ≡ self.old.most }
         ensures arrived { self.new.report.arrived ≡ self.old.report.arrived + length bytes.now }
         ensures handed { self.new.handed ≡ self.old.handed + length bytes.now }
@@ -58,8 +60,13 @@ impl Line {
     /// So many were accepted.
     #[inline(always)]
     fn count_accepted(&mut self, count: usize)
-        requires { self.old.handed + length self.old.registers.fifo + bit self.old.registers.overrun + count ≤ self.old.report.arrived }
-        ensures { self.new ≡ record self.old { handed = self.old.handed + count; report = record self.old.report { sent = self.old.report.sent + count } } }
+        requires { self.old.handed + length self.old.registers.fifo + bit self.old.registers.overrun + count
+            ≤ self.old.report.arrived }
+        ensures { self.new
+            ≡ record self.old {
+              handed = self.old.handed + count;
+              report = record self.old.report { sent = self.old.report.sent + count };
+            } }
     {
         let _ = &self.most; // known: its bound
         self.report.sent += count as u64;

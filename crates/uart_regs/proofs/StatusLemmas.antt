@@ -1,10 +1,12 @@
 -- What reads leave of the FIFO, and what line status says of its front.
-use Rattle.std.proofs.Common.{◌≡◌, ◌≢◌, ◌≤◌, ℕ, Bool, true, false, ◌==◌, List, [], ◌∷◌, length, Some, suc, zero, refl, sym, ap, arith, subst}
+use Rattle.std.proofs.Common.{◌≡◌, ◌≢◌, ◌≤◌, ℕ, Bool, true, false, ◌==◌, List, [], ◌∷◌}
+use Rattle.std.proofs.Common.{length, Some, suc, zero, refl, sym, ap, arith, subst}
 use Rattle.std.specs.List.{All}
 use Rattle.tty_base.specs.declared.characters.Flag.{Flag}
 use Rattle.tty_base.specs.declared.characters.Flag.TheVariants.{Normal, Break, Parity, Frame, Overrun}
 use Rattle.tty_base.specs.declared.characters.Flagged.{Flagged}
-use Rattle.uart_regs.specs.Registers.{Registers, with_front_cleared, byte_of, is_parity_error, is_framing_error, is_break, has_error, front_flag, selects_latches}
+use Rattle.uart_regs.specs.Registers.{Registers, with_front_cleared, byte_of, is_parity_error}
+use Rattle.uart_regs.specs.Registers.{is_framing_error, is_break, has_error, front_flag, selects_latches}
 use Rattle.uart_regs.specs.Reading.{reading_of_reads, front_reading}
 
 abbrev pub NoMarks : List Flagged → Type 0
@@ -28,8 +30,10 @@ cleared_front (c ∷ cs) few good = record { depth = few; no_mark = unmarked }
     unmarked zero d lt = λ e. cc
     unmarked (suc k) d lt = good (suc k) d lt
 
-reading_by_bits : (overrun errors : Bool) (f : Flag) (byte : ℕ) → f ≢ Overrun
-    → reading_of_reads (byte_of true overrun (is_parity_error f) (is_framing_error f) (is_break f) true true errors) byte
+reading_by_bits : (overrun errors : Bool) (f : Flag) (byte : ℕ)
+    → f ≢ Overrun
+    → reading_of_reads (byte_of true overrun (is_parity_error f) (is_framing_error f) (is_break f) true true errors)
+    byte
     ≡ Some (record { character = record { byte = byte; flag = f }; overrun = overrun })
 reading_by_bits true true Normal byte n = refl
 reading_by_bits true false Normal byte n = refl

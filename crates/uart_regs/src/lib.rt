@@ -147,7 +147,8 @@ impl Model for Uart {
 impl Moves for Uart {}
 
 impl Uart {
-    ghost use Rattle.uart_regs.specs.Registers.{IsReceiver, initial_registers, after_arrival, after_idle, read_value, after_read, after_write};
+    ghost use Rattle.uart_regs.specs.Registers.{IsReceiver, initial_registers, after_arrival};
+    ghost use Rattle.uart_regs.specs.Registers.{after_idle, read_value, after_read, after_write};
     ghost use Rattle.uart_regs.specs.Registers.{is_pending, interrupt_identification, interrupt_code, line_status};
     ghost use Rattle.uart_regs.specs.Registers.{is_line_status, is_data_available, is_timeout};
     ghost use Rattle.uart_regs.specs.Registers.{selects_latches, has_error, after_fifo_control};

@@ -1,5 +1,7 @@
 -- What adding entries to a board, one part after the other, comes to.
-use Rattle.std.proofs.Common.{◌≡◌, ℕ, suc, zero, ◌+◌, ◌-◌, ◌<◌, ◌≤◌, List, [], ◌∷◌, ◌++◌, length, map, take, drop, flat_map, refl, sym, ◌∙◌, ap, subst, arith, append_assoc, append-nil, length-append, drop-cons, add-one, get_or}
+use Rattle.std.proofs.Common.{◌≡◌, ℕ, suc, zero, ◌+◌, ◌-◌, ◌<◌, ◌≤◌, List, [], ◌∷◌, ◌++◌, length}
+use Rattle.std.proofs.Common.{map, take, drop, flat_map, refl, sym, ◌∙◌, ap, subst, arith}
+use Rattle.std.proofs.Common.{append_assoc, append-nil, length-append, drop-cons, add-one, get_or}
 use Rattle.std.specs.Prelude.{slice_index_or, slice_set}
 use Rattle.std.proofs.lemmas.List.{length-set, length-map, drop_all, take_all, drop-map, get_or-map, map-set}
 use Rattle.std.proofs.lemmas.List.Sums.{fold-append}
@@ -16,10 +18,12 @@ use Rattle.vt_text.specs.declared.sessions.OpCall.{OpCall}
 use Rattle.vt_text.specs.declared.sessions.VtPhase.{VtPhase}
 use Rattle.vt_text.specs.Sessions.{PlainOperator, PlainVtPhase, PlainVtSession, vt_phase_of}
 use Rattle.vt_account.specs.Account.{accepted}
-use Rattle.vt_account.specs.InOrder.{active_behind, key_entries, event_of, call_entries, operator_entries, operators_entries, phase_entries, entries_from, entries_in_order, IsBoardDenied}
+use Rattle.vt_account.specs.InOrder.{active_behind, key_entries, event_of, call_entries, operator_entries}
+use Rattle.vt_account.specs.InOrder.{operators_entries, phase_entries, entries_from, entries_in_order, IsBoardDenied}
 use Rattle.vt_account.specs.Keyed.{all_keys}
 use Rattle.vt_account.specs.Seats.{operator_names}
-use Rattle.vt_account.specs.Played.{AddsAll, LacksRoom, HasLeft, key_lines, phases_in_order, HasPressed, HasCalled, HasOperated, HasPlayed}
+use Rattle.vt_account.specs.Played.{AddsAll, LacksRoom, HasLeft, key_lines, phases_in_order}
+use Rattle.vt_account.specs.Played.{HasPressed, HasCalled, HasOperated, HasPlayed}
 use Rattle.vt_account.proofs.Accounting.{active_keys}
 
 -- ---- parts
@@ -27,8 +31,14 @@ use Rattle.vt_account.proofs.Accounting.{active_keys}
 pub adds_none : (b : BoardState) → AddsAll [] b b
 adds_none b = record { consoles = refl; limit = refl; added = sym (append-nil b.entries) }
 
-pub adds_one : (seat : ℕ) (event : VtEvent) (old new : BoardState) → Adds seat event old new → AddsAll (record { seat = seat; event = event } ∷ []) old new
-adds_one seat event old new h = record { consoles = ap (λ (b : BoardState). b.consoles) h.adds; limit = ap (λ (b : BoardState). b.limit) h.adds; added = ap (λ (b : BoardState). b.entries) h.adds }
+pub adds_one : (seat : ℕ) (event : VtEvent) (old new : BoardState)
+    → Adds seat event old new
+    → AddsAll (record { seat = seat; event = event } ∷ []) old new
+adds_one seat event old new h = record {
+  consoles = ap (λ (b : BoardState). b.consoles) h.adds;
+  limit = ap (λ (b : BoardState). b.limit) h.adds;
+  added = ap (λ (b : BoardState). b.entries) h.adds;
+}
 
 pub adds_both : (xs ys : List VtEntry) (a b c : BoardState) → AddsAll xs a b → AddsAll ys b c → AddsAll (xs ++ ys) a c
 adds_both xs ys a b c h k = record {
@@ -39,12 +49,16 @@ adds_both xs ys a b c h k = record {
 
 -- which console is active then
 pub active_then : (xs : List VtEntry) (a b : BoardState) → AddsAll xs a b → active_on b ≡ active_behind (active_on a) xs
-active_then xs a b h = ap active_of h.added ∙ fold-append (λ (n : ℕ) (e : VtEntry). active_after n e.event) 0 a.entries xs
+active_then xs a b h =
+    ap active_of h.added ∙ fold-append (λ (n : ℕ) (e : VtEntry). active_after n e.event) 0 a.entries xs
 
 pub left_first : (whole : List VtEntry) (b : BoardState) → HasLeft whole whole b b
 left_first whole b = record { done = []; adds = adds_none b; all = refl }
 
-pub left_less : (whole xs left : List VtEntry) (a b c : BoardState) → HasLeft whole (xs ++ left) a b → AddsAll xs b c → HasLeft whole left a c
+pub left_less : (whole xs left : List VtEntry) (a b c : BoardState)
+    → HasLeft whole (xs ++ left) a b
+    → AddsAll xs b c
+    → HasLeft whole left a c
 left_less whole xs left a b c h k = record {
   done = h.done ++ xs;
   adds = adds_both h.done xs a b c h.adds k;
@@ -65,15 +79,23 @@ pub lacks_more : (xs ys : List VtEntry) (b : BoardState) (d : Denied) → LacksR
 lacks_more xs ys b Full h = omega (arith, h, length-append xs ys)
 lacks_more xs ys b NoMemory h = tt
 
-pub lacks_behind : (xs ys : List VtEntry) (a b : BoardState) (d : Denied) → AddsAll xs a b → LacksRoom ys b d → LacksRoom (xs ++ ys) a d
+pub lacks_behind : (xs ys : List VtEntry) (a b : BoardState) (d : Denied)
+    → AddsAll xs a b
+    → LacksRoom ys b d
+    → LacksRoom (xs ++ ys) a d
 lacks_behind xs ys a b Full h k =
-    let both : length b.entries ≡ length a.entries + length xs = ap (λ (l : List VtEntry). length l) h.added ∙ length-append a.entries xs in
+    let both : length b.entries ≡ length a.entries + length xs =
+    ap (λ (l : List VtEntry). length l) h.added ∙ length-append a.entries xs in
     omega (arith, k, both, h.limit, length-append xs ys)
 lacks_behind xs ys a b NoMemory h k = tt
 
-lacks_left : (whole xs left : List VtEntry) (a b : BoardState) (d : Denied) → HasLeft whole (xs ++ left) a b → LacksRoom xs b d → LacksRoom whole a d
+lacks_left : (whole xs left : List VtEntry) (a b : BoardState) (d : Denied)
+    → HasLeft whole (xs ++ left) a b
+    → LacksRoom xs b d
+    → LacksRoom whole a d
 lacks_left whole xs left a b d h k =
-    subst (λ (l : List VtEntry). LacksRoom l a d) h.all (lacks_behind h.done (xs ++ left) a b d h.adds (lacks_more xs left b d k))
+    subst (λ (l : List VtEntry). LacksRoom l a d) h.all
+    (lacks_behind h.done (xs ++ left) a b d h.adds (lacks_more xs left b d k))
 
 pub lacks_memory : (xs : List VtEntry) (b : BoardState) (d : Denied) → d ≡ NoMemory → LacksRoom xs b d
 lacks_memory xs b d e = subst (LacksRoom xs b) (sym e) tt
@@ -87,27 +109,36 @@ pub key_next : (whole : List VtEntry) (a b c : BoardState) (seat active at count
 key_next whole a b c seat active at count console h e k =
     let same : console ≡ active = k.rightly ∙ e in
     let one : AddsAll (record { seat = seat; event = Key at active } ∷ []) b c =
-    subst (λ (n : ℕ). AddsAll (record { seat = seat; event = Key at n } ∷ []) b c) same (adds_one seat (Key at console) b c k) in (
-      left_less whole (record { seat = seat; event = Key at active } ∷ []) (key_entries seat active (at + 1) count) a b c h one,
+    subst (λ (n : ℕ). AddsAll (record { seat = seat; event = Key at n } ∷ []) b c) same
+    (adds_one seat (Key at console) b c k) in (
+      left_less whole (record { seat = seat; event = Key at active } ∷ []) (key_entries seat active (at + 1) count)
+          a b c h one,
       active_then (record { seat = seat; event = Key at active } ∷ []) b c one ∙ e,
     )
 
-pub press_next : (whole : List VtEntry) (a b c : BoardState) (seat active first place count console : ℕ) → place < count
-    → HasLeft whole (key_entries seat active (first + place) (count - place)) a b → active_on b ≡ active → Adds seat (Key (first + place) console) b c
+pub press_next : (whole : List VtEntry) (a b c : BoardState) (seat active first place count console : ℕ)
+    → place < count
+    → HasLeft whole (key_entries seat active (first + place) (count - place)) a b
+    → active_on b ≡ active
+    → Adds seat (Key (first + place) console) b c
     → HasLeft whole (key_entries seat active (first + (place + 1)) (count - (place + 1))) a c × (active_on c ≡ active)
 press_next whole a b c seat active first place count console lt h e k =
     let more : count - place ≡ suc (count - (place + 1)) = omega (arith, lt) in
     let next : (first + place) + 1 ≡ first + (place + 1) = omega arith in
-    subst (λ (at : ℕ). HasLeft whole (key_entries seat active at (count - (place + 1))) a c × (active_on c ≡ active)) next
-    (key_next whole a b c seat active (first + place) (count - (place + 1)) console (subst (λ (n : ℕ). HasLeft whole (key_entries seat active (first + place) n) a b) more h) e k)
+    subst (λ (at : ℕ). HasLeft whole (key_entries seat active at (count - (place + 1))) a c × (active_on c ≡ active))
+    next
+    (key_next whole a b c seat active (first + place) (count - (place + 1)) console
+    (subst (λ (n : ℕ). HasLeft whole (key_entries seat active (first + place) n) a b) more h) e k)
 
 -- ---- calls
 
 pub calls_both : (seat active : ℕ) (xs ys : List OpCall)
-    → call_entries seat active (xs ++ ys) ≡ call_entries seat active xs ++ call_entries seat (active_behind active (call_entries seat active xs)) ys
+    → call_entries seat active (xs ++ ys)
+    ≡ call_entries seat active xs ++ call_entries seat (active_behind active (call_entries seat active xs)) ys
 calls_both seat active [] ys = refl
 calls_both seat active (call ∷ xs) ys =
-    ap (λ (l : List VtEntry). record { seat = seat; event = event_of active call } ∷ l) (calls_both seat (active_after active (event_of active call)) xs ys)
+    ap (λ (l : List VtEntry). record { seat = seat; event = event_of active call } ∷ l)
+    (calls_both seat (active_after active (event_of active call)) xs ys)
 
 -- a call more
 pub call_next : (whole : List VtEntry) (a b c : BoardState) (seat consoles : ℕ) (call : OpCall) (calls : List OpCall)
@@ -117,28 +148,35 @@ pub call_next : (whole : List VtEntry) (a b c : BoardState) (seat consoles : ℕ
 call_next whole a b c seat consoles call calls h k =
     let one = call_entries seat (active_on b) (accepted consoles call) in
     let rest = flat_map (accepted consoles) calls in
-    let parts = calls_both seat (active_on b) (accepted consoles call) rest ∙ ap (λ (n : ℕ). one ++ call_entries seat n rest) (sym (active_then one b c k)) in
-    left_less whole one (call_entries seat (active_on c) rest) a b c (subst (λ (l : List VtEntry). HasLeft whole l a b) parts h) k
+    let parts =
+    calls_both seat (active_on b) (accepted consoles call) rest
+    ∙ ap (λ (n : ℕ). one ++ call_entries seat n rest) (sym (active_then one b c k)) in
+    left_less whole one (call_entries seat (active_on c) rest) a b c
+    (subst (λ (l : List VtEntry). HasLeft whole l a b) parts h) k
 
 -- ---- operators and phases
 
-pub operator_next : (whole : List VtEntry) (a b c : BoardState) (names : List (List ℕ)) (consoles : ℕ) (operator : PlainOperator) (operators : List PlainOperator)
+pub operator_next : (whole : List VtEntry) (a b c : BoardState) (names : List (List ℕ)) (consoles : ℕ)
+    (operator : PlainOperator) (operators : List PlainOperator)
     → HasLeft whole (operators_entries names consoles (active_on b) (operator ∷ operators)) a b
     → AddsAll (operator_entries names consoles (active_on b) operator) b c
     → HasLeft whole (operators_entries names consoles (active_on c) operators) a c
 operator_next whole a b c names consoles operator operators h k =
     let one = operator_entries names consoles (active_on b) operator in
     left_less whole one (operators_entries names consoles (active_on c) operators) a b c
-    (subst (λ (n : ℕ). HasLeft whole (one ++ operators_entries names consoles n operators) a b) (sym (active_then one b c k)) h) k
+    (subst (λ (n : ℕ). HasLeft whole (one ++ operators_entries names consoles n operators) a b)
+    (sym (active_then one b c k)) h) k
 
-pub phase_next : (whole : List VtEntry) (a b c : BoardState) (names : List (List ℕ)) (consoles first : ℕ) (phase : PlainVtPhase) (phases : List PlainVtPhase)
+pub phase_next : (whole : List VtEntry) (a b c : BoardState) (names : List (List ℕ)) (consoles first : ℕ)
+    (phase : PlainVtPhase) (phases : List PlainVtPhase)
     → HasLeft whole (entries_from names consoles (active_on b) first (phase ∷ phases)) a b
     → AddsAll (phase_entries names consoles (active_on b) first phase) b c
     → HasLeft whole (entries_from names consoles (active_on c) (first + length phase.keys) phases) a c
 phase_next whole a b c names consoles first phase phases h k =
     let one = phase_entries names consoles (active_on b) first phase in
     left_less whole one (entries_from names consoles (active_on c) (first + length phase.keys) phases) a b c
-    (subst (λ (n : ℕ). HasLeft whole (one ++ entries_from names consoles n (first + length phase.keys) phases) a b) (sym (active_then one b c k)) h) k
+    (subst (λ (n : ℕ). HasLeft whole (one ++ entries_from names consoles n (first + length phase.keys) phases) a b)
+    (sym (active_then one b c k)) h) k
 
 -- the keys of a phase, and then its operators
 pub phase_both : (a b c : BoardState) (names : List (List ℕ)) (consoles first : ℕ) (phase : PlainVtPhase)
@@ -147,7 +185,8 @@ pub phase_both : (a b c : BoardState) (names : List (List ℕ)) (consoles first 
     → AddsAll (phase_entries names consoles (active_on a) first phase) a c
 phase_both a b c names consoles first phase h k =
     let keys = key_entries (length names) (active_on a) first (length phase.keys) in
-    let same : active_on b ≡ active_on a = active_then keys a b h ∙ active_keys (length names) (active_on a) (active_on a) first (length phase.keys) in
+    let same : active_on b ≡ active_on a =
+    active_then keys a b h ∙ active_keys (length names) (active_on a) (active_on a) first (length phase.keys) in
     adds_both keys (operators_entries names consoles (active_on a) phase.operators) a b c h
     (subst (λ (n : ℕ). AddsAll (operators_entries names consoles n phase.operators) b c) same k)
 
@@ -165,19 +204,31 @@ pressed_first seat first count b =
       active = refl;
     }
 
-pub pressed_more : (seat first count place console : ℕ) (a b c : BoardState) → place < count → HasPressed seat first count place a b → Adds seat (Key (first + place) console) b c
+pub pressed_more : (seat first count place console : ℕ) (a b c : BoardState)
+    → place < count
+    → HasPressed seat first count place a b
+    → Adds seat (Key (first + place) console) b c
     → HasPressed seat first count (place + 1) a c
 pressed_more seat first count place console a b c lt h k =
-    let next = press_next (key_entries seat (active_on a) first count) a b c seat (active_on a) first place count console lt h.left h.active k in
+    let next = press_next (key_entries seat (active_on a) first count) a b c seat (active_on a)
+    first place count console lt h.left h.active k in
     record { left = next.0; active = next.1 }
 
-pub pressed_all : (seat first count place : ℕ) (a b : BoardState) → count ≤ place → HasPressed seat first count place a b → AddsAll (key_entries seat (active_on a) first count) a b
+pub pressed_all : (seat first count place : ℕ) (a b : BoardState)
+    → count ≤ place
+    → HasPressed seat first count place a b
+    → AddsAll (key_entries seat (active_on a) first count) a b
 pressed_all seat first count place a b le h =
     let none : count - place ≡ 0 = omega (arith, le) in
     left_none (key_entries seat (active_on a) first count) a b
-    (subst (λ (n : ℕ). HasLeft (key_entries seat (active_on a) first count) (key_entries seat (active_on a) (first + place) n) a b) none h.left)
+    (subst (λ (n : ℕ).
+    HasLeft (key_entries seat (active_on a) first count) (key_entries seat (active_on a) (first + place) n) a b)
+    none h.left)
 
-pub pressed_lacks : (seat first count place : ℕ) (a b : BoardState) (d : Denied) → place < count → HasPressed seat first count place a b → IsDenied b d
+pub pressed_lacks : (seat first count place : ℕ) (a b : BoardState) (d : Denied)
+    → place < count
+    → HasPressed seat first count place a b
+    → IsDenied b d
     → LacksRoom (key_entries seat (active_on a) first count) a d
 pressed_lacks seat first count place a b d lt h denied =
     let whole = key_entries seat (active_on a) first count in
@@ -187,22 +238,32 @@ pressed_lacks seat first count place a b d lt h denied =
     (subst (λ (n : ℕ). HasLeft whole (key_entries seat (active_on a) (first + place) n) a b) more h.left)
     (lacks_one key b d denied)
 
-pub called_more : (seat place : ℕ) (calls : List OpCall) (call : OpCall) (a b c : BoardState) → drop place calls ≡ call ∷ drop (place + 1) calls
-    → HasCalled seat calls place a b → AddsAll (call_entries seat (active_on b) (accepted b.consoles call)) b c → HasCalled seat calls (place + 1) a c
+pub called_more : (seat place : ℕ) (calls : List OpCall) (call : OpCall) (a b c : BoardState)
+    → drop place calls ≡ call ∷ drop (place + 1) calls
+    → HasCalled seat calls place a b
+    → AddsAll (call_entries seat (active_on b) (accepted b.consoles call)) b c
+    → HasCalled seat calls (place + 1) a c
 called_more seat place calls call a b c next h k =
     let whole = call_entries seat (active_on a) (flat_map (accepted a.consoles) calls) in
     call_next whole a b c seat a.consoles call (drop (place + 1) calls)
-    (subst (λ (l : List OpCall). HasLeft whole (call_entries seat (active_on b) (flat_map (accepted a.consoles) l)) a b) next h)
+    (subst (λ (l : List OpCall). HasLeft whole (call_entries seat (active_on b) (flat_map (accepted a.consoles) l)) a b)
+    next h)
     (subst (λ (n : ℕ). AddsAll (call_entries seat (active_on b) (accepted n call)) b c) h.adds.consoles k)
 
-pub called_all : (seat place : ℕ) (calls : List OpCall) (a b : BoardState) → drop place calls ≡ [] → HasCalled seat calls place a b
+pub called_all : (seat place : ℕ) (calls : List OpCall) (a b : BoardState)
+    → drop place calls ≡ []
+    → HasCalled seat calls place a b
     → AddsAll (call_entries seat (active_on a) (flat_map (accepted a.consoles) calls)) a b
 called_all seat place calls a b none h =
     let whole = call_entries seat (active_on a) (flat_map (accepted a.consoles) calls) in
-    left_none whole a b (subst (λ (l : List OpCall). HasLeft whole (call_entries seat (active_on b) (flat_map (accepted a.consoles) l)) a b) none h)
+    left_none whole a b
+    (subst (λ (l : List OpCall). HasLeft whole (call_entries seat (active_on b) (flat_map (accepted a.consoles) l)) a b)
+    none h)
 
-pub called_lacks : (seat place : ℕ) (calls : List OpCall) (call : OpCall) (a b : BoardState) (d : Denied) → drop place calls ≡ call ∷ drop (place + 1) calls
-    → HasCalled seat calls place a b → LacksRoom (call_entries seat (active_on b) (accepted b.consoles call)) b d
+pub called_lacks : (seat place : ℕ) (calls : List OpCall) (call : OpCall) (a b : BoardState) (d : Denied)
+    → drop place calls ≡ call ∷ drop (place + 1) calls
+    → HasCalled seat calls place a b
+    → LacksRoom (call_entries seat (active_on b) (accepted b.consoles call)) b d
     → LacksRoom (call_entries seat (active_on a) (flat_map (accepted a.consoles) calls)) a d
 called_lacks seat place calls call a b d next h k =
     let whole = call_entries seat (active_on a) (flat_map (accepted a.consoles) calls) in
@@ -210,36 +271,49 @@ called_lacks seat place calls call a b d next h k =
     let rest = flat_map (accepted a.consoles) (drop (place + 1) calls) in
     lacks_left whole one (call_entries seat (active_behind (active_on b) one) rest) a b d
     (subst (λ (l : List VtEntry). HasLeft whole l a b)
-    (ap (λ (l : List OpCall). call_entries seat (active_on b) (flat_map (accepted a.consoles) l)) next ∙ calls_both seat (active_on b) (accepted a.consoles call) rest) h)
+    (ap (λ (l : List OpCall). call_entries seat (active_on b) (flat_map (accepted a.consoles) l)) next
+    ∙ calls_both seat (active_on b) (accepted a.consoles call) rest) h)
     (subst (λ (n : ℕ). LacksRoom (call_entries seat (active_on b) (accepted n call)) b d) h.adds.consoles k)
 
-pub operated_more : (names : List (List ℕ)) (place : ℕ) (operators : List PlainOperator) (operator : PlainOperator) (a b c : BoardState) → drop place operators ≡ operator ∷ drop (place + 1) operators
-    → HasOperated names operators place a b → AddsAll (operator_entries names b.consoles (active_on b) operator) b c → HasOperated names operators (place + 1) a c
+pub operated_more : (names : List (List ℕ)) (place : ℕ) (operators : List PlainOperator) (operator : PlainOperator)
+    (a b c : BoardState)
+    → drop place operators ≡ operator ∷ drop (place + 1) operators
+    → HasOperated names operators place a b
+    → AddsAll (operator_entries names b.consoles (active_on b) operator) b c
+    → HasOperated names operators (place + 1) a c
 operated_more names place operators operator a b c next h k =
     let whole = operators_entries names a.consoles (active_on a) operators in
     operator_next whole a b c names a.consoles operator (drop (place + 1) operators)
     (subst (λ (l : List PlainOperator). HasLeft whole (operators_entries names a.consoles (active_on b) l) a b) next h)
     (subst (λ (n : ℕ). AddsAll (operator_entries names n (active_on b) operator) b c) h.adds.consoles k)
 
-pub operated_all : (names : List (List ℕ)) (place : ℕ) (operators : List PlainOperator) (a b : BoardState) → drop place operators ≡ [] → HasOperated names operators place a b
+pub operated_all : (names : List (List ℕ)) (place : ℕ) (operators : List PlainOperator) (a b : BoardState)
+    → drop place operators ≡ []
+    → HasOperated names operators place a b
     → AddsAll (operators_entries names a.consoles (active_on a) operators) a b
 operated_all names place operators a b none h =
     let whole = operators_entries names a.consoles (active_on a) operators in
-    left_none whole a b (subst (λ (l : List PlainOperator). HasLeft whole (operators_entries names a.consoles (active_on b) l) a b) none h)
+    left_none whole a b
+    (subst (λ (l : List PlainOperator). HasLeft whole (operators_entries names a.consoles (active_on b) l) a b) none h)
 
-pub operated_lacks : (names : List (List ℕ)) (place : ℕ) (operators : List PlainOperator) (operator : PlainOperator) (a b : BoardState) (d : Denied) → drop place operators ≡ operator ∷ drop (place + 1) operators
-    → HasOperated names operators place a b → LacksRoom (operator_entries names b.consoles (active_on b) operator) b d
+pub operated_lacks : (names : List (List ℕ)) (place : ℕ) (operators : List PlainOperator) (operator : PlainOperator)
+    (a b : BoardState) (d : Denied)
+    → drop place operators ≡ operator ∷ drop (place + 1) operators
+    → HasOperated names operators place a b
+    → LacksRoom (operator_entries names b.consoles (active_on b) operator) b d
     → LacksRoom (operators_entries names a.consoles (active_on a) operators) a d
 operated_lacks names place operators operator a b d next h k =
     let whole = operators_entries names a.consoles (active_on a) operators in
     let one = operator_entries names a.consoles (active_on b) operator in
-    lacks_left whole one (operators_entries names a.consoles (active_behind (active_on b) one) (drop (place + 1) operators)) a b d
+    lacks_left whole one
+    (operators_entries names a.consoles (active_behind (active_on b) one) (drop (place + 1) operators)) a b d
     (subst (λ (l : List PlainOperator). HasLeft whole (operators_entries names a.consoles (active_on b) l) a b) next h)
     (subst (λ (n : ℕ). LacksRoom (operator_entries names n (active_on b) operator) b d) h.adds.consoles k)
 
 -- ---- phases
 
-pub played_first : (names : List (List ℕ)) (keyboards : List PlainVtPhase) (b : BoardState) (phases : List PlainPhase) → length phases ≡ length keyboards
+pub played_first : (names : List (List ℕ)) (keyboards : List PlainVtPhase) (b : BoardState) (phases : List PlainPhase)
+    → length phases ≡ length keyboards
     → HasPlayed names keyboards 0 0 b b phases phases
 played_first names keyboards b phases e = record {
   left = left_first (entries_from names b.consoles (active_on b) 0 keyboards) b;
@@ -249,19 +323,33 @@ played_first names keyboards b phases e = record {
 }
 
 -- the item at a place, and those behind it
-next_item : {X : Type 0} (xs : List X) (i : ℕ) (x : X) → i < length xs → x ≡ get_or xs i x → drop i xs ≡ x ∷ drop (i + 1) xs
-next_item xs i x h at = drop-cons xs i x h ∙ ap (λ y. y ∷ drop (suc i) xs) (sym at) ∙ ap (λ n. x ∷ drop n xs) (sym (add-one i))
+next_item : {X : Type 0} (xs : List X) (i : ℕ) (x : X)
+    → i < length xs
+    → x ≡ get_or xs i x
+    → drop i xs ≡ x ∷ drop (i + 1) xs
+next_item xs i x h at =
+    drop-cons xs i x h ∙ ap (λ y. y ∷ drop (suc i) xs) (sym at) ∙ ap (λ n. x ∷ drop n xs) (sym (add-one i))
 
-pub next_mapped : {X Y : Type 0} (f : X → Y) (xs : List X) (i : ℕ) (x : X) → i < length xs → x ≡ get_or xs i x → drop i (map f xs) ≡ f x ∷ drop (i + 1) (map f xs)
+pub next_mapped : {X Y : Type 0} (f : X → Y) (xs : List X) (i : ℕ) (x : X)
+    → i < length xs
+    → x ≡ get_or xs i x
+    → drop i (map f xs) ≡ f x ∷ drop (i + 1) (map f xs)
 next_mapped {X} {Y} f xs i x h at =
-    drop-map f i xs ∙ ap (λ (l : List X). map f l) (next_item xs i x h at) ∙ ap (λ (l : List Y). f x ∷ l) (sym (drop-map f (i + 1) xs))
+    drop-map f i xs
+    ∙ ap (λ (l : List X). map f l) (next_item xs i x h at)
+    ∙ ap (λ (l : List Y). f x ∷ l) (sym (drop-map f (i + 1) xs))
 
 -- a list with one item set, at its place
 abbrev SetAt : (next place : ℕ) → List PlainPhase → PlainPhase → PlainPhase → Type 0
 SetAt next place xs x y =
-    (drop place xs ≡ x ∷ drop next xs) × (take next (slice_set xs place y) ≡ take place xs ++ y ∷ []) × (drop next (slice_set xs place y) ≡ drop next xs)
+    (drop place xs ≡ x ∷ drop next xs)
+    × (take next (slice_set xs place y) ≡ take place xs ++ y ∷ [])
+    × (drop next (slice_set xs place y) ≡ drop next xs)
 
-set_at : (place : ℕ) (xs : List PlainPhase) (x y : PlainPhase) → place < length xs → x ≡ slice_index_or xs place x → SetAt (suc place) place xs x y
+set_at : (place : ℕ) (xs : List PlainPhase) (x y : PlainPhase)
+    → place < length xs
+    → x ≡ slice_index_or xs place x
+    → SetAt (suc place) place xs x y
 set_at zero [] x y lt e = absurd (omega (arith, lt))
 set_at (suc place) [] x y lt e = absurd (omega (arith, lt))
 set_at zero (z ∷ xs) x y lt e = (ap (λ (w : PlainPhase). w ∷ xs) (sym e), refl, refl)
@@ -269,13 +357,19 @@ set_at (suc place) (z ∷ xs) x y lt e =
     let rest = set_at place xs x y (omega (arith, lt)) e in
     (rest.0, ap (λ (l : List PlainPhase). z ∷ l) rest.1, rest.2)
 
-set_parts : (place : ℕ) (xs : List PlainPhase) (x y : PlainPhase) → place < length xs → x ≡ slice_index_or xs place x → SetAt (place + 1) place xs x y
+set_parts : (place : ℕ) (xs : List PlainPhase) (x y : PlainPhase)
+    → place < length xs
+    → x ≡ slice_index_or xs place x
+    → SetAt (place + 1) place xs x y
 set_parts place xs x y lt e =
     let next : suc place ≡ place + 1 = omega arith in
     subst (λ (n : ℕ). SetAt n place xs x y) next (set_at place xs x y lt e)
 
-pub played_more : (names : List (List ℕ)) (keyboards : List PlainVtPhase) (keyboard : PlainVtPhase) (place first : ℕ) (a b c : BoardState) (phases played : List PlainPhase) (phase now : PlainPhase)
-    → place < length played → phase ≡ slice_index_or played place phase → drop place keyboards ≡ keyboard ∷ drop (place + 1) keyboards
+pub played_more : (names : List (List ℕ)) (keyboards : List PlainVtPhase) (keyboard : PlainVtPhase) (place first : ℕ)
+    (a b c : BoardState) (phases played : List PlainPhase) (phase now : PlainPhase)
+    → place < length played
+    → phase ≡ slice_index_or played place phase
+    → drop place keyboards ≡ keyboard ∷ drop (place + 1) keyboards
     → now ≡ record phase { lines = key_lines b.consoles (active_on b) keyboard.keys }
     → AddsAll (phase_entries names b.consoles (active_on b) first keyboard) b c
     → HasPlayed names keyboards place first a b phases played
@@ -284,63 +378,107 @@ played_more names keyboards keyboard place first a b c phases played phase now l
     let whole = entries_from names a.consoles (active_on a) 0 keyboards in
     let rest = drop (place + 1) keyboards in
     let consoles : b.consoles ≡ a.consoles = h.left.adds.consoles in
-    let added : AddsAll (phase_entries names a.consoles (active_on b) first keyboard) b c = subst (λ (n : ℕ). AddsAll (phase_entries names n (active_on b) first keyboard) b c) consoles adds in
+    let added : AddsAll (phase_entries names a.consoles (active_on b) first keyboard) b c =
+    subst (λ (n : ℕ). AddsAll (phase_entries names n (active_on b) first keyboard) b c) consoles adds in
     let parts = set_parts place played phase now lt at in
-    let later : active_on c ≡ active_behind (active_on b) (phase_entries names a.consoles (active_on b) first keyboard) = active_then (phase_entries names a.consoles (active_on b) first keyboard) b c added in
-    let here : now ≡ record phase { lines = key_lines a.consoles (active_on b) keyboard.keys } = lines ∙ ap (λ (n : ℕ). record phase { lines = key_lines n (active_on b) keyboard.keys }) consoles in
-    let others = phases_in_order names a.consoles (active_on c) (first + length keyboard.keys) rest (drop (place + 1) played) in
-    let all : phases_in_order names a.consoles (active_on b) first (drop place keyboards) (drop place played) ≡ now ∷ others =
+    let later : active_on c
+    ≡ active_behind (active_on b) (phase_entries names a.consoles (active_on b) first keyboard) =
+    active_then (phase_entries names a.consoles (active_on b) first keyboard) b c added in
+    let here : now ≡ record phase { lines = key_lines a.consoles (active_on b) keyboard.keys } =
+    lines ∙ ap (λ (n : ℕ). record phase { lines = key_lines n (active_on b) keyboard.keys }) consoles in
+    let others =
+    phases_in_order names a.consoles (active_on c) (first + length keyboard.keys) rest (drop (place + 1) played) in
+    let all : phases_in_order names a.consoles (active_on b) first (drop place keyboards)
+    (drop place played) ≡ now ∷ others =
     ap (λ (l : List PlainVtPhase). phases_in_order names a.consoles (active_on b) first l (drop place played)) next
     ∙ ap (λ (l : List PlainPhase). phases_in_order names a.consoles (active_on b) first (keyboard ∷ rest) l) parts.0
-    ∙ ap (λ (w : PlainPhase). w ∷ phases_in_order names a.consoles (active_behind (active_on b) (phase_entries names a.consoles (active_on b) first keyboard)) (first + length keyboard.keys) rest (drop (place + 1) played)) (sym here)
-    ∙ ap (λ (n : ℕ). now ∷ phases_in_order names a.consoles n (first + length keyboard.keys) rest (drop (place + 1) played)) (sym later) in
+    ∙ ap
+    (λ (w : PlainPhase).
+    w
+    ∷ phases_in_order names a.consoles
+    (active_behind (active_on b) (phase_entries names a.consoles (active_on b) first keyboard))
+    (first + length keyboard.keys) rest (drop (place + 1) played))
+    (sym here)
+    ∙ ap
+    (λ (n : ℕ). now ∷ phases_in_order names a.consoles n (first + length keyboard.keys) rest (drop (place + 1) played))
+    (sym later) in
     record {
-      left = phase_next whole a b c names a.consoles first keyboard rest (subst (λ (l : List PlainVtPhase). HasLeft whole (entries_from names a.consoles (active_on b) first l) a b) next h.left) added;
+      left = phase_next whole a b c names a.consoles first keyboard rest
+          (subst (λ (l : List PlainVtPhase). HasLeft whole (entries_from names a.consoles (active_on b) first l) a b)
+          next h.left) added;
       each = length-set played place now ∙ h.each;
       same =
-          ap (λ (l : List PlainPhase). l ++ phases_in_order names a.consoles (active_on c) (first + length keyboard.keys) rest (drop (place + 1) (slice_set played place now))) parts.1
-          ∙ ap (λ (l : List PlainPhase). (take place played ++ now ∷ []) ++ phases_in_order names a.consoles (active_on c) (first + length keyboard.keys) rest l) parts.2
+          ap (λ (l : List PlainPhase).
+          l
+          ++ phases_in_order names a.consoles (active_on c) (first + length keyboard.keys) rest
+          (drop (place + 1) (slice_set played place now))) parts.1
+          ∙ ap
+          (λ (l : List PlainPhase).
+          (take place played ++ now ∷ [])
+          ++ phases_in_order names a.consoles (active_on c) (first + length keyboard.keys) rest l) parts.2
           ∙ append_assoc (take place played) (now ∷ []) others
           ∙ ap (λ (l : List PlainPhase). take place played ++ l) (sym all)
           ∙ h.same;
       counted =
-          let sum : length (all_keys (keyboard ∷ rest)) ≡ length keyboard.keys + length (all_keys rest) = length-append keyboard.keys (all_keys rest) in
-          let was : first + length (all_keys (keyboard ∷ rest)) ≡ length (all_keys keyboards) = subst (λ (l : List PlainVtPhase). first + length (all_keys l) ≡ length (all_keys keyboards)) next h.counted in
+          let sum : length (all_keys (keyboard ∷ rest)) ≡ length keyboard.keys + length (all_keys rest) =
+          length-append keyboard.keys (all_keys rest) in
+          let was : first + length (all_keys (keyboard ∷ rest)) ≡ length (all_keys keyboards) =
+          subst (λ (l : List PlainVtPhase). first + length (all_keys l) ≡ length (all_keys keyboards)) next h.counted in
           omega (arith, sum, was);
     }
 
-pub played_all : (names : List (List ℕ)) (keyboards : List PlainVtPhase) (place first : ℕ) (a b : BoardState) (phases played : List PlainPhase)
-    → length keyboards ≤ place → HasPlayed names keyboards place first a b phases played
-    → AddsAll (entries_from names a.consoles (active_on a) 0 keyboards) a b × (played ≡ phases_in_order names a.consoles (active_on a) 0 keyboards phases)
+pub played_all : (names : List (List ℕ)) (keyboards : List PlainVtPhase) (place first : ℕ) (a b : BoardState)
+    (phases played : List PlainPhase)
+    → length keyboards ≤ place
+    → HasPlayed names keyboards place first a b phases played
+    → AddsAll (entries_from names a.consoles (active_on a) 0 keyboards) a b
+    × (played ≡ phases_in_order names a.consoles (active_on a) 0 keyboards phases)
 played_all names keyboards place first a b phases played le h =
     let whole = entries_from names a.consoles (active_on a) 0 keyboards in
     let none : drop place keyboards ≡ [] = drop_all place keyboards le in
     let no_more : drop place played ≡ [] = drop_all place played (omega (arith, le, h.each)) in
     let front : take place played ≡ played = take_all place played (omega (arith, le, h.each)) in (
-      left_none whole a b (subst (λ (l : List PlainVtPhase). HasLeft whole (entries_from names a.consoles (active_on b) first l) a b) none h.left),
+      left_none whole a b
+          (subst (λ (l : List PlainVtPhase). HasLeft whole (entries_from names a.consoles (active_on b) first l) a b)
+          none h.left),
       sym (append-nil played)
-          ∙ ap (λ (l : List PlainPhase). played ++ l) (sym (ap (λ (l : List PlainVtPhase). phases_in_order names a.consoles (active_on b) first l (drop place played)) none ∙ no_more))
-          ∙ ap (λ (l : List PlainPhase). l ++ phases_in_order names a.consoles (active_on b) first (drop place keyboards) (drop place played)) (sym front)
+          ∙ ap (λ (l : List PlainPhase). played ++ l)
+          (sym (ap
+          (λ (l : List PlainVtPhase). phases_in_order names a.consoles (active_on b) first l (drop place played)) none
+          ∙ no_more))
+          ∙ ap
+          (λ (l : List PlainPhase).
+          l ++ phases_in_order names a.consoles (active_on b) first (drop place keyboards) (drop place played))
+          (sym front)
           ∙ h.same,
     )
 
 -- the keys of the phase that comes next are among all
-pub keys_fit : (names : List (List ℕ)) (keyboards : List PlainVtPhase) (keyboard : PlainVtPhase) (place first : ℕ) (a b : BoardState) (phases played : List PlainPhase)
-    → drop place keyboards ≡ keyboard ∷ drop (place + 1) keyboards → HasPlayed names keyboards place first a b phases played
+pub keys_fit : (names : List (List ℕ)) (keyboards : List PlainVtPhase) (keyboard : PlainVtPhase) (place first : ℕ)
+    (a b : BoardState) (phases played : List PlainPhase)
+    → drop place keyboards ≡ keyboard ∷ drop (place + 1) keyboards
+    → HasPlayed names keyboards place first a b phases played
     → first + length keyboard.keys ≤ length (all_keys keyboards)
 keys_fit names keyboards keyboard place first a b phases played next h =
     let rest = drop (place + 1) keyboards in
-    let sum : length (all_keys (keyboard ∷ rest)) ≡ length keyboard.keys + length (all_keys rest) = length-append keyboard.keys (all_keys rest) in
-    let was : first + length (all_keys (keyboard ∷ rest)) ≡ length (all_keys keyboards) = subst (λ (l : List PlainVtPhase). first + length (all_keys l) ≡ length (all_keys keyboards)) next h.counted in
+    let sum : length (all_keys (keyboard ∷ rest)) ≡ length keyboard.keys + length (all_keys rest) =
+    length-append keyboard.keys (all_keys rest) in
+    let was : first + length (all_keys (keyboard ∷ rest)) ≡ length (all_keys keyboards) =
+    subst (λ (l : List PlainVtPhase). first + length (all_keys l) ≡ length (all_keys keyboards)) next h.counted in
     omega (arith, sum, was)
 
 -- a phase more
-pub step_played : (names : List (List ℕ)) (keyboards : List VtPhase) (x : VtPhase) (place first : ℕ) (a b c : BoardState) (phases played : List Phase) (y z : Phase) (keys : List ℕ)
-    → place < length keyboards → x ≡ get_or keyboards place x → y ≡ get_or played place y → keys ≡ x.keys.items
+pub step_played : (names : List (List ℕ)) (keyboards : List VtPhase) (x : VtPhase) (place first : ℕ)
+    (a b c : BoardState) (phases played : List Phase) (y z : Phase) (keys : List ℕ)
+    → place < length keyboards
+    → x ≡ get_or keyboards place x
+    → y ≡ get_or played place y
+    → keys ≡ x.keys.items
     → phase_of z ≡ record (phase_of y) { lines = key_lines b.consoles (active_on b) keys }
     → AddsAll (phase_entries names b.consoles (active_on b) first (vt_phase_of x)) b c
     → HasPlayed names (map vt_phase_of keyboards) place first a b (map phase_of phases) (map phase_of played)
-    → HasPlayed names (map vt_phase_of keyboards) (place + 1) (first + length keys) a c (map phase_of phases) (map phase_of (slice_set played place z))
+    → HasPlayed names (map vt_phase_of keyboards) (place + 1) (first + length keys) a c (map phase_of phases)
+    (map phase_of (slice_set played place z))
 step_played names keyboards x place first a b c phases played y z keys lt is_x is_y is_keys lines adds h =
     let ks : List PlainVtPhase = map vt_phase_of keyboards in
     let ps : List PlainPhase = map phase_of played in
@@ -348,45 +486,70 @@ step_played names keyboards x place first a b c phases played y z keys lt is_x i
     let few : length ks ≡ length keyboards = length-map keyboards vt_phase_of in
     let within : place < length ps = omega (arith, lt, few, h.each) in
     let inside : place < length played = omega (arith, within, many) in
-    let at : phase_of y ≡ slice_index_or ps place (phase_of y) = ap phase_of is_y ∙ sym (get_or-map phase_of played place y (phase_of y) inside) in
+    let at : phase_of y ≡ slice_index_or ps place (phase_of y) =
+    ap phase_of is_y ∙ sym (get_or-map phase_of played place y (phase_of y) inside) in
     let next = next_mapped vt_phase_of keyboards place x lt is_x in
     let here : phase_of z ≡ record (phase_of y) { lines = key_lines b.consoles (active_on b) x.keys.items } =
     lines ∙ ap (λ (l : List ℕ). record (phase_of y) { lines = key_lines b.consoles (active_on b) l }) is_keys in
-    let done = played_more names ks (vt_phase_of x) place first a b c (map phase_of phases) ps (phase_of y) (phase_of z) within at next here adds h in
-    subst (λ (n : ℕ). HasPlayed names ks (place + 1) (first + n) a c (map phase_of phases) (map phase_of (slice_set played place z))) (ap (λ (l : List ℕ). length l) (sym is_keys))
-    (subst (λ (l : List PlainPhase). HasPlayed names ks (place + 1) (first + length x.keys.items) a c (map phase_of phases) l) (sym (map-set phase_of played place z)) done)
+    let done = played_more names ks (vt_phase_of x) place first a b c (map phase_of phases) ps (phase_of y) (phase_of z)
+    within at next here adds h in
+    subst (λ (n : ℕ).
+    HasPlayed names ks (place + 1) (first + n) a c (map phase_of phases) (map phase_of (slice_set played place z)))
+    (ap (λ (l : List ℕ). length l) (sym is_keys))
+    (subst
+    (λ (l : List PlainPhase). HasPlayed names ks (place + 1) (first + length x.keys.items) a c (map phase_of phases) l)
+    (sym (map-set phase_of played place z)) done)
 
 -- a phase, by the numbers that the code has
-pub phase_played : (a b c : BoardState) (names : List (List ℕ)) (first seat count : ℕ) (phase : PlainVtPhase) → seat ≡ length names → count ≡ length phase.keys
-    → AddsAll (key_entries seat (active_on a) first count) a b → AddsAll (operators_entries names b.consoles (active_on b) phase.operators) b c
+pub phase_played : (a b c : BoardState) (names : List (List ℕ)) (first seat count : ℕ) (phase : PlainVtPhase)
+    → seat ≡ length names
+    → count ≡ length phase.keys
+    → AddsAll (key_entries seat (active_on a) first count) a b
+    → AddsAll (operators_entries names b.consoles (active_on b) phase.operators) b c
     → AddsAll (phase_entries names a.consoles (active_on a) first phase) a c
 phase_played a b c names first seat count phase e f h k =
     let keys : AddsAll (key_entries (length names) (active_on a) first (length phase.keys)) a b =
-    subst (λ (n : ℕ). AddsAll (key_entries (length names) (active_on a) first n) a b) f (subst (λ (n : ℕ). AddsAll (key_entries n (active_on a) first count) a b) e h) in
-    phase_both a b c names a.consoles first phase keys (subst (λ (n : ℕ). AddsAll (operators_entries names n (active_on b) phase.operators) b c) keys.consoles k)
+    subst (λ (n : ℕ). AddsAll (key_entries (length names) (active_on a) first n) a b) f
+    (subst (λ (n : ℕ). AddsAll (key_entries n (active_on a) first count) a b) e h) in
+    phase_both a b c names a.consoles first phase keys
+    (subst (λ (n : ℕ). AddsAll (operators_entries names n (active_on b) phase.operators) b c) keys.consoles k)
 
 -- a phase whose keys, or whose operators' calls, have no room
-pub keys_lack : (a : BoardState) (names : List (List ℕ)) (first seat count : ℕ) (phase : PlainVtPhase) (d : Denied) → seat ≡ length names → count ≡ length phase.keys
-    → LacksRoom (key_entries seat (active_on a) first count) a d → LacksRoom (phase_entries names a.consoles (active_on a) first phase) a d
+pub keys_lack : (a : BoardState) (names : List (List ℕ)) (first seat count : ℕ) (phase : PlainVtPhase) (d : Denied)
+    → seat ≡ length names
+    → count ≡ length phase.keys
+    → LacksRoom (key_entries seat (active_on a) first count) a d
+    → LacksRoom (phase_entries names a.consoles (active_on a) first phase) a d
 keys_lack a names first seat count phase d e f h =
-    lacks_more (key_entries (length names) (active_on a) first (length phase.keys)) (operators_entries names a.consoles (active_on a) phase.operators) a d
-    (subst (λ (n : ℕ). LacksRoom (key_entries (length names) (active_on a) first n) a d) f (subst (λ (n : ℕ). LacksRoom (key_entries n (active_on a) first count) a d) e h))
+    lacks_more (key_entries (length names) (active_on a) first (length phase.keys))
+    (operators_entries names a.consoles (active_on a) phase.operators) a d
+    (subst (λ (n : ℕ). LacksRoom (key_entries (length names) (active_on a) first n) a d) f
+    (subst (λ (n : ℕ). LacksRoom (key_entries n (active_on a) first count) a d) e h))
 
-pub operators_lack : (a b : BoardState) (names : List (List ℕ)) (first seat count : ℕ) (phase : PlainVtPhase) (d : Denied) → seat ≡ length names → count ≡ length phase.keys
-    → AddsAll (key_entries seat (active_on a) first count) a b → LacksRoom (operators_entries names b.consoles (active_on b) phase.operators) b d
+pub operators_lack : (a b : BoardState) (names : List (List ℕ)) (first seat count : ℕ) (phase : PlainVtPhase)
+    (d : Denied)
+    → seat ≡ length names
+    → count ≡ length phase.keys
+    → AddsAll (key_entries seat (active_on a) first count) a b
+    → LacksRoom (operators_entries names b.consoles (active_on b) phase.operators) b d
     → LacksRoom (phase_entries names a.consoles (active_on a) first phase) a d
 operators_lack a b names first seat count phase d e f h k =
     let keys : AddsAll (key_entries (length names) (active_on a) first (length phase.keys)) a b =
-    subst (λ (n : ℕ). AddsAll (key_entries (length names) (active_on a) first n) a b) f (subst (λ (n : ℕ). AddsAll (key_entries n (active_on a) first count) a b) e h) in
+    subst (λ (n : ℕ). AddsAll (key_entries (length names) (active_on a) first n) a b) f
+    (subst (λ (n : ℕ). AddsAll (key_entries n (active_on a) first count) a b) e h) in
     let same : active_on b ≡ active_on a =
-    active_then (key_entries (length names) (active_on a) first (length phase.keys)) a b keys ∙ active_keys (length names) (active_on a) (active_on a) first (length phase.keys) in
-    lacks_behind (key_entries (length names) (active_on a) first (length phase.keys)) (operators_entries names a.consoles (active_on a) phase.operators) a b d keys
+    active_then (key_entries (length names) (active_on a) first (length phase.keys)) a b keys
+    ∙ active_keys (length names) (active_on a) (active_on a) first (length phase.keys) in
+    lacks_behind (key_entries (length names) (active_on a) first (length phase.keys))
+    (operators_entries names a.consoles (active_on a) phase.operators) a b d keys
     (subst (λ (n : ℕ). LacksRoom (operators_entries names a.consoles n phase.operators) b d) same
     (subst (λ (n : ℕ). LacksRoom (operators_entries names n (active_on b) phase.operators) b d) keys.consoles k))
 
 -- a phase that has no room, among others
-pub phase_lacks : (names : List (List ℕ)) (keyboards : List VtPhase) (x : VtPhase) (place first : ℕ) (a b : BoardState) (phases played : List PlainPhase) (d : Denied)
-    → place < length keyboards → x ≡ get_or keyboards place x
+pub phase_lacks : (names : List (List ℕ)) (keyboards : List VtPhase) (x : VtPhase) (place first : ℕ) (a b : BoardState)
+    (phases played : List PlainPhase) (d : Denied)
+    → place < length keyboards
+    → x ≡ get_or keyboards place x
     → LacksRoom (phase_entries names b.consoles (active_on b) first (vt_phase_of x)) b d
     → HasPlayed names (map vt_phase_of keyboards) place first a b phases played
     → LacksRoom (entries_from names a.consoles (active_on a) 0 (map vt_phase_of keyboards)) a d
@@ -395,19 +558,28 @@ phase_lacks names keyboards x place first a b phases played d lt is_x k h =
     let whole = entries_from names a.consoles (active_on a) 0 ks in
     let phase = vt_phase_of x in
     let one = phase_entries names a.consoles (active_on b) first phase in
-    lacks_left whole one (entries_from names a.consoles (active_behind (active_on b) one) (first + length phase.keys) (drop (place + 1) ks)) a b d
-    (subst (λ (l : List PlainVtPhase). HasLeft whole (entries_from names a.consoles (active_on b) first l) a b) (next_mapped vt_phase_of keyboards place x lt is_x) h.left)
+    lacks_left whole one
+    (entries_from names a.consoles (active_behind (active_on b) one) (first + length phase.keys) (drop (place + 1) ks))
+    a b d
+    (subst (λ (l : List PlainVtPhase). HasLeft whole (entries_from names a.consoles (active_on b) first l) a b)
+    (next_mapped vt_phase_of keyboards place x lt is_x) h.left)
     (subst (λ (n : ℕ). LacksRoom (phase_entries names n (active_on b) first phase) b d) h.left.adds.consoles k)
 
 -- ---- the board of a session
 
-pub board_denied : (session : PlainVtSession) (names : List (List ℕ)) (board : BoardState) (keyboards : List PlainVtPhase) (d : Denied)
-    → names ≡ operator_names session.phases → board ≡ record { consoles = session.calls.ports; limit = 4194304; entries = [] } → keyboards ≡ session.phases
-    → LacksRoom (entries_from names board.consoles (active_on board) 0 keyboards) board d → IsBoardDenied session d
+pub board_denied : (session : PlainVtSession) (names : List (List ℕ)) (board : BoardState)
+    (keyboards : List PlainVtPhase) (d : Denied)
+    → names ≡ operator_names session.phases
+    → board ≡ record { consoles = session.calls.ports; limit = 4194304; entries = [] }
+    → keyboards ≡ session.phases
+    → LacksRoom (entries_from names board.consoles (active_on board) 0 keyboards) board d
+    → IsBoardDenied session d
 board_denied session names board keyboards Full is_names is_board is_keyboards h =
-    let here : LacksRoom (entries_from names session.calls.ports 0 0 keyboards) (record { consoles = session.calls.ports; limit = 4194304; entries = [] }) Full =
+    let here : LacksRoom (entries_from names session.calls.ports 0 0 keyboards)
+    (record { consoles = session.calls.ports; limit = 4194304; entries = [] }) Full =
     subst (λ (b : BoardState). LacksRoom (entries_from names b.consoles (active_on b) 0 keyboards) b Full) is_board h in
-    subst (λ (ks : List PlainVtPhase). 4194304 < length (entries_from (operator_names session.phases) session.calls.ports 0 0 ks)) is_keyboards
+    subst (λ (ks : List PlainVtPhase).
+    4194304 < length (entries_from (operator_names session.phases) session.calls.ports 0 0 ks)) is_keyboards
     (subst (λ (ns : List (List ℕ)). 4194304 < length (entries_from ns session.calls.ports 0 0 keyboards)) is_names
     (omega (arith, here)))
 board_denied session names board keyboards NoMemory is_names is_board is_keyboards h = tt
@@ -415,20 +587,32 @@ board_denied session names board keyboards NoMemory is_names is_board is_keyboar
 pub memory_denied : (session : PlainVtSession) (d : Denied) → d ≡ NoMemory → IsBoardDenied session d
 memory_denied session d e = subst (IsBoardDenied session) (sym e) tt
 
-entries_are : (session : PlainVtSession) (names : List (List ℕ)) (board played : BoardState) (keyboards : List PlainVtPhase)
-    → names ≡ operator_names session.phases → board ≡ record { consoles = session.calls.ports; limit = 4194304; entries = [] } → keyboards ≡ session.phases
-    → AddsAll (entries_from names board.consoles (active_on board) 0 keyboards) board played → played.entries ≡ entries_in_order session
+entries_are : (session : PlainVtSession) (names : List (List ℕ)) (board played : BoardState)
+    (keyboards : List PlainVtPhase)
+    → names ≡ operator_names session.phases
+    → board ≡ record { consoles = session.calls.ports; limit = 4194304; entries = [] }
+    → keyboards ≡ session.phases
+    → AddsAll (entries_from names board.consoles (active_on board) 0 keyboards) board played
+    → played.entries ≡ entries_in_order session
 entries_are session names board played keyboards is_names is_board is_keyboards adds =
     adds.added
     ∙ ap (λ (b : BoardState). b.entries ++ entries_from names b.consoles (active_on b) 0 keyboards) is_board
     ∙ ap (λ (ns : List (List ℕ)). entries_from ns session.calls.ports 0 0 keyboards) is_names
-    ∙ ap (λ (ks : List PlainVtPhase). entries_from (operator_names session.phases) session.calls.ports 0 0 ks) is_keyboards
+    ∙ ap (λ (ks : List PlainVtPhase). entries_from (operator_names session.phases) session.calls.ports 0 0 ks)
+    is_keyboards
 
 -- a board that was played had room
-pub had_room : (session : PlainVtSession) (names : List (List ℕ)) (board played : BoardState) (keyboards : List PlainVtPhase)
-    → names ≡ operator_names session.phases → board ≡ record { consoles = session.calls.ports; limit = 4194304; entries = [] } → keyboards ≡ session.phases
-    → AddsAll (entries_from names board.consoles (active_on board) 0 keyboards) board played → IsBoard played → length (entries_in_order session) ≤ 4194304
+pub had_room : (session : PlainVtSession) (names : List (List ℕ)) (board played : BoardState)
+    (keyboards : List PlainVtPhase)
+    → names ≡ operator_names session.phases
+    → board ≡ record { consoles = session.calls.ports; limit = 4194304; entries = [] }
+    → keyboards ≡ session.phases
+    → AddsAll (entries_from names board.consoles (active_on board) 0 keyboards) board played
+    → IsBoard played
+    → length (entries_in_order session) ≤ 4194304
 had_room session names board played keyboards is_names is_board is_keyboards adds is =
-    let same : length played.entries ≡ length (entries_in_order session) = ap (λ (l : List VtEntry). length l) (entries_are session names board played keyboards is_names is_board is_keyboards adds) in
+    let same : length played.entries ≡ length (entries_in_order session) =
+    ap (λ (l : List VtEntry). length l)
+    (entries_are session names board played keyboards is_names is_board is_keyboards adds) in
     let limit : board.limit ≡ 4194304 = ap (λ (b : BoardState). b.limit) is_board in
     omega (arith, limit, adds.limit, is.within, same)

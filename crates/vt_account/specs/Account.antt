@@ -1,5 +1,6 @@
 -- The account of a board: which entries come of the keys and the operators' calls of a session.
-use Rattle.std.specs.Prelude.{◌≡◌, ℕ, ◌+◌, ◌==◌, nat_lt, Bool, false, List, [], ◌∷◌, ◌++◌, Option, None, Some, flat_map, length, if◌then◌else◌}
+use Rattle.std.specs.Prelude.{◌≡◌, ℕ, ◌+◌, ◌==◌, nat_lt, Bool, false, List, [], ◌∷◌}
+use Rattle.std.specs.Prelude.{◌++◌, Option, None, Some, flat_map, length, if◌then◌else◌}
 use Rattle.std.specs.List.{range_with_len}
 use Rattle.tty_calls.specs.Sessions.{number_in}
 use Rattle.vt_consoles.specs.declared.entries.VtEntry.{VtEntry}
@@ -24,7 +25,8 @@ is_seat (Some n) seat = n == seat
 
 -- the calls of the operator with this seat in a phase
 abbrev pub calls_at : List (List ℕ) → (seat : ℕ) → PlainVtPhase → List OpCall
-calls_at names seat phase = flat_map (λ operator. if is_seat (number_in names operator.name) seat then operator.calls else []) phase.operators
+calls_at names seat phase =
+    flat_map (λ operator. if is_seat (number_in names operator.name) seat then operator.calls else []) phase.operators
 
 -- ---- what entries tell
 
@@ -51,11 +53,16 @@ indexes_by seat entries = flat_map (λ (e : VtEntry). if e.seat == seat then ind
 -- The entries of a phase, of whose keys the first has this index: the keyboard's are one for each key, in order, and
 -- each operator's are one for each call of the phase that is not refused, in order. There are no others.
 pub record IsPartOf (session : PlainVtSession) (phase : PlainVtPhase) (first : ℕ) (part : List VtEntry) : Type 0 where
-  pub keys : (seat : ℕ) → indexes_by seat part ≡ (if keyboard_seat session.phases == seat then range_with_len first (length phase.keys) else [])
-  pub calls : (seat : ℕ) → calls_by seat part ≡ flat_map (accepted session.calls.ports) (calls_at (operator_names session.phases) seat phase)
+  pub keys : (seat : ℕ)
+      → indexes_by seat part
+      ≡ (if keyboard_seat session.phases == seat then range_with_len first (length phase.keys) else [])
+  pub calls : (seat : ℕ)
+      → calls_by seat part
+      ≡ flat_map (accepted session.calls.ports) (calls_at (operator_names session.phases) seat phase)
 
 -- the entries of a phase, and what is left
-pub record BeginsWithPart (session : PlainVtSession) (phase : PlainVtPhase) (first : ℕ) (entries : List VtEntry) (IsRest : List VtEntry → Type 0) : Type 0 where
+pub record BeginsWithPart (session : PlainVtSession) (phase : PlainVtPhase) (first : ℕ) (entries : List VtEntry)
+    (IsRest : List VtEntry → Type 0) : Type 0 where
   pub part : List VtEntry
   pub rest : List VtEntry
   pub parts : entries ≡ part ++ rest
@@ -65,7 +72,8 @@ pub record BeginsWithPart (session : PlainVtSession) (phase : PlainVtPhase) (fir
 -- the entries of these phases, one behind the other
 abbrev pub HasParts : PlainVtSession → (first : ℕ) → List PlainVtPhase → List VtEntry → Type 0
 HasParts session first [] entries = entries ≡ []
-HasParts session first (phase ∷ phases) entries = BeginsWithPart session phase first entries (HasParts session (first + length phase.keys) phases)
+HasParts session first (phase ∷ phases) entries =
+    BeginsWithPart session phase first entries (HasParts session (first + length phase.keys) phases)
 
 -- The account: a board run, in which the session's keys and each operator's calls other than refused ones stand once,
 -- in order, phase by phase.

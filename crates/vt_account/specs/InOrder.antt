@@ -20,7 +20,8 @@ active_behind active entries = fold (λ n (e : VtEntry). active_after n e.event)
 
 -- so many keys, from this index on, on one console
 abbrev pub key_entries : (seat console first count : ℕ) → List VtEntry
-key_entries seat console first count = map (λ index. record { seat = seat; event = Key index console }) (range_with_len first count)
+key_entries seat console first count =
+    map (λ index. record { seat = seat; event = Key index console }) (range_with_len first count)
 
 -- the event of a call, where this console is active
 abbrev pub event_of : (active : ℕ) → OpCall → VtEvent
@@ -30,7 +31,8 @@ event_of active op.State = State active
 abbrev pub call_entries : (seat active : ℕ) → List OpCall → List VtEntry
 call_entries seat active [] = []
 call_entries seat active (call ∷ calls) =
-    record { seat = seat; event = event_of active call } ∷ call_entries seat (active_after active (event_of active call)) calls
+    record { seat = seat; event = event_of active call }
+    ∷ call_entries seat (active_after active (event_of active call)) calls
 
 -- the calls of an operator that are not refused
 abbrev pub entries_at : (consoles active : ℕ) → List ℕ → List OpCall → List VtEntry
@@ -38,25 +40,29 @@ entries_at consoles active [] calls = []
 entries_at consoles active (seat ∷ seats) calls = call_entries seat active (flat_map (accepted consoles) calls)
 
 abbrev pub operator_entries : List (List ℕ) → (consoles active : ℕ) → PlainOperator → List VtEntry
-operator_entries names consoles active operator = entries_at consoles active (option_to_list (number_in names operator.name)) operator.calls
+operator_entries names consoles active operator =
+    entries_at consoles active (option_to_list (number_in names operator.name)) operator.calls
 
 -- the calls of operators, one operator after the other
 abbrev pub operators_entries : List (List ℕ) → (consoles active : ℕ) → List PlainOperator → List VtEntry
 operators_entries names consoles active [] = []
 operators_entries names consoles active (operator ∷ operators) =
     operator_entries names consoles active operator
-    ++ operators_entries names consoles (active_behind active (operator_entries names consoles active operator)) operators
+    ++ operators_entries names consoles (active_behind active (operator_entries names consoles active operator))
+    operators
 
 -- a phase
 abbrev pub phase_entries : List (List ℕ) → (consoles active first : ℕ) → PlainVtPhase → List VtEntry
 phase_entries names consoles active first phase =
-    key_entries (length names) active first (length phase.keys) ++ operators_entries names consoles active phase.operators
+    key_entries (length names) active first (length phase.keys)
+    ++ operators_entries names consoles active phase.operators
 
 abbrev pub entries_from : List (List ℕ) → (consoles active first : ℕ) → List PlainVtPhase → List VtEntry
 entries_from names consoles active first [] = []
 entries_from names consoles active first (phase ∷ phases) =
     phase_entries names consoles active first phase
-    ++ entries_from names consoles (active_behind active (phase_entries names consoles active first phase)) (first + length phase.keys) phases
+    ++ entries_from names consoles (active_behind active (phase_entries names consoles active first phase))
+    (first + length phase.keys) phases
 
 -- the entries of the board of a session on one thread
 abbrev pub entries_in_order : PlainVtSession → List VtEntry

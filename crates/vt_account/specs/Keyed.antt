@@ -1,5 +1,6 @@
 -- Where the keys of a session go, and the session that its consoles then play.
-use Rattle.std.specs.Prelude.{◌≡◌, ◌≤◌, ◌<◌, ℕ, ◌==◌, List, [], ◌∷◌, ◌++◌, drop, flat_map, length, map, take, if◌then◌else◌}
+use Rattle.std.specs.Prelude.{◌≡◌, ◌≤◌, ◌<◌, ℕ, ◌==◌, List, [], ◌∷◌, ◌++◌}
+use Rattle.std.specs.Prelude.{drop, flat_map, length, map, take, if◌then◌else◌}
 use Rattle.std.specs.List.{range_with_len}
 use Rattle.tty_base.specs.declared.lines.LineStep.{LineStep}
 use Rattle.tty_base.specs.declared.lines.LineStep.TheVariants.{Trigger}
@@ -45,19 +46,24 @@ key_line keys = Trigger 1 ∷ good_steps keys
 
 -- a phase in which each console's keys come on its line
 abbrev pub keyed_phase : (ports : ℕ) → (keys consoles : List ℕ) → PlainPhase → PlainPhase
-keyed_phase ports keys consoles phase = record phase { lines = map (λ p. key_line (keys_to p keys consoles)) (range_with_len 0 ports) }
+keyed_phase ports keys consoles phase =
+    record phase { lines = map (λ p. key_line (keys_to p keys consoles)) (range_with_len 0 ports) }
 
 abbrev pub keyed_phases : (ports : ℕ) → (consoles : List ℕ) → List PlainVtPhase → List PlainPhase → List PlainPhase
 keyed_phases ports consoles [] phases = phases
 keyed_phases ports consoles (keyboard ∷ keyboards) [] = []
 keyed_phases ports consoles (keyboard ∷ keyboards) (phase ∷ phases) =
-    keyed_phase ports keyboard.keys consoles phase ∷ keyed_phases ports (drop (length keyboard.keys) consoles) keyboards phases
+    keyed_phase ports keyboard.keys consoles phase
+    ∷ keyed_phases ports (drop (length keyboard.keys) consoles) keyboards phases
 
 -- The session that the consoles of a session play, where its board has these entries: a port for each console, and on
 -- its line the keys that went there. It is of no version of the texts of ports.
 abbrev pub keyed : PlainVtSession → List VtEntry → PlainSession
 keyed session entries =
-    record session.calls { version = 0; phases = keyed_phases session.calls.ports (consoles_in entries) session.phases session.calls.phases }
+    record session.calls {
+      version = 0;
+      phases = keyed_phases session.calls.ports (consoles_in entries) session.phases session.calls.phases;
+    }
 
 -- the steps of the line of console p in the first phases
 abbrev pub line_script : (p phases : ℕ) → PlainSession → List LineStep

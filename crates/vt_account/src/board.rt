@@ -4,7 +4,8 @@ ghost use Rattle.std.specs.Prelude.{◌≡◌, ◌≤◌, ◌+◌, ◌<◌, ◌^
 ghost use Rattle.vt_consoles.specs.Boards.{active_on};
 ghost use Rattle.vt_text.specs.Sessions.{operator_of, operators_of, vt_phase_of};
 ghost use Rattle.vt_account.specs.Account.{accepted};
-ghost use Rattle.vt_account.specs.InOrder.{key_entries, call_entries, operator_entries, operators_entries, phase_entries};
+ghost use Rattle.vt_account.specs.InOrder.{key_entries, call_entries, operator_entries};
+ghost use Rattle.vt_account.specs.InOrder.{operators_entries, phase_entries};
 ghost use Rattle.vt_account.specs.Played.{AddsAll, LacksRoom};
 
 use tty_calls::{Denied, Names};
@@ -20,8 +21,12 @@ pub(crate) fn play_phase(
 ) -> Result<(), Denied>
     requires names { length names.now < 2 ^ 32 }
     requires keys { first + length (vt_phase_of phase.now).keys < 2 ^ 32 }
-    ensures added { OnOk result (AddsAll (phase_entries names.now board.old.consoles (active_on board.old) first (vt_phase_of phase.now)) board.old board.new) }
-    ensures denied { IfErr result (λ denied. LacksRoom (phase_entries names.now board.old.consoles (active_on board.old) first (vt_phase_of phase.now)) board.old denied) }
+    ensures added { OnOk result (AddsAll
+        (phase_entries names.now board.old.consoles (active_on board.old) first (vt_phase_of phase.now))
+        board.old board.new) }
+    ensures denied { IfErr result (λ denied. LacksRoom
+        (phase_entries names.now board.old.consoles (active_on board.old) first (vt_phase_of phase.now))
+        board.old denied) }
 {
     let keyboard = names.len() as u32;
     press_all(board, keyboard, first, phase.keys.len() as u32)?;
@@ -32,7 +37,8 @@ pub(crate) fn play_phase(
 fn press_all(board: &mut Board, seat: u32, first: u32, count: u32) -> Result<(), Denied>
     requires { first + count < 2 ^ 32 }
     ensures added { OnOk result (AddsAll (key_entries seat (active_on board.old) first count) board.old board.new) }
-    ensures denied { IfErr result (λ denied. LacksRoom (key_entries seat (active_on board.old) first count) board.old denied) }
+    ensures denied { IfErr result
+        (λ denied. LacksRoom (key_entries seat (active_on board.old) first count) board.old denied) }
 {
     for place in 0..count {
         board.press(seat, first + place)?;
@@ -43,8 +49,12 @@ fn press_all(board: &mut Board, seat: u32, first: u32, count: u32) -> Result<(),
 /// The calls of operators, one operator after the other.
 fn operate(board: &mut Board, names: &Names, operators: &[OpScript]) -> Result<(), Denied>
     requires { length names.now < 2 ^ 32 }
-    ensures added { OnOk result (AddsAll (operators_entries names.now board.old.consoles (active_on board.old) (operators_of operators.now)) board.old board.new) }
-    ensures denied { IfErr result (λ denied. LacksRoom (operators_entries names.now board.old.consoles (active_on board.old) (operators_of operators.now)) board.old denied) }
+    ensures added { OnOk result (AddsAll
+        (operators_entries names.now board.old.consoles (active_on board.old) (operators_of operators.now))
+        board.old board.new) }
+    ensures denied { IfErr result (λ denied. LacksRoom
+        (operators_entries names.now board.old.consoles (active_on board.old) (operators_of operators.now))
+        board.old denied) }
 {
     for operator in operators {
         call_by(board, names, operator)?;
@@ -55,8 +65,12 @@ fn operate(board: &mut Board, names: &Names, operators: &[OpScript]) -> Result<(
 /// The calls of an operator.
 fn call_by(board: &mut Board, names: &Names, operator: &OpScript) -> Result<(), Denied>
     requires { length names.now < 2 ^ 32 }
-    ensures added { OnOk result (AddsAll (operator_entries names.now board.old.consoles (active_on board.old) (operator_of operator.now)) board.old board.new) }
-    ensures denied { IfErr result (λ denied. LacksRoom (operator_entries names.now board.old.consoles (active_on board.old) (operator_of operator.now)) board.old denied) }
+    ensures added { OnOk result (AddsAll
+        (operator_entries names.now board.old.consoles (active_on board.old) (operator_of operator.now))
+        board.old board.new) }
+    ensures denied { IfErr result (λ denied. LacksRoom
+        (operator_entries names.now board.old.consoles (active_on board.old) (operator_of operator.now))
+        board.old denied) }
 {
     match names.number(&operator.name) {
         None => Ok(()),
@@ -66,8 +80,11 @@ fn call_by(board: &mut Board, names: &Names, operator: &OpScript) -> Result<(), 
 
 /// Calls of a seat. One that is refused has no entry.
 fn call_all(board: &mut Board, seat: u32, calls: &[OpCall]) -> Result<(), Denied>
-    ensures added { OnOk result (AddsAll (call_entries seat (active_on board.old) (flat_map (accepted board.old.consoles) calls.now)) board.old board.new) }
-    ensures denied { IfErr result (λ denied. LacksRoom (call_entries seat (active_on board.old) (flat_map (accepted board.old.consoles) calls.now)) board.old denied) }
+    ensures added { OnOk result (AddsAll
+        (call_entries seat (active_on board.old) (flat_map (accepted board.old.consoles) calls.now))
+        board.old board.new) }
+    ensures denied { IfErr result (λ denied. LacksRoom
+        (call_entries seat (active_on board.old) (flat_map (accepted board.old.consoles) calls.now)) board.old denied) }
 {
     for call in calls {
         call_one(board, seat, *call)?;
@@ -76,8 +93,10 @@ fn call_all(board: &mut Board, seat: u32, calls: &[OpCall]) -> Result<(), Denied
 }
 
 fn call_one(board: &mut Board, seat: u32, call: OpCall) -> Result<(), Denied>
-    ensures added { OnOk result (AddsAll (call_entries seat (active_on board.old) (accepted board.old.consoles call)) board.old board.new) }
-    ensures denied { IfErr result (λ denied. LacksRoom (call_entries seat (active_on board.old) (accepted board.old.consoles call)) board.old denied) }
+    ensures added { OnOk result
+        (AddsAll (call_entries seat (active_on board.old) (accepted board.old.consoles call)) board.old board.new) }
+    ensures denied { IfErr result (λ denied.
+        LacksRoom (call_entries seat (active_on board.old) (accepted board.old.consoles call)) board.old denied) }
 {
     match call {
         OpCall::Activate(n) => activate(board, seat, n),
@@ -89,8 +108,11 @@ fn call_one(board: &mut Board, seat: u32, call: OpCall) -> Result<(), Denied>
 }
 
 fn activate(board: &mut Board, seat: u32, n: u8) -> Result<(), Denied>
-    ensures added { OnOk result (AddsAll (call_entries seat (active_on board.old) (accepted board.old.consoles (OpCall.Activate n))) board.old board.new) }
-    ensures denied { IfErr result (λ denied. LacksRoom (call_entries seat (active_on board.old) (accepted board.old.consoles (OpCall.Activate n))) board.old denied) }
+    ensures added { OnOk result (AddsAll
+        (call_entries seat (active_on board.old) (accepted board.old.consoles (OpCall.Activate n)))
+        board.old board.new) }
+    ensures denied { IfErr result (λ denied. LacksRoom
+        (call_entries seat (active_on board.old) (accepted board.old.consoles (OpCall.Activate n))) board.old denied) }
 {
     match board.activate(seat, n) {
         Ok(()) => Ok(()),

@@ -59,7 +59,8 @@ fn keys_on(p: u8, active: u8, keys: &[u8]) -> &[u8]
 
 /// Puts the keys of a phase on the lines of the consoles: all go to the active one.
 fn set_lines(alloc: Global, board: &Board, keys: &[u8], phase: &mut Phase) -> Result<(), Denied>
-    ensures set { OnOk result (phase_of phase.new ≡ record (phase_of phase.old) { lines = key_lines board.now.consoles (active_on board.now) keys.now }) }
+    ensures set { OnOk result (phase_of phase.new
+        ≡ record (phase_of phase.old) { lines = key_lines board.now.consoles (active_on board.now) keys.now }) }
     ensures denied { IfErr result (λ denied. denied ≡ Denied.NoMemory) }
 {
     match lines_of(alloc, board.consoles(), board.active(), keys) {
@@ -82,9 +83,15 @@ fn play_phases(
     requires names { length names.now < 2 ^ 32 }
     requires each { length phases.old ≡ length keyboards.now }
     requires keys { length (all_keys (map vt_phase_of keyboards.now)) < 2 ^ 32 }
-    ensures entries { OnOk result (AddsAll (entries_from names.now board.old.consoles (active_on board.old) 0 (map vt_phase_of keyboards.now)) board.old board.new) }
-    ensures denied { IfErr result (λ denied. LacksRoom (entries_from names.now board.old.consoles (active_on board.old) 0 (map vt_phase_of keyboards.now)) board.old denied) }
-    ensures phases { OnOk result (map phase_of phases.new ≡ phases_in_order names.now board.old.consoles (active_on board.old) 0 (map vt_phase_of keyboards.now) (map phase_of phases.old)) }
+    ensures entries { OnOk result (AddsAll
+        (entries_from names.now board.old.consoles (active_on board.old) 0 (map vt_phase_of keyboards.now))
+        board.old board.new) }
+    ensures denied { IfErr result (λ denied. LacksRoom
+        (entries_from names.now board.old.consoles (active_on board.old) 0 (map vt_phase_of keyboards.now))
+        board.old denied) }
+    ensures phases { OnOk result (map phase_of phases.new
+        ≡ phases_in_order names.now board.old.consoles (active_on board.old) 0 (map vt_phase_of keyboards.now)
+        (map phase_of phases.old)) }
 {
     let mut first = 0;
     for k in 0..keyboards.len() {
@@ -117,7 +124,8 @@ pub fn play_board(alloc: Global, session: &mut VtSession) -> Result<Board, Denie
     ensures entries { IfOk result (λ board. board.entries ≡ entries_in_order (vt_session_of session.old)) }
     ensures room { OnOk result (length (entries_in_order (vt_session_of session.old)) ≤ 4194304) }
     ensures denied { IfErr result (λ denied. IsBoardDenied (vt_session_of session.old) denied) }
-    ensures keyed { OnOk result (session_of session.new.calls ≡ keyed (vt_session_of session.old) (entries_in_order (vt_session_of session.old))) }
+    ensures keyed { OnOk result (session_of session.new.calls
+        ≡ keyed (vt_session_of session.old) (entries_in_order (vt_session_of session.old))) }
     ensures phases { session.new.phases ≡ session.old.phases }
 {
     let mut board = new_board(alloc, session.calls.ports)?;

@@ -1,5 +1,6 @@
 -- What a key does to the putting ends of the consoles.
-use Rattle.std.specs.Prelude.{◌≡◌, ℕ, ◌+◌, ◌^◌, ◌<◌, ◌≤◌, List, [], ◌∷◌, ◌++◌, Option, None, Some, MatchOption, length, slice_index_or, slice_set}
+use Rattle.std.specs.Prelude.{◌≡◌, ℕ, ◌+◌, ◌^◌, ◌<◌, ◌≤◌, List, [], ◌∷◌, ◌++◌, Option}
+use Rattle.std.specs.Prelude.{None, Some, MatchOption, length, slice_index_or, slice_set}
 use Rattle.std.specs.List.{All}
 use Rattle.std.specs.List.Sorted.{IsNonDecreasing}
 use Rattle.tty_base.specs.declared.characters.Flag.TheVariants.{Normal}
@@ -19,7 +20,8 @@ accepted c (Some full) = []
 -- One character was put, and all that was put is pushed. It is lost exactly where the buffer was full, at the head
 -- that the put loaded.
 pub record PutsAndPushes (c : Flagged) (lost : Option Full) (old new : PutterState Flagged) : Type 0 where
-  pub puts : new ≡ record (with_loaded old new.floor) { sent = old.sent ++ accepted c lost; pushed = old.sent ++ accepted c lost }
+  pub puts : new
+      ≡ record (with_loaded old new.floor) { sent = old.sent ++ accepted c lost; pushed = old.sent ++ accepted c lost }
   pub exact : MatchOption lost
       (length old.sent < new.floor + old.capacity)
       (λ f. (f ≡ record { sent = length old.sent; seen = new.floor }) × (length old.sent ≡ new.floor + old.capacity))

@@ -24,7 +24,8 @@ NamesRightly consoles active (Key index n) = n ≡ active
 -- each of the entries, where this console is active before the first
 abbrev pub NameRightly : (consoles active : ℕ) → List VtEntry → Type 0
 NameRightly consoles active [] = Unit {0}
-NameRightly consoles active (e ∷ entries) = NamesRightly consoles active e.event × NameRightly consoles (active_after active e.event) entries
+NameRightly consoles active (e ∷ entries) =
+    NamesRightly consoles active e.event × NameRightly consoles (active_after active e.event) entries
 
 -- a board run, over so many consoles
 abbrev pub IsBoardRun : (consoles : ℕ) → List VtEntry → Type 0

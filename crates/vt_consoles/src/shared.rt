@@ -63,7 +63,8 @@ impl SharedBoard {
         ensures seat { IsHere self.now number seat.new }
         ensures ok { OnOk result (Makes (name_of_board self.now) number (VtEvent.Activate n) seat.old seat.new) }
         ensures err { OnErr result (MakesNone number seat.old seat.new) }
-        ensures refused { IfErr result (λ fault. IsRefused (board_with (name_of_board self.now) (list_seen seat.new)) n fault) }
+        ensures refused { IfErr result
+            (λ fault. IsRefused (board_with (name_of_board self.now) (list_seen seat.new)) n fault) }
     {
         let mut turn = self.cell.turn(rt, seat);
         let result = turn.value().activate(number, n);
@@ -78,7 +79,8 @@ impl SharedBoard {
         ensures seat { IsHere self.now number seat.new }
         ensures ok { IfOk result (λ n. Makes (name_of_board self.now) number (VtEvent.State n) seat.old seat.new) }
         ensures err { OnErr result (MakesNone number seat.old seat.new) }
-        ensures denied { IfErr result (λ denied. IsDenied (board_with (name_of_board self.now) (list_seen seat.new)) denied) }
+        ensures denied { IfErr result
+            (λ denied. IsDenied (board_with (name_of_board self.now) (list_seen seat.new)) denied) }
     {
         let mut turn = self.cell.turn(rt, seat);
         let result = turn.value().state(number);
@@ -102,11 +104,13 @@ impl SharedBoard {
         requires each { length ends.old ≡ (name_of_board self.now).consoles }
         requires can_put { CanPut ends.old }
         ensures seat { IsHere self.now number seat.new }
-        ensures ok { IfOk result (λ keyed. Makes (name_of_board self.now) number (VtEvent.Key index keyed.console) seat.old seat.new) }
+        ensures ok { IfOk result
+            (λ keyed. Makes (name_of_board self.now) number (VtEvent.Key index keyed.console) seat.old seat.new) }
         ensures puts { IfOk result (λ keyed. GoesTo byte keyed.console keyed.lost ends.old ends.new) }
         ensures err { OnErr result (MakesNone number seat.old seat.new) }
         ensures ends { OnErr result (ends.new ≡ ends.old) }
-        ensures denied { IfErr result (λ denied. IsDenied (board_with (name_of_board self.now) (list_seen seat.new)) denied) }
+        ensures denied { IfErr result
+            (λ denied. IsDenied (board_with (name_of_board self.now) (list_seen seat.new)) denied) }
     {
         let mut turn = self.cell.turn(rt, seat);
         let result = turn.value().key(number, index, byte, ends);

@@ -11,7 +11,8 @@ use Rattle.vt_account.specs.Keyed.{keyed}
 
 -- The session was played: the board's entries are its account, and the run of each console is one of the session that
 -- the consoles play, in which each key comes to the console that its entry names.
-pub record IsVtPlayed (session : PlainVtSession) (entries : List VtEntry) (runs : List PortRun) (ends : List PortEnd) : Type 0 where
+pub record IsVtPlayed (session : PlainVtSession) (entries : List VtEntry) (runs : List PortRun)
+    (ends : List PortEnd) : Type 0 where
   pub account : IsAccount session entries
   pub consoles : ArePlayed (keyed session entries) runs ends
 

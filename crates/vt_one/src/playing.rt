@@ -29,11 +29,14 @@ pub struct VtPlayed {
 /// entries than a board may have.
 pub fn play_vt(alloc: Global, session: &mut VtSession) -> Result<VtPlayed, Denied>
     requires { IsWithinKeys (vt_session_of session.old) }
-    ensures played { IfOk result (λ played. IsVtPlayed (vt_session_of session.old) played.board.entries played.consoles.runs.items played.consoles.ends.items) }
-    ensures in_order { IfOk result (λ played. IsVtInOrder (vt_session_of session.old) played.board.entries played.consoles.runs.items) }
+    ensures played { IfOk result (λ played. IsVtPlayed (vt_session_of session.old) played.board.entries
+        played.consoles.runs.items played.consoles.ends.items) }
+    ensures in_order { IfOk result
+        (λ played. IsVtInOrder (vt_session_of session.old) played.board.entries played.consoles.runs.items) }
     ensures room { OnOk result (length (entries_in_order (vt_session_of session.old)) ≤ 4194304) }
     ensures denied { IfErr result (λ denied. IsBoardDenied (vt_session_of session.old) denied) }
-    ensures keyed { IfOk result (λ played. session_of session.new.calls ≡ keyed (vt_session_of session.old) played.board.entries) }
+    ensures keyed { IfOk result
+        (λ played. session_of session.new.calls ≡ keyed (vt_session_of session.old) played.board.entries) }
     ensures phases { session.new.phases ≡ session.old.phases }
 {
     keyed_sessions_are_within_limits();

@@ -11,7 +11,9 @@ use Rattle.vt_threads.specs.declared.parting.PartedBack.{PartedBack}
 use Rattle.vt_play.specs.Parts.{kept_in}
 use Rattle.vt_play.proofs.Listing.{none_left, one_left}
 
-pub record IsZipped (qs : List Parted) (seats : List (Option KeySeats)) (owns : List (Option (FlusherBack × CallersBack))) (lines : List LineState) (ends : List (PutterState Flagged)) (bs : List PartedBack) : Type 0 where
+pub record IsZipped (qs : List Parted) (seats : List (Option KeySeats))
+    (owns : List (Option (FlusherBack × CallersBack))) (lines : List LineState) (ends : List (PutterState Flagged))
+    (bs : List PartedBack) : Type 0 where
   pub ports : map (λ (q : Parted). q.port) qs ≡ map (λ (b : PartedBack). b.port) bs
   pub rests : map (λ (q : Parted). q.rest) qs ≡ map (λ (b : PartedBack). b.rest) bs
   pub castings : map (λ (q : Parted). q.rest.casting) qs ≡ map (λ (b : PartedBack). b.rest.casting) bs
@@ -22,10 +24,27 @@ pub record IsZipped (qs : List Parted) (seats : List (Option KeySeats)) (owns : 
   pub ends_are : ends ≡ map (λ (b : PartedBack). b.end) bs
   pub count : length bs ≡ length qs
 
-pub zipped : (qs : List Parted) (seats : List (Option KeySeats)) (owns : List (Option (FlusherBack × CallersBack))) (lines : List LineState) (ends : List (PutterState Flagged))
-    → length seats ≡ length qs → length owns ≡ length qs → length lines ≡ length qs → length ends ≡ length qs → (bs : List PartedBack) × IsZipped qs seats owns lines ends bs
-zipped [] seats owns lines ends s o l e =
-    ([], record { ports = refl; rests = refl; castings = refl; kept = refl; seats_are = none_left seats s; owns_are = none_left owns o; lines_are = none_left lines l; ends_are = none_left ends e; count = refl })
+pub zipped : (qs : List Parted) (seats : List (Option KeySeats)) (owns : List (Option (FlusherBack × CallersBack)))
+    (lines : List LineState) (ends : List (PutterState Flagged))
+    → length seats ≡ length qs
+    → length owns ≡ length qs
+    → length lines ≡ length qs
+    → length ends ≡ length qs
+    → (bs : List PartedBack) × IsZipped qs seats owns lines ends bs
+zipped [] seats owns lines ends s o l e = (
+  [],
+  record {
+    ports = refl;
+    rests = refl;
+    castings = refl;
+    kept = refl;
+    seats_are = none_left seats s;
+    owns_are = none_left owns o;
+    lines_are = none_left lines l;
+    ends_are = none_left ends e;
+    count = refl;
+  },
+)
 zipped (q ∷ qs) seats owns lines ends s o l e =
     let a = one_left seats (length qs) s in
     let b = one_left owns (length qs) o in

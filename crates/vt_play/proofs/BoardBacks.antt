@@ -1,5 +1,7 @@
 -- The seats of a board after the threads of a phase.
-use Rattle.std.proofs.Common.{◌≡◌, ◌⊎◌, inl, inr, ℕ, zero, suc, ◌+◌, ◌<◌, ◌≤◌, ◌==◌, Bool, List, [], ◌∷◌, ◌++◌, Option, None, Some, Result, Ok, Err, eq-eqb, if◌then◌else◌, flat_map, length, map, take, refl, sym, subst, ap, ◌∙◌, arith, length-append}
+use Rattle.std.proofs.Common.{◌≡◌, ◌⊎◌, inl, inr, ℕ, zero, suc, ◌+◌, ◌<◌, ◌≤◌, ◌==◌, Bool, List, [], ◌∷◌}
+use Rattle.std.proofs.Common.{◌++◌, Option, None, Some, Result, Ok, Err, eq-eqb, if◌then◌else◌, flat_map}
+use Rattle.std.proofs.Common.{length, map, take, refl, sym, subst, ap, ◌∙◌, arith, length-append}
 use Rattle.std.specs.Prelude.{IfErr, OnErr, OnOk, slice_get}
 use Rattle.std.proofs.lemmas.Option.{slice_get_within}
 use Rattle.journal_check.proofs.NameLemmas.{get_append, get_past}
@@ -22,19 +24,29 @@ use Rattle.vt_threads.proofs.BoardEnds.{made_since}
 use Rattle.vt_play.specs.declared.board_threads.BoardBack.{BoardBack}
 use Rattle.vt_play.specs.declared.board_threads.BoardHand.{BoardHand}
 use Rattle.vt_play.specs.declared.stage.Stage.{Stage}
-use Rattle.vt_play.specs.Stages.{BoardComes, IsDeniedAt, IsFresh, IsOperatorBack, PlaysFirstKeys, PlaysKeys, SomeDenied, first_denied}
+use Rattle.vt_play.specs.Stages.{BoardComes, IsDeniedAt, IsFresh, IsOperatorBack}
+use Rattle.vt_play.specs.Stages.{PlaysFirstKeys, PlaysKeys, SomeDenied, first_denied}
 use Rattle.vt_play.specs.Phases.{HasBegun, asked_of}
 use Rattle.vt_play.proofs.Events.{key_count, some_keys}
 use Rattle.vt_play.proofs.Listing.{some_is, there}
 
 -- ---- two results
 
-pub ok_both : (a b : Result (Unit {0}) Denied) (P Q R : Type 0) → OnOk a P → OnOk b Q → (P → Q → R) → OnOk (first_denied a b) R
+pub ok_both : (a b : Result (Unit {0}) Denied) (P Q R : Type 0)
+    → OnOk a P
+    → OnOk b Q
+    → (P → Q → R)
+    → OnOk (first_denied a b) R
 ok_both (Ok v) (Ok w) P Q R p q f = f p q
 ok_both (Ok v) (Err d) P Q R p q f = tt
 ok_both (Err d) b P Q R p q f = tt
 
-pub err_first : (a b : Result (Unit {0}) Denied) (P Q R : Denied → Type 0) → IfErr a P → IfErr b Q → ((d : Denied) → P d → R d) → ((d : Denied) → Q d → R d) → IfErr (first_denied a b) R
+pub err_first : (a b : Result (Unit {0}) Denied) (P Q R : Denied → Type 0)
+    → IfErr a P
+    → IfErr b Q
+    → ((d : Denied) → P d → R d)
+    → ((d : Denied) → Q d → R d)
+    → IfErr (first_denied a b) R
 err_first (Ok v) (Ok w) P Q R p q f g = tt
 err_first (Ok v) (Err d) P Q R p q f g = g d q
 err_first (Err d) b P Q R p q f g = f d p
@@ -45,12 +57,16 @@ either_way (Err d) P Q R p q f g = g q
 
 -- ---- seats one by one
 
-pub each_seat : (P : BoardSeat → Type 0) (xs : List BoardSeat) → ((i : ℕ) (s : BoardSeat) → slice_get xs i ≡ Some s → P s) → EachSeat P xs
+pub each_seat : (P : BoardSeat → Type 0) (xs : List BoardSeat)
+    → ((i : ℕ) (s : BoardSeat) → slice_get xs i ≡ Some s → P s)
+    → EachSeat P xs
 each_seat P [] h = tt
 each_seat P (x ∷ xs) h = (h 0 x refl, each_seat P xs (λ i s at. h (suc i) s at))
 
-module _ (stage : Stage) (hand : BoardHand) (back : BoardBack) (comes : BoardComes stage hand back) (number : length hand.seats.items ≡ length stage.names.now) (fresh : IsFresh stage.board.now (length stage.names.now) hand.keys.seat)
-    (seats : List BoardSeat) (are : seats ≡ back.seats.items ++ back.keys.hand.seat ∷ []) where
+module _ (stage : Stage) (hand : BoardHand) (back : BoardBack) (comes : BoardComes stage hand back)
+    (number : length hand.seats.items ≡ length stage.names.now)
+    (fresh : IsFresh stage.board.now (length stage.names.now) hand.keys.seat) (seats : List BoardSeat)
+    (are : seats ≡ back.seats.items ++ back.keys.hand.seat ∷ []) where
   abbrev b : SharedBoard
   b = stage.board.now
 
@@ -70,25 +86,35 @@ module _ (stage : Stage) (hand : BoardHand) (back : BoardBack) (comes : BoardCom
   operators_count : length back.seats.items ≡ length names
   operators_count = comes.count ∙ number
 
-  one_of : (i : ℕ) (s : BoardSeat) → (slice_get back.seats.items i ≡ Some s) ⊎ ((i ≡ length back.seats.items) × (Some key ≡ Some s)) → IsOne i s
-  one_of i s (inl a) = let below = slice_get_within back.seats.items i s a in let count = operators_count in inl (a, omega (arith, below, count))
+  one_of : (i : ℕ) (s : BoardSeat)
+      → (slice_get back.seats.items i ≡ Some s) ⊎ ((i ≡ length back.seats.items) × (Some key ≡ Some s))
+      → IsOne i s
+  one_of i s (inl a) =
+      let below = slice_get_within back.seats.items i s a in
+      let count = operators_count in inl (a, omega (arith, below, count))
   one_of i s (inr a) = inr (a.0 ∙ operators_count, some_is key s a.1)
 
   which : (i : ℕ) (s : BoardSeat) → slice_get seats i ≡ Some s → IsOne i s
-  which i s at = one_of i s (last_or back.seats.items key i s (ap (λ (l : List BoardSeat). slice_get l i) (sym are) ∙ at))
+  which i s at =
+      one_of i s (last_or back.seats.items key i s (ap (λ (l : List BoardSeat). slice_get l i) (sym are) ∙ at))
 
   here_of : (i : ℕ) (s : BoardSeat) → IsOne i s → IsHere b i s
   here_of i s (inl a) = (comes.seats i s a.0).here
-  here_of i s (inr a) = subst (λ (n : ℕ). IsHere b n s) (sym a.0) (subst (λ (x : BoardSeat). IsHere b (length names) x) a.1 comes.keys.here)
+  here_of i s (inr a) = subst (λ (n : ℕ). IsHere b n s) (sym a.0)
+      (subst (λ (x : BoardSeat). IsHere b (length names) x) a.1 comes.keys.here)
 
   pub here_at : (i : ℕ) (s : BoardSeat) → slice_get seats i ≡ Some s → IsHere b i s
   here_at i s at = here_of i s (which i s at)
 
   pub all_here : EachSeat (λ s. IsHere b (number_of s) s) seats
-  all_here = each_seat (λ s. IsHere b (number_of s) s) seats (λ i s at. subst (λ (n : ℕ). IsHere b n s) (sym (here_at i s at).number) (here_at i s at))
+  all_here = each_seat (λ s. IsHere b (number_of s) s) seats
+      (λ i s at. subst (λ (n : ℕ). IsHere b n s) (sym (here_at i s at).number) (here_at i s at))
 
   seat_count : length seats ≡ length names + 1
-  seat_count = let size = ap (λ (l : List BoardSeat). length l) are in let more = length-append back.seats.items (key ∷ []) in let count = operators_count in omega (arith, size, more, count)
+  seat_count =
+      let size = ap (λ (l : List BoardSeat). length l) are in
+      let more = length-append back.seats.items (key ∷ []) in
+      let count = operators_count in omega (arith, size, more, count)
 
   pub has_all : seats_of b ≡ length names + 1 → HasAll (seats_of b) seats
   has_all of_all = λ k lt.
@@ -98,20 +124,41 @@ module _ (stage : Stage) (hand : BoardHand) (back : BoardBack) (comes : BoardCom
 
   -- ---- what the seats played
 
-  since : (events : List VtEvent) → MakesAll (length names) events hand.keys.seat key → MadeSince (history_of (opening_board b)) key events
-  since events own = made_since (history_of (opening_board b)) (length names) events hand.keys.seat key fresh.here.number comes.keys.here.number fresh.seen own
+  since : (events : List VtEvent)
+      → MakesAll (length names) events hand.keys.seat key
+      → MadeSince (history_of (opening_board b)) key events
+  since events own = made_since (history_of (opening_board b)) (length names) events hand.keys.seat
+      key fresh.here.number comes.keys.here.number fresh.seen own
 
-  played_operator : ((i : ℕ) (s : BoardSeat) → slice_get back.seats.items i ≡ Some s → OperatorPlayed (opening_board b).consoles names phase (history_of (opening_board b)) s)
-      → (i : ℕ) (s : BoardSeat) → number_of s < length names → IsHere b i s → IsOne i s → OperatorPlayed (opening_board b).consoles names phase (history_of (opening_board b)) s
+  played_operator : ((i : ℕ) (s : BoardSeat)
+      → slice_get back.seats.items i ≡ Some s
+      → OperatorPlayed (opening_board b).consoles names phase (history_of (opening_board b)) s)
+      → (i : ℕ) (s : BoardSeat)
+      → number_of s < length names
+      → IsHere b i s
+      → IsOne i s
+      → OperatorPlayed (opening_board b).consoles names phase (history_of (opening_board b)) s
   played_operator operated i s below here (inl a) = operated i s a.0
-  played_operator operated i s below here (inr a) = let is = here.number in let n = a.0 in absurd (omega (arith, below, is, n))
+  played_operator operated i s below here (inr a) =
+      let is = here.number in let n = a.0 in absurd (omega (arith, below, is, n))
 
-  played_keys : (keys : PlaysKeys stage hand.keys back.keys.hand) → (i : ℕ) (s : BoardSeat) → number_of s ≡ length names → IsHere b i s → IsOne i s → MadeSince (history_of (opening_board b)) s (key_events stage.first keys.went)
-  played_keys keys i s at here (inl a) = let is = here.number in let below = a.1 in absurd (omega (arith, at, is, below))
-  played_keys keys i s at here (inr a) = subst (λ (x : BoardSeat). MadeSince (history_of (opening_board b)) x (key_events stage.first keys.went)) a.1 (since (key_events stage.first keys.went) keys.makes)
+  played_keys : (keys : PlaysKeys stage hand.keys back.keys.hand) → (i : ℕ) (s : BoardSeat)
+      → number_of s ≡ length names
+      → IsHere b i s
+      → IsOne i s
+      → MadeSince (history_of (opening_board b)) s (key_events stage.first keys.went)
+  played_keys keys i s at here (inl a) =
+      let is = here.number in let below = a.1 in absurd (omega (arith, at, is, below))
+  played_keys keys i s at here (inr a) = subst
+      (λ (x : BoardSeat). MadeSince (history_of (opening_board b)) x (key_events stage.first keys.went)) a.1
+      (since (key_events stage.first keys.went) keys.makes)
 
-  pub seats_played : seats_of b ≡ length names + 1 → ((i : ℕ) (s : BoardSeat) → slice_get back.seats.items i ≡ Some s → OperatorPlayed (opening_board b).consoles names phase (history_of (opening_board b)) s)
-      → (keys : PlaysKeys stage hand.keys back.keys.hand) → SeatsPlayed names phase stage.first keys.went b seats
+  pub seats_played : seats_of b ≡ length names + 1
+      → ((i : ℕ) (s : BoardSeat)
+      → slice_get back.seats.items i ≡ Some s
+      → OperatorPlayed (opening_board b).consoles names phase (history_of (opening_board b)) s)
+      → (keys : PlaysKeys stage hand.keys back.keys.hand)
+      → SeatsPlayed names phase stage.first keys.went b seats
   seats_played of_all operated keys = record {
     count = of_all;
     operators = λ i s at below. played_operator operated i s below (here_at i s at) (which i s at);
@@ -121,26 +168,36 @@ module _ (stage : Stage) (hand : BoardHand) (back : BoardBack) (comes : BoardCom
 
   -- ---- how many entries they made
 
-  keys_asked : (count : ℕ) → count ≤ length phase.keys → count ≤ asked_of names (opening_board b).consoles phase (number_of key)
+  keys_asked : (count : ℕ)
+      → count ≤ length phase.keys
+      → count ≤ asked_of names (opening_board b).consoles phase (number_of key)
   keys_asked count few =
       let number = comes.keys.here.number in
-      let e : (if length names == number_of key then length phase.keys else 0) ≡ length phase.keys = ap (λ (c : Bool). if c then length phase.keys else 0) (eq-eqb (length names) (number_of key) (sym number)) in
+      let e : (if length names == number_of key then length phase.keys else 0) ≡ length phase.keys =
+      ap (λ (c : Bool). if c then length phase.keys else 0) (eq-eqb (length names) (number_of key) (sym number)) in
       omega (arith, few, e)
 
   begun_keys : HasBegun names phase b key
   begun_keys =
-      either_way back.keys.result (PlaysKeys stage hand.keys back.keys.hand) (PlaysFirstKeys stage hand.keys back.keys.hand) (HasBegun names phase b key) comes.keys.ok comes.keys.err
+      either_way back.keys.result (PlaysKeys stage hand.keys back.keys.hand)
+      (PlaysFirstKeys stage hand.keys back.keys.hand) (HasBegun names phase b key) comes.keys.ok comes.keys.err
       (λ keys. record {
         events = key_events stage.first keys.went;
         made = since (key_events stage.first keys.went) keys.makes;
-        few = let n = key_count stage.first keys.went in let each = keys.each_key in keys_asked (length (key_events stage.first keys.went)) (omega (arith, n, each));
+        few =
+            let n = key_count stage.first keys.went in
+            let each = keys.each_key in keys_asked (length (key_events stage.first keys.went)) (omega (arith, n, each));
       })
       (λ first.
       let keys = first.2 in
       record {
         events = key_events stage.first keys.went;
         made = since (key_events stage.first keys.went) keys.makes;
-        few = let n = key_count stage.first keys.went in let each = keys.each_key in let some = some_keys first.0 phase.keys in keys_asked (length (key_events stage.first keys.went)) (omega (arith, n, each, some));
+        few =
+            let n = key_count stage.first keys.went in
+            let each = keys.each_key in
+            let some = some_keys first.0 phase.keys in
+            keys_asked (length (key_events stage.first keys.went)) (omega (arith, n, each, some));
       })
 
   begun_of : (i : ℕ) (s : BoardSeat) → IsOne i s → HasBegun names phase b s
@@ -159,7 +216,9 @@ module _ (stage : Stage) (hand : BoardHand) (back : BoardBack) (comes : BoardCom
   some_operator d h = record {
     place = h.place;
     seat = h.seat;
-    at = ap (λ (l : List BoardSeat). slice_get l h.place) are ∙ get_append back.seats.items (key ∷ []) h.place h.seat h.at;
+    at =
+        ap (λ (l : List BoardSeat). slice_get l h.place) are
+        ∙ get_append back.seats.items (key ∷ []) h.place h.seat h.at;
     is = h.is;
   }
 
@@ -167,9 +226,12 @@ module _ (stage : Stage) (hand : BoardHand) (back : BoardBack) (comes : BoardCom
   the_keyboard d h = record {
     place = length back.seats.items;
     seat = key;
-    at = ap (λ (l : List BoardSeat). slice_get l (length back.seats.items)) are ∙ get_past back.seats.items (key ∷ []) (length back.seats.items) 0 (omega arith);
+    at =
+        ap (λ (l : List BoardSeat). slice_get l (length back.seats.items)) are
+        ∙ get_past back.seats.items (key ∷ []) (length back.seats.items) 0 (omega arith);
     is = h;
   }
 
   pub some_denied : IfErr (first_denied back.operated back.keys.result) (SomeDenied b seats)
-  some_denied = err_first back.operated back.keys.result (SomeDenied b back.seats.items) (IsDeniedAt b key) (SomeDenied b seats) comes.denied comes.keys.denied some_operator the_keyboard
+  some_denied = err_first back.operated back.keys.result (SomeDenied b back.seats.items) (IsDeniedAt b key)
+      (SomeDenied b seats) comes.denied comes.keys.denied some_operator the_keyboard

@@ -1,5 +1,6 @@
 -- What the operators and the keyboard come to, one after the other.
-use Rattle.std.proofs.Common.{◌≡◌, ◌⊎◌, inl, inr, ℕ, ◌+◌, ◌<◌, ◌≤◌, List, [], ◌∷◌, ◌++◌, Some, Result, Ok, Err, flat_map, length, refl, sym, subst, ap, ◌∙◌, arith, length-append}
+use Rattle.std.proofs.Common.{◌≡◌, ◌⊎◌, inl, inr, ℕ, ◌+◌, ◌<◌, ◌≤◌, List, [], ◌∷◌, ◌++◌, Some, Result}
+use Rattle.std.proofs.Common.{Ok, Err, flat_map, length, refl, sym, subst, ap, ◌∙◌, arith, length-append}
 use Rattle.std.specs.Prelude.{IfErr, IfOk, OnErr, OnOk, slice_get}
 use Rattle.journal_check.proofs.NameLemmas.{get_append, get_past}
 use Rattle.tty_calls.specs.declared.answers.Denied.{Denied}
@@ -21,53 +22,94 @@ use Rattle.vt_play.specs.declared.board_threads.KeyBack.{KeyBack}
 use Rattle.vt_play.specs.declared.board_threads.KeyHand.{KeyHand}
 use Rattle.vt_play.specs.declared.board_threads.OperatorBack.{OperatorBack}
 use Rattle.vt_play.specs.declared.stage.Stage.{Stage}
-use Rattle.vt_play.specs.Stages.{BoardComes, CanKey, CanPlayBoard, HasOperated, IsDeniedAt, IsFresh, IsOperatorBack, IsWithOperator, KeyboardComes, OperatorBegan, OperatorComes, Places, SomeDenied, first_denied}
+use Rattle.vt_play.specs.Stages.{BoardComes, CanKey, CanPlayBoard, HasOperated, IsDeniedAt}
+use Rattle.vt_play.specs.Stages.{IsFresh, IsOperatorBack, IsWithOperator, KeyboardComes}
+use Rattle.vt_play.specs.Stages.{OperatorBegan, OperatorComes, Places, SomeDenied, first_denied}
 use Rattle.vt_play.proofs.BoardBacks.{err_first, ok_both}
 use Rattle.vt_play.proofs.Events.{answers_few, first_few}
 
 -- ---- an operator
 
-began_all : (stage : Stage) (n : ℕ) (old new : BoardSeat) → IsFresh stage.board.now n old → number_of new ≡ n
-    → AnswersCalls (opening_board stage.board.now).consoles n (calls_of_seat stage.names.now n (vt_phase_of stage.phase.now).operators) old new → OperatorBegan stage.board.now stage.names.now (vt_phase_of stage.phase.now) new
+began_all : (stage : Stage) (n : ℕ) (old new : BoardSeat)
+    → IsFresh stage.board.now n old
+    → number_of new ≡ n
+    → AnswersCalls (opening_board stage.board.now).consoles n
+    (calls_of_seat stage.names.now n (vt_phase_of stage.phase.now).operators) old new
+    → OperatorBegan stage.board.now stage.names.now (vt_phase_of stage.phase.now) new
 began_all stage n old new fresh is h = record {
   events = h.events;
-  made = made_since (history_of (opening_board stage.board.now)) n h.events old new fresh.here.number is fresh.seen h.makes;
-  few = subst (λ (k : ℕ). length h.events ≤ length (flat_map (accepted (opening_board stage.board.now).consoles) (calls_at stage.names.now k (vt_phase_of stage.phase.now)))) (sym is)
-      (let few = answers_few (opening_board stage.board.now).consoles n (calls_of_seat stage.names.now n (vt_phase_of stage.phase.now).operators) old new h in omega (arith, few));
+  made = made_since (history_of (opening_board stage.board.now))
+      n h.events old new fresh.here.number is fresh.seen h.makes;
+  few = subst (λ (k : ℕ).
+      length h.events
+      ≤ length (flat_map (accepted (opening_board stage.board.now).consoles)
+      (calls_at stage.names.now k (vt_phase_of stage.phase.now))))
+      (sym is)
+      (let few = answers_few (opening_board stage.board.now).consoles n
+      (calls_of_seat stage.names.now n (vt_phase_of stage.phase.now).operators) old new h in
+      omega (arith, few));
 }
 
-began_first : (stage : Stage) (n : ℕ) (old new : BoardSeat) → IsFresh stage.board.now n old → number_of new ≡ n
-    → AnswersFirst (opening_board stage.board.now).consoles n (calls_of_seat stage.names.now n (vt_phase_of stage.phase.now).operators) old new → OperatorBegan stage.board.now stage.names.now (vt_phase_of stage.phase.now) new
+began_first : (stage : Stage) (n : ℕ) (old new : BoardSeat)
+    → IsFresh stage.board.now n old
+    → number_of new ≡ n
+    → AnswersFirst (opening_board stage.board.now).consoles n
+    (calls_of_seat stage.names.now n (vt_phase_of stage.phase.now).operators) old new
+    → OperatorBegan stage.board.now stage.names.now (vt_phase_of stage.phase.now) new
 began_first stage n old new fresh is h = record {
   events = h.1.answered.events;
-  made = made_since (history_of (opening_board stage.board.now)) n h.1.answered.events old new fresh.here.number is fresh.seen h.1.answered.makes;
-  few = subst (λ (k : ℕ). length h.1.answered.events ≤ length (flat_map (accepted (opening_board stage.board.now).consoles) (calls_at stage.names.now k (vt_phase_of stage.phase.now)))) (sym is)
-      (first_few (opening_board stage.board.now).consoles n (calls_of_seat stage.names.now n (vt_phase_of stage.phase.now).operators) old new h);
+  made = made_since (history_of (opening_board stage.board.now)) n h.1.answered.events
+      old new fresh.here.number is fresh.seen h.1.answered.makes;
+  few = subst (λ (k : ℕ).
+      length h.1.answered.events
+      ≤ length (flat_map (accepted (opening_board stage.board.now).consoles)
+      (calls_at stage.names.now k (vt_phase_of stage.phase.now))))
+      (sym is)
+      (first_few (opening_board stage.board.now).consoles n
+      (calls_of_seat stage.names.now n (vt_phase_of stage.phase.now).operators) old new h);
 }
 
-pub operator_comes : (stage : Stage) (n : ℕ) (operators : List OpScript) (old new : BoardSeat) (r : Result (Unit {0}) Denied) → operators ≡ stage.phase.now.operators.items → IsFresh stage.board.now n old → IsHere stage.board.now n new
-    → OnOk r (AnswersCalls (name_of_board stage.board.now).consoles n (calls_of_seat stage.names.now n (operators_of operators)) old new)
-    → OnErr r (AnswersFirst (name_of_board stage.board.now).consoles n (calls_of_seat stage.names.now n (operators_of operators)) old new)
-    → IfErr r (λ denied. IsDenied (board_with (name_of_board stage.board.now) (list_seen new)) denied) → OperatorComes stage.board.now stage.names.now (vt_phase_of stage.phase.now) n (record { seat = new; result = r })
+pub operator_comes : (stage : Stage) (n : ℕ) (operators : List OpScript) (old new : BoardSeat)
+    (r : Result (Unit {0}) Denied)
+    → operators ≡ stage.phase.now.operators.items
+    → IsFresh stage.board.now n old
+    → IsHere stage.board.now n new
+    → OnOk r (AnswersCalls (name_of_board stage.board.now).consoles n
+    (calls_of_seat stage.names.now n (operators_of operators)) old new)
+    → OnErr r (AnswersFirst (name_of_board stage.board.now).consoles n
+    (calls_of_seat stage.names.now n (operators_of operators)) old new)
+    → IfErr r (λ denied. IsDenied (board_with (name_of_board stage.board.now) (list_seen new)) denied)
+    → OperatorComes stage.board.now stage.names.now (vt_phase_of stage.phase.now) n (record { seat = new; result = r })
 operator_comes stage n operators old new (Ok v) are fresh here ok err denied =
-    let all = subst (λ (l : List OpScript). AnswersCalls (opening_board stage.board.now).consoles n (calls_of_seat stage.names.now n (operators_of l)) old new) are ok in
+    let all = subst (λ (l : List OpScript).
+    AnswersCalls (opening_board stage.board.now).consoles n (calls_of_seat stage.names.now n (operators_of l)) old new)
+    are ok in
     record {
       here = here;
       began = began_all stage n old new fresh here.number all;
-      ok = operator_played stage.board.now stage.names.now (vt_phase_of stage.phase.now) n old new fresh.here.number here.number fresh.seen all;
+      ok = operator_played stage.board.now stage.names.now (vt_phase_of stage.phase.now)
+          n old new fresh.here.number here.number fresh.seen all;
       denied = tt;
     }
 operator_comes stage n operators old new (Err d) are fresh here ok err denied =
-    let first = subst (λ (l : List OpScript). AnswersFirst (opening_board stage.board.now).consoles n (calls_of_seat stage.names.now n (operators_of l)) old new) are err in
+    let first = subst (λ (l : List OpScript).
+    AnswersFirst (opening_board stage.board.now).consoles n (calls_of_seat stage.names.now n (operators_of l)) old new)
+    are err in
     record { here = here; began = began_first stage n old new fresh here.number first; ok = tt; denied = denied }
 
 -- ---- operators one after the other
 
-pub board_none : (stage : Stage) (hand : BoardHand) (back : BoardBack) → hand.seats.items ≡ [] → back.seats.items ≡ [] → back.operated ≡ Ok tt → KeyboardComes stage hand.keys back.keys → BoardComes stage hand back
+pub board_none : (stage : Stage) (hand : BoardHand) (back : BoardBack)
+    → hand.seats.items ≡ []
+    → back.seats.items ≡ []
+    → back.operated ≡ Ok tt
+    → KeyboardComes stage hand.keys back.keys
+    → BoardComes stage hand back
 board_none stage hand back none no_seats ok keys = record {
   count = ap (λ (l : List BoardSeat). length l) no_seats ∙ ap (λ (l : List BoardSeat). length l) (sym none);
   seats = λ i s at. absurd (no_seat i s (ap (λ (l : List BoardSeat). slice_get l i) (sym no_seats) ∙ at));
-  operated = subst (λ (r : Result (Unit {0}) Denied). OnOk r (Places (HasOperated stage) back.seats.items)) (sym ok) (λ i s at. absurd (no_seat i s (ap (λ (l : List BoardSeat). slice_get l i) (sym no_seats) ∙ at)));
+  operated = subst (λ (r : Result (Unit {0}) Denied). OnOk r (Places (HasOperated stage) back.seats.items)) (sym ok)
+      (λ i s at. absurd (no_seat i s (ap (λ (l : List BoardSeat). slice_get l i) (sym no_seats) ∙ at)));
   denied = subst (λ (r : Result (Unit {0}) Denied). IfErr r (SomeDenied stage.board.now back.seats.items)) (sym ok) tt;
   keys = keys;
 }
@@ -75,7 +117,9 @@ board_none stage hand back none no_seats ok keys = record {
     no_seat : (i : ℕ) (s : BoardSeat) → slice_get [] i ≡ Some s → ⊥
     no_seat i s h = cc
 
-module _ (stage : Stage) (hand fewer : BoardHand) (others : List BoardSeat) (seat : BoardSeat) (split : hand.seats.items ≡ others ++ seat ∷ []) (fewer_are : fewer.seats.items ≡ others) (fewer_keys : fewer.keys ≡ hand.keys) where
+module _ (stage : Stage) (hand fewer : BoardHand) (others : List BoardSeat) (seat : BoardSeat)
+    (split : hand.seats.items ≡ others ++ seat ∷ []) (fewer_are : fewer.seats.items ≡ others)
+    (fewer_keys : fewer.keys ≡ hand.keys) where
   pub can_first : CanPlayBoard stage hand → IsFresh stage.board.now (length others) seat
   can_first can = each_last (IsFresh stage.board.now) hand.seats.items others seat split can.seats
 
@@ -87,14 +131,21 @@ module _ (stage : Stage) (hand fewer : BoardHand) (others : List BoardSeat) (sea
         let few = ap (λ (l : List BoardSeat). length l) fewer_are in
         let count = can.count in
         omega (arith, whole, size, few, count);
-    seats = λ i s at. each_front (IsFresh stage.board.now) hand.seats.items others seat split can.seats i s (ap (λ (l : List BoardSeat). slice_get l i) (sym fewer_are) ∙ at);
+    seats = λ i s at. each_front (IsFresh stage.board.now) hand.seats.items others seat split can.seats i s
+        (ap (λ (l : List BoardSeat). slice_get l i) (sym fewer_are) ∙ at);
     keys = subst (λ (k : KeyHand). CanKey stage k) (sym fewer_keys) can.keys;
   }
 
-  pub board_more : (back : BoardBack) (one : OperatorBack) (now : BoardBack) → BoardComes stage fewer back → OperatorComes stage.board.now stage.names.now (vt_phase_of stage.phase.now) (length others) one → IsWithOperator back one now → BoardComes stage hand now
+  pub board_more : (back : BoardBack) (one : OperatorBack) (now : BoardBack)
+      → BoardComes stage fewer back
+      → OperatorComes stage.board.now stage.names.now (vt_phase_of stage.phase.now) (length others) one
+      → IsWithOperator back one now
+      → BoardComes stage hand now
   board_more back one now h o w =
-      let number : length back.seats.items ≡ length others = h.count ∙ ap (λ (l : List BoardSeat). length l) fewer_are in
-      let here : IsOperatorBack stage (length back.seats.items) one.seat = subst (λ (n : ℕ). IsOperatorBack stage n one.seat) (sym number) (record { here = o.here; began = o.began }) in
+      let number : length back.seats.items ≡ length others =
+      h.count ∙ ap (λ (l : List BoardSeat). length l) fewer_are in
+      let here : IsOperatorBack stage (length back.seats.items) one.seat =
+      subst (λ (n : ℕ). IsOperatorBack stage n one.seat) (sym number) (record { here = o.here; began = o.began }) in
       record {
         count =
             let now_size = ap (λ (l : List BoardSeat). length l) w.seats in
@@ -103,26 +154,40 @@ module _ (stage : Stage) (hand fewer : BoardHand) (others : List BoardSeat) (sea
             let size = length-append others (seat ∷ []) in
             omega (arith, now_size, more, whole, size, number);
         seats = each_one_more (IsOperatorBack stage) now.seats.items back.seats.items one.seat w.seats h.seats here;
-        operated = subst (λ (r : Result (Unit {0}) Denied). OnOk r (Places (HasOperated stage) now.seats.items)) (sym w.operated)
-            (ok_both back.operated one.result (Places (HasOperated stage) back.seats.items) (HasOperated stage (length others) one.seat) (Places (HasOperated stage) now.seats.items) h.operated o.ok
-            (λ all last. each_one_more (HasOperated stage) now.seats.items back.seats.items one.seat w.seats all (subst (λ (n : ℕ). HasOperated stage n one.seat) (sym number) last)));
-        denied = subst (λ (r : Result (Unit {0}) Denied). IfErr r (SomeDenied stage.board.now now.seats.items)) (sym w.operated)
-            (err_first back.operated one.result (SomeDenied stage.board.now back.seats.items) (IsDeniedAt stage.board.now one.seat) (SomeDenied stage.board.now now.seats.items) h.denied o.denied
+        operated = subst (λ (r : Result (Unit {0}) Denied). OnOk r (Places (HasOperated stage) now.seats.items))
+            (sym w.operated)
+            (ok_both back.operated one.result (Places (HasOperated stage) back.seats.items)
+            (HasOperated stage (length others) one.seat) (Places (HasOperated stage) now.seats.items) h.operated o.ok
+            (λ all last. each_one_more (HasOperated stage) now.seats.items back.seats.items one.seat w.seats all
+            (subst (λ (n : ℕ). HasOperated stage n one.seat) (sym number) last)));
+        denied = subst (λ (r : Result (Unit {0}) Denied). IfErr r (SomeDenied stage.board.now now.seats.items))
+            (sym w.operated)
+            (err_first back.operated one.result (SomeDenied stage.board.now back.seats.items)
+            (IsDeniedAt stage.board.now one.seat) (SomeDenied stage.board.now now.seats.items) h.denied o.denied
             (λ d x. record {
               place = x.place;
               seat = x.seat;
-              at = ap (λ (l : List BoardSeat). slice_get l x.place) w.seats ∙ get_append back.seats.items (one.seat ∷ []) x.place x.seat x.at;
+              at =
+                  ap (λ (l : List BoardSeat). slice_get l x.place) w.seats
+                  ∙ get_append back.seats.items (one.seat ∷ []) x.place x.seat x.at;
               is = x.is;
             })
             (λ d x. record {
               place = length back.seats.items;
               seat = one.seat;
-              at = ap (λ (l : List BoardSeat). slice_get l (length back.seats.items)) w.seats ∙ get_past back.seats.items (one.seat ∷ []) (length back.seats.items) 0 (omega arith);
+              at =
+                  ap (λ (l : List BoardSeat). slice_get l (length back.seats.items)) w.seats
+                  ∙ get_past back.seats.items (one.seat ∷ []) (length back.seats.items) 0 (omega arith);
               is = x;
             }));
-        keys = subst (λ (k : KeyHand). KeyboardComes stage k now.keys) fewer_keys (subst (λ (k : KeyBack). KeyboardComes stage fewer.keys k) (sym w.keys) h.keys);
+        keys = subst (λ (k : KeyHand). KeyboardComes stage k now.keys) fewer_keys
+            (subst (λ (k : KeyBack). KeyboardComes stage fewer.keys k) (sym w.keys) h.keys);
       }
 
-  pub board_ok : {E : Type 0} (r : Result BoardBack E) (back : BoardBack) (one : OperatorBack) → BoardComes stage fewer back → OperatorComes stage.board.now stage.names.now (vt_phase_of stage.phase.now) (length others) one → IfOk r (IsWithOperator back one) → IfOk r (BoardComes stage hand)
+  pub board_ok : {E : Type 0} (r : Result BoardBack E) (back : BoardBack) (one : OperatorBack)
+      → BoardComes stage fewer back
+      → OperatorComes stage.board.now stage.names.now (vt_phase_of stage.phase.now) (length others) one
+      → IfOk r (IsWithOperator back one)
+      → IfOk r (BoardComes stage hand)
   board_ok (Ok now) back one h o w = board_more back one now h o w
   board_ok (Err e) back one h o w = tt

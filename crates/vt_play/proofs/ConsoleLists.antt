@@ -1,5 +1,6 @@
 -- Consoles opened and ended one after the other, and their keys.
-use Rattle.std.proofs.Common.{◌≡◌, ℕ, ◌+◌, ◌<◌, ◌≤◌, List, [], ◌∷◌, ◌++◌, Some, drop, length, map, refl, sym, subst, ap, ◌∙◌, arith, get_or, length-append}
+use Rattle.std.proofs.Common.{◌≡◌, ℕ, ◌+◌, ◌<◌, ◌≤◌, List, [], ◌∷◌, ◌++◌, Some, drop, length}
+use Rattle.std.proofs.Common.{map, refl, sym, subst, ap, ◌∙◌, arith, get_or, length-append}
 use Rattle.std.specs.Prelude.{slice_get}
 use Rattle.std.proofs.lemmas.List.{drop_all}
 use Rattle.tty_calls.specs.declared.answers.PortEnd.{PortEnd}
@@ -20,28 +21,48 @@ use Rattle.vt_play.specs.Parts.{StandAtEnd}
 
 -- ---- keys, from a phase on
 
-pub keys_left : (phases : List VtPhase) (k : ℕ) (x : VtPhase) → k < length phases → x ≡ get_or phases k x
-    → length (all_keys (map vt_phase_of (drop k phases))) ≡ length x.keys.items + length (all_keys (map vt_phase_of (drop (k + 1) phases)))
-keys_left phases k x below at = ap (λ (l : List VtPhase). length (all_keys (map vt_phase_of l))) (next_item phases k x below at) ∙ length-append x.keys.items (all_keys (map vt_phase_of (drop (k + 1) phases)))
+pub keys_left : (phases : List VtPhase) (k : ℕ) (x : VtPhase)
+    → k < length phases
+    → x ≡ get_or phases k x
+    → length (all_keys (map vt_phase_of (drop k phases)))
+    ≡ length x.keys.items + length (all_keys (map vt_phase_of (drop (k + 1) phases)))
+keys_left phases k x below at =
+    ap (λ (l : List VtPhase). length (all_keys (map vt_phase_of l))) (next_item phases k x below at)
+    ∙ length-append x.keys.items (all_keys (map vt_phase_of (drop (k + 1) phases)))
 
-pub no_keys_left : (phases : List VtPhase) (k : ℕ) → length phases ≤ k → length (all_keys (map vt_phase_of (drop k phases))) ≡ 0
+pub no_keys_left : (phases : List VtPhase) (k : ℕ)
+    → length phases ≤ k
+    → length (all_keys (map vt_phase_of (drop k phases))) ≡ 0
 no_keys_left phases k over = ap (λ (l : List VtPhase). length (all_keys (map vt_phase_of l))) (drop_all k phases over)
 
 -- ---- one console more is ended
 
-pub one_more_ended : (x : PlainSession) (ended : List Console) (c : Console) (runs : List PortRun) (ends : List PortEnd) (run : PortRun) (end : PortEnd) → (StandAtEnd x ended → AreFirstPlayed x (length ended) runs ends)
-    → ((s : Scene) → StandsBefore s (length s.session.phases) c.station c.end → IsPlayedOn s.port s.session run end) → StandAtEnd x (ended ++ c ∷ []) → AreFirstPlayed x (length (ended ++ c ∷ [])) (runs ++ run ∷ []) (ends ++ end ∷ [])
+pub one_more_ended : (x : PlainSession) (ended : List Console) (c : Console) (runs : List PortRun) (ends : List PortEnd)
+    (run : PortRun) (end : PortEnd)
+    → (StandAtEnd x ended → AreFirstPlayed x (length ended) runs ends)
+    → ((s : Scene) → StandsBefore s (length s.session.phases) c.station c.end → IsPlayedOn s.port s.session run end)
+    → StandAtEnd x (ended ++ c ∷ [])
+    → AreFirstPlayed x (length (ended ++ c ∷ [])) (runs ++ run ∷ []) (ends ++ end ∷ [])
 one_more_ended x ended c runs ends run end before now stand =
-    let front = each_front (λ p (d : Console). StandsBefore (record { port = p; session = x }) (length x.phases) d.station d.end) (ended ++ c ∷ []) ended c refl stand in
-    let last = each_last (λ p (d : Console). StandsBefore (record { port = p; session = x }) (length x.phases) d.station d.end) (ended ++ c ∷ []) ended c refl stand in
+    let front = each_front
+    (λ p (d : Console). StandsBefore (record { port = p; session = x }) (length x.phases) d.station d.end)
+    (ended ++ c ∷ []) ended c refl stand in
+    let last = each_last
+    (λ p (d : Console). StandsBefore (record { port = p; session = x }) (length x.phases) d.station d.end)
+    (ended ++ c ∷ []) ended c refl stand in
     subst (λ (n : ℕ). AreFirstPlayed x n (runs ++ run ∷ []) (ends ++ end ∷ [])) (sym (length-append ended (c ∷ [])))
-    (one_more_played x (length ended) runs ends run end (before front) (now (record { port = length ended; session = x }) last))
+    (one_more_played x (length ended) runs ends run end (before front)
+    (now (record { port = length ended; session = x }) last))
 
-pub none_ended : (x : PlainSession) (runs : List PortRun) (ends : List PortEnd) → runs ≡ [] → ends ≡ [] → AreFirstPlayed x 0 runs ends
+pub none_ended : (x : PlainSession) (runs : List PortRun) (ends : List PortEnd)
+    → runs ≡ []
+    → ends ≡ []
+    → AreFirstPlayed x 0 runs ends
 none_ended x runs ends no_runs no_ends = record {
   runs_of = ap (λ (l : List PortRun). length l) no_runs;
   ends_of = ap (λ (l : List PortEnd). length l) no_ends;
-  each = λ p run end at_run at_end. absurd (nothing p run (ap (λ (l : List PortRun). slice_get l p) (sym no_runs) ∙ at_run));
+  each = λ p run end at_run at_end.
+      absurd (nothing p run (ap (λ (l : List PortRun). slice_get l p) (sym no_runs) ∙ at_run));
 }
   where
     nothing : (p : ℕ) (run : PortRun) → slice_get [] p ≡ Some run → ⊥
@@ -52,8 +73,12 @@ map_same [] = refl
 map_same (c ∷ xs) = ap (λ (l : List Console). c ∷ l) (map_same xs)
 
 -- all of them are ended
-pub all_ended : (x : PlainSession) (consoles ended : List Console) (runs : List PortRun) (ends : List PortEnd) → map (λ (c : Console). c) ended ≡ consoles → length consoles ≡ x.ports → StandAtEnd x consoles
-    → (StandAtEnd x ended → AreFirstPlayed x (length ended) runs ends) → ArePlayed x runs ends
+pub all_ended : (x : PlainSession) (consoles ended : List Console) (runs : List PortRun) (ends : List PortEnd)
+    → map (λ (c : Console). c) ended ≡ consoles
+    → length consoles ≡ x.ports
+    → StandAtEnd x consoles
+    → (StandAtEnd x ended → AreFirstPlayed x (length ended) runs ends)
+    → ArePlayed x runs ends
 all_ended x consoles ended runs ends over ports stand played =
     let is : ended ≡ consoles = sym (map_same ended) ∙ over in
     let all = played (subst (StandAtEnd x) (sym is) stand) in

@@ -1,5 +1,7 @@
 -- How many entries a board has after phases, and how many an account has.
-use Rattle.std.proofs.Common.{◌≡◌, ◌≢◌, ◌⊎◌, inl, inr, cond, eq-eqb, ne_eqb, ℕ, zero, suc, ◌+◌, ◌<◌, ◌≤◌, ◌==◌, Bool, true, false, List, [], ◌∷◌, ◌++◌, Some, add-one, drop, flat_map, if◌then◌else◌, length, map, take, refl, sym, subst, ap, ◌∙◌, arith, length-append}
+use Rattle.std.proofs.Common.{◌≡◌, ◌≢◌, ◌⊎◌, inl, inr, cond, eq-eqb, ne_eqb, ℕ, zero, suc, ◌+◌, ◌<◌, ◌≤◌, ◌==◌}
+use Rattle.std.proofs.Common.{Bool, true, false, List, [], ◌∷◌, ◌++◌, Some, add-one, drop, flat_map}
+use Rattle.std.proofs.Common.{if◌then◌else◌, length, map, take, refl, sym, subst, ap, ◌∙◌, arith, length-append}
 use Rattle.std.specs.Prelude.{slice_get}
 use Rattle.std.specs.List.{range_with_len}
 use Rattle.std.proofs.lemmas.Bool.{cases_order}
@@ -35,7 +37,8 @@ count_more : (n : ℕ) (xs ys : List (Stamped VtEvent)) → count_below n (xs ++
 count_more zero xs ys = refl
 count_more (suc n) xs ys =
     let r = count_more n xs ys in
-    let e = ap (λ (l : List (Stamped VtEvent)). length l) (filter-append (λ (x : Stamped VtEvent). x.seat == n) xs ys) in
+    let e =
+    ap (λ (l : List (Stamped VtEvent)). length l) (filter-append (λ (x : Stamped VtEvent). x.seat == n) xs ys) in
     let s = length-append (entries_by n xs) (entries_by n ys) in
     omega (arith, r, e, s)
 
@@ -45,7 +48,8 @@ pub record MadeFew (asked n : ℕ) (xs ys : List (Stamped VtEvent)) : Type 0 whe
   pub made : MadeBy n xs ys events
   pub few : length events ≤ asked
 
-count_few : (names : List (List ℕ)) (consoles : ℕ) (phase : PlainVtPhase) (n : ℕ) (xs ys : List (Stamped VtEvent)) → ((m : ℕ) → m < n → MadeFew (asked_of names consoles phase m) m xs ys)
+count_few : (names : List (List ℕ)) (consoles : ℕ) (phase : PlainVtPhase) (n : ℕ) (xs ys : List (Stamped VtEvent))
+    → ((m : ℕ) → m < n → MadeFew (asked_of names consoles phase m) m xs ys)
     → count_below n ys ≤ count_below n xs + asked_below names consoles phase n
 count_few names consoles phase zero xs ys h = omega arith
 count_few names consoles phase (suc n) xs ys h =
@@ -57,7 +61,9 @@ count_few names consoles phase (suc n) xs ys h =
     let few = one.few in
     omega (arith, r, e, s, k, few)
 
-pub history_few : (names : List (List ℕ)) (consoles : ℕ) (phase : PlainVtPhase) (n : ℕ) (xs ys : List (Stamped VtEvent)) → GoesOn (λ k. k < n) xs ys → ((m : ℕ) → m < n → MadeFew (asked_of names consoles phase m) m xs ys)
+pub history_few : (names : List (List ℕ)) (consoles : ℕ) (phase : PlainVtPhase) (n : ℕ) (xs ys : List (Stamped VtEvent))
+    → GoesOn (λ k. k < n) xs ys
+    → ((m : ℕ) → m < n → MadeFew (asked_of names consoles phase m) m xs ys)
     → length ys ≤ length xs + asked_below names consoles phase n
 history_few names consoles phase n xs ys goes h =
     let few = count_few names consoles phase n xs ys h in
@@ -73,29 +79,45 @@ board_length b = length-map b.entries (λ (e : VtEntry). stamped e.seat e.event)
 
 -- ---- a phase that was played, and one of which a seat was denied an entry
 
-pub at_seat : (P : BoardSeat → Type 0) (ss : List BoardSeat) (i : ℕ) (s : BoardSeat) → EachSeat P ss → slice_get ss i ≡ Some s → P s
+pub at_seat : (P : BoardSeat → Type 0) (ss : List BoardSeat) (i : ℕ) (s : BoardSeat)
+    → EachSeat P ss
+    → slice_get ss i ≡ Some s
+    → P s
 at_seat P [] i s h at = absurd (cc)
 at_seat P (x ∷ xs) zero s h at = subst P (some_is x s at) h.0
 at_seat P (x ∷ xs) (suc i) s h at = at_seat P xs i s h.1 at
 
-pub begun_few : (names : List (List ℕ)) (phase : PlainVtPhase) (b : SharedBoard) (seats : List BoardSeat) (w : BoardState) → HasAll (seats_of b) seats → GoesOn (λ k. k < seats_of b) (history_of (opening_board b)) (history_of w)
-    → EachSeat (HasAllOf (history_of w)) seats → EachSeat (HasBegun names phase b) seats
-    → length w.entries ≤ length (opening_board b).entries + asked_below names (opening_board b).consoles phase (seats_of b)
+pub begun_few : (names : List (List ℕ)) (phase : PlainVtPhase) (b : SharedBoard) (seats : List BoardSeat)
+    (w : BoardState)
+    → HasAll (seats_of b) seats
+    → GoesOn (λ k. k < seats_of b) (history_of (opening_board b)) (history_of w)
+    → EachSeat (HasAllOf (history_of w)) seats
+    → EachSeat (HasBegun names phase b) seats
+    → length w.entries
+    ≤ length (opening_board b).entries + asked_below names (opening_board b).consoles phase (seats_of b)
 begun_few names phase b seats w all goes each begun =
-    let made : (m : ℕ) → m < seats_of b → MadeFew (asked_of names (opening_board b).consoles phase m) m (history_of (opening_board b)) (history_of w) =
+    let made : (m : ℕ)
+    → m < seats_of b
+    → MadeFew (asked_of names (opening_board b).consoles phase m) m (history_of (opening_board b)) (history_of w) =
     λ m lt.
     let found = all m lt in
     let s : BoardSeat = found.1 in
     let has = at_seat (HasAllOf (history_of w)) seats found.0 s each found.2 in
     let one = at_seat (HasBegun names phase b) seats found.0 s begun found.2 in
-    subst (λ (k : ℕ). MadeFew (asked_of names (opening_board b).consoles phase k) k (history_of (opening_board b)) (history_of w)) found.3
+    subst (λ (k : ℕ).
+    MadeFew (asked_of names (opening_board b).consoles phase k) k (history_of (opening_board b)) (history_of w)) found.3
     (record { events = one.events; made = has.own ∙ one.made; few = one.few }) in
-    let few = history_few names (opening_board b).consoles phase (seats_of b) (history_of (opening_board b)) (history_of w) goes made in
+    let few = history_few names (opening_board b).consoles phase (seats_of b) (history_of (opening_board b))
+    (history_of w) goes made in
     let x = board_length (opening_board b) in
     let y = board_length w in
     omega (arith, few, x, y)
 
-by_place : (names : List (List ℕ)) (phase : PlainVtPhase) (first : ℕ) (went : List ℕ) (a w : BoardState) → PhaseMade names phase first went a w → (m : ℕ) → m < length names + 1 → MadeFew (asked_of names a.consoles phase m) m (history_of a) (history_of w)
+by_place : (names : List (List ℕ)) (phase : PlainVtPhase) (first : ℕ) (went : List ℕ) (a w : BoardState)
+    → PhaseMade names phase first went a w
+    → (m : ℕ)
+    → m < length names + 1
+    → MadeFew (asked_of names a.consoles phase m) m (history_of a) (history_of w)
 by_place names phase first went a w h m lt = by_case (cases_order m (length names))
   where
     operator : m < length names → MadeFew (asked_of names a.consoles phase m) m (history_of a) (history_of w)
@@ -104,43 +126,60 @@ by_place names phase first went a w h m lt = by_case (cases_order m (length name
         let each = events_few o.events in
         let calls = ap (λ (l : List OpCall). length l) o.answers in
         let keys = ap (λ (l : List ℕ). length l) o.no_keys in
-        let few : length o.events ≤ length (flat_map (accepted a.consoles) (calls_at names m phase)) = omega (arith, each, calls, keys) in
+        let few : length o.events ≤ length (flat_map (accepted a.consoles) (calls_at names m phase)) =
+        omega (arith, each, calls, keys) in
         record { events = o.events; made = o.made; few = omega (arith, few) }
 
     keyboard : MadeFew (asked_of names a.consoles phase (length names)) (length names) (history_of a) (history_of w)
     keyboard =
         let n = key_count first went in
         let each = h.each_key in
-        let e : (if length names == length names then length phase.keys else 0) ≡ length phase.keys = ap (λ (c : Bool). if c then length phase.keys else 0) (eq-eqb (length names) (length names) refl) in
+        let e : (if length names == length names then length phase.keys else 0) ≡ length phase.keys =
+        ap (λ (c : Bool). if c then length phase.keys else 0) (eq-eqb (length names) (length names) refl) in
         record { events = key_events first went; made = h.keyboard; few = omega (arith, n, each, e) }
 
-    by_case : (m ≡ length names) ⊎ ((m < length names) ⊎ (length names < m)) → MadeFew (asked_of names a.consoles phase m) m (history_of a) (history_of w)
-    by_case (inl same) = subst (λ (k : ℕ). MadeFew (asked_of names a.consoles phase k) k (history_of a) (history_of w)) (sym same) keyboard
+    by_case : (m ≡ length names) ⊎ ((m < length names) ⊎ (length names < m))
+        → MadeFew (asked_of names a.consoles phase m) m (history_of a) (history_of w)
+    by_case (inl same) = subst (λ (k : ℕ). MadeFew (asked_of names a.consoles phase k) k (history_of a) (history_of w))
+        (sym same) keyboard
     by_case (inr (inl less)) = operator less
     by_case (inr (inr more)) = absurd (omega (arith, lt, more))
 
-pub made_few : (names : List (List ℕ)) (phase : PlainVtPhase) (first : ℕ) (went : List ℕ) (a w : BoardState) → PhaseMade names phase first went a w → length w.entries ≤ length a.entries + asked_below names a.consoles phase (length names + 1)
+pub made_few : (names : List (List ℕ)) (phase : PlainVtPhase) (first : ℕ) (went : List ℕ) (a w : BoardState)
+    → PhaseMade names phase first went a w
+    → length w.entries ≤ length a.entries + asked_below names a.consoles phase (length names + 1)
 made_few names phase first went a w h =
-    let few = history_few names a.consoles phase (length names + 1) (history_of a) (history_of w) h.goes_on (by_place names phase first went a w h) in
+    let few = history_few names a.consoles phase (length names + 1) (history_of a) (history_of w) h.goes_on
+    (by_place names phase first went a w h) in
     let x = board_length a in
     let y = board_length w in
     omega (arith, few, x, y)
 
 -- ---- the first phases
 
-asked_one : (session : PlainVtSession) (phases : List PlainVtPhase) (k : ℕ) (phase : PlainVtPhase) → slice_get phases k ≡ Some phase
-    → asked_in session (take (suc k) phases) ≡ asked_in session (take k phases) + asked_below (operator_names session.phases) session.calls.ports phase (length (operator_names session.phases) + 1)
+asked_one : (session : PlainVtSession) (phases : List PlainVtPhase) (k : ℕ) (phase : PlainVtPhase)
+    → slice_get phases k ≡ Some phase
+    → asked_in session (take (suc k) phases)
+    ≡ asked_in session (take k phases)
+    + asked_below (operator_names session.phases) session.calls.ports phase (length (operator_names session.phases) + 1)
 asked_one session [] k phase at = absurd (cc)
 asked_one session (x ∷ xs) zero phase at =
-    let same = ap (λ (y : PlainVtPhase). asked_below (operator_names session.phases) session.calls.ports y (length (operator_names session.phases) + 1)) (some_is x phase at) in
+    let same = ap (λ (y : PlainVtPhase).
+    asked_below (operator_names session.phases) session.calls.ports y (length (operator_names session.phases) + 1))
+    (some_is x phase at) in
     omega (arith, same)
 asked_one session (x ∷ xs) (suc k) phase at = let r = asked_one session xs k phase at in omega (arith, r)
 
-pub asked_more : (session : PlainVtSession) (phases : List PlainVtPhase) (k : ℕ) (phase : PlainVtPhase) → slice_get phases k ≡ Some phase
-    → asked_in session (take (k + 1) phases) ≡ asked_in session (take k phases) + asked_below (operator_names session.phases) session.calls.ports phase (length (operator_names session.phases) + 1)
-asked_more session phases k phase at = ap (λ (n : ℕ). asked_in session (take n phases)) (add-one k) ∙ asked_one session phases k phase at
+pub asked_more : (session : PlainVtSession) (phases : List PlainVtPhase) (k : ℕ) (phase : PlainVtPhase)
+    → slice_get phases k ≡ Some phase
+    → asked_in session (take (k + 1) phases)
+    ≡ asked_in session (take k phases)
+    + asked_below (operator_names session.phases) session.calls.ports phase (length (operator_names session.phases) + 1)
+asked_more session phases k phase at =
+    ap (λ (n : ℕ). asked_in session (take n phases)) (add-one k) ∙ asked_one session phases k phase at
 
-pub asked_front : (session : PlainVtSession) (phases : List PlainVtPhase) (k : ℕ) → asked_in session (take k phases) ≤ asked_in session phases
+pub asked_front : (session : PlainVtSession) (phases : List PlainVtPhase) (k : ℕ)
+    → asked_in session (take k phases) ≤ asked_in session phases
 asked_front session [] zero = omega arith
 asked_front session [] (suc k) = omega arith
 asked_front session (x ∷ xs) zero = omega arith
@@ -156,23 +195,30 @@ one_event (Activate n) = refl
 one_event (State n) = refl
 one_event (Key index n) = refl
 
-seat_step : (m : ℕ) (e : VtEntry) (part : List VtEntry) (t : Bool) → (e.seat == m) ≡ t → length (entries_by m (stamps part)) ≡ length (calls_by m part) + length (indexes_by m part)
+seat_step : (m : ℕ) (e : VtEntry) (part : List VtEntry) (t : Bool)
+    → (e.seat == m) ≡ t
+    → length (entries_by m (stamps part)) ≡ length (calls_by m part) + length (indexes_by m part)
     → length (entries_by m (stamps (e ∷ part))) ≡ length (calls_by m (e ∷ part)) + length (indexes_by m (e ∷ part))
 seat_step m e part true is r =
     let one = one_event e.event in
     let a = length-append (call_in e.event) (calls_by m part) in
     let b = length-append (index_in e.event) (indexes_by m part) in
-    let x = ap (λ (c : Bool). length (cond c (stamped e.seat e.event ∷ entries_by m (stamps part)) (entries_by m (stamps part)))) is in
+    let x = ap
+    (λ (c : Bool). length (cond c (stamped e.seat e.event ∷ entries_by m (stamps part)) (entries_by m (stamps part))))
+    is in
     let y = ap (λ (c : Bool). length ((if c then call_in e.event else []) ++ calls_by m part)) is in
     let z = ap (λ (c : Bool). length ((if c then index_in e.event else []) ++ indexes_by m part)) is in
     omega (arith, x, y, z, r, one, a, b)
 seat_step m e part false is r =
-    let x = ap (λ (c : Bool). length (cond c (stamped e.seat e.event ∷ entries_by m (stamps part)) (entries_by m (stamps part)))) is in
+    let x = ap
+    (λ (c : Bool). length (cond c (stamped e.seat e.event ∷ entries_by m (stamps part)) (entries_by m (stamps part))))
+    is in
     let y = ap (λ (c : Bool). length ((if c then call_in e.event else []) ++ calls_by m part)) is in
     let z = ap (λ (c : Bool). length ((if c then index_in e.event else []) ++ indexes_by m part)) is in
     omega (arith, x, y, z, r)
 
-by_seat : (m : ℕ) (part : List VtEntry) → length (entries_by m (stamps part)) ≡ length (calls_by m part) + length (indexes_by m part)
+by_seat : (m : ℕ) (part : List VtEntry)
+    → length (entries_by m (stamps part)) ≡ length (calls_by m part) + length (indexes_by m part)
 by_seat m [] = refl
 by_seat m (e ∷ part) = seat_step m e part (e.seat == m) refl (by_seat m part)
 
@@ -185,7 +231,8 @@ none_counted zero = refl
 none_counted (suc n) = let rest = none_counted n in omega (arith, rest)
 
 -- an entry is one seat's at most
-seat_counted : (n : ℕ) (x : Stamped VtEvent) (xs : List (Stamped VtEvent)) → (n ≤ x.seat → count_below n (x ∷ xs) ≡ count_below n xs) × (count_below n (x ∷ xs) ≤ count_below n xs + 1)
+seat_counted : (n : ℕ) (x : Stamped VtEvent) (xs : List (Stamped VtEvent))
+    → (n ≤ x.seat → count_below n (x ∷ xs) ≡ count_below n xs) × (count_below n (x ∷ xs) ≤ count_below n xs + 1)
 seat_counted zero x xs = ((λ h. refl), omega arith)
 seat_counted (suc n) x xs = by_case (seat_counted n x xs) (cases_order x.seat n)
   where
@@ -195,10 +242,18 @@ seat_counted (suc n) x xs = by_case (seat_counted n x xs) (cases_order x.seat n)
     other : x.seat ≢ n → length (entries_by n (x ∷ xs)) ≡ length (entries_by n xs)
     other ne = ap (λ c. length (cond c (x ∷ entries_by n xs) (entries_by n xs))) (ne_eqb x.seat n ne)
 
-    by_case : (n ≤ x.seat → count_below n (x ∷ xs) ≡ count_below n xs) × (count_below n (x ∷ xs) ≤ count_below n xs + 1) → (x.seat ≡ n) ⊎ ((x.seat < n) ⊎ (n < x.seat))
-        → (suc n ≤ x.seat → count_below (suc n) (x ∷ xs) ≡ count_below (suc n) xs) × (count_below (suc n) (x ∷ xs) ≤ count_below (suc n) xs + 1)
-    by_case r (inl same) = ((λ h. absurd (omega (arith, h, same))), (let e = r.0 (omega (arith, same)) in let o = own same in omega (arith, e, o)))
-    by_case r (inr (inl less)) = ((λ h. absurd (omega (arith, h, less))), (let e = r.1 in let o = other (λ e. absurd (omega (arith, e, less))) in omega (arith, e, o)))
+    by_case : (n ≤ x.seat → count_below n (x ∷ xs) ≡ count_below n xs) × (count_below n (x ∷ xs) ≤ count_below n xs + 1)
+        → (x.seat ≡ n) ⊎ ((x.seat < n) ⊎ (n < x.seat))
+        → (suc n ≤ x.seat → count_below (suc n) (x ∷ xs) ≡ count_below (suc n) xs)
+        × (count_below (suc n) (x ∷ xs) ≤ count_below (suc n) xs + 1)
+    by_case r (inl same) = (
+      (λ h. absurd (omega (arith, h, same))),
+      (let e = r.0 (omega (arith, same)) in let o = own same in omega (arith, e, o)),
+    )
+    by_case r (inr (inl less)) = (
+      (λ h. absurd (omega (arith, h, less))),
+      (let e = r.1 in let o = other (λ e. absurd (omega (arith, e, less))) in omega (arith, e, o)),
+    )
     by_case r (inr (inr more)) =
         let e = r.0 (omega (arith, more)) in
         let o = other (λ e. absurd (omega (arith, e, more))) in
@@ -208,24 +263,33 @@ count_within : (n : ℕ) (xs : List (Stamped VtEvent)) → count_below n xs ≤ 
 count_within n [] = let none = none_counted n in omega (arith, none)
 count_within n (x ∷ xs) = let r = count_within n xs in let one = (seat_counted n x xs).1 in omega (arith, r, one)
 
-part_asked : (session : PlainVtSession) (phase : PlainVtPhase) (first : ℕ) (part : List VtEntry) → IsPartOf session phase first part → (n : ℕ)
+part_asked : (session : PlainVtSession) (phase : PlainVtPhase) (first : ℕ) (part : List VtEntry)
+    → IsPartOf session phase first part
+    → (n : ℕ)
     → asked_below (operator_names session.phases) session.calls.ports phase n ≡ count_below n (stamps part)
 part_asked session phase first part h zero = refl
 part_asked session phase first part h (suc n) =
     let r = part_asked session phase first part h n in
     let seat = by_seat n part in
     let calls = ap (λ (l : List OpCall). length l) (h.calls n) in
-    let keys = ap (λ (l : List ℕ). length l) (h.keys n) ∙ if_length (length (operator_names session.phases) == n) first (length phase.keys) in
+    let keys =
+    ap (λ (l : List ℕ). length l) (h.keys n)
+    ∙ if_length (length (operator_names session.phases) == n) first (length phase.keys) in
     omega (arith, r, seat, calls, keys)
 
-part_within : (session : PlainVtSession) (phase : PlainVtPhase) (first : ℕ) (part : List VtEntry) → IsPartOf session phase first part → (n : ℕ) → asked_below (operator_names session.phases) session.calls.ports phase n ≤ length part
+part_within : (session : PlainVtSession) (phase : PlainVtPhase) (first : ℕ) (part : List VtEntry)
+    → IsPartOf session phase first part
+    → (n : ℕ)
+    → asked_below (operator_names session.phases) session.calls.ports phase n ≤ length part
 part_within session phase first part h n =
     let same = part_asked session phase first part h n in
     let few = count_within n (stamps part) in
     let size = length-map part (λ (e : VtEntry). stamped e.seat e.event) in
     omega (arith, same, few, size)
 
-pub account_asked : (session : PlainVtSession) (first : ℕ) (phases : List PlainVtPhase) (entries : List VtEntry) → HasParts session first phases entries → asked_in session phases ≤ length entries
+pub account_asked : (session : PlainVtSession) (first : ℕ) (phases : List PlainVtPhase) (entries : List VtEntry)
+    → HasParts session first phases entries
+    → asked_in session phases ≤ length entries
 account_asked session first [] entries h = omega arith
 account_asked session first (phase ∷ phases) entries h =
     let r = account_asked session (first + length phase.keys) phases h.rest h.goes_on in

@@ -1,5 +1,6 @@
 -- Why a session is not played: its board was full.
-use Rattle.std.proofs.Common.{◌≡◌, ℕ, ◌+◌, ◌<◌, ◌≤◌, List, ◌++◌, Some, length, map, take, refl, sym, subst, ap, ◌∙◌, arith, length-append}
+use Rattle.std.proofs.Common.{◌≡◌, ℕ, ◌+◌, ◌<◌, ◌≤◌, List, ◌++◌, Some, length, map}
+use Rattle.std.proofs.Common.{take, refl, sym, subst, ap, ◌∙◌, arith, length-append}
 use Rattle.std.specs.Prelude.{slice_get}
 use Rattle.std.proofs.lemmas.List.{length-map}
 use Rattle.port_cell.specs.declared.kept.Stamped.{Stamped}
@@ -28,9 +29,15 @@ use Rattle.vt_play.proofs.Listing.{there}
 abbrev entry_of : Stamped VtEvent → VtEntry
 entry_of x = record { seat = x.seat; event = x.what }
 
-module _ (of : PhaseOf) (shared : SharedBoard) (seats : List BoardSeat) (w : BoardState) (all : HasAll (seats_of shared) seats) (goes : GoesOn (λ k. k < seats_of shared) (history_of (opening_board shared)) (history_of w))
-    (each : EachSeat (HasAllOf (history_of w)) seats) (opening : IsBoardBefore (vt_session_of of.session.now) of.k of.first (opening_board shared)) (phase_of : IsPhaseOf of) (number : seats_of shared ≡ length of.names.now + 1)
-    (begun : (phase : PlainVtPhase) → slice_get (vt_session_of of.session.now).phases of.k ≡ Some phase → EachSeat (HasBegun of.names.now phase shared) seats) where
+module _ (of : PhaseOf) (shared : SharedBoard) (seats : List BoardSeat) (w : BoardState)
+    (all : HasAll (seats_of shared) seats)
+    (goes : GoesOn (λ k. k < seats_of shared) (history_of (opening_board shared)) (history_of w))
+    (each : EachSeat (HasAllOf (history_of w)) seats)
+    (opening : IsBoardBefore (vt_session_of of.session.now) of.k of.first (opening_board shared))
+    (phase_of : IsPhaseOf of) (number : seats_of shared ≡ length of.names.now + 1)
+    (begun : (phase : PlainVtPhase)
+    → slice_get (vt_session_of of.session.now).phases of.k ≡ Some phase
+    → EachSeat (HasBegun of.names.now phase shared) seats) where
   abbrev vt : PlainVtSession
   vt = vt_session_of of.session.now
 
@@ -41,9 +48,11 @@ module _ (of : PhaseOf) (shared : SharedBoard) (seats : List BoardSeat) (w : Boa
       let below = phase_of.below in
       let phase = there vt.phases of.k (omega (arith, whole, below)) in
       let few = begun_few of.names.now phase.0 shared seats w all goes each (begun phase.0 phase.1) in
-      let named = ap (λ (n : List (List ℕ)). asked_below n (opening_board shared).consoles phase.0 (seats_of shared)) phase_of.names_are in
+      let named = ap (λ (n : List (List ℕ)). asked_below n (opening_board shared).consoles phase.0 (seats_of shared))
+      phase_of.names_are in
       let ports = ap (λ (n : ℕ). asked_below (operator_names vt.phases) n phase.0 (seats_of shared)) opening.consoles in
-      let count = ap (λ (n : ℕ). asked_below (operator_names vt.phases) vt.calls.ports phase.0 n) (number ∙ ap (λ (n : List (List ℕ)). length n + 1) phase_of.names_are) in
+      let count = ap (λ (n : ℕ). asked_below (operator_names vt.phases) vt.calls.ports phase.0 n)
+      (number ∙ ap (λ (n : List (List ℕ)). length n + 1) phase_of.names_are) in
       let was = opening.counted in
       let more = asked_more vt vt.phases of.k phase.0 phase.1 in
       let front = asked_front vt vt.phases (of.k + 1) in

@@ -1,5 +1,6 @@
 -- How many events a seat of a board makes of calls and of keys.
-use Rattle.std.proofs.Common.{◌≡◌, ℕ, zero, suc, ◌+◌, ◌≤◌, List, [], ◌∷◌, ◌++◌, flat_map, length, take, refl, ap, ◌∙◌, arith, length-append}
+use Rattle.std.proofs.Common.{◌≡◌, ℕ, zero, suc, ◌+◌, ◌≤◌, List, [], ◌∷◌, ◌++◌, flat_map}
+use Rattle.std.proofs.Common.{length, take, refl, ap, ◌∙◌, arith, length-append}
 use Rattle.std.proofs.lemmas.Grind.{flat_map-append}
 use Rattle.vt_consoles.specs.declared.entries.VtEvent.{VtEvent}
 use Rattle.vt_consoles.specs.declared.entries.VtEvent.TheVariants.{Activate, State, Key}
@@ -10,20 +11,25 @@ use Rattle.vt_threads.specs.Operating.{AnswersCalls, AnswersFirst}
 use Rattle.vt_threads.specs.Phases.{key_events}
 
 -- an event answers a call, or is a key's
-pub events_few : (events : List VtEvent) → length events ≡ length (flat_map call_in events) + length (flat_map index_in events)
+pub events_few : (events : List VtEvent)
+    → length events ≡ length (flat_map call_in events) + length (flat_map index_in events)
 events_few [] = refl
 events_few (Activate n ∷ events) = let r = events_few events in omega (arith, r)
 events_few (State n ∷ events) = let r = events_few events in omega (arith, r)
 events_few (Key index n ∷ events) = let r = events_few events in omega (arith, r)
 
-pub answers_few : (consoles n : ℕ) (calls : List OpCall) (old new : BoardSeat) → (h : AnswersCalls consoles n calls old new) → length h.events ≡ length (flat_map (accepted consoles) calls)
+pub answers_few : (consoles n : ℕ) (calls : List OpCall) (old new : BoardSeat)
+    → (h : AnswersCalls consoles n calls old new)
+    → length h.events ≡ length (flat_map (accepted consoles) calls)
 answers_few consoles n calls old new h =
     let each = events_few h.events in
     let calls_are = ap (λ (l : List OpCall). length l) h.answers in
     let keys = ap (λ (l : List ℕ). length l) h.no_keys in
     omega (arith, each, calls_are, keys)
 
-pub first_few : (consoles n : ℕ) (calls : List OpCall) (old new : BoardSeat) → (h : AnswersFirst consoles n calls old new) → length h.1.answered.events ≤ length (flat_map (accepted consoles) calls)
+pub first_few : (consoles n : ℕ) (calls : List OpCall) (old new : BoardSeat)
+    → (h : AnswersFirst consoles n calls old new)
+    → length h.1.answered.events ≤ length (flat_map (accepted consoles) calls)
 first_few consoles n calls old new h =
     let few = answers_few consoles n h.1.done old new h.1.answered in
     let all = ap (λ (l : List OpCall). length (flat_map (accepted consoles) l)) h.1.parts in

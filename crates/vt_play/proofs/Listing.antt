@@ -1,5 +1,6 @@
 -- Lists by their places, and their last elements.
-use Rattle.std.proofs.Common.{◌≡◌, ◌⊎◌, inl, inr, ℕ, zero, suc, ◌+◌, ◌<◌, List, [], ◌∷◌, ◌++◌, Option, None, Some, length, map, refl, sym, subst, ap, ◌∙◌, arith}
+use Rattle.std.proofs.Common.{◌≡◌, ◌⊎◌, inl, inr, ℕ, zero, suc, ◌+◌, ◌<◌, List, [], ◌∷◌, ◌++◌}
+use Rattle.std.proofs.Common.{Option, None, Some, length, map, refl, sym, subst, ap, ◌∙◌, arith}
 use Rattle.std.specs.Prelude.{slice_get, option_map}
 use Rattle.std.proofs.lemmas.List.{length-map}
 use Rattle.std.proofs.lemmas.Option.{slice_get-map, slice_get_within}
@@ -13,7 +14,10 @@ there [] p h = absurd (omega (arith, h))
 there (x ∷ xs) zero h = (x, refl)
 there (x ∷ xs) (suc p) h = there xs p (omega (arith, h))
 
-pub same_there : {X : Type 0} (xs : List X) (p : ℕ) (x y : X) → slice_get xs p ≡ Some x → slice_get xs p ≡ Some y → x ≡ y
+pub same_there : {X : Type 0} (xs : List X) (p : ℕ) (x y : X)
+    → slice_get xs p ≡ Some x
+    → slice_get xs p ≡ Some y
+    → x ≡ y
 same_there xs p x y at also = some_is x y (sym at ∙ also)
 
 -- ---- the last of a list
@@ -43,13 +47,22 @@ snoc_is (z ∷ xs) (w ∷ ys) x y h =
 
 -- ---- lists that a function was mapped over
 
-pub mapped_there : {X Y : Type 0} (f : X → Y) (xs : List X) (p : ℕ) (x : X) → slice_get xs p ≡ Some x → slice_get (map f xs) p ≡ Some (f x)
+pub mapped_there : {X Y : Type 0} (f : X → Y) (xs : List X) (p : ℕ) (x : X)
+    → slice_get xs p ≡ Some x
+    → slice_get (map f xs) p ≡ Some (f x)
 mapped_there f xs p x h = slice_get-map f xs p ∙ ap (option_map f) h
 
-pub column_there : {X Y : Type 0} (f : X → Y) (ys : List Y) (xs : List X) (p : ℕ) (x : X) → ys ≡ map f xs → slice_get xs p ≡ Some x → slice_get ys p ≡ Some (f x)
+pub column_there : {X Y : Type 0} (f : X → Y) (ys : List Y) (xs : List X) (p : ℕ) (x : X)
+    → ys ≡ map f xs
+    → slice_get xs p ≡ Some x
+    → slice_get ys p ≡ Some (f x)
 column_there f ys xs p x is h = ap (λ l. slice_get l p) is ∙ mapped_there f xs p x h
 
-pub column_is : {X Y : Type 0} (f : X → Y) (ys : List Y) (xs : List X) (p : ℕ) (x : X) (y : Y) → ys ≡ map f xs → slice_get xs p ≡ Some x → slice_get ys p ≡ Some y → y ≡ f x
+pub column_is : {X Y : Type 0} (f : X → Y) (ys : List Y) (xs : List X) (p : ℕ) (x : X) (y : Y)
+    → ys ≡ map f xs
+    → slice_get xs p ≡ Some x
+    → slice_get ys p ≡ Some y
+    → y ≡ f x
 column_is f ys xs p x y is h at = same_there ys p y (f x) at (column_there f ys xs p x is h)
 
 pub column_length : {X Y : Type 0} (f : X → Y) (ys : List Y) (xs : List X) → ys ≡ map f xs → length ys ≡ length xs
@@ -61,6 +74,8 @@ pub none_left : {X : Type 0} (xs : List X) → length xs ≡ 0 → xs ≡ []
 none_left [] h = refl
 none_left (x ∷ xs) h = absurd (omega (arith, h))
 
-pub one_left : {X : Type 0} (xs : List X) (n : ℕ) → length xs ≡ suc n → (x : X) × (ys : List X) × (xs ≡ x ∷ ys) × (length ys ≡ n)
+pub one_left : {X : Type 0} (xs : List X) (n : ℕ)
+    → length xs ≡ suc n
+    → (x : X) × (ys : List X) × (xs ≡ x ∷ ys) × (length ys ≡ n)
 one_left [] n h = absurd (omega (arith, h))
 one_left (x ∷ xs) n h = (x, xs, refl, omega (arith, h))

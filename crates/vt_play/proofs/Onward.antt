@@ -1,5 +1,7 @@
 -- A session of consoles from one phase to the next.
-use Rattle.std.proofs.Common.{◌≡◌, ◌⊎◌, inl, inr, ℕ, zero, suc, add-one, ◌+◌, ◌<◌, ◌≤◌, List, [], ◌∷◌, ◌++◌, Option, None, Some, Result, Ok, Err, drop, flat_map, length, map, take, refl, sym, subst, ap, ◌∙◌, arith, length-append, append-nil}
+use Rattle.std.proofs.Common.{◌≡◌, ◌⊎◌, inl, inr, ℕ, zero, suc, add-one, ◌+◌, ◌<◌, ◌≤◌, List, []}
+use Rattle.std.proofs.Common.{◌∷◌, ◌++◌, Option, None, Some, Result, Ok, Err, drop, flat_map, length}
+use Rattle.std.proofs.Common.{map, take, refl, sym, subst, ap, ◌∙◌, arith, length-append, append-nil}
 use Rattle.std.specs.Prelude.{IfOk, OnOk, slice_get}
 use Rattle.std.proofs.lemmas.Grind.{flat_map-append}
 use Rattle.std.proofs.lemmas.List.{drop_all}
@@ -45,32 +47,48 @@ use Rattle.vt_play.proofs.Staging.{keys_more}
 
 -- ---- the end of a session
 
-end_stands : (session : PlainVtSession) (p : ℕ) (entries : List VtEntry) (station : Station) (end : PhaseEnd) → IsWithinKeys session
-    → ConsoleStands (record { port = p; session = keyed session entries }) (length session.phases) station end → StandsBefore (record { port = p; session = keyed session entries }) (length (keyed session entries).phases) station end
+end_stands : (session : PlainVtSession) (p : ℕ) (entries : List VtEntry) (station : Station) (end : PhaseEnd)
+    → IsWithinKeys session
+    → ConsoleStands (record { port = p; session = keyed session entries }) (length session.phases) station end
+    → StandsBefore (record { port = p; session = keyed session entries }) (length (keyed session entries).phases)
+    station end
 end_stands session p entries station (Over run) within h =
-    subst (λ (n : ℕ). StandsBefore (record { port = p; session = keyed session entries }) n station (Over run)) (sym (same_length (keyed session entries) session.calls (keyed_differs session entries within.whole) ∙ within.whole)) h
+    subst (λ (n : ℕ). StandsBefore (record { port = p; session = keyed session entries }) n station (Over run))
+    (sym
+    (same_length (keyed session entries) session.calls (keyed_differs session entries within.whole) ∙ within.whole)) h
 end_stands session p entries station Full within h =
     full_at_end (record { port = p; session = keyed session entries }) station
-    (subst (λ (n : ℕ). ConsoleStands (record { port = p; session = keyed session entries }) n station Full) (sym (same_length (keyed session entries) session.calls (keyed_differs session entries within.whole) ∙ within.whole)) h)
+    (subst (λ (n : ℕ). ConsoleStands (record { port = p; session = keyed session entries }) n station Full)
+    (sym
+    (same_length (keyed session entries) session.calls (keyed_differs session entries within.whole) ∙ within.whole)) h)
 
-pub stand_at_end : (session : PlainVtSession) (entries : List VtEntry) (consoles : List Console) → IsWithinKeys session → AreConsolesBefore session (length session.phases) entries consoles → StandAtEnd (keyed session entries) consoles
+pub stand_at_end : (session : PlainVtSession) (entries : List VtEntry) (consoles : List Console)
+    → IsWithinKeys session
+    → AreConsolesBefore session (length session.phases) entries consoles
+    → StandAtEnd (keyed session entries) consoles
 stand_at_end session entries consoles within before p c at =
     end_stands session p entries c.station c.end within
-    (subst (λ (es : List VtEntry). ConsoleStands (record { port = p; session = keyed session es }) (length session.phases) c.station c.end) (append-nil entries) ((before p c at).stands []))
+    (subst (λ (es : List VtEntry).
+    ConsoleStands (record { port = p; session = keyed session es }) (length session.phases) c.station c.end)
+    (append-nil entries) ((before p c at).stands []))
 
 pub can_end_all : (x : PlainSession) (consoles : List Console) → StandAtEnd x consoles → CanEndAll consoles
 can_end_all x consoles stand p c at = can_end (record { port = p; session = x }) c.station c.end (stand p c at)
 
-next_at : (phases : List PlainVtPhase) (k : ℕ) (phase : PlainVtPhase) → slice_get phases k ≡ Some phase → drop k phases ≡ phase ∷ drop (k + 1) phases
+next_at : (phases : List PlainVtPhase) (k : ℕ) (phase : PlainVtPhase)
+    → slice_get phases k ≡ Some phase
+    → drop k phases ≡ phase ∷ drop (k + 1) phases
 next_at [] k phase at = absurd (cc)
 next_at (x ∷ xs) zero phase at = ap (λ (y : PlainVtPhase). y ∷ xs) (some_is x phase at)
 next_at (x ∷ xs) (suc k) phase at =
-    let e : drop (suc k + 1) (x ∷ xs) ≡ drop (k + 1) xs = ap (λ (n : ℕ). drop n (x ∷ xs)) (add-one (suc k)) ∙ ap (λ (n : ℕ). drop n xs) (sym (add-one k)) in
+    let e : drop (suc k + 1) (x ∷ xs) ≡ drop (k + 1) xs =
+    ap (λ (n : ℕ). drop n (x ∷ xs)) (add-one (suc k)) ∙ ap (λ (n : ℕ). drop n xs) (sym (add-one k)) in
     next_at xs k phase at ∙ ap (λ (l : List PlainVtPhase). phase ∷ l) (sym e)
 
 -- ---- a phase
 
-module _ (of : PhaseOf) (shared : SharedBoard) (seats : List BoardSeat) (consoles : List Console) (parts : AllParts) (h : IsStaged of shared seats consoles parts) (back : PhaseBack) (pp : PhasePlayed of shared h.parted.qs back)
+module _ (of : PhaseOf) (shared : SharedBoard) (seats : List BoardSeat) (consoles : List Console) (parts : AllParts)
+    (h : IsStaged of shared seats consoles parts) (back : PhaseBack) (pp : PhasePlayed of shared h.parted.qs back)
     (w : BoardState) (made : PhaseMade of.names.now pp.phase of.first pp.went (opening_board shared) w) where
   abbrev vt : PlainVtSession
   vt = vt_session_of of.session.now
@@ -79,12 +97,15 @@ module _ (of : PhaseOf) (shared : SharedBoard) (seats : List BoardSeat) (console
   old = opening_board shared
 
   made_named : PhaseMade (operator_names vt.phases) pp.phase of.first pp.went old w
-  made_named = subst (λ (names : List (List ℕ)). PhaseMade names pp.phase of.first pp.went old w) h.phase_of.names_are made
+  made_named =
+      subst (λ (names : List (List ℕ)). PhaseMade names pp.phase of.first pp.went old w) h.phase_of.names_are made
 
   pub adds : AddsPart vt pp.phase of.first pp.went old w
   adds = adds_part vt pp.phase of.first pp.went old w h.opening.consoles made_named
 
-  came_in : (p : ℕ) (b : PartedBack) → slice_get pp.came.bs p ≡ Some b → IsPlayedIn of.session.now p of.k old.entries adds.part b
+  came_in : (p : ℕ) (b : PartedBack)
+      → slice_get pp.came.bs p ≡ Some b
+      → IsPlayedIn of.session.now p of.k old.entries adds.part b
   came_in p b at =
       let inside = slice_get_within pp.came.bs p b at in
       let size = pp.came.count in
@@ -116,14 +137,18 @@ module _ (of : PhaseOf) (shared : SharedBoard) (seats : List BoardSeat) (console
   played_so = record { bs = pp.came.bs; back = pp.came.back; each = λ p b at. (old.entries, adds.part, came_in p b at) }
 
   pub all_known : length back.all.kept.items ≡ vt.calls.ports
-  all_known = column_length (λ (b : PartedBack). kept_in b.rest) back.all.kept.items pp.came.bs pp.came.back.kept ∙ (pp.came.count ∙ (h.parted.count ∙ h.of_all))
+  all_known =
+      column_length (λ (b : PartedBack). kept_in b.rest) back.all.kept.items pp.came.bs pp.came.back.kept
+      ∙ (pp.came.count ∙ (h.parted.count ∙ h.of_all))
 
   -- ---- the board before the next phase
 
   keys_next : length (consoles_in w.entries) ≡ length (all_keys (take (of.k + 1) vt.phases))
   keys_next =
       let e = ap (λ (l : List VtEntry). length (consoles_in l)) adds.added in
-      let f : length (consoles_in (old.entries ++ adds.part)) ≡ length (consoles_in old.entries ++ consoles_in adds.part) = ap (λ (l : List ℕ). length l) (flat_map-append (λ (e : VtEntry). console_in e.event) old.entries adds.part) in
+      let f : length (consoles_in (old.entries ++ adds.part))
+      ≡ length (consoles_in old.entries ++ consoles_in adds.part) =
+      ap (λ (l : List ℕ). length l) (flat_map-append (λ (e : VtEntry). console_in e.event) old.entries adds.part) in
       let s = length-append (consoles_in old.entries) (consoles_in adds.part) in
       let went = ap (λ (l : List ℕ). length l) adds.keys_went in
       let each = pp.seats.each_key in
@@ -132,17 +157,24 @@ module _ (of : PhaseOf) (shared : SharedBoard) (seats : List BoardSeat) (console
       omega (arith, e, f, s, went, each, was, more)
 
   first_next : length (all_keys (take (of.k + 1) vt.phases)) ≡ of.first + length pp.phase.keys
-  first_next = let more = keys_more vt.phases of.k pp.phase pp.at in let is = h.opening.first_is in omega (arith, more, is)
+  first_next =
+      let more = keys_more vt.phases of.k pp.phase pp.at in let is = h.opening.first_is in omega (arith, more, is)
 
   counted_next : length w.entries ≤ asked_in vt (take (of.k + 1) vt.phases)
   counted_next =
       let few = made_few (operator_names vt.phases) pp.phase of.first pp.went old w made_named in
       let was = h.opening.counted in
       let more = asked_more vt vt.phases of.k pp.phase pp.at in
-      let same = ap (λ (n : ℕ). asked_below (operator_names vt.phases) n pp.phase (length (operator_names vt.phases) + 1)) h.opening.consoles in
+      let same = ap
+      (λ (n : ℕ). asked_below (operator_names vt.phases) n pp.phase (length (operator_names vt.phases) + 1))
+      h.opening.consoles in
       omega (arith, few, was, more, same)
 
-  pub board_next : (first : ℕ) → first ≡ length (all_keys (take (of.k + 1) vt.phases)) → IsBoard w → name_of w ≡ name_of_board shared → IsBoardBefore vt (of.k + 1) first w
+  pub board_next : (first : ℕ)
+      → first ≡ length (all_keys (take (of.k + 1) vt.phases))
+      → IsBoard w
+      → name_of w ≡ name_of_board shared
+      → IsBoardBefore vt (of.k + 1) first w
   board_next first is board name = record {
     board = board;
     consoles = ap (λ (n : BoardName). n.consoles) name ∙ h.opening.consoles;
@@ -151,16 +183,28 @@ module _ (of : PhaseOf) (shared : SharedBoard) (seats : List BoardSeat) (console
     keys = keys_next;
     parts = subst (λ (n : ℕ). HasPartsUpTo vt (of.k + 1) n w.entries) (sym (is ∙ first_next))
         (subst (λ (l : List VtEntry). HasPartsUpTo vt (of.k + 1) (of.first + length pp.phase.keys) l) (sym adds.added)
-        (parts_more vt of.k of.first pp.phase old.entries adds.part (next_at vt.phases of.k pp.phase pp.at) h.opening.parts adds.is_part));
+        (parts_more vt of.k of.first pp.phase old.entries adds.part (next_at vt.phases of.k pp.phase pp.at)
+        h.opening.parts adds.is_part));
     counted = counted_next;
   }
 
 -- ---- the beginning of a session
 
-board_new : (session : PlainVtSession) → IsWithinKeys session → IsBoard (record { consoles = session.calls.ports; limit = 4194304; entries = [] })
-board_new session within = record { some = within.calls.some_ports; few = within.calls.few_ports; run = tt; within = omega arith; most = omega arith }
+board_new : (session : PlainVtSession)
+    → IsWithinKeys session
+    → IsBoard (record { consoles = session.calls.ports; limit = 4194304; entries = [] })
+board_new session within = record {
+  some = within.calls.some_ports;
+  few = within.calls.few_ports;
+  run = tt;
+  within = omega arith;
+  most = omega arith;
+}
 
-pub board_first : (session : PlainVtSession) (b : BoardState) → IsWithinKeys session → b ≡ record { consoles = session.calls.ports; limit = 4194304; entries = [] } → IsBoardBefore session 0 0 b
+pub board_first : (session : PlainVtSession) (b : BoardState)
+    → IsWithinKeys session
+    → b ≡ record { consoles = session.calls.ports; limit = 4194304; entries = [] }
+    → IsBoardBefore session 0 0 b
 board_first session b within is =
     subst (IsBoardBefore session 0 0) (sym is)
     (record {

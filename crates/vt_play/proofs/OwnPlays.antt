@@ -1,5 +1,6 @@
 -- What the consoles' own threads come to, one console after the other.
-use Rattle.std.proofs.Common.{◌≡◌, ℕ, ◌+◌, ◌<◌, List, [], ◌∷◌, ◌++◌, Option, None, Some, length, refl, sym, subst, ap, ◌∙◌, ◌⊎◌, inl, inr, arith, length-append}
+use Rattle.std.proofs.Common.{◌≡◌, ℕ, ◌+◌, ◌<◌, List, [], ◌∷◌, ◌++◌, Option, None, Some, length}
+use Rattle.std.proofs.Common.{refl, sym, subst, ap, ◌∙◌, ◌⊎◌, inl, inr, arith, length-append}
 use Rattle.std.specs.Prelude.{IfOk, Result, Ok, Err, slice_get}
 use Rattle.std.proofs.lemmas.Option.{slice_get_within}
 use Rattle.one_thread.proofs.PortLemmas.{last_or}
@@ -18,68 +19,123 @@ use Rattle.vt_threads.specs.declared.parting.Casting.{Casting}
 use Rattle.vt_play.specs.declared.stage.Stage.{Stage}
 use Rattle.vt_play.specs.declared.board_threads.BoardHand.{BoardHand}
 use Rattle.vt_play.specs.declared.console_threads.ThreadsBack.{ThreadsBack}
-use Rattle.vt_play.specs.Stages.{BoardComes, CanOwn, CanOwnAt, CanPlayOwn, CanPlayOwns, OwnCameAt, OwnsCame, ThreadsCome}
+use Rattle.vt_play.specs.Stages.{BoardComes, CanOwn, CanOwnAt, CanPlayOwn}
+use Rattle.vt_play.specs.Stages.{CanPlayOwns, OwnCameAt, OwnsCame, ThreadsCome}
 use Rattle.vt_play.proofs.Listing.{same_there, some_is}
 
 -- ---- one console
 
-pub can_own_shared : (port : Option SharedPort) (own : Option OwnSeats) (shared : SharedPort) (seats : OwnSeats) (scripts : List Script) (cast : List (Option Role)) → port ≡ Some shared → own ≡ Some seats
-    → CanOwn port own scripts cast → CanPlayOwn shared seats scripts cast
-can_own_shared port own shared seats scripts cast is are h = subst (λ (o : Option OwnSeats). CanOwn (Some shared) o scripts cast) are (subst (λ (o : Option SharedPort). CanOwn o own scripts cast) is h)
+pub can_own_shared : (port : Option SharedPort) (own : Option OwnSeats) (shared : SharedPort) (seats : OwnSeats)
+    (scripts : List Script) (cast : List (Option Role))
+    → port ≡ Some shared
+    → own ≡ Some seats
+    → CanOwn port own scripts cast
+    → CanPlayOwn shared seats scripts cast
+can_own_shared port own shared seats scripts cast is are h =
+    subst (λ (o : Option OwnSeats). CanOwn (Some shared) o scripts cast) are
+    (subst (λ (o : Option SharedPort). CanOwn o own scripts cast) is h)
 
-pub own_not_shared : (port : Option SharedPort) (own : Option OwnSeats) (scripts : List Script) (cast : List (Option Role)) → port ≡ None → OwnCame port own (plain_cast scripts cast) None
-own_not_shared port own scripts cast is = subst (λ (o : Option SharedPort). OwnCame o own (plain_cast scripts cast) None) (sym is) tt
+pub own_not_shared : (port : Option SharedPort) (own : Option OwnSeats) (scripts : List Script)
+    (cast : List (Option Role))
+    → port ≡ None
+    → OwnCame port own (plain_cast scripts cast) None
+own_not_shared port own scripts cast is =
+    subst (λ (o : Option SharedPort). OwnCame o own (plain_cast scripts cast) None) (sym is) tt
 
-pub own_without : (port : Option SharedPort) (own : Option OwnSeats) (shared : SharedPort) (scripts : List Script) (cast : List (Option Role)) → port ≡ Some shared → own ≡ None → OwnCame port own (plain_cast scripts cast) None
+pub own_without : (port : Option SharedPort) (own : Option OwnSeats) (shared : SharedPort) (scripts : List Script)
+    (cast : List (Option Role))
+    → port ≡ Some shared
+    → own ≡ None
+    → OwnCame port own (plain_cast scripts cast) None
 own_without port own shared scripts cast is none =
-    subst (λ (o : Option SharedPort). OwnCame o own (plain_cast scripts cast) None) (sym is) (subst (λ (o : Option OwnSeats). OwnCame (Some shared) o (plain_cast scripts cast) None) (sym none) tt)
+    subst (λ (o : Option SharedPort). OwnCame o own (plain_cast scripts cast) None) (sym is)
+    (subst (λ (o : Option OwnSeats). OwnCame (Some shared) o (plain_cast scripts cast) None) (sym none) tt)
 
-pub own_came : (port : Option SharedPort) (own : Option OwnSeats) (shared : SharedPort) (seats : OwnSeats) (scripts : List Script) (cast : List (Option Role)) (back : FlusherBack × CallersBack) → port ≡ Some shared → own ≡ Some seats
-    → FlusherComes shared seats.run seats.flusher back.0 → CallersCome shared (plain_cast scripts cast) back.1 → OwnCame port own (plain_cast scripts cast) (Some back)
+pub own_came : (port : Option SharedPort) (own : Option OwnSeats) (shared : SharedPort) (seats : OwnSeats)
+    (scripts : List Script) (cast : List (Option Role)) (back : FlusherBack × CallersBack)
+    → port ≡ Some shared
+    → own ≡ Some seats
+    → FlusherComes shared seats.run seats.flusher back.0
+    → CallersCome shared (plain_cast scripts cast) back.1
+    → OwnCame port own (plain_cast scripts cast) (Some back)
 own_came port own shared seats scripts cast back is are flushed called =
     subst (λ (o : Option SharedPort). OwnCame o own (plain_cast scripts cast) (Some back)) (sym is)
-    (subst (λ (o : Option OwnSeats). OwnCame (Some shared) o (plain_cast scripts cast) (Some back)) (sym are) (record { flushed = flushed; called = called }))
+    (subst (λ (o : Option OwnSeats). OwnCame (Some shared) o (plain_cast scripts cast) (Some back)) (sym are)
+    (record { flushed = flushed; called = called }))
 
 -- what came of the console at a place
-pub own_at : (stage : Stage) (p : ℕ) (own : Option OwnSeats) (back : Option (FlusherBack × CallersBack)) (port : Option SharedPort) (casting : Casting) → slice_get stage.ports.now p ≡ Some port → slice_get stage.castings.now p ≡ Some casting
-    → OwnCame port own (plain_cast stage.scripts.now casting.cast.items) back → OwnCameAt stage p own back
+pub own_at : (stage : Stage) (p : ℕ) (own : Option OwnSeats) (back : Option (FlusherBack × CallersBack))
+    (port : Option SharedPort) (casting : Casting)
+    → slice_get stage.ports.now p ≡ Some port
+    → slice_get stage.castings.now p ≡ Some casting
+    → OwnCame port own (plain_cast stage.scripts.now casting.cast.items) back
+    → OwnCameAt stage p own back
 own_at stage p own back port casting at_port at_casting h port' casting' also_port also_casting =
-    subst (λ (o : Option SharedPort). OwnCame o own (plain_cast stage.scripts.now casting'.cast.items) back) (same_there stage.ports.now p port port' at_port also_port)
-    (subst (λ (c : Casting). OwnCame port own (plain_cast stage.scripts.now c.cast.items) back) (same_there stage.castings.now p casting casting' at_casting also_casting) h)
+    subst (λ (o : Option SharedPort). OwnCame o own (plain_cast stage.scripts.now casting'.cast.items) back)
+    (same_there stage.ports.now p port port' at_port also_port)
+    (subst (λ (c : Casting). OwnCame port own (plain_cast stage.scripts.now c.cast.items) back)
+    (same_there stage.castings.now p casting casting' at_casting also_casting) h)
 
-pub own_at_ok : {E : Type 0} (stage : Stage) (p : ℕ) (own : Option OwnSeats) (r : Result (Option (FlusherBack × CallersBack)) E) (port : Option SharedPort) (casting : Casting) → slice_get stage.ports.now p ≡ Some port → slice_get stage.castings.now p ≡ Some casting
-    → IfOk r (OwnCame port own (plain_cast stage.scripts.now casting.cast.items)) → IfOk r (OwnCameAt stage p own)
-own_at_ok stage p own (Ok back) port casting at_port at_casting h = own_at stage p own back port casting at_port at_casting h
+pub own_at_ok : {E : Type 0} (stage : Stage) (p : ℕ) (own : Option OwnSeats)
+    (r : Result (Option (FlusherBack × CallersBack)) E) (port : Option SharedPort) (casting : Casting)
+    → slice_get stage.ports.now p ≡ Some port
+    → slice_get stage.castings.now p ≡ Some casting
+    → IfOk r (OwnCame port own (plain_cast stage.scripts.now casting.cast.items))
+    → IfOk r (OwnCameAt stage p own)
+own_at_ok stage p own (Ok back) port casting at_port at_casting h =
+    own_at stage p own back port casting at_port at_casting h
 own_at_ok stage p own (Err e) port casting at_port at_casting h = tt
 
 -- ---- consoles one after the other
 
-pub owns_none : (stage : Stage) (owns : List (Option OwnSeats)) (backs : List (Option (FlusherBack × CallersBack))) → owns ≡ [] → backs ≡ [] → OwnsCame stage owns backs
+pub owns_none : (stage : Stage) (owns : List (Option OwnSeats)) (backs : List (Option (FlusherBack × CallersBack)))
+    → owns ≡ []
+    → backs ≡ []
+    → OwnsCame stage owns backs
 owns_none stage owns backs none no_backs = record {
-  count = ap (λ (l : List (Option (FlusherBack × CallersBack))). length l) no_backs ∙ ap (λ (l : List (Option OwnSeats)). length l) (sym none);
-  each = λ p own back at at_back. absurd (nothing p own (ap (λ (l : List (Option OwnSeats)). slice_get l p) (sym none) ∙ at));
+  count =
+      ap (λ (l : List (Option (FlusherBack × CallersBack))). length l) no_backs
+      ∙ ap (λ (l : List (Option OwnSeats)). length l) (sym none);
+  each = λ p own back at at_back.
+      absurd (nothing p own (ap (λ (l : List (Option OwnSeats)). slice_get l p) (sym none) ∙ at));
 }
   where
     nothing : (p : ℕ) (own : Option OwnSeats) → slice_get [] p ≡ Some own → ⊥
     nothing p own h = cc
 
-module _ (stage : Stage) (owns others : List (Option OwnSeats)) (own : Option OwnSeats) (split : owns ≡ others ++ own ∷ []) where
+module _ (stage : Stage) (owns others : List (Option OwnSeats)) (own : Option OwnSeats)
+    (split : owns ≡ others ++ own ∷ []) where
   pub can_last : CanPlayOwns stage owns → CanOwnAt stage (length others) own
   can_last can = each_last (CanOwnAt stage) owns others own split can
 
   pub can_others : CanPlayOwns stage owns → CanPlayOwns stage others
   can_others can = each_front (CanOwnAt stage) owns others own split can
 
-  came_one : (backs : List (Option (FlusherBack × CallersBack))) (back : Option (FlusherBack × CallersBack)) → OwnsCame stage others backs → OwnCameAt stage (length others) own back → (p : ℕ) (x : Option OwnSeats) (y : Option (FlusherBack × CallersBack))
-      → (slice_get others p ≡ Some x) ⊎ ((p ≡ length others) × (Some own ≡ Some x)) → (slice_get backs p ≡ Some y) ⊎ ((p ≡ length backs) × (Some back ≡ Some y)) → OwnCameAt stage p x y
+  came_one : (backs : List (Option (FlusherBack × CallersBack))) (back : Option (FlusherBack × CallersBack))
+      → OwnsCame stage others backs
+      → OwnCameAt stage (length others) own back
+      → (p : ℕ) (x : Option OwnSeats) (y : Option (FlusherBack × CallersBack))
+      → (slice_get others p ≡ Some x) ⊎ ((p ≡ length others) × (Some own ≡ Some x))
+      → (slice_get backs p ≡ Some y) ⊎ ((p ≡ length backs) × (Some back ≡ Some y))
+      → OwnCameAt stage p x y
   came_one backs back h now p x y (inl a) (inl b) = h.each p x y a b
-  came_one backs back h now p x y (inl a) (inr b) = let below = slice_get_within others p x a in let is = b.0 in let count = h.count in absurd (omega (arith, below, is, count))
-  came_one backs back h now p x y (inr a) (inl b) = let below = slice_get_within backs p y b in let is = a.0 in let count = h.count in absurd (omega (arith, below, is, count))
+  came_one backs back h now p x y (inl a) (inr b) =
+      let below = slice_get_within others p x a in
+      let is = b.0 in let count = h.count in absurd (omega (arith, below, is, count))
+  came_one backs back h now p x y (inr a) (inl b) =
+      let below = slice_get_within backs p y b in
+      let is = a.0 in let count = h.count in absurd (omega (arith, below, is, count))
   came_one backs back h now p x y (inr a) (inr b) =
       subst (λ (n : ℕ). OwnCameAt stage n x y) (sym a.0)
-      (subst (λ (o : Option OwnSeats). OwnCameAt stage (length others) o y) (some_is own x a.1) (subst (λ (o : Option (FlusherBack × CallersBack)). OwnCameAt stage (length others) own o) (some_is back y b.1) now))
+      (subst (λ (o : Option OwnSeats). OwnCameAt stage (length others) o y) (some_is own x a.1)
+      (subst (λ (o : Option (FlusherBack × CallersBack)). OwnCameAt stage (length others) own o) (some_is back y b.1)
+      now))
 
-  pub owns_more : (backs now : List (Option (FlusherBack × CallersBack))) (back : Option (FlusherBack × CallersBack)) → now ≡ backs ++ back ∷ [] → OwnsCame stage others backs → OwnCameAt stage (length others) own back → OwnsCame stage owns now
+  pub owns_more : (backs now : List (Option (FlusherBack × CallersBack))) (back : Option (FlusherBack × CallersBack))
+      → now ≡ backs ++ back ∷ []
+      → OwnsCame stage others backs
+      → OwnCameAt stage (length others) own back
+      → OwnsCame stage owns now
   owns_more backs now back added h one = record {
     count =
         let a = ap (λ (l : List (Option (FlusherBack × CallersBack))). length l) added in
@@ -89,12 +145,19 @@ module _ (stage : Stage) (owns others : List (Option OwnSeats)) (own : Option Ow
         let n = h.count in
         omega (arith, a, b, c, d, n);
     each = λ p x y at at_back.
-        came_one backs back h one p x y (last_or others own p x (ap (λ (l : List (Option OwnSeats)). slice_get l p) (sym split) ∙ at))
-        (last_or backs back p y (ap (λ (l : List (Option (FlusherBack × CallersBack))). slice_get l p) (sym added) ∙ at_back));
+        came_one backs back h one p x y
+        (last_or others own p x (ap (λ (l : List (Option OwnSeats)). slice_get l p) (sym split) ∙ at))
+        (last_or backs back p y
+        (ap (λ (l : List (Option (FlusherBack × CallersBack))). slice_get l p) (sym added) ∙ at_back));
   }
 
-  pub owns_ok : {E : Type 0} (hand : BoardHand) (r : Result ThreadsBack E) (back : ThreadsBack) (one : Option (FlusherBack × CallersBack)) → ThreadsCome stage others hand back → OwnCameAt stage (length others) own one
-      → IfOk r (λ x. x.owns.items ≡ back.owns.items ++ one ∷ []) → IfOk r (λ x. x.board ≡ back.board) → IfOk r (ThreadsCome stage owns hand)
+  pub owns_ok : {E : Type 0} (hand : BoardHand) (r : Result ThreadsBack E) (back : ThreadsBack)
+      (one : Option (FlusherBack × CallersBack))
+      → ThreadsCome stage others hand back
+      → OwnCameAt stage (length others) own one
+      → IfOk r (λ x. x.owns.items ≡ back.owns.items ++ one ∷ [])
+      → IfOk r (λ x. x.board ≡ back.board)
+      → IfOk r (ThreadsCome stage owns hand)
   owns_ok hand (Ok now) back one h o added board = record {
     owns = owns_more back.owns.items now.owns.items one added h.owns o;
     board = subst (BoardComes stage hand) (sym board) h.board;

@@ -1,5 +1,6 @@
 -- What the threads of a phase find of a console that was parted for it.
-use Rattle.std.proofs.Common.{◌≡◌, ℕ, ◌+◌, ◌<◌, ◌≤◌, List, [], ◌++◌, false, Option, None, Some, length, map, take, refl, sym, subst, ap, ◌∙◌, arith}
+use Rattle.std.proofs.Common.{◌≡◌, ℕ, ◌+◌, ◌<◌, ◌≤◌, List, [], ◌++◌, false, Option, None}
+use Rattle.std.proofs.Common.{Some, length, map, take, refl, sym, subst, ap, ◌∙◌, arith}
 use Rattle.std.specs.Prelude.{slice_get}
 use Rattle.tty_base.specs.declared.characters.Flagged.{Flagged}
 use Rattle.word_ring.specs.Ends.{PutterState}
@@ -48,9 +49,12 @@ pub record IsReadyPart (session : VtSession) (k n : ℕ) (q : Parted) : Type 0 w
   pub room : q.line.report.arrived + n ≤ q.line.most
   pub ends : CanEndIf q.port q.seats q.end
 
-module _ (session : VtSession) (within : IsWithinKeys (vt_session_of session)) (p : ℕ) (known : p < (vt_session_of session).calls.ports) (k : ℕ) (below : k < length (vt_session_of session).calls.phases)
-    (phase : PlainVtPhase) (at : slice_get (vt_session_of session).phases k ≡ Some phase) (entries : List VtEntry) (before_keys : length (consoles_in entries) ≡ length (all_keys (take k (vt_session_of session).phases)))
-    (c : Console) (before : IsConsoleBefore (vt_session_of session) p k entries c) (q : Parted) (parted : IsParted session.calls p k c q) where
+module _ (session : VtSession) (within : IsWithinKeys (vt_session_of session)) (p : ℕ)
+    (known : p < (vt_session_of session).calls.ports) (k : ℕ) (below : k < length (vt_session_of session).calls.phases)
+    (phase : PlainVtPhase) (at : slice_get (vt_session_of session).phases k ≡ Some phase) (entries : List VtEntry)
+    (before_keys : length (consoles_in entries) ≡ length (all_keys (take k (vt_session_of session).phases)))
+    (c : Console) (before : IsConsoleBefore (vt_session_of session) p k entries c) (q : Parted)
+    (parted : IsParted session.calls p k c q) where
   abbrev vt : PlainVtSession
   vt = vt_session_of session
 
@@ -93,7 +97,8 @@ module _ (session : VtSession) (within : IsWithinKeys (vt_session_of session)) (
     stands = subst (λ (end : PhaseEnd). ConsoleStands scene k old end) end_was (before.stands (part ++ []))
 
     can : CanPlayPhase scene old keyed_work
-    can = can_play_keyed vt within p known k phase at below entries part [] (consoles_in part) refl (all_go p phase.keys) before_keys c.callers old work q.rest.casting.roles.items refl stands refl before.callers
+    can = can_play_keyed vt within p known k phase at below entries part [] (consoles_in part) refl
+        (all_go p phase.keys) before_keys c.callers old work q.rest.casting.roles.items refl stands refl before.callers
         parted.roles_are parted.cast_is
 
     callers_count : length q.rest.casting.cast.items ≡ c.callers
@@ -103,32 +108,55 @@ module _ (session : VtSession) (within : IsWithinKeys (vt_session_of session)) (
     met = record { port = sh.shut.met; putter = q.end; line = old.line; steps = old.steps }
 
     runs : CanRun sh.shared (crew_in sh.dealt old.line q.end keyed_work)
-    runs = can_run scene sh.shared met keyed_work sh.dealt (can_play_met scene old sh.shut.met q.end keyed_work sh.shut.met_is sh.shut.meets can)
+    runs = can_run scene sh.shared met keyed_work sh.dealt
+        (can_play_met scene old sh.shut.met q.end keyed_work sh.shut.met_is sh.shut.meets can)
         (subst (λ (n : ℕ). IsShared n sh.shut.met sh.shared sh.dealt) (sym callers_count) sh.shut.shared)
 
-    plays_own : CanPlayOwn sh.shared (record { flusher = sh.dealt.flusher; run = run; callers = sh.dealt.callers }) (scripts_at session.calls k) q.rest.casting.cast.items
-    plays_own = record { flusher = runs.flusher; seats = runs.callers.seats; count = runs.callers.count; roles = runs.callers.cast }
+    plays_own : CanPlayOwn sh.shared (record { flusher = sh.dealt.flusher; run = run; callers = sh.dealt.callers })
+        (scripts_at session.calls k) q.rest.casting.cast.items
+    plays_own = record {
+      flusher = runs.flusher;
+      seats = runs.callers.seats;
+      count = runs.callers.count;
+      roles = runs.callers.cast;
+    }
 
     ends_line : CanEndLine sh.shared sh.keys q.end
     ends_line = record {
-      here = subst (λ (s : PortSeat). IsHere sh.shared ((name_of_port sh.shared).callers + 1) s) (sym sh.line_seat) runs.line.here;
-      not_over = subst (λ (s : PortSeat). (marks_at (list_seen s)).line_over ≡ false) (sym sh.line_seat) runs.line.not_over;
+      here = subst (λ (s : PortSeat). IsHere sh.shared ((name_of_port sh.shared).callers + 1) s) (sym sh.line_seat)
+          runs.line.here;
+      not_over =
+          subst (λ (s : PortSeat). (marks_at (list_seen s)).line_over ≡ false) (sym sh.line_seat) runs.line.not_over;
       ring = runs.line.ring;
-      sent = subst (λ (s : PortSeat). (marks_at (list_seen s)).sent ≤ length q.end.sent) (sym sh.line_seat) runs.line.sent;
+      sent =
+          subst (λ (s : PortSeat). (marks_at (list_seen s)).sent ≤ length q.end.sent) (sym sh.line_seat) runs.line.sent;
     }
 
     ends_console : CanEndConsole sh.shared sh.keys q.end
-    ends_console = record { line = ends_line; clock = subst (λ (s : PortSeat). CanPlayClock sh.shared s) (sym sh.clock_seat) runs.clock }
+    ends_console = record {
+      line = ends_line;
+      clock = subst (λ (s : PortSeat). CanPlayClock sh.shared s) (sym sh.clock_seat) runs.clock;
+    }
 
     begins_met : CanBegin old.line q.end
     begins_met =
         let b = rests in
-        record { unmasked = b.unmasked; none_waits = b.none_waits; done = b.done; within = b.within; put = runs.line.put }
+        record {
+          unmasked = b.unmasked;
+          none_waits = b.none_waits;
+          done = b.done;
+          within = b.within;
+          put = runs.line.put;
+        }
 
     ready_shared : IsReadyPart session k (length phase.keys) q
     ready_shared = record {
-      own = subst (λ (port : Option SharedPort). CanOwn port q.own (scripts_at session.calls k) q.rest.casting.cast.items) (sym sh.port_is)
-          (subst (λ (own : Option OwnSeats). CanOwn (Some sh.shared) own (scripts_at session.calls k) q.rest.casting.cast.items) (sym sh.own_are) plays_own);
+      own = subst
+          (λ (port : Option SharedPort). CanOwn port q.own (scripts_at session.calls k) q.rest.casting.cast.items)
+          (sym sh.port_is)
+          (subst (λ (own : Option OwnSeats).
+          CanOwn (Some sh.shared) own (scripts_at session.calls k) q.rest.casting.cast.items)
+          (sym sh.own_are) plays_own);
       begins = subst (λ (l : LineState). CanBegin l q.end) (sym sh.shut.line_is) begins_met;
       room = subst (λ (l : LineState). l.report.arrived + length phase.keys ≤ l.most) (sym sh.shut.line_is) fits;
       ends = subst (λ (port : Option SharedPort). CanEndIf port q.seats q.end) (sym sh.port_is)
@@ -139,13 +167,18 @@ module _ (session : VtSession) (within : IsWithinKeys (vt_session_of session)) (
 
   ready_full : IsPartedFull old q → IsReadyPart session k (length phase.keys) q
   ready_full sh = record {
-    own = subst (λ (port : Option SharedPort). CanOwn port q.own (scripts_at session.calls k) q.rest.casting.cast.items) (sym sh.port_is) tt;
-    begins = subst (λ (l : LineState). CanBegin l q.end) (sym sh.line_is) (subst (λ (e : PutterState Flagged). CanBegin old.line e) (sym sh.end_is) rests);
+    own = subst (λ (port : Option SharedPort). CanOwn port q.own (scripts_at session.calls k) q.rest.casting.cast.items)
+        (sym sh.port_is) tt;
+    begins = subst (λ (l : LineState). CanBegin l q.end) (sym sh.line_is)
+        (subst (λ (e : PutterState Flagged). CanBegin old.line e) (sym sh.end_is) rests);
     room = subst (λ (l : LineState). l.report.arrived + length phase.keys ≤ l.most) (sym sh.line_is) fits;
     ends = subst (λ (port : Option SharedPort). CanEndIf port q.seats q.end) (sym sh.port_is) tt;
   }
 
-  ready_by : (end : PhaseEnd) → c.end ≡ end → PartedAs old c.callers ticks end q → IsReadyPart session k (length phase.keys) q
+  ready_by : (end : PhaseEnd)
+      → c.end ≡ end
+      → PartedAs old c.callers ticks end q
+      → IsReadyPart session k (length phase.keys) q
   ready_by (Over run) is sh = ready_shared run is sh
   ready_by Full is sh = ready_full sh
 

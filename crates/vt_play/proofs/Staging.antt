@@ -1,5 +1,6 @@
 -- The threads of a phase can play, once the board is shared and all consoles are parted.
-use Rattle.std.proofs.Common.{◌≡◌, ◌⊎◌, inl, inr, ℕ, zero, suc, ◌+◌, ◌<◌, ◌≤◌, List, [], ◌∷◌, ◌++◌, Option, None, Some, length, map, take, refl, sym, subst, ap, ◌∙◌, arith, length-append, add-one}
+use Rattle.std.proofs.Common.{◌≡◌, ◌⊎◌, inl, inr, ℕ, zero, suc, ◌+◌, ◌<◌, ◌≤◌, List, [], ◌∷◌, ◌++◌, Option, None}
+use Rattle.std.proofs.Common.{Some, length, map, take, refl, sym, subst, ap, ◌∙◌, arith, length-append, add-one}
 use Rattle.std.specs.Prelude.{slice_get}
 use Rattle.std.proofs.lemmas.Option.{slice_get_within}
 use Rattle.journal_check.proofs.NameLemmas.{get_append, get_past}
@@ -37,23 +38,34 @@ use Rattle.vt_play.proofs.Ready.{IsReadyPart, is_ready}
 
 -- ---- the seats of a board that was just shared
 
-fresh_from : (b : SharedBoard) (n : ℕ) (seats : List BoardSeat) → AreHere b (history_of (opening_board b)) n seats → (i : ℕ) (s : BoardSeat) → slice_get seats i ≡ Some s → IsFresh b (n + i) s
+fresh_from : (b : SharedBoard) (n : ℕ) (seats : List BoardSeat)
+    → AreHere b (history_of (opening_board b)) n seats
+    → (i : ℕ) (s : BoardSeat)
+    → slice_get seats i ≡ Some s
+    → IsFresh b (n + i) s
 fresh_from b n [] h i s at = absurd (cc)
 fresh_from b n (x ∷ xs) h zero s at =
     let e : n ≡ n + zero = omega arith in
-    subst (λ (m : ℕ). IsFresh b m s) e (subst (λ (y : BoardSeat). IsFresh b n y) (some_is x s at) (record { here = h.0.0; seen = h.0.1 }))
+    subst (λ (m : ℕ). IsFresh b m s) e
+    (subst (λ (y : BoardSeat). IsFresh b n y) (some_is x s at) (record { here = h.0.0; seen = h.0.1 }))
 fresh_from b n (x ∷ xs) h (suc i) s at =
     let e : (n + 1) + i ≡ n + suc i = omega arith in
     subst (λ (m : ℕ). IsFresh b m s) e (fresh_from b (n + 1) xs h.1 i s at)
 
-pub all_fresh : (b : SharedBoard) (seats : List BoardSeat) → AreHere b (history_of (opening_board b)) 0 seats → (i : ℕ) (s : BoardSeat) → slice_get seats i ≡ Some s → IsFresh b i s
+pub all_fresh : (b : SharedBoard) (seats : List BoardSeat)
+    → AreHere b (history_of (opening_board b)) 0 seats
+    → (i : ℕ) (s : BoardSeat)
+    → slice_get seats i ≡ Some s
+    → IsFresh b i s
 all_fresh b seats h i s at =
     let e : 0 + i ≡ i = omega arith in
     subst (λ (m : ℕ). IsFresh b m s) e (fresh_from b 0 seats h i s at)
 
 -- ---- the keys of the first phases
 
-keys_one : (phases : List PlainVtPhase) (k : ℕ) (phase : PlainVtPhase) → slice_get phases k ≡ Some phase → length (all_keys (take (suc k) phases)) ≡ length (all_keys (take k phases)) + length phase.keys
+keys_one : (phases : List PlainVtPhase) (k : ℕ) (phase : PlainVtPhase)
+    → slice_get phases k ≡ Some phase
+    → length (all_keys (take (suc k) phases)) ≡ length (all_keys (take k phases)) + length phase.keys
 keys_one [] k phase at = absurd (cc)
 keys_one (x ∷ xs) zero phase at =
     let e : length (all_keys (x ∷ [])) ≡ length x.keys + 0 = length-append x.keys [] in
@@ -65,7 +77,9 @@ keys_one (x ∷ xs) (suc k) phase at =
     let b = length-append x.keys (all_keys (take k xs)) in
     omega (arith, r, a, b)
 
-pub keys_more : (phases : List PlainVtPhase) (k : ℕ) (phase : PlainVtPhase) → slice_get phases k ≡ Some phase → length (all_keys (take (k + 1) phases)) ≡ length (all_keys (take k phases)) + length phase.keys
+pub keys_more : (phases : List PlainVtPhase) (k : ℕ) (phase : PlainVtPhase)
+    → slice_get phases k ≡ Some phase
+    → length (all_keys (take (k + 1) phases)) ≡ length (all_keys (take k phases)) + length phase.keys
 keys_more phases k phase at = ap (λ (n : ℕ). length (all_keys (take n phases))) (add-one k) ∙ keys_one phases k phase at
 
 none_front : (k : ℕ) → length (all_keys (take k [])) ≡ 0
@@ -83,7 +97,9 @@ keys_front (x ∷ xs) (suc k) =
 
 -- ---- the parts of all consoles
 
-module _ (of : PhaseOf) (board : SharedBoard) (seats : List BoardSeat) (consoles : List Console) (parts : AllParts) (h : IsStaged of board seats consoles parts) (stage : Stage) (g : IsStageOf of board parts.ports.items parts.castings.items stage) where
+module _ (of : PhaseOf) (board : SharedBoard) (seats : List BoardSeat) (consoles : List Console) (parts : AllParts)
+    (h : IsStaged of board seats consoles parts) (stage : Stage)
+    (g : IsStageOf of board parts.ports.items parts.castings.items stage) where
   abbrev vt : PlainVtSession
   vt = vt_session_of of.session.now
 
@@ -100,10 +116,16 @@ module _ (of : PhaseOf) (board : SharedBoard) (seats : List BoardSeat) (consoles
       let count = h.parted.count in
       let all = h.of_all in
       let c = there consoles p (omega (arith, inside, count)) in
-      is_ready of.session.now h.phase_of.within p (omega (arith, inside, count, all)) of.k h.phase_of.below phase g.phase_is (opening_board board).entries h.opening.keys c.0 (h.before p c.0 c.1) q (h.parted.each p c.0 q c.1 at)
+      is_ready of.session.now h.phase_of.within p (omega (arith, inside, count, all)) of.k h.phase_of.below phase
+      g.phase_is (opening_board board).entries h.opening.keys c.0 (h.before p c.0 c.1) q (h.parted.each p c.0 q c.1 at)
 
-  part_at : {Y : Type 0} (f : Parted → Y) (ys : List Y) (p : ℕ) (y : Y) → ys ≡ map f qs → slice_get ys p ≡ Some y → (q : Parted) × (slice_get qs p ≡ Some q)
-  part_at f ys p y is at = let inside = slice_get_within ys p y at in let size = column_length f ys qs is in there qs p (omega (arith, inside, size))
+  part_at : {Y : Type 0} (f : Parted → Y) (ys : List Y) (p : ℕ) (y : Y)
+      → ys ≡ map f qs
+      → slice_get ys p ≡ Some y
+      → (q : Parted) × (slice_get qs p ≡ Some q)
+  part_at f ys p y is at =
+      let inside = slice_get_within ys p y at in
+      let size = column_length f ys qs is in there qs p (omega (arith, inside, size))
 
   -- ---- the consoles' own threads
 
@@ -123,10 +145,15 @@ module _ (of : PhaseOf) (board : SharedBoard) (seats : List BoardSeat) (consoles
         port = omega (arith, inside, ports);
         casting = omega (arith, inside, castings);
         can = λ port casting at_port at_casting.
-            subst (λ (x : Option SharedPort). CanOwn x own stage.scripts.now casting.cast.items) (sym (column_is (λ (q : Parted). q.port) stage.ports.now qs p q.0 port ports_are q.1 at_port))
-            (subst (λ (x : Option OwnSeats). CanOwn q.0.port x stage.scripts.now casting.cast.items) (sym (column_is (λ (q : Parted). q.own) parts.owns.items qs p q.0 own h.parted.parts.owns q.1 at))
-            (subst (λ (x : Casting). CanOwn q.0.port q.0.own stage.scripts.now x.cast.items) (sym (column_is (λ (q : Parted). q.rest.casting) stage.castings.now qs p q.0 casting castings_are q.1 at_casting))
-            (subst (λ (x : List Script). CanOwn q.0.port q.0.own x q.0.rest.casting.cast.items) (sym g.scripts_are) (ready_at p q.0 q.1).own)));
+            subst (λ (x : Option SharedPort). CanOwn x own stage.scripts.now casting.cast.items)
+            (sym (column_is (λ (q : Parted). q.port) stage.ports.now qs p q.0 port ports_are q.1 at_port))
+            (subst (λ (x : Option OwnSeats). CanOwn q.0.port x stage.scripts.now casting.cast.items)
+            (sym (column_is (λ (q : Parted). q.own) parts.owns.items qs p q.0 own h.parted.parts.owns q.1 at))
+            (subst (λ (x : Casting). CanOwn q.0.port q.0.own stage.scripts.now x.cast.items)
+            (sym (column_is (λ (q : Parted). q.rest.casting) stage.castings.now
+            qs p q.0 casting castings_are q.1 at_casting))
+            (subst (λ (x : List Script). CanOwn q.0.port q.0.own x q.0.rest.casting.cast.items) (sym g.scripts_are)
+            (ready_at p q.0 q.1).own)));
       }
 
   -- ---- the keyboard
@@ -134,7 +161,8 @@ module _ (of : PhaseOf) (board : SharedBoard) (seats : List BoardSeat) (consoles
   count_of : {Y : Type 0} (f : Parted → Y) (ys : List Y) → ys ≡ map f qs → length ys ≡ (opening_board board).consoles
   count_of f ys is = column_length f ys qs is ∙ (h.parted.count ∙ (h.of_all ∙ sym h.opening.consoles))
 
-  can_key_all : CanKeyAll (opening_board board).consoles (length phase.keys) stage.ports.now parts.keyboard.seats.items parts.keyboard.keyed.lines.items parts.keyboard.keyed.ends.items
+  can_key_all : CanKeyAll (opening_board board).consoles (length phase.keys) stage.ports.now parts.keyboard.seats.items
+      parts.keyboard.keyed.lines.items parts.keyboard.keyed.ends.items
   can_key_all = record {
     ports_of = count_of (λ (q : Parted). q.port) stage.ports.now ports_are;
     seats_of = count_of (λ (q : Parted). q.seats) parts.keyboard.seats.items h.parted.parts.seats;
@@ -142,16 +170,28 @@ module _ (of : PhaseOf) (board : SharedBoard) (seats : List BoardSeat) (consoles
     ends_of = count_of (λ (q : Parted). q.end) parts.keyboard.keyed.ends.items h.parted.parts.ends;
     begins = λ p l e at_l at_e.
         let q = part_at (λ (q : Parted). q.line) parts.keyboard.keyed.lines.items p l h.parted.parts.lines at_l in
-        subst (λ (x : LineState). CanBegin x e) (sym (column_is (λ (q : Parted). q.line) parts.keyboard.keyed.lines.items qs p q.0 l h.parted.parts.lines q.1 at_l))
-        (subst (λ (x : PutterState Flagged). CanBegin q.0.line x) (sym (column_is (λ (q : Parted). q.end) parts.keyboard.keyed.ends.items qs p q.0 e h.parted.parts.ends q.1 at_e)) (ready_at p q.0 q.1).begins);
+        subst (λ (x : LineState). CanBegin x e) (sym
+        (column_is (λ (q : Parted). q.line) parts.keyboard.keyed.lines.items qs p q.0 l h.parted.parts.lines q.1 at_l))
+        (subst (λ (x : PutterState Flagged). CanBegin q.0.line x)
+        (sym
+        (column_is (λ (q : Parted). q.end) parts.keyboard.keyed.ends.items qs p q.0 e h.parted.parts.ends q.1 at_e))
+        (ready_at p q.0 q.1).begins);
     room = λ p l at_l.
         let q = part_at (λ (q : Parted). q.line) parts.keyboard.keyed.lines.items p l h.parted.parts.lines at_l in
-        subst (λ (x : LineState). x.report.arrived + length phase.keys ≤ x.most) (sym (column_is (λ (q : Parted). q.line) parts.keyboard.keyed.lines.items qs p q.0 l h.parted.parts.lines q.1 at_l)) (ready_at p q.0 q.1).room;
+        subst (λ (x : LineState). x.report.arrived + length phase.keys ≤ x.most)
+        (sym
+        (column_is (λ (q : Parted). q.line) parts.keyboard.keyed.lines.items qs p q.0 l h.parted.parts.lines q.1 at_l))
+        (ready_at p q.0 q.1).room;
     can_end = λ p port s e at_port at_s at_e.
         let q = part_at (λ (q : Parted). q.port) stage.ports.now p port ports_are at_port in
-        subst (λ (x : Option SharedPort). CanEndIf x s e) (sym (column_is (λ (q : Parted). q.port) stage.ports.now qs p q.0 port ports_are q.1 at_port))
-        (subst (λ (x : Option KeySeats). CanEndIf q.0.port x e) (sym (column_is (λ (q : Parted). q.seats) parts.keyboard.seats.items qs p q.0 s h.parted.parts.seats q.1 at_s))
-        (subst (λ (x : PutterState Flagged). CanEndIf q.0.port q.0.seats x) (sym (column_is (λ (q : Parted). q.end) parts.keyboard.keyed.ends.items qs p q.0 e h.parted.parts.ends q.1 at_e)) (ready_at p q.0 q.1).ends));
+        subst (λ (x : Option SharedPort). CanEndIf x s e)
+        (sym (column_is (λ (q : Parted). q.port) stage.ports.now qs p q.0 port ports_are q.1 at_port))
+        (subst (λ (x : Option KeySeats). CanEndIf q.0.port x e)
+        (sym (column_is (λ (q : Parted). q.seats) parts.keyboard.seats.items qs p q.0 s h.parted.parts.seats q.1 at_s))
+        (subst (λ (x : PutterState Flagged). CanEndIf q.0.port q.0.seats x)
+        (sym
+        (column_is (λ (q : Parted). q.end) parts.keyboard.keyed.ends.items qs p q.0 e h.parted.parts.ends q.1 at_e))
+        (ready_at p q.0 q.1).ends));
   }
 
   -- ---- the board
@@ -166,7 +206,11 @@ module _ (of : PhaseOf) (board : SharedBoard) (seats : List BoardSeat) (consoles
       let is = g.first_is in
       omega (arith, more, few, most, first, is)
 
-  pub can_board : (others : List BoardSeat) (seat : BoardSeat) (hand : BoardHand) → seats ≡ others ++ seat ∷ [] → hand.seats.items ≡ others → hand.keys ≡ record { seat = seat; keyboard = parts.keyboard } → CanPlayBoard stage hand
+  pub can_board : (others : List BoardSeat) (seat : BoardSeat) (hand : BoardHand)
+      → seats ≡ others ++ seat ∷ []
+      → hand.seats.items ≡ others
+      → hand.keys ≡ record { seat = seat; keyboard = parts.keyboard }
+      → CanPlayBoard stage hand
   can_board others seat hand split seats_are keys_are =
       let size = length-append others (seat ∷ []) in
       let whole = ap (λ (l : List BoardSeat). length l) split in
@@ -180,12 +224,19 @@ module _ (of : PhaseOf) (board : SharedBoard) (seats : List BoardSeat) (consoles
         count = let e = ap (λ (l : List BoardSeat). length l) seats_are in omega (arith, e, number);
         seats = λ i s at.
             subst (λ (b : SharedBoard). IsFresh b i s) (sym g.board_is)
-            (fresh i s (ap (λ (l : List BoardSeat). slice_get l i) split ∙ get_append others (seat ∷ []) i s (ap (λ (l : List BoardSeat). slice_get l i) (sym seats_are) ∙ at)));
+            (fresh i s
+            (ap (λ (l : List BoardSeat). slice_get l i) split
+            ∙ get_append others (seat ∷ []) i s (ap (λ (l : List BoardSeat). slice_get l i) (sym seats_are) ∙ at)));
         keys = subst (CanKey stage) (sym keys_are) (record {
           fresh = subst (λ (b : SharedBoard). IsFresh b (length stage.names.now) seat) (sym g.board_is)
-              (subst (λ (n : ℕ). IsFresh board n seat) number (fresh (length others) seat (ap (λ (l : List BoardSeat). slice_get l (length others)) split ∙ get_past others (seat ∷ []) (length others) 0 (omega arith))));
+              (subst (λ (n : ℕ). IsFresh board n seat) number
+              (fresh (length others) seat
+              (ap (λ (l : List BoardSeat). slice_get l (length others)) split
+              ∙ get_past others (seat ∷ []) (length others) 0 (omega arith))));
           few = omega (arith, names, few, all);
           indexes = indexes;
-          can = subst (λ (b : SharedBoard). CanKeyAll (opening_board b).consoles (length phase.keys) stage.ports.now parts.keyboard.seats.items parts.keyboard.keyed.lines.items parts.keyboard.keyed.ends.items) (sym g.board_is) can_key_all;
+          can = subst (λ (b : SharedBoard). CanKeyAll (opening_board b).consoles (length phase.keys) stage.ports.now
+              parts.keyboard.seats.items parts.keyboard.keyed.lines.items parts.keyboard.keyed.ends.items)
+              (sym g.board_is) can_key_all;
         });
       }

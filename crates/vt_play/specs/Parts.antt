@@ -40,7 +40,10 @@ pub record ArePartedAll (calls : Session) (k : ℕ) (consoles : List Console) (a
   pub qs : List Parted
   pub parts : ArePartsOf qs all
   pub count : length qs ≡ length consoles
-  pub each : (p : ℕ) (c : Console) (q : Parted) → slice_get consoles p ≡ Some c → slice_get qs p ≡ Some q → IsParted calls p k c q
+  pub each : (p : ℕ) (c : Console) (q : Parted)
+      → slice_get consoles p ≡ Some c
+      → slice_get qs p ≡ Some q
+      → IsParted calls p k c q
 
 pub record AreBackOf (bs : List PartedBack) (all : AllBack) : Type 0 where
   pub ports : all.ports.items ≡ map (λ (b : PartedBack). b.port) bs
@@ -69,4 +72,5 @@ CanEndAll consoles = Places (λ p (c : Console). CanEnd c.station c.end) console
 
 -- each console stands at the end of its port's session
 abbrev pub StandAtEnd : PlainSession → List Console → Type 0
-StandAtEnd x consoles = Places (λ p (c : Console). StandsBefore (record { port = p; session = x }) (length x.phases) c.station c.end) consoles
+StandAtEnd x consoles = Places
+    (λ p (c : Console). StandsBefore (record { port = p; session = x }) (length x.phases) c.station c.end) consoles

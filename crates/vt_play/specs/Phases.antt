@@ -1,5 +1,6 @@
 -- A phase of all consoles and of their board, from its beginning to the beginning of the next.
-use Rattle.std.specs.Prelude.{◌≡◌, ℕ, ◌+◌, ◌<◌, ◌≤◌, ◌==◌, zero, suc, List, [], ◌∷◌, Option, Some, Ok, IfErr, OnOk, flat_map, if◌then◌else◌, length, slice_get, take}
+use Rattle.std.specs.Prelude.{◌≡◌, ℕ, ◌+◌, ◌<◌, ◌≤◌, ◌==◌, zero, suc, List, [], ◌∷◌, Option, Some}
+use Rattle.std.specs.Prelude.{Ok, IfErr, OnOk, flat_map, if◌then◌else◌, length, slice_get, take}
 use Rattle.tty_calls.specs.declared.answers.Denied.{Denied}
 use Rattle.tty_calls.specs.declared.answers.Denied.TheVariants.{Full, NoMemory}
 use Rattle.one_thread.specs.Casting.{scripts_at}
@@ -42,7 +43,8 @@ use Rattle.vt_play.specs.Stages.{SomeDenied}
 -- those that a phase asks of a seat, and of the seats below this number
 abbrev pub asked_of : (names : List (List ℕ)) → (consoles : ℕ) → PlainVtPhase → (seat : ℕ) → ℕ
 asked_of names consoles phase seat =
-    length (flat_map (accepted consoles) (calls_at names seat phase)) + (if length names == seat then length phase.keys else 0)
+    length (flat_map (accepted consoles) (calls_at names seat phase))
+    + (if length names == seat then length phase.keys else 0)
 
 abbrev pub asked_below : (names : List (List ℕ)) → (consoles : ℕ) → PlainVtPhase → (seats : ℕ) → ℕ
 asked_below names consoles phase zero = 0
@@ -51,7 +53,9 @@ asked_below names consoles phase (suc n) = asked_below names consoles phase n + 
 -- those that phases of a session ask for
 abbrev pub asked_in : PlainVtSession → List PlainVtPhase → ℕ
 asked_in session [] = 0
-asked_in session (phase ∷ phases) = asked_below (operator_names session.phases) session.calls.ports phase (length (operator_names session.phases) + 1) + asked_in session phases
+asked_in session (phase ∷ phases) =
+    asked_below (operator_names session.phases) session.calls.ports phase (length (operator_names session.phases) + 1)
+    + asked_in session phases
 
 -- ---- between two phases
 
@@ -87,7 +91,8 @@ pub record IsPhaseOf (of : PhaseOf) : Type 0 where
   pub names_are : of.names.now ≡ operator_names (vt_session_of of.session.now).phases
 
 -- the board is shared, and the consoles are in their parts
-pub record IsStaged (of : PhaseOf) (board : SharedBoard) (seats : List BoardSeat) (consoles : List Console) (parts : AllParts) : Type 0 where
+pub record IsStaged (of : PhaseOf) (board : SharedBoard) (seats : List BoardSeat) (consoles : List Console)
+    (parts : AllParts) : Type 0 where
   pub phase_of : IsPhaseOf of
   pub opening : IsBoardBefore (vt_session_of of.session.now) of.k of.first (opening_board board)
   pub seats_are : seats_of board ≡ length of.names.now + 1
@@ -100,7 +105,8 @@ pub record IsStaged (of : PhaseOf) (board : SharedBoard) (seats : List BoardSeat
 abbrev pub CanPlayParts : PhaseOf → SharedBoard → List BoardSeat → AllParts → Type 0
 CanPlayParts of board seats parts = (consoles : List Console) × IsStaged of board seats consoles parts
 
-pub record IsStageOf (of : PhaseOf) (board : SharedBoard) (ports : List (Option SharedPort)) (castings : List Casting) (stage : Stage) : Type 0 where
+pub record IsStageOf (of : PhaseOf) (board : SharedBoard) (ports : List (Option SharedPort)) (castings : List Casting)
+    (stage : Stage) : Type 0 where
   pub board_is : stage.board.now ≡ board
   pub ports_are : stage.ports.now ≡ ports
   pub castings_are : stage.castings.now ≡ castings
@@ -122,7 +128,10 @@ pub record AllCame (session : VtSession) (k : ℕ) (keys went : List ℕ) (qs : 
   pub bs : List PartedBack
   pub back : AreBackOf bs all
   pub count : length bs ≡ length qs
-  pub each : (p : ℕ) (q : Parted) (b : PartedBack) → slice_get qs p ≡ Some q → slice_get bs p ≡ Some b → CameBack session k p keys went q b
+  pub each : (p : ℕ) (q : Parted) (b : PartedBack)
+      → slice_get qs p ≡ Some q
+      → slice_get bs p ≡ Some b
+      → CameBack session k p keys went q b
 
 -- the phase was played, on the board and on each console
 pub record PhasePlayed (of : PhaseOf) (board : SharedBoard) (qs : List Parted) (back : PhaseBack) : Type 0 where
@@ -142,7 +151,9 @@ pub record PhaseLeaves (of : PhaseOf) (board : SharedBoard) (parts : AllParts) (
   pub here : EachSeat (λ s. IsHere board (number_of s) s) back.seats.items
   pub all : HasAll (seats_of board) back.seats.items
   pub played : OnOk back.made ((qs : List Parted) → ArePartsOf qs parts → PhasePlayed of board qs back)
-  pub begun : (phase : PlainVtPhase) → slice_get (vt_session_of of.session.now).phases of.k ≡ Some phase → EachSeat (HasBegun of.names.now phase board) back.seats.items
+  pub begun : (phase : PlainVtPhase)
+      → slice_get (vt_session_of of.session.now).phases of.k ≡ Some phase
+      → EachSeat (HasBegun of.names.now phase board) back.seats.items
   pub denied : IfErr back.made (SomeDenied board back.seats.items)
 
 -- ---- the end of a phase
@@ -154,4 +165,5 @@ pub record IsClosed (shared : SharedBoard) (back : PhaseBack) (board : BoardStat
   pub all_are : all ≡ back.all
   pub made : back.made ≡ Ok tt
   pub phase : (names : List (List ℕ)) (phase : PlainVtPhase) (first : ℕ) (went : List ℕ)
-      → SeatsPlayed names phase first went shared back.seats.items → PhaseMade names phase first went (opening_board shared) board
+      → SeatsPlayed names phase first went shared back.seats.items
+      → PhaseMade names phase first went (opening_board shared) board

@@ -1,5 +1,6 @@
 -- What the threads of a phase need, and what comes of them: the consoles' own, the operators' and the keyboard's.
-use Rattle.std.specs.Prelude.{◌≡◌, ℕ, ◌+◌, ◌<◌, ◌≤◌, ◌^◌, List, [], ◌∷◌, ◌++◌, Option, None, Some, Result, Ok, Err, IfErr, OnErr, OnOk, flat_map, length, slice_get}
+use Rattle.std.specs.Prelude.{◌≡◌, ℕ, ◌+◌, ◌<◌, ◌≤◌, ◌^◌, List, [], ◌∷◌, ◌++◌, Option, None, Some}
+use Rattle.std.specs.Prelude.{Result, Ok, Err, IfErr, OnErr, OnOk, flat_map, length, slice_get}
 use Rattle.tty_calls.specs.declared.answers.Denied.{Denied}
 use Rattle.tty_calls.specs.declared.sessions.Script.{Script}
 use Rattle.tty_port.specs.Shared as ports
@@ -50,10 +51,12 @@ pub record OperatorBegan (b : SharedBoard) (names : List (List ℕ)) (phase : Pl
   pub made : MadeSince (history_of (opening_board b)) s events
   pub few : length events ≤ length (flat_map (accepted (opening_board b).consoles) (calls_at names (number_of s) phase))
 
-pub record OperatorComes (b : SharedBoard) (names : List (List ℕ)) (phase : PlainVtPhase) (n : ℕ) (back : OperatorBack) : Type 0 where
+pub record OperatorComes (b : SharedBoard) (names : List (List ℕ)) (phase : PlainVtPhase) (n : ℕ)
+    (back : OperatorBack) : Type 0 where
   pub here : IsHere b n back.seat
   pub began : OperatorBegan b names phase back.seat
-  pub ok : OnOk back.result (OperatorPlayed (opening_board b).consoles names phase (history_of (opening_board b)) back.seat)
+  pub ok : OnOk back.result
+      (OperatorPlayed (opening_board b).consoles names phase (history_of (opening_board b)) back.seat)
   pub denied : IfErr back.result (IsDeniedAt b back.seat)
 
 -- ---- the keyboard
@@ -63,17 +66,21 @@ pub record CanKey (stage : Stage) (hand : KeyHand) : Type 0 where
   pub fresh : IsFresh stage.board.now (length stage.names.now) hand.seat
   pub few : length stage.names.now < 4096
   pub indexes : stage.first + length (vt_phase_of stage.phase.now).keys < 2 ^ 32
-  pub can : CanKeyAll (name_of_board stage.board.now).consoles (length (vt_phase_of stage.phase.now).keys) stage.ports.now hand.keyboard.seats.items hand.keyboard.keyed.lines.items hand.keyboard.keyed.ends.items
+  pub can : CanKeyAll (name_of_board stage.board.now).consoles (length (vt_phase_of stage.phase.now).keys)
+      stage.ports.now hand.keyboard.seats.items hand.keyboard.keyed.lines.items hand.keyboard.keyed.ends.items
 
 abbrev pub PlaysKeys : Stage → KeyHand → KeyHand → Type 0
 PlaysKeys stage old new =
-    PlaysKeyboard (length stage.names.now) stage.first (vt_phase_of stage.phase.now).keys old.seat new.seat stage.ports.now
-    old.keyboard.seats.items new.keyboard.seats.items old.keyboard.keyed.lines.items new.keyboard.keyed.lines.items old.keyboard.keyed.ends.items new.keyboard.keyed.ends.items
+    PlaysKeyboard (length stage.names.now) stage.first (vt_phase_of stage.phase.now).keys
+    old.seat new.seat stage.ports.now
+    old.keyboard.seats.items new.keyboard.seats.items old.keyboard.keyed.lines.items new.keyboard.keyed.lines.items
+    old.keyboard.keyed.ends.items new.keyboard.keyed.ends.items
 
 abbrev pub PlaysFirstKeys : Stage → KeyHand → KeyHand → Type 0
 PlaysFirstKeys stage old new =
     PlaysFirst (length stage.names.now) stage.first (vt_phase_of stage.phase.now).keys old.seat new.seat stage.ports.now
-    old.keyboard.seats.items new.keyboard.seats.items old.keyboard.keyed.lines.items new.keyboard.keyed.lines.items old.keyboard.keyed.ends.items new.keyboard.keyed.ends.items
+    old.keyboard.seats.items new.keyboard.seats.items old.keyboard.keyed.lines.items new.keyboard.keyed.lines.items
+    old.keyboard.keyed.ends.items new.keyboard.keyed.ends.items
 
 pub record KeyboardComes (stage : Stage) (old : KeyHand) (back : KeyBack) : Type 0 where
   pub here : IsHere stage.board.now (length stage.names.now) back.hand.seat
@@ -98,7 +105,8 @@ pub record IsOperatorBack (stage : Stage) (n : ℕ) (s : BoardSeat) : Type 0 whe
   pub began : OperatorBegan stage.board.now stage.names.now (vt_phase_of stage.phase.now) s
 
 abbrev pub HasOperated : Stage → ℕ → BoardSeat → Type 0
-HasOperated stage n s = OperatorPlayed (opening_board stage.board.now).consoles stage.names.now (vt_phase_of stage.phase.now) (history_of (opening_board stage.board.now)) s
+HasOperated stage n s = OperatorPlayed (opening_board stage.board.now).consoles stage.names.now
+    (vt_phase_of stage.phase.now) (history_of (opening_board stage.board.now)) s
 
 -- one of these seats was denied an entry
 pub record SomeDenied (b : SharedBoard) (seats : List BoardSeat) (denied : Denied) : Type 0 where
@@ -127,7 +135,8 @@ pub record IsWithOperator (back : BoardBack) (one : OperatorBack) (now : BoardBa
 -- ---- the consoles' own threads
 
 -- the flusher and the callers can play from these seats
-pub record CanPlayOwn (p : SharedPort) (own : OwnSeats) (scripts : List Script) (cast : List (Option Role)) : Type 0 where
+pub record CanPlayOwn (p : SharedPort) (own : OwnSeats) (scripts : List Script)
+    (cast : List (Option Role)) : Type 0 where
   pub flusher : CanPlayFlusher p own.run own.flusher
   pub seats : ports.AreHere p (ports.opening_history p) 0 own.callers.items
   pub count : length own.callers.items ≡ length cast
@@ -142,21 +151,32 @@ CanOwn (Some p) (Some own) scripts cast = CanPlayOwn p own scripts cast
 pub record CanOwnAt (stage : Stage) (p : ℕ) (own : Option OwnSeats) : Type 0 where
   pub port : p < length stage.ports.now
   pub casting : p < length stage.castings.now
-  pub can : (port : Option SharedPort) (casting : Casting) → slice_get stage.ports.now p ≡ Some port → slice_get stage.castings.now p ≡ Some casting → CanOwn port own stage.scripts.now casting.cast.items
+  pub can : (port : Option SharedPort) (casting : Casting)
+      → slice_get stage.ports.now p ≡ Some port
+      → slice_get stage.castings.now p ≡ Some casting
+      → CanOwn port own stage.scripts.now casting.cast.items
 
 abbrev pub OwnCameAt : Stage → (p : ℕ) → Option OwnSeats → Option (FlusherBack × CallersBack) → Type 0
 OwnCameAt stage p own back =
-    (port : Option SharedPort) (casting : Casting) → slice_get stage.ports.now p ≡ Some port → slice_get stage.castings.now p ≡ Some casting → OwnCame port own (plain_cast stage.scripts.now casting.cast.items) back
+    (port : Option SharedPort) (casting : Casting)
+    → slice_get stage.ports.now p ≡ Some port
+    → slice_get stage.castings.now p ≡ Some casting
+    → OwnCame port own (plain_cast stage.scripts.now casting.cast.items) back
 
 -- ---- all threads
 
 abbrev pub CanPlayOwns : Stage → List (Option OwnSeats) → Type 0
 CanPlayOwns stage owns = Places (CanOwnAt stage) owns
 
-pub record OwnsCame (stage : Stage) (owns : List (Option OwnSeats)) (backs : List (Option (FlusherBack × CallersBack))) : Type 0 where
+pub record OwnsCame (stage : Stage) (owns : List (Option OwnSeats))
+    (backs : List (Option (FlusherBack × CallersBack))) : Type 0 where
   pub count : length backs ≡ length owns
-  pub each : (p : ℕ) (own : Option OwnSeats) (back : Option (FlusherBack × CallersBack)) → slice_get owns p ≡ Some own → slice_get backs p ≡ Some back → OwnCameAt stage p own back
+  pub each : (p : ℕ) (own : Option OwnSeats) (back : Option (FlusherBack × CallersBack))
+      → slice_get owns p ≡ Some own
+      → slice_get backs p ≡ Some back
+      → OwnCameAt stage p own back
 
-pub record ThreadsCome (stage : Stage) (dealt : List (Option OwnSeats)) (hand : BoardHand) (back : ThreadsBack) : Type 0 where
+pub record ThreadsCome (stage : Stage) (dealt : List (Option OwnSeats)) (hand : BoardHand)
+    (back : ThreadsBack) : Type 0 where
   pub owns : OwnsCame stage dealt back.owns.items
   pub board : BoardComes stage hand back.board

@@ -57,7 +57,8 @@ pub fn operator_thread<R: Wait>(
     number: u32,
 ) -> Result<OperatorBack, NoMemory>
     requires { IsFresh stage.board.now number seat }
-    ensures { IfOk result (OperatorComes stage.entry.board.now stage.entry.names.now (vt_phase_of stage.entry.phase.now) number) }
+    ensures { IfOk result
+        (OperatorComes stage.entry.board.now stage.entry.names.now (vt_phase_of stage.entry.phase.now) number) }
 {
     stage.start.wait(rt)?;
     let operators = stage.phase.operators.as_slice();

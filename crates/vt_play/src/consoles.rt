@@ -47,7 +47,9 @@ pub fn open_all(alloc: Global, session: &VtSession) -> Result<Vec<Console>, NoMe
 /// Ends a console: it is hung up, unless its journal is full.
 fn end_console(console: Console) -> Result<(PortRun, PortEnd), NoMemory>
     requires { CanEnd console.station console.end }
-    ensures { (s : Scene) → StandsBefore s (length s.session.phases) console.station console.end → IfOk result (λ played. IsPlayedOn s.port s.session played.0 played.1) }
+    ensures { (s : Scene)
+        → StandsBefore s (length s.session.phases) console.station console.end
+        → IfOk result (λ played. IsPlayedOn s.port s.session played.0 played.1) }
 {
     let Console {
         names: _,
@@ -70,7 +72,10 @@ fn end_console(console: Console) -> Result<(PortRun, PortEnd), NoMemory>
 /// Ends all consoles.
 pub fn end_all(alloc: Global, consoles: Vec<Console>) -> Result<Played, NoMemory>
     requires { CanEndAll consoles.items }
-    ensures { (x : PlainSession) → length consoles.items ≡ x.ports → StandAtEnd x consoles.items → IfOk result (λ played. ArePlayed x played.runs.items played.ends.items) }
+    ensures { (x : PlainSession)
+        → length consoles.items ≡ x.ports
+        → StandAtEnd x consoles.items
+        → IfOk result (λ played. ArePlayed x played.runs.items played.ends.items) }
 {
     let count = consoles.len();
     let mut runs = Buffer::new(alloc);

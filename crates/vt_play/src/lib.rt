@@ -1,6 +1,6 @@
-//! What a session of consoles played on threads is made of: its beginning and its end, the operators' and the keyboard's
-//! part of a phase, what its threads bring back, and the end of the board's sharing. The player, which starts these
-//! threads phase by phase, is not here yet.
+//! What a session of consoles played on threads is made of: its beginning and its end, the operators' and the
+//! keyboard's part of a phase, what its threads bring back, and the end of the board's sharing. The player, which
+//! starts these threads phase by phase, is not here yet.
 #![tactic(auto)]
 
 mod board_threads;

@@ -9,7 +9,8 @@ ghost use Rattle.vt_text.specs.Sessions.{PlainVtPhase, vt_session_of};
 ghost use Rattle.vt_account.specs.Keyed.{all_keys};
 ghost use Rattle.vt_play.specs.declared.parts.AllParts.{AllParts};
 ghost use Rattle.vt_play.specs.Stages.{SomeDenied, first_denied};
-ghost use Rattle.vt_play.specs.Phases.{HasBegun, IsBoardBefore, IsClosed, IsDeniedIn, IsPhaseOf, IsStageOf, PhaseLeaves};
+ghost use Rattle.vt_play.specs.Phases.{HasBegun, IsBoardBefore, IsClosed, IsDeniedIn};
+ghost use Rattle.vt_play.specs.Phases.{IsPhaseOf, IsStageOf, PhaseLeaves};
 
 use crate::board_threads::{BoardBack, KeyBack, KeyHand};
 use crate::console_threads::ThreadsBack;
@@ -74,7 +75,15 @@ pub fn take_together(
 ) -> Result<PhaseBack, NoMemory>
     ensures seats { IfOk result (λ r. r.seats.items ≡ back.board.seats.items ++ back.board.keys.hand.seat ∷ []) }
     ensures made { IfOk result (λ r. r.made ≡ first_denied back.board.operated back.board.keys.result) }
-    ensures all { IfOk result (λ r. r.all ≡ record { ports = ports; keyboard = back.board.keys.hand.keyboard; owns = back.owns; castings = castings; kept = kept }) }
+    ensures all { IfOk result (λ r.
+        r.all
+        ≡ record {
+          ports = ports;
+          keyboard = back.board.keys.hand.keyboard;
+          owns = back.owns;
+          castings = castings;
+          kept = kept;
+        }) }
 {
     let ThreadsBack { owns, board } = back;
     let BoardBack {
@@ -104,10 +113,14 @@ fn end_denied(of: PhaseOf<'_>, shared: SharedBoard, seats: Vec<Seat>, denied: De
     requires here { EachSeat (λ s. IsHere shared (number_of s) s) seats.items }
     requires all { HasAll (seats_of shared) seats.items }
     ensures same { result ≡ denied }
-    ensures denied { IsBoardBefore (vt_session_of of.entry.session.now) of.entry.k of.entry.first (opening_board shared) → IsPhaseOf of.entry
+    ensures denied { IsBoardBefore (vt_session_of of.entry.session.now) of.entry.k of.entry.first (opening_board shared)
+        → IsPhaseOf of.entry
         → seats_of shared ≡ length of.entry.names.now + 1
-        → ((phase : PlainVtPhase) → slice_get (vt_session_of of.entry.session.now).phases of.entry.k ≡ Some phase → EachSeat (HasBegun of.entry.names.now phase shared) seats.items)
-        → SomeDenied shared seats.items denied → IsDeniedIn (vt_session_of of.entry.session.now) denied }
+        → ((phase : PlainVtPhase)
+        → slice_get (vt_session_of of.entry.session.now).phases of.entry.k ≡ Some phase
+        → EachSeat (HasBegun of.entry.names.now phase shared) seats.items)
+        → SomeDenied shared seats.items denied
+        → IsDeniedIn (vt_session_of of.entry.session.now) denied }
 {
     let _of = of;
     let board = shared.close(seats);
@@ -123,8 +136,10 @@ pub fn close_all(
 ) -> Result<(Board, AllBack), Denied>
     requires { (parts : AllParts) × PhaseLeaves of shared parts back }
     ensures closed { IfOk result (λ r. IsClosed shared back r.0 r.1) }
-    ensures denied { IsBoardBefore (vt_session_of of.entry.session.now) of.entry.k of.entry.first (opening_board shared) → IsPhaseOf of.entry
-        → seats_of shared ≡ length of.entry.names.now + 1 → IfErr result (IsDeniedIn (vt_session_of of.entry.session.now)) }
+    ensures denied { IsBoardBefore (vt_session_of of.entry.session.now) of.entry.k of.entry.first (opening_board shared)
+        → IsPhaseOf of.entry
+        → seats_of shared ≡ length of.entry.names.now + 1
+        → IfErr result (IsDeniedIn (vt_session_of of.entry.session.now)) }
 {
     let PhaseBack { seats, made, all } = back;
     match made {

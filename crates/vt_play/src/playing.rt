@@ -36,7 +36,10 @@ pub fn open(alloc: Global, session: &VtSession) -> Result<VtInPlay, NoMemory>
 /// Ends a session of consoles whose phases were played.
 pub fn end(alloc: Global, in_play: VtInPlay) -> Result<VtPlayed, NoMemory>
     requires { (session : PlainVtSession) × IsVtOver session in_play }
-    ensures { (session : PlainVtSession) → IsVtOver session in_play → IfOk result (λ played. IsVtPlayed session played.board.entries played.consoles.runs.items played.consoles.ends.items) }
+    ensures { (session : PlainVtSession)
+        → IsVtOver session in_play
+        → IfOk result
+        (λ played. IsVtPlayed session played.board.entries played.consoles.runs.items played.consoles.ends.items) }
 {
     let VtInPlay {
         board,

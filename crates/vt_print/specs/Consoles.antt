@@ -23,7 +23,10 @@ keys_to p entries = count_by (λ (e : VtEntry). is_key_to p e.event) entries
 
 abbrev pub tally_line : ℕ → ℕ → Tally → List ℕ
 tally_line p keys t =
-    codes "console " ++ (decimal p ++ (codes " keys=" ++ (decimal keys ++ (codes " overrun=" ++ (decimal t.overrun ++ (codes " taken=" ++ (decimal t.taken
+    codes "console "
+    ++ (decimal p
+    ++ (codes " keys="
+    ++ (decimal keys ++ (codes " overrun=" ++ (decimal t.overrun ++ (codes " taken=" ++ (decimal t.taken
     ++ (codes " dropped=" ++ (decimal t.dropped ++ (codes " generation=" ++ (decimal t.generation ++ newline)))))))))))
 
 -- a row without the blanks at its end
@@ -38,7 +41,9 @@ trimmed (b ∷ row) = in_front_of b (trimmed row)
 -- the line of a row that has more than blanks
 abbrev pub row_line : ℕ → ℕ → List ℕ → List ℕ
 row_line p r [] = []
-row_line p r (b ∷ row) = codes "console " ++ (decimal p ++ (codes " row " ++ (decimal r ++ (codes " " ++ (encode_lower (b ∷ row) ++ newline)))))
+row_line p r (b ∷ row) =
+    codes "console "
+    ++ (decimal p ++ (codes " row " ++ (decimal r ++ (codes " " ++ (encode_lower (b ∷ row) ++ newline)))))
 
 -- the lines of rows, from this one on
 abbrev pub row_lines : ℕ → ℕ → List (List ℕ) → List ℕ

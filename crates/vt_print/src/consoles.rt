@@ -29,7 +29,8 @@ pub fn put_console(
     tally: &Tally,
     wire: &[u8],
 ) -> Result<(), NoMemory>
-    ensures { OnOk result (string_bytes text.new ≡ string_bytes text.old ++ console_text console entries.now tally.now wire.now) }
+    ensures { OnOk result
+        (string_bytes text.new ≡ string_bytes text.old ++ console_text console entries.now tally.now wire.now) }
 {
     let keys = keys_to(console, entries);
     put_tally(text, console, keys, tally)?;

@@ -1,5 +1,6 @@
 -- How the printer goes on: for private functions alone.
-use Rattle.std.specs.Prelude.{◌≡◌, ◌<◌, ℕ, ◌+◌, List, [], ◌∷◌, ◌++◌, Option, None, Some, flat_map, if◌then◌else◌, length, map, slice_index_or, slice_set}
+use Rattle.std.specs.Prelude.{◌≡◌, ◌<◌, ℕ, ◌+◌, List, [], ◌∷◌, ◌++◌, Option, None, Some}
+use Rattle.std.specs.Prelude.{flat_map, if◌then◌else◌, length, map, slice_index_or, slice_set}
 use Rattle.tty_calls.specs.Sessions.{number_in}
 use Rattle.vt_consoles.specs.declared.entries.VtEntry.{VtEntry}
 use Rattle.vt_text.specs.declared.sessions.OpCall.{OpCall}
@@ -34,7 +35,8 @@ told_to states seat = slice_index_or states seat []
 abbrev pub block_text : (consoles : ℕ) → List (List ℕ) → List Cursor → PlainOperator → Option ℕ → List ℕ
 block_text consoles states cursors operator None = []
 block_text consoles states cursors operator (Some seat) =
-    lines_from consoles (told_to states seat) operator.name (cursor_at cursors seat).step (cursor_at cursors seat).told operator.calls
+    lines_from consoles (told_to states seat) operator.name (cursor_at cursors seat).step
+    (cursor_at cursors seat).told operator.calls
 
 -- those of blocks, one behind the other, and where each seat stands then
 abbrev pub blocks_text : List (List ℕ) → (consoles : ℕ) → List (List ℕ) → List Cursor → List PlainOperator → List ℕ
@@ -45,7 +47,8 @@ blocks_text names consoles states cursors (operator ∷ operators) =
 
 abbrev pub cursors_after : List (List ℕ) → List Cursor → List PlainOperator → List Cursor
 cursors_after names cursors [] = cursors
-cursors_after names cursors (operator ∷ operators) = cursors_after names (cursors_then cursors operator.calls (number_in names operator.name)) operators
+cursors_after names cursors (operator ∷ operators) =
+    cursors_after names (cursors_then cursors operator.calls (number_in names operator.name)) operators
 
 -- for each of so many seats what it was told
 pub record AreStates (states : List (List ℕ)) (count : ℕ) (entries : List VtEntry) : Type 0 where
@@ -70,12 +73,17 @@ blocks_in phases = flat_map (λ phase. phase.operators) (map vt_phase_of phases)
 -- ---- loops, by what is left of their items
 
 -- blocks: the text, and where each seat stands
-pub record HasBlocks (names : List (List ℕ)) (consoles : ℕ) (states : List (List ℕ)) (first : List ℕ) (from : List Cursor) (operators : List PlainOperator) (text : List ℕ) (cursors : List Cursor) (left : List PlainOperator) : Type 0 where
-  pub text_left : text ++ blocks_text names consoles states cursors left ≡ first ++ blocks_text names consoles states from operators
+pub record HasBlocks (names : List (List ℕ)) (consoles : ℕ) (states : List (List ℕ)) (first : List ℕ)
+    (from : List Cursor) (operators : List PlainOperator) (text : List ℕ) (cursors : List Cursor)
+    (left : List PlainOperator) : Type 0 where
+  pub text_left : text ++ blocks_text names consoles states cursors left
+      ≡ first ++ blocks_text names consoles states from operators
   pub after : cursors_after names cursors left ≡ cursors_after names from operators
   pub each : length cursors ≡ length from
 
 -- calls of a seat
-pub record HasCalls (consoles : ℕ) (states name first : List ℕ) (from : Cursor) (calls : List OpCall) (text : List ℕ) (at : Cursor) (left : List OpCall) : Type 0 where
-  pub text_left : text ++ lines_from consoles states name at.step at.told left ≡ first ++ lines_from consoles states name from.step from.told calls
+pub record HasCalls (consoles : ℕ) (states name first : List ℕ) (from : Cursor) (calls : List OpCall) (text : List ℕ)
+    (at : Cursor) (left : List OpCall) : Type 0 where
+  pub text_left : text ++ lines_from consoles states name at.step at.told left
+      ≡ first ++ lines_from consoles states name from.step from.told calls
   pub after : cursor_then at left ≡ cursor_then from calls

@@ -1,5 +1,6 @@
 -- The report of a session of consoles: the callers' calls, the operators' calls, and what became of the consoles.
-use Rattle.std.specs.Prelude.{ℕ, ◌+◌, ◌==◌, nat_lt, Bool, true, false, List, [], ◌∷◌, ◌++◌, Option, None, Some, codes, decimal, flat_map, length, slice_get, if◌then◌else◌}
+use Rattle.std.specs.Prelude.{ℕ, ◌+◌, ◌==◌, nat_lt, Bool, true, false, List, [], ◌∷◌, ◌++◌, Option}
+use Rattle.std.specs.Prelude.{None, Some, codes, decimal, flat_map, length, slice_get, if◌then◌else◌}
 use Rattle.tty_calls.specs.declared.journals.PortRun.{PortRun}
 use Rattle.tty_calls.specs.Sessions.{number_in}
 use Rattle.session_print.specs.Ends.{PlainEnd}
@@ -25,7 +26,8 @@ verb_of op.State = codes "state"
 -- vt.NAME.STEP VERB ANSWER
 abbrev pub call_line : List ℕ → (step : ℕ) → OpCall → List ℕ → List ℕ
 call_line name step call answer =
-    codes "vt." ++ (name ++ (codes "." ++ (decimal step ++ (codes " " ++ (verb_of call ++ (codes " " ++ (answer ++ newline)))))))
+    codes "vt."
+    ++ (name ++ (codes "." ++ (decimal step ++ (codes " " ++ (verb_of call ++ (codes " " ++ (answer ++ newline)))))))
 
 -- which consoles were told as active to a seat, in order
 abbrev pub state_in : VtEvent → List ℕ
@@ -47,7 +49,8 @@ state_line name step (Some n) = call_line name step op.State (decimal n)
 
 -- the line of a call before which this seat was told so many times
 abbrev pub line_of : (consoles : ℕ) → (states : List ℕ) → List ℕ → (step told : ℕ) → OpCall → List ℕ
-line_of consoles states name step told (op.Activate n) = call_line name step (op.Activate n) (activation_answer consoles n)
+line_of consoles states name step told (op.Activate n) =
+    call_line name step (op.Activate n) (activation_answer consoles n)
 line_of consoles states name step told op.State = state_line name step (slice_get states told)
 
 abbrev pub is_state : OpCall → Bool
@@ -63,19 +66,23 @@ asked_states (call ∷ calls) = (if is_state call then 1 else 0) + asked_states 
 abbrev pub lines_from : (consoles : ℕ) → (states : List ℕ) → List ℕ → (step told : ℕ) → List OpCall → List ℕ
 lines_from consoles states name step told [] = []
 lines_from consoles states name step told (call ∷ calls) =
-    line_of consoles states name step told call ++ lines_from consoles states name (step + 1) (if is_state call then told + 1 else told) calls
+    line_of consoles states name step told call
+    ++ lines_from consoles states name (step + 1) (if is_state call then told + 1 else told) calls
 
 -- the calls of one seat
 abbrev pub calls_of : List (List ℕ) → (seat : ℕ) → List PlainOperator → List OpCall
-calls_of names seat operators = flat_map (λ operator. if is_seat (number_in names operator.name) seat then operator.calls else []) operators
+calls_of names seat operators =
+    flat_map (λ operator. if is_seat (number_in names operator.name) seat then operator.calls else []) operators
 
 -- the lines of an operator's block, where these blocks came before: steps go on over the blocks
 abbrev pub block_lines : (consoles : ℕ) → List VtEntry → (before : ℕ → List OpCall) → PlainOperator → Option ℕ → List ℕ
 block_lines consoles entries before operator None = []
 block_lines consoles entries before operator (Some seat) =
-    lines_from consoles (states_by seat entries) operator.name (length (before seat)) (asked_states (before seat)) operator.calls
+    lines_from consoles (states_by seat entries) operator.name (length (before seat)) (asked_states (before seat))
+    operator.calls
 
-abbrev pub blocks_lines : List (List ℕ) → (consoles : ℕ) → List VtEntry → (before operators : List PlainOperator) → List ℕ
+abbrev pub blocks_lines : List (List ℕ) → (consoles : ℕ) → List VtEntry → (before operators : List PlainOperator)
+    → List ℕ
 blocks_lines names consoles entries before [] = []
 blocks_lines names consoles entries before (operator ∷ operators) =
     block_lines consoles entries (λ seat. calls_of names seat before) operator (number_in names operator.name)
@@ -84,7 +91,8 @@ blocks_lines names consoles entries before (operator ∷ operators) =
 -- the lines of all operators, in the text's order
 abbrev pub operators_text : PlainVtSession → List VtEntry → List ℕ
 operators_text session entries =
-    blocks_lines (operator_names session.phases) session.calls.ports entries [] (flat_map (λ phase. phase.operators) session.phases)
+    blocks_lines (operator_names session.phases) session.calls.ports entries []
+    (flat_map (λ phase. phase.operators) session.phases)
 
 -- ---- the consoles
 
@@ -101,14 +109,16 @@ tally_of run end = record {
 abbrev pub consoles_from : (p : ℕ) → List VtEntry → List PortRun → List PlainEnd → List ℕ
 consoles_from p entries [] ends = []
 consoles_from p entries (run ∷ runs) [] = []
-consoles_from p entries (run ∷ runs) (end ∷ ends) = console_text p entries (tally_of run end) end.wire ++ consoles_from (p + 1) entries runs ends
+consoles_from p entries (run ∷ runs) (end ∷ ends) =
+    console_text p entries (tally_of run end) end.wire ++ consoles_from (p + 1) entries runs ends
 
 -- ---- the report
 
 -- what stands behind the callers' lines
 abbrev pub behind_callers : PlainVtSession → List VtEntry → List PortRun → List PlainEnd → List ℕ
 behind_callers session entries runs ends =
-    operators_text session entries ++ (consoles_from 0 entries runs ends ++ (active_line entries ++ (codes "done" ++ newline)))
+    operators_text session entries
+    ++ (consoles_from 0 entries runs ends ++ (active_line entries ++ (codes "done" ++ newline)))
 
 abbrev pub report_text : PlainVtSession → List VtEntry → List PortRun → List PlainEnd → List ℕ
 report_text session entries runs ends = calls_from 0 session.calls runs ++ behind_callers session entries runs ends

@@ -20,7 +20,8 @@ pub(crate) fn put_consoles(
     runs: &[PortRun],
     ends: &[PortEnd],
 ) -> Result<(), NoMemory>
-    ensures { OnOk result (string_bytes text.new ≡ string_bytes text.old ++ consoles_from 0 entries.now runs.now (map end_of ends.now)) }
+    ensures { OnOk result
+        (string_bytes text.new ≡ string_bytes text.old ++ consoles_from 0 entries.now runs.now (map end_of ends.now)) }
 {
     for (console, run) in runs.iter().enumerate() {
         if let Some(end) = ends.get(console) {
@@ -38,7 +39,9 @@ fn put_counted(
     run: &PortRun,
     end: &PortEnd,
 ) -> Result<(), NoMemory>
-    ensures { OnOk result (string_bytes text.new ≡ string_bytes text.old ++ console_text console entries.now (tally_of run.now (end_of end.now)) end.now.wire.items) }
+    ensures { OnOk result (string_bytes text.new
+        ≡ string_bytes text.old
+        ++ console_text console entries.now (tally_of run.now (end_of end.now)) end.now.wire.items) }
 {
     let tally = tally_of(run, end)?;
     put_console(alloc, text, console, entries, &tally, end.wire.as_slice())

@@ -10,6 +10,8 @@ ghost use Rattle.vt_report.specs.Report.{report_text};
 
 /// A law: the session that the consoles play has the same report.
 pub fn a_played_session_has_the_same_report()
-    ensures { (session : PlainVtSession) (entries : List VtEntry) (runs : List PortRun) (ends : List PlainEnd) → IsWhole session
-        → report_text (record session { calls = keyed session entries }) entries runs ends ≡ report_text session entries runs ends }
+    ensures { (session : PlainVtSession) (entries : List VtEntry) (runs : List PortRun) (ends : List PlainEnd)
+        → IsWhole session
+        → report_text (record session { calls = keyed session entries }) entries runs ends
+        ≡ report_text session entries runs ends }
 {}

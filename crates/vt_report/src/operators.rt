@@ -3,8 +3,10 @@
 ghost use Rattle.std.specs.Prelude.{◌≡◌, ◌++◌, ◌<◌, IfOk, OnOk, length, map, replicate, string_bytes, []};
 ghost use Rattle.tty_calls.specs.Sessions.{number_in};
 ghost use Rattle.vt_text.specs.Sessions.{operator_of, operators_of, vt_session_of};
-ghost use Rattle.vt_report.specs.Report.{activation_answer, call_line, is_state, line_of, lines_from, operators_text, state_line};
-ghost use Rattle.vt_report.specs.Printing.{AreStates, block_text, blocks_in, blocks_text, cursor_next, cursor_then, cursors_after, cursors_then, first_cursor, states_after, states_then};
+ghost use Rattle.vt_report.specs.Report.{activation_answer, call_line, is_state, line_of};
+ghost use Rattle.vt_report.specs.Report.{lines_from, operators_text, state_line};
+ghost use Rattle.vt_report.specs.Printing.{AreStates, block_text, blocks_in, blocks_text, cursor_next, cursor_then};
+ghost use Rattle.vt_report.specs.Printing.{cursors_after, cursors_then, first_cursor, states_after, states_then};
 
 use std::alloc::{AllocError, Global};
 use tty_base::NoMemory;
@@ -20,7 +22,8 @@ pub(crate) fn put_operators(
     session: &VtSession,
     entries: &[VtEntry],
 ) -> Result<(), NoMemory>
-    ensures { OnOk result (string_bytes text.new ≡ string_bytes text.old ++ operators_text (vt_session_of session.now) entries.now) }
+    ensures { OnOk result
+        (string_bytes text.new ≡ string_bytes text.old ++ operators_text (vt_session_of session.now) entries.now) }
 {
     let phases = session.phases.as_slice();
     let names = seats_of(alloc, phases)?;
@@ -70,8 +73,10 @@ impl Teller {
         phases: &[VtPhase],
     ) -> Result<(), NoMemory>
         requires { length self.now.states.items ≡ length self.now.names }
-        ensures { OnOk result (string_bytes text.new ≡ string_bytes text.old
-            ++ blocks_text self.now.names self.now.consoles (map (λ told. told.items) self.now.states.items) (replicate (length self.now.names) first_cursor) (blocks_in phases.now)) }
+        ensures { OnOk result (string_bytes text.new
+            ≡ string_bytes text.old
+            ++ blocks_text self.now.names self.now.consoles (map (λ told. told.items) self.now.states.items)
+            (replicate (length self.now.names) first_cursor) (blocks_in phases.now)) }
     {
         let mut cursors = first_cursors(alloc, self.names.len())?;
         for phase in phases {
@@ -89,8 +94,12 @@ impl Teller {
     ) -> Result<(), NoMemory>
         requires seats { length cursors.old.items ≡ length self.now.names }
         requires told { length self.now.states.items ≡ length self.now.names }
-        ensures text { OnOk result (string_bytes text.new ≡ string_bytes text.old ++ blocks_text self.now.names self.now.consoles (map (λ told. told.items) self.now.states.items) cursors.old.items (operators_of operators.now)) }
-        ensures cursors { OnOk result (cursors.new.items ≡ cursors_after self.now.names cursors.old.items (operators_of operators.now)) }
+        ensures text { OnOk result (string_bytes text.new
+            ≡ string_bytes text.old
+            ++ blocks_text self.now.names self.now.consoles (map (λ told. told.items) self.now.states.items)
+            cursors.old.items (operators_of operators.now)) }
+        ensures cursors { OnOk result
+            (cursors.new.items ≡ cursors_after self.now.names cursors.old.items (operators_of operators.now)) }
         ensures each { OnOk result (length cursors.new.items ≡ length cursors.old.items) }
     {
         for operator in operators {
@@ -107,8 +116,13 @@ impl Teller {
     ) -> Result<(), NoMemory>
         requires seats { length cursors.old.items ≡ length self.now.names }
         requires told { length self.now.states.items ≡ length self.now.names }
-        ensures text { OnOk result (string_bytes text.new ≡ string_bytes text.old ++ block_text self.now.consoles (map (λ told. told.items) self.now.states.items) cursors.old.items (operator_of operator.now) (number_in self.now.names operator.now.name.bytes)) }
-        ensures cursors { OnOk result (cursors.new.items ≡ cursors_then cursors.old.items operator.now.calls.items (number_in self.now.names operator.now.name.bytes)) }
+        ensures text { OnOk result (string_bytes text.new
+            ≡ string_bytes text.old
+            ++ block_text self.now.consoles (map (λ told. told.items) self.now.states.items) cursors.old.items
+            (operator_of operator.now) (number_in self.now.names operator.now.name.bytes)) }
+        ensures cursors { OnOk result (cursors.new.items
+            ≡ cursors_then cursors.old.items operator.now.calls.items
+            (number_in self.now.names operator.now.name.bytes)) }
         ensures each { OnOk result (length cursors.new.items ≡ length cursors.old.items) }
     {
         match self.names.number(&operator.name) {
@@ -134,7 +148,8 @@ fn put_calls(
     from: Cursor,
     calls: &[OpCall],
 ) -> Result<Cursor, NoMemory>
-    ensures text { OnOk result (string_bytes text.new ≡ string_bytes text.old ++ lines_from consoles states.now name.now from.step from.told calls.now) }
+    ensures text { OnOk result (string_bytes text.new
+        ≡ string_bytes text.old ++ lines_from consoles states.now name.now from.step from.told calls.now) }
     ensures cursor { IfOk result (λ now. now ≡ cursor_then from calls.now) }
 {
     let mut cursor = from;
@@ -154,7 +169,8 @@ fn put_call(
     cursor: Cursor,
     call: OpCall,
 ) -> Result<(), AllocError>
-    ensures { OnOk result (string_bytes text.new ≡ string_bytes text.old ++ line_of consoles states.now name.now cursor.step cursor.told call) }
+    ensures { OnOk result (string_bytes text.new
+        ≡ string_bytes text.old ++ line_of consoles states.now name.now cursor.step cursor.told call) }
 {
     match call {
         OpCall::Activate(n) => put_activation(text, name, cursor.step, consoles, n),
@@ -169,7 +185,8 @@ fn put_activation(
     consoles: u8,
     n: u8,
 ) -> Result<(), AllocError>
-    ensures { OnOk result (string_bytes text.new ≡ string_bytes text.old ++ call_line name.now step (OpCall.Activate n) (activation_answer consoles n)) }
+    ensures { OnOk result (string_bytes text.new
+        ≡ string_bytes text.old ++ call_line name.now step (OpCall.Activate n) (activation_answer consoles n)) }
 {
     let answer = if n < consoles { "ok" } else { "ENXIO" };
     write!(text, "vt.{name}.{step} activate {answer}\n")
@@ -195,7 +212,8 @@ fn states_of(alloc: Global, seats: usize, entries: &[VtEntry]) -> Result<Vec<Vec
 
 /// Notes what entries tell their seats.
 fn note_states(states: &mut [Vec<u8>], entries: &[VtEntry]) -> Result<(), NoMemory>
-    ensures { OnOk result (map (λ told. told.items) states.new ≡ states_after (map (λ told. told.items) states.old) entries.now) }
+    ensures { OnOk result
+        (map (λ told. told.items) states.new ≡ states_after (map (λ told. told.items) states.old) entries.now) }
 {
     for entry in entries {
         note_state(states, entry)?;
@@ -227,7 +245,8 @@ fn no_states(alloc: Global, seats: usize) -> Result<Vec<Vec<u8>>, NoMemory>
 
 /// Notes what an entry tells its seat.
 fn note_state(states: &mut [Vec<u8>], entry: &VtEntry) -> Result<(), NoMemory>
-    ensures { OnOk result (map (λ told. told.items) states.new ≡ states_then (map (λ told. told.items) states.old) entry.now) }
+    ensures { OnOk result
+        (map (λ told. told.items) states.new ≡ states_then (map (λ told. told.items) states.old) entry.now) }
 {
     let seat = entry.seat as usize;
     if let VtEvent::State(n) = entry.event {

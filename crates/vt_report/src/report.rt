@@ -29,7 +29,8 @@ pub fn vt_report(
     runs: &[PortRun],
     ends: &[PortEnd],
 ) -> Result<Bytes, NoMemory>
-    ensures { IfOk result (λ text. text.items ≡ report_text (vt_session_of session.now) entries.now runs.now (map end_of ends.now)) }
+    ensures { IfOk result
+        (λ text. text.items ≡ report_text (vt_session_of session.now) entries.now runs.now (map end_of ends.now)) }
 {
     let mut bytes = callers_text(alloc, &session.calls, runs)?;
     let mut text = String::new(alloc);
@@ -57,7 +58,9 @@ fn put_rest(
     runs: &[PortRun],
     ends: &[PortEnd],
 ) -> Result<(), NoMemory>
-    ensures { OnOk result (string_bytes text.new ≡ string_bytes text.old ++ behind_callers (vt_session_of session.now) entries.now runs.now (map end_of ends.now)) }
+    ensures { OnOk result (string_bytes text.new
+        ≡ string_bytes text.old
+        ++ behind_callers (vt_session_of session.now) entries.now runs.now (map end_of ends.now)) }
 {
     put_operators(alloc, text, session, entries)?;
     put_consoles(alloc, text, entries, runs, ends)?;

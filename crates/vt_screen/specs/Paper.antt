@@ -1,5 +1,6 @@
 -- Text on the paper of a printing terminal, and the screen that shows its end.
-use Rattle.std.specs.Prelude.{ℕ, ◌+◌, ◌-◌, ◌*◌, ◌/◌, min, Bool, ◌&&◌, ◌||◌, ◌==◌, nat_le, List, [], ◌∷◌, ◌++◌, length, drop, replicate, slice_set, if◌then◌else◌}
+use Rattle.std.specs.Prelude.{ℕ, ◌+◌, ◌-◌, ◌*◌, ◌/◌, min, Bool, ◌&&◌, ◌||◌, ◌==◌, nat_le, List}
+use Rattle.std.specs.Prelude.{[], ◌∷◌, ◌++◌, length, drop, replicate, slice_set, if◌then◌else◌}
 use Rattle.std.specs.List.{fold}
 
 -- The rows of 80 cells above the cursor's, the highest first, the row in which the cursor stands, and its column.

@@ -1,5 +1,6 @@
 -- Words that are put into lines again are read as the same words, and the lines are no longer than those that had them.
-use Rattle.std.proofs.Common.{◌≡◌, ℕ, suc, ◌+◌, ◌≤◌, Bool, true, false, cond, List, [], ◌∷◌, ◌++◌, length, map, refl, ap, ◌∙◌, arith, append-nil, length-append}
+use Rattle.std.proofs.Common.{◌≡◌, ℕ, suc, ◌+◌, ◌≤◌, Bool, true, false, cond, List, [], ◌∷◌}
+use Rattle.std.proofs.Common.{◌++◌, length, map, refl, ap, ◌∙◌, arith, append-nil, length-append}
 use Rattle.std.specs.Prelude.{filter}
 use Rattle.std.specs.List.{slice_split, onto_first}
 use Rattle.text_lines.specs.Lines.{is_newline, is_blank, lines_of, has_bytes, words_of}
@@ -32,21 +33,29 @@ AreLines (ws ∷ lines) = AreWords ws × AreLines lines
 
 split_end : (w : List ℕ) → Free is_blank w → slice_split is_blank w ≡ w ∷ []
 split_end [] h = refl
-split_end (b ∷ w) h = ap (λ (t : Bool). cond t ([] ∷ slice_split is_blank w) (onto_first b (slice_split is_blank w))) h.0 ∙ ap (onto_first b) (split_end w h.1)
+split_end (b ∷ w) h =
+    ap (λ (t : Bool). cond t ([] ∷ slice_split is_blank w) (onto_first b (slice_split is_blank w))) h.0
+    ∙ ap (onto_first b) (split_end w h.1)
 
-split_blank : (w rest : List ℕ) → Free is_blank w → slice_split is_blank (w ++ 32 ∷ rest) ≡ w ∷ slice_split is_blank rest
+split_blank : (w rest : List ℕ)
+    → Free is_blank w
+    → slice_split is_blank (w ++ 32 ∷ rest) ≡ w ∷ slice_split is_blank rest
 split_blank [] rest h = refl
 split_blank (b ∷ w) rest h =
-    ap (λ (t : Bool). cond t ([] ∷ slice_split is_blank (w ++ 32 ∷ rest)) (onto_first b (slice_split is_blank (w ++ 32 ∷ rest)))) h.0
+    ap (λ (t : Bool).
+    cond t ([] ∷ slice_split is_blank (w ++ 32 ∷ rest)) (onto_first b (slice_split is_blank (w ++ 32 ∷ rest)))) h.0
     ∙ ap (onto_first b) (split_blank w rest h.1)
 
 split_words : (w : List ℕ) (ws : List (List ℕ)) → AreWords (w ∷ ws) → slice_split is_blank (w ++ tail_of ws) ≡ w ∷ ws
 split_words w [] h = ap (slice_split is_blank) (append-nil w) ∙ split_end w h.0.no_blank
-split_words w (v ∷ ws) h = split_blank w (v ++ tail_of ws) h.0.no_blank ∙ ap (λ (l : List (List ℕ)). w ∷ l) (split_words v ws h.1)
+split_words w (v ∷ ws) h =
+    split_blank w (v ++ tail_of ws) h.0.no_blank ∙ ap (λ (l : List (List ℕ)). w ∷ l) (split_words v ws h.1)
 
 kept : (ws : List (List ℕ)) → AreWords ws → filter has_bytes ws ≡ ws
 kept [] h = refl
-kept (w ∷ ws) h = ap (λ (t : Bool). cond t (w ∷ filter has_bytes ws) (filter has_bytes ws)) h.0.some ∙ ap (λ (l : List (List ℕ)). w ∷ l) (kept ws h.1)
+kept (w ∷ ws) h =
+    ap (λ (t : Bool). cond t (w ∷ filter has_bytes ws) (filter has_bytes ws)) h.0.some
+    ∙ ap (λ (l : List (List ℕ)). w ∷ l) (kept ws h.1)
 
 line_words : (ws : List (List ℕ)) → AreWords ws → words_of (line_of ws) ≡ ws
 line_words [] h = refl
@@ -69,7 +78,8 @@ lines_behind (b ∷ l) rest h =
 pub lines_again : (lines : List (List (List ℕ))) → AreLines lines → lines_in (text_of lines) ≡ lines
 lines_again [] h = refl
 lines_again (ws ∷ lines) h =
-    ap (map words_of) (lines_behind (line_of ws) (text_of lines) (line_free ws h.0)) ∙ (λ i. line_words ws h.0 i ∷ lines_again lines h.1 i)
+    ap (map words_of) (lines_behind (line_of ws) (text_of lines) (line_free ws h.0))
+    ∙ (λ i. line_words ws h.0 i ∷ lines_again lines h.1 i)
 
 -- ---- the words of a text
 
@@ -77,7 +87,11 @@ abbrev AreParts : List (List ℕ) → Type 0
 AreParts [] = Unit {0}
 AreParts (w ∷ ws) = (Free is_blank w × Free is_newline w) × AreParts ws
 
-part_either : (t : Bool) (b : ℕ) (parts : List (List ℕ)) → is_blank b ≡ t → is_newline b ≡ false → AreParts parts → AreParts (cond t ([] ∷ parts) (onto_first b parts))
+part_either : (t : Bool) (b : ℕ) (parts : List (List ℕ))
+    → is_blank b ≡ t
+    → is_newline b ≡ false
+    → AreParts parts
+    → AreParts (cond t ([] ∷ parts) (onto_first b parts))
 part_either true b parts e clean h = ((tt, tt), h)
 part_either false b [] e clean h = (((e, tt), (clean, tt)), tt)
 part_either false b (part ∷ parts) e clean h = (((e, h.0.0), (clean, h.0.1)), h.1)
@@ -86,7 +100,11 @@ split_parts : (line : List ℕ) → Free is_newline line → AreParts (slice_spl
 split_parts [] h = ((tt, tt), tt)
 split_parts (b ∷ bs) h = part_either (is_blank b) b (slice_split is_blank bs) refl h.0 (split_parts bs h.1)
 
-kept_either : (t : Bool) (w : List ℕ) (kept : List (List ℕ)) → has_bytes w ≡ t → Free is_blank w × Free is_newline w → AreWords kept → AreWords (cond t (w ∷ kept) kept)
+kept_either : (t : Bool) (w : List ℕ) (kept : List (List ℕ))
+    → has_bytes w ≡ t
+    → Free is_blank w × Free is_newline w
+    → AreWords kept
+    → AreWords (cond t (w ∷ kept) kept)
 kept_either true w kept e free h = (record { some = e; no_blank = free.0; no_newline = free.1 }, h)
 kept_either false w kept e free h = h
 
@@ -98,7 +116,10 @@ abbrev AreFree : List (List ℕ) → Type 0
 AreFree [] = Unit {0}
 AreFree (line ∷ lines) = Free is_newline line × AreFree lines
 
-line_either : (t : Bool) (b : ℕ) (lines : List (List ℕ)) → is_newline b ≡ t → AreFree lines → AreFree (cond t ([] ∷ lines) (onto_first b lines))
+line_either : (t : Bool) (b : ℕ) (lines : List (List ℕ))
+    → is_newline b ≡ t
+    → AreFree lines
+    → AreFree (cond t ([] ∷ lines) (onto_first b lines))
 line_either true b lines e h = (tt, h)
 line_either false b [] e h = ((e, tt), tt)
 line_either false b (line ∷ lines) e h = ((e, h.0), h.1)
@@ -129,11 +150,15 @@ text_long [] = refl
 text_long (ws ∷ lines) = omega (arith, length-append (line_of ws) (10 ∷ text_of lines), text_long lines)
 
 -- a longer first word
-pub first_longer : (v w : List ℕ) (ws : List (List ℕ)) (n : ℕ) → length v ≤ length w + n → cost (v ∷ ws) ≤ cost (w ∷ ws) + n
+pub first_longer : (v w : List ℕ) (ws : List (List ℕ)) (n : ℕ)
+    → length v ≤ length w + n
+    → cost (v ∷ ws) ≤ cost (w ∷ ws) + n
 first_longer v w ws n h = omega (arith, h, length-append v (tail_of ws), length-append w (tail_of ws))
 
 -- the second word of a line
-pub second_short : (w : List ℕ) (ws : List (List ℕ)) (v : List ℕ) (vs : List (List ℕ)) → ws ≡ v ∷ vs → length v + 2 ≤ cost (w ∷ ws)
+pub second_short : (w : List ℕ) (ws : List (List ℕ)) (v : List ℕ) (vs : List (List ℕ))
+    → ws ≡ v ∷ vs
+    → length v + 2 ≤ cost (w ∷ ws)
 second_short w ws v vs e =
     let same = ap (λ (l : List (List ℕ)). length (tail_of l)) e in
     omega (arith, same, length-append w (tail_of ws), length-append v (tail_of vs))
@@ -150,7 +175,9 @@ line_width : (ws : List (List ℕ)) (n : ℕ) → width ws ≤ suc n → length 
 line_width [] n h = omega arith
 line_width (w ∷ ws) n h = omega (arith, h, length-append w (tail_of ws), tail_width ws)
 
-onto_width : (t : Bool) (b n : ℕ) (parts : List (List ℕ)) → width parts ≡ suc n → width (cond t ([] ∷ parts) (onto_first b parts)) ≡ suc (suc n)
+onto_width : (t : Bool) (b n : ℕ) (parts : List (List ℕ))
+    → width parts ≡ suc n
+    → width (cond t ([] ∷ parts) (onto_first b parts)) ≡ suc (suc n)
 onto_width true b n parts h = omega (arith, h)
 onto_width false b n [] h = absurd (omega (arith, h))
 onto_width false b n (part ∷ parts) h = omega (arith, h)
@@ -159,7 +186,9 @@ split_width : (line : List ℕ) → width (slice_split is_blank line) ≡ suc (l
 split_width [] = refl
 split_width (b ∷ bs) = onto_width (is_blank b) b (length bs) (slice_split is_blank bs) (split_width bs)
 
-kept_width : (t : Bool) (w : List ℕ) (kept ws : List (List ℕ)) → width kept ≤ width ws → width (cond t (w ∷ kept) kept) ≤ suc (length w) + width ws
+kept_width : (t : Bool) (w : List ℕ) (kept ws : List (List ℕ))
+    → width kept ≤ width ws
+    → width (cond t (w ∷ kept) kept) ≤ suc (length w) + width ws
 kept_width true w kept ws h = omega (arith, h)
 kept_width false w kept ws h = omega (arith, h)
 
@@ -169,14 +198,17 @@ filter_width (w ∷ ws) = kept_width (has_bytes w) w (filter has_bytes ws) ws (f
 
 line_cost : (line : List ℕ) → cost (words_of line) ≤ length line + 1
 line_cost line =
-    let short = line_width (words_of line) (length line) (omega (arith, filter_width (slice_split is_blank line), split_width line)) in
+    let short = line_width (words_of line) (length line)
+    (omega (arith, filter_width (slice_split is_blank line), split_width line)) in
     omega (arith, short)
 
 lines_cost : (lines : List (List ℕ)) → costs (map words_of lines) ≤ width lines
 lines_cost [] = omega arith
 lines_cost (line ∷ lines) = omega (arith, line_cost line, lines_cost lines)
 
-end_either : (t : Bool) (b n : ℕ) (lines : List (List ℕ)) → width lines ≤ suc n → width (cond t ([] ∷ lines) (onto_first b lines)) ≤ suc (suc n)
+end_either : (t : Bool) (b n : ℕ) (lines : List (List ℕ))
+    → width lines ≤ suc n
+    → width (cond t ([] ∷ lines) (onto_first b lines)) ≤ suc (suc n)
 end_either true b n lines h = omega (arith, h)
 end_either false b n [] h = omega arith
 end_either false b n (line ∷ lines) h = omega (arith, h)

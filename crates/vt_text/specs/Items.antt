@@ -1,5 +1,6 @@
 -- The items that a session of ports lacks: what is wrong with one, and what it adds.
-use Rattle.std.specs.Prelude.{◌≡◌, ℕ, ◌-◌, ◌/◌, ◌==◌, nat_le, nat_lt, Bool, true, false, List, [], ◌∷◌, ◌++◌, length, Option, None, Some, if◌then◌else◌}
+use Rattle.std.specs.Prelude.{◌≡◌, ℕ, ◌-◌, ◌/◌, ◌==◌, nat_le, nat_lt, Bool, true, false}
+use Rattle.std.specs.Prelude.{List, [], ◌∷◌, ◌++◌, length, Option, None, Some, if◌then◌else◌}
 use Rattle.std.specs.Str.{bytes_eq}
 use Rattle.std.specs.List.{list_any}
 use Rattle.std.specs.Option.{option_or}
@@ -25,7 +26,15 @@ pub record PlainVtReading : Type 0 where
   pub keys_left : ℕ
 
 abbrev pub first_vt_reading : PlainVtReading
-first_vt_reading = record { session = first_reading; block = block.Neither; keys = []; operators = []; phases = []; calls_left = 65536; keys_left = 262144 }
+first_vt_reading = record {
+  session = first_reading;
+  block = block.Neither;
+  keys = [];
+  operators = [];
+  phases = [];
+  calls_left = 65536;
+  keys_left = 262144;
+}
 
 abbrev pub in_open_phase : PlainVtReading → Bool
 in_open_phase r = in_phase r.session.stand.place
@@ -57,11 +66,13 @@ is_named name operator = bytes_eq operator.name name
 
 -- an operator may stand once in a phase, and beside 15 others
 abbrev pub once_fault : List PlainOperator → List ℕ → Option Reason
-once_fault operators name = if list_any (is_named name) operators then Some Order else wrong_unless Limit (nat_lt (length operators) 16)
+once_fault operators name =
+    if list_any (is_named name) operators then Some Order else wrong_unless Limit (nat_lt (length operators) 16)
 
 abbrev pub operator_fault : PlainVtReading → List (List ℕ) → Option Reason
 operator_fault r arguments =
-    fault_by (in_open_phase r) (length arguments == 1) (wrong_unless Word (is_name (word_at arguments 0))) (once_fault r.operators (word_at arguments 0))
+    fault_by (in_open_phase r) (length arguments == 1) (wrong_unless Word (is_name (word_at arguments 0)))
+    (once_fault r.operators (word_at arguments 0))
 
 abbrev pub byte_fault : List ℕ → Option Reason
 byte_fault word = if is_number word then wrong_unless Limit (nat_le (number_of word) 255) else Some Number
@@ -73,10 +84,12 @@ pub record IsByteAlone (arguments : List (List ℕ)) : Type 0 where
 
 abbrev pub activate_fault : PlainVtReading → List (List ℕ) → Option Reason
 activate_fault r arguments =
-    fault_by (is_operator r.block) (length arguments == 1) (byte_fault (word_at arguments 0)) (wrong_unless Limit (nat_lt 0 r.calls_left))
+    fault_by (is_operator r.block) (length arguments == 1) (byte_fault (word_at arguments 0))
+    (wrong_unless Limit (nat_lt 0 r.calls_left))
 
 abbrev pub state_fault : PlainVtReading → List (List ℕ) → Option Reason
-state_fault r arguments = fault_by (is_operator r.block) (length arguments == 0) None (wrong_unless Limit (nat_lt 0 r.calls_left))
+state_fault r arguments =
+    fault_by (is_operator r.block) (length arguments == 0) None (wrong_unless Limit (nat_lt 0 r.calls_left))
 
 -- ---- what an item adds that is not wrong
 
@@ -91,14 +104,17 @@ with_keys r digits =
     record r { block = block.Neither; keys = r.keys ++ bytes_of digits; keys_left = r.keys_left - length digits / 2 }
 
 abbrev pub with_operator : PlainVtReading → List ℕ → PlainVtReading
-with_operator r name = record r { block = block.Operator; operators = r.operators ++ record { name = name; calls = [] } ∷ [] }
+with_operator r name =
+    record r { block = block.Operator; operators = r.operators ++ record { name = name; calls = [] } ∷ [] }
 
 abbrev pub with_call : PlainVtReading → OpCall → PlainVtReading
 with_call r call = record r { operators = with_op_call call r.operators; calls_left = r.calls_left - 1 }
 
 -- the phase that was open is over, where one was
 abbrev pub phases_closed : Bool → PlainVtReading → List PlainVtPhase
-phases_closed is_open r = if is_open then r.phases ++ record { keys = r.keys; operators = r.operators } ∷ [] else r.phases
+phases_closed is_open r =
+    if is_open then r.phases ++ record { keys = r.keys; operators = r.operators } ∷ [] else r.phases
 
 abbrev pub with_phase_closed : Bool → PlainVtReading → PlainVtReading
-with_phase_closed is_open r = record r { block = block.Neither; keys = []; operators = []; phases = phases_closed is_open r }
+with_phase_closed is_open r =
+    record r { block = block.Neither; keys = []; operators = []; phases = phases_closed is_open r }

@@ -65,7 +65,10 @@ refused_rows =
     refused_at 4 Word (in_phase (codes "operator o 0\n")) ∷
     refused_at 5 Order (in_phase (codes "operator o\noperator o\n")) ∷
     refused_at 5 Word (in_phase (codes "operator o\noperator\n")) ∷
-    refused_at 20 Limit (in_phase (codes "operator a\noperator b\noperator c\noperator d\noperator e\noperator f\noperator g\noperator h\noperator i\noperator j\noperator k\noperator l\noperator m\noperator n\noperator o\noperator p\noperator q\n")) ∷
+    refused_at 20 Limit
+    (in_phase (codes
+    "operator a\noperator b\noperator c\noperator d\noperator e\noperator f\noperator g\noperator h\noperator i\noperator j\noperator k\noperator l\noperator m\noperator n\noperator o\noperator p\noperator q\n"))
+    ∷
     refused_at 4 Order (in_phase (codes "activate 0\n")) ∷
     refused_at 4 Order (in_phase (codes "state 0\n")) ∷
     refused_at 5 Order (in_phase (codes "caller a 0\nstate\n")) ∷
@@ -90,8 +93,10 @@ refused_rows =
 
 abbrev pub two_consoles_text : List ℕ
 two_consoles_text =
-    codes "vt-session 1\nconsoles 2\nphase\ncaller a 0\nopen 0 rw nonblock\ncaller a 1\nopen 0 rw nonblock\nphase\nkeys 6869\n"
-    ++ codes "phase\noperator o\nactivate 1\nstate\nphase\nkeys 6a\n# more keys\nkeys 0d\nphase\ncaller a 0\ninq 0\ncaller a 1\nread 0 64\nend\n"
+    codes
+    "vt-session 1\nconsoles 2\nphase\ncaller a 0\nopen 0 rw nonblock\ncaller a 1\nopen 0 rw nonblock\nphase\nkeys 6869\n"
+    ++ codes
+    "phase\noperator o\nactivate 1\nstate\nphase\nkeys 6a\n# more keys\nkeys 0d\nphase\ncaller a 0\ninq 0\ncaller a 1\nread 0 64\nend\n"
 
 abbrev pub phase_with : List PlainScript → PlainPhase
 phase_with callers = record { lines = [] ∷ [] ∷ []; ticks = 0 ∷ 0 ∷ []; callers = callers }

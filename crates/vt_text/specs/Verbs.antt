@@ -4,7 +4,8 @@ use Rattle.std.specs.Option.{option_or}
 use Rattle.text_lines.specs.Values.{choice_of}
 use Rattle.session_text.specs.Verbs.{is_call, verb_of as session_verb_of}
 use Rattle.vt_text.specs.declared.verbs.VtVerb.{VtVerb}
-use Rattle.vt_text.specs.declared.verbs.VtVerb.TheVariants.{Header, Consoles, Phase, Caller, Keys, Operator, Activate, State, End, Call}
+use Rattle.vt_text.specs.declared.verbs.VtVerb.TheVariants.{Header, Consoles, Phase, Caller, Keys}
+use Rattle.vt_text.specs.declared.verbs.VtVerb.TheVariants.{Operator, Activate, State, End, Call}
 
 -- what each is written as; a call is written as its own verb
 abbrev pub verb_text : VtVerb → List ℕ
@@ -24,4 +25,5 @@ item_verbs = Header ∷ Consoles ∷ Phase ∷ Caller ∷ Keys ∷ Operator ∷ 
 
 -- the verb that a word is, if it is one
 abbrev pub verb_of : List ℕ → Option VtVerb
-verb_of word = option_or (choice_of verb_text item_verbs word) (if is_call (session_verb_of 1 word) then Some Call else None)
+verb_of word =
+    option_or (choice_of verb_text item_verbs word) (if is_call (session_verb_of 1 word) then Some Call else None)

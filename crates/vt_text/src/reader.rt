@@ -5,8 +5,11 @@ ghost use Rattle.text_lines.specs.Lines.{words_of};
 ghost use Rattle.text_lines.specs.Values.{word_at, number_at};
 ghost use Rattle.session_text.specs.Reading.{Gives};
 ghost use Rattle.vt_text.specs.Sessions.{vt_session_of};
-ghost use Rattle.vt_text.specs.Items.{IsByteAlone, first_vt_reading, in_open_phase, keys_fault, operator_fault, activate_fault, state_fault, with_keys, with_operator, with_call, with_phase_closed};
-ghost use Rattle.vt_text.specs.Reading.{after_border, after_call, after_header, after_item, after_line, after_session_item, after_verb, is_header, unless, vt_at_end, vt_in};
+ghost use Rattle.vt_text.specs.Items.{IsByteAlone, first_vt_reading, in_open_phase};
+ghost use Rattle.vt_text.specs.Items.{keys_fault, operator_fault, activate_fault, state_fault};
+ghost use Rattle.vt_text.specs.Items.{with_keys, with_operator, with_call, with_phase_closed};
+ghost use Rattle.vt_text.specs.Reading.{after_border, after_call, after_header, after_item, after_line};
+ghost use Rattle.vt_text.specs.Reading.{after_session_item, after_verb, is_header, unless, vt_at_end, vt_in};
 ghost use Rattle.vt_text.specs.Views.{vt_reading_of};
 
 use crate::items::{Block, byte_fault, is_none, is_one, once_fault, wrong_unless};
@@ -63,7 +66,8 @@ impl VtReader {
 
     /// Reads the line with this number.
     fn read_line(&mut self, alloc: Global, number: u32, line: &[u8]) -> Result<(), TextFault>
-        ensures { Gives (λ _. vt_reading_of self.new) result (after_line (vt_reading_of self.old) number (words_of line.now)) }
+        ensures { Gives (λ _. vt_reading_of self.new) result
+            (after_line (vt_reading_of self.old) number (words_of line.now)) }
     {
         match split_word(line) {
             None => Ok(()),
@@ -83,7 +87,8 @@ impl VtReader {
         word: &[u8],
         arguments: &FirstTwo,
     ) -> Result<(), TextFault>
-        ensures { Gives (λ _. vt_reading_of self.new) result (after_item (vt_reading_of self.old) number word.now arguments.now) }
+        ensures { Gives (λ _. vt_reading_of self.new) result
+            (after_item (vt_reading_of self.old) number word.now arguments.now) }
     {
         if self.session.is_at_start() {
             return self.read_header(alloc, number, word, arguments);
@@ -119,7 +124,8 @@ impl VtReader {
         word: &[u8],
         arguments: &FirstTwo,
     ) -> Result<(), TextFault>
-        ensures { Gives (λ _. vt_reading_of self.new) result (after_verb (vt_reading_of self.old) number word.now arguments.now (Some verb)) }
+        ensures { Gives (λ _. vt_reading_of self.new) result
+            (after_verb (vt_reading_of self.old) number word.now arguments.now (Some verb)) }
     {
         match verb {
             VtVerb::Header => Err(bad(number, Reason::Order)),
@@ -148,7 +154,8 @@ impl VtReader {
         word: &[u8],
         arguments: &FirstTwo,
     ) -> Result<(), TextFault>
-        ensures { Gives (λ _. vt_reading_of self.new) result (after_session_item (vt_reading_of self.old) number word.now arguments.now) }
+        ensures { Gives (λ _. vt_reading_of self.new) result
+            (after_session_item (vt_reading_of self.old) number word.now arguments.now) }
     {
         self.session.read_item(alloc, number, word, arguments)
     }
@@ -161,7 +168,8 @@ impl VtReader {
         word: &[u8],
         arguments: &FirstTwo,
     ) -> Result<(), TextFault>
-        ensures { Gives (λ _. vt_reading_of self.new) result (after_border (vt_reading_of self.old) number word.now arguments.now) }
+        ensures { Gives (λ _. vt_reading_of self.new) result
+            (after_border (vt_reading_of self.old) number word.now arguments.now) }
     {
         let is_open = self.session.is_in_phase();
         self.read_by_session(alloc, number, word, arguments)?;
@@ -192,7 +200,8 @@ impl VtReader {
         word: &[u8],
         arguments: &FirstTwo,
     ) -> Result<(), TextFault>
-        ensures { Gives (λ _. vt_reading_of self.new) result (after_call (vt_reading_of self.old) number word.now arguments.now) }
+        ensures { Gives (λ _. vt_reading_of self.new) result
+            (after_call (vt_reading_of self.old) number word.now arguments.now) }
     {
         if !matches!(self.block, Block::Caller) {
             return Err(bad(number, Reason::Order));
@@ -211,7 +220,9 @@ impl VtReader {
         number: u32,
         arguments: &FirstTwo,
     ) -> Result<(), TextFault>
-        ensures { Gives (λ _. vt_reading_of self.new) result (unless number (keys_fault (vt_reading_of self.old) arguments.now) (with_keys (vt_reading_of self.old) (word_at arguments.now 0))) }
+        ensures { Gives (λ _. vt_reading_of self.new) result
+            (unless number (keys_fault (vt_reading_of self.old) arguments.now)
+            (with_keys (vt_reading_of self.old) (word_at arguments.now 0))) }
     {
         match self.keys_fault(arguments) {
             Some(reason) => Err(bad(number, reason)),
@@ -258,7 +269,9 @@ impl VtReader {
         number: u32,
         arguments: &FirstTwo,
     ) -> Result<(), TextFault>
-        ensures { Gives (λ _. vt_reading_of self.new) result (unless number (operator_fault (vt_reading_of self.old) arguments.now) (with_operator (vt_reading_of self.old) (word_at arguments.now 0))) }
+        ensures { Gives (λ _. vt_reading_of self.new) result
+            (unless number (operator_fault (vt_reading_of self.old) arguments.now)
+            (with_operator (vt_reading_of self.old) (word_at arguments.now 0))) }
     {
         match self.operator_fault(arguments) {
             Some(reason) => Err(bad(number, reason)),
@@ -280,7 +293,8 @@ impl VtReader {
 
     fn take_operator(&mut self, alloc: Global, arguments: &FirstTwo) -> Result<(), NoMemory>
         requires { operator_fault (vt_reading_of self.old) arguments.now ≡ None }
-        ensures { OnOk result (vt_reading_of self.new ≡ with_operator (vt_reading_of self.old) (word_at arguments.now 0)) }
+        ensures { OnOk result
+            (vt_reading_of self.new ≡ with_operator (vt_reading_of self.old) (word_at arguments.now 0)) }
     {
         let arguments = arguments.whole();
         add_operator(alloc, &mut self.operators, arguments.first())?;
@@ -289,7 +303,9 @@ impl VtReader {
     }
 
     fn read_activate(&mut self, number: u32, arguments: &FirstTwo) -> Result<(), TextFault>
-        ensures { Gives (λ _. vt_reading_of self.new) result (unless number (activate_fault (vt_reading_of self.old) arguments.now) (with_call (vt_reading_of self.old) (OpCall.Activate (number_at arguments.now 0)))) }
+        ensures { Gives (λ _. vt_reading_of self.new) result
+            (unless number (activate_fault (vt_reading_of self.old) arguments.now)
+            (with_call (vt_reading_of self.old) (OpCall.Activate (number_at arguments.now 0)))) }
     {
         match self.activate_fault(arguments) {
             Some(reason) => Err(bad(number, reason)),
@@ -316,7 +332,9 @@ impl VtReader {
     }
 
     fn read_state(&mut self, number: u32, arguments: &FirstTwo) -> Result<(), TextFault>
-        ensures { Gives (λ _. vt_reading_of self.new) result (unless number (state_fault (vt_reading_of self.old) arguments.now) (with_call (vt_reading_of self.old) OpCall.State)) }
+        ensures { Gives (λ _. vt_reading_of self.new) result
+            (unless number (state_fault (vt_reading_of self.old) arguments.now)
+            (with_call (vt_reading_of self.old) OpCall.State)) }
     {
         match self.state_fault(arguments) {
             Some(reason) => Err(bad(number, reason)),

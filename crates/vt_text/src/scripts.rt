@@ -17,7 +17,8 @@ pub(crate) fn add_operator(
     name: &[u8],
 ) -> Result<(), NoMemory>
     requires { IsTrue (is_name name.now) }
-    ensures { OnOk result (operators_of operators.new.items ≡ operators_of operators.old.items ++ record { name = name.now; calls = [] } ∷ []) }
+    ensures { OnOk result (operators_of operators.new.items
+        ≡ operators_of operators.old.items ++ record { name = name.now; calls = [] } ∷ []) }
 {
     let script = OpScript {
         name: name_of(name),
@@ -38,7 +39,8 @@ pub(crate) fn add_call(operators: &mut [OpScript], call: OpCall) -> Result<(), N
 }
 
 fn add_to(script: &mut OpScript, call: OpCall) -> Result<(), NoMemory>
-    ensures { OnOk result (operator_of script.new ≡ record (operator_of script.old) { calls = (operator_of script.old).calls ++ call ∷ [] }) }
+    ensures { OnOk result (operator_of script.new
+        ≡ record (operator_of script.old) { calls = (operator_of script.old).calls ++ call ∷ [] }) }
 {
     script.calls.reserve(1)?;
     script.calls.add(call);

@@ -21,14 +21,17 @@ use Rattle.many_threads.specs.declared.shared_phase.PhaseWork.{PhaseWork}
 use Rattle.many_threads.specs.Crew.{CanRun, CrewComes, crew_in, seats_of}
 use Rattle.many_threads.specs.Seats.{AreDealt}
 use Rattle.many_threads.specs.PhaseStarts.{CanPlayPhase, StopsPhase}
-use Rattle.many_threads.specs.PhaseEnds.{AreTaken, EndsOrStops, IsClosed, IsShared, PhaseComes, PlaysThreads, ThreadsCome, ThreadsLeave}
+use Rattle.many_threads.specs.PhaseEnds.{AreTaken, EndsOrStops, IsClosed, IsShared}
+use Rattle.many_threads.specs.PhaseEnds.{PhaseComes, PlaysThreads, ThreadsCome, ThreadsLeave}
 use Rattle.many_threads.proofs.Gathering.{threads_come}
 use Rattle.many_threads.proofs.PhaseAccount.{dealt_to, threads_leave}
 use Rattle.many_threads.proofs.PhaseEnds.{leaves_from, phase_comes}
 use Rattle.many_threads.proofs.PhaseStart.{can_play_met, can_run}
 use Rattle.vt_threads.specs.Halves.{CanFinish, IsShut, ThreadsOver}
 
-module _ (s : Scene) (old : Station) (work : PhaseWork) (p : SharedPort) (dealt : Seats) (line : LineState) (putter : PutterState Flagged) (session : PortSeat) (back : CrewBack) (over : ThreadsOver s old work p dealt line putter session back) where
+module _ (s : Scene) (old : Station) (work : PhaseWork) (p : SharedPort) (dealt : Seats) (line : LineState)
+    (putter : PutterState Flagged) (session : PortSeat) (back : CrewBack)
+    (over : ThreadsOver s old work p dealt line putter session back) where
   -- the console once both ends have met
   abbrev met : Station
   met = record { port = over.shut.met; putter = putter; line = old.line; steps = old.steps }
@@ -43,7 +46,8 @@ module _ (s : Scene) (old : Station) (work : PhaseWork) (p : SharedPort) (dealt 
   runs = can_run s p met work dealt can over.shut.shared
 
   fresh : AreDealt p (seats_of crew session)
-  fresh = subst (λ (seat : PortSeat). AreDealt p (seats_of crew seat)) (sym over.session_is) (dealt_to p dealt old.line putter work over.shut.shared.dealt)
+  fresh = subst (λ (seat : PortSeat). AreDealt p (seats_of crew seat)) (sym over.session_is)
+      (dealt_to p dealt old.line putter work over.shut.shared.dealt)
 
   came : CrewComes p crew back
   came = subst (λ (l : LineState). CrewComes p (crew_in dealt l putter work) back) over.shut.line_is over.comes
@@ -52,16 +56,26 @@ module _ (s : Scene) (old : Station) (work : PhaseWork) (p : SharedPort) (dealt 
   half_comes taken h = threads_come p crew session back taken runs fresh came h
 
   knows : KnowsTaken (length over.shut.met.flip.taken) putter.heads
-  knows = subst (λ (x : PortValue). KnowsTaken (length x.flip.taken) putter.heads) (sym over.shut.met_is) (knows_met old.port.flip old.putter putter over.shut.meets)
+  knows = subst (λ (x : PortValue). KnowsTaken (length x.flip.taken) putter.heads) (sym over.shut.met_is)
+      (knows_met old.port.flip old.putter putter over.shut.meets)
 
-  pub half_leaves : (taken : PhaseBack) (w : PortValue) → AreTaken back session taken → IsClosed p taken.seats w
-      → ThreadsLeave s work.phase old (record { port = w; putter = taken.putter; line = taken.line; steps = old.steps }) taken.end
+  pub half_leaves : (taken : PhaseBack) (w : PortValue)
+      → AreTaken back session taken
+      → IsClosed p taken.seats w
+      → ThreadsLeave s work.phase old (record { port = w; putter = taken.putter; line = taken.line; steps = old.steps })
+      taken.end
   half_leaves taken w h closed =
-      leaves_from s work.phase old (record { port = w; putter = taken.putter; line = taken.line; steps = old.steps }) over.shut.met putter taken.end over.shut.met_is
+      leaves_from s work.phase old (record { port = w; putter = taken.putter; line = taken.line; steps = old.steps })
+      over.shut.met putter taken.end over.shut.met_is
       (threads_leave s p met work dealt w taken can knows over.shut.shared (half_comes taken h) closed)
 
 -- the callers' next steps are none of the threads' concern
-pub other_steps : (s : Scene) (k : ℕ) (old left now : Station) (end : PhaseEnd) → now.port ≡ left.port → now.putter ≡ left.putter → now.line ≡ left.line → ThreadsLeave s k old left end → ThreadsLeave s k old now end
+pub other_steps : (s : Scene) (k : ℕ) (old left now : Station) (end : PhaseEnd)
+    → now.port ≡ left.port
+    → now.putter ≡ left.putter
+    → now.line ≡ left.line
+    → ThreadsLeave s k old left end
+    → ThreadsLeave s k old now end
 other_steps s k old left now (Over next) port putter line h =
     subst (λ (v : PortValue). PlaysThreads s k old.port v now.putter old.line now.line next) (sym port)
     (subst (λ (q : PutterState Flagged). PlaysThreads s k old.port left.port q old.line now.line next) (sym putter)
@@ -71,6 +85,8 @@ other_steps s k old left now Full port putter line h =
     (subst (λ (q : PutterState Flagged). StopsPhase s k old.port left.port q old.line now.line) (sym putter)
     (subst (λ (l : LineState). StopsPhase s k old.port left.port left.putter old.line l) (sym line) h))
 
-pub can_finish : (s : Scene) (k : ℕ) (old left : Station) (end : PhaseEnd) → ThreadsLeave s k old left end → CanFinish left end
+pub can_finish : (s : Scene) (k : ℕ) (old left : Station) (end : PhaseEnd)
+    → ThreadsLeave s k old left end
+    → CanFinish left end
 can_finish s k old left (Over next) h = (h.may, h.has_put.ring)
 can_finish s k old left Full h = tt

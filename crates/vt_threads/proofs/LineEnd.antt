@@ -11,7 +11,9 @@ use Rattle.uart_line.proofs.Steps.{arrival_count-append}
 use Rattle.many_threads.specs.Parts.{RunsLine}
 use Rattle.vt_threads.specs.Keying.{DoesSteps}
 
-pub runs_of : (steps : List LineStep) (l m : LineState) (e f : PutterState Flagged) → DoesSteps (closed_script steps) l m e f → RunsLine steps l m e f
+pub runs_of : (steps : List LineStep) (l m : LineState) (e f : PutterState Flagged)
+    → DoesSteps (closed_script steps) l m e f
+    → RunsLine steps l m e f
 runs_of steps l m e f h = record {
   done = h.done;
   hands_over = h.hands_over;
@@ -24,6 +26,9 @@ runs_of steps l m e f h = record {
 }
 
 -- where nothing came of the putter, the line ran with it as it is
-pub runs_still : {A E : Type 0} (r : Result A E) (steps : List LineStep) (l m : LineState) (e f g : PutterState Flagged) → RunsLine steps l m e f → OnErr r (g ≡ f) → OnErr r (RunsLine steps l m e g)
+pub runs_still : {A E : Type 0} (r : Result A E) (steps : List LineStep) (l m : LineState) (e f g : PutterState Flagged)
+    → RunsLine steps l m e f
+    → OnErr r (g ≡ f)
+    → OnErr r (RunsLine steps l m e g)
 runs_still (Ok x) steps l m e f g h same = tt
 runs_still (Err d) steps l m e f g h same = subst (RunsLine steps l m e) (sym same) h

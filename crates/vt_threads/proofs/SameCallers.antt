@@ -1,9 +1,11 @@
 -- What sessions have in common that differ in their lines alone.
-use Rattle.std.proofs.Common.{◌≡◌, ◌==◌, ℕ, zero, suc, ◌+◌, ◌<◌, List, [], ◌∷◌, ◌++◌, Option, Some, Bool, IsTrue, length, map, filter, take, refl, sym, subst, ap, ◌∙◌, arith}
+use Rattle.std.proofs.Common.{◌≡◌, ◌==◌, ℕ, zero, suc, ◌+◌, ◌<◌, List, [], ◌∷◌, ◌++◌, Option, Some}
+use Rattle.std.proofs.Common.{Bool, IsTrue, length, map, filter, take, refl, sym, subst, ap, ◌∙◌, arith}
 use Rattle.std.specs.Prelude.{All, Contains, flat_map, option_to_list, slice_get, slice_index_or, sum}
 use Rattle.std.proofs.lemmas.List.{length-map}
 use Rattle.std.proofs.lemmas.List.Elements.{All-head, All-tail, All-nil, All-cons}
-use Rattle.tty_calls.specs.Sessions.{PlainPhase, PlainScript, PlainSession, call_at, calls_of, counts_on, names_of, number_in, scripts_on, scripts_over, ticks_on}
+use Rattle.tty_calls.specs.Sessions.{PlainPhase, PlainScript, PlainSession, call_at, calls_of}
+use Rattle.tty_calls.specs.Sessions.{counts_on, names_of, number_in, scripts_on, scripts_over, ticks_on}
 use Rattle.tty_calls.specs.Plain.{PlainCall}
 use Rattle.tty_terminal.specs.Steps.{callers_in}
 use Rattle.journal_check.specs.Legal.{IsCallerOf, first_step, has_script, name_at, phase_at, steps_in}
@@ -30,7 +32,8 @@ map_take f zero xs = refl
 map_take f (suc k) [] = refl
 map_take f (suc k) (x ∷ xs) = ap (λ l. f x ∷ l) (map_take f k xs)
 
-map_at : {A B : Type 0} (f : A → B) (xs : List A) (k : ℕ) (d : A) → f (slice_index_or xs k d) ≡ slice_index_or (map f xs) k (f d)
+map_at : {A B : Type 0} (f : A → B) (xs : List A) (k : ℕ) (d : A)
+    → f (slice_index_or xs k d) ≡ slice_index_or (map f xs) k (f d)
 map_at f [] k d = refl
 map_at f (x ∷ xs) zero d = refl
 map_at f (x ∷ xs) (suc k) d = map_at f xs k d
@@ -39,7 +42,9 @@ over_callers : (p : ℕ) (phases : List PlainPhase) → scripts_over p phases �
 over_callers p [] = refl
 over_callers p (x ∷ phases) = ap (λ (l : List PlainScript). scripts_on p x ++ l) (over_callers p phases)
 
-count_callers : (p : ℕ) (phases : List PlainPhase) → map (λ (phase : PlainPhase). length (scripts_on p phase)) phases ≡ map (λ (scripts : List PlainScript). length (on_port p scripts)) (map callers_at phases)
+count_callers : (p : ℕ) (phases : List PlainPhase)
+    → map (λ (phase : PlainPhase). length (scripts_on p phase)) phases
+    ≡ map (λ (scripts : List PlainScript). length (on_port p scripts)) (map callers_at phases)
 count_callers p [] = refl
 count_callers p (x ∷ phases) = ap (λ (l : List ℕ). length (scripts_on p x) ∷ l) (count_callers p phases)
 
@@ -50,30 +55,42 @@ pub differs_back : (x y : PlainSession) → DifferInLines x y → DifferInLines 
 differs_back x y h = record { flips = sym h.flips; callers = sym h.callers; ticks = sym h.ticks }
 
 pub same_length : (x y : PlainSession) → DifferInLines x y → length x.phases ≡ length y.phases
-same_length x y h = sym (length-map x.phases callers_at) ∙ (ap (λ (l : List (List PlainScript)). length l) h.callers ∙ length-map y.phases callers_at)
+same_length x y h =
+    sym (length-map x.phases callers_at)
+    ∙ (ap (λ (l : List (List PlainScript)). length l) h.callers ∙ length-map y.phases callers_at)
 
 module _ (x y : PlainSession) (h : DifferInLines x y) (p : ℕ) where
   over_all : scripts_over p x.phases ≡ scripts_over p y.phases
-  over_all = over_callers p x.phases ∙ (ap (λ (l : List (List PlainScript)). flat_map (on_port p) l) h.callers ∙ sym (over_callers p y.phases))
+  over_all =
+      over_callers p x.phases
+      ∙ (ap (λ (l : List (List PlainScript)). flat_map (on_port p) l) h.callers ∙ sym (over_callers p y.phases))
 
   over_first : (k : ℕ) → scripts_over p (take k x.phases) ≡ scripts_over p (take k y.phases)
   over_first k =
       over_callers p (take k x.phases)
-      ∙ (ap (λ (l : List (List PlainScript)). flat_map (on_port p) l) (map_take callers_at k x.phases ∙ (ap (λ (l : List (List PlainScript)). take k l) h.callers ∙ sym (map_take callers_at k y.phases)))
+      ∙ (ap (λ (l : List (List PlainScript)). flat_map (on_port p) l) (map_take callers_at k x.phases
+      ∙ (ap (λ (l : List (List PlainScript)). take k l) h.callers ∙ sym (map_take callers_at k y.phases)))
       ∙ sym (over_callers p (take k y.phases)))
 
   in_phase : (k : ℕ) → scripts_on p (phase_at x k) ≡ scripts_on p (phase_at y k)
   in_phase k =
       let none : PlainPhase = record { lines = []; ticks = []; callers = [] } in
-      ap (on_port p) (map_at callers_at x.phases k none ∙ (ap (λ (l : List (List PlainScript)). slice_index_or l k []) h.callers ∙ sym (map_at callers_at y.phases k none)))
+      ap (on_port p) (map_at callers_at x.phases k none
+      ∙ (ap (λ (l : List (List PlainScript)). slice_index_or l k []) h.callers
+      ∙ sym (map_at callers_at y.phases k none)))
 
   pub same_ticks : (k : ℕ) → ticks_on p (phase_at x k) ≡ ticks_on p (phase_at y k)
   same_ticks k =
       let none : PlainPhase = record { lines = []; ticks = []; callers = [] } in
-      ap (λ (l : List ℕ). slice_index_or l p 0) (map_at ticks_at x.phases k none ∙ (ap (λ (l : List (List ℕ)). slice_index_or l k []) h.ticks ∙ sym (map_at ticks_at y.phases k none)))
+      ap (λ (l : List ℕ). slice_index_or l p 0) (map_at ticks_at x.phases k none
+      ∙ (ap (λ (l : List (List ℕ)). slice_index_or l k []) h.ticks ∙ sym (map_at ticks_at y.phases k none)))
 
   pub same_counts : counts_on p x ≡ counts_on p y
-  same_counts = count_callers p x.phases ∙ (ap (λ (l : List (List PlainScript)). map (λ (scripts : List PlainScript). length (on_port p scripts)) l) h.callers ∙ sym (count_callers p y.phases))
+  same_counts =
+      count_callers p x.phases
+      ∙ (ap (λ (l : List (List PlainScript)). map (λ (scripts : List PlainScript). length (on_port p scripts)) l)
+      h.callers
+      ∙ sym (count_callers p y.phases))
 
   pub same_names : names_in (record { port = p; session = x }) ≡ names_in (record { port = p; session = y })
   same_names = ap names_of over_all
@@ -82,25 +99,39 @@ module _ (x y : PlainSession) (h : DifferInLines x y) (p : ℕ) where
   named c = ap (λ (ns : List (List ℕ)). slice_get ns c) same_names
 
   pub same_first : (k c : ℕ) → first_step p x k c ≡ first_step p y k c
-  same_first k c = ap (λ (l : List PlainScript). length (calls_of l (name_at p x c))) (over_first k) ∙ ap (λ (n : Option (List ℕ)). length (calls_of (scripts_over p (take k y.phases)) n)) (named c)
+  same_first k c =
+      ap (λ (l : List PlainScript). length (calls_of l (name_at p x c))) (over_first k)
+      ∙ ap (λ (n : Option (List ℕ)). length (calls_of (scripts_over p (take k y.phases)) n)) (named c)
 
   same_steps : (k c : ℕ) → steps_in p x k c ≡ steps_in p y k c
-  same_steps k c = ap (λ (l : List PlainScript). length (calls_of l (name_at p x c))) (in_phase k) ∙ ap (λ (n : Option (List ℕ)). length (calls_of (scripts_on p (phase_at y k)) n)) (named c)
+  same_steps k c =
+      ap (λ (l : List PlainScript). length (calls_of l (name_at p x c))) (in_phase k)
+      ∙ ap (λ (n : Option (List ℕ)). length (calls_of (scripts_on p (phase_at y k)) n)) (named c)
 
   pub same_calls : (c step : ℕ) → call_at p x c step ≡ call_at p y c step
   same_calls c step = ap (λ (l : List PlainScript). slice_get (calls_of l (slice_get (names_of l) c)) step) over_all
 
-  same_caller : (k c : ℕ) → has_script (scripts_on p (phase_at x k)) (name_at p x c) ≡ has_script (scripts_on p (phase_at y k)) (name_at p y c)
-  same_caller k c = ap (λ (l : List PlainScript). has_script l (name_at p x c)) (in_phase k) ∙ ap (λ (n : Option (List ℕ)). has_script (scripts_on p (phase_at y k)) n) (named c)
+  same_caller : (k c : ℕ)
+      → has_script (scripts_on p (phase_at x k)) (name_at p x c)
+      ≡ has_script (scripts_on p (phase_at y k)) (name_at p y c)
+  same_caller k c =
+      ap (λ (l : List PlainScript). has_script l (name_at p x c)) (in_phase k)
+      ∙ ap (λ (n : Option (List ℕ)). has_script (scripts_on p (phase_at y k)) n) (named c)
 
   same_callers : (k : ℕ) → callers_of p x k ≡ callers_of p y k
   same_callers k =
-      ap (λ (l : List PlainScript). flat_map (λ s. option_to_list (number_in (names_of l) s.name)) (scripts_on p (phase_at x k))) over_all
-      ∙ ap (λ (l : List PlainScript). flat_map (λ s. option_to_list (number_in (names_of (scripts_over p y.phases)) s.name)) l) (in_phase k)
+      ap (λ (l : List PlainScript).
+      flat_map (λ s. option_to_list (number_in (names_of l) s.name)) (scripts_on p (phase_at x k))) over_all
+      ∙ ap
+      (λ (l : List PlainScript).
+      flat_map (λ s. option_to_list (number_in (names_of (scripts_over p y.phases)) s.name)) l)
+      (in_phase k)
 
   -- ---- the callers' roles and first steps
 
-  same_role : (k : ℕ) (r : PlainRole) → IsRoleOf (record { port = p; session = y }) k r → IsRoleOf (record { port = p; session = x }) k r
+  same_role : (k : ℕ) (r : PlainRole)
+      → IsRoleOf (record { port = p; session = y }) k r
+      → IsRoleOf (record { port = p; session = x }) k r
   same_role k r role = record {
     known = subst (λ (cs : List ℕ). r.number < sum cs) (sym same_counts) role.known;
     caller = subst (λ (b : Bool). IsTrue b) (sym (same_caller k r.number)) role.caller;
@@ -110,13 +141,18 @@ module _ (x y : PlainSession) (h : DifferInLines x y) (p : ℕ) where
     within = role.within;
   }
 
-  each_role : (k : ℕ) (rs : List PlainRole) → All (IsRoleOf (record { port = p; session = y }) k) rs → All (IsRoleOf (record { port = p; session = x }) k) rs
+  each_role : (k : ℕ) (rs : List PlainRole)
+      → All (IsRoleOf (record { port = p; session = y }) k) rs
+      → All (IsRoleOf (record { port = p; session = x }) k) rs
   each_role k [] all = All-nil (IsRoleOf (record { port = p; session = x }) k)
   each_role k (r ∷ rs) all =
-      All-cons (IsRoleOf (record { port = p; session = x }) k) r rs (same_role k r (All-head (IsRoleOf (record { port = p; session = y }) k) r rs all))
+      All-cons (IsRoleOf (record { port = p; session = x }) k) r rs
+      (same_role k r (All-head (IsRoleOf (record { port = p; session = y }) k) r rs all))
       (each_role k rs (All-tail (IsRoleOf (record { port = p; session = y }) k) r rs all))
 
-  pub same_roles : (k : ℕ) (rs : List PlainRole) → AreRolesOf (record { port = p; session = y }) k rs → AreRolesOf (record { port = p; session = x }) k rs
+  pub same_roles : (k : ℕ) (rs : List PlainRole)
+      → AreRolesOf (record { port = p; session = y }) k rs
+      → AreRolesOf (record { port = p; session = x }) k rs
   same_roles k rs are = record {
     numbers = are.numbers ∙ sym (same_callers k);
     each = each_role k rs are.each;
@@ -125,7 +161,9 @@ module _ (x y : PlainSession) (h : DifferInLines x y) (p : ℕ) where
     all = λ c is. are.all c (subst (λ (b : Bool). IsTrue b) (same_caller k c) is);
   }
 
-  pub same_first_steps : (k : ℕ) (steps : List ℕ) → AreFirstSteps (record { port = p; session = y }) k steps → AreFirstSteps (record { port = p; session = x }) k steps
+  pub same_first_steps : (k : ℕ) (steps : List ℕ)
+      → AreFirstSteps (record { port = p; session = y }) k steps
+      → AreFirstSteps (record { port = p; session = x }) k steps
   same_first_steps k steps are = record {
     count = are.count ∙ ap (λ (ns : List (List ℕ)). length ns) (sym same_names);
     each = λ c. are.each c ∙ sym (same_first k c);
@@ -133,19 +171,25 @@ module _ (x y : PlainSession) (h : DifferInLines x y) (p : ℕ) where
 
 -- ---- the session that the consoles play
 
-keyed_callers : (ports : ℕ) (consoles : List ℕ) (keyboards : List PlainVtPhase) (phases : List PlainPhase) → length phases ≡ length keyboards
+keyed_callers : (ports : ℕ) (consoles : List ℕ) (keyboards : List PlainVtPhase) (phases : List PlainPhase)
+    → length phases ≡ length keyboards
     → map callers_at (keyed_phases ports consoles keyboards phases) ≡ map callers_at phases
 keyed_callers ports consoles [] phases e = refl
 keyed_callers ports consoles (keyboard ∷ keyboards) [] e = refl
-keyed_callers ports consoles (keyboard ∷ keyboards) (phase ∷ phases) e = ap (λ (l : List (List PlainScript)). phase.callers ∷ l) (keyed_callers ports _ keyboards phases (omega (arith, e)))
+keyed_callers ports consoles (keyboard ∷ keyboards) (phase ∷ phases) e =
+    ap (λ (l : List (List PlainScript)). phase.callers ∷ l) (keyed_callers ports _ keyboards phases (omega (arith, e)))
 
-keyed_ticks : (ports : ℕ) (consoles : List ℕ) (keyboards : List PlainVtPhase) (phases : List PlainPhase) → length phases ≡ length keyboards
+keyed_ticks : (ports : ℕ) (consoles : List ℕ) (keyboards : List PlainVtPhase) (phases : List PlainPhase)
+    → length phases ≡ length keyboards
     → map ticks_at (keyed_phases ports consoles keyboards phases) ≡ map ticks_at phases
 keyed_ticks ports consoles [] phases e = refl
 keyed_ticks ports consoles (keyboard ∷ keyboards) [] e = refl
-keyed_ticks ports consoles (keyboard ∷ keyboards) (phase ∷ phases) e = ap (λ (l : List (List ℕ)). phase.ticks ∷ l) (keyed_ticks ports _ keyboards phases (omega (arith, e)))
+keyed_ticks ports consoles (keyboard ∷ keyboards) (phase ∷ phases) e =
+    ap (λ (l : List (List ℕ)). phase.ticks ∷ l) (keyed_ticks ports _ keyboards phases (omega (arith, e)))
 
-pub keyed_differs : (session : PlainVtSession) (entries : List VtEntry) → IsWhole session → DifferInLines (keyed session entries) session.calls
+pub keyed_differs : (session : PlainVtSession) (entries : List VtEntry)
+    → IsWhole session
+    → DifferInLines (keyed session entries) session.calls
 keyed_differs session entries whole = record {
   flips = refl;
   callers = keyed_callers session.calls.ports (consoles_in entries) session.phases session.calls.phases whole;

@@ -30,10 +30,11 @@ abbrev pub ConsoleStands : Scene → ℕ → Station → PhaseEnd → Type 0
 ConsoleStands s k station (Over run) = IsBeforePhase s k station run
 ConsoleStands s k station Full = IsFullBefore s k station
 
--- Console p before phase k, where the board has these entries: whatever entries follow, it stands so in the session that
--- the consoles then play.
+-- Console p before phase k, where the board has these entries: whatever entries follow, it stands so in the session
+-- that the consoles then play.
 abbrev pub StandsKeyed : (session : PlainVtSession) → (p k : ℕ) → (entries : List VtEntry) → Station → PhaseEnd → Type 0
-StandsKeyed session p k entries station end = (more : List VtEntry) → ConsoleStands (record { port = p; session = keyed session (entries ++ more) }) k station end
+StandsKeyed session p k entries station end =
+    (more : List VtEntry) → ConsoleStands (record { port = p; session = keyed session (entries ++ more) }) k station end
 
 pub record IsConsoleBefore (session : PlainVtSession) (p k : ℕ) (entries : List VtEntry) (c : Console) : Type 0 where
   pub names : c.names ≡ names_in (record { port = p; session = session.calls })

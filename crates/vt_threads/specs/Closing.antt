@@ -17,7 +17,8 @@ abbrev pub MadeSince : List (Stamped VtEvent) → BoardSeat → List VtEvent →
 MadeSince xs s events = own_entries s ≡ entries_by (number_of s) xs ++ map (stamped (number_of s)) events
 
 -- an operator's seat answered its calls of the phase
-pub record OperatorPlayed (consoles : ℕ) (names : List (List ℕ)) (phase : PlainVtPhase) (xs : List (Stamped VtEvent)) (s : BoardSeat) : Type 0 where
+pub record OperatorPlayed (consoles : ℕ) (names : List (List ℕ)) (phase : PlainVtPhase) (xs : List (Stamped VtEvent))
+    (s : BoardSeat) : Type 0 where
   pub events : List VtEvent
   pub made : MadeSince xs s events
   pub answers : flat_map call_in events ≡ flat_map (accepted consoles) (calls_at names (number_of s) phase)
@@ -25,9 +26,13 @@ pub record OperatorPlayed (consoles : ℕ) (names : List (List ℕ)) (phase : Pl
 
 -- Since the board was shared each of its seats played its part of a phase: the operators, whose names these are, their
 -- calls, and the keyboard, whose seat has the next number, the keys, which went to these consoles.
-pub record SeatsPlayed (names : List (List ℕ)) (phase : PlainVtPhase) (first : ℕ) (went : List ℕ) (b : SharedBoard) (seats : List BoardSeat) : Type 0 where
+pub record SeatsPlayed (names : List (List ℕ)) (phase : PlainVtPhase) (first : ℕ) (went : List ℕ) (b : SharedBoard)
+    (seats : List BoardSeat) : Type 0 where
   pub count : seats_of b ≡ length names + 1
   pub operators : (i : ℕ) (s : BoardSeat) → slice_get seats i ≡ Some s → number_of s < length names
       → OperatorPlayed (opening_board b).consoles names phase (history_of (opening_board b)) s
-  pub keyboard : (i : ℕ) (s : BoardSeat) → slice_get seats i ≡ Some s → number_of s ≡ length names → MadeSince (history_of (opening_board b)) s (key_events first went)
+  pub keyboard : (i : ℕ) (s : BoardSeat)
+      → slice_get seats i ≡ Some s
+      → number_of s ≡ length names
+      → MadeSince (history_of (opening_board b)) s (key_events first went)
   pub each_key : length went ≡ length phase.keys

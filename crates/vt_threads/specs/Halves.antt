@@ -24,8 +24,10 @@ use Rattle.many_threads.specs.Crew.{CrewComes, crew_in}
 use Rattle.many_threads.specs.PhaseStarts.{CanPlayPhase}
 use Rattle.many_threads.specs.PhaseEnds.{IsShared}
 
--- both ends of the flip buffer have met, the port is shared, and its seats are dealt out to so many callers and the others
-pub record IsShut (old : Station) (m : ℕ) (p : SharedPort) (dealt : Seats) (line : LineState) (putter : PutterState Flagged) : Type 0 where
+-- both ends of the flip buffer have met, the port is shared, and its seats are dealt out to so many callers and the
+-- others
+pub record IsShut (old : Station) (m : ℕ) (p : SharedPort) (dealt : Seats) (line : LineState)
+    (putter : PutterState Flagged) : Type 0 where
   pub met : PortValue
   pub met_is : met ≡ record old.port { flip = after_meeting old.port.flip old.putter }
   pub meets : MeetsTaker old.port.flip old.putter putter
@@ -33,7 +35,8 @@ pub record IsShut (old : Station) (m : ℕ) (p : SharedPort) (dealt : Seats) (li
   pub line_is : line ≡ old.line
 
 -- the threads of a phase came back to the shared port: this work of the scene was played
-pub record ThreadsOver (s : Scene) (old : Station) (work : PhaseWork) (p : SharedPort) (dealt : Seats) (line : LineState) (putter : PutterState Flagged) (session : PortSeat) (back : CrewBack) : Type 0 where
+pub record ThreadsOver (s : Scene) (old : Station) (work : PhaseWork) (p : SharedPort) (dealt : Seats)
+    (line : LineState) (putter : PutterState Flagged) (session : PortSeat) (back : CrewBack) : Type 0 where
   pub shut : IsShut old (length work.cast.now) p dealt line putter
   pub can : CanPlayPhase s old work
   pub session_is : session ≡ dealt.session
@@ -51,7 +54,8 @@ pub record SomeThreadsOver (p : SharedPort) (session : PortSeat) (back : CrewBac
 
 -- the phase of a console may end, where its flusher would go on
 abbrev pub CanFinish : Station → PhaseEnd → Type 0
-CanFinish station (Over next) = (may_end station.port.counts station.port.terminal ≡ true) × (station.putter.ring ≡ station.port.flip.ring)
+CanFinish station (Over next) =
+    (may_end station.port.counts station.port.terminal ≡ true) × (station.putter.ring ≡ station.port.flip.ring)
 CanFinish station Full = Unit {0}
 
 -- the work of a phase with other steps on its line

@@ -1,5 +1,6 @@
 -- What keys do to the line of a console, and to the putting end of its flip buffer.
-use Rattle.std.specs.Prelude.{◌≡◌, ℕ, ◌+◌, ◌-◌, ◌<◌, ◌≤◌, ◌^◌, List, [], ◌∷◌, ◌++◌, false, Option, None, Some, length, reverse, slice_get, slice_index_or, slice_set, take}
+use Rattle.std.specs.Prelude.{◌≡◌, ℕ, ◌+◌, ◌-◌, ◌<◌, ◌≤◌, ◌^◌, List, [], ◌∷◌, ◌++◌, false, Option}
+use Rattle.std.specs.Prelude.{None, Some, length, reverse, slice_get, slice_index_or, slice_set, take}
 use Rattle.std.specs.List.Sorted.{IsNonDecreasing}
 use Rattle.tty_base.specs.declared.characters.Flagged.{Flagged}
 use Rattle.tty_base.specs.declared.lines.Full.{Full}
@@ -45,8 +46,10 @@ pub record NotesKey (byte : ℕ) (lost : Option Full) (old new : LineState) : Ty
 -- the line did these steps, and handed over to this putter all that they gave
 pub record DoesSteps (steps : List LineStep) (old new : LineState) (putter now : PutterState Flagged) : Type 0 where
   pub done : (before : List LineStep) → HasDone old before → HasDone new (before ++ steps)
-  pub hands_over : (before : List LineStep) → HasDone old before
-      → HandsOver putter.capacity (received_list before) (received_list (before ++ steps)) putter.sent now.sent putter.heads now.heads old.report.overruns.items new.report.overruns.items
+  pub hands_over : (before : List LineStep)
+      → HasDone old before
+      → HandsOver putter.capacity (received_list before) (received_list (before ++ steps)) putter.sent now.sent
+      putter.heads now.heads old.report.overruns.items new.report.overruns.items
   pub ring : now.ring ≡ putter.ring
   pub capacity : now.capacity ≡ putter.capacity
   pub most : new.most ≡ old.most
@@ -81,7 +84,10 @@ pub record CanBegin (line : LineState) (putter : PutterState Flagged) : Type 0 w
 pub record CanTakeAll (consoles n : ℕ) (lines : List LineState) (ends : List (PutterState Flagged)) : Type 0 where
   pub lines_of : length lines ≡ consoles
   pub ends_of : length ends ≡ consoles
-  pub each : (p : ℕ) (l : LineState) (e : PutterState Flagged) → slice_get lines p ≡ Some l → slice_get ends p ≡ Some e → CanTakeKeys n l e
+  pub each : (p : ℕ) (l : LineState) (e : PutterState Flagged)
+      → slice_get lines p ≡ Some l
+      → slice_get ends p ≡ Some e
+      → CanTakeKeys n l e
 
 -- a key went to this console: its line notes it, and the other lines stay
 pub record NotesAt (byte console : ℕ) (lost : Option Full) (old new : List LineState) : Type 0 where
@@ -92,56 +98,80 @@ pub record NotesAt (byte console : ℕ) (lost : Option Full) (old new : List Lin
   pub others : new ≡ slice_set old console is
   pub notes : NotesKey byte lost was is
 
-pub record TakesAt (byte console : ℕ) (lines noted : List LineState) (ends now : List (PutterState Flagged)) : Type 0 where
+pub record TakesAt (byte console : ℕ) (lines noted : List LineState)
+    (ends now : List (PutterState Flagged)) : Type 0 where
   pub lost : Option Full
   pub notes : NotesAt byte console lost lines noted
   pub goes : GoesTo byte console lost ends now
 
 -- On each console the line did its keys of these, which went to these consoles one by one.
-abbrev pub TakeKeys : (keys went : List ℕ) → (lines noted : List LineState) → (ends now : List (PutterState Flagged)) → Type 0
+abbrev pub TakeKeys : (keys went : List ℕ) → (lines noted : List LineState) → (ends now : List (PutterState Flagged))
+    → Type 0
 TakeKeys keys went lines noted ends now =
-    (p : ℕ) (l m : LineState) (e f : PutterState Flagged) → slice_get lines p ≡ Some l → slice_get noted p ≡ Some m → slice_get ends p ≡ Some e → slice_get now p ≡ Some f
+    (p : ℕ) (l m : LineState) (e f : PutterState Flagged)
+    → slice_get lines p ≡ Some l
+    → slice_get noted p ≡ Some m
+    → slice_get ends p ≡ Some e
+    → slice_get now p ≡ Some f
     → DoesSteps (good_steps (keys_to p keys went)) l m e f
 
 -- ---- the keyboard
 
 -- the keyboard, whose seat has this number, made an entry for a key, which went to the console that the entry names
-pub record Presses (n index byte : ℕ) (old new : BoardSeat) (lines noted : List LineState) (ends now : List (PutterState Flagged)) : Type 0 where
+pub record Presses (n index byte : ℕ) (old new : BoardSeat) (lines noted : List LineState)
+    (ends now : List (PutterState Flagged)) : Type 0 where
   pub console : ℕ
   pub makes : MakesAll n (Key index console ∷ []) old new
   pub takes : TakesAt byte console lines noted ends now
 
 -- The keyboard, whose seat has this number, made an entry for each of these keys, whose indexes begin with this one;
 -- each went to the console that its entry names.
-pub record PressesKeys (n first : ℕ) (keys : List ℕ) (old new : BoardSeat) (lines noted : List LineState) (ends now : List (PutterState Flagged)) : Type 0 where
+pub record PressesKeys (n first : ℕ) (keys : List ℕ) (old new : BoardSeat) (lines noted : List LineState)
+    (ends now : List (PutterState Flagged)) : Type 0 where
   pub went : List ℕ
   pub each_key : length went ≡ length keys
   pub makes : MakesAll n (key_events first went) old new
   pub take : TakeKeys keys went lines noted ends now
 
 -- .. the first of these keys
-abbrev pub PressesFirst : (n first : ℕ) → List ℕ → (old new : BoardSeat) → (lines noted : List LineState) → (ends now : List (PutterState Flagged)) → Type 0
+abbrev pub PressesFirst : (n first : ℕ) → List ℕ → (old new : BoardSeat) → (lines noted : List LineState)
+    → (ends now : List (PutterState Flagged))
+    → Type 0
 PressesFirst n first keys old new lines noted ends now =
     (count : ℕ) × (count ≤ length keys) × PressesKeys n first (take count keys) old new lines noted ends now
 
 -- ---- all consoles, one after the other
 
 -- the lines and putters below this place have changed so, and those from it on are as they were
-pub record ChangesUpTo (P : LineState → LineState → PutterState Flagged → PutterState Flagged → Type 0) (i : ℕ) (lines noted : List LineState) (ends now : List (PutterState Flagged)) : Type 0 where
+pub record ChangesUpTo (P : LineState → LineState → PutterState Flagged → PutterState Flagged → Type 0) (i : ℕ)
+    (lines noted : List LineState) (ends now : List (PutterState Flagged)) : Type 0 where
   pub lines_of : length noted ≡ length lines
   pub ends_of : length now ≡ length ends
-  pub done : (p : ℕ) (l m : LineState) (e f : PutterState Flagged) → p < i → slice_get lines p ≡ Some l → slice_get noted p ≡ Some m → slice_get ends p ≡ Some e → slice_get now p ≡ Some f → P l m e f
+  pub done : (p : ℕ) (l m : LineState) (e f : PutterState Flagged)
+      → p < i
+      → slice_get lines p ≡ Some l
+      → slice_get noted p ≡ Some m
+      → slice_get ends p ≡ Some e
+      → slice_get now p ≡ Some f
+      → P l m e f
   pub lines_left : (p : ℕ) → i ≤ p → slice_get noted p ≡ slice_get lines p
   pub ends_left : (p : ℕ) → i ≤ p → slice_get now p ≡ slice_get ends p
 
 -- each line and putter has changed so
-pub record ChangesAll (P : LineState → LineState → PutterState Flagged → PutterState Flagged → Type 0) (lines noted : List LineState) (ends now : List (PutterState Flagged)) : Type 0 where
+pub record ChangesAll (P : LineState → LineState → PutterState Flagged → PutterState Flagged → Type 0)
+    (lines noted : List LineState) (ends now : List (PutterState Flagged)) : Type 0 where
   pub lines_of : length noted ≡ length lines
   pub ends_of : length now ≡ length ends
-  pub each : (p : ℕ) (l m : LineState) (e f : PutterState Flagged) → slice_get lines p ≡ Some l → slice_get noted p ≡ Some m → slice_get ends p ≡ Some e → slice_get now p ≡ Some f → P l m e f
+  pub each : (p : ℕ) (l m : LineState) (e f : PutterState Flagged)
+      → slice_get lines p ≡ Some l
+      → slice_get noted p ≡ Some m
+      → slice_get ends p ≡ Some e
+      → slice_get now p ≡ Some f
+      → P l m e f
 
 -- one of them has changed so, and the others are as they were
-pub record ChangesAt (P : LineState → LineState → PutterState Flagged → PutterState Flagged → Type 0) (i : ℕ) (lines noted : List LineState) (ends now : List (PutterState Flagged)) : Type 0 where
+pub record ChangesAt (P : LineState → LineState → PutterState Flagged → PutterState Flagged → Type 0) (i : ℕ)
+    (lines noted : List LineState) (ends now : List (PutterState Flagged)) : Type 0 where
   pub line : LineState
   pub line_now : LineState
   pub end : PutterState Flagged

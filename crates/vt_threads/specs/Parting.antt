@@ -81,11 +81,14 @@ pub record IsParted (calls : Session) (p k : ℕ) (c : Console) (q : Parted) : T
 
 -- ---- what the threads came to
 
-pub record OwnPlayed (shared : SharedPort) (own : OwnSeats) (roles : List (Option PlainRole)) (back : FlusherBack × CallersBack) : Type 0 where
+pub record OwnPlayed (shared : SharedPort) (own : OwnSeats) (roles : List (Option PlainRole))
+    (back : FlusherBack × CallersBack) : Type 0 where
   pub flushed : FlusherComes shared own.run own.flusher back.0
   pub called : CallersCome shared roles back.1
 
-abbrev pub OwnCame : Option SharedPort → Option OwnSeats → List (Option PlainRole) → Option (FlusherBack × CallersBack) → Type 0
+abbrev pub OwnCame : Option SharedPort → Option OwnSeats → List (Option PlainRole)
+    → Option (FlusherBack × CallersBack)
+    → Type 0
 OwnCame None own roles back = Unit {0}
 OwnCame (Some shared) None roles back = Unit {0}
 OwnCame (Some shared) (Some own) roles None = ⊥
@@ -127,19 +130,39 @@ pub record IsDealtOut (shut : Shut) (ticks run : ℕ) (q : Parted) : Type 0 wher
   pub end_is : q.end ≡ shut.putter
 
 -- what the parts of a console need to be put together, and what they come to
-abbrev pub CanPutTogether : Option SharedPort → Option KeySeats → Option (FlusherBack × CallersBack) → LineState → PutterState Flagged → Standing → Type 0
+abbrev pub CanPutTogether : Option SharedPort → Option KeySeats
+    → Option (FlusherBack × CallersBack)
+    → LineState → PutterState Flagged → Standing
+    → Type 0
 CanPutTogether port seats own line end (standing.Full full) = Unit {0}
 CanPutTogether port seats own line end (standing.Shared session) =
-    (shared : SharedPort) × (keys : KeySeats) × (one : FlusherBack × CallersBack) × (port ≡ Some shared) × (seats ≡ Some keys) × (own ≡ Some one) × SomeThreadsOver shared session (crew_back keys line end one.0 one.1)
+    (shared : SharedPort)
+    × (keys : KeySeats)
+    × (one : FlusherBack × CallersBack)
+    × (port ≡ Some shared)
+    × (seats ≡ Some keys)
+    × (own ≡ Some one)
+    × SomeThreadsOver shared session (crew_back keys line end one.0 one.1)
 
-abbrev pub IsPutTogether : Option SharedPort → Option KeySeats → Option (FlusherBack × CallersBack) → LineState → PutterState Flagged → Standing → Station × PhaseEnd → Type 0
-IsPutTogether port seats own line end (standing.Full full) r = (r.0.port ≡ full) × (r.0.putter ≡ end) × (r.0.line ≡ line) × (r.1 ≡ Full)
+abbrev pub IsPutTogether : Option SharedPort → Option KeySeats
+    → Option (FlusherBack × CallersBack)
+    → LineState → PutterState Flagged → Standing
+    → Station × PhaseEnd
+    → Type 0
+IsPutTogether port seats own line end (standing.Full full) r =
+    (r.0.port ≡ full) × (r.0.putter ≡ end) × (r.0.line ≡ line) × (r.1 ≡ Full)
 IsPutTogether port seats own line end (standing.Shared session) r =
-    (shared : SharedPort) (keys : KeySeats) (one : FlusherBack × CallersBack) → port ≡ Some shared → seats ≡ Some keys → own ≡ Some one
-    → (s : Scene) (old : Station) (work : PhaseWork) (dealt : Seats) (l : LineState) (putter : PutterState Flagged) → ThreadsOver s old work shared dealt l putter session (crew_back keys line end one.0 one.1) → PhaseComes s work.phase old r.0 r.1
+    (shared : SharedPort) (keys : KeySeats) (one : FlusherBack × CallersBack)
+    → port ≡ Some shared
+    → seats ≡ Some keys
+    → own ≡ Some one
+    → (s : Scene) (old : Station) (work : PhaseWork) (dealt : Seats) (l : LineState) (putter : PutterState Flagged)
+    → ThreadsOver s old work shared dealt l putter session (crew_back keys line end one.0 one.1)
+    → PhaseComes s work.phase old r.0 r.1
 
 -- the callers' next steps have moved past their calls of these scripts
-pub record HasMovedOn (scripts : List Script) (casting : Casting) (station : Station) (end : PhaseEnd) (c : Console) : Type 0 where
+pub record HasMovedOn (scripts : List Script) (casting : Casting) (station : Station) (end : PhaseEnd)
+    (c : Console) : Type 0 where
   pub names_are : c.names ≡ casting.names
   pub callers_are : c.callers ≡ casting.callers
   pub port_is : c.station.port ≡ station.port

@@ -21,7 +21,8 @@ key_events first [] = []
 key_events first (n ∷ consoles) = Key first n ∷ key_events (first + 1) consoles
 
 -- an operator's seat answered its calls of the phase
-pub record OperatorMade (consoles : ℕ) (names : List (List ℕ)) (phase : PlainVtPhase) (n : ℕ) (xs ys : List (Stamped VtEvent)) : Type 0 where
+pub record OperatorMade (consoles : ℕ) (names : List (List ℕ)) (phase : PlainVtPhase) (n : ℕ)
+    (xs ys : List (Stamped VtEvent)) : Type 0 where
   pub events : List VtEvent
   pub made : MadeBy n xs ys events
   pub answers : flat_map call_in events ≡ flat_map (accepted consoles) (calls_at names n phase)
@@ -29,14 +30,16 @@ pub record OperatorMade (consoles : ℕ) (names : List (List ℕ)) (phase : Plai
 
 -- From the board a to the board b each seat made what a phase has for it, and nobody else made an entry. The keys went
 -- to these consoles.
-pub record PhaseMade (names : List (List ℕ)) (phase : PlainVtPhase) (first : ℕ) (went : List ℕ) (a b : BoardState) : Type 0 where
+pub record PhaseMade (names : List (List ℕ)) (phase : PlainVtPhase) (first : ℕ) (went : List ℕ)
+    (a b : BoardState) : Type 0 where
   pub goes_on : GoesOn (λ k. k < length names + 1) (history_of a) (history_of b)
   pub operators : (n : ℕ) → n < length names → OperatorMade a.consoles names phase n (history_of a) (history_of b)
   pub keyboard : MadeBy (length names) (history_of a) (history_of b) (key_events first went)
   pub each_key : length went ≡ length phase.keys
 
 -- The board has the entries of the phase more.
-pub record AddsPart (session : PlainVtSession) (phase : PlainVtPhase) (first : ℕ) (went : List ℕ) (a b : BoardState) : Type 0 where
+pub record AddsPart (session : PlainVtSession) (phase : PlainVtPhase) (first : ℕ) (went : List ℕ)
+    (a b : BoardState) : Type 0 where
   pub part : List VtEntry
   pub added : b.entries ≡ a.entries ++ part
   pub is_part : IsPartOf session phase first part
@@ -45,4 +48,6 @@ pub record AddsPart (session : PlainVtSession) (phase : PlainVtPhase) (first : �
 -- the entries are those of the phases before phase k, whose keys begin with this index
 abbrev pub HasPartsUpTo : PlainVtSession → (k first : ℕ) → List VtEntry → Type 0
 HasPartsUpTo session k first entries =
-    (rest : List VtEntry) → HasParts session first (drop k session.phases) rest → HasParts session 0 session.phases (entries ++ rest)
+    (rest : List VtEntry)
+    → HasParts session first (drop k session.phases) rest
+    → HasParts session 0 session.phases (entries ++ rest)

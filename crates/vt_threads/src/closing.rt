@@ -20,7 +20,8 @@ pub fn close_board(shared: SharedBoard, seats: Vec<Seat>) -> Board
     ensures name { name_of result ≡ name_of_board shared }
     ensures board { IsBoard result }
     ensures phase { (names : List (List ℕ)) (phase : PlainVtPhase) (first : ℕ) (went : List ℕ)
-        → SeatsPlayed names phase first went shared seats.items → PhaseMade names phase first went (opening_board shared) result }
+        → SeatsPlayed names phase first went shared seats.items
+        → PhaseMade names phase first went (opening_board shared) result }
 {
     shared.close(seats)
 }

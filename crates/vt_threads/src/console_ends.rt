@@ -74,7 +74,11 @@ fn end_console_at<R: Wait, G: Gate>(
     requires port { p < length ports.now }
     requires seat { p < length seats.old }
     requires end { p < length ends.old }
-    requires can { (port : Option SharedPort) (s : Option KeySeats) (e : PutterState Flagged) → port ≡ slice_index_or ports.now p port → s ≡ slice_index_or seats.old p s → e ≡ slice_index_or ends.old p e → CanEndIf port s e }
+    requires can { (port : Option SharedPort) (s : Option KeySeats) (e : PutterState Flagged)
+        → port ≡ slice_index_or ports.now p port
+        → s ≡ slice_index_or seats.old p s
+        → e ≡ slice_index_or ends.old p e
+        → CanEndIf port s e }
     ensures { PairAt (EndsAt ports.now) p seats.old seats.new ends.old ends.new }
 {
     end_shared(rt, gate, &ports[p], &mut seats[p], &mut ends[p], phase);
@@ -91,7 +95,11 @@ pub(crate) fn end_consoles<R: Wait, G: Gate>(
 )
     requires ports { length ports.now ≡ length seats.old }
     requires ends { length ends.old ≡ length seats.old }
-    requires can { (p : ℕ) (port : Option SharedPort) (s : Option KeySeats) (e : PutterState Flagged) → slice_get ports.now p ≡ Some port → slice_get seats.old p ≡ Some s → slice_get ends.old p ≡ Some e → CanEndIf port s e }
+    requires can { (p : ℕ) (port : Option SharedPort) (s : Option KeySeats) (e : PutterState Flagged)
+        → slice_get ports.now p ≡ Some port
+        → slice_get seats.old p ≡ Some s
+        → slice_get ends.old p ≡ Some e
+        → CanEndIf port s e }
     ensures { PairsAll (EndsAt ports.now) seats.old seats.new ends.old ends.new }
 {
     for p in 0..ports.len() {

@@ -65,8 +65,10 @@ pub fn unshare_console(
     steps: Vec<u32>,
 ) -> Result<(Station, PhaseEnd), NoMemory>
     requires { SomeThreadsOver shared session back }
-    ensures comes { (s : Scene) (old : Station) (work : PhaseWork) (dealt : Seats) (line : LineState) (putter : PutterState Flagged)
-        → ThreadsOver s old work shared dealt line putter session back → IfOk result (λ r. PhaseComes s work.phase old r.0 r.1) }
+    ensures comes { (s : Scene) (old : Station) (work : PhaseWork) (dealt : Seats) (line : LineState)
+        (putter : PutterState Flagged)
+        → ThreadsOver s old work shared dealt line putter session back
+        → IfOk result (λ r. PhaseComes s work.phase old r.0 r.1) }
     ensures steps { IfOk result (λ r. r.0.steps ≡ steps) }
 {
     let taken = take_together(back, session)?;
@@ -89,7 +91,9 @@ pub fn unshare_console(
 /// Ends the phase of a console where it may end.
 fn finish(mut left: Station, end: PhaseEnd) -> Result<(Station, PhaseEnd), NoMemory>
     requires { CanFinish left end }
-    ensures comes { (s : Scene) (old : Station) (work : PhaseWork) → CanPlayPhase s old work → ThreadsLeave s work.phase old left end
+    ensures comes { (s : Scene) (old : Station) (work : PhaseWork)
+        → CanPlayPhase s old work
+        → ThreadsLeave s work.phase old left end
         → IfOk result (λ r. PhaseComes s work.phase old r.0 r.1) }
     ensures steps { IfOk result (λ r. r.0.steps ≡ left.steps) }
 {

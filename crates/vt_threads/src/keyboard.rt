@@ -27,7 +27,9 @@ pub struct KeyLines {
 /// Notes a key on the line of a console.
 fn note_at(lines: &mut [Line], console: u8, byte: u8, lost: Option<Full>)
     requires within { console < length lines.old }
-    requires can { (l : LineState) → l ≡ slice_index_or lines.old console l → (l.report.arrived < l.most) × (l.most ≤ 2 ^ 63 + l.handed) }
+    requires can { (l : LineState)
+        → l ≡ slice_index_or lines.old console l
+        → (l.report.arrived < l.most) × (l.most ≤ 2 ^ 63 + l.handed) }
     requires full { MatchOption lost (Unit {0}) (λ f. f.seen ≤ f.sent) }
     ensures { NotesAt byte console lost lines.old lines.new }
 {
@@ -48,11 +50,13 @@ fn press<R: Wait>(
     requires seat { IsHere board.now number seat.old }
     requires can { CanTakeAll (name_of_board board.now).consoles 1 keyed.old.lines.items keyed.old.ends.items }
     ensures seat { IsHere board.now number seat.new }
-    ensures ok { OnOk result (Presses number index byte seat.old seat.new keyed.old.lines.items keyed.new.lines.items keyed.old.ends.items keyed.new.ends.items) }
+    ensures ok { OnOk result (Presses number index byte seat.old seat.new keyed.old.lines.items keyed.new.lines.items
+        keyed.old.ends.items keyed.new.ends.items) }
     ensures err { OnErr result (MakesNone number seat.old seat.new) }
     ensures lines { OnErr result (keyed.new.lines.items ≡ keyed.old.lines.items) }
     ensures ends { OnErr result (keyed.new.ends.items ≡ keyed.old.ends.items) }
-    ensures denied { IfErr result (λ denied. IsDenied (board_with (name_of_board board.now) (list_seen seat.new)) denied) }
+    ensures denied { IfErr result
+        (λ denied. IsDenied (board_with (name_of_board board.now) (list_seen seat.new)) denied) }
 {
     let KeyLines { lines, ends } = keyed;
     let pressed = board.key(rt, seat, number, index, byte, ends.as_mut_slice())?;
@@ -61,8 +65,8 @@ fn press<R: Wait>(
 }
 
 /// Presses keys, the first of which has this index, by the keyboard's seat, which has this number. Each goes to the
-/// console that is active at its turn with the board, or is lost there where the flip buffer is full, and its line notes
-/// it.
+/// console that is active at its turn with the board, or is lost there where the flip buffer is full, and its line
+/// notes it.
 pub fn press_all<R: Wait>(
     rt: &R,
     board: &SharedBoard,
@@ -74,12 +78,16 @@ pub fn press_all<R: Wait>(
 ) -> Result<(), Denied>
     requires seat { IsHere board.now number seat.old }
     requires indexes { first + length keys.now < 2 ^ 32 }
-    requires can { CanTakeAll (name_of_board board.now).consoles (length keys.now) keyed.old.lines.items keyed.old.ends.items }
+    requires can { CanTakeAll (name_of_board board.now).consoles (length keys.now)
+        keyed.old.lines.items keyed.old.ends.items }
     ensures seat { IsHere board.now number seat.new }
     ensures can { CanTakeAll (name_of_board board.now).consoles 0 keyed.new.lines.items keyed.new.ends.items }
-    ensures ok { OnOk result (PressesKeys number first keys.now seat.old seat.new keyed.old.lines.items keyed.new.lines.items keyed.old.ends.items keyed.new.ends.items) }
-    ensures err { OnErr result (PressesFirst number first keys.now seat.old seat.new keyed.old.lines.items keyed.new.lines.items keyed.old.ends.items keyed.new.ends.items) }
-    ensures denied { IfErr result (λ denied. IsDenied (board_with (name_of_board board.now) (list_seen seat.new)) denied) }
+    ensures ok { OnOk result (PressesKeys number first keys.now seat.old seat.new keyed.old.lines.items
+        keyed.new.lines.items keyed.old.ends.items keyed.new.ends.items) }
+    ensures err { OnErr result (PressesFirst number first keys.now seat.old seat.new keyed.old.lines.items
+        keyed.new.lines.items keyed.old.ends.items keyed.new.ends.items) }
+    ensures denied { IfErr result
+        (λ denied. IsDenied (board_with (name_of_board board.now) (list_seen seat.new)) denied) }
 {
     for place in 0..keys.len() {
         press(

@@ -46,11 +46,17 @@ pub fn play_keyboard<R: Wait, G: Gate>(
 ) -> Result<(), Denied>
     requires seat { IsHere board.now work.number seat.old }
     requires indexes { work.first + length work.keys.now < 2 ^ 32 }
-    requires can { CanKeyAll (name_of_board board.now).consoles (length work.keys.now) ports.now keyboard.old.seats.items keyboard.old.keyed.lines.items keyboard.old.keyed.ends.items }
+    requires can { CanKeyAll (name_of_board board.now).consoles (length work.keys.now) ports.now
+        keyboard.old.seats.items keyboard.old.keyed.lines.items keyboard.old.keyed.ends.items }
     ensures seat { IsHere board.now work.entry.number seat.new }
-    ensures ok { OnOk result (PlaysKeyboard work.entry.number work.entry.first work.entry.keys.now seat.old seat.new ports.now keyboard.old.seats.items keyboard.new.seats.items keyboard.old.keyed.lines.items keyboard.new.keyed.lines.items keyboard.old.keyed.ends.items keyboard.new.keyed.ends.items) }
-    ensures err { OnErr result (PlaysFirst work.entry.number work.entry.first work.entry.keys.now seat.old seat.new ports.now keyboard.old.seats.items keyboard.new.seats.items keyboard.old.keyed.lines.items keyboard.new.keyed.lines.items keyboard.old.keyed.ends.items keyboard.new.keyed.ends.items) }
-    ensures denied { IfErr result (λ denied. IsDenied (board_with (name_of_board board.now) (list_seen seat.new)) denied) }
+    ensures ok { OnOk result (PlaysKeyboard work.entry.number work.entry.first work.entry.keys.now seat.old seat.new
+        ports.now keyboard.old.seats.items keyboard.new.seats.items keyboard.old.keyed.lines.items
+        keyboard.new.keyed.lines.items keyboard.old.keyed.ends.items keyboard.new.keyed.ends.items) }
+    ensures err { OnErr result (PlaysFirst work.entry.number work.entry.first work.entry.keys.now seat.old seat.new
+        ports.now keyboard.old.seats.items keyboard.new.seats.items keyboard.old.keyed.lines.items
+        keyboard.new.keyed.lines.items keyboard.old.keyed.ends.items keyboard.new.keyed.ends.items) }
+    ensures denied { IfErr result
+        (λ denied. IsDenied (board_with (name_of_board board.now) (list_seen seat.new)) denied) }
 {
     let Keyboard { keyed, seats } = keyboard;
     begin_all(keyed);

@@ -36,8 +36,10 @@ pub fn seats_make_their_phase()
 pub fn parts_make_an_account()
     ensures none { (session : PlainVtSession) → HasPartsUpTo session 0 0 [] }
     ensures more { (session : PlainVtSession) (k first : ℕ) (phase : PlainVtPhase) (entries part : List VtEntry)
-        → drop k session.phases ≡ phase ∷ drop (k + 1) session.phases → HasPartsUpTo session k first entries
-        → IsPartOf session phase first part → HasPartsUpTo session (k + 1) (first + length phase.keys) (entries ++ part) }
+        → drop k session.phases ≡ phase ∷ drop (k + 1) session.phases
+        → HasPartsUpTo session k first entries
+        → IsPartOf session phase first part
+        → HasPartsUpTo session (k + 1) (first + length phase.keys) (entries ++ part) }
     ensures all { (session : PlainVtSession) (first : ℕ) (b : BoardState)
         → IsBoard b → b.consoles ≡ session.calls.ports → HasPartsUpTo session (length session.phases) first b.entries
         → IsAccount session b.entries }
@@ -45,23 +47,32 @@ pub fn parts_make_an_account()
 
 /// A law: on a console's line of a phase come the keys that the phase's entries name for it, whatever entries follow.
 pub fn keys_come_in_their_phase()
-    ensures { (session : PlainVtSession) (p k : ℕ) (phase : PlainVtPhase) (entries part more : List VtEntry) (went : List ℕ)
-        → IsWhole session → p < session.calls.ports → slice_get session.phases k ≡ Some phase → consoles_in part ≡ went
-        → length went ≡ length phase.keys → length (consoles_in entries) ≡ length (all_keys (take k session.phases))
+    ensures { (session : PlainVtSession) (p k : ℕ) (phase : PlainVtPhase) (entries part more : List VtEntry)
+        (went : List ℕ)
+        → IsWhole session
+        → p < session.calls.ports
+        → slice_get session.phases k ≡ Some phase
+        → consoles_in part ≡ went
+        → length went ≡ length phase.keys
+        → length (consoles_in entries) ≡ length (all_keys (take k session.phases))
         → line_on p (phase_at (keyed session (entries ++ (part ++ more))) k) ≡ key_line (keys_to p phase.keys went) }
 {}
 
 /// A law: a line that began its keys, took them and ended them did the line of these keys, closed as any line is.
 pub fn keys_are_a_line()
     ensures { (keys : List ℕ) (l m k j : LineState) (e f g h : PutterState Flagged)
-        → DoesSteps (Trigger 1 ∷ []) l m e f → DoesSteps (good_steps keys) m k f g → DoesSteps (closed_script []) k j g h
+        → DoesSteps (Trigger 1 ∷ []) l m e f
+        → DoesSteps (good_steps keys) m k f g
+        → DoesSteps (closed_script []) k j g h
         → DoesSteps (closed_script (key_line keys)) l j e h }
 {}
 
 /// A law: the session that consoles play differs from the session's own in what comes on its lines alone, whatever
 /// entries the board has.
 pub fn keyed_sessions_differ_in_lines()
-    ensures { (session : PlainVtSession) (entries : List VtEntry) → IsWhole session → DifferInLines (keyed session entries) session.calls }
+    ensures { (session : PlainVtSession) (entries : List VtEntry)
+        → IsWhole session
+        → DifferInLines (keyed session entries) session.calls }
 {}
 
 /// A law: where sessions differ in their lines alone, the callers of a port have the same roles and the same first
@@ -69,8 +80,10 @@ pub fn keyed_sessions_differ_in_lines()
 pub fn callers_are_the_same()
     ensures roles { (x y : PlainSession) (p k : ℕ) (rs : List PlainRole) → DifferInLines x y
         → AreRolesOf (record { port = p; session = y }) k rs → AreRolesOf (record { port = p; session = x }) k rs }
-    ensures steps { (x y : PlainSession) (p k : ℕ) (steps : List ℕ) → DifferInLines x y
-        → AreFirstSteps (record { port = p; session = y }) k steps → AreFirstSteps (record { port = p; session = x }) k steps }
+    ensures steps { (x y : PlainSession) (p k : ℕ) (steps : List ℕ)
+        → DifferInLines x y
+        → AreFirstSteps (record { port = p; session = y }) k steps
+        → AreFirstSteps (record { port = p; session = x }) k steps }
 {}
 
 /// A law: a history in which only seats below a number made entries has as many as these seats made, seat by seat.

@@ -23,7 +23,10 @@ fn begin_keys(line: &mut Line, end: &mut FlipIn)
 fn begin_at(lines: &mut [Line], ends: &mut [FlipIn], p: usize)
     requires line { p < length lines.old }
     requires end { p < length ends.old }
-    requires can { (l : LineState) (e : PutterState Flagged) → l ≡ slice_index_or lines.old p l → e ≡ slice_index_or ends.old p e → CanBegin l e }
+    requires can { (l : LineState) (e : PutterState Flagged)
+        → l ≡ slice_index_or lines.old p l
+        → e ≡ slice_index_or ends.old p e
+        → CanBegin l e }
     ensures { ChangesAt BeginsKeys p lines.old lines.new ends.old ends.new }
 {
     begin_keys(&mut lines[p], &mut ends[p]);
@@ -31,7 +34,10 @@ fn begin_at(lines: &mut [Line], ends: &mut [FlipIn], p: usize)
 
 fn begin_each(lines: &mut [Line], ends: &mut [FlipIn])
     requires each { length ends.old ≡ length lines.old }
-    requires can { (p : ℕ) (l : LineState) (e : PutterState Flagged) → slice_get lines.old p ≡ Some l → slice_get ends.old p ≡ Some e → CanBegin l e }
+    requires can { (p : ℕ) (l : LineState) (e : PutterState Flagged)
+        → slice_get lines.old p ≡ Some l
+        → slice_get ends.old p ≡ Some e
+        → CanBegin l e }
     ensures { ChangesAll BeginsKeys lines.old lines.new ends.old ends.new }
 {
     for p in 0..lines.len() {
@@ -42,8 +48,12 @@ fn begin_each(lines: &mut [Line], ends: &mut [FlipIn])
 /// Begins the keys of a phase on the lines of all consoles.
 pub fn begin_all(keyed: &mut KeyLines)
     requires each { length keyed.old.ends.items ≡ length keyed.old.lines.items }
-    requires can { (p : ℕ) (l : LineState) (e : PutterState Flagged) → slice_get keyed.old.lines.items p ≡ Some l → slice_get keyed.old.ends.items p ≡ Some e → CanBegin l e }
-    ensures { ChangesAll BeginsKeys keyed.old.lines.items keyed.new.lines.items keyed.old.ends.items keyed.new.ends.items }
+    requires can { (p : ℕ) (l : LineState) (e : PutterState Flagged)
+        → slice_get keyed.old.lines.items p ≡ Some l
+        → slice_get keyed.old.ends.items p ≡ Some e
+        → CanBegin l e }
+    ensures { ChangesAll BeginsKeys keyed.old.lines.items keyed.new.lines.items
+        keyed.old.ends.items keyed.new.ends.items }
 {
     let KeyLines { lines, ends } = keyed;
     begin_each(lines.as_mut_slice(), ends.as_mut_slice());
@@ -61,7 +71,10 @@ fn end_keys(line: &mut Line, end: &mut FlipIn)
 fn end_at(lines: &mut [Line], ends: &mut [FlipIn], p: usize)
     requires line { p < length lines.old }
     requires end { p < length ends.old }
-    requires can { (l : LineState) (e : PutterState Flagged) → l ≡ slice_index_or lines.old p l → e ≡ slice_index_or ends.old p e → CanTakeKeys 0 l e }
+    requires can { (l : LineState) (e : PutterState Flagged)
+        → l ≡ slice_index_or lines.old p l
+        → e ≡ slice_index_or ends.old p e
+        → CanTakeKeys 0 l e }
     ensures { ChangesAt EndsKeys p lines.old lines.new ends.old ends.new }
 {
     end_keys(&mut lines[p], &mut ends[p]);
@@ -69,7 +82,10 @@ fn end_at(lines: &mut [Line], ends: &mut [FlipIn], p: usize)
 
 fn end_each(lines: &mut [Line], ends: &mut [FlipIn])
     requires each { length ends.old ≡ length lines.old }
-    requires can { (p : ℕ) (l : LineState) (e : PutterState Flagged) → slice_get lines.old p ≡ Some l → slice_get ends.old p ≡ Some e → CanTakeKeys 0 l e }
+    requires can { (p : ℕ) (l : LineState) (e : PutterState Flagged)
+        → slice_get lines.old p ≡ Some l
+        → slice_get ends.old p ≡ Some e
+        → CanTakeKeys 0 l e }
     ensures { ChangesAll EndsKeys lines.old lines.new ends.old ends.new }
 {
     for p in 0..lines.len() {
@@ -80,8 +96,12 @@ fn end_each(lines: &mut [Line], ends: &mut [FlipIn])
 /// Ends the keys of a phase on the lines of all consoles.
 pub fn end_all(keyed: &mut KeyLines)
     requires each { length keyed.old.ends.items ≡ length keyed.old.lines.items }
-    requires can { (p : ℕ) (l : LineState) (e : PutterState Flagged) → slice_get keyed.old.lines.items p ≡ Some l → slice_get keyed.old.ends.items p ≡ Some e → CanTakeKeys 0 l e }
-    ensures { ChangesAll EndsKeys keyed.old.lines.items keyed.new.lines.items keyed.old.ends.items keyed.new.ends.items }
+    requires can { (p : ℕ) (l : LineState) (e : PutterState Flagged)
+        → slice_get keyed.old.lines.items p ≡ Some l
+        → slice_get keyed.old.ends.items p ≡ Some e
+        → CanTakeKeys 0 l e }
+    ensures { ChangesAll EndsKeys keyed.old.lines.items keyed.new.lines.items
+        keyed.old.ends.items keyed.new.ends.items }
 {
     let KeyLines { lines, ends } = keyed;
     end_each(lines.as_mut_slice(), ends.as_mut_slice());

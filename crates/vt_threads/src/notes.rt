@@ -1,7 +1,8 @@
 //! What a line notes of a key that was put without it: the line hands the key to an end that gives the answer that the
 //! key was given.
 
-ghost use Rattle.std.specs.Prelude.{◌≡◌, ◌+◌, ◌-◌, ◌<◌, ◌≤◌, ◌^◌, ℕ, [], ◌∷◌, ◌++◌, Err, IfErr, OnOk, OnErr, MatchOption, length, option_to_list, replicate};
+ghost use Rattle.std.specs.Prelude.{◌≡◌, ◌+◌, ◌-◌, ◌<◌, ◌≤◌, ◌^◌, ℕ, [], ◌∷◌, ◌++◌, Err, IfErr};
+ghost use Rattle.std.specs.Prelude.{OnOk, OnErr, MatchOption, length, option_to_list, replicate};
 ghost use Rattle.std.specs.List.Sorted.{IsNonDecreasing};
 ghost use Rattle.uart_line.specs.Received.{overrun_mark};
 ghost use Rattle.vt_threads.specs.Keying.{NotesKey};
@@ -31,7 +32,8 @@ impl Put for Accepting {
         ensures full { IfErr result (λ f. f ≡ record { sent = 1; seen = 0 }) }
         ensures taken { OnErr result (1 ≡ length (option_to_list self.old.taken)) }
         ensures same { OnErr result (self.new.taken ≡ self.old.taken) }
-        ensures one_more { OnErr result (replicate {A = ℕ} self.new.refused 0 ≡ replicate {A = ℕ} self.old.refused 0 ++ 0 ∷ []) }
+        ensures one_more { OnErr result
+            (replicate {A = ℕ} self.new.refused 0 ≡ replicate {A = ℕ} self.old.refused 0 ++ 0 ∷ []) }
         ensures none_more { OnOk result (self.new.refused ≡ self.old.refused) }
         ensures few { self.new.refused ≤ self.old.refused + 1 }
         ensures rise { IsNonDecreasing (replicate {A = ℕ} self.new.refused 0) }
@@ -75,7 +77,8 @@ impl Put for Refusing {
         ensures same { self.new.full ≡ self.old.full }
         ensures counted { self.old.full.sent ≡ length (replicate self.old.full.sent overrun_mark) }
         ensures gap { self.old.full.sent ≡ self.old.full.seen + (self.old.full.sent - self.old.full.seen) }
-        ensures one_more { replicate self.new.refused self.old.full.seen ≡ replicate self.old.refused self.old.full.seen ++ self.old.full.seen ∷ [] }
+        ensures one_more { replicate self.new.refused self.old.full.seen
+            ≡ replicate self.old.refused self.old.full.seen ++ self.old.full.seen ∷ [] }
         ensures number { self.new.refused ≡ self.old.refused + 1 }
         ensures rise { IsNonDecreasing (replicate self.new.refused self.new.full.seen) }
     {

@@ -24,9 +24,11 @@ fn activate<R: Wait>(
 ) -> Result<(), Denied>
     requires { IsHere board.now number seat.old }
     ensures seat { IsHere board.now number seat.new }
-    ensures ok { OnOk result (AnswersCalls (name_of_board board.now).consoles number (OpCall.Activate n ∷ []) seat.old seat.new) }
+    ensures ok { OnOk result
+        (AnswersCalls (name_of_board board.now).consoles number (OpCall.Activate n ∷ []) seat.old seat.new) }
     ensures err { OnErr result (MakesNone number seat.old seat.new) }
-    ensures denied { IfErr result (λ denied. IsDenied (board_with (name_of_board board.now) (list_seen seat.new)) denied) }
+    ensures denied { IfErr result
+        (λ denied. IsDenied (board_with (name_of_board board.now) (list_seen seat.new)) denied) }
 {
     match board.activate(rt, seat, number, n) {
         Ok(()) => Ok(()),
@@ -47,7 +49,8 @@ fn call_one<R: Wait>(
     ensures seat { IsHere board.now number seat.new }
     ensures ok { OnOk result (AnswersCalls (name_of_board board.now).consoles number (call ∷ []) seat.old seat.new) }
     ensures err { OnErr result (MakesNone number seat.old seat.new) }
-    ensures denied { IfErr result (λ denied. IsDenied (board_with (name_of_board board.now) (list_seen seat.new)) denied) }
+    ensures denied { IfErr result
+        (λ denied. IsDenied (board_with (name_of_board board.now) (list_seen seat.new)) denied) }
 {
     match call {
         OpCall::Activate(n) => activate(rt, board, seat, number, n),
@@ -70,7 +73,8 @@ fn call_all<R: Wait>(
     ensures seat { IsHere board.now number seat.new }
     ensures ok { OnOk result (AnswersCalls (name_of_board board.now).consoles number calls.now seat.old seat.new) }
     ensures err { OnErr result (AnswersFirst (name_of_board board.now).consoles number calls.now seat.old seat.new) }
-    ensures denied { IfErr result (λ denied. IsDenied (board_with (name_of_board board.now) (list_seen seat.new)) denied) }
+    ensures denied { IfErr result
+        (λ denied. IsDenied (board_with (name_of_board board.now) (list_seen seat.new)) denied) }
 {
     for call in calls {
         call_one(rt, board, seat, number, *call)?;
@@ -100,9 +104,12 @@ pub fn operate<R: Wait>(
 ) -> Result<(), Denied>
     requires { IsHere board.now number seat.old }
     ensures seat { IsHere board.now number seat.new }
-    ensures ok { OnOk result (AnswersCalls (name_of_board board.now).consoles number (calls_of_seat names.now number (operators_of operators.now)) seat.old seat.new) }
-    ensures err { OnErr result (AnswersFirst (name_of_board board.now).consoles number (calls_of_seat names.now number (operators_of operators.now)) seat.old seat.new) }
-    ensures denied { IfErr result (λ denied. IsDenied (board_with (name_of_board board.now) (list_seen seat.new)) denied) }
+    ensures ok { OnOk result (AnswersCalls (name_of_board board.now).consoles number
+        (calls_of_seat names.now number (operators_of operators.now)) seat.old seat.new) }
+    ensures err { OnErr result (AnswersFirst (name_of_board board.now).consoles number
+        (calls_of_seat names.now number (operators_of operators.now)) seat.old seat.new) }
+    ensures denied { IfErr result
+        (λ denied. IsDenied (board_with (name_of_board board.now) (list_seen seat.new)) denied) }
 {
     for operator in operators {
         call_all(rt, board, seat, number, calls_of(operator, names, number))?;

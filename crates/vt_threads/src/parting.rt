@@ -1,6 +1,7 @@
 //! A console in its parts for the threads of a phase, and whole again after it.
 
-ghost use Rattle.std.specs.Prelude.{◌≡◌, ◌≤◌, ◌<◌, ◌+◌, ◌^◌, ◌++◌, List, None, Some, IsSome, IfOk, All, length, map, replicate, sum};
+ghost use Rattle.std.specs.Prelude.{◌≡◌, ◌≤◌, ◌<◌, ◌+◌, ◌^◌, ◌++◌, List, None, Some};
+ghost use Rattle.std.specs.Prelude.{IsSome, IfOk, All, length, map, replicate, sum};
 ghost use Rattle.tty_base.specs.declared.characters.Flagged.{Flagged};
 ghost use Rattle.word_ring.specs.Ends.{PutterState};
 ghost use Rattle.uart_line.specs.LineState.{LineState};
@@ -18,7 +19,8 @@ ghost use Rattle.vt_text.specs.Sessions.{vt_session_of};
 ghost use Rattle.vt_account.specs.Keyed.{IsWithinKeys};
 ghost use Rattle.vt_threads.specs.Between.{IsConsoleBefore};
 ghost use Rattle.vt_threads.specs.Halves.{SomeThreadsOver, ThreadsOver, crew_back};
-ghost use Rattle.vt_threads.specs.Parting.{CanPutTogether, HasMovedOn, IsDealtOut, IsParted, IsPartedFull, IsPartedShared, IsPlayed, IsPlayedIn, IsPutTogether, IsSomeConsoleBefore};
+ghost use Rattle.vt_threads.specs.Parting.{CanPutTogether, HasMovedOn, IsDealtOut, IsParted, IsPartedFull};
+ghost use Rattle.vt_threads.specs.Parting.{IsPartedShared, IsPlayed, IsPlayedIn, IsPutTogether, IsSomeConsoleBefore};
 
 use crate::console_ends::KeySeats;
 use crate::console_phase::{Shut, share_console, unshare_console};
@@ -104,7 +106,8 @@ fn cast_console(
     requires names { console.now.names ≡ names_in (scene_of number session.now) }
     requires callers { console.now.callers ≡ sum (counts_on number (session_of session.now)) }
     requires steps { AreFirstSteps (scene_of number session.now) k console.now.station.steps.items }
-    ensures roles { IfOk result (λ r. AreRolesOf (scene_of number session.now) k (map (role_in (scripts_at session.now k)) r.0.items)) }
+    ensures roles { IfOk result
+        (λ r. AreRolesOf (scene_of number session.now) k (map (role_in (scripts_at session.now k)) r.0.items)) }
     ensures cast { IfOk result (λ r. r.1.items ≡ seated r.0.items (replicate console.now.callers None)) }
 {
     let steps = console.station.steps.as_slice();
@@ -262,8 +265,10 @@ fn whole_shared(
     steps: Vec<u32>,
 ) -> Result<(Station, PhaseEnd), NoMemory>
     requires { SomeThreadsOver shared session (crew_back seats line end own.0 own.1) }
-    ensures comes { (s : Scene) (old : Station) (work : PhaseWork) (dealt : Seats) (l : LineState) (putter : PutterState Flagged)
-        → ThreadsOver s old work shared dealt l putter session (crew_back seats line end own.0 own.1) → IfOk result (λ r. PhaseComes s work.phase old r.0 r.1) }
+    ensures comes { (s : Scene) (old : Station) (work : PhaseWork) (dealt : Seats) (l : LineState)
+        (putter : PutterState Flagged)
+        → ThreadsOver s old work shared dealt l putter session (crew_back seats line end own.0 own.1)
+        → IfOk result (λ r. PhaseComes s work.phase old r.0 r.1) }
     ensures steps { IfOk result (λ r. r.0.steps ≡ steps) }
 {
     let KeySeats {
@@ -339,8 +344,10 @@ fn moved_on(
     end: PhaseEnd,
 ) -> Console
     requires phase { k < length (vt_session_of session.now).calls.phases }
-    requires within { All (λ r. r.number < length station.steps.items) (map (role_in (scripts_at session.now.calls k)) casting.roles.items) }
-    requires few { All (λ r. r.first + length r.calls < 2 ^ 32) (map (role_in (scripts_at session.now.calls k)) casting.roles.items) }
+    requires within { All (λ r. r.number < length station.steps.items)
+        (map (role_in (scripts_at session.now.calls k)) casting.roles.items) }
+    requires few { All (λ r. r.first + length r.calls < 2 ^ 32)
+        (map (role_in (scripts_at session.now.calls k)) casting.roles.items) }
     ensures { HasMovedOn (scripts_at session.now.calls k) casting station end result }
 {
     let scripts = scripts_of(&session.calls, k);
@@ -374,7 +381,9 @@ pub fn whole_console(
     requires port { number < (vt_session_of session.now).calls.ports }
     requires phase { k < length (vt_session_of session.now).calls.phases }
     requires played { IsPlayed session.now number k back }
-    ensures { (entries part : List VtEntry) → IsPlayedIn session.now number k entries part back → IfOk result (IsConsoleBefore (vt_session_of session.now) number (k + 1) (entries ++ part)) }
+    ensures { (entries part : List VtEntry)
+        → IsPlayedIn session.now number k entries part back
+        → IfOk result (IsConsoleBefore (vt_session_of session.now) number (k + 1) (entries ++ part)) }
 {
     let PartedBack {
         port,

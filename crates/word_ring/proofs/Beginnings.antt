@@ -1,5 +1,6 @@
 -- Beginnings of lists.
-use Rattle.std.proofs.Common.{◌≡◌, ℕ, zero, suc, ◌<◌, ◌≤◌, List, [], ◌∷◌, ◌++◌, length, take, get_or, refl, ap, sym, ◌∙◌, arith, append_assoc, length-append}
+use Rattle.std.proofs.Common.{◌≡◌, ℕ, zero, suc, ◌<◌, ◌≤◌, List, [], ◌∷◌, ◌++◌, length, take}
+use Rattle.std.proofs.Common.{get_or, refl, ap, sym, ◌∙◌, arith, append_assoc, length-append}
 use mathlib.Core.List.{IsPrefix}
 use Rattle.std.proofs.lemmas.List.Prefix.{front_from_reads, front_reads}
 
@@ -44,5 +45,8 @@ pub begins_at : (xs ys : List ℕ) → IsPrefix xs ys → (i : ℕ) → i < leng
 begins_at xs ys p i h = sym (front_reads 0 ys xs p.0 (sym p.1) i h)
 
 -- a list begins another where each of its numbers stands there
-pub begins_from : (xs ys : List ℕ) → length xs ≤ length ys → ((i : ℕ) → i < length xs → get_or xs i 0 ≡ get_or ys i 0) → IsPrefix xs ys
+pub begins_from : (xs ys : List ℕ)
+    → length xs ≤ length ys
+    → ((i : ℕ) → i < length xs → get_or xs i 0 ≡ get_or ys i 0)
+    → IsPrefix xs ys
 begins_from xs ys le each = (_, sym (front_from_reads 0 ys xs le (λ i h. sym (each i h))))

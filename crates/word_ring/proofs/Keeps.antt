@@ -1,5 +1,7 @@
 -- Each step on a ring keeps its rule.
-use Rattle.std.proofs.Common.{◌≡◌, ◌≢◌, ℕ, ◌+◌, ◌/◌, ◌%◌, ◌<◌, ◌≤◌, true, false, List, [], ◌∷◌, ◌++◌, length, take, drop, get_or, set, replicate, All, Contains, inl, inr, ⊎_elim, refl, sym, ap, ◌∙◌, subst, arith, length-append, length-take, length-set, get_or-set_same, get_or-set_other}
+use Rattle.std.proofs.Common.{◌≡◌, ◌≢◌, ℕ, ◌+◌, ◌/◌, ◌%◌, ◌<◌, ◌≤◌, true, false, List, [], ◌∷◌, ◌++◌, length, take}
+use Rattle.std.proofs.Common.{drop, get_or, set, replicate, All, Contains, inl, inr, ⊎_elim, refl, sym, ap, ◌∙◌}
+use Rattle.std.proofs.Common.{subst, arith, length-append, length-take, length-set, get_or-set_same, get_or-set_other}
 use mathlib.Core.List.{IsPrefix}
 use mathlib.Core.Option.{none, some-ne-none}
 use Rattle.std.proofs.lemmas.Bool.{cases_lt, false≢true}
@@ -10,9 +12,14 @@ use Rattle.atomic_table.specs.Table.{State, Me, step, Act, keeps, opening, Allow
 use Rattle.word_ring.specs.declared.table.View.{View}
 use Rattle.word_ring.specs.Ends.{IsOneWithin, AreReleased, IsReleased}
 use Rattle.word_ring.specs.Lanes.{lane, lanes, whole_words}
-use Rattle.word_ring.specs.Plays.{blank_view, both_ends, with_head, with_written, with_all_pushed, with_tail, with_read, with_taken_to, with_put_past, with_taken_past, held, TakesSlot, LoadsHead, StoresLanes, StoresTail, LoadsTail, LoadsLanes, StoresHead, Compares, PutsPast, TakesPast, putter_of, taker_of, note_of, head_note_of, with_note, with_head_note, with_putter}
+use Rattle.word_ring.specs.Plays.{blank_view, both_ends, with_head, with_written, with_all_pushed}
+use Rattle.word_ring.specs.Plays.{with_tail, with_read, with_taken_to, with_put_past, with_taken_past}
+use Rattle.word_ring.specs.Plays.{held, TakesSlot, LoadsHead, StoresLanes, StoresTail, LoadsTail}
+use Rattle.word_ring.specs.Plays.{LoadsLanes, StoresHead, Compares, PutsPast, TakesPast, putter_of}
+use Rattle.word_ring.specs.Plays.{taker_of, note_of, head_note_of, with_note, with_head_note, with_putter}
 use Rattle.word_ring.specs.Rule.{Story, KnowsPuts, KnowsTakes, Knows, Slot, Stands, Ring, place}
-use Rattle.word_ring.proofs.Beginnings.{begins_itself, begins_more, begins_through, begins_length, begins_longer, begins_take, begins_at, begins_from, begins_whole}
+use Rattle.word_ring.proofs.Beginnings.{begins_itself, begins_more, begins_through, begins_length}
+use Rattle.word_ring.proofs.Beginnings.{begins_longer, begins_take, begins_at, begins_from, begins_whole}
 use Rattle.word_ring.proofs.Reading.{rest_long, rest_at}
 use Rattle.word_ring.proofs.Released.{released_more, released_push, below_more, released_below}
 use Rattle.word_ring.proofs.Seats.{GoesOn, knows_on, knows_nothing, Each, each_set, each_end, known_before, each_join}
@@ -33,24 +40,30 @@ stays_on g g' pushed released taken = record {
 }
 
 -- a load changes one view alone
-loaded : (n : ℕ) (s : St) (r : Ring n s) (i id : ℕ) (w : View) → Knows n r.story id w → Ring n record { words = set s.words i (get_or s.words i 0); homes = s.homes; views = set s.views id w }
-loaded n s r i id w known = subst (λ (ws : List ℕ). Ring n record { words = ws; homes = s.homes; views = set s.views id w }) (sym (set-get_or s.words i 0)) record {
-  story = r.story;
-  wide = r.wide;
-  head = r.head;
-  tail = r.tail;
-  taken = r.taken;
-  pushed = r.pushed;
-  fits = r.fits;
-  stands = r.stands;
-  one = r.one;
-  released = r.released;
-  last = r.last;
-  home = r.home;
-  each = each_set n r.story r.story s.views id w r.each known (λ seat v apart k. k);
-}
+loaded : (n : ℕ) (s : St) (r : Ring n s) (i id : ℕ) (w : View)
+    → Knows n r.story id w
+    → Ring n record { words = set s.words i (get_or s.words i 0); homes = s.homes; views = set s.views id w }
+loaded n s r i id w known = subst
+    (λ (ws : List ℕ). Ring n record { words = ws; homes = s.homes; views = set s.views id w })
+    (sym (set-get_or s.words i 0)) record {
+      story = r.story;
+      wide = r.wide;
+      head = r.head;
+      tail = r.tail;
+      taken = r.taken;
+      pushed = r.pushed;
+      fits = r.fits;
+      stands = r.stands;
+      one = r.one;
+      released = r.released;
+      last = r.last;
+      home = r.home;
+      each = each_set n r.story r.story s.views id w r.each known (λ seat v apart k. k);
+    }
 
-pub loads_head : (n slots id : ℕ) (me : M) → me.0.puts ≡ true → Allows (Ring n) slots id me 0 (λ x. x) (LoadsHead (step slots 0 0 0 none) me)
+pub loads_head : (n slots id : ℕ) (me : M)
+    → me.0.puts ≡ true
+    → Allows (Ring n) slots id me 0 (λ x. x) (LoadsHead (step slots 0 0 0 none) me)
 loads_head n slots id me puts s r _ here _ =
     let g : Story = r.story in
     let k : Knows n g id me.0 = r.each id me.0 here in
@@ -65,8 +78,26 @@ loads_head n slots id me puts s r _ here _ =
       noted_heads = k.noted_heads;
       head = omega arith;
       tail = k.tail;
-      puts = λ _. record { at = p.at; capacity = p.capacity; written = p.written; pushed = p.pushed; heads = released_push g.released me.0.heads h p.heads among; passing = p.passing };
-      takes = λ is. (let t = k.takes is in record { at = t.at; capacity = t.capacity; taken = t.taken; released = t.released; begins = t.begins; read = t.read; known = t.known; out = t.out; passing = t.passing });
+      puts = λ _. record {
+        at = p.at;
+        capacity = p.capacity;
+        written = p.written;
+        pushed = p.pushed;
+        heads = released_push g.released me.0.heads h p.heads among;
+        passing = p.passing;
+      };
+      takes = λ is. (let t = k.takes is in
+          record {
+            at = t.at;
+            capacity = t.capacity;
+            taken = t.taken;
+            released = t.released;
+            begins = t.begins;
+            read = t.read;
+            known = t.known;
+            out = t.out;
+            passing = t.passing;
+          });
     } in
     let pushed_is : length me.0.pushed ≡ length g.pushed = ap length p.pushed in
     let written_is : length me.0.written ≡ length g.written = ap length p.written in
@@ -74,8 +105,13 @@ loads_head n slots id me puts s r _ here _ =
     let all = begins_length g.pushed g.written r.pushed in
     (w, keeps, tt, loaded n s r 0 id w known, (refl, refl, omega arith, omega arith, omega arith))
 
-pub stores_lanes : (n slots id : ℕ) (me : M) (at word k : ℕ) → me.0.puts ≡ true → at ≡ place me.0.puts_within (length me.0.written / 4) → 1 < at → k ≤ 4
-    → IsPrefix me.0.written (whole_words me.0.written ++ lanes word k) → length (whole_words me.0.written ++ lanes word k) ≤ me.0.head + me.0.puts_within
+pub stores_lanes : (n slots id : ℕ) (me : M) (at word k : ℕ)
+    → me.0.puts ≡ true
+    → at ≡ place me.0.puts_within (length me.0.written / 4)
+    → 1 < at
+    → k ≤ 4
+    → IsPrefix me.0.written (whole_words me.0.written ++ lanes word k)
+    → length (whole_words me.0.written ++ lanes word k) ≤ me.0.head + me.0.puts_within
     → Allows (Ring n) slots id me at (λ _. word) (λ _. StoresLanes k (step slots at word 0 none) me word)
 stores_lanes n slots id me at word k puts at_is inner few goes_on fits s r _ here _ =
     let g : Story = r.story in
@@ -102,13 +138,42 @@ stores_lanes n slots id me at word k puts at_is inner few goes_on fits s r _ her
       noted_heads = k'.noted_heads;
       head = k'.head;
       tail = k'.tail;
-      puts = λ _. record { at = p.at; capacity = p.capacity; written = refl; pushed = p.pushed; heads = p.heads; passing = p.passing };
-      takes = λ is. (let t = k'.takes is in record { at = t.at; capacity = t.capacity; taken = t.taken; released = t.released; begins = t.begins; read = t.read; known = t.known; out = t.out; passing = t.passing });
+      puts = λ _. record {
+        at = p.at;
+        capacity = p.capacity;
+        written = refl;
+        pushed = p.pushed;
+        heads = p.heads;
+        passing = p.passing;
+      };
+      takes = λ is. (let t = k'.takes is in
+          record {
+            at = t.at;
+            capacity = t.capacity;
+            taken = t.taken;
+            released = t.released;
+            begins = t.begins;
+            read = t.read;
+            known = t.known;
+            out = t.out;
+            passing = t.passing;
+          });
     } in
-    let on : (seat : ℕ) (v : View) → seat ≢ id → Knows n g seat v → Knows n g' seat v = λ seat v apart old. knows_on n g g' seat v
+    let on : (seat : ℕ) (v : View) → seat ≢ id → Knows n g seat v → Knows n g' seat v = λ seat v apart old.
+    knows_on n g g' seat v
     record { pushed = begins_itself g.pushed; released = λ hs a. a; taken = omega arith }
     (λ q. absurd (apart (q.at ∙ sym p.at)))
-    (λ t. record { at = t.at; capacity = t.capacity; taken = t.taken; released = t.released; begins = t.begins; read = t.read; known = t.known; out = t.out; passing = t.passing }) old in (
+    (λ t. record {
+      at = t.at;
+      capacity = t.capacity;
+      taken = t.taken;
+      released = t.released;
+      begins = t.begins;
+      read = t.read;
+      known = t.known;
+      out = t.out;
+      passing = t.passing;
+    }) old in (
       w,
       keeps,
       tt,
@@ -130,7 +195,10 @@ stores_lanes n slots id me at word k puts at_is inner few goes_on fits s r _ her
       (refl, refl),
     )
 
-pub stores_tail : (n slots id : ℕ) (me : M) (x : ℕ) → me.0.puts ≡ true → x ≡ length me.0.written → Allows (Ring n) slots id me 1 (λ _. x) (λ _. StoresTail (step slots 1 x 0 none) me x)
+pub stores_tail : (n slots id : ℕ) (me : M) (x : ℕ)
+    → me.0.puts ≡ true
+    → x ≡ length me.0.written
+    → Allows (Ring n) slots id me 1 (λ _. x) (λ _. StoresTail (step slots 1 x 0 none) me x)
 stores_tail n slots id me x puts x_is s r _ here _ =
     let g : Story = r.story in
     let k : Knows n g id me.0 = r.each id me.0 here in
@@ -144,13 +212,42 @@ stores_tail n slots id me x puts x_is s r _ here _ =
       noted_heads = k.noted_heads;
       head = k.head;
       tail = (let t = k.tail in omega arith);
-      puts = λ _. record { at = p.at; capacity = p.capacity; written = p.written; pushed = p.written; heads = p.heads; passing = p.passing };
-      takes = λ is. (let t = k.takes is in record { at = t.at; capacity = t.capacity; taken = t.taken; released = t.released; begins = t.begins; read = begins_through me.0.read g.pushed g.written t.read r.pushed; known = t.known; out = t.out; passing = t.passing });
+      puts = λ _. record {
+        at = p.at;
+        capacity = p.capacity;
+        written = p.written;
+        pushed = p.written;
+        heads = p.heads;
+        passing = p.passing;
+      };
+      takes = λ is. (let t = k.takes is in
+          record {
+            at = t.at;
+            capacity = t.capacity;
+            taken = t.taken;
+            released = t.released;
+            begins = t.begins;
+            read = begins_through me.0.read g.pushed g.written t.read r.pushed;
+            known = t.known;
+            out = t.out;
+            passing = t.passing;
+          });
     } in
-    let on : (seat : ℕ) (v : View) → seat ≢ id → Knows n g seat v → Knows n g' seat v = λ seat v apart old. knows_on n g g' seat v
+    let on : (seat : ℕ) (v : View) → seat ≢ id → Knows n g seat v → Knows n g' seat v = λ seat v apart old.
+    knows_on n g g' seat v
     record { pushed = r.pushed; released = λ hs a. a; taken = omega arith }
     (λ q. absurd (apart (q.at ∙ sym p.at)))
-    (λ t. record { at = t.at; capacity = t.capacity; taken = t.taken; released = t.released; begins = t.begins; read = begins_through v.read g.pushed g.written t.read r.pushed; known = t.known; out = t.out; passing = t.passing }) old in (
+    (λ t. record {
+      at = t.at;
+      capacity = t.capacity;
+      taken = t.taken;
+      released = t.released;
+      begins = t.begins;
+      read = begins_through v.read g.pushed g.written t.read r.pushed;
+      known = t.known;
+      out = t.out;
+      passing = t.passing;
+    }) old in (
       w,
       keeps,
       tt,
@@ -172,7 +269,9 @@ stores_tail n slots id me x puts x_is s r _ here _ =
       (refl, refl),
     )
 
-pub loads_tail : (n slots id : ℕ) (me : M) → me.0.takes ≡ true → Allows (Ring n) slots id me 1 (λ x. x) (LoadsTail (step slots 1 0 0 none) me)
+pub loads_tail : (n slots id : ℕ) (me : M)
+    → me.0.takes ≡ true
+    → Allows (Ring n) slots id me 1 (λ x. x) (LoadsTail (step slots 1 0 0 none) me)
 loads_tail n slots id me takes s r _ here _ =
     let g : Story = r.story in
     let k : Knows n g id me.0 = r.each id me.0 here in
@@ -190,7 +289,15 @@ loads_tail n slots id me takes s r _ here _ =
       noted_heads = k.noted_heads;
       head = k.head;
       tail = omega arith;
-      puts = λ is. (let p = k.puts is in record { at = p.at; capacity = p.capacity; written = p.written; pushed = p.pushed; heads = p.heads; passing = p.passing });
+      puts = λ is. (let p = k.puts is in
+          record {
+            at = p.at;
+            capacity = p.capacity;
+            written = p.written;
+            pushed = p.pushed;
+            heads = p.heads;
+            passing = p.passing;
+          });
       takes = λ _. record {
         at = t.at;
         capacity = t.capacity;
@@ -210,8 +317,14 @@ loads_tail n slots id me takes s r _ here _ =
     (w, keeps, tt, loaded n s r 1 id w known, (refl, refl, omega arith, omega arith, omega arith, most))
 
 -- what is read of a word, as far as the tail is known
-read_on : (n : ℕ) (words : List ℕ) (head : ℕ) (read pushed written : List ℕ) (at tail : ℕ) → Stands n words head written → IsPrefix read pushed → IsPrefix pushed written
-    → at ≡ place n (length read / 4) → head ≤ length read → length read < tail → tail ≤ length pushed
+read_on : (n : ℕ) (words : List ℕ) (head : ℕ) (read pushed written : List ℕ) (at tail : ℕ)
+    → Stands n words head written
+    → IsPrefix read pushed
+    → IsPrefix pushed written
+    → at ≡ place n (length read / 4)
+    → head ≤ length read
+    → length read < tail
+    → tail ≤ length pushed
     → IsPrefix (take tail (read ++ drop (length read % 4) (lanes (get_or words at 0) 4))) pushed
 read_on n words head read pushed written at tail stands reads pushes at_is low more known =
     let word : ℕ = get_or words at 0 in
@@ -219,15 +332,23 @@ read_on n words head read pushed written at tail stands reads pushes at_is low m
     let long = rest_long read word in
     let cut = length-take tail (read ++ rest) in
     let all = begins_length pushed written pushes in
-    begins_from (take tail (read ++ rest)) pushed (omega arith) (λ i lt. get_or-take tail (read ++ rest) i 0 (omega arith) ∙ ⊎_elim
+    begins_from (take tail (read ++ rest)) pushed (omega arith)
+    (λ i lt. get_or-take tail (read ++ rest) i 0 (omega arith) ∙ ⊎_elim
     (λ below. get_or-append read rest 0 i below ∙ begins_at read pushed reads i below)
     (λ above.
     let group : i / 4 ≡ length read / 4 = omega arith in
-    let here : get_or words (place n (i / 4)) 0 ≡ word = ap (λ (q : ℕ). get_or words (place n q) 0) group ∙ ap (λ (z : ℕ). get_or words z 0) (sym at_is) in
-    rest_at read word i above (omega arith) ∙ (ap (λ (z : ℕ). lane z (i % 4)) (sym here) ∙ (stands i (omega arith) (omega arith) ∙ sym (begins_at pushed written pushes i (omega arith)))))
+    let here : get_or words (place n (i / 4)) 0 ≡ word =
+    ap (λ (q : ℕ). get_or words (place n q) 0) group ∙ ap (λ (z : ℕ). get_or words z 0) (sym at_is) in
+    rest_at read word i above (omega arith)
+    ∙ (ap (λ (z : ℕ). lane z (i % 4)) (sym here)
+    ∙ (stands i (omega arith) (omega arith) ∙ sym (begins_at pushed written pushes i (omega arith)))))
     (cases_lt i (length read)))
 
-pub loads_lanes : (n slots id : ℕ) (me : M) (at : ℕ) → me.0.takes ≡ true → me.0.passing ≡ false → at ≡ place me.0.takes_within (length me.0.read / 4) → length me.0.read < me.0.tail
+pub loads_lanes : (n slots id : ℕ) (me : M) (at : ℕ)
+    → me.0.takes ≡ true
+    → me.0.passing ≡ false
+    → at ≡ place me.0.takes_within (length me.0.read / 4)
+    → length me.0.read < me.0.tail
     → Allows (Ring n) slots id me at (λ x. x) (LoadsLanes (step slots at 0 0 none) me)
 loads_lanes n slots id me at takes still at_is more s r _ here _ =
     let g : Story = r.story in
@@ -238,8 +359,11 @@ loads_lanes n slots id me at takes still at_is more s r _ here _ =
     let w : View = with_read me.0 xs in
     let start : length me.0.taken ≤ length me.0.read = begins_length me.0.taken me.0.read t.begins in
     let taken_is : length me.0.taken ≡ length g.taken = ap length t.taken in
-    let place_is : at ≡ place n (length me.0.read / 4) = at_is ∙ ap (λ (z : ℕ). place z (length me.0.read / 4)) t.capacity in
-    let reads : IsPrefix xs g.pushed = read_on n s.words (length g.taken) me.0.read g.pushed g.written at me.0.tail (r.stands (sym t.passing ∙ still)) t.read r.pushed place_is (omega arith) more k.tail in
+    let place_is : at ≡ place n (length me.0.read / 4) =
+    at_is ∙ ap (λ (z : ℕ). place z (length me.0.read / 4)) t.capacity in
+    let reads : IsPrefix xs g.pushed =
+    read_on n s.words (length g.taken) me.0.read g.pushed g.written at me.0.tail (r.stands (sym t.passing ∙ still))
+    t.read r.pushed place_is (omega arith) more k.tail in
     let long = rest_long me.0.read word in
     let cut = length-take me.0.tail (me.0.read ++ drop (length me.0.read % 4) (lanes word 4)) in
     let longer : IsPrefix me.0.read xs = begins_longer me.0.read xs g.pushed t.read reads (omega arith) in
@@ -248,13 +372,36 @@ loads_lanes n slots id me at takes still at_is more s r _ here _ =
       noted_heads = k.noted_heads;
       head = k.head;
       tail = k.tail;
-      puts = λ is. (let p = k.puts is in record { at = p.at; capacity = p.capacity; written = p.written; pushed = p.pushed; heads = p.heads; passing = p.passing });
-      takes = λ _. record { at = t.at; capacity = t.capacity; taken = t.taken; released = t.released; begins = begins_through me.0.taken me.0.read xs t.begins longer; read = reads; known = omega arith; out = t.out; passing = t.passing };
+      puts = λ is. (let p = k.puts is in
+          record {
+            at = p.at;
+            capacity = p.capacity;
+            written = p.written;
+            pushed = p.pushed;
+            heads = p.heads;
+            passing = p.passing;
+          });
+      takes = λ _. record {
+        at = t.at;
+        capacity = t.capacity;
+        taken = t.taken;
+        released = t.released;
+        begins = begins_through me.0.taken me.0.read xs t.begins longer;
+        read = reads;
+        known = omega arith;
+        out = t.out;
+        passing = t.passing;
+      };
     } in
-    let pushed : me.0.puts ≡ true → IsPrefix xs me.0.pushed = λ is. subst (λ (z : List ℕ). IsPrefix xs z) (sym (k.puts is).pushed) reads in
+    let pushed : me.0.puts ≡ true → IsPrefix xs me.0.pushed = λ is.
+    subst (λ (z : List ℕ). IsPrefix xs z) (sym (k.puts is).pushed) reads in
     (w, keeps, tt, loaded n s r at id w known, (refl, refl, longer, pushed))
 
-pub stores_head : (n slots id : ℕ) (me : M) (x : ℕ) → me.0.takes ≡ true → length me.0.taken ≤ x → x ≤ length me.0.read → Allows (Ring n) slots id me 0 (λ _. x) (λ _. StoresHead (step slots 0 x 0 none) me x)
+pub stores_head : (n slots id : ℕ) (me : M) (x : ℕ)
+    → me.0.takes ≡ true
+    → length me.0.taken ≤ x
+    → x ≤ length me.0.read
+    → Allows (Ring n) slots id me 0 (λ _. x) (λ _. StoresHead (step slots 0 x 0 none) me x)
 stores_head n slots id me x takes low high s r _ here _ =
     let g : Story = r.story in
     let k : Knows n g id me.0 = r.each id me.0 here in
@@ -268,17 +415,47 @@ stores_head n slots id me x takes low high s r _ here _ =
     let reads : IsPrefix xs g.pushed = begins_through xs me.0.read g.pushed (begins_take x me.0.read) t.read in
     let fits = r.fits in
     let bound = t.known in
-    let on_ : GoesOn g g' = record { pushed = begins_itself g.pushed; released = λ hs a. released_more g.released (x ∷ []) hs a; taken = omega arith } in
+    let on_ : GoesOn g g' = record {
+      pushed = begins_itself g.pushed;
+      released = λ hs a. released_more g.released (x ∷ []) hs a;
+      taken = omega arith;
+    } in
     let known : Knows n g' id w = record {
       noted = k.noted;
       noted_heads = released_more g.released (x ∷ []) me.0.noted_heads k.noted_heads;
       head = omega arith;
       tail = k.tail;
-      puts = λ is. (let p = k.puts is in record { at = p.at; capacity = p.capacity; written = p.written; pushed = p.pushed; heads = released_more g.released (x ∷ []) me.0.heads p.heads; passing = p.passing });
-      takes = λ _. record { at = t.at; capacity = t.capacity; taken = refl; released = ap (λ (z : List ℕ). z ++ x ∷ []) t.released; begins = begins_itself xs; read = reads; known = omega arith; out = t.out; passing = t.passing };
+      puts = λ is. (let p = k.puts is in
+          record {
+            at = p.at;
+            capacity = p.capacity;
+            written = p.written;
+            pushed = p.pushed;
+            heads = released_more g.released (x ∷ []) me.0.heads p.heads;
+            passing = p.passing;
+          });
+      takes = λ _. record {
+        at = t.at;
+        capacity = t.capacity;
+        taken = refl;
+        released = ap (λ (z : List ℕ). z ++ x ∷ []) t.released;
+        begins = begins_itself xs;
+        read = reads;
+        known = omega arith;
+        out = t.out;
+        passing = t.passing;
+      };
     } in
-    let on : (seat : ℕ) (v : View) → seat ≢ id → Knows n g seat v → Knows n g' seat v = λ seat v apart old. knows_on n g g' seat v on_
-    (λ q. record { at = q.at; capacity = q.capacity; written = q.written; pushed = q.pushed; heads = released_more g.released (x ∷ []) v.heads q.heads; passing = q.passing })
+    let on : (seat : ℕ) (v : View) → seat ≢ id → Knows n g seat v → Knows n g' seat v = λ seat v apart old.
+    knows_on n g g' seat v on_
+    (λ q. record {
+      at = q.at;
+      capacity = q.capacity;
+      written = q.written;
+      pushed = q.pushed;
+      heads = released_more g.released (x ∷ []) v.heads q.heads;
+      passing = q.passing;
+    })
     (λ u. absurd (apart (u.at ∙ sym t.at))) old in (
       w,
       keeps,
@@ -291,17 +468,22 @@ stores_head n slots id me x takes low high s r _ here _ =
         taken = reads;
         pushed = r.pushed;
         fits = omega arith;
-        stands = λ still. stands_above n (set s.words 0 x) (length g.taken) (length xs) g.written (omega arith) (stands_index n s.words (length g.taken) g.written 0 x (omega arith) (r.stands still));
+        stands = λ still. stands_above n (set s.words 0 x) (length g.taken) (length xs) g.written (omega arith)
+            (stands_index n s.words (length g.taken) g.written 0 x (omega arith) (r.stands still));
         one = r.one;
-        released = All-push (λ (h : ℕ). h ≤ length xs) g.released x (below_more g.released (length g.taken) (length xs) (omega arith) r.released) (omega arith);
-        last = inr (subst (λ (z : ℕ). Contains (g.released ++ x ∷ []) z) (sym cut) (Contains-append_right g.released (x ∷ []) x (0, omega arith, refl)));
+        released = All-push (λ (h : ℕ). h ≤ length xs) g.released x
+            (below_more g.released (length g.taken) (length xs) (omega arith) r.released) (omega arith);
+        last = inr (subst (λ (z : ℕ). Contains (g.released ++ x ∷ []) z) (sym cut)
+            (Contains-append_right g.released (x ∷ []) x (0, omega arith, refl)));
         home = r.home;
         each = each_set n g g' s.views id w r.each known on;
       },
       (refl, refl),
     )
 
-pub compares : (n slots id : ℕ) (me : M) → me.0.takes ≡ true → Allows (Ring n) slots id me 0 (λ x. x) (Compares (step slots 0 0 0 none) me)
+pub compares : (n slots id : ℕ) (me : M)
+    → me.0.takes ≡ true
+    → Allows (Ring n) slots id me 0 (λ x. x) (Compares (step slots 0 0 0 none) me)
 compares n slots id me takes s r _ here _ =
     let g : Story = r.story in
     let k : Knows n g id me.0 = r.each id me.0 here in
@@ -319,7 +501,8 @@ compares n slots id me takes s r _ here _ =
         refl,
         subst (λ (z : List ℕ). IsOneWithin z me.0.noted) (sym t.taken) one,
         subst (λ (z : List ℕ). AreReleased z me.0.noted_heads) (sym t.released) k.noted_heads,
-        subst (λ (z : List ℕ). All (λ h. h ≤ length z) me.0.noted_heads) (sym t.taken) (released_below g.released me.0.noted_heads (length g.taken) r.released k.noted_heads),
+        subst (λ (z : List ℕ). All (λ h. h ≤ length z) me.0.noted_heads) (sym t.taken)
+            (released_below g.released me.0.noted_heads (length g.taken) r.released k.noted_heads),
         λ is. (let p = k.puts is in let pushed_is : length me.0.pushed ≡ length g.pushed = ap length p.pushed in (
           subst (λ (z : List ℕ × List ℕ). IsPrefix z.0 z.1) (λ i. (sym t.taken i, sym p.pushed i)) r.taken,
           subst (λ (z : List ℕ). AreReleased z me.0.heads) (sym t.released) p.heads,
@@ -329,8 +512,16 @@ compares n slots id me takes s r _ here _ =
     )
 
 -- the views alone change
-viewed : (n : ℕ) (s : St) (r : Ring n s) (g' : Story) (views : List View) → g'.written ≡ r.story.written → g'.pushed ≡ r.story.pushed → g'.taken ≡ r.story.taken → g'.released ≡ r.story.released
-    → g'.out ≡ r.story.out → g'.passing ≡ r.story.passing → (g'.passing ≡ true → g'.putter ≡ g'.taker) → Each n g' views → Ring n record { words = s.words; homes = s.homes; views = views }
+viewed : (n : ℕ) (s : St) (r : Ring n s) (g' : Story) (views : List View)
+    → g'.written ≡ r.story.written
+    → g'.pushed ≡ r.story.pushed
+    → g'.taken ≡ r.story.taken
+    → g'.released ≡ r.story.released
+    → g'.out ≡ r.story.out
+    → g'.passing ≡ r.story.passing
+    → (g'.passing ≡ true → g'.putter ≡ g'.taker)
+    → Each n g' views
+    → Ring n record { words = s.words; homes = s.homes; views = views }
 viewed n s r g' views written pushed taken released out passing one each = record {
   story = g';
   wide = r.wide;
@@ -339,9 +530,11 @@ viewed n s r g' views written pushed taken released out passing one each = recor
   taken = subst (λ (z : List ℕ × List ℕ). IsPrefix z.0 z.1) (λ i. (sym taken i, sym pushed i)) r.taken;
   pushed = subst (λ (z : List ℕ × List ℕ). IsPrefix z.0 z.1) (λ i. (sym pushed i, sym written i)) r.pushed;
   fits = subst (λ (z : List ℕ × List ℕ). length z.0 ≤ length z.1 + n) (λ i. (sym written i, sym taken i)) r.fits;
-  stands = λ still. subst (λ (z : List ℕ × List ℕ). Stands n s.words (length z.0) z.1) (λ i. (sym taken i, sym written i)) (r.stands (sym passing ∙ still));
+  stands = λ still. subst (λ (z : List ℕ × List ℕ). Stands n s.words (length z.0) z.1)
+      (λ i. (sym taken i, sym written i)) (r.stands (sym passing ∙ still));
   one = one;
-  released = subst (λ (z : List ℕ × List ℕ). All (λ h. h ≤ length z.0) z.1) (λ i. (sym taken i, sym released i)) r.released;
+  released =
+      subst (λ (z : List ℕ × List ℕ). All (λ h. h ≤ length z.0) z.1) (λ i. (sym taken i, sym released i)) r.released;
   last = subst (λ (z : List ℕ × List ℕ). IsReleased z.1 (length z.0)) (λ i. (sym taken i, sym released i)) r.last;
   home = λ is. r.home (sym out ∙ is);
   each = each;
@@ -362,7 +555,8 @@ notes n id v puts s r here =
       puts = λ is. absurd (false≢true is);
       takes = λ is. absurd (false≢true is);
     } in
-    viewed n s r g (views ++ note_of v ∷ []) refl refl refl refl refl refl r.one (each_end n g views (note_of v) (each_set n g g s.views id v r.each k (λ seat u apart old. old)) known)
+    viewed n s r g (views ++ note_of v ∷ []) refl refl refl refl refl refl r.one
+    (each_end n g views (note_of v) (each_set n g g s.views id v r.each k (λ seat u apart old. old)) known)
 
 pub notes_head : (n id : ℕ) (v : View) → v.takes ≡ true → Splits (Ring n) id v v (head_note_of v)
 notes_head n id v takes s r here =
@@ -379,9 +573,14 @@ notes_head n id v takes s r here =
       puts = λ is. absurd (false≢true is);
       takes = λ is. absurd (false≢true is);
     } in
-    viewed n s r g (views ++ head_note_of v ∷ []) refl refl refl refl refl refl r.one (each_end n g views (head_note_of v) (each_set n g g s.views id v r.each k (λ seat u apart old. old)) known)
+    viewed n s r g (views ++ head_note_of v ∷ []) refl refl refl refl refl refl r.one
+    (each_end n g views (head_note_of v) (each_set n g g s.views id v r.each k (λ seat u apart old. old)) known)
 
-pub parts : (n id : ℕ) (v : View) → v.puts ≡ true → v.takes ≡ true → v.passing ≡ false → Splits (Ring n) id v (taker_of v) (putter_of v)
+pub parts : (n id : ℕ) (v : View)
+    → v.puts ≡ true
+    → v.takes ≡ true
+    → v.passing ≡ false
+    → Splits (Ring n) id v (taker_of v) (putter_of v)
 parts n id v puts takes still s r here =
     let g : Story = r.story in
     let k : Knows n g id v = r.each id v here in
@@ -396,20 +595,50 @@ parts n id v puts takes still s r here =
       head = k.head;
       tail = k.tail;
       puts = λ is. absurd (false≢true is);
-      takes = λ is. record { at = t.at; capacity = t.capacity; taken = t.taken; released = t.released; begins = t.begins; read = t.read; known = t.known; out = t.out; passing = t.passing };
+      takes = λ is. record {
+        at = t.at;
+        capacity = t.capacity;
+        taken = t.taken;
+        released = t.released;
+        begins = t.begins;
+        read = t.read;
+        known = t.known;
+        out = t.out;
+        passing = t.passing;
+      };
     } in
     let right : Knows n g' (length views) (putter_of v) = record {
       noted = k.noted;
       noted_heads = k.noted_heads;
       head = k.head;
       tail = k.tail;
-      puts = λ is. record { at = refl; capacity = p.capacity; written = p.written; pushed = p.pushed; heads = p.heads; passing = p.passing };
+      puts = λ is. record {
+        at = refl;
+        capacity = p.capacity;
+        written = p.written;
+        pushed = p.pushed;
+        heads = p.heads;
+        passing = p.passing;
+      };
       takes = λ is. absurd (false≢true is);
     } in
-    let on : (seat : ℕ) (u : View) → seat ≢ id → Knows n g seat u → Knows n g' seat u = λ seat u apart old. knows_on n g g' seat u on_
+    let on : (seat : ℕ) (u : View) → seat ≢ id → Knows n g seat u → Knows n g' seat u = λ seat u apart old.
+    knows_on n g g' seat u on_
     (λ q. absurd (apart (q.at ∙ sym p.at)))
-    (λ q. record { at = q.at; capacity = q.capacity; taken = q.taken; released = q.released; begins = q.begins; read = q.read; known = q.known; out = q.out; passing = q.passing }) old in
-    viewed n s r g' (views ++ putter_of v ∷ []) refl refl refl refl refl refl (λ is. absurd (false≢true (sym still ∙ (p.passing ∙ is)))) (each_end n g' views (putter_of v) (each_set n g g' s.views id (taker_of v) r.each left on) right)
+    (λ q. record {
+      at = q.at;
+      capacity = q.capacity;
+      taken = q.taken;
+      released = q.released;
+      begins = q.begins;
+      read = q.read;
+      known = q.known;
+      out = q.out;
+      passing = q.passing;
+    }) old in
+    viewed n s r g' (views ++ putter_of v ∷ []) refl refl refl refl refl refl
+    (λ is. absurd (false≢true (sym still ∙ (p.passing ∙ is))))
+    (each_end n g' views (putter_of v) (each_set n g g' s.views id (taker_of v) r.each left on) right)
 
 pub meets : (n id other : ℕ) (v w : View) → Joins (Ring n) id v other w (with_note v w) blank_view
 meets n id other v w s r here apart there =
@@ -423,15 +652,34 @@ meets n id other v w s r here apart there =
       noted_heads = o.noted_heads;
       head = k.head;
       tail = omega arith;
-      puts = λ is. (let p = k.puts is in record { at = p.at; capacity = p.capacity; written = p.written; pushed = p.pushed; heads = p.heads; passing = p.passing });
+      puts = λ is. (let p = k.puts is in
+          record {
+            at = p.at;
+            capacity = p.capacity;
+            written = p.written;
+            pushed = p.pushed;
+            heads = p.heads;
+            passing = p.passing;
+          });
       takes = λ is. (
           let t = k.takes is in
           let bound = t.known in
           let within = begins_length v.taken v.read t.begins in
-          record { at = t.at; capacity = t.capacity; taken = t.taken; released = t.released; begins = begins_itself v.taken; read = begins_through v.taken v.read g.pushed t.begins t.read; known = omega arith; out = t.out; passing = t.passing }
+          record {
+            at = t.at;
+            capacity = t.capacity;
+            taken = t.taken;
+            released = t.released;
+            begins = begins_itself v.taken;
+            read = begins_through v.taken v.read g.pushed t.begins t.read;
+            known = omega arith;
+            out = t.out;
+            passing = t.passing;
+          }
           );
     } in
-    viewed n s r g (set (set s.views id (with_note v w)) other blank_view) refl refl refl refl refl refl r.one (each_join n g g s.views id other (with_note v w) r.each known (λ seat u a b old. old))
+    viewed n s r g (set (set s.views id (with_note v w)) other blank_view) refl refl refl refl refl refl r.one
+    (each_join n g g s.views id other (with_note v w) r.each known (λ seat u a b old. old))
 
 pub meets_head : (n id other : ℕ) (v w : View) → Joins (Ring n) id v other w (with_head_note v w) blank_view
 meets_head n id other v w s r here apart there =
@@ -445,12 +693,35 @@ meets_head n id other v w s r here apart there =
       noted_heads = k.noted_heads;
       head = omega arith;
       tail = k.tail;
-      puts = λ is. (let p = k.puts is in record { at = p.at; capacity = p.capacity; written = p.written; pushed = p.pushed; heads = p.heads; passing = p.passing });
-      takes = λ is. (let t = k.takes is in record { at = t.at; capacity = t.capacity; taken = t.taken; released = t.released; begins = t.begins; read = t.read; known = t.known; out = t.out; passing = t.passing });
+      puts = λ is. (let p = k.puts is in
+          record {
+            at = p.at;
+            capacity = p.capacity;
+            written = p.written;
+            pushed = p.pushed;
+            heads = p.heads;
+            passing = p.passing;
+          });
+      takes = λ is. (let t = k.takes is in
+          record {
+            at = t.at;
+            capacity = t.capacity;
+            taken = t.taken;
+            released = t.released;
+            begins = t.begins;
+            read = t.read;
+            known = t.known;
+            out = t.out;
+            passing = t.passing;
+          });
     } in
-    viewed n s r g (set (set s.views id (with_head_note v w)) other blank_view) refl refl refl refl refl refl r.one (each_join n g g s.views id other (with_head_note v w) r.each known (λ seat u a b old. old))
+    viewed n s r g (set (set s.views id (with_head_note v w)) other blank_view) refl refl refl refl refl refl r.one
+    (each_join n g g s.views id other (with_head_note v w) r.each known (λ seat u a b old. old))
 
-pub ends : (n id other : ℕ) (v w : View) → v.takes ≡ true → w.puts ≡ true → Joins (Ring n) id v other w (with_putter v w) blank_view
+pub ends : (n id other : ℕ) (v w : View)
+    → v.takes ≡ true
+    → w.puts ≡ true
+    → Joins (Ring n) id v other w (with_putter v w) blank_view
 ends n id other v w takes puts s r here apart there =
     let g : Story = r.story in
     let k : Knows n g id v = r.each id v here in
@@ -468,25 +739,80 @@ ends n id other v w takes puts s r here apart there =
       noted_heads = k.noted_heads;
       head = k.head;
       tail = omega arith;
-      puts = λ is. record { at = refl; capacity = p.capacity; written = p.written; pushed = p.pushed; heads = p.heads; passing = t.passing };
-      takes = λ is. record { at = t.at; capacity = t.capacity; taken = t.taken; released = t.released; begins = begins_itself v.taken; read = begins_through v.taken v.read g.pushed t.begins t.read; known = omega arith; out = t.out; passing = t.passing };
+      puts = λ is. record {
+        at = refl;
+        capacity = p.capacity;
+        written = p.written;
+        pushed = p.pushed;
+        heads = p.heads;
+        passing = t.passing;
+      };
+      takes = λ is. record {
+        at = t.at;
+        capacity = t.capacity;
+        taken = t.taken;
+        released = t.released;
+        begins = begins_itself v.taken;
+        read = begins_through v.taken v.read g.pushed t.begins t.read;
+        known = omega arith;
+        out = t.out;
+        passing = t.passing;
+      };
     } in
-    let on : (seat : ℕ) (u : View) → seat ≢ id → seat ≢ other → Knows n g seat u → Knows n g' seat u = λ seat u a b old. knows_on n g g' seat u on_
+    let on : (seat : ℕ) (u : View) → seat ≢ id → seat ≢ other → Knows n g seat u → Knows n g' seat u = λ seat u a b old.
+    knows_on n g g' seat u on_
     (λ q. absurd (b (q.at ∙ sym p.at)))
-    (λ q. record { at = q.at; capacity = q.capacity; taken = q.taken; released = q.released; begins = q.begins; read = q.read; known = q.known; out = q.out; passing = q.passing }) old in
-    viewed n s r g' (set (set s.views id (with_putter v w)) other blank_view) refl refl refl refl refl refl (λ _. t.at) (each_join n g g' s.views id other (with_putter v w) r.each known on)
+    (λ q. record {
+      at = q.at;
+      capacity = q.capacity;
+      taken = q.taken;
+      released = q.released;
+      begins = q.begins;
+      read = q.read;
+      known = q.known;
+      out = q.out;
+      passing = q.passing;
+    }) old in
+    viewed n s r g' (set (set s.views id (with_putter v w)) other blank_view) refl refl refl refl refl refl (λ _. t.at)
+    (each_join n g g' s.views id other (with_putter v w) r.each known on)
 
 -- a new ring
 pub begins : (n : ℕ) (xs : Slot) → Ring n (opening (replicate (n / 4 + 4) 0) (xs ∷ []) (both_ends n))
 begins n xs =
-    let g : Story = record { written = []; pushed = []; taken = []; released = []; putter = 0; taker = 0; out = false; passing = false } in
+    let g : Story = record {
+      written = [];
+      pushed = [];
+      taken = [];
+      released = [];
+      putter = 0;
+      taker = 0;
+      out = false;
+      passing = false;
+    } in
     let known : Knows n g 0 (both_ends n) = record {
       noted = ([], refl);
       noted_heads = λ i d lt. absurd (omega arith);
       head = omega arith;
       tail = omega arith;
-      puts = λ is. record { at = refl; capacity = refl; written = refl; pushed = refl; heads = λ i d lt. absurd (omega arith); passing = refl };
-      takes = λ is. record { at = refl; capacity = refl; taken = refl; released = refl; begins = ([], refl); read = ([], refl); known = omega arith; out = refl; passing = refl };
+      puts = λ is. record {
+        at = refl;
+        capacity = refl;
+        written = refl;
+        pushed = refl;
+        heads = λ i d lt. absurd (omega arith);
+        passing = refl;
+      };
+      takes = λ is. record {
+        at = refl;
+        capacity = refl;
+        taken = refl;
+        released = refl;
+        begins = ([], refl);
+        read = ([], refl);
+        known = omega arith;
+        out = refl;
+        passing = refl;
+      };
     } in
     record {
       story = g;
@@ -505,7 +831,10 @@ begins n xs =
     }
 
 -- the slot is taken, once
-pub takes_slot : (n slots id : ℕ) (me : M) → me.0.takes ≡ true → me.0.holds ≡ false → Allows (Ring n) slots id me 0 (λ x. x) (TakesSlot (step slots 0 0 0 none) me)
+pub takes_slot : (n slots id : ℕ) (me : M)
+    → me.0.takes ≡ true
+    → me.0.holds ≡ false
+    → Allows (Ring n) slots id me 0 (λ x. x) (TakesSlot (step slots 0 0 0 none) me)
 takes_slot n slots id me takes holds s r _ here _ =
     let g : Story = r.story in
     let k : Knows n g id me.0 = r.each id me.0 here in
@@ -518,11 +847,37 @@ takes_slot n slots id me takes holds s r _ here _ =
       noted_heads = k.noted_heads;
       head = k.head;
       tail = k.tail;
-      puts = λ is. (let p = k.puts is in record { at = p.at; capacity = p.capacity; written = p.written; pushed = p.pushed; heads = p.heads; passing = p.passing });
-      takes = λ _. record { at = t.at; capacity = t.capacity; taken = t.taken; released = t.released; begins = t.begins; read = t.read; known = t.known; out = refl; passing = t.passing };
+      puts = λ is. (let p = k.puts is in
+          record {
+            at = p.at;
+            capacity = p.capacity;
+            written = p.written;
+            pushed = p.pushed;
+            heads = p.heads;
+            passing = p.passing;
+          });
+      takes = λ _. record {
+        at = t.at;
+        capacity = t.capacity;
+        taken = t.taken;
+        released = t.released;
+        begins = t.begins;
+        read = t.read;
+        known = t.known;
+        out = refl;
+        passing = t.passing;
+      };
     } in
-    let on : (seat : ℕ) (v : View) → seat ≢ id → Knows n g seat v → Knows n g' seat v = λ seat v apart old. knows_on n g g' seat v (stays_on g g' refl refl refl)
-    (λ q. record { at = q.at; capacity = q.capacity; written = q.written; pushed = q.pushed; heads = q.heads; passing = q.passing })
+    let on : (seat : ℕ) (v : View) → seat ≢ id → Knows n g seat v → Knows n g' seat v = λ seat v apart old.
+    knows_on n g g' seat v (stays_on g g' refl refl refl)
+    (λ q. record {
+      at = q.at;
+      capacity = q.capacity;
+      written = q.written;
+      pushed = q.pushed;
+      heads = q.heads;
+      passing = q.passing;
+    })
     (λ u. absurd (apart (u.at ∙ sym t.at))) old in
     let ring : Ring n record { words = s.words; homes = set s.homes 0 none; views = set s.views id w } = record {
       story = g';
@@ -542,12 +897,17 @@ takes_slot n slots id me takes holds s r _ here _ =
       w,
       Act.takes 0 there.0,
       there.1,
-      subst (λ (ws : List ℕ). Ring n record { words = ws; homes = set s.homes 0 none; views = set s.views id w }) (sym (set-get_or s.words 0 0)) ring,
+      subst (λ (ws : List ℕ). Ring n record { words = ws; homes = set s.homes 0 none; views = set s.views id w })
+          (sym (set-get_or s.words 0 0)) ring,
       (refl, (there.0, refl)),
     )
 
 -- all that the putter's seat knew knows the new one
-pub leaves : (n id : ℕ) (v : View) → v.puts ≡ true → v.takes ≡ false → v.passing ≡ false → Splits (Ring n) id v blank_view v
+pub leaves : (n id : ℕ) (v : View)
+    → v.puts ≡ true
+    → v.takes ≡ false
+    → v.passing ≡ false
+    → Splits (Ring n) id v blank_view v
 leaves n id v puts alone still s r here =
     let g : Story = r.story in
     let k : Knows n g id v = r.each id v here in
@@ -559,17 +919,43 @@ leaves n id v puts alone still s r here =
       noted_heads = k.noted_heads;
       head = k.head;
       tail = k.tail;
-      puts = λ is. record { at = refl; capacity = p.capacity; written = p.written; pushed = p.pushed; heads = p.heads; passing = p.passing };
+      puts = λ is. record {
+        at = refl;
+        capacity = p.capacity;
+        written = p.written;
+        pushed = p.pushed;
+        heads = p.heads;
+        passing = p.passing;
+      };
       takes = λ is. absurd (false≢true (sym alone ∙ is));
     } in
-    let on : (seat : ℕ) (u : View) → seat ≢ id → Knows n g seat u → Knows n g' seat u = λ seat u apart old. knows_on n g g' seat u (stays_on g g' refl refl refl)
+    let on : (seat : ℕ) (u : View) → seat ≢ id → Knows n g seat u → Knows n g' seat u = λ seat u apart old.
+    knows_on n g g' seat u (stays_on g g' refl refl refl)
     (λ q. absurd (apart (q.at ∙ sym p.at)))
-    (λ q. record { at = q.at; capacity = q.capacity; taken = q.taken; released = q.released; begins = q.begins; read = q.read; known = q.known; out = q.out; passing = q.passing }) old in
-    viewed n s r g' (views ++ v ∷ []) refl refl refl refl refl refl (λ is. absurd (false≢true (sym still ∙ (p.passing ∙ is)))) (each_end n g' views v (each_set n g g' s.views id blank_view r.each (knows_nothing n g' id) on) right)
+    (λ q. record {
+      at = q.at;
+      capacity = q.capacity;
+      taken = q.taken;
+      released = q.released;
+      begins = q.begins;
+      read = q.read;
+      known = q.known;
+      out = q.out;
+      passing = q.passing;
+    }) old in
+    viewed n s r g' (views ++ v ∷ []) refl refl refl refl refl refl
+    (λ is. absurd (false≢true (sym still ∙ (p.passing ∙ is))))
+    (each_end n g' views v (each_set n g g' s.views id blank_view r.each (knows_nothing n g' id) on) right)
 
 -- the numbers in the slot are put and pushed past the words
-pub puts_past : (n slots id : ℕ) (me : M) (x : ℕ) → me.0.puts ≡ true → me.0.takes ≡ true → length me.0.taken ≡ length me.0.pushed → length (held me.1) ≤ me.0.takes_within
-    → length me.0.written ≤ length me.0.pushed → x ≡ length (me.0.pushed ++ held me.1) → Allows (Ring n) slots id me 1 (λ _. x) (λ _. PutsPast (step slots 1 x 0 none) me x)
+pub puts_past : (n slots id : ℕ) (me : M) (x : ℕ)
+    → me.0.puts ≡ true
+    → me.0.takes ≡ true
+    → length me.0.taken ≡ length me.0.pushed
+    → length (held me.1) ≤ me.0.takes_within
+    → length me.0.written ≤ length me.0.pushed
+    → x ≡ length (me.0.pushed ++ held me.1)
+    → Allows (Ring n) slots id me 1 (λ _. x) (λ _. PutsPast (step slots 1 x 0 none) me x)
 puts_past n slots id me x puts takes level room whole x_is s r _ here _ =
     let g : Story = r.story in
     let k : Knows n g id me.0 = r.each id me.0 here in
@@ -582,7 +968,8 @@ puts_past n slots id me x puts takes level room whole x_is s r _ here _ =
     let pushed_is : length me.0.pushed ≡ length g.pushed = ap length p.pushed in
     let taken_is : length me.0.taken ≡ length g.taken = ap length t.taken in
     let long : length ys ≡ length me.0.pushed + length xs = length-append me.0.pushed xs in
-    let met : me.0.taken ≡ me.0.pushed = t.taken ∙ (begins_whole g.taken g.pushed r.taken (omega arith) ∙ sym p.pushed) in
+    let met : me.0.taken ≡ me.0.pushed =
+    t.taken ∙ (begins_whole g.taken g.pushed r.taken (omega arith) ∙ sym p.pushed) in
     let more : IsPrefix g.pushed ys = subst (λ (z : List ℕ). IsPrefix z ys) p.pushed (begins_more me.0.pushed xs) in
     let cap = t.capacity in
     let wide = r.wide in
@@ -591,10 +978,22 @@ puts_past n slots id me x puts takes level room whole x_is s r _ here _ =
       noted_heads = k.noted_heads;
       head = k.head;
       tail = (let tail = k.tail in omega arith);
-      puts = λ _. record { at = p.at; capacity = p.capacity; written = refl; pushed = refl; heads = p.heads; passing = refl };
-      takes = λ _. record { at = t.at; capacity = t.capacity; taken = t.taken; released = t.released; begins = t.begins; read = begins_through me.0.read g.pushed ys t.read more; known = t.known; out = t.out; passing = refl };
+      puts = λ _.
+          record { at = p.at; capacity = p.capacity; written = refl; pushed = refl; heads = p.heads; passing = refl };
+      takes = λ _. record {
+        at = t.at;
+        capacity = t.capacity;
+        taken = t.taken;
+        released = t.released;
+        begins = t.begins;
+        read = begins_through me.0.read g.pushed ys t.read more;
+        known = t.known;
+        out = t.out;
+        passing = refl;
+      };
     } in
-    let on : (seat : ℕ) (v : View) → seat ≢ id → Knows n g seat v → Knows n g' seat v = λ seat v apart old. knows_on n g g' seat v
+    let on : (seat : ℕ) (v : View) → seat ≢ id → Knows n g seat v → Knows n g' seat v = λ seat v apart old.
+    knows_on n g g' seat v
     record { pushed = more; released = λ hs a. a; taken = omega arith }
     (λ q. absurd (apart (q.at ∙ sym p.at)))
     (λ u. absurd (apart (u.at ∙ sym t.at))) old in (
@@ -620,7 +1019,11 @@ puts_past n slots id me x puts takes level room whole x_is s r _ here _ =
     )
 
 -- all that was pushed is taken past the words
-pub takes_past : (n slots id : ℕ) (me : M) (x : ℕ) → me.0.puts ≡ true → me.0.takes ≡ true → length me.0.written ≤ length me.0.pushed → x ≡ length me.0.pushed
+pub takes_past : (n slots id : ℕ) (me : M) (x : ℕ)
+    → me.0.puts ≡ true
+    → me.0.takes ≡ true
+    → length me.0.written ≤ length me.0.pushed
+    → x ≡ length me.0.pushed
     → Allows (Ring n) slots id me 0 (λ _. x) (λ _. TakesPast (step slots 0 x 0 none) me x)
 takes_past n slots id me x puts takes whole x_is s r _ here _ =
     let g : Story = r.story in
@@ -635,8 +1038,10 @@ takes_past n slots id me x puts takes whole x_is s r _ here _ =
     let written_is : length me.0.written ≡ length g.written = ap length p.written in
     let low = begins_length g.taken g.pushed r.taken in
     let wide = r.wide in
-    let all : IsPrefix ys g.pushed = subst (λ (z : List ℕ). IsPrefix z g.pushed) (sym p.pushed) (begins_itself g.pushed) in
-    let there : Contains (g.released ++ size ∷ []) size = Contains-append_right g.released (size ∷ []) size (0, omega arith, refl) in
+    let all : IsPrefix ys g.pushed =
+    subst (λ (z : List ℕ). IsPrefix z g.pushed) (sym p.pushed) (begins_itself g.pushed) in
+    let there : Contains (g.released ++ size ∷ []) size =
+    Contains-append_right g.released (size ∷ []) size (0, omega arith, refl) in
     let known : Knows n g' id w = record {
       noted = k.noted;
       noted_heads = released_more g.released (size ∷ []) me.0.noted_heads k.noted_heads;
@@ -647,7 +1052,8 @@ takes_past n slots id me x puts takes whole x_is s r _ here _ =
         capacity = p.capacity;
         written = p.written;
         pushed = p.pushed;
-        heads = released_push (g.released ++ size ∷ []) me.0.heads size (released_more g.released (size ∷ []) me.0.heads p.heads) (inr there);
+        heads = released_push (g.released ++ size ∷ []) me.0.heads size
+            (released_more g.released (size ∷ []) me.0.heads p.heads) (inr there);
         passing = refl;
       };
       takes = λ _. record {
@@ -662,8 +1068,13 @@ takes_past n slots id me x puts takes whole x_is s r _ here _ =
         passing = refl;
       };
     } in
-    let on_ : GoesOn g g' = record { pushed = begins_itself g.pushed; released = λ hs a. released_more g.released (size ∷ []) hs a; taken = omega arith } in
-    let on : (seat : ℕ) (v : View) → seat ≢ id → Knows n g seat v → Knows n g' seat v = λ seat v apart old. knows_on n g g' seat v on_
+    let on_ : GoesOn g g' = record {
+      pushed = begins_itself g.pushed;
+      released = λ hs a. released_more g.released (size ∷ []) hs a;
+      taken = omega arith;
+    } in
+    let on : (seat : ℕ) (v : View) → seat ≢ id → Knows n g seat v → Knows n g' seat v = λ seat v apart old.
+    knows_on n g g' seat v on_
     (λ q. absurd (apart (q.at ∙ sym p.at)))
     (λ u. absurd (apart (u.at ∙ sym t.at))) old in (
       w,
@@ -679,7 +1090,8 @@ takes_past n slots id me x puts takes whole x_is s r _ here _ =
         fits = omega arith;
         stands = λ _ i low high. absurd (omega arith);
         one = λ is. absurd (false≢true is);
-        released = All-push (λ (h : ℕ). h ≤ size) g.released size (below_more g.released (length g.taken) size (omega arith) r.released) (omega arith);
+        released = All-push (λ (h : ℕ). h ≤ size) g.released size
+            (below_more g.released (length g.taken) size (omega arith) r.released) (omega arith);
         last = inr there;
         home = r.home;
         each = each_set n g g' s.views id w r.each known on;

@@ -1,5 +1,6 @@
 -- Numbers in the lanes of a word.
-use Rattle.std.proofs.Common.{◌≡◌, ℕ, zero, suc, ◌+◌, ◌-◌, ◌*◌, ◌/◌, ◌%◌, ◌^◌, ◌<◌, List, [], ◌∷◌, ◌++◌, length, get_or, refl, sym, ap, ◌∙◌, subst, ⊎_elim, arith, length-append, length-take}
+use Rattle.std.proofs.Common.{◌≡◌, ℕ, zero, suc, ◌+◌, ◌-◌, ◌*◌, ◌/◌, ◌%◌, ◌^◌, ◌<◌, List, [], ◌∷◌, ◌++◌, length}
+use Rattle.std.proofs.Common.{get_or, refl, sym, ap, ◌∙◌, subst, ⊎_elim, arith, length-append, length-take}
 use Rattle.std.proofs.lemmas.Bool.{cases_lt}
 use Rattle.std.proofs.lemmas.Nat.{pow-add}
 use Rattle.std.proofs.Math.ListN.{get_or-append}
@@ -8,13 +9,18 @@ use Rattle.std.proofs.Math.Seq.{get_or-append_seam}
 use Rattle.word_ring.specs.Lanes.{lane, lanes, top_lanes, whole_words}
 
 -- one more number in the last lane
-pub lay_next : (w x k : ℕ) → w < 2 ^ 64 → x < 65536 → k < 4 → top_lanes (w / 65536 + x * 281474976710656) (k + 1) ≡ top_lanes w k ++ x ∷ []
+pub lay_next : (w x k : ℕ)
+    → w < 2 ^ 64
+    → x < 65536
+    → k < 4
+    → top_lanes (w / 65536 + x * 281474976710656) (k + 1) ≡ top_lanes w k ++ x ∷ []
 unfolding lane
 lay_next w x zero small h lt =
     let a : (w / 65536 + x * 281474976710656) / 281474976710656 / 1 % 65536 ≡ x = omega arith in
     λ i. a i ∷ []
 lay_next w x (suc zero) small h lt =
-    let a : (w / 65536 + x * 281474976710656) / 4294967296 / 1 % 65536 ≡ w / 281474976710656 / 1 % 65536 = omega arith in
+    let a : (w / 65536 + x * 281474976710656) / 4294967296 / 1 % 65536 ≡ w / 281474976710656 / 1 % 65536 =
+    omega arith in
     let b : (w / 65536 + x * 281474976710656) / 4294967296 / 65536 % 65536 ≡ x = omega arith in
     λ i. a i ∷ b i ∷ []
 lay_next w x (suc (suc zero)) small h lt =
@@ -70,22 +76,34 @@ module _ (w n : ℕ) (w_fits : w < 2 ^ 64) (n_fits : n < 2 ^ 64) where
   unfolding lane
   lay_joined zero some few = absurd (omega arith)
   lay_joined (suc zero) some few =
-      let a : (w / 281474976710656 + (n * 65536) % 18446744073709551616) / 1 % 65536 ≡ w / 281474976710656 / 1 % 65536 = omega arith in
-      let b : (w / 281474976710656 + (n * 65536) % 18446744073709551616) / 65536 % 65536 ≡ n / 1 % 65536 = omega arith in
-      let d : (w / 281474976710656 + (n * 65536) % 18446744073709551616) / 4294967296 % 65536 ≡ n / 65536 % 65536 = omega arith in
-      let e : (w / 281474976710656 + (n * 65536) % 18446744073709551616) / 281474976710656 % 65536 ≡ n / 4294967296 % 65536 = omega arith in
+      let a : (w / 281474976710656 + (n * 65536) % 18446744073709551616) / 1 % 65536 ≡ w / 281474976710656 / 1 % 65536 =
+      omega arith in
+      let b : (w / 281474976710656 + (n * 65536) % 18446744073709551616) / 65536 % 65536 ≡ n / 1 % 65536 =
+      omega arith in
+      let d : (w / 281474976710656 + (n * 65536) % 18446744073709551616) / 4294967296 % 65536 ≡ n / 65536 % 65536 =
+      omega arith in
+      let e : (w / 281474976710656 + (n * 65536) % 18446744073709551616) / 281474976710656
+      % 65536 ≡ n / 4294967296 % 65536 = omega arith in
       λ i. a i ∷ b i ∷ d i ∷ e i ∷ []
   lay_joined (suc (suc zero)) some few =
-      let a : (w / 4294967296 + (n * 4294967296) % 18446744073709551616) / 1 % 65536 ≡ w / 4294967296 / 1 % 65536 = omega arith in
-      let b : (w / 4294967296 + (n * 4294967296) % 18446744073709551616) / 65536 % 65536 ≡ w / 4294967296 / 65536 % 65536 = omega arith in
-      let d : (w / 4294967296 + (n * 4294967296) % 18446744073709551616) / 4294967296 % 65536 ≡ n / 1 % 65536 = omega arith in
-      let e : (w / 4294967296 + (n * 4294967296) % 18446744073709551616) / 281474976710656 % 65536 ≡ n / 65536 % 65536 = omega arith in
+      let a : (w / 4294967296 + (n * 4294967296) % 18446744073709551616) / 1 % 65536 ≡ w / 4294967296 / 1 % 65536 =
+      omega arith in
+      let b : (w / 4294967296 + (n * 4294967296) % 18446744073709551616) / 65536 % 65536
+      ≡ w / 4294967296 / 65536 % 65536 = omega arith in
+      let d : (w / 4294967296 + (n * 4294967296) % 18446744073709551616) / 4294967296 % 65536 ≡ n / 1 % 65536 =
+      omega arith in
+      let e : (w / 4294967296 + (n * 4294967296) % 18446744073709551616) / 281474976710656 % 65536 ≡ n / 65536 % 65536 =
+      omega arith in
       λ i. a i ∷ b i ∷ d i ∷ e i ∷ []
   lay_joined (suc (suc (suc zero))) some few =
-      let a : (w / 65536 + (n * 281474976710656) % 18446744073709551616) / 1 % 65536 ≡ w / 65536 / 1 % 65536 = omega arith in
-      let b : (w / 65536 + (n * 281474976710656) % 18446744073709551616) / 65536 % 65536 ≡ w / 65536 / 65536 % 65536 = omega arith in
-      let d : (w / 65536 + (n * 281474976710656) % 18446744073709551616) / 4294967296 % 65536 ≡ w / 65536 / 4294967296 % 65536 = omega arith in
-      let e : (w / 65536 + (n * 281474976710656) % 18446744073709551616) / 281474976710656 % 65536 ≡ n / 1 % 65536 = omega arith in
+      let a : (w / 65536 + (n * 281474976710656) % 18446744073709551616) / 1 % 65536 ≡ w / 65536 / 1 % 65536 =
+      omega arith in
+      let b : (w / 65536 + (n * 281474976710656) % 18446744073709551616) / 65536 % 65536 ≡ w / 65536 / 65536 % 65536 =
+      omega arith in
+      let d : (w / 65536 + (n * 281474976710656) % 18446744073709551616) / 4294967296 % 65536
+      ≡ w / 65536 / 4294967296 % 65536 = omega arith in
+      let e : (w / 65536 + (n * 281474976710656) % 18446744073709551616) / 281474976710656 % 65536 ≡ n / 1 % 65536 =
+      omega arith in
       λ i. a i ∷ b i ∷ d i ∷ e i ∷ []
   lay_joined (suc (suc (suc (suc k)))) some few = absurd (omega arith)
 
@@ -110,7 +128,8 @@ lanes_split w (suc (suc (suc (suc k)))) few = absurd (omega arith)
 -- a lane from another one on
 pub lane_on : (w l j : ℕ) → lane (w / 65536 ^ l) j ≡ lane w (l + j)
 unfolding lane
-lane_on w l j = ap (λ (z : ℕ). z % 65536) (div-div-eq-div-mul w (65536 ^ l) (65536 ^ j) ∙ ap (λ (z : ℕ). w / z) (sym (pow-add 65536 l j)))
+lane_on w l j = ap (λ (z : ℕ). z % 65536)
+    (div-div-eq-div-mul w (65536 ^ l) (65536 ^ j) ∙ ap (λ (z : ℕ). w / z) (sym (pow-add 65536 l j)))
 
 -- a lane by the number that shifts it down
 pub lane_shift : (w l : ℕ) → l < 4 → w / 2 ^ (l * 16) % 65536 ≡ lane w l
@@ -131,7 +150,8 @@ lanes_at w zero j h = absurd (omega arith)
 lanes_at w (suc k) j h = ⊎_elim
     (λ lt. get_or-append (lanes w k) (lane w k ∷ []) 0 j (rw lanes_length lt) ∙ lanes_at w k j lt)
     (λ ge. let is : j ≡ k = omega arith in subst (λ i. get_or (lanes w k ++ lane w k ∷ []) i 0 ≡ lane w i) (sym is)
-    (ap (λ i. get_or (lanes w k ++ lane w k ∷ []) i 0) (sym (lanes_length w k)) ∙ get_or-append_seam (lanes w k) (lane w k) [] 0))
+    (ap (λ i. get_or (lanes w k ++ lane w k ∷ []) i 0) (sym (lanes_length w k))
+    ∙ get_or-append_seam (lanes w k) (lane w k) [] 0))
     (cases_lt j k)
 
 -- how much of a list fills whole words

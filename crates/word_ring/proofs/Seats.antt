@@ -1,5 +1,6 @@
 -- What each seat of a ring knows, over a change of one or two.
-use Rattle.std.proofs.Common.{◌≡◌, ◌≢◌, ℕ, zero, suc, ◌≤◌, List, [], ◌∷◌, ◌++◌, length, set, refl, sym, ap, subst, ⊎_elim, inl, inr, ◌⊎◌, arith}
+use Rattle.std.proofs.Common.{◌≡◌, ◌≢◌, ℕ, zero, suc, ◌≤◌, List, [], ◌∷◌, ◌++◌, length}
+use Rattle.std.proofs.Common.{set, refl, sym, ap, subst, ⊎_elim, inl, inr, ◌⊎◌, arith}
 use Rattle.std.proofs.lemmas.Bool.{false≢true}
 use mathlib.Core.List.{IsPrefix}
 use mathlib.Core.Option.{some, some-injective, some-ne-none}
@@ -12,7 +13,9 @@ use Rattle.word_ring.specs.Rule.{Story, KnowsPuts, KnowsTakes, Knows}
 use Rattle.word_ring.proofs.Beginnings.{begins_through, begins_length}
 
 -- an item of a list with one more at its end
-pub at_end : {A : Type 0} (l : List A) (a b : A) (j : ℕ) → get_elem? (l ++ a ∷ []) j ≡ some b → (get_elem? l j ≡ some b) ⊎ ((j ≡ length l) × (a ≡ b))
+pub at_end : {A : Type 0} (l : List A) (a b : A) (j : ℕ)
+    → get_elem? (l ++ a ∷ []) j ≡ some b
+    → (get_elem? l j ≡ some b) ⊎ ((j ≡ length l) × (a ≡ b))
 at_end [] a b zero e = inr (refl, some-injective a b e)
 at_end [] a b (suc j) e = absurd (some-ne-none b (sym e))
 at_end (x ∷ xs) a b zero e = inl e
@@ -24,8 +27,12 @@ pub record GoesOn (g g' : Story) : Type 0 where
   pub released : (hs : List ℕ) → AreReleased g.released hs → AreReleased g'.released hs
   pub taken : length g.taken ≤ length g'.taken
 
-pub knows_on : (n : ℕ) (g g' : Story) (seat : ℕ) (v : View) → GoesOn g g' → (KnowsPuts n g seat v → KnowsPuts n g' seat v) → (KnowsTakes n g seat v → KnowsTakes n g' seat v)
-    → Knows n g seat v → Knows n g' seat v
+pub knows_on : (n : ℕ) (g g' : Story) (seat : ℕ) (v : View)
+    → GoesOn g g'
+    → (KnowsPuts n g seat v → KnowsPuts n g' seat v)
+    → (KnowsTakes n g seat v → KnowsTakes n g' seat v)
+    → Knows n g seat v
+    → Knows n g' seat v
 knows_on n g g' seat v on puts takes k = record {
   noted = begins_through v.noted g.pushed g'.pushed k.noted on.pushed;
   noted_heads = on.released v.noted_heads k.noted_heads;
@@ -57,19 +64,30 @@ each_set n g g' views id w each known on seat v at = ⊎_elim
     (at_set views id seat w v at)
 
 -- there is one more seat
-pub each_end : (n : ℕ) (g : Story) (views : List View) (w : View) → Each n g views → Knows n g (length views) w → Each n g (views ++ w ∷ [])
+pub each_end : (n : ℕ) (g : Story) (views : List View) (w : View)
+    → Each n g views
+    → Knows n g (length views) w
+    → Each n g (views ++ w ∷ [])
 each_end n g views w each known seat v at = ⊎_elim
     (λ old. each seat v old)
     (λ new. subst (λ (z : ℕ × View). Knows n g z.0 z.1) (λ i. (sym new.0 i, new.1 i)) known)
     (at_end views w v seat at)
 
 -- what a seat knew before another one changed
-pub known_before : (n : ℕ) (g : Story) (views : List View) (id other : ℕ) (u w : View) → Each n g views → ¬ (other ≡ id) → get_elem? (set views id u) other ≡ some w → Knows n g other w
-known_before n g views id other u w each apart at = ⊎_elim (λ hit. absurd (apart hit.0)) (λ miss. each other w miss.1) (at_set views id other u w at)
+pub known_before : (n : ℕ) (g : Story) (views : List View) (id other : ℕ) (u w : View)
+    → Each n g views
+    → ¬ (other ≡ id)
+    → get_elem? (set views id u) other ≡ some w
+    → Knows n g other w
+known_before n g views id other u w each apart at =
+    ⊎_elim (λ hit. absurd (apart hit.0)) (λ miss. each other w miss.1) (at_set views id other u w at)
 
 -- one seat took in what another knew, which knows nothing then
-pub each_join : (n : ℕ) (g g' : Story) (views : List View) (id other : ℕ) (w : View) → Each n g views → Knows n g' id w
-    → ((seat : ℕ) (v : View) → seat ≢ id → seat ≢ other → Knows n g seat v → Knows n g' seat v) → Each n g' (set (set views id w) other blank_view)
+pub each_join : (n : ℕ) (g g' : Story) (views : List View) (id other : ℕ) (w : View)
+    → Each n g views
+    → Knows n g' id w
+    → ((seat : ℕ) (v : View) → seat ≢ id → seat ≢ other → Knows n g seat v → Knows n g' seat v)
+    → Each n g' (set (set views id w) other blank_view)
 each_join n g g' views id other w each known on seat v at = ⊎_elim
     (λ hit. subst (λ (z : View). Knows n g' seat z) hit.1 (knows_nothing n g' seat))
     (λ miss. ⊎_elim

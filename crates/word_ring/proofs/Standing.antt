@@ -1,5 +1,6 @@
 -- Numbers that stand in their lanes, over a store.
-use Rattle.std.proofs.Common.{◌≡◌, ◌≢◌, ℕ, ◌+◌, ◌-◌, ◌*◌, ◌/◌, ◌%◌, ◌<◌, ◌≤◌, List, ◌++◌, length, get_or, set, sym, ap, ◌∙◌, ⊎_elim, arith, length-append, get_or-set_same, get_or-set_other}
+use Rattle.std.proofs.Common.{◌≡◌, ◌≢◌, ℕ, ◌+◌, ◌-◌, ◌*◌, ◌/◌, ◌%◌, ◌<◌, ◌≤◌, List, ◌++◌, length, get_or, set}
+use Rattle.std.proofs.Common.{sym, ap, ◌∙◌, ⊎_elim, arith, length-append, get_or-set_same, get_or-set_other}
 use mathlib.Core.List.{IsPrefix}
 use Rattle.atomic_table.proofs.Lists.{one_turn}
 use native.Mathlib.Nat.{add-mul, add-mul-mod_self_right, div-add-mod', mod-eq_of_lt, zero-mod}
@@ -39,7 +40,10 @@ place_on n group d lt =
     let is : (group + d) % m ≡ group % m + d = ap (λ (k : ℕ). k % m) (sym on) ∙ (turn ∙ last) in
     omega arith
 
-pub place_on_round : (n group d : ℕ) → d ≤ n / 4 + 2 → n / 4 + 4 ≤ place n group + d → place n (group + d) ≡ place n group + d - (n / 4 + 2)
+pub place_on_round : (n group d : ℕ)
+    → d ≤ n / 4 + 2
+    → n / 4 + 4 ≤ place n group + d
+    → place n (group + d) ≡ place n group + d - (n / 4 + 2)
 place_on_round n group d few ge =
     let m = n / 4 + 2 in
     let r = group % m + d - m in
@@ -64,32 +68,52 @@ place_round n group ge =
 
 -- two groups less than a round apart stand in different words
 apart : (n a b : ℕ) → a < b → b < a + (n / 4 + 2) → place n a ≢ place n b
-apart n a b lt near e = let same : a % (n / 4 + 2) ≡ b % (n / 4 + 2) = omega arith in let is = one_turn a b (n / 4 + 2) (omega arith) near same in omega arith
+apart n a b lt near e =
+    let same : a % (n / 4 + 2) ≡ b % (n / 4 + 2) = omega arith in
+    let is = one_turn a b (n / 4 + 2) (omega arith) near same in omega arith
 
 -- a store to the head or the tail
-pub stands_index : (n : ℕ) (words : List ℕ) (head : ℕ) (written : List ℕ) (at x : ℕ) → at < 2 → Stands n words head written → Stands n (set words at x) head written
-stands_index n words head written at x lt stands i low high = ap (λ z. lane z (i % 4)) (get_or-set_other words at (place n (i / 4)) x 0 (λ e. omega arith)) ∙ stands i low high
+pub stands_index : (n : ℕ) (words : List ℕ) (head : ℕ) (written : List ℕ) (at x : ℕ)
+    → at < 2
+    → Stands n words head written
+    → Stands n (set words at x) head written
+stands_index n words head written at x lt stands i low high =
+    ap (λ z. lane z (i % 4)) (get_or-set_other words at (place n (i / 4)) x 0 (λ e. omega arith)) ∙ stands i low high
 
 -- the head rises
-pub stands_above : (n : ℕ) (words : List ℕ) (head head' : ℕ) (written : List ℕ) → head ≤ head' → Stands n words head written → Stands n words head' written
+pub stands_above : (n : ℕ) (words : List ℕ) (head head' : ℕ) (written : List ℕ)
+    → head ≤ head'
+    → Stands n words head written
+    → Stands n words head' written
 stands_above n words head head' written le stands i low high = stands i (omega arith) high
 
 -- the last word is stored, with its first lanes
-pub stands_lanes : (n : ℕ) (words : List ℕ) (head : ℕ) (written : List ℕ) (at word k : ℕ) → at ≡ place n (length written / 4) → at < length words → k ≤ 4
-    → IsPrefix written (whole_words written ++ lanes word k) → length (whole_words written ++ lanes word k) ≤ head + n
-    → Stands n words head written → Stands n (set words at word) head (whole_words written ++ lanes word k)
+pub stands_lanes : (n : ℕ) (words : List ℕ) (head : ℕ) (written : List ℕ) (at word k : ℕ)
+    → at ≡ place n (length written / 4)
+    → at < length words
+    → k ≤ 4
+    → IsPrefix written (whole_words written ++ lanes word k)
+    → length (whole_words written ++ lanes word k) ≤ head + n
+    → Stands n words head written
+    → Stands n (set words at word) head (whole_words written ++ lanes word k)
 stands_lanes n words head written at word k at_is inside few goes_on fits stands i low high =
     let front : length (whole_words written) ≡ length written / 4 * 4 = whole_length written in
-    let long : length (whole_words written ++ lanes word k) ≡ length written / 4 * 4 + k = length-append (whole_words written) (lanes word k) ∙ omega (arith, lanes_length word k) in
+    let long : length (whole_words written ++ lanes word k) ≡ length written / 4 * 4 + k =
+    length-append (whole_words written) (lanes word k) ∙ omega (arith, lanes_length word k) in
     ⊎_elim
     (λ lt.
-    let other : place n (i / 4) ≢ at = λ e. apart n (i / 4) (length written / 4) (omega arith) (omega arith) (e ∙ at_is) in
-    ap (λ z. lane z (i % 4)) (get_or-set_other words at (place n (i / 4)) word 0 other) ∙ (stands i low (omega arith) ∙ begins_at written (whole_words written ++ lanes word k) goes_on i (omega arith)))
+    let other : place n (i / 4) ≢ at = λ e.
+    apart n (i / 4) (length written / 4) (omega arith) (omega arith) (e ∙ at_is) in
+    ap (λ z. lane z (i % 4)) (get_or-set_other words at (place n (i / 4)) word 0 other)
+    ∙ (stands i low (omega arith) ∙ begins_at written (whole_words written ++ lanes word k) goes_on i (omega arith)))
     (λ ge.
     let group : i / 4 ≡ length written / 4 = omega arith in
     let here : place n (i / 4) ≡ at = ap (place n) group ∙ sym at_is in
-    let found : get_or (set words at word) (place n (i / 4)) 0 ≡ word = ap (λ z. get_or (set words at word) z 0) here ∙ get_or-set_same words at word 0 inside in
+    let found : get_or (set words at word) (place n (i / 4)) 0 ≡ word =
+    ap (λ z. get_or (set words at word) z 0) here ∙ get_or-set_same words at word 0 inside in
     let j : i % 4 ≡ i - length (whole_words written) = omega arith in
-    let laid = get_or-append_right (whole_words written) (lanes word k) i 0 (omega arith) ∙ lanes_at word k (i - length (whole_words written)) (omega arith) in
+    let laid =
+    get_or-append_right (whole_words written) (lanes word k) i 0 (omega arith)
+    ∙ lanes_at word k (i - length (whole_words written)) (omega arith) in
     ap (λ z. lane z (i % 4)) found ∙ (ap (lane word) j ∙ sym laid))
     (cases_lt i (length written / 4 * 4))

@@ -71,7 +71,8 @@ with_shown t tail = record t { peeked = []; tails = t.tails ++ tail ∷ []; floo
 -- some were taken; where there were any, the head was stored
 abbrev pub with_taken : {A : Type 0} → TakerState A → List A → TakerState A
 with_taken t [] = t
-with_taken t (x ∷ xs) = record t { taken = t.taken ++ x ∷ xs; peeked = []; released = t.released ++ length (t.taken ++ x ∷ xs) ∷ [] }
+with_taken t (x ∷ xs) =
+    record t { taken = t.taken ++ x ∷ xs; peeked = []; released = t.released ++ length (t.taken ++ x ∷ xs) ∷ [] }
 
 -- Nothing that was put waits to be taken, and both ends know it; neither has taken over the other.
 pub record NothingWaits {A : Type 0} (p : PutterState A) (t : TakerState A) : Type 0 where
@@ -82,7 +83,13 @@ pub record NothingWaits {A : Type 0} (p : PutterState A) (t : TakerState A) : Ty
 
 -- all of these are taken, by one more tail and one more head
 abbrev pub with_all_taken : {A : Type 0} → TakerState A → List A → TakerState A
-with_all_taken t xs = record t { taken = xs; peeked = []; released = t.released ++ length xs ∷ []; tails = t.tails ++ length xs ∷ []; floor = length xs }
+with_all_taken t xs = record t {
+  taken = xs;
+  peeked = [];
+  released = t.released ++ length xs ∷ [];
+  tails = t.tails ++ length xs ∷ [];
+  floor = length xs;
+}
 
 -- As if these were put, pushed, looked at and taken, and the head was loaded after it, where nothing waited before.
 pub record Passes {A : Type 0} (p p' : PutterState A) (t t' : TakerState A) (xs : List A) : Type 0 where

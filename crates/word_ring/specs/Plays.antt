@@ -12,7 +12,25 @@ Mine = Me Slot View
 
 -- a seat that knows nothing
 abbrev pub blank_view : View
-blank_view = record { puts = false; takes = false; puts_within = 0; takes_within = 0; written = []; pushed = []; heads = []; taken = []; read = []; released = []; tails = []; noted = []; noted_heads = []; head = 0; tail = 0; holds = false; passing = false }
+blank_view = record {
+  puts = false;
+  takes = false;
+  puts_within = 0;
+  takes_within = 0;
+  written = [];
+  pushed = [];
+  heads = [];
+  taken = [];
+  read = [];
+  released = [];
+  tails = [];
+  noted = [];
+  noted_heads = [];
+  head = 0;
+  tail = 0;
+  holds = false;
+  passing = false;
+}
 
 -- the seat of both ends of a new ring
 abbrev pub both_ends : ℕ → View
@@ -68,7 +86,12 @@ abbrev pub TakesSlot : Step Slot → Mine → ℕ → Mine → Type 0
 TakesSlot s m n m' = (m'.0 ≡ record m.0 { holds = true }) × ((xs : Slot) × (m'.1 ≡ (0, xs) ∷ m.1))
 
 abbrev pub LoadsHead : Step Slot → Mine → ℕ → Mine → Type 0
-LoadsHead s m n m' = (m'.0 ≡ with_head m.0 n) × (m'.1 ≡ m.1) × (m.0.head ≤ n) × (n ≤ length m.0.pushed) × (length m.0.pushed ≤ length m.0.written)
+LoadsHead s m n m' =
+    (m'.0 ≡ with_head m.0 n)
+    × (m'.1 ≡ m.1)
+    × (m.0.head ≤ n)
+    × (n ≤ length m.0.pushed)
+    × (length m.0.pushed ≤ length m.0.written)
 
 -- the word is stored with so many lanes
 abbrev pub StoresLanes : ℕ → Step Slot → Mine → ℕ → Mine → Type 0
@@ -78,11 +101,21 @@ abbrev pub StoresTail : Step Slot → Mine → ℕ → Mine → Type 0
 StoresTail s m n m' = (m'.0 ≡ with_all_pushed m.0) × (m'.1 ≡ m.1)
 
 abbrev pub LoadsTail : Step Slot → Mine → ℕ → Mine → Type 0
-LoadsTail s m n m' = (m'.0 ≡ with_tail m.0 n) × (m'.1 ≡ m.1) × (m.0.tail ≤ n) × (length m.0.taken ≤ n) × (n ≤ length m.0.taken + m.0.takes_within) × (m.0.puts ≡ true → n ≡ length m.0.pushed)
+LoadsTail s m n m' =
+    (m'.0 ≡ with_tail m.0 n)
+    × (m'.1 ≡ m.1)
+    × (m.0.tail ≤ n)
+    × (length m.0.taken ≤ n)
+    × (n ≤ length m.0.taken + m.0.takes_within)
+    × (m.0.puts ≡ true → n ≡ length m.0.pushed)
 
 -- of the word the next lanes below the known tail are read, and these were pushed
 abbrev pub LoadsLanes : Step Slot → Mine → ℕ → Mine → Type 0
-LoadsLanes s m n m' = (m'.0 ≡ with_read m.0 (take m.0.tail (m.0.read ++ drop (length m.0.read % 4) (lanes n 4)))) × (m'.1 ≡ m.1) × IsPrefix m.0.read m'.0.read × (m.0.puts ≡ true → IsPrefix m'.0.read m.0.pushed)
+LoadsLanes s m n m' =
+    (m'.0 ≡ with_read m.0 (take m.0.tail (m.0.read ++ drop (length m.0.read % 4) (lanes n 4))))
+    × (m'.1 ≡ m.1)
+    × IsPrefix m.0.read m'.0.read
+    × (m.0.puts ≡ true → IsPrefix m'.0.read m.0.pushed)
 
 abbrev pub StoresHead : Step Slot → Mine → ℕ → Mine → Type 0
 StoresHead s m n m' = (m'.0 ≡ with_taken_to m.0 n) × (m'.1 ≡ m.1)
@@ -93,11 +126,17 @@ Compares s m n m' = (m' ≡ m)
     × IsOneWithin m.0.taken m.0.noted
     × AreReleased m.0.released m.0.noted_heads
     × All (λ h. h ≤ length m.0.taken) m.0.noted_heads
-    × (m.0.puts ≡ true → IsPrefix m.0.taken m.0.pushed × AreReleased m.0.released m.0.heads × (m.0.tail ≤ length m.0.pushed))
+    × (m.0.puts ≡ true
+    → IsPrefix m.0.taken m.0.pushed × AreReleased m.0.released m.0.heads × (m.0.tail ≤ length m.0.pushed))
 
 -- the numbers in the slot are put and pushed past the words, where both ends are at hand and nothing waited
 abbrev pub PutsPast : Step Slot → Mine → ℕ → Mine → Type 0
-PutsPast s m n m' = (m'.0 ≡ with_put_past m.0 (held m.1)) × (m'.1 ≡ m.1) × (m.0.taken ≡ m.0.pushed) × (m.0.tail ≤ length m.0.pushed) × (m.0.puts_within ≡ m.0.takes_within)
+PutsPast s m n m' =
+    (m'.0 ≡ with_put_past m.0 (held m.1))
+    × (m'.1 ≡ m.1)
+    × (m.0.taken ≡ m.0.pushed)
+    × (m.0.tail ≤ length m.0.pushed)
+    × (m.0.puts_within ≡ m.0.takes_within)
 
 -- they are taken
 abbrev pub TakesPast : Step Slot → Mine → ℕ → Mine → Type 0
@@ -127,4 +166,12 @@ with_head_note v w = record v { head = max v.head w.head }
 
 -- the taker takes over the putter's seat, and what was read beyond what was taken is forgotten
 abbrev pub with_putter : View → View → View
-with_putter v w = record v { puts = true; puts_within = w.puts_within; written = w.written; pushed = w.pushed; heads = w.heads; read = v.taken; tail = max v.tail (length w.pushed) }
+with_putter v w = record v {
+  puts = true;
+  puts_within = w.puts_within;
+  written = w.written;
+  pushed = w.pushed;
+  heads = w.heads;
+  read = v.taken;
+  tail = max v.tail (length w.pushed);
+}

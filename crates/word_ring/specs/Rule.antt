@@ -59,7 +59,8 @@ place n group = 2 + group % (n / 4 + 2)
 
 -- each written number that is not taken stands in its lane
 abbrev pub Stands : ℕ → List ℕ → ℕ → List ℕ → Type 0
-Stands n words head written = (i : ℕ) → head ≤ i → i < length written → lane (slice_index words (place n (i / 4))) (i % 4) ≡ slice_index written i
+Stands n words head written =
+    (i : ℕ) → head ≤ i → i < length written → lane (slice_index words (place n (i / 4))) (i % 4) ≡ slice_index written i
 
 -- what a table's slot has
 abbrev pub Slot : Type 0

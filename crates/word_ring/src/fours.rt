@@ -1,5 +1,5 @@
-//! Four numbers at a time: each call leaves what four times `put_known` or `peek_next` would, with one store or one load
-//! of a word.
+//! Four numbers at a time: each call leaves what four times `put_known` or `peek_next` would, with one store or one
+//! load of a word.
 ghost use Rattle.std.specs.Prelude.{◌≡◌, ◌+◌, ◌%◌, ◌^◌, ◌<◌, ◌≤◌, ◌++◌, length};
 ghost use Rattle.word_ring.specs.Lanes.{lanes};
 
@@ -10,8 +10,8 @@ use crate::table::LoadLanes;
 use crate::taker::Taker;
 
 impl Putter {
-    /// Puts four numbers for which there is room by the latest head that was loaded. The taker finds them after the next
-    /// push.
+    /// Puts four numbers for which there is room by the latest head that was loaded. The taker finds them after the
+    /// next push.
     #[inline(always)]
     pub fn put_four(&mut self, xs: [u16; 4])
         requires small { length self.old.sent + 4 ≤ 2 ^ 63 }

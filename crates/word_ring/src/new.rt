@@ -13,8 +13,21 @@ use tty_base::NoMemory;
 /// The two ends of a new ring, which has room for `n` numbers.
 pub fn ring(alloc: Global, n: usize) -> Result<(Putter, Taker), NoMemory>
     requires { (0 < n) × (n ≤ 65536) }
-    ensures putter { IfOk result (λ e. e.0 ≡ record { ring = e.1.ring; capacity = n; sent = []; pushed = []; heads = []; floor = 0 }) }
-    ensures taker { IfOk result (λ e. e.1 ≡ record { ring = e.1.ring; capacity = n; taken = []; peeked = []; released = []; tails = []; floor = 0; ended = false; sent = [] }) }
+    ensures putter { IfOk result
+        (λ e. e.0 ≡ record { ring = e.1.ring; capacity = n; sent = []; pushed = []; heads = []; floor = 0 }) }
+    ensures taker { IfOk result (λ e.
+        e.1
+        ≡ record {
+          ring = e.1.ring;
+          capacity = n;
+          taken = [];
+          peeked = [];
+          released = [];
+          tails = [];
+          floor = 0;
+          ended = false;
+          sent = [];
+        }) }
 {
     let capacity = n as u64;
     let words = vec![in alloc; 0u64; n / 4 + 4]?;

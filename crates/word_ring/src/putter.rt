@@ -99,11 +99,13 @@ impl Putter {
     /// number after the next push.
     pub fn put(&mut self, x: u16) -> Result<(), Full>
         requires { length self.old.sent < 2 ^ 63 }
-        ensures ok { OnOk result (self.new ≡ record (with_loaded self.old self.new.floor) { sent = self.old.sent ++ x ∷ [] }) }
+        ensures ok { OnOk result
+            (self.new ≡ record (with_loaded self.old self.new.floor) { sent = self.old.sent ++ x ∷ [] }) }
         ensures full { OnErr result (self.new ≡ with_loaded self.old self.new.floor) }
-        ensures exact { MatchResult result
-            (λ _. length self.old.sent < self.new.floor + self.old.capacity)
-            (λ f. (f ≡ record { sent = length self.old.sent; seen = self.new.floor }) × (length self.old.sent ≡ self.new.floor + self.old.capacity)) }
+        ensures exact { MatchResult result (λ _. length self.old.sent < self.new.floor + self.old.capacity)
+            (λ f.
+            (f ≡ record { sent = length self.old.sent; seen = self.new.floor })
+            × (length self.old.sent ≡ self.new.floor + self.old.capacity)) }
         ensures rises { (self.old.floor ≤ self.new.floor) × (self.new.floor ≤ length self.old.pushed) }
         ensures ordered { IsNonDecreasing self.new.heads }
     {
@@ -175,7 +177,9 @@ impl Putter {
     pub fn meet(&mut self, note: HeadNote)
         requires { note.ring ≡ self.old.ring }
         ensures same { self.new ≡ with_loaded self.old self.new.floor }
-        ensures rises { (self.old.floor ≤ self.new.floor) × (note.taken ≤ self.new.floor) × (self.new.floor ≤ length self.old.pushed) }
+        ensures rises { (self.old.floor ≤ self.new.floor)
+            × (note.taken ≤ self.new.floor)
+            × (self.new.floor ≤ length self.old.pushed) }
         ensures within { length self.old.pushed ≤ length self.old.sent }
         ensures ordered { IsNonDecreasing self.new.heads }
     {

@@ -113,9 +113,13 @@ pub(crate) fn store_lanes(steps: &Steps, seat: &mut Place, at: usize, word: u64,
     requires at { at ≡ place seat.old.me.0.puts_within (length seat.old.me.0.written / 4) }
     requires count { count ≤ 4 }
     requires begins { IsPrefix seat.old.me.0.written (whole_words seat.old.me.0.written ++ top_lanes word count) }
-    requires fits { length (whole_words seat.old.me.0.written ++ top_lanes word count) ≤ seat.old.me.0.head + seat.old.me.0.puts_within }
-    ensures same { (seat.new.table_id ≡ seat.old.table_id) × (seat.new.id ≡ seat.old.id) × (seat.new.me.1 ≡ seat.old.me.1) }
-    ensures stored { seat.new.me.0 ≡ with_written seat.old.me.0 (whole_words seat.old.me.0.written ++ top_lanes word count) }
+    requires fits { length (whole_words seat.old.me.0.written ++ top_lanes word count)
+        ≤ seat.old.me.0.head + seat.old.me.0.puts_within }
+    ensures same { (seat.new.table_id ≡ seat.old.table_id)
+        × (seat.new.id ≡ seat.old.id)
+        × (seat.new.me.1 ≡ seat.old.me.1) }
+    ensures stored { seat.new.me.0
+        ≡ with_written seat.old.me.0 (whole_words seat.old.me.0.written ++ top_lanes word count) }
 {
     match count {
         0 => {}
@@ -132,9 +136,13 @@ fn store_part(steps: &Steps, seat: &mut Place, at: usize, word: u64, count: u64)
     requires at { at ≡ place seat.old.me.0.puts_within (length seat.old.me.0.written / 4) }
     requires count { (0 < count) × (count < 4) }
     requires begins { IsPrefix seat.old.me.0.written (whole_words seat.old.me.0.written ++ top_lanes word count) }
-    requires fits { length (whole_words seat.old.me.0.written ++ top_lanes word count) ≤ seat.old.me.0.head + seat.old.me.0.puts_within }
-    ensures same { (seat.new.table_id ≡ seat.old.table_id) × (seat.new.id ≡ seat.old.id) × (seat.new.me.1 ≡ seat.old.me.1) }
-    ensures stored { seat.new.me.0 ≡ with_written seat.old.me.0 (whole_words seat.old.me.0.written ++ top_lanes word count) }
+    requires fits { length (whole_words seat.old.me.0.written ++ top_lanes word count)
+        ≤ seat.old.me.0.head + seat.old.me.0.puts_within }
+    ensures same { (seat.new.table_id ≡ seat.old.table_id)
+        × (seat.new.id ≡ seat.old.id)
+        × (seat.new.me.1 ≡ seat.old.me.1) }
+    ensures stored { seat.new.me.0
+        ≡ with_written seat.old.me.0 (whole_words seat.old.me.0.written ++ top_lanes word count) }
 {
     match count {
         1 => steps.store::<StoreLanes<1>>(seat, at, word / 281474976710656),

@@ -2,7 +2,9 @@
 //! Word 0 is the head, how many numbers were taken; word 1 the tail, how many were pushed; the
 //! words from 2 on have the numbers, four to a word, each at its count. What is passed with both ends
 //! at hand stands in no word: its numbers go through the one slot, which the taker holds.
-ghost use Rattle.word_ring.specs.Plays.{TakesSlot, LoadsHead, StoresLanes, StoresTail, LoadsTail, LoadsLanes, StoresHead, Compares, PutsPast, TakesPast, blank_view, putter_of, taker_of, note_of, head_note_of, with_note, with_head_note, with_putter};
+ghost use Rattle.word_ring.specs.Plays.{TakesSlot, LoadsHead, StoresLanes, StoresTail, LoadsTail, LoadsLanes};
+ghost use Rattle.word_ring.specs.Plays.{StoresHead, Compares, PutsPast, TakesPast, blank_view, putter_of};
+ghost use Rattle.word_ring.specs.Plays.{taker_of, note_of, head_note_of, with_note, with_head_note, with_putter};
 
 use crate::past::Past;
 use atomic_table::{Join, Play, Seat, Shared, Split, Table, TableRule};

@@ -1,5 +1,6 @@
 //! The end that takes numbers out, and its notes.
-ghost use Rattle.std.specs.Prelude.{◌≡◌, ℕ, ◌+◌, ◌-◌, ◌%◌, ◌<◌, ◌≤◌, true, List, [], ◌∷◌, ◌++◌, length, take, min, max, All};
+ghost use Rattle.std.specs.Prelude.{◌≡◌, ℕ, ◌+◌, ◌-◌, ◌%◌, ◌<◌, ◌≤◌, true, List};
+ghost use Rattle.std.specs.Prelude.{[], ◌∷◌, ◌++◌, length, take, min, max, All};
 ghost use mathlib.Core.List.{IsPrefix};
 ghost use Rattle.arrayvec.specs.ArrayVec.{array_vec_len};
 ghost use Rattle.word_ring.specs.Ends.{IsOneWithin, AreReleased, with_shown, with_taken};
@@ -172,8 +173,12 @@ impl Taker {
     /// counts, and adds them to `out`.
     pub fn take(&mut self, most: usize, out: &mut ArrayVec<u16, 64>) -> usize
         requires { array_vec_len out.old + most ≤ 64 }
-        ensures moves { (xs : List ℕ) × (length xs ≡ result) × (out.new.items ≡ out.old.items ++ xs) × (self.new ≡ with_taken (with_shown self.old self.new.floor) xs) }
-        ensures count { (length self.old.taken ≤ self.new.floor) × (result ≡ min most (self.new.floor - length self.old.taken)) }
+        ensures moves { (xs : List ℕ)
+            × (length xs ≡ result)
+            × (out.new.items ≡ out.old.items ++ xs)
+            × (self.new ≡ with_taken (with_shown self.old self.new.floor) xs) }
+        ensures count { (length self.old.taken ≤ self.new.floor)
+            × (result ≡ min most (self.new.floor - length self.old.taken)) }
         ensures rises { self.old.floor ≤ self.new.floor }
         ensures most { self.new.floor ≤ length self.old.taken + self.old.capacity }
         ensures ended { self.old.ended ≡ true → self.new.floor ≡ length self.old.sent }
@@ -192,7 +197,8 @@ impl Taker {
     pub fn finish(&mut self, putter: Putter) -> u64
         requires { putter.ring ≡ self.old.ring }
         ensures sent { result ≡ length putter.sent }
-        ensures same { self.new ≡ record self.old { peeked = []; floor = length putter.sent; ended = true; sent = putter.sent } }
+        ensures same { self.new
+            ≡ record self.old { peeked = []; floor = length putter.sent; ended = true; sent = putter.sent } }
         ensures compared { IsPrefix self.old.taken putter.sent }
         ensures heads { AreReleased self.old.released putter.heads }
         ensures floor { self.old.floor ≤ length putter.sent }

@@ -5,4 +5,5 @@ use Rattle.char_lanes.proofs.none_is.Goals as goal
 
 pub returns : goal.returns
 returns c none =
-    all_weaker _ _ (λ n h. eqb-false n c.args.other h) c.args.numbers (none_passes eqb c.args.numbers c.args.other c.fits-numbers.0 none)
+    all_weaker _ _ (λ n h. eqb-false n c.args.other h) c.args.numbers
+    (none_passes eqb c.args.numbers c.args.other c.fits-numbers.0 none)

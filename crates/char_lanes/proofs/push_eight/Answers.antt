@@ -10,7 +10,8 @@ are_in c =
     all_in c.args.first c.args.last c.args.without.now c.args.eight (omega (arith, c.ranges.last.fits))
     (subst (λ ns. AllByRecursion (λ n. c.args.first ≤ n) ns) is (c.are_in.ensures.low c.if-not-are_in.false))
     (subst (λ ns. AllByRecursion (λ n. n ≤ c.args.last) ns) is (c.are_in.ensures.high c.if-not-are_in.false))
-    (subst (λ ns. AllByRecursion (λ x. AllByRecursion (λ n. n ≢ x) ns) c.args.without.now) is (c.are_in.ensures.none c.if-not-are_in.false))
+    (subst (λ ns. AllByRecursion (λ x. AllByRecursion (λ n. n ≢ x) ns) c.args.without.now) is
+    (c.are_in.ensures.none c.if-not-are_in.false))
 
 pub returns-clause-run : goal.returns-clause-run
 returns-clause-run c ok = are_in c

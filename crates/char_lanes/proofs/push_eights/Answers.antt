@@ -13,7 +13,8 @@ loop-count-preserved c =
     let before = c.loop-count.invariant in
     record {
       within = omega (arith, c.loop-count-test.true);
-      run = run_both Is c.loop-count.count 8 cs before.run (subst (AllByRecursion Is) c.eight_of.ensures (more.run taken));
+      run = run_both Is c.loop-count.count 8 cs before.run
+          (subst (AllByRecursion Is) c.eight_of.ensures (more.run taken));
       items = added_both c.args.bytes.now.items c.loop-count.bytes.items _ c.loop-count.count 8 cs before.items
           (more.items taken ∙ ap (λ l. c.loop-count.bytes.items ++ bytes_in l) c.eight_of.ensures);
       len = omega (arith, before.len, more.len taken);

@@ -12,6 +12,8 @@ returns-clause-run c =
 
 pub returns-clause-items : goal.returns-clause-items
 returns-clause-items c =
-    added_both c.args.bytes.now.items c.push_eights-eights.new.bytes.items _ c.push_eights-eights.result c.push_each.result c.args.chars.now
+    added_both c.args.bytes.now.items c.push_eights-eights.new.bytes.items _ c.push_eights-eights.result
+    c.push_each.result c.args.chars.now
     c.push_eights-eights.ensures.items
-    (c.push_each.ensures.items ∙ ap (λ l. c.push_eights-eights.new.bytes.items ++ bytes_in (take c.push_each.result l)) c.rest_of.ensures)
+    (c.push_each.ensures.items
+    ∙ ap (λ l. c.push_eights-eights.new.bytes.items ++ bytes_in (take c.push_each.result l)) c.rest_of.ensures)

@@ -13,7 +13,10 @@ pushed xs = append_assoc (xs ++ 8 ∷ []) (32 ∷ []) (8 ∷ []) ∙ append_asso
 pub loop-preserved : goal.loop-preserved
 loop-preserved c = (
   c.push-in-loop-2.ensures.items
-      ∙ ap (λ (xs : List ℕ). xs ++ 8 ∷ []) (c.push-in-loop.ensures.items ∙ ap (λ (xs : List ℕ). xs ++ 32 ∷ []) (c.push.ensures.items ∙ ap (λ (xs : List ℕ). xs ++ 8 ∷ []) c.loop.invariant.0))
+      ∙ ap (λ (xs : List ℕ). xs ++ 8 ∷ [])
+      (c.push-in-loop.ensures.items
+      ∙ ap (λ (xs : List ℕ). xs ++ 32 ∷ [])
+      (c.push.ensures.items ∙ ap (λ (xs : List ℕ). xs ++ 8 ∷ []) c.loop.invariant.0))
       ∙ pushed (blanking_bytes c.loop.counter)
       ∙ blanking_bytes-suc c.loop.counter
       ∙ ap blanking_bytes (let n : suc c.loop.counter ≡ c.loop.counter + 1 = omega arith in n),

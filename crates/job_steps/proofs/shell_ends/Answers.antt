@@ -7,7 +7,12 @@ returns-clause-log c = record {
   leads = (
     lit≤ tt,
     lit≤ tt,
-    record { nothing_due = refl; next = refl; entry = record { entry = _; some = lit< tt; stands = refl; is_answer = (refl, ([], refl)) }; goes_on = refl },
+    record {
+      nothing_due = refl;
+      next = refl;
+      entry = record { entry = _; some = lit< tt; stands = refl; is_answer = (refl, ([], refl)) };
+      goes_on = refl;
+    },
     (
       lit≤ tt,
       lit≤ tt,
@@ -19,7 +24,12 @@ returns-clause-log c = record {
         (
           lit≤ tt,
           lit≤ tt,
-          record { nothing_due = refl; next = refl; entry = record { entry = _; some = lit< tt; stands = refl; is_answer = (refl, ([], refl)) }; goes_on = refl },
+          record {
+            nothing_due = refl;
+            next = refl;
+            entry = record { entry = _; some = lit< tt; stands = refl; is_answer = (refl, ([], refl)) };
+            goes_on = refl;
+          },
           (
             lit≤ tt,
             lit≤ tt,
@@ -39,7 +49,11 @@ returns-clause-log c = record {
                   (
                     lit≤ tt,
                     lit≤ tt,
-                    record { rest = _; is_due = refl; entry = record { entry = _; some = lit< tt; stands = refl; is_answer = (refl, ([], refl)) } },
+                    record {
+                      rest = _;
+                      is_due = refl;
+                      entry = record { entry = _; some = lit< tt; stands = refl; is_answer = (refl, ([], refl)) };
+                    },
                     refl,
                   ),
                 ),

@@ -9,7 +9,8 @@ returns-clause-foreground c = record {
     turns = (record { by_turn = refl; piece = tt }, (record { by_turn = refl; piece = tt }, (record { by_turn = refl; piece = tt }, (record { by_turn = refl; piece = tt }, (record { by_turn = refl; piece = tt }, (record { by_turn = refl; piece = tt }, (record { by_turn = refl; piece = tt }, (record { by_turn = refl; piece = tt }, (record { by_turn = refl; piece = tt }, (record { by_turn = refl; piece = tt }, (record { by_turn = refl; piece = tt }, (record { by_turn = refl; piece = tt }, (record { by_turn = refl; piece = tt }, (record { by_turn = refl; piece = (refl, refl) }, (record { by_turn = refl; piece = tt }, (record { by_turn = refl; piece = tt }, (record { by_turn = refl; piece = tt }, (record { by_turn = refl; piece = tt }, (record { by_turn = refl; piece = tt }, (record { by_turn = refl; piece = tt }, tt))))))))))))))))))));
     seen = tt;
   };
-  events = (lit≤ tt, ((lit≤ tt, refl), ((lit≤ tt, refl), ((lit≤ tt, refl), (tt, ((lit≤ tt, refl), (tt, (lit≤ tt, tt))))))));
+  events =
+      (lit≤ tt, ((lit≤ tt, refl), ((lit≤ tt, refl), ((lit≤ tt, refl), (tt, ((lit≤ tt, refl), (tt, (lit≤ tt, tt))))))));
 }
 
 pub returns-clause-shell : goal.returns-clause-shell

@@ -15,5 +15,6 @@ loop-place-preserved c =
       so_far =
           take_more_set steps place (step last) (omega (arith, c.loop-place.invariant.room))
           ∙ ap (λ xs. xs ++ step last ∷ []) c.loop-place.invariant.so_far
-          ∙ sym (ap (map step) (take_more bytes place 0 (omega arith)) ∙ map-append step (take place bytes) (last ∷ []));
+          ∙ sym
+          (ap (map step) (take_more bytes place 0 (omega arith)) ∙ map-append step (take place bytes) (last ∷ []));
     }

@@ -11,7 +11,13 @@ returns-clause-log c = record {
     (
       lit≤ tt,
       lit≤ tt,
-      record { nothing_due = refl; next = refl; for_port = tt; entry = record { entry = _; some = lit< tt; stands = refl; is_answer = (refl, ([], refl)) }; not_held_up = refl },
+      record {
+        nothing_due = refl;
+        next = refl;
+        for_port = tt;
+        entry = record { entry = _; some = lit< tt; stands = refl; is_answer = (refl, ([], refl)) };
+        not_held_up = refl;
+      },
       (
         lit≤ tt,
         lit≤ tt,
@@ -23,11 +29,20 @@ returns-clause-log c = record {
           (
             lit≤ tt,
             lit≤ tt,
-            record { is_due = refl; entry = record { entry = _; some = lit< tt; stands = refl; is_answer = (refl, ([], refl)) } },
+            record {
+              is_due = refl;
+              entry = record { entry = _; some = lit< tt; stands = refl; is_answer = (refl, ([], refl)) };
+            },
             (
               lit≤ tt,
               lit≤ tt,
-              record { nothing_due = refl; next = refl; for_port = tt; entry = record { entry = _; some = lit< tt; stands = refl; is_answer = (refl, ([], refl)) }; not_held_up = refl },
+              record {
+                nothing_due = refl;
+                next = refl;
+                for_port = tt;
+                entry = record { entry = _; some = lit< tt; stands = refl; is_answer = (refl, ([], refl)) };
+                not_held_up = refl;
+              },
               refl,
             ),
           ),

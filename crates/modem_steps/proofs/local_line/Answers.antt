@@ -7,7 +7,13 @@ returns-clause-log c = record {
   leads = (
     lit≤ tt,
     lit≤ tt,
-    record { nothing_due = refl; next = refl; for_port = tt; entry = record { entry = _; some = lit< tt; stands = refl; is_answer = (refl, ([], refl)) }; not_held_up = refl },
+    record {
+      nothing_due = refl;
+      next = refl;
+      for_port = tt;
+      entry = record { entry = _; some = lit< tt; stands = refl; is_answer = (refl, ([], refl)) };
+      not_held_up = refl;
+    },
     (
       lit≤ tt,
       lit≤ tt,
@@ -39,7 +45,13 @@ returns-clause-log c = record {
                   (
                     lit≤ tt,
                     lit≤ tt,
-                    record { nothing_due = refl; next = refl; for_port = tt; entry = record { entry = _; some = lit< tt; stands = refl; is_answer = (refl, ([], refl)) }; not_held_up = refl },
+                    record {
+                      nothing_due = refl;
+                      next = refl;
+                      for_port = tt;
+                      entry = record { entry = _; some = lit< tt; stands = refl; is_answer = (refl, ([], refl)) };
+                      not_held_up = refl;
+                    },
                     refl,
                   ),
                 ),

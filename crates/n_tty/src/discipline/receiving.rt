@@ -10,7 +10,9 @@ ghost use Rattle.n_tty.specs.States.{on_port};
 ghost use Rattle.n_tty.specs.Storing.{most_stored, after_store};
 ghost use Rattle.n_tty.specs.Editing.{after_erase, after_word_erase, after_kill};
 ghost use Rattle.n_tty.specs.Flow.{after_signal};
-ghost use Rattle.n_tty.specs.Receiving.{after_flagged, after_good, after_unquoted, after_mapped, after_signal_character, after_role, after_ordinary, after_delimiter, after_break, after_bad, with_echo};
+ghost use Rattle.n_tty.specs.Receiving.{after_flagged, after_good, after_unquoted, after_mapped};
+ghost use Rattle.n_tty.specs.Receiving.{after_signal_character, after_role, after_ordinary};
+ghost use Rattle.n_tty.specs.Receiving.{after_delimiter, after_break, after_bad, with_echo};
 ghost use Rattle.n_tty.specs.Roles.{mapped_byte, role_of};
 ghost use Rattle.n_tty.specs.Taking.{MayStore, MayTake};
 

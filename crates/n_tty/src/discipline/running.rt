@@ -108,7 +108,8 @@ impl NTty {
         ensures within { result ≤ length chars.now }
         ensures after { (tally : Tally) → on_port self.new wire.new tally
             ≡ after_characters modes.now now (take result chars.now) (on_port self.old wire.old tally) }
-        ensures accepted { (tally : Tally) → AcceptsAll modes.now now (take result chars.now) (on_port self.old wire.old tally) }
+        ensures accepted { (tally : Tally)
+            → AcceptsAll modes.now now (take result chars.now) (on_port self.old wire.old tally) }
         ensures fits { FitsModes modes.now self.new }
         ensures spent { wire.old.spare + pending_count self.new wire.new
             ≤ wire.new.spare + (pending_count self.old wire.old + CHARACTER_ROOM * result) }
@@ -140,7 +141,9 @@ impl NTty {
         requires room { unread_count self.old + length chars.now ≤ FEW }
         ensures within { result ≤ length chars.now }
         ensures good { AllByRecursion IsGood (take result chars.now) }
-        ensures after { (output : Output) (tally : Tally) → on_port self.new output tally ≡ after_stored now (bytes_in (take result chars.now)) (on_port self.old output tally) }
+        ensures after { (output : Output) (tally : Tally)
+            → on_port self.new output tally
+            ≡ after_stored now (bytes_in (take result chars.now)) (on_port self.old output tally) }
         ensures line { self.new.edit ≡ self.old.edit }
         ensures column { self.new.column ≡ self.old.column }
         ensures past { self.old.last ≤ now → self.new.last ≤ now }
@@ -159,7 +162,9 @@ impl NTty {
         requires room { unread_count self.old + length chars.now ≤ FEW }
         ensures within { result ≤ length chars.now }
         ensures typed { AllByRecursion IsTyped (take result chars.now) }
-        ensures after { (output : Output) (tally : Tally) → on_port self.new output tally ≡ after_joined now (bytes_in (take result chars.now)) (on_port self.old output tally) }
+        ensures after { (output : Output) (tally : Tally)
+            → on_port self.new output tally
+            ≡ after_joined now (bytes_in (take result chars.now)) (on_port self.old output tally) }
         ensures line { length self.new.edit ≡ length self.old.edit + result }
         ensures column { self.new.column ≡ self.old.column }
         ensures past { self.old.last ≤ now → self.new.last ≤ now }
@@ -183,7 +188,9 @@ impl NTty {
         requires column { self.old.column < COUNT_END }
         ensures within { result ≤ length chars.now }
         ensures typed { AllByRecursion IsTyped (take result chars.now) }
-        ensures after { (tally : Tally) → on_port self.new wire.new tally ≡ after_typed now (bytes_in (take result chars.now)) (on_port self.old wire.old tally) }
+        ensures after { (tally : Tally)
+            → on_port self.new wire.new tally
+            ≡ after_typed now (bytes_in (take result chars.now)) (on_port self.old wire.old tally) }
         ensures spent { wire.old.spare ≤ wire.new.spare + result }
         ensures line { length self.new.edit ≡ length self.old.edit + result }
         ensures held { wire.new.held ≡ wire.old.held }

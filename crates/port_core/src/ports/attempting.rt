@@ -35,10 +35,12 @@ impl Port {
     pub fn attempt(&mut self, caller: u16, step: u32, call: &Call) -> Result<Tried, Denied>
         requires { IsReady self.old caller step (call_of call.now) }
         ensures open { OnOk result (IsOpen self.old) }
-        ensures tried { IfOk result (λ tried. Attempts self.old self.new caller step (call_of call.now) (tried_of tried)) }
+        ensures tried { IfOk result
+            (λ tried. Attempts self.old self.new caller step (call_of call.now) (tried_of tried)) }
         ensures err { IfErr result (λ d. Denies d self.old self.new) }
         ensures at_once { changes (call_of call.now) ≡ true → IfOk result (λ tried. IsAtOnce (tried_of tried)) }
-        ensures generation { OnOk result (Raises (changes (call_of call.now)) self.old.terminal.generation self.new.terminal.generation) }
+        ensures generation { OnOk result
+            (Raises (changes (call_of call.now)) self.old.terminal.generation self.new.terminal.generation) }
     {
         self.gate()?;
         if self.terminal.drops(caller, call) {
@@ -60,9 +62,12 @@ impl Port {
     fn answer(&mut self, caller: u16, step: u32, call: &Call) -> Result<Tried, Denied>
         requires ready { IsReady self.old caller step (call_of call.now) }
         requires open { IsOpen self.old }
-        requires at_once { MustWait (outcome self.old.terminal (caller_at self.old.terminal caller) (call_of call.now)) → ⊥ }
-        requires keeps { drops_of (outcome self.old.terminal (caller_at self.old.terminal caller) (call_of call.now)) ≡ false }
-        ensures tried { IfOk result (λ tried. Attempts self.old self.new caller step (call_of call.now) (tried_of tried)) }
+        requires at_once { MustWait (outcome self.old.terminal (caller_at self.old.terminal caller) (call_of call.now))
+            → ⊥ }
+        requires keeps { drops_of
+            (outcome self.old.terminal (caller_at self.old.terminal caller) (call_of call.now)) ≡ false }
+        ensures tried { IfOk result
+            (λ tried. Attempts self.old self.new caller step (call_of call.now) (tried_of tried)) }
         ensures err { IfErr result (λ d. Denies d self.old self.new) }
     {
         let state = self.terminal.caller(caller);
@@ -99,8 +104,10 @@ impl Port {
     fn answer_dropping(&mut self, caller: u16, step: u32, call: &Call) -> Result<Tried, Denied>
         requires ready { IsReady self.old caller step (call_of call.now) }
         requires open { IsOpen self.old }
-        requires drops { drops_of (outcome self.old.terminal (caller_at self.old.terminal caller) (call_of call.now)) ≡ true }
-        ensures tried { IfOk result (λ tried. Attempts self.old self.new caller step (call_of call.now) (tried_of tried)) }
+        requires drops { drops_of
+            (outcome self.old.terminal (caller_at self.old.terminal caller) (call_of call.now)) ≡ true }
+        ensures tried { IfOk result
+            (λ tried. Attempts self.old self.new caller step (call_of call.now) (tried_of tried)) }
         ensures err { IfErr result (λ d. Denies d self.old self.new) }
     {
         let state = self.terminal.caller(caller);
@@ -134,7 +141,8 @@ impl Port {
         requires open { IsOpen self.old }
         requires must { MustWait (outcome self.old.terminal (caller_at self.old.terminal caller) (call_of call.now)) }
         requires first { (caller_at self.old.terminal caller).waits ≡ None }
-        ensures tried { IfOk result (λ tried. Attempts self.old self.new caller step (call_of call.now) (tried_of tried)) }
+        ensures tried { IfOk result
+            (λ tried. Attempts self.old self.new caller step (call_of call.now) (tried_of tried)) }
         ensures err { IfErr result (λ d. Denies d self.old self.new) }
     {
         let state = self.terminal.caller(caller);
@@ -157,7 +165,8 @@ impl Port {
         requires must { MustWait (outcome self.old.terminal (caller_at self.old.terminal caller) (call_of call.now)) }
         requires waits { IsTrue (is_some (caller_at self.old.terminal caller).waits) }
         requires quiet { quiet self.old.counts self.old.terminal ≡ true }
-        ensures tried { IfOk result (λ tried. Attempts self.old self.new caller step (call_of call.now) (tried_of tried)) }
+        ensures tried { IfOk result
+            (λ tried. Attempts self.old self.new caller step (call_of call.now) (tried_of tried)) }
         ensures err { IfErr result (λ d. Denies d self.old self.new) }
     {
         let state = self.terminal.caller(caller);

@@ -41,8 +41,10 @@ impl Port {
         requires piece { IsPieceOf self.old run 0 8 }
         requires small { length putter.old.sent + 8 ≤ 2 ^ 63 }
         ensures open { OnOk result (IsOpen self.old) }
-        ensures ok { IfOk result (λ flushed. FlushesGiven self.old self.new putter.old putter.new run (good_characters bytes.now) flushed) }
-        ensures err { IfErr result (λ d. DeniesGiven d self.old self.new putter.old putter.new (good_characters bytes.now)) }
+        ensures ok { IfOk result
+            (λ flushed. FlushesGiven self.old self.new putter.old putter.new run (good_characters bytes.now) flushed) }
+        ensures err { IfErr result
+            (λ d. DeniesGiven d self.old self.new putter.old putter.new (good_characters bytes.now)) }
     {
         if self.is_willing() {
             self.give_piece(putter, run, bytes)
@@ -78,8 +80,10 @@ impl Port {
         requires free { is_stuck self.old.terminal ≡ false }
         requires line { self.old.terminal.line_over ≡ false }
         ensures open { OnOk result (IsOpen self.old) }
-        ensures ok { IfOk result (λ flushed. FlushesGiven self.old self.new putter.old putter.new run (good_characters bytes.now) flushed) }
-        ensures err { IfErr result (λ d. DeniesGiven d self.old self.new putter.old putter.new (good_characters bytes.now)) }
+        ensures ok { IfOk result
+            (λ flushed. FlushesGiven self.old self.new putter.old putter.new run (good_characters bytes.now) flushed) }
+        ensures err { IfErr result
+            (λ d. DeniesGiven d self.old self.new putter.old putter.new (good_characters bytes.now)) }
     {
         let mut chars = Chars::new(self.alloc);
         if reserve_piece(&mut self.journal, &mut self.terminal, &mut chars, 8).is_err() {
@@ -109,8 +113,10 @@ impl Port {
         requires piece { IsPieceOf self.old run 0 8 }
         requires small { length putter.old.sent + 8 ≤ 2 ^ 63 }
         ensures open { OnOk result (IsOpen self.old) }
-        ensures ok { IfOk result (λ flushed. FlushesGiven self.old self.new putter.old putter.new run (good_characters bytes.now) flushed) }
-        ensures err { IfErr result (λ d. DeniesGiven d self.old self.new putter.old putter.new (good_characters bytes.now)) }
+        ensures ok { IfOk result
+            (λ flushed. FlushesGiven self.old self.new putter.old putter.new run (good_characters bytes.now) flushed) }
+        ensures err { IfErr result
+            (λ d. DeniesGiven d self.old self.new putter.old putter.new (good_characters bytes.now)) }
     {
         put_good(putter, bytes);
         self.hear(putter);

@@ -1,6 +1,7 @@
 //! What each call does.
 
-ghost use Rattle.std.specs.Prelude.{◌≡◌, ℕ, List, [], ◌∷◌, Option, Some, None, Bool, true, false, ◌==◌, ◌+◌, ◌-◌, ◌*◌, ◌≤◌, ◌<◌, ◌^◌, min, length, drop, option_map, box_value, if◌then◌else◌};
+ghost use Rattle.std.specs.Prelude.{◌≡◌, ℕ, List, [], ◌∷◌, Option, Some, None, Bool, true, false, ◌==◌, ◌+◌, ◌-◌};
+ghost use Rattle.std.specs.Prelude.{◌*◌, ◌≤◌, ◌<◌, ◌^◌, min, length, drop, option_map, box_value, if◌then◌else◌};
 ghost use Rattle.tty_base.specs.Sizes.{COUNT_END, MOST_HELD, PIECE};
 ghost use Rattle.tty_calls.specs.Plain.{call_of, answer_of, counts_are};
 ghost use Rattle.tty_modes.specs.Word.{after_words};
@@ -66,7 +67,8 @@ impl Terminal {
     ghost use Rattle.tty_terminal.specs.Switching.{number_of, change_outcome, hangup_outcome};
     ghost use Rattle.tty_terminal.specs.Flow.{flush_outcome, after_act, without_held, with_character_sent};
     ghost use Rattle.tty_terminal.specs.Packets.{sending_outcome, taking_outcome};
-    ghost use Rattle.tty_terminal.specs.Meeting.{Meets, left_before_rule, read_room, packet_room, close_kind, CanAct, Acts, group_of};
+    ghost use Rattle.tty_terminal.specs.Meeting.{Meets, left_before_rule, read_room, packet_room};
+    ghost use Rattle.tty_terminal.specs.Meeting.{close_kind, CanAct, Acts, group_of};
 
     /// The handle that a call goes by where its caller stands so.
     pub(super) fn handle_for(&self, state: &CallerState, h: u8) -> Option<HandleState>
@@ -81,7 +83,8 @@ impl Terminal {
     fn open(&mut self, h: u8, access: Access, nonblock: bool) -> Met
         requires { h < 32 }
         ensures met { Meets (opening_outcome self.old.terminal h access nonblock) result }
-        ensures left { self.new.terminal ≡ left_before_rule (opening_outcome self.old.terminal h access nonblock) self.old.terminal }
+        ensures left { self.new.terminal
+            ≡ left_before_rule (opening_outcome self.old.terminal h access nonblock) self.old.terminal }
         ensures wire { self.new.wire_room ≡ self.old.wire_room }
         ensures disc { self.new.terminal.disc ≡ self.old.terminal.disc }
     {
@@ -97,11 +100,13 @@ impl Terminal {
 
     #[inline(never)]
     fn close(&mut self, h: u8, room: &mut Room) -> Met
-        requires fresh { fresh_in room.old ≡ option_map fresh_of (close_kind self.old.terminal (handle_at self.old.terminal h)) }
+        requires fresh { fresh_in room.old
+            ≡ option_map fresh_of (close_kind self.old.terminal (handle_at self.old.terminal h)) }
         requires few { self.old.terminal.generation < 2 ^ 31 }
         requires wire { MOST_HELD ≤ self.old.wire_room }
         ensures met { Meets (closing_outcome self.old.terminal h (handle_at self.old.terminal h)) result }
-        ensures left { self.new.terminal ≡ left_before_rule (closing_outcome self.old.terminal h (handle_at self.old.terminal h)) self.old.terminal }
+        ensures left { self.new.terminal
+            ≡ left_before_rule (closing_outcome self.old.terminal h (handle_at self.old.terminal h)) self.old.terminal }
         ensures wire { self.old.wire_room ≤ self.new.wire_room + MOST_HELD }
         ensures column { column_in self.new.terminal.disc ≤ column_in self.old.terminal.disc + 64 * PIECE }
     {
@@ -129,7 +134,8 @@ impl Terminal {
         requires empty { room.items ≡ [] }
         requires fits { read_room self.old.terminal n self.old.terminal.disc ≤ room.spare }
         ensures met { Meets (reading_outcome self.old.terminal state.now n handle) result }
-        ensures left { self.new.terminal ≡ left_before_rule (reading_outcome self.old.terminal state.now n handle) self.old.terminal }
+        ensures left { self.new.terminal
+            ≡ left_before_rule (reading_outcome self.old.terminal state.now n handle) self.old.terminal }
         ensures wire { self.new.wire_room ≡ self.old.wire_room }
         ensures column { column_in self.new.terminal.disc ≡ column_in self.old.terminal.disc }
     {
@@ -164,7 +170,8 @@ impl Terminal {
         requires wire { 512 ≤ self.old.wire_room }
         requires column { column_in self.old.terminal.disc < COUNT_END }
         ensures met { Meets (writing_outcome self.old.terminal state.now bytes.now handle) result }
-        ensures left { self.new.terminal ≡ left_before_rule (writing_outcome self.old.terminal state.now bytes.now handle) self.old.terminal }
+        ensures left { self.new.terminal
+            ≡ left_before_rule (writing_outcome self.old.terminal state.now bytes.now handle) self.old.terminal }
         ensures wire { self.old.wire_room ≤ self.new.wire_room + 512 }
         ensures column { column_in self.new.terminal.disc ≤ column_in self.old.terminal.disc + 64 * PIECE }
     {
@@ -188,8 +195,11 @@ impl Terminal {
         requires short { state.now.taken + min PIECE (length rest.now) < 2 ^ 32 }
         requires wire { 512 ≤ self.old.wire_room }
         requires column { column_in self.old.terminal.disc < COUNT_END }
-        ensures met { Meets (write_outcome self.old.terminal state.now nonblock rest.now self.old.terminal.disc) result }
-        ensures left { self.new.terminal ≡ left_before_rule (write_outcome self.old.terminal state.now nonblock rest.now self.old.terminal.disc) self.old.terminal }
+        ensures met { Meets (write_outcome self.old.terminal state.now nonblock rest.now self.old.terminal.disc)
+            result }
+        ensures left { self.new.terminal
+            ≡ left_before_rule (write_outcome self.old.terminal state.now nonblock rest.now self.old.terminal.disc)
+            self.old.terminal }
         ensures wire { self.old.wire_room ≤ self.new.wire_room + 512 }
         ensures column { column_in self.new.terminal.disc ≤ column_in self.old.terminal.disc + 64 * PIECE }
     {
@@ -219,7 +229,9 @@ impl Terminal {
     /// Tells something through a live handle.
     fn tell(&self, handle: Option<HandleState>, answer: Answer) -> Met
         ensures met { Meets (on_live self.now.terminal handle (tells (answer_of answer) self.now.terminal)) result }
-        ensures left { self.now.terminal ≡ left_before_rule (on_live self.now.terminal handle (tells (answer_of answer) self.now.terminal)) self.now.terminal }
+        ensures left { self.now.terminal
+            ≡ left_before_rule (on_live self.now.terminal handle (tells (answer_of answer) self.now.terminal))
+            self.now.terminal }
     {
         match handle {
             None => refuse(Errno::EBADF),
@@ -231,8 +243,13 @@ impl Terminal {
     /// Tells the counts, which stand in a box, through a live handle.
     fn tell_counts(&self, handle: Option<HandleState>, boxed: Option<Box<Counts>>) -> Met
         requires { option_map box_value boxed ≡ Some self.now.terminal.tally.counts }
-        ensures met { Meets (on_live self.now.terminal handle (tells (counts_are self.now.terminal.tally.counts) self.now.terminal)) result }
-        ensures left { self.now.terminal ≡ left_before_rule (on_live self.now.terminal handle (tells (counts_are self.now.terminal.tally.counts) self.now.terminal)) self.now.terminal }
+        ensures met { Meets
+            (on_live self.now.terminal handle (tells (counts_are self.now.terminal.tally.counts) self.now.terminal))
+            result }
+        ensures left { self.now.terminal
+            ≡ left_before_rule
+            (on_live self.now.terminal handle (tells (counts_are self.now.terminal.tally.counts) self.now.terminal))
+            self.now.terminal }
     {
         match boxed {
             Some(counts) => self.tell(handle, Answer::CountsAre(counts)),
@@ -242,8 +259,11 @@ impl Terminal {
 
     fn set_modes(&mut self, handle: Option<HandleState>, when: When, words: &[Word]) -> Met
         requires wire { MOST_HELD ≤ self.old.wire_room }
-        ensures met { Meets (on_live self.old.terminal handle (modes_outcome self.old.terminal when (after_words self.old.terminal.modes words.now))) result }
-        ensures left { self.new.terminal ≡ left_before_rule (on_live self.old.terminal handle (modes_outcome self.old.terminal when (after_words self.old.terminal.modes words.now))) self.old.terminal }
+        ensures met { Meets (on_live self.old.terminal handle
+            (modes_outcome self.old.terminal when (after_words self.old.terminal.modes words.now))) result }
+        ensures left { self.new.terminal
+            ≡ left_before_rule (on_live self.old.terminal handle
+            (modes_outcome self.old.terminal when (after_words self.old.terminal.modes words.now))) self.old.terminal }
         ensures wire { self.old.wire_room ≤ self.new.wire_room + MOST_HELD }
         ensures column { column_in self.new.terminal.disc ≡ column_in self.old.terminal.disc }
     {
@@ -274,7 +294,8 @@ impl Terminal {
     /// Goes over to the modes that words make of those of now.
     fn change_modes(&mut self, words: &[Word])
         requires wire { MOST_HELD ≤ self.old.wire_room }
-        ensures after { self.new.terminal ≡ with_modes self.old.terminal (after_words self.old.terminal.modes words.now) }
+        ensures after { self.new.terminal
+            ≡ with_modes self.old.terminal (after_words self.old.terminal.modes words.now) }
         ensures wire { self.old.wire_room ≤ self.new.wire_room + MOST_HELD }
         ensures column { column_in self.new.terminal.disc ≡ column_in self.old.terminal.disc }
     {
@@ -299,11 +320,17 @@ impl Terminal {
 
     #[inline(never)]
     fn set_disc(&mut self, handle: Option<HandleState>, number: u32, room: &mut Room) -> Met
-        requires fresh { fresh_in room.old ≡ option_map fresh_of (if number_of self.old.terminal.disc == number then None else kind_of_number number) }
+        requires fresh { fresh_in room.old
+            ≡ option_map fresh_of (if number_of self.old.terminal.disc == number then None else kind_of_number number) }
         requires few { self.old.terminal.generation < 2 ^ 31 }
         requires wire { MOST_HELD ≤ self.old.wire_room }
-        ensures met { Meets (on_live self.old.terminal handle (change_outcome self.old.terminal number (kind_of_number number))) result }
-        ensures left { self.new.terminal ≡ left_before_rule (on_live self.old.terminal handle (change_outcome self.old.terminal number (kind_of_number number))) self.old.terminal }
+        ensures met { Meets
+            (on_live self.old.terminal handle (change_outcome self.old.terminal number (kind_of_number number)))
+            result }
+        ensures left { self.new.terminal
+            ≡ left_before_rule
+            (on_live self.old.terminal handle (change_outcome self.old.terminal number (kind_of_number number)))
+            self.old.terminal }
         ensures wire { self.old.wire_room ≤ self.new.wire_room + MOST_HELD }
         ensures column { column_in self.new.terminal.disc ≤ column_in self.old.terminal.disc + 64 * PIECE }
     {
@@ -330,7 +357,8 @@ impl Terminal {
         requires fresh { fresh_in room.old ≡ Some (fresh_of Kind.Tty) }
         requires few { self.old.terminal.generation < 2 ^ 31 }
         ensures met { Meets (on_live self.old.terminal handle (hangup_outcome self.old.terminal)) result }
-        ensures left { self.new.terminal ≡ left_before_rule (on_live self.old.terminal handle (hangup_outcome self.old.terminal)) self.old.terminal }
+        ensures left { self.new.terminal
+            ≡ left_before_rule (on_live self.old.terminal handle (hangup_outcome self.old.terminal)) self.old.terminal }
         ensures wire { self.new.wire_room ≡ self.old.wire_room }
         ensures column { column_in self.new.terminal.disc ≤ column_in self.old.terminal.disc }
     {
@@ -348,7 +376,9 @@ impl Terminal {
 
     fn flush(&mut self, handle: Option<HandleState>, queue: Queue) -> Met
         ensures met { Meets (on_live self.old.terminal handle (flush_outcome self.old.terminal queue)) result }
-        ensures left { self.new.terminal ≡ left_before_rule (on_live self.old.terminal handle (flush_outcome self.old.terminal queue)) self.old.terminal }
+        ensures left { self.new.terminal
+            ≡ left_before_rule (on_live self.old.terminal handle (flush_outcome self.old.terminal queue))
+            self.old.terminal }
         ensures wire { self.new.wire_room ≡ self.old.wire_room }
         ensures column { column_in self.new.terminal.disc ≡ column_in self.old.terminal.disc }
     {
@@ -372,7 +402,9 @@ impl Terminal {
     fn steer(&mut self, handle: Option<HandleState>, act: Act) -> Met
         requires wire { MOST_HELD ≤ self.old.wire_room }
         ensures met { Meets (on_live self.old.terminal handle (does (after_act self.old.terminal act))) result }
-        ensures left { self.new.terminal ≡ left_before_rule (on_live self.old.terminal handle (does (after_act self.old.terminal act))) self.old.terminal }
+        ensures left { self.new.terminal
+            ≡ left_before_rule (on_live self.old.terminal handle (does (after_act self.old.terminal act)))
+            self.old.terminal }
         ensures wire { self.old.wire_room ≤ self.new.wire_room + MOST_HELD }
         ensures disc { self.new.terminal.disc ≡ self.old.terminal.disc }
     {
@@ -393,8 +425,11 @@ impl Terminal {
     }
 
     fn set_exclusive(&mut self, handle: Option<HandleState>, on: bool) -> Met
-        ensures met { Meets (on_live self.old.terminal handle (does (record self.old.terminal { exclusive = on }))) result }
-        ensures left { self.new.terminal ≡ left_before_rule (on_live self.old.terminal handle (does (record self.old.terminal { exclusive = on }))) self.old.terminal }
+        ensures met { Meets (on_live self.old.terminal handle (does (record self.old.terminal { exclusive = on })))
+            result }
+        ensures left { self.new.terminal
+            ≡ left_before_rule (on_live self.old.terminal handle (does (record self.old.terminal { exclusive = on })))
+            self.old.terminal }
         ensures wire { self.new.wire_room ≡ self.old.wire_room }
         ensures disc { self.new.terminal.disc ≡ self.old.terminal.disc }
     {
@@ -410,7 +445,8 @@ impl Terminal {
 
     fn drain(&self, handle: Option<HandleState>) -> Met
         ensures met { Meets (on_live self.now.terminal handle (drain_outcome self.now.terminal)) result }
-        ensures left { self.now.terminal ≡ left_before_rule (on_live self.now.terminal handle (drain_outcome self.now.terminal)) self.now.terminal }
+        ensures left { self.now.terminal
+            ≡ left_before_rule (on_live self.now.terminal handle (drain_outcome self.now.terminal)) self.now.terminal }
     {
         let Some(handle) = handle else {
             return refuse(Errno::EBADF);
@@ -427,8 +463,11 @@ impl Terminal {
     fn send_packet(&mut self, handle: Option<HandleState>, bytes: &[u8], encoded: &[u8]) -> Met
         requires encoded { encoded.now ≡ spelled_unless_long bytes.now }
         requires wire { MOST_HELD ≤ self.old.wire_room }
-        ensures met { Meets (on_access may_write self.old.terminal handle (sending_outcome self.old.terminal bytes.now self.old.terminal.disc)) result }
-        ensures left { self.new.terminal ≡ left_before_rule (on_access may_write self.old.terminal handle (sending_outcome self.old.terminal bytes.now self.old.terminal.disc)) self.old.terminal }
+        ensures met { Meets (on_access may_write self.old.terminal handle
+            (sending_outcome self.old.terminal bytes.now self.old.terminal.disc)) result }
+        ensures left { self.new.terminal
+            ≡ left_before_rule (on_access may_write self.old.terminal handle
+            (sending_outcome self.old.terminal bytes.now self.old.terminal.disc)) self.old.terminal }
         ensures wire { self.old.wire_room ≤ self.new.wire_room + MOST_HELD }
         ensures disc { self.new.terminal.disc ≡ self.old.terminal.disc }
     {
@@ -459,8 +498,13 @@ impl Terminal {
     fn take_packet(&mut self, handle: Option<HandleState>, mut room: Bytes) -> Met
         requires empty { room.items ≡ [] }
         requires fits { packet_room self.old.terminal.disc ≤ room.spare }
-        ensures met { Meets (on_access may_read self.old.terminal handle (taking_outcome self.old.terminal self.old.terminal.disc)) result }
-        ensures left { self.new.terminal ≡ left_before_rule (on_access may_read self.old.terminal handle (taking_outcome self.old.terminal self.old.terminal.disc)) self.old.terminal }
+        ensures met { Meets
+            (on_access may_read self.old.terminal handle (taking_outcome self.old.terminal self.old.terminal.disc))
+            result }
+        ensures left { self.new.terminal
+            ≡ left_before_rule
+            (on_access may_read self.old.terminal handle (taking_outcome self.old.terminal self.old.terminal.disc))
+            self.old.terminal }
         ensures wire { self.new.wire_room ≡ self.old.wire_room }
         ensures column { column_in self.new.terminal.disc ≡ column_in self.old.terminal.disc }
     {

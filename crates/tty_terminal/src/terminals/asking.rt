@@ -261,8 +261,10 @@ impl Terminal {
         requires known { caller < length self.now.terminal.callers }
         requires number { handle_of (call_of call.now) < 32 }
         requires column { column_in self.now.terminal.disc < COUNT_END }
-        ensures value { result ≡ is_wait (outcome self.now.terminal (caller_at self.now.terminal caller) (call_of call.now)) }
-        ensures fact { IsTrue result ↔ MustWait (outcome self.now.terminal (caller_at self.now.terminal caller) (call_of call.now)) }
+        ensures value { result
+            ≡ is_wait (outcome self.now.terminal (caller_at self.now.terminal caller) (call_of call.now)) }
+        ensures fact { IsTrue result
+            ↔ MustWait (outcome self.now.terminal (caller_at self.now.terminal caller) (call_of call.now)) }
     {
         let state = self.callers.get(caller as usize);
         self.waits_by_call(&state, call)
@@ -295,7 +297,8 @@ impl Terminal {
     pub fn drops(&self, caller: u16, call: &Call) -> bool
         requires known { caller < length self.now.terminal.callers }
         requires number { handle_of (call_of call.now) < 32 }
-        ensures { result ≡ drops_of (outcome self.now.terminal (caller_at self.now.terminal caller) (call_of call.now)) }
+        ensures { result
+            ≡ drops_of (outcome self.now.terminal (caller_at self.now.terminal caller) (call_of call.now)) }
     {
         let state = self.callers.get(caller as usize);
         self.drops_from(&state, call)

@@ -76,7 +76,8 @@ impl Terminal {
 
     /// Sets the clock. It does not go back.
     pub fn set_clock(&mut self, tick: u64)
-        ensures { self.new ≡ record self.old { terminal = record self.old.terminal { tick = max self.old.terminal.tick tick } } }
+        ensures { self.new
+            ≡ record self.old { terminal = record self.old.terminal { tick = max self.old.terminal.tick tick } } }
     {
         self.tick = self.tick.max(tick);
     }
@@ -99,7 +100,10 @@ impl Terminal {
         requires empty { out.old.items ≡ [] }
         requires room { n ≤ out.old.spare }
         ensures front { out.new.items ≡ take n self.old.terminal.output.wire }
-        ensures rest { self.new.terminal ≡ record self.old.terminal { output = record self.old.terminal.output { wire = drop n self.old.terminal.output.wire } } }
+        ensures rest { self.new.terminal
+            ≡ record self.old.terminal {
+              output = record self.old.terminal.output { wire = drop n self.old.terminal.output.wire };
+            } }
     {
         self.wire.take_front(n, out);
     }
@@ -115,7 +119,13 @@ impl Terminal {
     pub fn take_signal(&mut self, out: &mut Signals)
         requires within { 1 ≤ length self.old.terminal.tally.signals.items }
         requires room { 1 ≤ out.old.spare }
-        ensures { self.new.terminal ≡ record self.old.terminal { tally = record self.old.terminal.tally { signals = record self.old.terminal.tally.signals { items = drop 1 self.old.terminal.tally.signals.items } } } }
+        ensures { self.new.terminal
+            ≡ record self.old.terminal {
+              tally = record self.old.terminal.tally {
+                signals =
+                    record self.old.terminal.tally.signals { items = drop 1 self.old.terminal.tally.signals.items };
+              };
+            } }
     {
         self.tally.take_signals(1, out);
     }

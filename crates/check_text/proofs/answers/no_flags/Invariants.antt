@@ -7,4 +7,5 @@ use Rattle.check_text.specs.Answers.{no_flags}
 use Rattle.check_text.proofs.answers.no_flags.Given as goal
 
 abbrev pub invariant-loop-flag : goal.invariant-loop-flag
-invariant-loop-flag l = fold (λ modes flag. after_word modes (Off flag)) l.modes (range_with_len l.flag (29 - l.flag)) ≡ no_flags
+invariant-loop-flag l =
+    fold (λ modes flag. after_word modes (Off flag)) l.modes (range_with_len l.flag (29 - l.flag)) ≡ no_flags

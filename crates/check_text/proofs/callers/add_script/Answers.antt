@@ -10,6 +10,9 @@ returns-in_ok-add_kinds-in-Some c =
     let rows = c.args.rows.now in
     let caller = c.in-Some.caller in
     let more = map answer_kind c.args.script.now.calls.items in
-    let within : caller < length rows = omega (arith, c.requires, place_within c.args.names.now c.args.script.now.name.bytes caller (sym c.in-Some.ensures)) in
-    row_added (λ row. row.items) rows caller c.index-rows-caller.result c.add_kinds.new.row more within c.in_ok-add_kinds-in-Some.ensures
+    let within : caller < length rows =
+    omega
+    (arith, c.requires, place_within c.args.names.now c.args.script.now.name.bytes caller (sym c.in-Some.ensures)) in
+    row_added (λ row. row.items) rows caller c.index-rows-caller.result c.add_kinds.new.row
+    more within c.in_ok-add_kinds-in-Some.ensures
     ∙ ap (rows_with (map (λ row. row.items) rows) (script_of c.args.script.now)) c.in-Some.ensures

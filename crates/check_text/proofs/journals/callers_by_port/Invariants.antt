@@ -7,5 +7,6 @@ use Rattle.check_text.proofs.journals.callers_by_port.Given as goal
 
 abbrev pub invariant-loop-port : goal.invariant-loop-port
 invariant-loop-port l =
-    map callers_of l.callers.items ++ map (λ port. callers_on port (session_of l.session)) (range_with_len l.port (l.session.ports - l.port))
+    map callers_of l.callers.items
+    ++ map (λ port. callers_on port (session_of l.session)) (range_with_len l.port (l.session.ports - l.port))
     ≡ map (λ port. callers_on port (session_of l.session)) (range_with_len 0 l.session.ports)

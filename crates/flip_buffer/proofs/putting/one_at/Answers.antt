@@ -12,7 +12,8 @@ returns c =
     let one : suc at ≡ at + 1 = omega arith in
     let byte : c.from.result ≡ get_or bytes at 0 = c.from.ensures in
     let seen : record { byte = get_or bytes at 0; flag = c.args.flag } ≡ char_of (c.from.result + c.args.mark) =
-    sym (ap (λ (n : ℕ). char_of (n + c.args.mark)) byte ∙ c.requires.marks.seen (get_or bytes at 0) (omega (arith, c.type_inv.bytes at))) in
+    sym (ap (λ (n : ℕ). char_of (n + c.args.mark)) byte
+    ∙ c.requires.marks.seen (get_or bytes at 0) (omega (arith, c.type_inv.bytes at))) in
     ap (λ (n : ℕ). with_flag c.args.flag (take n bytes)) (sym one)
     ∙ (ap (with_flag c.args.flag) (take-suc bytes at 0 c.requires.within)
     ∙ (map-append (λ byte. record { byte = byte; flag = c.args.flag }) (take at bytes) (get_or bytes at 0 ∷ [])

@@ -6,4 +6,5 @@ pub returns-in_ok-push : goal.returns-in_ok-push
 returns-in_ok-push c =
     let answers = c.args.answers.now in
     let caller = c.args.caller in
-    noted_more answers caller c.args.text (get_or answers caller c.index-answers-caller.result) c.push.new.self c.if-caller-answers.true (ap (get_or answers caller) c.index-answers-caller.is) c.in_ok-push.ensures.items
+    noted_more answers caller c.args.text (get_or answers caller c.index-answers-caller.result) c.push.new.self
+    c.if-caller-answers.true (ap (get_or answers caller) c.index-answers-caller.is) c.in_ok-push.ensures.items

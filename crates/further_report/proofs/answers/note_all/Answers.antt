@@ -8,4 +8,5 @@ loop-logged-preserved g c =
     let log = c.args.log.now in
     let i = c.loop-logged.logged-index in
     logged_more g.E.Answering.told c.args.port log i c.logged-item.result c.loop-logged-test.true c.logged-item.is
-    (map (λ texts. bytes_of texts.items) c.loop-logged.answers) (map (λ texts. bytes_of texts.items) c.note_on.new.answers) _ c.in_ok-note_on.ensures c.loop-logged.invariant
+    (map (λ texts. bytes_of texts.items) c.loop-logged.answers)
+    (map (λ texts. bytes_of texts.items) c.note_on.new.answers) _ c.in_ok-note_on.ensures c.loop-logged.invariant

@@ -8,9 +8,11 @@ use Rattle.further_report.proofs.jobs.put_all.Goals as goal
 pub loop-port-preserved : goal.loop-port-preserved
 loop-port-preserved c =
     let calls = port_calls (bare_session_of c.args.session.now) (map logged_of c.args.log.now) in
-    range_more calls c.args.session.now.session.ports c.loop-port.port c.loop-port.text.items c.put_port.new.text.items _ c.loop-port-test.true c.in_ok-put_port.ensures c.loop-port.invariant
+    range_more calls c.args.session.now.session.ports c.loop-port.port c.loop-port.text.items c.put_port.new.text.items
+    _ c.loop-port-test.true c.in_ok-put_port.ensures c.loop-port.invariant
 
 pub returns : goal.returns
 returns c =
     let calls = port_calls (bare_session_of c.args.session.now) (map logged_of c.args.log.now) in
-    range_over calls c.args.session.now.session.ports c.loop-port.port c.loop-port.text.items _ c.loop-port-test.false c.loop-port.invariant
+    range_over calls c.args.session.now.session.ports c.loop-port.port c.loop-port.text.items
+    _ c.loop-port-test.false c.loop-port.invariant

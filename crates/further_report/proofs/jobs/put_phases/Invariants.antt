@@ -8,5 +8,7 @@ use Rattle.further_report.proofs.jobs.put_phases.Given as goal
 
 abbrev pub invariant-loop-place : goal.invariant-loop-place
 invariant-loop-place l =
-    HasScripts own_verb l.teller.port l.teller.names (map (λ texts. bytes_of texts.items) l.teller.answers.items) l.initial.text.items (replicate (length l.teller.names) 0) (scripts_beside (map own_of l.parts) 0 (map phase_of l.phases))
+    HasScripts own_verb l.teller.port l.teller.names (map (λ texts. bytes_of texts.items) l.teller.answers.items)
+    l.initial.text.items (replicate (length l.teller.names) 0)
+    (scripts_beside (map own_of l.parts) 0 (map phase_of l.phases))
     l.text.items l.steps.items (scripts_beside (map own_of l.parts) l.place (map phase_of (drop l.place l.phases)))

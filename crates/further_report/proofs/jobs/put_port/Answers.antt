@@ -11,7 +11,9 @@ use Rattle.further_report.proofs.Ported.{has_answers, job_port}
 use Rattle.further_report.proofs.jobs.put_port.Goals as goal
 
 pub put_phases-requires : goal.put_phases-requires
-put_phases-requires c = has_answers c.in_ok-answers.answers.items c.len.result _ (flat_map (λ l. if l.port == c.args.port then told_in (event_of l.event) else []) c.args.log.now) c.len.ensures c.in_ok-answers.ensures
+put_phases-requires c = has_answers c.in_ok-answers.answers.items c.len.result _
+    (flat_map (λ l. if l.port == c.args.port then told_in (event_of l.event) else []) c.args.log.now)
+    c.len.ensures c.in_ok-answers.ensures
 
 pub returns : goal.returns
 returns c =
@@ -23,10 +25,18 @@ returns c =
     let phases = c.as_slice-phases.result.now in
     let parts = c.as_slice.result.now in
     on_ok_weaker c.put_phases.result
-    (λ (d : c.put_phases.new.text.items ≡ text ++ scripts_text own_verb port names answers (replicate (length names) 0) (scripts_beside (map own_of parts) 0 (map phase_of phases))).
+    (λ (d : c.put_phases.new.text.items
+    ≡ text
+    ++ scripts_text own_verb port names answers (replicate (length names) 0)
+    (scripts_beside (map own_of parts) 0 (map phase_of phases))).
     d ∙ ap (λ (l : List ℕ). text ++ l)
-    (ap (λ (ps : List Phase). scripts_text own_verb port names answers (replicate (length names) 0) (scripts_beside (map own_of parts) 0 (map phase_of ps))) c.as_slice-phases.ensures
-    ∙ ap (λ (os : List JobsPart). scripts_text own_verb port names answers (replicate (length names) 0) (scripts_beside (map own_of os) 0 (map phase_of session.session.phases.items))) c.as_slice.ensures
-    ∙ job_port (session_of session.session) (map bare session.procs.items) (map own_of session.parts.items) c.args.log.now port c.len.result names answers
-    (c.in_ok-names.ensures ∙ ap (λ (ps : List Phase). learned_over [] port (map phase_of ps)) c.as_slice-phases.ensures) c.len.ensures c.in_ok-answers.ensures))
+    (ap (λ (ps : List Phase). scripts_text own_verb port names answers (replicate (length names) 0)
+    (scripts_beside (map own_of parts) 0 (map phase_of ps))) c.as_slice-phases.ensures
+    ∙ ap
+    (λ (os : List JobsPart). scripts_text own_verb port names answers (replicate (length names) 0)
+    (scripts_beside (map own_of os) 0 (map phase_of session.session.phases.items))) c.as_slice.ensures
+    ∙ job_port (session_of session.session) (map bare session.procs.items) (map own_of session.parts.items)
+    c.args.log.now port c.len.result names answers
+    (c.in_ok-names.ensures ∙ ap (λ (ps : List Phase). learned_over [] port (map phase_of ps)) c.as_slice-phases.ensures)
+    c.len.ensures c.in_ok-answers.ensures))
     c.put_phases.ensures

@@ -7,5 +7,7 @@ use Rattle.further_report.proofs.jobs.put_signals.Given as goal
 
 abbrev pub invariant-loop-port : goal.invariant-loop-port
 invariant-loop-port l =
-    string_bytes l.text ++ flat_map (port_signals (bare_session_of l.session) (map logged_of l.log)) (range_with_len l.port (l.session.session.ports - l.port))
+    string_bytes l.text
+    ++ flat_map (port_signals (bare_session_of l.session) (map logged_of l.log))
+    (range_with_len l.port (l.session.session.ports - l.port))
     ≡ string_bytes l.initial.text ++ all_signals (bare_session_of l.session) (map logged_of l.log)

@@ -17,6 +17,8 @@ returns c =
     on_ok_weaker c.put_port_signals.result
     (λ (d : string_bytes c.put_port_signals.new.text ≡ text ++ signals_on port c.as_slice-2.result.now log).
     d ∙ ap (λ (l : List ℕ). text ++ l)
-    (ap (λ (ps : List Proc). signals_on port ps log) (c.as_slice-2.ensures.value ∙ c.in_ok-procs.ensures ∙ ap (λ (qs : List PortProc). procs_on port qs) c.as_slice.ensures)
+    (ap (λ (ps : List Proc). signals_on port ps log) (c.as_slice-2.ensures.value
+    ∙ c.in_ok-procs.ensures
+    ∙ ap (λ (qs : List PortProc). procs_on port qs) c.as_slice.ensures)
     ∙ signals_told session.session.ports port session.procs.items log c.requires))
     c.put_port_signals.ensures

@@ -7,5 +7,7 @@ use Rattle.further_report.proofs.modem.put_all.Given as goal
 
 abbrev pub invariant-loop-port : goal.invariant-loop-port
 invariant-loop-port l =
-    l.text.items ++ flat_map (port_calls (modem_session_of l.session) (map logged_of l.log)) (range_with_len l.port (l.session.session.ports - l.port))
+    l.text.items
+    ++ flat_map (port_calls (modem_session_of l.session) (map logged_of l.log))
+    (range_with_len l.port (l.session.session.ports - l.port))
     ≡ l.initial.text.items ++ all_calls (modem_session_of l.session) (map logged_of l.log)

@@ -10,7 +10,9 @@ use Rattle.further_report.proofs.Ported.{has_answers, modem_port}
 use Rattle.further_report.proofs.modem.put_port.Goals as goal
 
 pub put_phases-requires : goal.put_phases-requires
-put_phases-requires c = has_answers c.in_ok-answers.answers.items c.len.result _ (flat_map (λ l. if l.port == c.args.port then told_in (event_of l.event) else []) c.args.log.now) c.len.ensures c.in_ok-answers.ensures
+put_phases-requires c = has_answers c.in_ok-answers.answers.items c.len.result _
+    (flat_map (λ l. if l.port == c.args.port then told_in (event_of l.event) else []) c.args.log.now)
+    c.len.ensures c.in_ok-answers.ensures
 
 pub returns : goal.returns
 returns c =
@@ -22,10 +24,19 @@ returns c =
     let phases = c.as_slice-phases.result.now in
     let parts = c.as_slice.result.now in
     on_ok_weaker c.put_phases.result
-    (λ (d : c.put_phases.new.text.items ≡ text ++ scripts_text own_verb port names answers (replicate (length names) 0) (scripts_beside (map own_in parts) 0 (map phase_of phases))).
+    (λ (d : c.put_phases.new.text.items
+    ≡ text
+    ++ scripts_text own_verb port names answers (replicate (length names) 0)
+    (scripts_beside (map own_in parts) 0 (map phase_of phases))).
     d ∙ ap (λ (l : List ℕ). text ++ l)
-    (ap (λ (ps : List Phase). scripts_text own_verb port names answers (replicate (length names) 0) (scripts_beside (map own_in parts) 0 (map phase_of ps))) c.as_slice-phases.ensures
-    ∙ ap (λ (os : List ModemPart). scripts_text own_verb port names answers (replicate (length names) 0) (scripts_beside (map own_in os) 0 (map phase_of session.session.phases.items))) c.as_slice.ensures
-    ∙ modem_port (session_of session.session) session.parts.items c.args.log.now port c.len.result names answers c.requires
-    (c.in_ok-names.ensures ∙ ap (λ (ps : List Phase). learned_with_carrier [] port (map phase_of ps)) c.as_slice-phases.ensures) c.len.ensures c.in_ok-answers.ensures))
+    (ap (λ (ps : List Phase). scripts_text own_verb port names answers (replicate (length names) 0)
+    (scripts_beside (map own_in parts) 0 (map phase_of ps))) c.as_slice-phases.ensures
+    ∙ ap
+    (λ (os : List ModemPart). scripts_text own_verb port names answers (replicate (length names) 0)
+    (scripts_beside (map own_in os) 0 (map phase_of session.session.phases.items))) c.as_slice.ensures
+    ∙ modem_port (session_of session.session) session.parts.items
+    c.args.log.now port c.len.result names answers c.requires
+    (c.in_ok-names.ensures
+    ∙ ap (λ (ps : List Phase). learned_with_carrier [] port (map phase_of ps)) c.as_slice-phases.ensures)
+    c.len.ensures c.in_ok-answers.ensures))
     c.put_phases.ensures

@@ -11,7 +11,8 @@ loop-slot-preserved c = grind (arith, common_steps, map_over_more handle_after_h
 
 pub invariant_of-self : goal.invariant_of-self
 invariant_of-self c =
-    let all : c.loop-slot.slot-items ≡ after_hangup c.self.inside.slots = grind (arith, common_steps, take_all, drop_all) in
+    let all : c.loop-slot.slot-items ≡ after_hangup c.self.inside.slots =
+    grind (arith, common_steps, take_all, drop_all) in
     record {
       numbers = ap length all ∙ length-map c.self.inside.slots handle_after_hangup ∙ c.self.invariant.numbers;
       live_is = sym (ap live_count all ∙ live_count-after_hangup c.self.inside.slots);

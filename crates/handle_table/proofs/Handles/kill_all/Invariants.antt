@@ -5,4 +5,6 @@ use Rattle.handle_table.proofs.Handles.kill_all.Given as goal
 
 -- the handles up to this one are dead, and the others as they were
 abbrev pub invariant-loop-slot : goal.invariant-loop-slot
-invariant-loop-slot l = l.slot-items ≡ map handle_after_hangup (take l.slot-index l.initial.slot-items) ++ drop l.slot-index l.initial.slot-items
+invariant-loop-slot l =
+    l.slot-items
+    ≡ map handle_after_hangup (take l.slot-index l.initial.slot-items) ++ drop l.slot-index l.initial.slot-items

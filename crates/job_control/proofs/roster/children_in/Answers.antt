@@ -9,6 +9,7 @@ loop-place-preserved c =
       ap length c.in_ok-add_child.ensures ∙ (with_child_long lists c.parent_of.result c.loop-place.place ∙ long),
       λ p within.
           let there : p < length lists = omega (arith, long, within) in
-          child_listed c.args.procs.now lists _ c.parent_of.result c.loop-place.place p there c.parent_of.ensures c.in_ok-add_child.ensures
+          child_listed c.args.procs.now lists _ c.parent_of.result c.loop-place.place
+          p there c.parent_of.ensures c.in_ok-add_child.ensures
           (c.loop-place.invariant.1 p within),
     )

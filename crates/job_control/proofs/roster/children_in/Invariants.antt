@@ -7,4 +7,7 @@ use Rattle.job_control.proofs.roster.children_in.Given as goal
 abbrev pub invariant-loop-place : goal.invariant-loop-place
 invariant-loop-place l =
     (length (map (λ list. list.items) l.lists.items) ≡ length l.procs)
-    × ((p : ℕ) → p < length l.procs → slice_index_or (map (λ list. list.items) l.lists.items) p [] ≡ filter (is_child l.procs p) (range_with_len 0 l.place))
+    × ((p : ℕ)
+    → p < length l.procs
+    → slice_index_or (map (λ list. list.items) l.lists.items) p []
+    ≡ filter (is_child l.procs p) (range_with_len 0 l.place))

@@ -7,5 +7,8 @@ use Rattle.job_control.proofs.roster.living_in.Given as goal
 
 abbrev pub invariant-loop-place : goal.invariant-loop-place
 invariant-loop-place l =
-    ((key : ℕ) → counted l.living key + count_by (lives_under l.procs l.exited key) (range_with_len l.place (length l.procs - l.place)) ≡ living_count l.procs l.exited key)
+    ((key : ℕ)
+    → counted l.living key
+    + count_by (lives_under l.procs l.exited key) (range_with_len l.place (length l.procs - l.place))
+    ≡ living_count l.procs l.exited key)
     × ((p : ℕ) → p < l.place → group_at l.procs p < 65536)

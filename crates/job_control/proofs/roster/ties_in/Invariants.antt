@@ -7,4 +7,7 @@ use Rattle.job_control.proofs.roster.ties_in.Given as goal
 
 abbrev pub invariant-loop-place : goal.invariant-loop-place
 invariant-loop-place l =
-    (group : ℕ) → counted l.ties group + count_by (ties_group l.procs l.exited group) (range_with_len l.place (length l.procs - l.place)) ≡ ties_count l.procs l.exited group
+    (group : ℕ)
+    → counted l.ties group
+    + count_by (ties_group l.procs l.exited group) (range_with_len l.place (length l.procs - l.place))
+    ≡ ties_count l.procs l.exited group

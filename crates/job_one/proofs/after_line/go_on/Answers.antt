@@ -10,8 +10,10 @@ take_next-requires g c = (
     c.requires.0.at,
     (
       c.requires.1,
-      next_of g.frame c.args.roles.now c.args.port.now c.args.desk.now c.args.stand c.args.calls.now c.args.place _ (job_call_of c.in-Some.call) c.requires.0
-          (place_at g.frame c.args.roles.now c.args.port.now c.args.stand c.args.place (record { number = 0; first = 0; place = 0 }) c.requires.1) c.in-Some.ensures,
+      next_of g.frame c.args.roles.now c.args.port.now c.args.desk.now c.args.stand c.args.calls.now c.args.place _
+          (job_call_of c.in-Some.call) c.requires.0
+          (place_at g.frame c.args.roles.now c.args.port.now c.args.stand c.args.place
+          (record { number = 0; first = 0; place = 0 }) c.requires.1) c.in-Some.ensures,
     ),
   ),
 )
@@ -26,10 +28,15 @@ returns-in_err-taken-in-Some-clause-err g c =
 
 pub returns-in_ok-taken-in-Some-clause-ok : goal.returns-in_ok-taken-in-Some-clause-ok
 returns-in_ok-taken-in-Some-clause-ok g c =
-    between_call g.frame c.args.roles.now c.args.port.now c.take_next.new.port c.args.desk.now c.take_next.new.desk c.args.stand c.args.calls.now c.pass_if.new.calls c.args.place _ (job_call_of c.in-Some.call) c.in_ok-taken-in-Some.taken c.requires.0
-    (place_at g.frame c.args.roles.now c.args.port.now c.args.stand c.args.place (record { number = 0; first = 0; place = 0 }) c.requires.1) c.in-Some.ensures c.in_ok-taken-in-Some.ensures.ok c.pass_if.ensures
+    between_call g.frame c.args.roles.now c.args.port.now c.take_next.new.port c.args.desk.now c.take_next.new.desk
+    c.args.stand c.args.calls.now c.pass_if.new.calls c.args.place _ (job_call_of c.in-Some.call)
+    c.in_ok-taken-in-Some.taken c.requires.0
+    (place_at g.frame c.args.roles.now c.args.port.now c.args.stand c.args.place
+    (record { number = 0; first = 0; place = 0 }) c.requires.1) c.in-Some.ensures
+    c.in_ok-taken-in-Some.ensures.ok c.pass_if.ensures
 
 pub returns-in_ok-taken-in-Some-clause-less : goal.returns-in_ok-taken-in-Some-clause-less
 returns-in_ok-taken-in-Some-clause-less g c =
-    less_call g.frame c.args.roles.now c.args.port.now c.take_next.new.port c.args.desk.now c.take_next.new.desk c.args.calls.now c.pass_if.new.calls c.args.place (job_call_of c.in-Some.call) c.in_ok-taken-in-Some.taken
+    less_call g.frame c.args.roles.now c.args.port.now c.take_next.new.port c.args.desk.now c.take_next.new.desk
+    c.args.calls.now c.pass_if.new.calls c.args.place (job_call_of c.in-Some.call) c.in_ok-taken-in-Some.taken
     c.in-Some.ensures c.in_ok-taken-in-Some.ensures.ok c.pass_if.ensures

@@ -12,4 +12,5 @@ returns-then-has_begun c = goes_begun _ _ (sym c.has_begun.ensures ∙ c.if-has_
 pub returns : goal.returns
 returns c =
     goes_judged c.passes.result _ _ (sym c.has_begun.ensures ∙ c.if-has_begun.false)
-    (subst (λ (j : Judged). MatchBool c.passes.result (j ≡ Pass) (IsTrue (not (is_none (judged_answer j))))) c.judge.ensures c.passes.ensures)
+    (subst (λ (j : Judged). MatchBool c.passes.result (j ≡ Pass) (IsTrue (not (is_none (judged_answer j)))))
+    c.judge.ensures c.passes.ensures)

@@ -6,6 +6,7 @@ use Rattle.job_one.proofs.line.play_flagged.Given as goal
 
 abbrev pub invariant-loop-place : goal.invariant-loop-place
 invariant-loop-place l = record {
-  plays : PlaysSteps (take l.place (map (rx_step l.flag) l.bytes)) l.fn.port l.port l.fn.putter l.putter l.fn.line l.line l.run l.next;
+  plays : PlaysSteps (take l.place (map (rx_step l.flag) l.bytes)) l.fn.port
+      l.port l.fn.putter l.putter l.fn.line l.line l.run l.next;
   sends : SendsAlong l.fn.port l.port l.fn.desk l.desk;
 }

@@ -8,4 +8,5 @@ use Rattle.job_one.proofs.line.play_part.Goals as goal
 
 pub send_step-requires-clause-good : goal.send_step-requires-clause-good
 send_step-requires-clause-good c =
-    All-head (λ (s : LineStep). IsTrue (is_step s)) c.in-One.step [] (subst (λ (p : Part). All (λ (s : LineStep). IsTrue (is_step s)) (steps_of_part p)) c.in-One.is c.requires.good)
+    All-head (λ (s : LineStep). IsTrue (is_step s)) c.in-One.step []
+    (subst (λ (p : Part). All (λ (s : LineStep). IsTrue (is_step s)) (steps_of_part p)) c.in-One.is c.requires.good)

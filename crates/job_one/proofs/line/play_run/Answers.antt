@@ -14,27 +14,43 @@ use Rattle.job_one.proofs.line.play_run.Goals as goal
 pub send_window-requires-clause-room : goal.send_window-requires-clause-room
 send_window-requires-clause-room c =
     let bytes = c.args.bytes.now in
-    let s = stands_from (good_steps bytes) c.loop-at.at c.args.port.now c.loop-at.port c.args.putter.now c.loop-at.putter c.args.line.now c.loop-at.line c.args.run c.loop-at.next c.loop-at.invariant.plays c.requires.stands in
-    omega (arith, s.room, ap length c.rest_of.ensures, ap arrival_count (drop-map (rx_step Normal) c.loop-at.at bytes), arrival_count-run Normal (drop c.loop-at.at bytes))
+    let s = stands_from (good_steps bytes) c.loop-at.at c.args.port.now c.loop-at.port c.args.putter.now
+    c.loop-at.putter c.args.line.now c.loop-at.line c.args.run
+    c.loop-at.next c.loop-at.invariant.plays c.requires.stands in
+    omega (
+      arith,
+      s.room,
+      ap length c.rest_of.ensures,
+      ap arrival_count (drop-map (rx_step Normal) c.loop-at.at bytes),
+      arrival_count-run Normal (drop c.loop-at.at bytes),
+    )
 
 pub send_window-requires-clause-put : goal.send_window-requires-clause-put
 send_window-requires-clause-put c =
-    let s = stands_from (good_steps c.args.bytes.now) c.loop-at.at c.args.port.now c.loop-at.port c.args.putter.now c.loop-at.putter c.args.line.now c.loop-at.line c.args.run c.loop-at.next c.loop-at.invariant.plays c.requires.stands in
+    let s = stands_from (good_steps c.args.bytes.now) c.loop-at.at c.args.port.now c.loop-at.port c.args.putter.now
+    c.loop-at.putter c.args.line.now c.loop-at.line c.args.run
+    c.loop-at.next c.loop-at.invariant.plays c.requires.stands in
     s.between.in_line.has_put.room
 
 pub send_window-requires-clause-ring : goal.send_window-requires-clause-ring
 send_window-requires-clause-ring c =
-    let s = stands_from (good_steps c.args.bytes.now) c.loop-at.at c.args.port.now c.loop-at.port c.args.putter.now c.loop-at.putter c.args.line.now c.loop-at.line c.args.run c.loop-at.next c.loop-at.invariant.plays c.requires.stands in
+    let s = stands_from (good_steps c.args.bytes.now) c.loop-at.at c.args.port.now c.loop-at.port c.args.putter.now
+    c.loop-at.putter c.args.line.now c.loop-at.line c.args.run
+    c.loop-at.next c.loop-at.invariant.plays c.requires.stands in
     s.between.in_line.has_put.ring
 
 pub send_window-requires-clause-some_room : goal.send_window-requires-clause-some_room
 send_window-requires-clause-some_room c =
-    let s = stands_from (good_steps c.args.bytes.now) c.loop-at.at c.args.port.now c.loop-at.port c.args.putter.now c.loop-at.putter c.args.line.now c.loop-at.line c.args.run c.loop-at.next c.loop-at.invariant.plays c.requires.stands in
+    let s = stands_from (good_steps c.args.bytes.now) c.loop-at.at c.args.port.now c.loop-at.port c.args.putter.now
+    c.loop-at.putter c.args.line.now c.loop-at.line c.args.run
+    c.loop-at.next c.loop-at.invariant.plays c.requires.stands in
     s.between.in_line.some_room
 
 pub send_window-requires-clause-run : goal.send_window-requires-clause-run
 send_window-requires-clause-run c =
-    let s = stands_from (good_steps c.args.bytes.now) c.loop-at.at c.args.port.now c.loop-at.port c.args.putter.now c.loop-at.putter c.args.line.now c.loop-at.line c.args.run c.loop-at.next c.loop-at.invariant.plays c.requires.stands in
+    let s = stands_from (good_steps c.args.bytes.now) c.loop-at.at c.args.port.now c.loop-at.port c.args.putter.now
+    c.loop-at.putter c.args.line.now c.loop-at.line c.args.run
+    c.loop-at.next c.loop-at.invariant.plays c.requires.stands in
     s.between.begins_run
 
 pub returns-in_err-passed-clause-err : goal.returns-in_err-passed-clause-err
@@ -44,14 +60,19 @@ returns-in_err-passed-clause-err c =
     let left = ap good_steps c.rest_of.ensures ∙ sym (drop-map (rx_step Normal) c.loop-at.at bytes) in
     let d = c.in_err-passed.field-0.0 in
     let w = c.send_window.new in
-    rw (p.1, p.2) (stops_from (good_steps bytes) c.loop-at.at c.args.port.now c.loop-at.port c.args.putter.now c.loop-at.putter c.args.line.now c.loop-at.line c.args.run c.loop-at.next c.loop-at.invariant.plays
-    d w.port w.putter w.line (subst (λ (l : List LineStep). StopsSteps d l c.loop-at.port w.port c.loop-at.putter w.putter c.loop-at.line w.line c.loop-at.next) left c.in_err-passed.ensures.err))
+    rw (p.1, p.2) (stops_from (good_steps bytes) c.loop-at.at c.args.port.now c.loop-at.port c.args.putter.now
+    c.loop-at.putter c.args.line.now c.loop-at.line c.args.run c.loop-at.next c.loop-at.invariant.plays
+    d w.port w.putter w.line
+    (subst (λ (l : List LineStep).
+    StopsSteps d l c.loop-at.port w.port c.loop-at.putter w.putter c.loop-at.line w.line c.loop-at.next)
+    left c.in_err-passed.ensures.err))
 
 pub returns-in_err-passed-clause-stops : goal.returns-in_err-passed-clause-stops
 returns-in_err-passed-clause-stops c =
     let p = err_from_is_err_and c.from_residual.result c.from_residual.ensures.1 in
     let w = c.send_window.new in
-    rw (p.1, p.2) (stops_more c.in_err-passed.field-0.0 c.args.port.now c.loop-at.port w.port c.args.desk.now c.loop-at.desk w.desk c.loop-at.invariant.sends c.in_err-passed.ensures.stops)
+    rw (p.1, p.2) (stops_more c.in_err-passed.field-0.0 c.args.port.now c.loop-at.port w.port c.args.desk.now
+    c.loop-at.desk w.desk c.loop-at.invariant.sends c.in_err-passed.ensures.stops)
 
 pub loop-at-preserved : goal.loop-at-preserved
 loop-at-preserved c =
@@ -60,8 +81,18 @@ loop-at-preserved c =
     let passed = c.in_ok-passed.passed in
     let w = c.send_window.new in
     record {
-      plays = plays_from (good_steps bytes) c.loop-at.at c.args.port.now c.loop-at.port c.args.putter.now c.loop-at.putter c.args.line.now c.loop-at.line c.args.run c.loop-at.next c.loop-at.invariant.plays
-          passed.steps w.port w.putter w.line passed.run (subst (λ (l : List LineStep). PlaysSteps (take passed.steps l) c.loop-at.port w.port c.loop-at.putter w.putter c.loop-at.line w.line c.loop-at.next passed.run) left c.in_ok-passed.ensures.ok);
-      within = omega (arith, c.loop-at.invariant.within, c.in_ok-passed.ensures.within, ap length c.rest_of.ensures, length-drop c.loop-at.at bytes);
-      sends = sends_more c.args.port.now c.loop-at.port w.port c.args.desk.now c.loop-at.desk w.desk c.loop-at.invariant.sends c.in_ok-passed.ensures.sends;
+      plays = plays_from (good_steps bytes) c.loop-at.at c.args.port.now c.loop-at.port c.args.putter.now
+          c.loop-at.putter c.args.line.now c.loop-at.line c.args.run c.loop-at.next c.loop-at.invariant.plays
+          passed.steps w.port w.putter w.line passed.run
+          (subst (λ (l : List LineStep). PlaysSteps (take passed.steps l) c.loop-at.port w.port c.loop-at.putter
+          w.putter c.loop-at.line w.line c.loop-at.next passed.run) left c.in_ok-passed.ensures.ok);
+      within = omega (
+        arith,
+        c.loop-at.invariant.within,
+        c.in_ok-passed.ensures.within,
+        ap length c.rest_of.ensures,
+        length-drop c.loop-at.at bytes,
+      );
+      sends = sends_more c.args.port.now c.loop-at.port w.port c.args.desk.now c.loop-at.desk w.desk
+          c.loop-at.invariant.sends c.in_ok-passed.ensures.sends;
     }

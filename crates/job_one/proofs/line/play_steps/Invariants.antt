@@ -6,6 +6,7 @@ use Rattle.job_one.proofs.line.play_steps.Given as goal
 
 abbrev pub invariant-loop-part : goal.invariant-loop-part
 invariant-loop-part l = record {
-  plays : PlaysSteps (steps_in (take l.part-index l.part-items)) l.fn.port l.port l.fn.putter l.putter l.fn.line l.line l.run l.next;
+  plays : PlaysSteps (steps_in (take l.part-index l.part-items)) l.fn.port
+      l.port l.fn.putter l.putter l.fn.line l.line l.run l.next;
   sends : SendsAlong l.fn.port l.port l.fn.desk l.desk;
 }

@@ -4,10 +4,13 @@ use Rattle.job_one.proofs.Mixed.{count_within}
 use Rattle.job_one.proofs.remaining.count_in.Goals as goal
 
 pub returns-in-None-clause-count : goal.returns-in-None-clause-count
-returns-in-None-clause-count c = ap (λ (r : Option ℕ). unwrap_or r (length c.args.placed.now)) (sym c.in-None.is ∙ c.first_beside.ensures)
+returns-in-None-clause-count c =
+    ap (λ (r : Option ℕ). unwrap_or r (length c.args.placed.now)) (sym c.in-None.is ∙ c.first_beside.ensures)
 
 pub returns-in-Some-clause-count : goal.returns-in-Some-clause-count
-returns-in-Some-clause-count c = ap (λ (r : Option ℕ). unwrap_or r (length c.args.placed.now)) (sym c.in-Some.is ∙ c.first_beside.ensures)
+returns-in-Some-clause-count c =
+    ap (λ (r : Option ℕ). unwrap_or r (length c.args.placed.now)) (sym c.in-Some.is ∙ c.first_beside.ensures)
 
 pub returns-in-Some-clause-within : goal.returns-in-Some-clause-within
-returns-in-Some-clause-within c = count_within c.args.script c.args.placed.now c.in-Some.count (sym c.first_beside.ensures ∙ c.in-Some.is)
+returns-in-Some-clause-within c =
+    count_within c.args.script c.args.placed.now c.in-Some.count (sym c.first_beside.ensures ∙ c.in-Some.is)

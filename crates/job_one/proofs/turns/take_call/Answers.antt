@@ -9,34 +9,46 @@ use Rattle.job_one.proofs.CallTurns.{in_call_at, known_at, few_at, takes_waiting
 use Rattle.job_one.proofs.turns.take_call.Goals as goal
 
 pub try_call-requires : goal.try_call-requires
-try_call-requires g c = in_call_at g.frame c.args.roles.now c.args.port.now c.args.desk.now c.args.stand c.args.place (call_of c.args.call.now) c.requires.1.1 c.requires.1.0
+try_call-requires g c = in_call_at g.frame c.args.roles.now c.args.port.now c.args.desk.now c.args.stand c.args.place
+    (call_of c.args.call.now) c.requires.1.1 c.requires.1.0
 
 pub returns-in_err-tried-clause-err : goal.returns-in_err-tried-clause-err
 returns-in_err-tried-clause-err g c =
     let p = err_from_is_err_and c.from_residual.result c.from_residual.ensures.1 in
-    rw (p.1, p.2) (stops_with g.frame c.args.roles.now c.in_err-tried.field-0.0 c.args.port.now c.try_call.new.port c.args.desk.now c.args.stand [] c.requires.0 c.in_err-tried.ensures.err)
+    rw (p.1, p.2) (stops_with g.frame c.args.roles.now c.in_err-tried.field-0.0 c.args.port.now c.try_call.new.port
+    c.args.desk.now c.args.stand [] c.requires.0 c.in_err-tried.ensures.err)
 
 pub pass_answer-requires-clause-known : goal.pass_answer-requires-clause-known
 pass_answer-requires-clause-known g c =
-    known_at g.frame c.args.roles.now c.args.port.now c.args.desk.now c.args.stand c.args.place (call_of c.args.call.now) _ c.requires.1.1
+    known_at g.frame c.args.roles.now c.args.port.now c.args.desk.now c.args.stand c.args.place
+    (call_of c.args.call.now) _ c.requires.1.1
 
 pub pass_answer-requires-clause-few : goal.pass_answer-requires-clause-few
 pass_answer-requires-clause-few g c =
-    few_at g.frame c.args.roles.now c.args.port.now c.args.desk.now c.args.stand c.args.place (call_of c.args.call.now) _ c.requires.1.1
+    few_at g.frame c.args.roles.now c.args.port.now c.args.desk.now c.args.stand c.args.place (call_of c.args.call.now)
+    _ c.requires.1.1
 
 pub returns-in_ok-pass_answer-in-Done-clause-ok : goal.returns-in_ok-pass_answer-in-Done-clause-ok
 returns-in_ok-pass_answer-in-Done-clause-ok g c =
-    takes_answered g.frame c.args.roles.now c.args.port.now c.try_call.new.port c.args.desk.now c.pass_answer.new.self c.args.stand _ c.args.place (call_of c.args.call.now) (answer_of c.in-Done.answer) _
-    c.requires.0 c.requires.1.1 c.requires.1.0 c.journal-before.ensures.port c.journal-behind.ensures.port c.in_ok-tried.ensures.open
-    (subst (λ (t : Tried). TriesCall c.args.roles.now c.args.port.now c.try_call.new.port c.args.place (call_of c.args.call.now) (tried_of t)) c.in-Done.is c.in_ok-tried.ensures.tried)
+    takes_answered g.frame c.args.roles.now c.args.port.now c.try_call.new.port c.args.desk.now c.pass_answer.new.self
+    c.args.stand _ c.args.place (call_of c.args.call.now) (answer_of c.in-Done.answer) _
+    c.requires.0 c.requires.1.1 c.requires.1.0 c.journal-before.ensures.port
+    c.journal-behind.ensures.port c.in_ok-tried.ensures.open
+    (subst (λ (t : Tried).
+    TriesCall c.args.roles.now c.args.port.now c.try_call.new.port c.args.place (call_of c.args.call.now) (tried_of t))
+    c.in-Done.is c.in_ok-tried.ensures.tried)
     c.in_ok-tried.ensures.ok c.in_ok-pass_answer-in-Done.ensures.ok
 
 pub returns-in-Part-clause-ok : goal.returns-in-Part-clause-ok
 returns-in-Part-clause-ok g c =
-    takes_waiting g.frame c.args.roles.now c.args.port.now c.try_call.new.port c.args.desk.now c.args.stand _ c.args.place (call_of c.args.call.now) _
-    c.requires.0 c.requires.1.1 c.requires.1.0 c.journal-before.ensures.port c.journal-behind.ensures.port c.in_ok-tried.ensures.open (inr (ap tried_of c.in-Part.is)) c.in_ok-tried.ensures.tried c.in_ok-tried.ensures.ok
+    takes_waiting g.frame c.args.roles.now c.args.port.now c.try_call.new.port c.args.desk.now c.args.stand _
+    c.args.place (call_of c.args.call.now) _
+    c.requires.0 c.requires.1.1 c.requires.1.0 c.journal-before.ensures.port c.journal-behind.ensures.port
+    c.in_ok-tried.ensures.open (inr (ap tried_of c.in-Part.is)) c.in_ok-tried.ensures.tried c.in_ok-tried.ensures.ok
 
 pub returns-in-MustWait-clause-ok : goal.returns-in-MustWait-clause-ok
 returns-in-MustWait-clause-ok g c =
-    takes_waiting g.frame c.args.roles.now c.args.port.now c.try_call.new.port c.args.desk.now c.args.stand _ c.args.place (call_of c.args.call.now) _
-    c.requires.0 c.requires.1.1 c.requires.1.0 c.journal-before.ensures.port c.journal-behind.ensures.port c.in_ok-tried.ensures.open (inl (ap tried_of c.in-MustWait.is)) c.in_ok-tried.ensures.tried c.in_ok-tried.ensures.ok
+    takes_waiting g.frame c.args.roles.now c.args.port.now c.try_call.new.port c.args.desk.now c.args.stand _
+    c.args.place (call_of c.args.call.now) _
+    c.requires.0 c.requires.1.1 c.requires.1.0 c.journal-before.ensures.port c.journal-behind.ensures.port
+    c.in_ok-tried.ensures.open (inl (ap tried_of c.in-MustWait.is)) c.in_ok-tried.ensures.tried c.in_ok-tried.ensures.ok

@@ -5,19 +5,24 @@ use Rattle.job_one.proofs.FlushTurns.{in_turn_at, takes_flush, stops_with, memor
 use Rattle.job_one.proofs.turns.take_flush.Goals as goal
 
 pub flush-requires : goal.flush-requires
-flush-requires g c = in_turn_at g.frame c.args.roles.now c.args.port.now c.args.desk.now c.args.stand turn.Flush c.requires.0 c.requires.1
+flush-requires g c = in_turn_at g.frame c.args.roles.now c.args.port.now c.args.desk.now
+    c.args.stand turn.Flush c.requires.0 c.requires.1
 
 pub returns-in_err-now-clause-err : goal.returns-in_err-now-clause-err
 returns-in_err-now-clause-err g c =
     let p = err_from_is_err_and c.from_residual.result c.from_residual.ensures.1 in
-    rw (p.1, p.2) (stops_with g.frame c.args.roles.now c.in_err-now.field-0.0 c.args.port.now c.flush.new.port c.args.desk.now c.args.stand [] c.requires.0 c.in_err-now.ensures.err)
+    rw (p.1, p.2) (stops_with g.frame c.args.roles.now c.in_err-now.field-0.0 c.args.port.now c.flush.new.port
+    c.args.desk.now c.args.stand [] c.requires.0 c.in_err-now.ensures.err)
 
 pub returns-in_err-send_new-clause-err : goal.returns-in_err-send_new-clause-err
 returns-in_err-send_new-clause-err g c =
     let p = err_from_is_err_and c.from_residual-in_err-send_new.result c.from_residual-in_err-send_new.ensures.1 in
-    rw (p.1, p.2) (memory_at g.frame c.args.roles.now c.in_err-send_new.field-0.0 c.flush.new.port c.send_new.new.self c.in_err-send_new.ensures.err)
+    rw (p.1, p.2) (memory_at g.frame c.args.roles.now c.in_err-send_new.field-0.0 c.flush.new.port
+    c.send_new.new.self c.in_err-send_new.ensures.err)
 
 pub returns-clause-ok : goal.returns-clause-ok
 returns-clause-ok g c =
-    takes_flush g.frame c.args.roles.now c.args.port.now c.flush.new.port c.args.desk.now c.send_new.new.self c.args.stand c.in_ok-now.now c.requires.0 c.requires.1
-    c.in_ok-now.ensures.ok c.in_ok-now.ensures.adds c.journal-before.ensures.port c.journal-behind.ensures.port c.in_ok-now.ensures.open c.in_ok-send_new.ensures.ok
+    takes_flush g.frame c.args.roles.now c.args.port.now c.flush.new.port c.args.desk.now c.send_new.new.self
+    c.args.stand c.in_ok-now.now c.requires.0 c.requires.1
+    c.in_ok-now.ensures.ok c.in_ok-now.ensures.adds c.journal-before.ensures.port c.journal-behind.ensures.port
+    c.in_ok-now.ensures.open c.in_ok-send_new.ensures.ok

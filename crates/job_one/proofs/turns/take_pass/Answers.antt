@@ -5,14 +5,18 @@ use Rattle.job_one.proofs.FlushTurns.{in_turn_at, takes_pass, stops_with}
 use Rattle.job_one.proofs.turns.take_pass.Goals as goal
 
 pub pass-requires : goal.pass-requires
-pass-requires g c = in_turn_at g.frame c.args.roles.now c.args.port.now c.args.desk.now c.args.stand turn.Pass c.requires.0 c.requires.1
+pass-requires g c =
+    in_turn_at g.frame c.args.roles.now c.args.port.now c.args.desk.now c.args.stand turn.Pass c.requires.0 c.requires.1
 
 pub returns-in_err-now-clause-err : goal.returns-in_err-now-clause-err
 returns-in_err-now-clause-err g c =
     let p = err_from_is_err_and c.from_residual.result c.from_residual.ensures.1 in
-    rw (p.1, p.2) (stops_with g.frame c.args.roles.now c.in_err-now.field-0.0 c.args.port.now c.pass.new.port c.args.desk.now c.args.stand [] c.requires.0 c.in_err-now.ensures.err)
+    rw (p.1, p.2) (stops_with g.frame c.args.roles.now c.in_err-now.field-0.0 c.args.port.now c.pass.new.port
+    c.args.desk.now c.args.stand [] c.requires.0 c.in_err-now.ensures.err)
 
 pub returns-clause-ok : goal.returns-clause-ok
 returns-clause-ok g c =
-    takes_pass g.frame c.args.roles.now c.args.port.now c.pass.new.port c.args.desk.now c.args.stand c.in_ok-now.now c.requires.0 c.requires.1
-    c.in_ok-now.ensures.ok c.in_ok-now.ensures.adds c.journal-before.ensures.port c.journal-behind.ensures.port c.in_ok-now.ensures.open
+    takes_pass g.frame c.args.roles.now c.args.port.now c.pass.new.port c.args.desk.now
+    c.args.stand c.in_ok-now.now c.requires.0 c.requires.1
+    c.in_ok-now.ensures.ok c.in_ok-now.ensures.adds c.journal-before.ensures.port
+    c.journal-behind.ensures.port c.in_ok-now.ensures.open

@@ -8,4 +8,5 @@ loop-number-init c = no_callers c.args.procs.now c.args.names.now c.new-callers.
 
 pub loop-number-preserved : goal.loop-number-preserved
 loop-number-preserved c =
-    one_more_caller c.args.procs.now c.args.names.now c.loop-number.number c.loop-number.callers.items c.push.new.self.items c.caller_at.result c.loop-number.invariant c.caller_at.ensures c.in_ok-push.ensures.items
+    one_more_caller c.args.procs.now c.args.names.now c.loop-number.number c.loop-number.callers.items
+    c.push.new.self.items c.caller_at.result c.loop-number.invariant c.caller_at.ensures c.in_ok-push.ensures.items

@@ -23,19 +23,23 @@ take_steps-requires-clause-known g c =
 
 pub take_steps-requires-clause-few : goal.take_steps-requires-clause-few
 take_steps-requires-clause-few g c =
-    let few = names_few c.args.number c.args.k c.args.run c.args.session.now c.args.at.now c.requires.1.0 c.requires.1.1.1.1 in
+    let few =
+    names_few c.args.number c.args.k c.args.run c.args.session.now c.args.at.now c.requires.1.0 c.requires.1.1.1.1 in
     let many = c.requires.1.1.1.1.steps in
     let same = ap (λ (xs : List ℕ). length xs) c.as_mut_slice.ensures.value in
     omega (arith, few, many, same)
 
 pub cast_in-requires-clause-numbered : goal.cast_in-requires-clause-numbered
 cast_in-requires-clause-numbered g c =
-    subst (λ (q : ℕ). AreNumbered c.args.at.now.names q (map script_of c.scripts_of-scripts.result.now)) (sym c.from-port.ensures)
-    (numbered_in c.args.number c.args.k c.args.run c.args.session.now c.args.at.now c.scripts_of-scripts.result.now c.requires.1.1.1.0 c.scripts_of-scripts.ensures c.requires.1.1.1.1)
+    subst (λ (q : ℕ). AreNumbered c.args.at.now.names q (map script_of c.scripts_of-scripts.result.now))
+    (sym c.from-port.ensures)
+    (numbered_in c.args.number c.args.k c.args.run c.args.session.now c.args.at.now c.scripts_of-scripts.result.now
+    c.requires.1.1.1.0 c.scripts_of-scripts.ensures c.requires.1.1.1.1)
 
 pub cast_in-requires-clause-few : goal.cast_in-requires-clause-few
 cast_in-requires-clause-few g c =
-    let few = names_few c.args.number c.args.k c.args.run c.args.session.now c.args.at.now c.requires.1.0 c.requires.1.1.1.1 in
+    let few =
+    names_few c.args.number c.args.k c.args.run c.args.session.now c.args.at.now c.requires.1.0 c.requires.1.1.1.1 in
     omega (arith, few)
 
 pub steps_of-requires-clause-within : goal.steps_of-requires-clause-within
@@ -59,13 +63,29 @@ play_parts-requires g c =
     let noted = c.take_steps.new.steps in
     let written = with_items_is at.station.steps noted (c.take_steps.auto.steps ∙ c.as_mut_slice.ensures.len) in
     let steps_are : steps ≡ noted = c.as_slice-2.ensures.value ∙ written in
-    let old_many : length c.as_mut_slice.result.now ≡ length at.station.steps.items = ap (λ (xs : List ℕ). length xs) c.as_mut_slice.ensures.value in
+    let old_many : length c.as_mut_slice.result.now ≡ length at.station.steps.items =
+    ap (λ (xs : List ℕ). length xs) c.as_mut_slice.ensures.value in
     let next : AreNextSteps at.station.port.terminal (length at.station.steps.items) steps =
-    subst (λ (n : ℕ). AreNextSteps at.station.port.terminal n steps) old_many (subst (λ (xs : List ℕ). AreNextSteps at.station.port.terminal (length c.as_mut_slice.result.now) xs) (sym steps_are) c.take_steps.ensures) in
-    let cast : (others : List Script) → HaveSameCallers others scripts → map (role_in others) roles ≡ cast_of at.names steps p (map script_of others) =
+    subst (λ (n : ℕ). AreNextSteps at.station.port.terminal n steps) old_many
+    (subst (λ (xs : List ℕ). AreNextSteps at.station.port.terminal (length c.as_mut_slice.result.now) xs)
+    (sym steps_are) c.take_steps.ensures) in
+    let cast : (others : List Script)
+    → HaveSameCallers others scripts
+    → map (role_in others) roles ≡ cast_of at.names steps p (map script_of others) =
     λ others same.
-    ap (λ (rs : List Role). map (role_in others) rs) c.as_slice-3.ensures.value ∙ (c.in_ok-roles.ensures.ok others same ∙ ap (λ (q : ℕ). cast_of at.names steps q (map script_of others)) c.from-port.ensures) in
-    let then_at : JobStation = record { names = at.names; station = record { port = at.station.port; putter = at.station.putter; line = at.station.line; steps = with_items at.station.steps noted }; desk = at.desk } in
+    ap (λ (rs : List Role). map (role_in others) rs) c.as_slice-3.ensures.value
+    ∙ (c.in_ok-roles.ensures.ok others same
+    ∙ ap (λ (q : ℕ). cast_of at.names steps q (map script_of others)) c.from-port.ensures) in
+    let then_at : JobStation = record {
+      names = at.names;
+      station = record {
+        port = at.station.port;
+        putter = at.station.putter;
+        line = at.station.line;
+        steps = with_items at.station.steps noted;
+      };
+      desk = at.desk;
+    } in
     let then_h : IsBetween (scene_of p kept.session) (jobs_session_of kept) k c.args.run then_at = record {
       before = h.before;
       phase = h.phase;
@@ -74,8 +94,14 @@ play_parts-requires g c =
       steps = ap (λ (xs : List ℕ). length xs) written ∙ (c.take_steps.auto.steps ∙ (old_many ∙ h.steps));
       procs = h.procs;
     } in
-    subst (λ s. BeginsPhase s roles then_at at.station.port.terminal.phase c.args.run c.in_ok-calls.calls c.steps_of.result.now.items c.ticks_of.result (c.args.session.now.session.version == 0)) (sym c.requires.0)
-    (begins_phase p k c.args.run kept at then_at scripts placed steps roles c.in_ok-calls.calls c.steps_of.result.now.items c.ticks_of.result (c.args.session.now.session.version == 0)
-    c.requires.1.0 c.requires.1.1.1.0 h c.scripts_of-scripts.ensures (c.own_in-placed.ensures ∙ ap (λ ps. slice_index_or (map own_of ps) k []) c.as_slice.ensures) next cast c.in_ok-calls.ensures.ok
-    (c.steps_of.ensures.line ∙ ap (λ (q : ℕ). line_on q (phase_at base k)) c.from-port.ensures) c.steps_of.ensures.good (c.ticks_of.ensures ∙ ap (λ (q : ℕ). ticks_on q (phase_at base k)) c.from-port.ensures)
+    subst (λ s. BeginsPhase s roles then_at at.station.port.terminal.phase c.args.run c.in_ok-calls.calls
+    c.steps_of.result.now.items c.ticks_of.result (c.args.session.now.session.version == 0))
+    (sym c.requires.0)
+    (begins_phase p k c.args.run kept at then_at scripts placed steps roles c.in_ok-calls.calls
+    c.steps_of.result.now.items c.ticks_of.result (c.args.session.now.session.version == 0)
+    c.requires.1.0 c.requires.1.1.1.0 h c.scripts_of-scripts.ensures
+    (c.own_in-placed.ensures ∙ ap (λ ps. slice_index_or (map own_of ps) k []) c.as_slice.ensures)
+    next cast c.in_ok-calls.ensures.ok
+    (c.steps_of.ensures.line ∙ ap (λ (q : ℕ). line_on q (phase_at base k)) c.from-port.ensures) c.steps_of.ensures.good
+    (c.ticks_of.ensures ∙ ap (λ (q : ℕ). ticks_on q (phase_at base k)) c.from-port.ensures)
     refl then_h refl refl)

@@ -11,7 +11,8 @@ returns-clause-played c first session scene full =
     let left = c.stop-run.result.0 in
     let end = c.stop-run.result.1 in
     subst (λ (log : JobLog). IsPortPlayed first.port session log left end) (sym c.into_log-log.ensures.log)
-    (full_played first session at.station.port at.station.putter at.station.line at.desk left end scene full c.stop-run.ensures.journal (λ s of run. c.stop-run.ensures.played s of run))
+    (full_played first session at.station.port at.station.putter at.station.line at.desk left end scene full
+    c.stop-run.ensures.journal (λ s of run. c.stop-run.ensures.played s of run))
 
 pub returns-clause-own : goal.returns-clause-own
 returns-clause-own c = subst (AreOn c.args.at.desk.number) (sym c.into_log-log.ensures.log) c.into_log-log.ensures.own

@@ -11,7 +11,8 @@ returns-clause-played c first session run scene ends =
     let left = c.in_ok-run.run' in
     let end = c.in_ok-run.end in
     subst (λ (log : JobLog). IsPortPlayed first.port session log left end) (sym c.into_log-log.ensures.log)
-    (hung_up_played first session at.station.port at.station.putter at.station.line run at.desk left end scene ends c.in_ok-run.ensures.journal
+    (hung_up_played first session at.station.port at.station.putter at.station.line
+    run at.desk left end scene ends c.in_ok-run.ensures.journal
     (λ s at_end. c.in_ok-run.ensures.played s at_end) (λ s of phase seen. c.in_ok-run.ensures.in_order s of phase seen))
 
 pub returns-clause-own : goal.returns-clause-own

@@ -20,7 +20,10 @@ pub returns : goal.returns
 returns c =
     let p = c.args.number in
     let kept = c.args.session.now in
-    opened_between p kept c.in_ok-names.names c.in_ok-station.station (record { names = c.in_ok-names.names; station = c.in_ok-station.station; desk = c.in_ok-desk.desk })
-    c.requires.within c.requires.port (c.in_ok-names.ensures ∙ ap (λ (q : ℕ). names_of (scripts_over q (session_of kept.session).phases)) c.from-port.ensures)
+    opened_between p kept c.in_ok-names.names c.in_ok-station.station
+    (record { names = c.in_ok-names.names; station = c.in_ok-station.station; desk = c.in_ok-desk.desk })
+    c.requires.within c.requires.port (c.in_ok-names.ensures
+    ∙ ap (λ (q : ℕ). names_of (scripts_over q (session_of kept.session).phases)) c.from-port.ensures)
     c.in_ok-desk.ensures.opened c.in_ok-desk.ensures.callers
-    (subst (λ (q : ℕ). IsBeforePhase (scene_of q kept.session) 0 c.in_ok-station.station 0) c.from-port.ensures c.in_ok-station.ensures) c.journal-journal.ensures.port refl refl
+    (subst (λ (q : ℕ). IsBeforePhase (scene_of q kept.session) 0 c.in_ok-station.station 0)
+    c.from-port.ensures c.in_ok-station.ensures) c.journal-journal.ensures.port refl refl

@@ -16,16 +16,21 @@ pub loop-number-init : goal.loop-number-init
 loop-number-init c =
     let session = jobs_session_of c.args.session.now in
     let runs : c.reserve.new.self.items ≡ [] = c.in_ok-reserve.ensures.items ∙ ap (λ b. b.items) c.new-runs.ensures in
-    let ends : c.reserve-2.new.self.items ≡ [] = c.in_ok-reserve-2.ensures.items ∙ ap (λ b. b.items) c.new-ends.ensures in
+    let ends : c.reserve-2.new.self.items ≡ [] =
+    c.in_ok-reserve-2.ensures.items ∙ ap (λ b. b.items) c.new-ends.ensures in
     let some_runs = c.in_ok-reserve.ensures.ok in
     let some_ends = c.in_ok-reserve-2.ensures.ok in
     let count = c.from-count.ensures in
     record {
       room_for_runs = omega (arith, some_runs, count);
       room_for_ends = omega (arith, some_ends, count);
-      played = subst (λ (xs : List PortRun). AreFirstPlayed session 0 (map logged_of c.new-log.result.items) xs c.reserve-2.new.self.items) (sym runs)
-          (subst (λ (xs : List PortEnd). AreFirstPlayed session 0 (map logged_of c.new-log.result.items) [] xs) (sym ends)
-          (subst (λ (ls : List (Logged KeptEvent)). AreFirstPlayed session 0 (map logged_of ls) [] []) (sym c.new-log.ensures.items) (nothing_played session)));
+      played = subst (λ (xs : List PortRun).
+          AreFirstPlayed session 0 (map logged_of c.new-log.result.items) xs c.reserve-2.new.self.items)
+          (sym runs)
+          (subst (λ (xs : List PortEnd). AreFirstPlayed session 0 (map logged_of c.new-log.result.items) [] xs)
+          (sym ends)
+          (subst (λ (ls : List (Logged KeptEvent)). AreFirstPlayed session 0 (map logged_of ls) [] [])
+          (sym c.new-log.ensures.items) (nothing_played session)));
     }
 
 pub loop-number-preserved : goal.loop-number-preserved
@@ -40,7 +45,9 @@ loop-number-preserved c =
     record {
       room_for_runs = let room = invariant.room_for_runs in omega (arith, room, runs, below);
       room_for_ends = let room = invariant.room_for_ends in omega (arith, room, ends, below);
-      played = port_more session at.number at.log.items played.log.items c.add_log.new.log.items at.runs.items c.add.new.self.items at.ends.items c.add-in-loop-number.new.self.items played.run played.end invariant.played c.in_ok-played.ensures.played c.in_ok-played.ensures.own
+      played = port_more session at.number at.log.items played.log.items c.add_log.new.log.items at.runs.items
+          c.add.new.self.items at.ends.items c.add-in-loop-number.new.self.items played.run played.end invariant.played
+          c.in_ok-played.ensures.played c.in_ok-played.ensures.own
           c.in_ok-add_log.ensures (ap (λ b. b.items) c.add.ensures) (ap (λ b. b.items) c.add-in-loop-number.ensures);
     }
 
@@ -52,9 +59,14 @@ returns c =
     let end = at.auto.number-end in
     let number : at.number ≡ session.ports = omega (arith, past, end) in
     let log : JobLog = map logged_of at.log.items in
-    let all : AreFirstPlayed session session.ports log at.runs.items at.ends.items = subst (λ (n : ℕ). AreFirstPlayed session n log at.runs.items at.ends.items) number at.invariant.played in
+    let all : AreFirstPlayed session session.ports log at.runs.items at.ends.items =
+    subst (λ (n : ℕ). AreFirstPlayed session n log at.runs.items at.ends.items) number at.invariant.played in
     let kept : c.from_vec.result.items ≡ at.log.items = ap (λ b. b.items) c.from_vec.ensures in
     record {
-      played = subst (λ (ls : List (Logged KeptEvent)). AreJobsPlayed session (map logged_of ls) at.runs.items at.ends.items (derived_with session (map logged_of ls) at.runs.items)) (sym kept) (all_played session log at.runs.items at.ends.items c.requires all);
-      within = subst (λ (ls : List (Logged KeptEvent)). ArePassedWithin (λ (p : ℕ). all_passed session (map logged_of ls) p (journal_on at.runs.items p))) (sym kept) (all_within session log at.runs.items at.ends.items all);
+      played = subst (λ (ls : List (Logged KeptEvent)). AreJobsPlayed session (map logged_of ls) at.runs.items
+          at.ends.items (derived_with session (map logged_of ls) at.runs.items))
+          (sym kept) (all_played session log at.runs.items at.ends.items c.requires all);
+      within = subst (λ (ls : List (Logged KeptEvent)).
+          ArePassedWithin (λ (p : ℕ). all_passed session (map logged_of ls) p (journal_on at.runs.items p)))
+          (sym kept) (all_within session log at.runs.items at.ends.items all);
     }

@@ -14,14 +14,17 @@ use Rattle.journal_check.proofs.account.is_kept.Goals as goal
 
 pub returns-then-run-len : goal.returns-then-run-len
 returns-then-run-len c =
-    let same = kept_is c.args.port (session_of c.args.session.now) c.args.run.now.line.overruns.items c.args.received.now c.requires.received c.requires.shown in (
+    let same = kept_is c.args.port (session_of c.args.session.now) c.args.run.now.line.overruns.items
+    c.args.received.now c.requires.received c.requires.shown in (
       λ is. absurd (false≢true is),
-      λ kept. absurd (c.if-run-len.true (kept.sent ∙ ap (λ (cs : List Flagged). length cs) (sym same) ∙ sym c.len.ensures)),
+      λ kept.
+          absurd (c.if-run-len.true (kept.sent ∙ ap (λ (cs : List Flagged). length cs) (sym same) ∙ sym c.len.ensures)),
     )
 
 pub returns-then-not-are_chars_of : goal.returns-then-not-are_chars_of
 returns-then-not-are_chars_of c =
-    let same = kept_is c.args.port (session_of c.args.session.now) c.args.run.now.line.overruns.items c.args.received.now c.requires.received c.requires.shown in (
+    let same = kept_is c.args.port (session_of c.args.session.now) c.args.run.now.line.overruns.items
+    c.args.received.now c.requires.received c.requires.shown in (
       λ is. absurd (false≢true is),
       λ kept. absurd (false≢true (sym c.if-not-are_chars_of.true
           ∙ c.are_chars_of.ensures.1 (kept.chars ∙ (sym same ∙ sym c.as_slice.ensures)))),
@@ -34,9 +37,14 @@ returns c =
     let r : Received = c.args.received.now in
     let same = kept_is c.args.port session run.line.overruns.items r c.requires.received c.requires.shown in
     let found = kept_as_found c.args.port session run r c.requires.received c.requires.shown c.requires.no_wrong in
-    let well : c.goes_well.result ≡ goes_well (λ k. get_or r.sents.items k 0) (λ k. ticks_on c.args.port (phase_at session k)) (length session.phases) 0 0 run.journal.items =
-    c.goes_well.ensures ∙ (λ i. goes_well (λ k. get_or (c.as_slice-2.ensures.value i) k 0) (λ k. ticks_on c.args.port (phase_at session k)) (length session.phases) 0 0 run.journal.items) in
-    let chars : chars_of run.journal.items ≡ kept_list (received_list (script_on c.args.port session)) run.line.overruns.items =
+    let well : c.goes_well.result
+    ≡ goes_well (λ k. get_or r.sents.items k 0) (λ k. ticks_on c.args.port (phase_at session k)) (length session.phases)
+    0 0 run.journal.items =
+    c.goes_well.ensures
+    ∙ (λ i. goes_well (λ k. get_or (c.as_slice-2.ensures.value i) k 0) (λ k. ticks_on c.args.port (phase_at session k))
+    (length session.phases) 0 0 run.journal.items) in
+    let chars : chars_of run.journal.items
+    ≡ kept_list (received_list (script_on c.args.port session)) run.line.overruns.items =
     c.are_chars_of.ensures.0 c.if-not-are_chars_of.false ∙ (c.as_slice.ensures ∙ same) in (
       λ is. record {
         arrived = c.if-run-received.false ∙ c.requires.received.arrived;

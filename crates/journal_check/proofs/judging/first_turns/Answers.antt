@@ -7,4 +7,5 @@ use Rattle.journal_check.proofs.judging.first_turns.Goals as goal
 pub begin_phase-requires-clause-idle : goal.begin_phase-requires-clause-idle
 begin_phase-requires-clause-idle c =
     let made : c.in_ok-turns.turns.items ≡ replicate c.args.callers no_turn = search rules in
-    first_idle c.args.port (session_of c.args.session.now) c.args.callers c.as_mut_slice.result.now c.requires.callers (c.as_mut_slice.ensures.value ∙ made)
+    first_idle c.args.port (session_of c.args.session.now) c.args.callers c.as_mut_slice.result.now c.requires.callers
+    (c.as_mut_slice.ensures.value ∙ made)

@@ -13,9 +13,13 @@ pub loop-offset-preserved : goal.loop-offset-preserved
 loop-offset-preserved c =
     let i = c.loop-offset.invariant in
     elim c.if-is_next_at.branch [
-      | then-is_next_at w ↦ (let on : KeepsOn c.args.kept.now.items c.args.place c.args.chars.now c.args.overruns.now (c.loop-offset.offset + 1) c.if-is_next_at.next c.if-is_next_at.kept.items =
-          keeps_skip c.args.kept.now.items c.args.place c.args.chars.now c.args.overruns.now c.loop-offset.offset c.loop-offset.next c.if-is_next_at.next c.loop-offset.kept.items c.if-is_next_at.kept.items no_character c.loop-offset-test.true
-          (sym c.is_next_at.ensures.value ∙ w.if-is_next_at.true) w.next-is (ap (λ (k : Contents Flagged). k.items) w.kept-is) i.kept i.rest in
+      | then-is_next_at w ↦ (let on : KeepsOn c.args.kept.now.items c.args.place c.args.chars.now c.args.overruns.now
+          (c.loop-offset.offset + 1) c.if-is_next_at.next c.if-is_next_at.kept.items =
+          keeps_skip c.args.kept.now.items c.args.place c.args.chars.now c.args.overruns.now c.loop-offset.offset
+          c.loop-offset.next c.if-is_next_at.next c.loop-offset.kept.items c.if-is_next_at.kept.items
+          no_character c.loop-offset-test.true
+          (sym c.is_next_at.ensures.value ∙ w.if-is_next_at.true) w.next-is
+          (ap (λ (k : Contents Flagged). k.items) w.kept-is) i.kept i.rest in
           record {
             kept = on.kept;
             rest = on.rest;
@@ -23,14 +27,23 @@ loop-offset-preserved c =
             spare = omega (arith, i.spare, ap (λ (k : Contents Flagged). k.spare) w.kept-is);
             room = omega (arith, i.room, ap (λ (k : Contents Flagged). k.spare) w.kept-is);
           })
-      | else-is_next_at w ↦ (let on : KeepsOn c.args.kept.now.items c.args.place c.args.chars.now c.args.overruns.now (c.loop-offset.offset + 1) c.if-is_next_at.next c.if-is_next_at.kept.items =
-          keeps_add c.args.kept.now.items c.args.place c.args.chars.now c.args.overruns.now c.loop-offset.offset c.loop-offset.next c.if-is_next_at.next c.loop-offset.kept.items c.if-is_next_at.kept.items no_character c.loop-offset-test.true
-          (sym c.is_next_at.ensures.value ∙ w.if-is_next_at.false) w.next-is (ap (λ (k : Contents Flagged). k.items) (w.kept-is ∙ w.add.ensures)) i.kept i.rest in
+      | else-is_next_at w ↦ (let on : KeepsOn c.args.kept.now.items c.args.place c.args.chars.now c.args.overruns.now
+          (c.loop-offset.offset + 1) c.if-is_next_at.next c.if-is_next_at.kept.items =
+          keeps_add c.args.kept.now.items c.args.place c.args.chars.now c.args.overruns.now c.loop-offset.offset
+          c.loop-offset.next c.if-is_next_at.next c.loop-offset.kept.items c.if-is_next_at.kept.items
+          no_character c.loop-offset-test.true
+          (sym c.is_next_at.ensures.value ∙ w.if-is_next_at.false) w.next-is
+          (ap (λ (k : Contents Flagged). k.items) (w.kept-is ∙ w.add.ensures)) i.kept i.rest in
           record {
             kept = on.kept;
             rest = on.rest;
             within = omega (arith, w.next-is, i.within);
             spare = omega (arith, i.spare, ap (λ (k : Contents Flagged). k.spare) (w.kept-is ∙ w.add.ensures));
-            room = omega (arith, i.room, ap (λ (k : Contents Flagged). k.spare) (w.kept-is ∙ w.add.ensures), c.loop-offset-test.true);
+            room = omega (
+              arith,
+              i.room,
+              ap (λ (k : Contents Flagged). k.spare) (w.kept-is ∙ w.add.ensures),
+              c.loop-offset-test.true,
+            );
           })
     ]

@@ -5,4 +5,5 @@ use Rattle.journal_check.proofs.turns.call_from.Given as goal
 
 abbrev pub invariant-loop-at : goal.invariant-loop-at
 invariant-loop-at l =
-    slice_get (calls_from l.port (map script_of l.scripts) l.at l.name) l.left ≡ slice_get (calls_from l.port (map script_of l.scripts) l.from l.name) l.place
+    slice_get (calls_from l.port (map script_of l.scripts) l.at l.name) l.left
+    ≡ slice_get (calls_from l.port (map script_of l.scripts) l.from l.name) l.place

@@ -6,4 +6,5 @@ use Rattle.journal_check.proofs.turns.open_phase.Given as goal
 
 abbrev pub invariant-loop-place : goal.invariant-loop-place
 invariant-loop-place l =
-    AreTurnsAmong l.port (session_of l.session) l.phase (take l.place (phase_at (session_of l.session) l.phase).callers) l.turns
+    AreTurnsAmong l.port (session_of l.session) l.phase (take l.place (phase_at (session_of l.session) l.phase).callers)
+    l.turns

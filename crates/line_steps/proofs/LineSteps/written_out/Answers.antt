@@ -8,10 +8,13 @@ pub loop-part-preserved : goal.loop-part-preserved
 loop-part-preserved c =
     c.in_ok-write_out.ensures
     ∙ ap (λ steps. steps ++ steps_of c.part-item.result) c.loop-part.invariant
-    ∙ sym (one_part_more c.as_slice-part-items.result.now c.loop-part.part-index c.part-item.result c.loop-part-test.true (sym c.part-item.is))
+    ∙ sym (one_part_more c.as_slice-part-items.result.now c.loop-part.part-index c.part-item.result
+    c.loop-part-test.true (sym c.part-item.is))
 
 pub returns : goal.returns
 returns c =
     c.loop-part.invariant
-    ∙ ap steps_in (take_all c.loop-part.part-index c.as_slice-part-items.result.now c.loop-part-test.false ∙ c.as_slice-part-items.ensures.value)
+    ∙ ap steps_in
+    (take_all c.loop-part.part-index c.as_slice-part-items.result.now c.loop-part-test.false
+    ∙ c.as_slice-part-items.ensures.value)
     ∙ ap (λ (s : StepList). s.items) c.self.view_is

@@ -16,18 +16,24 @@ call-requires-clause-bytes g c =
 pub returns-in_err-_answer-clause-makes : goal.returns-in_err-_answer-clause-makes
 returns-in_err-_answer-clause-makes g c =
     let at = c.at-call.ensures in
-    let stops = subst (λ k. Pauses c.args.caller k (call_of c.at-call.result) c.loop-place.seat c.call.new.seat) c.loop-place.invariant.step_is c.in_err-_answer.ensures.err in
-    paused_more c.args.caller c.args.first c.loop-place.place c.args.calls.now.items (call_of c.at-call.result) (list_seen c.args.seat.now) c.loop-place.seat c.call.new.seat at c.loop-place.invariant.makes stops
+    let stops = subst (λ k. Pauses c.args.caller k (call_of c.at-call.result) c.loop-place.seat c.call.new.seat)
+    c.loop-place.invariant.step_is c.in_err-_answer.ensures.err in
+    paused_more c.args.caller c.args.first c.loop-place.place c.args.calls.now.items (call_of c.at-call.result)
+    (list_seen c.args.seat.now) c.loop-place.seat c.call.new.seat at c.loop-place.invariant.makes stops
 
 pub loop-place-preserved : goal.loop-place-preserved
 loop-place-preserved g c =
     let at = c.at-call.ensures in
-    let answers : Answers c.args.caller c.loop-place.step (call_of c.at-call.result) (answer_of c.in_ok-_answer._answer) c.loop-place.seat c.call.new.seat = c.in_ok-_answer.ensures.ok in
-    let told = subst (λ k. Answers c.args.caller k (call_of c.at-call.result) (answer_of c.in_ok-_answer._answer) c.loop-place.seat c.call.new.seat) c.loop-place.invariant.step_is answers in
+    let answers : Answers c.args.caller c.loop-place.step (call_of c.at-call.result) (answer_of c.in_ok-_answer._answer)
+    c.loop-place.seat c.call.new.seat = c.in_ok-_answer.ensures.ok in
+    let told = subst (λ k. Answers c.args.caller k (call_of c.at-call.result) (answer_of c.in_ok-_answer._answer)
+    c.loop-place.seat c.call.new.seat) c.loop-place.invariant.step_is answers in
     let step_was = c.loop-place.invariant.step_is in
     record {
       seat = c.call.ensures.seat;
       step_is = omega arith;
       between = answers.answered.next;
-      makes = answered_more c.args.caller c.args.first c.loop-place.place c.args.calls.now.items (call_of c.at-call.result) (answer_of c.in_ok-_answer._answer) (list_seen c.args.seat.now) c.loop-place.seat c.call.new.seat at c.loop-place.invariant.makes told.answered;
+      makes = answered_more c.args.caller c.args.first c.loop-place.place c.args.calls.now.items
+          (call_of c.at-call.result) (answer_of c.in_ok-_answer._answer) (list_seen c.args.seat.now) c.loop-place.seat
+          c.call.new.seat at c.loop-place.invariant.makes told.answered;
     }

@@ -15,6 +15,8 @@ loop-preserved g c =
     record {
       within = omega arith;
       seat = c.tick.ensures.seat;
-      not_over = clock_goes_on name.callers (sum name.counts) phase c.loop.seat c.tick.new.seat c.loop.invariant.seat.number c.tick.ensures.placed one c.loop.invariant.not_over;
-      makes = tick_more name.callers (sum name.counts) phase c.loop.seat c.tick.new.seat c.loop.invariant.seat.number c.tick.ensures.placed one c.loop.counter (list_seen c.args.seat.now) c.loop.invariant.makes;
+      not_over = clock_goes_on name.callers (sum name.counts) phase c.loop.seat c.tick.new.seat
+          c.loop.invariant.seat.number c.tick.ensures.placed one c.loop.invariant.not_over;
+      makes = tick_more name.callers (sum name.counts) phase c.loop.seat c.tick.new.seat c.loop.invariant.seat.number
+          c.tick.ensures.placed one c.loop.counter (list_seen c.args.seat.now) c.loop.invariant.makes;
     }

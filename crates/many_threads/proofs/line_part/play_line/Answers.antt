@@ -11,7 +11,8 @@ use Rattle.many_threads.proofs.line_part.play_line.Goals as goal
 pub line_end-requires-clause-sent : goal.line_end-requires-clause-sent
 line_end-requires-clause-sent g c =
     let h = c.requires.done in
-    let sent = subst (λ (s : PortSeat). (marks_at (list_seen s)).sent ≤ length c.args.receiver.now.putter.sent) (sym c.send.ensures.seat) c.requires.sent in
+    let sent = subst (λ (s : PortSeat). (marks_at (list_seen s)).sent ≤ length c.args.receiver.now.putter.sent)
+    (sym c.send.ensures.seat) c.requires.sent in
     puts_more _ _ _ _ _ _ _ _ _ _ sent (c.send.ensures.runs.hands_over h.0 h.1)
 
 pub returns-clause-ok : goal.returns-clause-ok
@@ -19,5 +20,7 @@ returns-clause-ok g c =
     let n = (name_of_port c.args.shared.now).callers + 1 in
     let old = c.args.receiver.now in
     on_ok c.line_end.result _ _ (λ one.
-    line_plays n c.args.steps.now old.line c.send.new.line old.putter c.send.new.putter c.line_end.new.putter old.seat c.line_end.new.seat c.requires.seat.number c.send.ensures.runs
-    (subst (λ (s : PortSeat). MakesOne (EndsLine n c.send.new.putter c.line_end.new.putter) s c.line_end.new.seat) c.send.ensures.seat one)) c.line_end.ensures.ok
+    line_plays n c.args.steps.now old.line c.send.new.line old.putter c.send.new.putter c.line_end.new.putter old.seat
+    c.line_end.new.seat c.requires.seat.number c.send.ensures.runs
+    (subst (λ (s : PortSeat). MakesOne (EndsLine n c.send.new.putter c.line_end.new.putter) s c.line_end.new.seat)
+    c.send.ensures.seat one)) c.line_end.ensures.ok

@@ -1,4 +1,5 @@
-use Rattle.std.proofs.Common.{◌+◌, ◌-◌, ◌^◌, ◌≤◌, List, [], ◌++◌, take, refl, sym, subst, ◌∙◌, arith, append-nil, length}
+use Rattle.std.proofs.Common.{◌+◌, ◌-◌, ◌^◌, ◌≤◌, List, [], ◌++◌, take, refl}
+use Rattle.std.proofs.Common.{sym, subst, ◌∙◌, arith, append-nil, length}
 use Rattle.std.proofs.lemmas.List.{take_all}
 use Rattle.tty_base.specs.declared.characters.Flag.TheVariants.{Normal}
 use Rattle.tty_base.specs.declared.characters.Flagged.{Flagged}
@@ -41,7 +42,8 @@ step-requires-clause-room g c =
 
 pub step-requires-clause-put : goal.step-requires-clause-put
 step-requires-clause-put g c =
-    subst (λ (sent : List Flagged). c.loop-step.line.most ≤ (2 ^ 63 - length sent) + c.loop-step.line.handed) (sym c.give_way.ensures.sent) c.loop-step.invariant.put
+    subst (λ (sent : List Flagged). c.loop-step.line.most ≤ (2 ^ 63 - length sent) + c.loop-step.line.handed)
+    (sym c.give_way.ensures.sent) c.loop-step.invariant.put
 
 pub loop-step-preserved : goal.loop-step-preserved
 loop-step-preserved g c =
@@ -53,7 +55,8 @@ loop-step-preserved g c =
       seat = w.seat ∙ i.seat;
       done = λ before d. rw (take-step before c.args.steps.now c.loop-step.step-index nothing c.loop-step-test.true)
           (c.step.ensures.done (before ++ take c.loop-step.step-index c.args.steps.now) (i.done before d));
-      hands_over = λ before d. rw (take-step before c.args.steps.now c.loop-step.step-index nothing c.loop-step-test.true)
+      hands_over = λ before d.
+          rw (take-step before c.args.steps.now c.loop-step.step-index nothing c.loop-step-test.true)
           (hands_over_more _ _ _ _ _ _ _ _ _ _ _ _ _ _ _ _ (i.hands_over before d) w.sent w.heads.1 capacity
           (c.step.ensures.hands_over (before ++ take c.loop-step.step-index c.args.steps.now) (i.done before d)));
       ring = names_tell _ _ c.step.ensures.name ∙ (w.same.0 ∙ i.ring);
@@ -69,9 +72,11 @@ returns-clause-runs g c =
     let i = c.loop-step.invariant in
     let all = take_all c.loop-step.step-index c.args.steps.now c.loop-step-test.false in
     record {
-      done = λ before d. rw (closed_script-append before c.args.steps.now, ← all) (c.run.ensures.done _ (i.done before d));
+      done = λ before d.
+          rw (closed_script-append before c.args.steps.now, ← all) (c.run.ensures.done _ (i.done before d));
       hands_over = λ before d. rw (closed_script-append before c.args.steps.now, ← all)
-          (hands_over_more _ _ _ _ _ _ _ _ [] _ _ _ _ _ _ _ (i.hands_over before d) refl (sym (append-nil _)) i.capacity (c.run.ensures.hands_over _ (i.done before d)));
+          (hands_over_more _ _ _ _ _ _ _ _ [] _ _ _ _ _ _ _ (i.hands_over before d) refl (sym (append-nil _)) i.capacity
+          (c.run.ensures.hands_over _ (i.done before d)));
       ring = names_tell _ _ c.run.ensures.name ∙ i.ring;
       capacity = c.run.ensures.capacity ∙ i.capacity;
       most = c.run.ensures.room ∙ i.room;

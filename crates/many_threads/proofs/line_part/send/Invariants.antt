@@ -10,7 +10,9 @@ use Rattle.many_threads.proofs.line_part.send.Given as goal
 abbrev pub invariant-loop-step : goal.invariant-loop-step
 invariant-loop-step g l = record {
   seat : l.seat ≡ l.initial.seat;
-  done : (before : List LineStep) → HasDone l.initial.line before → HasDone l.line (before ++ take l.step-index l.steps);
+  done : (before : List LineStep)
+      → HasDone l.initial.line before
+      → HasDone l.line (before ++ take l.step-index l.steps);
   hands_over : (before : List LineStep) → HasDone l.initial.line before
       → HandsOver l.initial.putter.capacity (received_list before) (received_list (before ++ take l.step-index l.steps))
       l.initial.putter.sent l.putter.sent l.initial.putter.heads l.putter.heads

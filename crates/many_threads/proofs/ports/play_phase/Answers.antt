@@ -9,5 +9,6 @@ play_on-requires g c κs within =
     let s = scene_of c.args.port.number c.args.session.now in
     let station = c.args.port.station in
     let in_play = c.requires.in_play in
-    let before : IsBeforePhase s c.args.k station c.in-Over.run' = subst (λ (end : PhaseEnd). StandsBefore s c.args.k station end) c.in-Over.is in_play.stands in
+    let before : IsBeforePhase s c.args.k station c.in-Over.run' =
+    subst (λ (end : PhaseEnd). StandsBefore s c.args.k station end) c.in-Over.is in_play.stands in
     (search rules, (search rules, (search rules, (search rules, (refl, (c.requires.within, (c.requires.phase, (c.requires.known, (in_play.names, (in_play.callers, before))))))))))

@@ -8,17 +8,20 @@ returns-clause-seat c =
     let p = c.args.shared.now in
     let xs = opening_history p in
     let seat = c.in-Some.seat in
-    let front = here_front p xs 0 c.pop.new.self.items seat (subst (λ ss. AreHere p xs 0 ss) c.in-Some.ensures.items c.requires.here) in
+    let front = here_front p xs 0 c.pop.new.self.items seat
+    (subst (λ ss. AreHere p xs 0 ss) c.in-Some.ensures.items c.requires.here) in
     subst (λ n. IsHere p n seat) (zero-add _) front.1.0
 
 pub returns-clause-seen : goal.returns-clause-seen
 returns-clause-seen c =
     let p = c.args.shared.now in
     let xs = opening_history p in
-    (here_front p xs 0 c.pop.new.self.items c.in-Some.seat (subst (λ ss. AreHere p xs 0 ss) c.in-Some.ensures.items c.requires.here)).1.1
+    (here_front p xs 0 c.pop.new.self.items c.in-Some.seat
+    (subst (λ ss. AreHere p xs 0 ss) c.in-Some.ensures.items c.requires.here)).1.1
 
 pub returns-clause-others : goal.returns-clause-others
 returns-clause-others c =
     let p = c.args.shared.now in
     let xs = opening_history p in
-    (here_front p xs 0 c.pop.new.self.items c.in-Some.seat (subst (λ ss. AreHere p xs 0 ss) c.in-Some.ensures.items c.requires.here)).0
+    (here_front p xs 0 c.pop.new.self.items c.in-Some.seat
+    (subst (λ ss. AreHere p xs 0 ss) c.in-Some.ensures.items c.requires.here)).0

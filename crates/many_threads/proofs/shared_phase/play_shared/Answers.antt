@@ -15,7 +15,8 @@ play_threads-requires g c κs within =
     let can = c.requires.1.1.1.1 in
     let met = c.meet.ensures.port in
     let now = c.meet.new.putter in
-    let knows = subst (λ (x : PortValue). KnowsTaken (length x.flip.taken) now.heads) (sym met) (knows_met old.port.flip old.putter now c.meet.ensures.putter) in
+    let knows = subst (λ (x : PortValue). KnowsTaken (length x.flip.taken) now.heads) (sym met)
+    (knows_met old.port.flip old.putter now c.meet.ensures.putter) in
     (search rules, (search rules, (search rules, (search rules, (can_play_met g.scene old c.meet.new.self now c.args.work met c.meet.ensures.putter can, knows)))))
 
 pub returns-clause-comes : goal.returns-clause-comes
@@ -23,16 +24,26 @@ returns-clause-comes g c =
     let old = c.args.station in
     let work = c.args.work in
     let left = c.in_ok-left.left in
-    let leaves = leaves_from g.scene work.phase old left c.meet.new.self c.meet.new.putter c.in_ok-left.end c.meet.ensures.port c.in_ok-left.ensures.left in
+    let leaves = leaves_from g.scene work.phase old left c.meet.new.self c.meet.new.putter c.in_ok-left.end
+    c.meet.ensures.port c.in_ok-left.ensures.left in
     let port = c.end_phase-end.new.port in
     let putter = c.end_phase-end.new.putter in
     let next = c.in-Over.next in
     let ended : Station = record { port = port; putter = putter; line = left.line; steps = left.steps } in
-    beside_ok c.beside.result ended c.end_phase-end.result (PhaseComes g.scene work.phase old) (EndsOrStops left.port port left.putter putter next) c.beside.ensures.kept c.beside.ensures.made c.end_phase-end.ensures
-    (λ end. phase_comes g.scene old left port putter work next end c.requires.1.1.1.1 (subst (ThreadsLeave g.scene work.phase old left) c.in-Over.is leaves))
+    beside_ok c.beside.result ended c.end_phase-end.result (PhaseComes g.scene work.phase old)
+    (EndsOrStops left.port port left.putter putter next) c.beside.ensures.kept
+    c.beside.ensures.made c.end_phase-end.ensures
+    (λ end. phase_comes g.scene old left port putter work next end c.requires.1.1.1.1
+    (subst (ThreadsLeave g.scene work.phase old left) c.in-Over.is leaves))
 
 pub returns-clause-steps : goal.returns-clause-steps
 returns-clause-steps g c =
     let left = c.in_ok-left.left in
-    let ended : Station = record { port = c.end_phase-end.new.port; putter = c.end_phase-end.new.putter; line = left.line; steps = left.steps } in
-    kept_ok c.beside.result ended (λ (station : Station). station.steps ≡ c.args.station.steps) c.beside.ensures.kept c.in_ok-left.ensures.steps
+    let ended : Station = record {
+      port = c.end_phase-end.new.port;
+      putter = c.end_phase-end.new.putter;
+      line = left.line;
+      steps = left.steps;
+    } in
+    kept_ok c.beside.result ended (λ (station : Station). station.steps ≡ c.args.station.steps)
+    c.beside.ensures.kept c.in_ok-left.ensures.steps

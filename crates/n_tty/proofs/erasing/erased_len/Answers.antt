@@ -11,10 +11,12 @@ loop-i-preserved c =
     let line = c.args.edit.now in
     let i = c.loop-i.i in
     let echo : c.echo.result.items ≡ echo_at modes kind start line i =
-    echo_at-is modes kind start line c.bytes-line.result.now i c.width_at.result c.echo.result.items c.bytes-line.ensures.bytes c.width_at.ensures.width c.echo.ensures in
+    echo_at-is modes kind start line c.bytes-line.result.now i c.width_at.result c.echo.result.items
+    c.bytes-line.ensures.bytes c.width_at.ensures.width c.echo.ensures in
     let within : i < length line = omega (arith, c.loop-i-test.true, ap length c.bytes-line.ensures.bytes) in
     let more = ap length (echo_of_gone-more modes kind start line i within) in
-    let parts = length-append (echo_of_gone modes kind start (take (i + 1) line) (drop (i + 1) line)) (echo_at modes kind start line i) in
+    let parts = length-append (echo_of_gone modes kind start (take (i + 1) line) (drop (i + 1) line))
+    (echo_at modes kind start line i) in
     let size = ap length echo in
     let short = length-echo-le modes kind start (take i line) (get_or line i 0) c.requires.kind in
     record {

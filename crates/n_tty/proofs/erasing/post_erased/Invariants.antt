@@ -9,11 +9,14 @@ abbrev pub invariant-loop-i : goal.invariant-loop-i
 invariant-loop-i l = record {
   from : l.from ≤ l.i;
   within : l.i ≤ length l.edit;
-  column : column_past_text l.modes l.out (echo_of_gone l.modes l.kind l.start (take l.from l.edit) (drop l.from (take l.i l.edit)))
-      ≡ column_past_text l.modes l.fn.out (echo_of_gone l.modes l.kind l.start (take l.from l.edit) (drop l.from l.edit));
+  column : column_past_text l.modes l.out
+      (echo_of_gone l.modes l.kind l.start (take l.from l.edit) (drop l.from (take l.i l.edit)))
+      ≡ column_past_text l.modes l.fn.out
+      (echo_of_gone l.modes l.kind l.start (take l.from l.edit) (drop l.from l.edit));
   wire : after_send l.wire (echo_of_gone l.modes l.kind l.start (take l.from l.edit) (drop l.from (take l.i l.edit)))
       ≡ after_send l.fn.wire (echo_of_gone l.modes l.kind l.start (take l.from l.edit) (drop l.from l.edit));
-  room : has_room l.wire (echo_of_gone l.modes l.kind l.start (take l.from l.edit) (drop l.from (take l.i l.edit))) ≡ true;
+  room : has_room l.wire
+      (echo_of_gone l.modes l.kind l.start (take l.from l.edit) (drop l.from (take l.i l.edit))) ≡ true;
   spare : 8 * (l.i - l.from) ≤ l.wire.spare;
   bound : l.out ≤ l.fn.out + 64 * (length l.edit - l.i);
 }

@@ -1,4 +1,5 @@
-use Rattle.n_tty.proofs.WithoutRoom.{after_character-room, after_ixoff_rule-room, piece_size-room, piece_text-room, after_write-room}
+use Rattle.n_tty.proofs.WithoutRoom.{after_character-room, after_ixoff_rule-room}
+use Rattle.n_tty.proofs.WithoutRoom.{piece_size-room, piece_text-room, after_write-room}
 use Rattle.n_tty.proofs.laws.room_makes_no_difference.Goals as goal
 
 pub returns-clause-character : goal.returns-clause-character

@@ -1,4 +1,5 @@
-use Rattle.std.proofs.Common.{◌≡◌, ℕ, ◌+◌, ◌<◌, ◌++◌, List, length, take, drop, ap, sym, ◌∙◌, arith, length-drop, drop-drop, take-add}
+use Rattle.std.proofs.Common.{◌≡◌, ℕ, ◌+◌, ◌<◌, ◌++◌, List, length, take, drop, ap}
+use Rattle.std.proofs.Common.{sym, ◌∙◌, arith, length-drop, drop-drop, take-add}
 use Rattle.flow_control.specs.Output.{after_send}
 use Rattle.n_tty.specs.Posting.{column_past_text, all_posted_bytes}
 use Rattle.n_tty.specs.Writing.{fitting_count}
@@ -30,9 +31,23 @@ loop-count-preserved c =
     let left : drop n rest ≡ drop (i + n) bytes = ap (drop n) c.rest_of.ensures ∙ drop-drop n i bytes in
     record {
       within = omega (arith, took.within, ap length c.rest_of.ensures, length-drop i bytes, so_far.within);
-      count = omega (arith, so_far.count, took.fitting some, ap (fitting_count modes column wire) c.rest_of.ensures, ap (fitting_count modes later sent) left);
-      column = took.column some ∙ ap (λ k. column_past_text modes k piece) so_far.column ∙ sym (column_past_text-append modes first text piece) ∙ ap (column_past_text modes first) (sym more);
-      wire = took.wire some ∙ ap (λ o. after_send o piece) so_far.wire ∙ sym (after_send-append c.args.wire.now text piece) ∙ ap (after_send c.args.wire.now) (sym more);
+      count = omega (
+        arith,
+        so_far.count,
+        took.fitting some,
+        ap (fitting_count modes column wire) c.rest_of.ensures,
+        ap (fitting_count modes later sent) left,
+      );
+      column =
+          took.column some
+          ∙ ap (λ k. column_past_text modes k piece) so_far.column
+          ∙ sym (column_past_text-append modes first text piece)
+          ∙ ap (column_past_text modes first) (sym more);
+      wire =
+          took.wire some
+          ∙ ap (λ o. after_send o piece) so_far.wire
+          ∙ sym (after_send-append c.args.wire.now text piece)
+          ∙ ap (after_send c.args.wire.now) (sym more);
       spare = omega (arith, so_far.spare, took.spent);
       bound = omega (arith, so_far.bound, took.moved);
     }

@@ -8,7 +8,8 @@ use Rattle.n_tty.proofs.posting.post_fitting.Given as goal
 abbrev pub invariant-loop-count : goal.invariant-loop-count
 invariant-loop-count l = record {
   within : l.count ≤ length l.bytes;
-  count : l.count + fitting_count l.modes l.out l.wire (drop l.count l.bytes) ≡ fitting_count l.modes l.fn.out l.fn.wire l.bytes;
+  count : l.count + fitting_count l.modes l.out l.wire (drop l.count l.bytes)
+      ≡ fitting_count l.modes l.fn.out l.fn.wire l.bytes;
   column : l.out ≡ column_past_text l.modes l.fn.out (all_posted_bytes l.modes l.fn.out (take l.count l.bytes));
   wire : l.wire ≡ after_send l.fn.wire (all_posted_bytes l.modes l.fn.out (take l.count l.bytes));
   spare : l.fn.wire.spare ≤ l.wire.spare + 8 * l.count;

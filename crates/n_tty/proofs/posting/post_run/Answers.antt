@@ -12,7 +12,8 @@ returns-then-has_room-clause-fitting c = λ some.
     let n = c.plain_len-plain.result in
     let output = c.args.wire.now in
     let run = c.plain_len-plain.ensures in
-    let fits : has_room output (take n bytes) ≡ true = sym (c.has_room.ensures (take n bytes) (omega (arith, length-take n bytes, run.within))) ∙ c.if-has_room.true in
+    let fits : has_room output (take n bytes) ≡ true =
+    sym (c.has_room.ensures (take n bytes) (omega (arith, length-take n bytes, run.within))) ∙ c.if-has_room.true in
     let sent : c.send-sent.new.self ≡ after_send output (take n bytes) =
     c.send-sent.ensures.sent ∙ ap (after_try output) c.front_of.ensures ∙ after_try-fits output (take n bytes) fits in
     run_fits c.args.modes.now c.args.out.now output bytes n run.within run.plain fits
@@ -25,7 +26,8 @@ returns-then-has_room-clause-column c = λ some.
     let n = c.plain_len-plain.result in
     let run = c.plain_len-plain.ensures in
     c.pass.ensures
-    ∙ sym (ap (column_past_text modes column) (run_text modes column c.args.bytes.now n run.within run.plain) ∙ run_column modes column c.args.bytes.now n run.within run.plain)
+    ∙ sym (ap (column_past_text modes column) (run_text modes column c.args.bytes.now n run.within run.plain)
+    ∙ run_column modes column c.args.bytes.now n run.within run.plain)
 
 pub returns-then-has_room-clause-wire : goal.returns-then-has_room-clause-wire
 returns-then-has_room-clause-wire c = λ some.
@@ -33,7 +35,8 @@ returns-then-has_room-clause-wire c = λ some.
     let n = c.plain_len-plain.result in
     let output = c.args.wire.now in
     let run = c.plain_len-plain.ensures in
-    let fits : has_room output (take n bytes) ≡ true = sym (c.has_room.ensures (take n bytes) (omega (arith, length-take n bytes, run.within))) ∙ c.if-has_room.true in
+    let fits : has_room output (take n bytes) ≡ true =
+    sym (c.has_room.ensures (take n bytes) (omega (arith, length-take n bytes, run.within))) ∙ c.if-has_room.true in
     c.send-sent.ensures.sent
     ∙ ap (after_try output) c.front_of.ensures
     ∙ after_try-fits output (take n bytes) fits
@@ -41,4 +44,9 @@ returns-then-has_room-clause-wire c = λ some.
 
 pub returns-clause-moved : goal.returns-clause-moved
 returns-clause-moved c =
-    omega (arith, c.post-piece.ensures.column, column_past_text-le c.args.modes.now c.args.out.now c.post-piece.result, c.as_slice.ensures.short)
+    omega (
+      arith,
+      c.post-piece.ensures.column,
+      column_past_text-le c.args.modes.now c.args.out.now c.post-piece.result,
+      c.as_slice.ensures.short,
+    )

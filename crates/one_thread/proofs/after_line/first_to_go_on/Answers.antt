@@ -9,11 +9,14 @@ loop-place-init c = λ other. refl
 
 pub returns-then-goes_on : goal.returns-then-goes_on
 returns-then-goes_on c =
-    found_at (can_go_on (call_in c.args.port.now.kept) c.args.port.now.terminal) c.args.roles.now c.loop-place.place _ c.loop-place-test.true (sym c.goes_on.ensures ∙ c.if-goes_on.true) c.loop-place.invariant
+    found_at (can_go_on (call_in c.args.port.now.kept) c.args.port.now.terminal) c.args.roles.now c.loop-place.place _
+    c.loop-place-test.true (sym c.goes_on.ensures ∙ c.if-goes_on.true) c.loop-place.invariant
 
 pub loop-place-preserved : goal.loop-place-preserved
 loop-place-preserved c =
-    not_at (can_go_on (call_in c.args.port.now.kept) c.args.port.now.terminal) c.args.roles.now c.loop-place.place _ c.loop-place-test.true (sym c.goes_on.ensures ∙ c.if-goes_on.false) c.loop-place.invariant
+    not_at (can_go_on (call_in c.args.port.now.kept) c.args.port.now.terminal) c.args.roles.now c.loop-place.place _
+    c.loop-place-test.true (sym c.goes_on.ensures ∙ c.if-goes_on.false) c.loop-place.invariant
 
 pub returns : goal.returns
-returns c = none_at (can_go_on (call_in c.args.port.now.kept) c.args.port.now.terminal) c.args.roles.now c.loop-place.place (omega arith) c.loop-place.invariant
+returns c = none_at (can_go_on (call_in c.args.port.now.kept) c.args.port.now.terminal) c.args.roles.now
+    c.loop-place.place (omega arith) c.loop-place.invariant

@@ -6,4 +6,7 @@ use Rattle.one_thread.specs.Turns.{role_numbers}
 use Rattle.one_thread.proofs.after_line.first_to_go_on.Given as goal
 
 abbrev pub invariant-loop-place : goal.invariant-loop-place
-invariant-loop-place l = (other : Who) → first_of (can_go_on (call_in l.port.kept) l.port.terminal) (role_numbers l.roles) other ≡ first_of (can_go_on (call_in l.port.kept) l.port.terminal) (role_numbers (drop l.place l.roles)) other
+invariant-loop-place l =
+    (other : Who)
+    → first_of (can_go_on (call_in l.port.kept) l.port.terminal) (role_numbers l.roles) other
+    ≡ first_of (can_go_on (call_in l.port.kept) l.port.terminal) (role_numbers (drop l.place l.roles)) other

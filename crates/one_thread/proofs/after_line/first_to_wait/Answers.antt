@@ -8,10 +8,17 @@ pub loop-place-init : goal.loop-place-init
 loop-place-init c = λ other. refl
 
 pub returns-then-is_some : goal.returns-then-is_some
-returns-then-is_some c = found_at (is_waiting c.args.port.now.terminal) c.args.roles.now c.loop-place.place _ c.loop-place-test.true (sym (ap (λ (s : CallerState). is_some s.waits) c.caller.ensures) ∙ (sym c.is_some.ensures ∙ c.if-is_some.true)) c.loop-place.invariant
+returns-then-is_some c = found_at (is_waiting c.args.port.now.terminal) c.args.roles.now c.loop-place.place _
+    c.loop-place-test.true
+    (sym (ap (λ (s : CallerState). is_some s.waits) c.caller.ensures) ∙ (sym c.is_some.ensures ∙ c.if-is_some.true))
+    c.loop-place.invariant
 
 pub loop-place-preserved : goal.loop-place-preserved
-loop-place-preserved c = not_at (is_waiting c.args.port.now.terminal) c.args.roles.now c.loop-place.place _ c.loop-place-test.true (sym (ap (λ (s : CallerState). is_some s.waits) c.caller.ensures) ∙ (sym c.is_some.ensures ∙ c.if-is_some.false)) c.loop-place.invariant
+loop-place-preserved c = not_at (is_waiting c.args.port.now.terminal) c.args.roles.now c.loop-place.place _
+    c.loop-place-test.true
+    (sym (ap (λ (s : CallerState). is_some s.waits) c.caller.ensures) ∙ (sym c.is_some.ensures ∙ c.if-is_some.false))
+    c.loop-place.invariant
 
 pub returns : goal.returns
-returns c = none_at (is_waiting c.args.port.now.terminal) c.args.roles.now c.loop-place.place (omega arith) c.loop-place.invariant
+returns c = none_at (is_waiting c.args.port.now.terminal) c.args.roles.now c.loop-place.place (omega arith)
+    c.loop-place.invariant

@@ -21,30 +21,35 @@ pub returns-in_err-next-clause-err : goal.returns-in_err-next-clause-err
 returns-in_err-next-clause-err c =
     let p = err_from_is_err_and c.from_residual.result c.from_residual.ensures.1 in
     let w = c.play_step.new in
-    rw (p.1, p.2) (stops_early c.in_err-next.field-0.0 (Unmask ∷ []) (Idle 4 ∷ []) c.args.port.now w.port c.args.putter.now w.putter c.args.line.now w.line c.args.run c.in_err-next.ensures.err)
+    rw (p.1, p.2) (stops_early c.in_err-next.field-0.0 (Unmask ∷ []) (Idle 4 ∷ []) c.args.port.now w.port
+    c.args.putter.now w.putter c.args.line.now w.line c.args.run c.in_err-next.ensures.err)
 
 pub play_step-requires-2-clause-room : goal.play_step-requires-2-clause-room
 play_step-requires-2-clause-room c =
     let w = c.play_step.new in
-    let s = stands_on (Unmask ∷ []) (Idle 4 ∷ []) c.args.port.now w.port c.args.putter.now w.putter c.args.line.now w.line c.args.run c.in_ok-next.next c.in_ok-next.ensures.ok c.requires.stands in
+    let s = stands_on (Unmask ∷ []) (Idle 4 ∷ []) c.args.port.now w.port c.args.putter.now w.putter c.args.line.now
+    w.line c.args.run c.in_ok-next.next c.in_ok-next.ensures.ok c.requires.stands in
     omega (arith, s.room)
 
 pub play_step-requires-2-clause-put : goal.play_step-requires-2-clause-put
 play_step-requires-2-clause-put c =
     let w = c.play_step.new in
-    let s = stands_on (Unmask ∷ []) (Idle 4 ∷ []) c.args.port.now w.port c.args.putter.now w.putter c.args.line.now w.line c.args.run c.in_ok-next.next c.in_ok-next.ensures.ok c.requires.stands in
+    let s = stands_on (Unmask ∷ []) (Idle 4 ∷ []) c.args.port.now w.port c.args.putter.now w.putter c.args.line.now
+    w.line c.args.run c.in_ok-next.next c.in_ok-next.ensures.ok c.requires.stands in
     s.between.in_line.has_put.room
 
 pub play_step-requires-2-clause-ring : goal.play_step-requires-2-clause-ring
 play_step-requires-2-clause-ring c =
     let w = c.play_step.new in
-    let s = stands_on (Unmask ∷ []) (Idle 4 ∷ []) c.args.port.now w.port c.args.putter.now w.putter c.args.line.now w.line c.args.run c.in_ok-next.next c.in_ok-next.ensures.ok c.requires.stands in
+    let s = stands_on (Unmask ∷ []) (Idle 4 ∷ []) c.args.port.now w.port c.args.putter.now w.putter c.args.line.now
+    w.line c.args.run c.in_ok-next.next c.in_ok-next.ensures.ok c.requires.stands in
     s.between.in_line.has_put.ring
 
 pub play_step-requires-2-clause-run : goal.play_step-requires-2-clause-run
 play_step-requires-2-clause-run c =
     let w = c.play_step.new in
-    let s = stands_on (Unmask ∷ []) (Idle 4 ∷ []) c.args.port.now w.port c.args.putter.now w.putter c.args.line.now w.line c.args.run c.in_ok-next.next c.in_ok-next.ensures.ok c.requires.stands in
+    let s = stands_on (Unmask ∷ []) (Idle 4 ∷ []) c.args.port.now w.port c.args.putter.now w.putter c.args.line.now
+    w.line c.args.run c.in_ok-next.next c.in_ok-next.ensures.ok c.requires.stands in
     s.between.begins_run
 
 pub returns-clause-ok : goal.returns-clause-ok
@@ -53,8 +58,10 @@ returns-clause-ok c =
     let x = c.play_step-2.new in
     IfOk-weaker c.play_step-2.result
     (λ next. PlaysSteps (Idle 4 ∷ []) w.port x.port w.putter x.putter w.line x.line c.in_ok-next.next next)
-    (λ next. PlaysSteps (Unmask ∷ Idle 4 ∷ []) c.args.port.now x.port c.args.putter.now x.putter c.args.line.now x.line c.args.run next)
-    (plays_more (Unmask ∷ []) (Idle 4 ∷ []) c.args.port.now w.port c.args.putter.now w.putter c.args.line.now w.line c.args.run c.in_ok-next.next c.in_ok-next.ensures.ok x.port x.putter x.line)
+    (λ next. PlaysSteps (Unmask ∷ Idle 4 ∷ []) c.args.port.now x.port c.args.putter.now
+    x.putter c.args.line.now x.line c.args.run next)
+    (plays_more (Unmask ∷ []) (Idle 4 ∷ []) c.args.port.now w.port c.args.putter.now w.putter c.args.line.now w.line
+    c.args.run c.in_ok-next.next c.in_ok-next.ensures.ok x.port x.putter x.line)
     c.play_step-2.ensures.ok
 
 pub returns-clause-err : goal.returns-clause-err
@@ -63,6 +70,8 @@ returns-clause-err c =
     let x = c.play_step-2.new in
     IfErr-weaker c.play_step-2.result
     (λ d. StopsSteps d (Idle 4 ∷ []) w.port x.port w.putter x.putter w.line x.line c.in_ok-next.next)
-    (λ d. StopsSteps d (Unmask ∷ Idle 4 ∷ []) c.args.port.now x.port c.args.putter.now x.putter c.args.line.now x.line c.args.run)
-    (λ d. stops_later (Unmask ∷ []) (Idle 4 ∷ []) c.args.port.now w.port c.args.putter.now w.putter c.args.line.now w.line c.args.run c.in_ok-next.next c.in_ok-next.ensures.ok d x.port x.putter x.line)
+    (λ d. StopsSteps d (Unmask ∷ Idle 4 ∷ []) c.args.port.now x.port
+    c.args.putter.now x.putter c.args.line.now x.line c.args.run)
+    (λ d. stops_later (Unmask ∷ []) (Idle 4 ∷ []) c.args.port.now w.port c.args.putter.now w.putter c.args.line.now
+    w.line c.args.run c.in_ok-next.next c.in_ok-next.ensures.ok d x.port x.putter x.line)
     c.play_step-2.ensures.err

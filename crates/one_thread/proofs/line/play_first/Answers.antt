@@ -18,8 +18,10 @@ returns-in_err-next-clause-err c =
     let rest : List LineStep = drop 1 (good_steps bytes) in
     let all : Rx c.good.result ∷ rest ≡ good_steps bytes =
     ap (λ (x : Flagged). Rx x ∷ rest) c.good.ensures ∙ sym (run_from Normal bytes 0 c.requires.some) in
-    rw (p.1, p.2) (subst (λ (l : List LineStep). StopsSteps d l c.args.port.now w.port c.args.putter.now w.putter c.args.line.now w.line c.args.run) all
-    (stops_early d (Rx c.good.result ∷ []) rest c.args.port.now w.port c.args.putter.now w.putter c.args.line.now w.line c.args.run c.in_err-next.ensures.err))
+    rw (p.1, p.2) (subst (λ (l : List LineStep).
+    StopsSteps d l c.args.port.now w.port c.args.putter.now w.putter c.args.line.now w.line c.args.run) all
+    (stops_early d (Rx c.good.result ∷ []) rest c.args.port.now w.port c.args.putter.now w.putter
+    c.args.line.now w.line c.args.run c.in_err-next.ensures.err))
 
 pub returns-clause-ok : goal.returns-clause-ok
 returns-clause-ok c =
@@ -27,5 +29,7 @@ returns-clause-ok c =
     let w = c.play_step.new in
     let first : Rx c.good.result ∷ [] ≡ take 1 (good_steps bytes) =
     ap (λ (x : Flagged). Rx x ∷ []) c.good.ensures ∙ sym (ap (take 1) (run_from Normal bytes 0 c.requires.some)) in
-    subst (λ (l : List LineStep). PlaysSteps l c.args.port.now w.port c.args.putter.now w.putter c.args.line.now w.line c.args.run c.in_ok-next.next) first
+    subst (λ (l : List LineStep).
+    PlaysSteps l c.args.port.now w.port c.args.putter.now w.putter c.args.line.now w.line c.args.run c.in_ok-next.next)
+    first
     c.in_ok-next.ensures.ok

@@ -15,38 +15,47 @@ play_step-requires-clause-good c =
     let place = c.loop-place.place in
     let here = step (get_or bytes place 0) in
     subst (λ (s : LineStep). IsTrue (is_step s)) (get_or-map step bytes place 0 here c.loop-place-test.true)
-    (All-get_or (λ s. IsTrue (is_step s)) (map step bytes) place here (omega (arith, c.loop-place-test.true, length-map bytes step)) c.requires.good)
+    (All-get_or (λ s. IsTrue (is_step s)) (map step bytes) place here
+    (omega (arith, c.loop-place-test.true, length-map bytes step)) c.requires.good)
 
 pub play_step-requires-clause-room : goal.play_step-requires-clause-room
 play_step-requires-clause-room c =
     let steps = map (rx_step c.args.flag) c.args.bytes.now in
     let place = c.loop-place.place in
-    let s = stands_at steps place (rx_step c.args.flag (get_or c.args.bytes.now place 0)) (drop (place + 1) steps) (run_from c.args.flag c.args.bytes.now place c.loop-place-test.true)
-    c.args.port.now c.loop-place.port c.args.putter.now c.loop-place.putter c.args.line.now c.loop-place.line c.args.run c.loop-place.next c.loop-place.invariant c.requires.stands in
+    let s = stands_at steps place (rx_step c.args.flag (get_or c.args.bytes.now place 0)) (drop (place + 1) steps)
+    (run_from c.args.flag c.args.bytes.now place c.loop-place-test.true)
+    c.args.port.now c.loop-place.port c.args.putter.now c.loop-place.putter c.args.line.now c.loop-place.line c.args.run
+    c.loop-place.next c.loop-place.invariant c.requires.stands in
     omega (arith, s.room)
 
 pub play_step-requires-clause-put : goal.play_step-requires-clause-put
 play_step-requires-clause-put c =
     let steps = map (rx_step c.args.flag) c.args.bytes.now in
     let place = c.loop-place.place in
-    let s = stands_at steps place (rx_step c.args.flag (get_or c.args.bytes.now place 0)) (drop (place + 1) steps) (run_from c.args.flag c.args.bytes.now place c.loop-place-test.true)
-    c.args.port.now c.loop-place.port c.args.putter.now c.loop-place.putter c.args.line.now c.loop-place.line c.args.run c.loop-place.next c.loop-place.invariant c.requires.stands in
+    let s = stands_at steps place (rx_step c.args.flag (get_or c.args.bytes.now place 0)) (drop (place + 1) steps)
+    (run_from c.args.flag c.args.bytes.now place c.loop-place-test.true)
+    c.args.port.now c.loop-place.port c.args.putter.now c.loop-place.putter c.args.line.now c.loop-place.line c.args.run
+    c.loop-place.next c.loop-place.invariant c.requires.stands in
     s.between.in_line.has_put.room
 
 pub play_step-requires-clause-ring : goal.play_step-requires-clause-ring
 play_step-requires-clause-ring c =
     let steps = map (rx_step c.args.flag) c.args.bytes.now in
     let place = c.loop-place.place in
-    let s = stands_at steps place (rx_step c.args.flag (get_or c.args.bytes.now place 0)) (drop (place + 1) steps) (run_from c.args.flag c.args.bytes.now place c.loop-place-test.true)
-    c.args.port.now c.loop-place.port c.args.putter.now c.loop-place.putter c.args.line.now c.loop-place.line c.args.run c.loop-place.next c.loop-place.invariant c.requires.stands in
+    let s = stands_at steps place (rx_step c.args.flag (get_or c.args.bytes.now place 0)) (drop (place + 1) steps)
+    (run_from c.args.flag c.args.bytes.now place c.loop-place-test.true)
+    c.args.port.now c.loop-place.port c.args.putter.now c.loop-place.putter c.args.line.now c.loop-place.line c.args.run
+    c.loop-place.next c.loop-place.invariant c.requires.stands in
     s.between.in_line.has_put.ring
 
 pub play_step-requires-clause-run : goal.play_step-requires-clause-run
 play_step-requires-clause-run c =
     let steps = map (rx_step c.args.flag) c.args.bytes.now in
     let place = c.loop-place.place in
-    let s = stands_at steps place (rx_step c.args.flag (get_or c.args.bytes.now place 0)) (drop (place + 1) steps) (run_from c.args.flag c.args.bytes.now place c.loop-place-test.true)
-    c.args.port.now c.loop-place.port c.args.putter.now c.loop-place.putter c.args.line.now c.loop-place.line c.args.run c.loop-place.next c.loop-place.invariant c.requires.stands in
+    let s = stands_at steps place (rx_step c.args.flag (get_or c.args.bytes.now place 0)) (drop (place + 1) steps)
+    (run_from c.args.flag c.args.bytes.now place c.loop-place-test.true)
+    c.args.port.now c.loop-place.port c.args.putter.now c.loop-place.putter c.args.line.now c.loop-place.line c.args.run
+    c.loop-place.next c.loop-place.invariant c.requires.stands in
     s.between.begins_run
 
 pub returns-in_err-next-clause-err : goal.returns-in_err-next-clause-err
@@ -55,8 +64,10 @@ returns-in_err-next-clause-err c =
     let steps = map (rx_step c.args.flag) c.args.bytes.now in
     let place = c.loop-place.place in
     let w = c.play_step.new in
-    rw (p.1, p.2) (stops_next steps place (rx_step c.args.flag (get_or c.args.bytes.now place 0)) (drop (place + 1) steps) (run_from c.args.flag c.args.bytes.now place c.loop-place-test.true)
-    c.args.port.now c.loop-place.port c.args.putter.now c.loop-place.putter c.args.line.now c.loop-place.line c.args.run c.loop-place.next c.loop-place.invariant
+    rw (p.1, p.2) (stops_next steps place (rx_step c.args.flag (get_or c.args.bytes.now place 0))
+    (drop (place + 1) steps) (run_from c.args.flag c.args.bytes.now place c.loop-place-test.true)
+    c.args.port.now c.loop-place.port c.args.putter.now c.loop-place.putter c.args.line.now c.loop-place.line
+    c.args.run c.loop-place.next c.loop-place.invariant
     c.in_err-next.field-0.0 w.port w.putter w.line c.in_err-next.ensures.err)
 
 pub loop-place-preserved : goal.loop-place-preserved
@@ -64,6 +75,8 @@ loop-place-preserved c =
     let steps = map (rx_step c.args.flag) c.args.bytes.now in
     let place = c.loop-place.place in
     let w = c.play_step.new in
-    plays_next steps place (rx_step c.args.flag (get_or c.args.bytes.now place 0)) (drop (place + 1) steps) (run_from c.args.flag c.args.bytes.now place c.loop-place-test.true)
-    c.args.port.now c.loop-place.port c.args.putter.now c.loop-place.putter c.args.line.now c.loop-place.line c.args.run c.loop-place.next c.loop-place.invariant
+    plays_next steps place (rx_step c.args.flag (get_or c.args.bytes.now place 0)) (drop (place + 1) steps)
+    (run_from c.args.flag c.args.bytes.now place c.loop-place-test.true)
+    c.args.port.now c.loop-place.port c.args.putter.now c.loop-place.putter c.args.line.now c.loop-place.line
+    c.args.run c.loop-place.next c.loop-place.invariant
     w.port w.putter w.line c.in_ok-next.next c.in_ok-next.ensures.ok

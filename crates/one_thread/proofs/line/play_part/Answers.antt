@@ -8,4 +8,5 @@ use Rattle.one_thread.proofs.line.play_part.Goals as goal
 
 pub play_step-requires-clause-good : goal.play_step-requires-clause-good
 play_step-requires-clause-good c =
-    All-head (λ (s : LineStep). IsTrue (is_step s)) c.in-One.step [] (subst (λ (p : Part). All (λ (s : LineStep). IsTrue (is_step s)) (steps_of_part p)) c.in-One.is c.requires.good)
+    All-head (λ (s : LineStep). IsTrue (is_step s)) c.in-One.step []
+    (subst (λ (p : Part). All (λ (s : LineStep). IsTrue (is_step s)) (steps_of_part p)) c.in-One.is c.requires.good)

@@ -5,7 +5,8 @@ use Rattle.one_thread.proofs.line.play_run.Given as goal
 
 abbrev pub invariant-loop-at : goal.invariant-loop-at
 invariant-loop-at l = record {
-  plays : PlaysSteps (take l.at (good_steps l.bytes)) l.fn.port l.port l.fn.putter l.putter l.fn.line l.line l.run l.next;
+  plays : PlaysSteps (take l.at (good_steps l.bytes)) l.fn.port
+      l.port l.fn.putter l.putter l.fn.line l.line l.run l.next;
   within : l.at ≤ length l.bytes;
 }
 

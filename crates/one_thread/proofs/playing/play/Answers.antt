@@ -10,15 +10,20 @@ use Rattle.one_thread.proofs.playing.play.Goals as goal
 pub loop-number-init : goal.loop-number-init
 loop-number-init c =
     let runs : c.reserve.new.self.items ≡ [] = c.in_ok-reserve.ensures.items ∙ ap (λ b. b.items) c.new-runs.ensures in
-    let ends : c.reserve-2.new.self.items ≡ [] = c.in_ok-reserve-2.ensures.items ∙ ap (λ b. b.items) c.new-ends.ensures in
+    let ends : c.reserve-2.new.self.items ≡ [] =
+    c.in_ok-reserve-2.ensures.items ∙ ap (λ b. b.items) c.new-ends.ensures in
     let some_runs = c.in_ok-reserve.ensures.ok in
     let some_ends = c.in_ok-reserve-2.ensures.ok in
     record {
       room_for_runs = omega (arith, some_runs);
       room_for_ends = omega (arith, some_ends);
-      played = subst (λ (xs : List PortRun). AreFirstPlayed (session_of c.args.session.now) 0 xs c.reserve-2.new.self.items) (sym runs)
-          (subst (λ (xs : List PortEnd). AreFirstPlayed (session_of c.args.session.now) 0 [] xs) (sym ends) (none_played (session_of c.args.session.now)));
-      in_order = subst (AreInOneOrder (session_of c.args.session.now)) (sym runs) (none_in_order (session_of c.args.session.now));
+      played = subst
+          (λ (xs : List PortRun). AreFirstPlayed (session_of c.args.session.now) 0 xs c.reserve-2.new.self.items)
+          (sym runs)
+          (subst (λ (xs : List PortEnd). AreFirstPlayed (session_of c.args.session.now) 0 [] xs) (sym ends)
+          (none_played (session_of c.args.session.now)));
+      in_order = subst (AreInOneOrder (session_of c.args.session.now)) (sym runs)
+          (none_in_order (session_of c.args.session.now));
     }
 
 pub loop-number-preserved : goal.loop-number-preserved
@@ -30,11 +35,17 @@ loop-number-preserved c =
     record {
       room_for_runs = let room = invariant.room_for_runs in omega (arith, room, runs, below);
       room_for_ends = let room = invariant.room_for_ends in omega (arith, room, ends, below);
-      played = subst (λ (xs : List PortRun). AreFirstPlayed (session_of c.args.session.now) (c.loop-number.number + 1) xs c.add-in-loop-number.new.self.items) (sym (ap (λ b. b.items) c.add.ensures))
-          (subst (λ (xs : List PortEnd). AreFirstPlayed (session_of c.args.session.now) (c.loop-number.number + 1) (c.loop-number.runs.items ++ c.in_ok-run.run' ∷ []) xs) (sym (ap (λ b. b.items) c.add-in-loop-number.ensures))
-          (one_more_played (session_of c.args.session.now) c.loop-number.number c.loop-number.runs.items c.loop-number.ends.items c.in_ok-run.run' c.in_ok-run.end invariant.played c.in_ok-run.ensures.played));
+      played = subst (λ (xs : List PortRun). AreFirstPlayed (session_of c.args.session.now) (c.loop-number.number + 1)
+          xs c.add-in-loop-number.new.self.items)
+          (sym (ap (λ b. b.items) c.add.ensures))
+          (subst (λ (xs : List PortEnd). AreFirstPlayed (session_of c.args.session.now) (c.loop-number.number + 1)
+          (c.loop-number.runs.items ++ c.in_ok-run.run' ∷ []) xs)
+          (sym (ap (λ b. b.items) c.add-in-loop-number.ensures))
+          (one_more_played (session_of c.args.session.now) c.loop-number.number c.loop-number.runs.items
+          c.loop-number.ends.items c.in_ok-run.run' c.in_ok-run.end invariant.played c.in_ok-run.ensures.played));
       in_order = subst (AreInOneOrder (session_of c.args.session.now)) (sym (ap (λ b. b.items) c.add.ensures))
-          (one_more_in_order (session_of c.args.session.now) c.loop-number.number c.loop-number.runs.items c.in_ok-run.run' invariant.played.runs_of invariant.in_order c.in_ok-run.ensures.in_order);
+          (one_more_in_order (session_of c.args.session.now) c.loop-number.number c.loop-number.runs.items
+          c.in_ok-run.run' invariant.played.runs_of invariant.in_order c.in_ok-run.ensures.in_order);
     }
 
 pub returns : goal.returns
@@ -43,6 +54,7 @@ returns c =
     let past = c.loop-number-test.false in
     let end = c.loop-number.auto.number-end in
     record {
-      played = all_played (session_of c.args.session.now) c.loop-number.number c.loop-number.runs.items c.loop-number.ends.items c.loop-number.invariant.played (omega (arith, ports, past, end));
+      played = all_played (session_of c.args.session.now) c.loop-number.number c.loop-number.runs.items
+          c.loop-number.ends.items c.loop-number.invariant.played (omega (arith, ports, past, end));
       in_order = c.loop-number.invariant.in_order;
     }

@@ -6,4 +6,7 @@ use Rattle.one_thread.specs.Casting.{HaveSameCallers, cast_of}
 use Rattle.one_thread.proofs.roles.cast.Given as goal
 
 abbrev pub invariant-loop-place : goal.invariant-loop-place
-invariant-loop-place l = (others : List Script) → HaveSameCallers others l.scripts → map (role_in others) l.roles.items ≡ cast_of l.names l.steps l.port (map script_of (take l.place others))
+invariant-loop-place l =
+    (others : List Script)
+    → HaveSameCallers others l.scripts
+    → map (role_in others) l.roles.items ≡ cast_of l.names l.steps l.port (map script_of (take l.place others))

@@ -6,7 +6,10 @@ use Rattle.one_thread.proofs.roles.count_on.Goals as goal
 
 pub overflow_add-count : goal.overflow_add-count
 overflow_add-count c =
-    let more = count_yes c.args.port c.as_slice-script-items.result.now c.loop-script.script-index c.script-item.result c.loop-script-test.true c.script-item.is (sym c.from.ensures ∙ c.if-from-port.true) in
+    let more = count_yes c.args.port c.as_slice-script-items.result.now c.loop-script.script-index c.script-item.result
+    c.loop-script-test.true c.script-item.is (sym c.from.ensures ∙ c.if-from-port.true) in
     let few = own_few c.args.port c.as_slice-script-items.result.now (c.loop-script.script-index + 1) in
-    let all : length (own_scripts c.args.port (map script_of c.as_slice-script-items.result.now)) ≤ 16 = subst (λ xs. length (own_scripts c.args.port (map script_of xs)) ≤ 16) (sym c.as_slice-script-items.ensures) c.requires in
+    let all : length (own_scripts c.args.port (map script_of c.as_slice-script-items.result.now)) ≤ 16 =
+    subst (λ xs. length (own_scripts c.args.port (map script_of xs)) ≤ 16) (sym c.as_slice-script-items.ensures)
+    c.requires in
     omega (arith, more, few, all, c.loop-script.invariant)

@@ -4,6 +4,7 @@ use Rattle.opost_out.proofs.cursor.column_after.Given as goal
 
 abbrev pub invariant-loop-byte : goal.invariant-loop-byte
 invariant-loop-byte l = record {
-  same : column_after l.column (posted_text l.utf8 (drop l.byte-index l.bytes)) ≡ column_after l.start (posted_text l.utf8 l.bytes);
+  same : column_after l.column (posted_text l.utf8 (drop l.byte-index l.bytes))
+      ≡ column_after l.start (posted_text l.utf8 l.bytes);
   bound : l.column ≤ l.start + 8 * l.byte-index;
 }

@@ -6,5 +6,6 @@ use Rattle.flip_buffer.specs.Drops.{Releases}
 
 pub returns-clause-released : goal.returns-clause-released
 returns-clause-released c =
-    let r = subst (λ (f : TakerState Flagged). Releases f c.drop_all.new.self) c.end.ensures.same c.drop_all.ensures.released in
+    let r =
+    subst (λ (f : TakerState Flagged). Releases f c.drop_all.new.self) c.end.ensures.same c.drop_all.ensures.released in
     record { heads = r.heads; adds = r.adds; above = r.above; below = r.below }

@@ -8,7 +8,8 @@ pub returns-clause-seat : goal.returns-clause-seat
 returns-clause-seat c =
     let z = identity_of c.args.cell.now in
     let log = opening_value c.args.cell.now in
-    let fresh = (fresh_front z log.name log.entries.items 0 c.pop.new.self.items c.in-Some.seat (subst (λ ss. AllNew z log.name log.entries.items 0 ss) c.in-Some.ensures.items c.requires.0)).1 in
+    let fresh = (fresh_front z log.name log.entries.items 0 c.pop.new.self.items c.in-Some.seat
+    (subst (λ ss. AllNew z log.name log.entries.items 0 ss) c.in-Some.ensures.items c.requires.0)).1 in
     let me = fresh.1.1 in (
       record {
         table = fresh.0;
@@ -24,4 +25,5 @@ pub returns-clause-others : goal.returns-clause-others
 returns-clause-others c =
     let z = identity_of c.args.cell.now in
     let log = opening_value c.args.cell.now in
-    (fresh_front z log.name log.entries.items 0 c.pop.new.self.items c.in-Some.seat (subst (λ ss. AllNew z log.name log.entries.items 0 ss) c.in-Some.ensures.items c.requires.0)).0
+    (fresh_front z log.name log.entries.items 0 c.pop.new.self.items c.in-Some.seat
+    (subst (λ ss. AllNew z log.name log.entries.items 0 ss) c.in-Some.ensures.items c.requires.0)).0

@@ -26,7 +26,8 @@ note-requires-clause-generation g c =
     let added : now ≡ found ++ entry ∷ [] = first_of (cc, search rules) in
     let found_one : c.generation-generation.result ≡ generation_of found = first_of (cc, search rules) in
     let only : IsAlone s = ap lone_part c.turn-turn.ensures.references.user ∙ c.requires.alone.0 in
-    may_note_next s found now entry seen added c.turn-turn.ensures.lowered only (ap (λ n. n + 1) found_one) (omega arith)
+    may_note_next s found now entry seen added c.turn-turn.ensures.lowered only (ap (λ n. n + 1) found_one)
+    (omega arith)
 
 pub install-requires-clause-raised : goal.install-requires-clause-raised
 install-requires-clause-raised g c =
@@ -37,4 +38,5 @@ install-requires-clause-raised g c =
     let entry : Stamped ℕ = record { seat = c.args.number; after = c.generation-generation.result + 1; what = 0 } in
     let added : now ≡ found ++ entry ∷ [] = first_of (cc, search rules) in
     let found_one : c.generation-generation.result ≡ generation_of found = first_of (cc, search rules) in
-    c.note.ensures.raised (next_generation s found now entry seen added c.turn-turn.ensures.lowered (ap (λ n. n + 1) found_one))
+    c.note.ensures.raised
+    (next_generation s found now entry seen added c.turn-turn.ensures.lowered (ap (λ n. n + 1) found_one))

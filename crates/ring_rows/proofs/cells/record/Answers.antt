@@ -11,7 +11,8 @@ note-requires-clause-list g c =
     let now = c.add.new.self.entries.items in
     let s = c.turn-turn.new.seat in
     let seen : list_seen s ≡ found = c.turn-turn.ensures.seen in
-    let entry : Stamped ℕ = record { seat = c.args.number; after = c.generation-generation.result; what = c.args.what } in
+    let entry : Stamped ℕ =
+    record { seat = c.args.number; after = c.generation-generation.result; what = c.args.what } in
     let added : now ≡ found ++ entry ∷ [] = first_of (cc, search rules) in
     adds s found now entry seen added (sym (c.turn-turn.ensures.same.number ∙ c.requires.1))
 
@@ -21,7 +22,8 @@ note-requires-clause-generation g c =
     let now = c.add.new.self.entries.items in
     let s = c.turn-turn.new.seat in
     let seen : list_seen s ≡ found = c.turn-turn.ensures.seen in
-    let entry : Stamped ℕ = record { seat = c.args.number; after = c.generation-generation.result; what = c.args.what } in
+    let entry : Stamped ℕ =
+    record { seat = c.args.number; after = c.generation-generation.result; what = c.args.what } in
     let added : now ≡ found ++ entry ∷ [] = first_of (cc, search rules) in
     let after : entry.after ≡ generation_of found = first_of (cc, search rules) in
     may_note_same s found now entry seen added c.turn-turn.ensures.lowered after
@@ -32,7 +34,8 @@ give-requires-clause-installed g c =
     let now = c.add.new.self.entries.items in
     let s = c.turn-turn.new.seat in
     let seen : list_seen s ≡ found = c.turn-turn.ensures.seen in
-    let entry : Stamped ℕ = record { seat = c.args.number; after = c.generation-generation.result; what = c.args.what } in
+    let entry : Stamped ℕ =
+    record { seat = c.args.number; after = c.generation-generation.result; what = c.args.what } in
     let added : now ≡ found ++ entry ∷ [] = first_of (cc, search rules) in
     let after : entry.after ≡ generation_of found = first_of (cc, search rules) in
     c.note.ensures.lowered (same_generation s found now entry seen added c.turn-turn.ensures.lowered after)

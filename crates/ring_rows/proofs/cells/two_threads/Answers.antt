@@ -9,4 +9,5 @@ close-log-requires-clause-all g c =
     let a = c.both-first.result.0 in
     let b = c.both-first.result.1 in
     let items : c.in_ok-all.all.items ≡ a ∷ b ∷ [] = first_of (cc, search rules) in
-    subst (λ n. HasAll n c.in_ok-all.all.items) (sym seats) (has_two c.in_ok-all.all.items a b items c.both-first.ensures.first.1 c.both-first.ensures.second.1)
+    subst (λ n. HasAll n c.in_ok-all.all.items) (sym seats)
+    (has_two c.in_ok-all.all.items a b items c.both-first.ensures.first.1 c.both-first.ensures.second.1)

@@ -7,4 +7,6 @@ use Rattle.session_gen.proofs.draws.draw_line.Given as goal
 abbrev pub invariant-loop : goal.invariant-loop
 invariant-loop l =
     (4000 ≤ l.bytes.spare + l.counter)
-    × ((seed first : ℕ) → l.initial.number ≡ number_after seed first → IsBegun seed first l.counter l.number (map rx l.bytes.items))
+    × ((seed first : ℕ)
+    → l.initial.number ≡ number_after seed first
+    → IsBegun seed first l.counter l.number (map rx l.bytes.items))

@@ -11,7 +11,8 @@ pub loop-phase-init : goal.loop-phase-init
 loop-phase-init c =
     let items : c.add.new.self.items ≡ c.in_ok-first_phase.field-0 ∷ [] =
     ap (λ b. b.items) c.add.ensures
-    ∙ ap (λ xs. xs ++ c.in_ok-first_phase.field-0 ∷ []) (c.in_ok-reserve.ensures.items ∙ ap (λ b. b.items) c.new-phases.ensures) in (
+    ∙ ap (λ xs. xs ++ c.in_ok-first_phase.field-0 ∷ [])
+    (c.in_ok-reserve.ensures.items ∙ ap (λ b. b.items) c.new-phases.ensures) in (
       omega (arith, c.in_ok-reserve.ensures.ok, ap (λ b. b.spare) c.add.ensures),
       ap (map phase_of) items ∙ ap (λ phase. phase ∷ []) c.in_ok-first_phase.ensures,
       sym (number_after-zero c.args.number),
@@ -21,7 +22,8 @@ pub loop-phase-preserved : goal.loop-phase-preserved
 loop-phase-preserved c = (
   omega (arith, c.loop-phase.invariant.0, ap (λ b. b.spare) c.add-in-loop-phase.ensures),
   ap (λ b. map phase_of b.items) c.add-in-loop-phase.ensures
-      ∙ map-more_after phase_of (reading_phase c.args.number) opening_phase c.loop-phase.phase c.loop-phase.phases.items c.in_ok-later_phase.field-0
+      ∙ map-more_after phase_of (reading_phase c.args.number) opening_phase c.loop-phase.phase
+      c.loop-phase.phases.items c.in_ok-later_phase.field-0
       c.loop-phase.auto.phase c.loop-phase.invariant.1 c.in_ok-later_phase.ensures.phase,
   c.in_ok-later_phase.ensures.drawn ∙ ap (number_after c.args.number) (omega arith),
 )

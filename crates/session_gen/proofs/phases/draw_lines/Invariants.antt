@@ -7,4 +7,6 @@ use Rattle.session_gen.proofs.phases.draw_lines.Given as goal
 abbrev pub invariant-loop : goal.invariant-loop
 invariant-loop l =
     (4 ≤ l.lines.spare + l.counter)
-    × ((seed first : ℕ) → l.initial.drawn ≡ number_after seed first → AreBegun seed first l.counter l.drawn l.lines.items)
+    × ((seed first : ℕ)
+    → l.initial.drawn ≡ number_after seed first
+    → AreBegun seed first l.counter l.drawn l.lines.items)

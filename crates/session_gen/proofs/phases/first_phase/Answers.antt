@@ -12,7 +12,8 @@ loop-port-preserved c = (
       ∙ map-more (λ line. line.items) (λ _. []) 0 c.loop-port.port c.loop-port.port c.loop-port.lines.items c.new.result
       (omega arith) c.loop-port.invariant.2 (ap (λ b. b.items) c.new.ensures),
   ap (λ b. map script_of b.items) c.add-in-loop-port.ensures
-      ∙ map-more script_of (λ port. caller_script port opening_calls) 0 c.loop-port.port c.loop-port.port c.loop-port.callers.items
+      ∙ map-more script_of (λ port. caller_script port opening_calls) 0
+      c.loop-port.port c.loop-port.port c.loop-port.callers.items
       c.script.result (omega arith) c.loop-port.invariant.3
       (c.script.ensures ∙ ap (caller_script c.loop-port.port) c.in_ok-calls_to_open.ensures),
 )

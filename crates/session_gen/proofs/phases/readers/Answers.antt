@@ -8,7 +8,8 @@ pub loop-port-preserved : goal.loop-port-preserved
 loop-port-preserved c = (
   omega (arith, c.loop-port.invariant.0, ap (λ b. b.spare) c.add.ensures),
   ap (λ b. map script_of b.items) c.add.ensures
-      ∙ map-more script_of (λ port. caller_script port (reading_calls c.args.number c.args.phase port)) 0 c.loop-port.port c.loop-port.port
+      ∙ map-more script_of (λ port. caller_script port (reading_calls c.args.number c.args.phase port))
+      0 c.loop-port.port c.loop-port.port
       c.loop-port.callers.items c.script.result (omega arith) c.loop-port.invariant.1
       (c.script.ensures ∙ ap (caller_script c.loop-port.port) c.in_ok-calls_to_read.ensures),
 )

@@ -8,4 +8,5 @@ use Rattle.session_gen.proofs.phases.readers.Given as goal
 abbrev pub invariant-loop-port : goal.invariant-loop-port
 invariant-loop-port l =
     (4 ≤ l.callers.spare + l.port)
-    × (map script_of l.callers.items ≡ map (λ port. caller_script port (reading_calls l.number l.phase port)) (range_with_len 0 l.port))
+    × (map script_of l.callers.items
+    ≡ map (λ port. caller_script port (reading_calls l.number l.phase port)) (range_with_len 0 l.port))

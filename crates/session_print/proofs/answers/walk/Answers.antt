@@ -17,11 +17,15 @@ loop-index-preserved c =
           elim c.match-turn_of.branch [
             | in-Some+in_ok-note w ↦ λ n step.
                 ap (λ places. answer_at es (place_in places n step)) w.places-is
-                ∙ told_more c.loop-index.places w.note.new.self es i entry w.in-Some.turn _ at refl w.in-Some.ensures.turn w.in-Some.ensures.answer w.in_ok-note.ensures c.loop-index.invariant.notes n step
+                ∙ told_more c.loop-index.places w.note.new.self es i entry w.in-Some.turn _ at refl
+                w.in-Some.ensures.turn w.in-Some.ensures.answer w.in_ok-note.ensures c.loop-index.invariant.notes n step
             | in_default w ↦ λ n step.
                 ap (λ places. answer_at es (place_in places n step)) w.places-is
-                ∙ told_same c.loop-index.places es i entry at w.in_default.ensures.turn c.loop-index.invariant.notes n step
+                ∙ told_same c.loop-index.places es i entry at w.in_default.ensures.turn
+                c.loop-index.invariant.notes n step
           ];
-      flushes = sum_more flushed_in es i entry c.add.new.self.flushed c.loop-index.sums.flushed at c.in_ok-add.ensures.flushed c.loop-index.invariant.flushes;
-      drops = sum_more dropped_in es i entry c.add.new.self.dropped c.loop-index.sums.dropped at c.in_ok-add.ensures.dropped c.loop-index.invariant.drops;
+      flushes = sum_more flushed_in es i entry c.add.new.self.flushed c.loop-index.sums.flushed at
+          c.in_ok-add.ensures.flushed c.loop-index.invariant.flushes;
+      drops = sum_more dropped_in es i entry c.add.new.self.dropped c.loop-index.sums.dropped
+          at c.in_ok-add.ensures.dropped c.loop-index.invariant.drops;
     }

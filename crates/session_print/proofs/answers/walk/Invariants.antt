@@ -6,7 +6,8 @@ use Rattle.session_print.proofs.answers.walk.Given as goal
 
 abbrev pub invariant-loop-index : goal.invariant-loop-index
 invariant-loop-index l = record {
-  notes : (c step : ℕ) → answer_at l.journal.items (place_in l.places c step) ≡ answer_in (take l.index l.journal.items) c step;
+  notes : (c step : ℕ)
+      → answer_at l.journal.items (place_in l.places c step) ≡ answer_in (take l.index l.journal.items) c step;
   flushes : l.sums.flushed ≡ flushed_count (take l.index l.journal.items);
   drops : l.sums.dropped ≡ dropped_count (take l.index l.journal.items);
 }

@@ -6,5 +6,7 @@ use Rattle.session_print.proofs.calls.put_answered_calls.Goals as goal
 
 pub returns : goal.returns
 returns c =
-    told_added c.put_phases-told.result c.args.port (noted_answer c.args.answers) (session_of c.args.session.now) c.in_ok-names.names (map phase_of c.as_slice.result.now) (string_bytes c.args.text.now) (string_bytes c.put_phases-told.new.text)
+    told_added c.put_phases-told.result c.args.port (noted_answer c.args.answers) (session_of c.args.session.now)
+    c.in_ok-names.names (map phase_of c.as_slice.result.now) (string_bytes c.args.text.now)
+    (string_bytes c.put_phases-told.new.text)
     c.in_ok-names.ensures (ap (λ ps. map phase_of ps) c.as_slice.ensures) c.put_phases-told.ensures

@@ -9,4 +9,6 @@ returns-clause-text c =
     let p = c.args.port in
     let text = string_bytes c.args.text.now in
     c.in_ok-put_answered_calls.ensures
-    ∙ ap (λ xs. text ++ xs) (same_lines p _ (answer_in c.args.run.now.journal.items) c.in_ok-sums.ensures.answers (told_on p (session_of c.args.session.now)))
+    ∙ ap (λ xs. text ++ xs)
+    (same_lines p _ (answer_in c.args.run.now.journal.items) c.in_ok-sums.ensures.answers
+    (told_on p (session_of c.args.session.now)))

@@ -5,7 +5,8 @@ use Rattle.session_print.proofs.digits.put_hex.Goals as goal
 
 pub loop-rest-preserved : goal.loop-rest-preserved
 loop-rest-preserved c =
-    hex_more _ (string_bytes c.loop-rest.text) (string_bytes c.put_piece.new.text) c.loop-rest.rest.now c.split_at.result.0.now c.split_at.result.1.now _
+    hex_more _ (string_bytes c.loop-rest.text) (string_bytes c.put_piece.new.text) c.loop-rest.rest.now
+    c.split_at.result.0.now c.split_at.result.1.now _
     c.split_at.ensures.front c.split_at.ensures.back c.in_ok-put_piece.ensures c.loop-rest.invariant
 
 pub returns : goal.returns

@@ -12,4 +12,5 @@ pub write_some-requires-else-count-eq0-2-clause-before : goal.write_some-require
 write_some-requires-else-count-eq0-2-clause-before c =
     let bytes = c.args.bytes.now in
     let count = length bytes in
-    first_of_digits bytes c.write_some-else-count-eq0.new.digits (count - 8) (count - count % 8) (omega arith) (omega arith) c.write_some-else-count-eq0.ensures
+    first_of_digits bytes c.write_some-else-count-eq0.new.digits (count - 8) (count - count % 8) (omega arith)
+    (omega arith) c.write_some-else-count-eq0.ensures

@@ -13,8 +13,12 @@ loop-place-preserved c =
     let high = c.digit_of.result in
     let low = c.digit_of-in-loop-place.result in
     record {
-      room = length-set (set digits (2 * place) high) (2 * place + 1) low ∙ length-set digits (2 * place) high ∙ c.loop-place.invariant.room;
+      room =
+          length-set (set digits (2 * place) high) (2 * place + 1) low
+          ∙ length-set digits (2 * place) high
+          ∙ c.loop-place.invariant.room;
       so_far =
-          digits_more c.args.bytes.now digits place high low (omega arith) (omega (arith, c.loop-place.invariant.room)) c.digit_of.ensures c.digit_of-in-loop-place.ensures
+          digits_more c.args.bytes.now digits place high low (omega arith) (omega (arith, c.loop-place.invariant.room))
+          c.digit_of.ensures c.digit_of-in-loop-place.ensures
           c.loop-place.invariant.so_far;
     }

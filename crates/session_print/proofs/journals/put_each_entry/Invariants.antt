@@ -5,6 +5,7 @@ use Rattle.session_print.proofs.journals.put_each_entry.Given as goal
 
 abbrev pub invariant-loop-place : goal.invariant-loop-place
 invariant-loop-place l = record {
-  so_far : string_bytes l.text ++ flat_map (entry_line l.names) (drop l.place l.journal.items) ≡ string_bytes l.initial.text ++ flat_map (entry_line l.names) l.journal.items;
+  so_far : string_bytes l.text ++ flat_map (entry_line l.names) (drop l.place l.journal.items)
+      ≡ string_bytes l.initial.text ++ flat_map (entry_line l.names) l.journal.items;
   front : Fronts l.names l.front;
 }

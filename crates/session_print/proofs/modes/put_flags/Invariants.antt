@@ -4,4 +4,5 @@ use Rattle.session_print.proofs.modes.put_flags.Given as goal
 
 abbrev pub invariant-loop-flag : goal.invariant-loop-flag
 invariant-loop-flag l =
-    string_bytes l.text ++ flags_text l.modes l.flag (29 - l.flag) ≡ string_bytes l.initial.text ++ flags_text l.modes 0 29
+    string_bytes l.text ++ flags_text l.modes l.flag (29 - l.flag)
+    ≡ string_bytes l.initial.text ++ flags_text l.modes 0 29

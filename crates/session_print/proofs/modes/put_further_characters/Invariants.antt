@@ -4,4 +4,5 @@ use Rattle.session_print.proofs.modes.put_further_characters.Given as goal
 
 abbrev pub invariant-loop-place : goal.invariant-loop-place
 invariant-loop-place l =
-    string_bytes l.text ++ characters_text l.modes l.place (15 - l.place) ≡ string_bytes l.initial.text ++ characters_text l.modes 1 14
+    string_bytes l.text ++ characters_text l.modes l.place (15 - l.place)
+    ≡ string_bytes l.initial.text ++ characters_text l.modes 1 14

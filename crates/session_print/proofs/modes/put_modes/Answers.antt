@@ -14,6 +14,8 @@ returns c =
     let text = string_bytes c.args.text.now in
     on_ok_weaker c.put_further_characters.result
     (λ last.
-    three text (string_bytes c.put_flags.new.text) (string_bytes c.put_character.new.text) (string_bytes c.put_further_characters.new.text) (flags_text modes 0 29) (word_text (Cc 0 (character modes 0))) (characters_text modes 1 14) c.in_ok-put_flags.ensures c.in_ok-put_character.ensures last
+    three text (string_bytes c.put_flags.new.text) (string_bytes c.put_character.new.text)
+    (string_bytes c.put_further_characters.new.text) (flags_text modes 0 29) (word_text (Cc 0 (character modes 0)))
+    (characters_text modes 1 14) c.in_ok-put_flags.ensures c.in_ok-put_character.ensures last
     ∙ ap (λ xs. text ++ xs) (modes_text_is modes))
     c.put_further_characters.ensures

@@ -12,6 +12,8 @@ loop-place-preserved c =
     let entry = entry_of c.at-entry.result in
     let at = c.at-entry.ensures in
     record {
-      flushes = sum_more flushed_in es i entry c.in_ok-flushed.flushed c.loop-place.flushed at (search rules) c.loop-place.invariant.flushes;
-      gives = sum_more got_in es i entry c.in_ok-got.got c.loop-place.got at (search rules) c.loop-place.invariant.gives;
+      flushes = sum_more flushed_in es i entry c.in_ok-flushed.flushed c.loop-place.flushed at (search rules)
+          c.loop-place.invariant.flushes;
+      gives =
+          sum_more got_in es i entry c.in_ok-got.got c.loop-place.got at (search rules) c.loop-place.invariant.gives;
     }

@@ -6,6 +6,7 @@ use Rattle.session_print.proofs.texts.put_each_call.Given as goal
 
 abbrev pub invariant-loop-port : goal.invariant-loop-port
 invariant-loop-port l = record {
-  told : string_bytes l.text ++ calls_from l.port (session_of l.session) (drop l.port l.runs) ≡ string_bytes l.initial.text ++ calls_from 0 (session_of l.session) l.runs;
+  told : string_bytes l.text ++ calls_from l.port (session_of l.session) (drop l.port l.runs)
+      ≡ string_bytes l.initial.text ++ calls_from 0 (session_of l.session) l.runs;
   summed : l.sums.items ≡ map sums_on (take l.port l.runs);
 }

@@ -2,7 +2,8 @@ use Rattle.std.proofs.Common.{◌≡◌, Ok, refl}
 use Rattle.hex.specs.Hex.{decode_pairs}
 use Rattle.tty_modes.specs.Reading.{word_of}
 use Rattle.session_text.specs.Reading.{session_in}
-use Rattle.session_text.specs.Rows.{three_bytes_text, three_bytes_session, empty_text, empty_session, items_text, items_session, calls_text, calls_session}
+use Rattle.session_text.specs.Rows.{three_bytes_text, three_bytes_session, empty_text, empty_session}
+use Rattle.session_text.specs.Rows.{items_text, items_session, calls_text, calls_session}
 use Rattle.session_text.proofs.Spelled.{read_spells}
 use Rattle.session_text.proofs.laws.worked_texts_spell_their_sessions.Goals as goal
 

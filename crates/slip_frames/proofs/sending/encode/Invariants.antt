@@ -7,4 +7,5 @@ use Rattle.slip_frames.proofs.sending.encode.Given as goal
 -- the front of the packet is written, and the rest has room
 abbrev pub invariant-loop-b : goal.invariant-loop-b
 invariant-loop-b l =
-    (l.out.items ≡ end ∷ flat_map spelling_of_byte (take l.b-index l.packet)) × (2 * length l.packet + 1 ≤ l.out.spare + 2 * l.b-index)
+    (l.out.items ≡ end ∷ flat_map spelling_of_byte (take l.b-index l.packet))
+    × (2 * length l.packet + 1 ≤ l.out.spare + 2 * l.b-index)

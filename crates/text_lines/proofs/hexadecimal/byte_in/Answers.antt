@@ -4,12 +4,14 @@ use Rattle.text_lines.proofs.hexadecimal.byte_in.Goals as goal
 
 pub overflow_mul-result : goal.overflow_mul-result
 overflow_mul-result c =
-    let small : values_of c.from.result c.from-2.result ≤ 3855 = rw (c.from.ensures, c.from-2.ensures) (values_small c.args.high c.args.low c.requires.high c.requires.low) in
+    let small : values_of c.from.result c.from-2.result ≤ 3855 =
+    rw (c.from.ensures, c.from-2.ensures) (values_small c.args.high c.args.low c.requires.high c.requires.low) in
     omega (arith, small)
 
 pub overflow_add-result : goal.overflow_add-result
 overflow_add-result c =
-    let small : values_of c.from.result c.from-2.result ≤ 3855 = rw (c.from.ensures, c.from-2.ensures) (values_small c.args.high c.args.low c.requires.high c.requires.low) in
+    let small : values_of c.from.result c.from-2.result ≤ 3855 =
+    rw (c.from.ensures, c.from-2.ensures) (values_small c.args.high c.args.low c.requires.high c.requires.low) in
     omega (arith, small)
 
 pub returns : goal.returns

@@ -10,7 +10,8 @@ loop-rest-preserved c =
     let back = c.split_at.result.1.now in
     let even : length front % 2 ≡ 0 = omega (arith, c.split_at.ensures.front_len) in
     let more : length back % 2 ≡ 0 = omega (arith, c.split_at.ensures.back_len, c.loop-rest-test.true, before.even) in
-    let parts = parted_at c.loop-rest.rest.now front back 512 c.split_at.ensures.front c.split_at.ensures.back even more before.digits before.even in
+    let parts = parted_at c.loop-rest.rest.now front back 512 c.split_at.ensures.front
+    c.split_at.ensures.back even more before.digits before.even in
     record {
       digits = parts.back_digits;
       even = more;

@@ -13,4 +13,5 @@ returns-in-Some-clause-lines c =
 pub returns-in-None-clause-lines : goal.returns-in-None-clause-lines
 returns-in-None-clause-lines c =
     let text = c.args.text.now in
-    line_whole text c.if-is_empty.ensures (sym c.in-None.ensures) ∙ ap (λ xs. text ∷ lines_of xs) (sym (take_rest text (length text) ∙ drop_all (length text) text (omega arith)))
+    line_whole text c.if-is_empty.ensures (sym c.in-None.ensures)
+    ∙ ap (λ xs. text ∷ lines_of xs) (sym (take_rest text (length text) ∙ drop_all (length text) text (omega arith)))

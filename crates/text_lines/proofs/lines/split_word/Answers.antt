@@ -8,11 +8,13 @@ returns-in-None-clause-words c = no_word c.args.line.now (sym c.in-None.ensures)
 
 pub returns-in-Some-blank_in-clause-words : goal.returns-in-Some-blank_in-clause-words
 returns-in-Some-blank_in-clause-words c =
-    cut_sliced c.args.line.now _ c.in-Some.start c.in-Some-blank_in.at (take_rest c.args.line.now c.in-Some.start) (sym c.in-Some.ensures) (sym c.in-Some-blank_in.ensures)
+    cut_sliced c.args.line.now _ c.in-Some.start c.in-Some-blank_in.at (take_rest c.args.line.now c.in-Some.start)
+    (sym c.in-Some.ensures) (sym c.in-Some-blank_in.ensures)
 
 pub returns-in-None-blank_in-clause-words : goal.returns-in-None-blank_in-clause-words
 returns-in-None-blank_in-clause-words c =
-    whole_sliced c.args.line.now _ c.in-Some.start (take_rest c.args.line.now c.in-Some.start) (sym c.in-Some.ensures) (sym c.in-None-blank_in.ensures)
+    whole_sliced c.args.line.now _ c.in-Some.start (take_rest c.args.line.now c.in-Some.start) (sym c.in-Some.ensures)
+    (sym c.in-None-blank_in.ensures)
 
 pub returns-in-None-clause-shorter : goal.returns-in-None-clause-shorter
 returns-in-None-clause-shorter c = no_word c.args.line.now (sym c.in-None.ensures)

@@ -9,5 +9,7 @@ loop-at-preserved g c =
     record {
       count = omega (arith, c.in-Ok.ensures.count);
       within = search rules;
-      written = written_more (given c.args.sink.now) (given c.loop-at.sink) (given c.write.new.self) c.args.bytes.now _ c.loop-at.at c.in-Ok.count (take_rest c.args.bytes.now c.loop-at.at) c.loop-at.invariant.written c.in-Ok.ensures.takes;
+      written = written_more (given c.args.sink.now) (given c.loop-at.sink) (given c.write.new.self) c.args.bytes.now _
+          c.loop-at.at c.in-Ok.count (take_rest c.args.bytes.now c.loop-at.at)
+          c.loop-at.invariant.written c.in-Ok.ensures.takes;
     }

@@ -6,4 +6,5 @@ use Rattle.tty_c.proofs.account_exports.jw_port_account.Goals as goal
 pub meet-both-requires : goal.meet-both-requires
 meet-both-requires c =
     let one = c.requires c.in-Some.device.value c.in-Some-taken.end.value (search rules) (search rules) in
-    ap (λ (l : LineState). l.ring) c.deref_mut-2.ensures.value ∙ (one ∙ sym (ap (λ (d : DeviceState). d.ring) c.deref_mut.ensures.value))
+    ap (λ (l : LineState). l.ring) c.deref_mut-2.ensures.value
+    ∙ (one ∙ sym (ap (λ (d : DeviceState). d.ring) c.deref_mut.ensures.value))

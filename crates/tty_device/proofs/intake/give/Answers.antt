@@ -11,6 +11,10 @@ returns-then-count-bytes c =
     let p = c.args.input.now in
     let q = c.pass.new.input in
     passed_some f g p q c.args.bytes.now c.args.count c.requires.clear
-    (subst (λ (xs : List ℕ). Passes p q f g (good_characters xs)) c.front_of.ensures c.pass.ensures) c.keep.new.flip c.keep.new.input
-    (c.keep.ensures.input ∙ ap (λ (xs : List ℕ). record q { sent = q.sent ++ good_characters xs; pushed = q.sent ++ good_characters xs }) c.rest_of.ensures)
-    (c.keep.ensures.flip ∙ ap (λ (xs : List ℕ). record g { peeked = []; floor = max g.floor (length q.sent + length xs) }) c.rest_of.ensures)
+    (subst (λ (xs : List ℕ). Passes p q f g (good_characters xs)) c.front_of.ensures c.pass.ensures)
+    c.keep.new.flip c.keep.new.input
+    (c.keep.ensures.input
+    ∙ ap (λ (xs : List ℕ). record q { sent = q.sent ++ good_characters xs; pushed = q.sent ++ good_characters xs })
+    c.rest_of.ensures)
+    (c.keep.ensures.flip
+    ∙ ap (λ (xs : List ℕ). record g { peeked = []; floor = max g.floor (length q.sent + length xs) }) c.rest_of.ensures)

@@ -12,14 +12,19 @@ returns-then-is_clear c =
     let bytes = c.args.bytes.now in
     let received = c.receive_good-received in
     let old : LineState = c.args.line.now in
-    let after : w ≡ record old { known = w.known } = subst (λ (x : LineState). x ≡ record old { known = x.known }) (sym c.line.view_is) c.waiting.ensures.after in
-    let rises : old.known ≤ w.known = subst (λ (x : LineState). old.known ≤ x.known) (sym c.line.view_is) c.waiting.ensures.known in
+    let after : w ≡ record old { known = w.known } =
+    subst (λ (x : LineState). x ≡ record old { known = x.known }) (sym c.line.view_is) c.waiting.ensures.after in
+    let rises : old.known ≤ w.known =
+    subst (λ (x : LineState). old.known ≤ x.known) (sym c.line.view_is) c.waiting.ensures.known in
     let same = ap (λ (x : LineState). x.overruns) c.line.view_is in
     let small : w.overruns < 2 ^ 64 = omega (arith, c.overruns-most.ensures, c.overruns-most.type_inv, same) in
     record {
       puts = puts_from old w m c.args.flag bytes _ after rises
-          (puts_all w m c.args.flip.now c.give.new.flip a.input c.give.new.input c.args.flag bytes received.result c.give.ensures (c.if-is_short_run.ensures.good refl) small refl refl);
-      hands = handed_straight c.args.terminal.now.terminal received.new.terminal.terminal c.args.flip.now c.give.new.flip a.input c.give.new.input bytes received.result received.new.chars.items
-          c.give.ensures (c.if-is_clear.ensures refl) (c.if-is_short_run.ensures.few refl) received.ensures.within received.ensures.chars received.ensures.accepted received.ensures.left received.ensures.stops;
+          (puts_all w m c.args.flip.now c.give.new.flip a.input c.give.new.input c.args.flag bytes received.result
+          c.give.ensures (c.if-is_short_run.ensures.good refl) small refl refl);
+      hands = handed_straight c.args.terminal.now.terminal received.new.terminal.terminal c.args.flip.now
+          c.give.new.flip a.input c.give.new.input bytes received.result received.new.chars.items
+          c.give.ensures (c.if-is_clear.ensures refl) (c.if-is_short_run.ensures.few refl) received.ensures.within
+          received.ensures.chars received.ensures.accepted received.ensures.left received.ensures.stops;
       seen = omega (arith, c.give.ensures.shown);
     }

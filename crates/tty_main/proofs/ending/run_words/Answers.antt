@@ -13,7 +13,8 @@ returns g c =
     let new = c.tty_run-status.new in
     subst (λ (status : ℕ). IsEnded (new.source ≡ from) (texts_of c.args.words.now)
     (g.S.Source.faults from) (g.S.Source.faults new.source) (g.K.Sink.faults to) (g.K.Sink.faults new.sink)
-    (g.S.Source.left from) (g.S.Source.left new.source) (g.K.Sink.given to) (g.K.Sink.given new.sink) status) (sym c.from.ensures) (
+    (g.S.Source.left from) (g.S.Source.left new.source) (g.K.Sink.given to) (g.K.Sink.given new.sink) status)
+    (sym c.from.ensures) (
     record {
       back = returned c.tty_run-status.result;
       headline = called.headline;

@@ -14,27 +14,39 @@ judged_text-requires g c =
 
 pub returns-in_err-ending-in-Of-clause-short : goal.returns-in_err-ending-in-Of-clause-short
 returns-in_err-ending-in-Of-clause-short g c =
-    let read = text_read refusal _ _ _ _ c.in_ok-text.field-0 c.in-Of.text c.as_slice.result.now c.in-Of.is c.as_slice.ensures (c.in_ok-text.ensures.read refusal) in
-    at_err (IsShort (g.S.Source.left c.args.source.now) (g.S.Source.left c.read_text.new.source)) c.from_residual-in_err-ending-in-Of.result read.1
+    let read = text_read refusal _ _ _ _ c.in_ok-text.field-0 c.in-Of.text c.as_slice.result.now c.in-Of.is
+    c.as_slice.ensures (c.in_ok-text.ensures.read refusal) in
+    at_err (IsShort (g.S.Source.left c.args.source.now) (g.S.Source.left c.read_text.new.source))
+    c.from_residual-in_err-ending-in-Of.result read.1
 
 pub returns-in_ok-ending-in-Of-clause-from : goal.returns-in_ok-ending-in-Of-clause-from
 returns-in_ok-ending-in-Of-clause-from g c =
-    let read = text_read refusal _ _ _ _ c.in_ok-text.field-0 c.in-Of.text c.as_slice.result.now c.in-Of.is c.as_slice.ensures (c.in_ok-text.ensures.read refusal) in
-    let done = judged_works (g.S.Source.faults c.args.source.now) (g.S.Source.faults c.read_text.new.source) (g.S.Source.left c.args.source.now) (g.S.Source.left c.read_text.new.source) c.as_slice.result.now c.in_ok-ending-in-Of.ending read.0 read.1 c.in_ok-ending-in-Of.ensures in
+    let read = text_read refusal _ _ _ _ c.in_ok-text.field-0 c.in-Of.text c.as_slice.result.now c.in-Of.is
+    c.as_slice.ensures (c.in_ok-text.ensures.read refusal) in
+    let done = judged_works (g.S.Source.faults c.args.source.now) (g.S.Source.faults c.read_text.new.source)
+    (g.S.Source.left c.args.source.now) (g.S.Source.left c.read_text.new.source) c.as_slice.result.now
+    c.in_ok-ending-in-Of.ending read.0 read.1 c.in_ok-ending-in-Of.ensures in
     (ended_works Check _ _ _ _ c.in_ok-ending-in-Of.ending c.ended.result c.ended.ensures done.0 done.1).1
 
 pub returns-in_ok-ending-in-Of-clause-work : goal.returns-in_ok-ending-in-Of-clause-work
 returns-in_ok-ending-in-Of-clause-work g c =
-    let read = text_read refusal _ _ _ _ c.in_ok-text.field-0 c.in-Of.text c.as_slice.result.now c.in-Of.is c.as_slice.ensures (c.in_ok-text.ensures.read refusal) in
-    let done = judged_works (g.S.Source.faults c.args.source.now) (g.S.Source.faults c.read_text.new.source) (g.S.Source.left c.args.source.now) (g.S.Source.left c.read_text.new.source) c.as_slice.result.now c.in_ok-ending-in-Of.ending read.0 read.1 c.in_ok-ending-in-Of.ensures in
+    let read = text_read refusal _ _ _ _ c.in_ok-text.field-0 c.in-Of.text c.as_slice.result.now c.in-Of.is
+    c.as_slice.ensures (c.in_ok-text.ensures.read refusal) in
+    let done = judged_works (g.S.Source.faults c.args.source.now) (g.S.Source.faults c.read_text.new.source)
+    (g.S.Source.left c.args.source.now) (g.S.Source.left c.read_text.new.source) c.as_slice.result.now
+    c.in_ok-ending-in-Of.ending read.0 read.1 c.in_ok-ending-in-Of.ensures in
     (ended_works Check _ _ _ _ c.in_ok-ending-in-Of.ending c.ended.result c.ended.ensures done.0 done.1).0
 
 pub returns-in-Ended-clause-from : goal.returns-in-Ended-clause-from
 returns-in-Ended-clause-from g c =
-    let read = none_read refusal _ _ _ _ c.in_ok-text.field-0 c.in-Ended.ending c.in-Ended.is (c.in_ok-text.ensures.read refusal) in
-    (ended_works Check _ _ _ _ c.in-Ended.ending c.ended-in-Ended.result c.ended-in-Ended.ensures (unread_works Check (g.S.Source.left c.args.source.now) c.in-Ended.ending read.0) read.1).1
+    let read = none_read refusal _ _ _ _ c.in_ok-text.field-0 c.in-Ended.ending c.in-Ended.is
+    (c.in_ok-text.ensures.read refusal) in
+    (ended_works Check _ _ _ _ c.in-Ended.ending c.ended-in-Ended.result c.ended-in-Ended.ensures
+    (unread_works Check (g.S.Source.left c.args.source.now) c.in-Ended.ending read.0) read.1).1
 
 pub returns-in-Ended-clause-work : goal.returns-in-Ended-clause-work
 returns-in-Ended-clause-work g c =
-    let read = none_read refusal _ _ _ _ c.in_ok-text.field-0 c.in-Ended.ending c.in-Ended.is (c.in_ok-text.ensures.read refusal) in
-    (ended_works Check _ _ _ _ c.in-Ended.ending c.ended-in-Ended.result c.ended-in-Ended.ensures (unread_works Check (g.S.Source.left c.args.source.now) c.in-Ended.ending read.0) read.1).0
+    let read = none_read refusal _ _ _ _ c.in_ok-text.field-0 c.in-Ended.ending c.in-Ended.is
+    (c.in_ok-text.ensures.read refusal) in
+    (ended_works Check _ _ _ _ c.in-Ended.ending c.ended-in-Ended.result c.ended-in-Ended.ensures
+    (unread_works Check (g.S.Source.left c.args.source.now) c.in-Ended.ending read.0) read.1).0

@@ -10,10 +10,19 @@ use Rattle.tty_one.proofs.Numbered.{number_ends, number_room}
 use Rattle.tty_one.proofs.playing.run_number.Goals as goal
 
 pub run_session-requires : goal.run_session-requires
-run_session-requires c =
-    (subst IsWithinLimits (sym c.in_ok-session.ensures.session) (generated_within c.args.number), subst IsNeverFull (sym c.in_ok-session.ensures.session) (number_room c.args.number))
+run_session-requires c = (
+  subst IsWithinLimits (sym c.in_ok-session.ensures.session) (generated_within c.args.number),
+  subst IsNeverFull (sym c.in_ok-session.ensures.session) (number_room c.args.number),
+)
 
 pub returns : goal.returns
 returns c =
-    let played = subst (λ (session : PlainSession). IfOk c.run_session.result (λ work. IsSessionWork IsOrdered (Summary c.args.number) session work.ending work.runs.items)) c.in_ok-session.ensures.session c.run_session.ensures.played in
-    record { played = played; can = number_ends c.args.number c.run_session.result played; no_entries = c.run_session.ensures.no_entries; no_log = c.run_session.ensures.no_log }
+    let played = subst (λ (session : PlainSession). IfOk c.run_session.result
+    (λ work. IsSessionWork IsOrdered (Summary c.args.number) session work.ending work.runs.items))
+    c.in_ok-session.ensures.session c.run_session.ensures.played in
+    record {
+      played = played;
+      can = number_ends c.args.number c.run_session.result played;
+      no_entries = c.run_session.ensures.no_entries;
+      no_log = c.run_session.ensures.no_log;
+    }

@@ -12,8 +12,12 @@ use Rattle.tty_one.specs.Reported.{text_by}
 use Rattle.tty_one.proofs.playing.text_by.Goals as goal
 
 -- the summary of these runs and ends is what is told of the session of a number
-summed : (telling : Telling) (number : ℕ) (session : PlainSession) (runs whole : List PortRun) (ends all : List PortEnd) (r : Result (Contents ℕ) NoMemory)
-    → telling ≡ Summary number → runs ≡ whole → ends ≡ all → IfOk r (λ text. text.items ≡ summary_text number session runs (map end_of ends))
+summed : (telling : Telling) (number : ℕ) (session : PlainSession) (runs whole : List PortRun) (ends all : List PortEnd)
+    (r : Result (Contents ℕ) NoMemory)
+    → telling ≡ Summary number
+    → runs ≡ whole
+    → ends ≡ all
+    → IfOk r (λ text. text.items ≡ summary_text number session runs (map end_of ends))
     → IfOk r (λ text. text.items ≡ text_by telling session whole (map end_of all))
 summed telling number session runs whole ends all (Ok text) is same_runs same_ends told =
     told
@@ -24,5 +28,6 @@ summed telling number session runs whole ends all (Err e) is same_runs same_ends
 
 pub returns-in-Summary : goal.returns-in-Summary
 returns-in-Summary c =
-    summed c.args.telling c.in-Summary.number (session_of c.args.session.now) c.as_slice-runs.result.now c.args.played.now.runs.items c.as_slice-ends.result.now c.args.played.now.ends.items
+    summed c.args.telling c.in-Summary.number (session_of c.args.session.now) c.as_slice-runs.result.now
+    c.args.played.now.runs.items c.as_slice-ends.result.now c.args.played.now.ends.items
     c.summary.result c.in-Summary.is c.as_slice-runs.ensures c.as_slice-ends.ensures c.summary.ensures

@@ -5,13 +5,21 @@ use Rattle.tty_one.proofs.reading.read_session.Goals as goal
 
 pub returns-in-Of-clause-read : goal.returns-in-Of-clause-read
 returns-in-Of-clause-read g c =
-    let read = text_read refusal _ _ _ _ c.in_ok-read.field-0 c.in-Of.read c.as_slice.result.now c.in-Of.is c.as_slice.ensures (c.in_ok-read.ensures.read refusal) in
-    session_read (g.S.Source.faults c.args.source.now) (g.S.Source.faults c.read_text.new.source) (g.S.Source.left c.args.source.now) (g.S.Source.left c.read_text.new.source) c.as_slice.result.now c.session_in.result read.0 read.1 (short_read c.in_ok-read.field-0 c.in-Of.read c.as_slice.result.now c.in-Of.is c.as_slice.ensures c.in_ok-read.ensures.few) c.session_in.ensures
+    let read = text_read refusal _ _ _ _ c.in_ok-read.field-0 c.in-Of.read c.as_slice.result.now c.in-Of.is
+    c.as_slice.ensures (c.in_ok-read.ensures.read refusal) in
+    session_read (g.S.Source.faults c.args.source.now) (g.S.Source.faults c.read_text.new.source)
+    (g.S.Source.left c.args.source.now) (g.S.Source.left c.read_text.new.source) c.as_slice.result.now
+    c.session_in.result read.0 read.1
+    (short_read c.in_ok-read.field-0 c.in-Of.read c.as_slice.result.now
+    c.in-Of.is c.as_slice.ensures c.in_ok-read.ensures.few) c.session_in.ensures
 
 pub returns-in-Of-clause-short : goal.returns-in-Of-clause-short
 returns-in-Of-clause-short g c =
-    let read = text_read refusal _ _ _ _ c.in_ok-read.field-0 c.in-Of.read c.as_slice.result.now c.in-Of.is c.as_slice.ensures (c.in_ok-read.ensures.read refusal) in
-    at_err (IsShort (g.S.Source.left c.args.source.now) (g.S.Source.left c.read_text.new.source)) c.session_in.result read.1
+    let read = text_read refusal _ _ _ _ c.in_ok-read.field-0 c.in-Of.read c.as_slice.result.now c.in-Of.is
+    c.as_slice.ensures (c.in_ok-read.ensures.read refusal) in
+    at_err (IsShort (g.S.Source.left c.args.source.now) (g.S.Source.left c.read_text.new.source))
+    c.session_in.result read.1
 
 pub returns-in-Ended-clause-read : goal.returns-in-Ended-clause-read
-returns-in-Ended-clause-read g c = none_read refusal _ _ _ _ c.in_ok-read.field-0 c.in-Ended.ending c.in-Ended.is (c.in_ok-read.ensures.read refusal)
+returns-in-Ended-clause-read g c =
+    none_read refusal _ _ _ _ c.in_ok-read.field-0 c.in-Ended.ending c.in-Ended.is (c.in_ok-read.ensures.read refusal)

@@ -7,6 +7,8 @@ run_session-requires g c = (
   search rules,
   (
     search rules,
-    read_within (g.S.Source.faults c.args.source.now) (g.S.Source.faults c.read_session.new.source) (g.S.Source.left c.args.source.now) (g.S.Source.left c.read_session.new.source) c.in_ok-session.field-0 c.in-Of.session c.in-Of.is c.in_ok-session.ensures.read,
+    read_within (g.S.Source.faults c.args.source.now) (g.S.Source.faults c.read_session.new.source)
+        (g.S.Source.left c.args.source.now) (g.S.Source.left c.read_session.new.source) c.in_ok-session.field-0
+        c.in-Of.session c.in-Of.is c.in_ok-session.ensures.read,
   ),
 )

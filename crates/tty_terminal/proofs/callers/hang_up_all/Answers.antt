@@ -5,4 +5,6 @@ use Rattle.tty_terminal.proofs.InPlace.{mapped_more}
 use Rattle.tty_terminal.proofs.callers.hang_up_all.Goals as goal
 
 pub loop-caller-preserved : goal.loop-caller-preserved
-loop-caller-preserved c = mapped_more caller_after_hangup c.args.callers.now c.loop-caller.callers c.loop-caller.caller-index idle_caller c.hang_up_under.result (omega arith) c.loop-caller.auto.callers c.loop-caller.invariant c.hang_up_under.ensures
+loop-caller-preserved c = mapped_more caller_after_hangup c.args.callers.now c.loop-caller.callers
+    c.loop-caller.caller-index idle_caller c.hang_up_under.result (omega arith) c.loop-caller.auto.callers
+    c.loop-caller.invariant c.hang_up_under.ensures

@@ -10,7 +10,8 @@ returns-then-runs_handler-clause-done g c =
 
 pub returns-then-runs_handler-clause-hands_over : goal.returns-then-runs_handler-clause-hands_over
 returns-then-runs_handler-clause-hands_over g c =
-    hands_over-served _ c.args.self.now _ c.args.step c.receive.ensures c.handle.new.self _ _ _ _ c.handle.ensures.serves
+    hands_over-served _ c.args.self.now _ c.args.step c.receive.ensures
+    c.handle.new.self _ _ _ _ c.handle.ensures.serves
     c.runs_handler.ensures.receiver (sym c.runs_handler.ensures.runs ∙ c.if-runs_handler.true)
 
 pub returns-else-runs_handler-clause-done : goal.returns-else-runs_handler-clause-done

@@ -11,5 +11,6 @@ returns-clause-offers g c = elim c.match-put.branch [
   | in-Err w ↦
       rw (w.self-inside-is, ← c.self.view_is)
       (Offers-refuse _ _ w.in-Err.full.sent w.in-Err.full.seen c.args.c _ _ _ _ _ _
-      w.in-Err.ensures.full.1 w.in-Err.ensures.full.0 w.in-Err.ensures.full.2 w.in-Err.ensures.full.3 (ap (λ b. b.items) w.add_overrun.ensures))
+      w.in-Err.ensures.full.1 w.in-Err.ensures.full.0 w.in-Err.ensures.full.2 w.in-Err.ensures.full.3
+      (ap (λ b. b.items) w.add_overrun.ensures))
 ]

@@ -5,7 +5,8 @@ use Rattle.tty_base.specs.declared.lines.LineStep.{LineStep}
 use Rattle.tty_base.specs.declared.lines.LineStep.TheVariants.{Rx}
 use Rattle.uart_line.specs.Received.{received_list}
 use Rattle.uart_line.proofs.OfferedLemmas.{HandsOver-trans}
-use Rattle.uart_line.proofs.Steps.{take-step, arrival_count-take, arrival_count-take-≤, closed_script-steps, waiting_list-closed_script, HandsOver-none, shown_again}
+use Rattle.uart_line.proofs.Steps.{take-step, arrival_count-take, arrival_count-take-≤, closed_script-steps}
+use Rattle.uart_line.proofs.Steps.{waiting_list-closed_script, HandsOver-none, shown_again}
 use Rattle.uart_line.proofs.Line.run.Goals as goal
 
 pub loop-step-init : goal.loop-step-init
@@ -43,9 +44,11 @@ loop-step-preserved g c =
     record {
       done = λ before d. rw (take-step before c.args.steps.now c.loop-step.step-index nothing c.loop-step-test.true)
           (c.advance.ensures.done (before ++ take c.loop-step.step-index c.args.steps.now) (i.done before d));
-      hands_over = λ before d. rw (take-step before c.args.steps.now c.loop-step.step-index nothing c.loop-step-test.true)
+      hands_over = λ before d.
+          rw (take-step before c.args.steps.now c.loop-step.step-index nothing c.loop-step-test.true)
           (HandsOver-trans _ _ _ _ _ _ _ _ _ _ _ _ _ (i.hands_over before d)
-          (rw i.capacity at (c.advance.ensures.hands_over (before ++ take c.loop-step.step-index c.args.steps.now) (i.done before d))));
+          (rw i.capacity at
+          (c.advance.ensures.hands_over (before ++ take c.loop-step.step-index c.args.steps.now) (i.done before d))));
       shown = shown_again g.P.Put.visible _ _ _ _ i.shown c.advance.ensures.shown;
       capacity = c.advance.ensures.capacity ∙ i.capacity;
       rise = λ h. c.advance.ensures.rise (i.rise h);

@@ -9,9 +9,12 @@ use Rattle.uart_line.proofs.Line.run.Given as goal
 
 abbrev pub invariant-loop-step : goal.invariant-loop-step
 invariant-loop-step g l = record {
-  done : (before : List LineStep) → HasDone l.initial.self before → HasDone l.self (before ++ take l.step-index l.steps);
+  done : (before : List LineStep)
+      → HasDone l.initial.self before
+      → HasDone l.self (before ++ take l.step-index l.steps);
   hands_over : (before : List LineStep) → HasDone l.initial.self before
-      → HandsOver (g.P.Put.capacity l.initial.put) (received_list before) (received_list (before ++ take l.step-index l.steps))
+      → HandsOver (g.P.Put.capacity l.initial.put) (received_list before)
+      (received_list (before ++ take l.step-index l.steps))
       (g.P.Put.sent l.initial.put) (g.P.Put.sent l.put) (g.P.Put.heads l.initial.put) (g.P.Put.heads l.put)
       l.initial.self.report.overruns.items l.self.report.overruns.items;
   shown : (l.put ≡ l.initial.put) ⊎ g.P.Put.visible l.put;

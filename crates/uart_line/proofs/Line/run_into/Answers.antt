@@ -10,11 +10,13 @@ returns-clause-adds c = λ before d.
     let r = c.run.ensures in
     let steps : List LineStep = before ++ closed_script c.args.steps.now in
     (HandsOver-adds _ _ _ _ _ _ _ _ _ (r.hands_over before d)
-    (omega (arith, c.requires.spare, c.requires.room, r.arrived, d.handed, (r.done before d).arrived, received_few steps))).0
+    (omega
+    (arith, c.requires.spare, c.requires.room, r.arrived, d.handed, (r.done before d).arrived, received_few steps))).0
 
 pub returns-clause-overruns : goal.returns-clause-overruns
 returns-clause-overruns c = λ before d.
     let r = c.run.ensures in
     let steps : List LineStep = before ++ closed_script c.args.steps.now in
     (HandsOver-adds _ _ _ _ _ _ _ _ _ (r.hands_over before d)
-    (omega (arith, c.requires.spare, c.requires.room, r.arrived, d.handed, (r.done before d).arrived, received_few steps))).1
+    (omega
+    (arith, c.requires.spare, c.requires.room, r.arrived, d.handed, (r.done before d).arrived, received_few steps))).1

@@ -5,7 +5,8 @@ use Rattle.uart_regs.proofs.Uart.read_offset_0.Goals as goal
 pub invariant_of-self-2 : goal.invariant_of-self-2
 invariant_of-self-2 c =
     let i = c.self.invariant in
-    let fifo : IsFifo c.take_front.new.self = rest_of c.self.inside.fifo c.take_front.new.self c.take_front.result c.take_front.ensures i.depth i.no_mark in
+    let fifo : IsFifo c.take_front.new.self =
+    rest_of c.self.inside.fifo c.take_front.new.self c.take_front.result c.take_front.ensures i.depth i.no_mark in
     record {
       depth = fifo.depth;
       no_mark = fifo.no_mark;

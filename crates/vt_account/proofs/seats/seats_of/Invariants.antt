@@ -7,4 +7,6 @@ use Rattle.vt_account.proofs.seats.seats_of.Given as goal
 
 abbrev pub invariant-loop-phase : goal.invariant-loop-phase
 invariant-loop-phase l =
-    names_behind l.names (flat_map (λ (phase : PlainVtPhase). phase.operators) (map vt_phase_of (drop l.phase-index l.phases))) ≡ operator_names (map vt_phase_of l.phases)
+    names_behind l.names
+    (flat_map (λ (phase : PlainVtPhase). phase.operators) (map vt_phase_of (drop l.phase-index l.phases)))
+    ≡ operator_names (map vt_phase_of l.phases)

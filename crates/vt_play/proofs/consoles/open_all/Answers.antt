@@ -9,8 +9,12 @@ loop-number-preserved c =
     let vt = vt_session_of c.args.session.now in
     let invariant = c.loop-number.invariant in
     let console = c.in_ok-open_first.field-0 in
-    let now : IsConsoleBefore vt (length c.loop-number.all.items) 0 [] console = subst (λ (n : ℕ). IsConsoleBefore vt n 0 [] console) (sym invariant.count) c.in_ok-open_first.ensures in
+    let now : IsConsoleBefore vt (length c.loop-number.all.items) 0 [] console =
+    subst (λ (n : ℕ). IsConsoleBefore vt n 0 [] console) (sym invariant.count) c.in_ok-open_first.ensures in
     record {
-      before = each_one_more (λ p. IsConsoleBefore vt p 0 []) c.push.new.self.items c.loop-number.all.items console c.in_ok-push.ensures.items invariant.before now;
-      count = ap length c.in_ok-push.ensures.items ∙ (length-append c.loop-number.all.items (console ∷ []) ∙ ap (λ n. n + 1) invariant.count);
+      before = each_one_more (λ p. IsConsoleBefore vt p 0 []) c.push.new.self.items c.loop-number.all.items
+          console c.in_ok-push.ensures.items invariant.before now;
+      count =
+          ap length c.in_ok-push.ensures.items
+          ∙ (length-append c.loop-number.all.items (console ∷ []) ∙ ap (λ n. n + 1) invariant.count);
     }

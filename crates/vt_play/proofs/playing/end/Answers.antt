@@ -9,4 +9,5 @@ end_all-played-requires c = can_end_over c.requires.0 c.args.in_play c.requires.
 pub returns : goal.returns
 returns c session over =
     vt_played session c.args.in_play c.in_ok-board.board c.in_ok-board.consoles over c.in_ok-board.ensures.kept
-    (λ x count stand. at_ok c.end_all-played.result c.in_ok-board.consoles (λ p. ArePlayed x p.runs.items p.ends.items) c.in_ok-board.ensures.made (c.end_all-played.ensures x count stand))
+    (λ x count stand. at_ok c.end_all-played.result c.in_ok-board.consoles (λ p. ArePlayed x p.runs.items p.ends.items)
+    c.in_ok-board.ensures.made (c.end_all-played.ensures x count stand))

@@ -14,9 +14,13 @@ returns c =
     let kept = c.in_ok-consoles-2.consoles in
     let is = c.in_ok-consoles-2.ensures.kept in
     let board = c.in_ok-consoles-2.board in
-    let new = at_ok c.new-board.result board (λ b. b ≡ record { consoles = vt.calls.ports; limit = 4194304; entries = [] }) c.in_ok-consoles-2.ensures.made c.new-board.ensures in
+    let new = at_ok c.new-board.result board
+    (λ b. b ≡ record { consoles = vt.calls.ports; limit = 4194304; entries = [] })
+    c.in_ok-consoles-2.ensures.made c.new-board.ensures in
     record {
       board = board_first vt board c.requires new;
       count = ap (λ (v : Vec Console Global). length v.items) is ∙ c.in_ok-consoles.ensures.count;
-      consoles = subst (λ b. AreConsolesBefore vt 0 b.entries kept.items) (sym new) (subst (λ (v : Vec Console Global). AreConsolesBefore vt 0 [] v.items) (sym is) c.in_ok-consoles.ensures.before);
+      consoles = subst (λ b. AreConsolesBefore vt 0 b.entries kept.items) (sym new)
+          (subst (λ (v : Vec Console Global). AreConsolesBefore vt 0 [] v.items) (sym is)
+          c.in_ok-consoles.ensures.before);
     }

@@ -11,4 +11,6 @@ returns c =
     let text = string_bytes c.loop-r.text in
     let past : length rows ≤ r = omega (arith, c.row-highest.ensures.rows, c.loop-r-test.false) in
     let none : drop r rows ≡ [] = drop_all r rows past in
-    sym (append-nil text) ∙ ap (λ (l : List (List ℕ)). text ++ row_lines c.args.console r l) (sym none) ∙ c.loop-r.invariant
+    sym (append-nil text)
+    ∙ ap (λ (l : List (List ℕ)). text ++ row_lines c.args.console r l) (sym none)
+    ∙ c.loop-r.invariant

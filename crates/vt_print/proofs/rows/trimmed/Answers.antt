@@ -8,7 +8,10 @@ pub loop-count-preserved : goal.loop-count-preserved
 loop-count-preserved c =
     let inv = c.loop-count.invariant in
     let some : 0 < c.loop-count.count = omega (arith, c.loop-count-test.true) in
-    record { within = omega (arith, inv.within); same = inv.same ∙ shorter c.args.row.now c.loop-count.count some inv.within c.if-row-count-eq-BLANK.true }
+    record {
+      within = omega (arith, inv.within);
+      same = inv.same ∙ shorter c.args.row.now c.loop-count.count some inv.within c.if-row-count-eq-BLANK.true;
+    }
 
 pub returns : goal.returns
 returns c =
@@ -17,7 +20,8 @@ returns c =
     let inv = c.loop-count.invariant in
     elim c.loop-count-test.branch [
       | then-loop-count-test+else-row-count-eq-BLANK w ↦
-          let some : 0 < n = omega (arith, w.loop-count-test.true) in sym (inv.same ∙ stays row n some inv.within w.if-row-count-eq-BLANK.false)
+          let some : 0 < n = omega (arith, w.loop-count-test.true) in
+          sym (inv.same ∙ stays row n some inv.within w.if-row-count-eq-BLANK.false)
       | else-loop-count-test w ↦
           let none : n ≡ 0 = omega (arith, w.loop-count-test.false) in
           ap (λ (k : ℕ). take k row) none ∙ sym (inv.same ∙ ap (λ (k : ℕ). trimmed (take k row)) none)

@@ -11,6 +11,8 @@ loop-place-preserved c =
     let entry = entry_of c.at-entry.result in
     let at = c.at-entry.ensures in
     record {
-      flushes = sum_more flushed_in es i entry c.in_ok-flushed.flushed c.loop-place.flushed at (search rules) c.loop-place.invariant.flushes;
-      drops = sum_more dropped_in es i entry c.in_ok-dropped.dropped c.loop-place.dropped at (search rules) c.loop-place.invariant.drops;
+      flushes = sum_more flushed_in es i entry c.in_ok-flushed.flushed c.loop-place.flushed at (search rules)
+          c.loop-place.invariant.flushes;
+      drops = sum_more dropped_in es i entry c.in_ok-dropped.dropped c.loop-place.dropped at (search rules)
+          c.loop-place.invariant.drops;
     }

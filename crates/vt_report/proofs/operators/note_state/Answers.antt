@@ -7,4 +7,6 @@ pub returns-in_ok-push : goal.returns-in_ok-push
 returns-in_ok-push c =
     let states = c.args.states.now in
     let e = c.args.entry.now in
-    told_more_is states e c.in-State.n (get_or states e.seat c.index-states-seat.result) c.push.new.self c.if-seat-states.true (ap (get_or states e.seat) c.index-states-seat.is) c.in_ok-push.ensures.items (ap state_in c.in-State.is)
+    told_more_is states e c.in-State.n (get_or states e.seat c.index-states-seat.result) c.push.new.self
+    c.if-seat-states.true (ap (get_or states e.seat) c.index-states-seat.is) c.in_ok-push.ensures.items
+    (ap state_in c.in-State.is)

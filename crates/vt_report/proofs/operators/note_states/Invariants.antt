@@ -4,4 +4,5 @@ use Rattle.vt_report.proofs.operators.note_states.Given as goal
 
 abbrev pub invariant-loop-entry : goal.invariant-loop-entry
 invariant-loop-entry l =
-    states_after (map (λ told. told.items) l.states) (drop l.entry-index l.entries) ≡ states_after (map (λ told. told.items) l.initial.states) l.entries
+    states_after (map (λ told. told.items) l.states) (drop l.entry-index l.entries)
+    ≡ states_after (map (λ told. told.items) l.initial.states) l.entries

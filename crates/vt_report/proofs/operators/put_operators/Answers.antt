@@ -9,7 +9,8 @@ use Rattle.vt_report.proofs.operators.put_operators.Goals as goal
 
 pub put_phases-requires : goal.put_phases-requires
 put_phases-requires c =
-    sym (length-map c.in_ok-states.states.items (λ told. told.items)) ∙ (c.in_ok-states.ensures.count_is ∙ c.len.ensures)
+    sym (length-map c.in_ok-states.states.items (λ told. told.items))
+    ∙ (c.in_ok-states.ensures.count_is ∙ c.len.ensures)
 
 pub returns : goal.returns
 returns c =
@@ -19,6 +20,10 @@ returns c =
     let text = string_bytes c.args.text.now in
     let phases = c.as_slice-phases.result.now in
     on_ok_weaker c.put_phases.result
-    (λ (d : string_bytes c.put_phases.new.text ≡ text ++ blocks_text names session.calls.ports states (replicate (length names) first_cursor) (blocks_in phases)).
-    d ∙ ap (λ l. text ++ l) (operators_told session names c.args.entries.now states (blocks_in phases) c.len.result (c.in_ok-names.ensures ∙ ap (λ xs. operator_names (map vt_phase_of xs)) c.as_slice-phases.ensures) (ap blocks_in c.as_slice-phases.ensures) c.len.ensures c.in_ok-states.ensures))
+    (λ (d : string_bytes c.put_phases.new.text
+    ≡ text ++ blocks_text names session.calls.ports states (replicate (length names) first_cursor) (blocks_in phases)).
+    d
+    ∙ ap (λ l. text ++ l) (operators_told session names c.args.entries.now states (blocks_in phases) c.len.result
+    (c.in_ok-names.ensures ∙ ap (λ xs. operator_names (map vt_phase_of xs)) c.as_slice-phases.ensures)
+    (ap blocks_in c.as_slice-phases.ensures) c.len.ensures c.in_ok-states.ensures))
     c.put_phases.ensures

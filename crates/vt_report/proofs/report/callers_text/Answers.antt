@@ -6,5 +6,9 @@ use Rattle.vt_report.proofs.report.callers_text.Goals as goal
 pub returns : goal.returns
 returns c =
     let text = c.into_vec-text.result.items in
-    let count : c.saturating_sub-calls.result ≡ length text - 5 = omega (arith, c.saturating_sub-calls.ensures, c.len.ensures) in
-    c.truncate.ensures.items ∙ ap (λ n. take n text) count ∙ callers_front (session_of c.args.session.now) c.args.runs.now text (c.into_vec-text.ensures ∙ c.in_ok-report.ensures)
+    let count : c.saturating_sub-calls.result ≡ length text - 5 =
+    omega (arith, c.saturating_sub-calls.ensures, c.len.ensures) in
+    c.truncate.ensures.items
+    ∙ ap (λ n. take n text) count
+    ∙ callers_front (session_of c.args.session.now) c.args.runs.now text
+    (c.into_vec-text.ensures ∙ c.in_ok-report.ensures)

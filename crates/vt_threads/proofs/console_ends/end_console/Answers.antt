@@ -35,8 +35,11 @@ returns g c =
           let runs = runs_of steps line played first end does in
           record {
             here = c.line_end-seats.ensures.seat;
-            ok = on_ok c.line_end-seats.result _ _ (λ one. line_plays n steps line played first end now old.line new c.requires.line.here.number runs one) c.line_end-seats.ensures.ok;
-            err = runs_still c.line_end-seats.result steps line played first end now runs c.line_end-seats.ensures.putter;
+            ok = on_ok c.line_end-seats.result _ _
+                (λ one. line_plays n steps line played first end now old.line new c.requires.line.here.number runs one)
+                c.line_end-seats.ensures.ok;
+            err =
+                runs_still c.line_end-seats.result steps line played first end now runs c.line_end-seats.ensures.putter;
             full = c.line_end-seats.ensures.full;
           };
       clock = record {

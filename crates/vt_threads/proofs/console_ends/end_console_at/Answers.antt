@@ -12,4 +12,5 @@ end_shared-requires g c =
     let s = c.index-seats-p.result in
     let e = c.index-ends-p.result in
     subst (λ (x : Option KeySeats). CanEndIf port x (slice_index_or c.args.ends.now c.args.p e)) c.index-seats-p.is
-    (subst (λ (x : PutterState Flagged). CanEndIf port s x) c.index-ends-p.is (c.requires.can port s e c.index-ports-p.is c.index-seats-p.is c.index-ends-p.is))
+    (subst (λ (x : PutterState Flagged). CanEndIf port s x) c.index-ends-p.is
+    (c.requires.can port s e c.index-ports-p.is c.index-seats-p.is c.index-ends-p.is))

@@ -20,11 +20,19 @@ returns-clause-comes c s old work can leaves =
     let putter = c.end_phase-end.new.putter in
     let next = c.in-Over.next in
     let ended : Station = record { port = port; putter = putter; line = left.line; steps = left.steps } in
-    beside_ok c.beside.result ended c.end_phase-end.result (PhaseComes s work.phase old) (EndsOrStops left.port port left.putter putter next) c.beside.ensures.kept c.beside.ensures.made c.end_phase-end.ensures
-    (λ end. phase_comes s old left port putter work next end can (subst (ThreadsLeave s work.phase old left) c.in-Over.is leaves))
+    beside_ok c.beside.result ended c.end_phase-end.result (PhaseComes s work.phase old)
+    (EndsOrStops left.port port left.putter putter next) c.beside.ensures.kept
+    c.beside.ensures.made c.end_phase-end.ensures
+    (λ end. phase_comes s old left port putter work next end can
+    (subst (ThreadsLeave s work.phase old left) c.in-Over.is leaves))
 
 pub returns-clause-steps : goal.returns-clause-steps
 returns-clause-steps c =
     let left = c.args.left in
-    let ended : Station = record { port = c.end_phase-end.new.port; putter = c.end_phase-end.new.putter; line = left.line; steps = left.steps } in
+    let ended : Station = record {
+      port = c.end_phase-end.new.port;
+      putter = c.end_phase-end.new.putter;
+      line = left.line;
+      steps = left.steps;
+    } in
     kept_ok c.beside.result ended (λ (station : Station). station.steps ≡ left.steps) c.beside.ensures.kept refl

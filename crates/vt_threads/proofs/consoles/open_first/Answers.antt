@@ -16,10 +16,14 @@ returns c =
     let within = c.requires.within in
     let station = c.in_ok-station.station in
     let before : (more : List VtEntry) → IsBeforePhase (record { port = p; session = keyed vt more }) 0 station 0 =
-    λ more. c.in_ok-station.ensures (keyed vt more) (keyed_differs vt more within.whole) (subst (λ (n : ℕ). character_count p (keyed vt more).phases ≤ n) (sym c.requires.keys) (few_come vt more p within)) in
+    λ more. c.in_ok-station.ensures (keyed vt more) (keyed_differs vt more within.whole)
+    (subst (λ (n : ℕ). character_count p (keyed vt more).phases ≤ n) (sym c.requires.keys) (few_come vt more p within))
+    in
     record {
       names = c.in_ok-names.ensures;
       callers = c.caller_count-callers.ensures ∙ ap sum (c.as_slice.ensures.value ∙ c.in_ok-counts.ensures);
-      steps = same_first_steps vt.calls (keyed vt []) (differs_back (keyed vt []) vt.calls (keyed_differs vt [] within.whole)) p 0 station.steps.items (before []).steps;
+      steps = same_first_steps vt.calls (keyed vt [])
+          (differs_back (keyed vt []) vt.calls (keyed_differs vt [] within.whole))
+          p 0 station.steps.items (before []).steps;
       stands = λ more. before more;
     }

@@ -8,5 +8,6 @@ invariant-loop-place g l = record {
   within : l.place ≤ length l.keys;
   seat : IsHere l.board l.number l.seat;
   can : CanTakeAll (name_of_board l.board).consoles (length l.keys - l.place) l.keyed.lines.items l.keyed.ends.items;
-  so_far : PressesKeys l.number l.first (take l.place l.keys) l.initial.seat l.seat l.initial.keyed.lines.items l.keyed.lines.items l.initial.keyed.ends.items l.keyed.ends.items;
+  so_far : PressesKeys l.number l.first (take l.place l.keys) l.initial.seat l.seat l.initial.keyed.lines.items
+      l.keyed.lines.items l.initial.keyed.ends.items l.keyed.ends.items;
 }

@@ -3,4 +3,5 @@ use Rattle.journal_check.specs.Legal.{script_of_first}
 use Rattle.vt_threads.proofs.keyed_laws.lines_rest_between_phases.Goals as goal
 
 pub returns : goal.returns
-returns c x p k v putter line put within = can_begin v putter line (script_of_first p x k) (rests_between p x k) put within
+returns c x p k v putter line put within =
+    can_begin v putter line (script_of_first p x k) (rests_between p x k) put within

@@ -7,7 +7,8 @@ pub returns-clause-operator : goal.returns-clause-operator
 returns-clause-operator c b names phase n old new was is seen h = operator_played b names phase n old new was is seen h
 
 pub returns-clause-any : goal.returns-clause-any
-returns-clause-any c b n events old new was is seen h = made_since (history_of (opening_board b)) n events old new was is seen h
+returns-clause-any c b n events old new was is seen h =
+    made_since (history_of (opening_board b)) n events old new was is seen h
 
 pub returns-clause-none : goal.returns-clause-none
 returns-clause-none c consoles n s = none_to_answer consoles n s

@@ -4,4 +4,5 @@ use Rattle.vt_threads.proofs.laws.keys_come_in_their_phase.Goals as goal
 
 pub returns : goal.returns
 returns c session p k phase entries part more went whole lt at goes each before =
-    keyed_line session p k phase entries part more went (record { lines = []; ticks = []; callers = [] }) whole lt at goes each before
+    keyed_line session p k phase entries part more went (record { lines = []; ticks = []; callers = [] })
+    whole lt at goes each before

@@ -15,5 +15,6 @@ returns-clause-all c session first b board same h =
     let over : length session.phases ≤ length session.phases = omega arith in
     record {
       run = subst (λ (n : ℕ). IsBoardRun n b.entries) same board.run;
-      parts = parts_all session (length session.phases) first b.entries (drop_all (length session.phases) session.phases over) h;
+      parts = parts_all session (length session.phases) first b.entries
+          (drop_all (length session.phases) session.phases over) h;
     }

@@ -11,4 +11,5 @@ begin_keys-requires c =
     let l = c.index-lines-p.result in
     let e = c.index-ends-p.result in
     subst (λ (x : LineState). CanBegin x (slice_index_or c.args.ends.now c.args.p e)) c.index-lines-p.is
-    (subst (λ (x : PutterState Flagged). CanBegin l x) c.index-ends-p.is (c.requires.can l e c.index-lines-p.is c.index-ends-p.is))
+    (subst (λ (x : PutterState Flagged). CanBegin l x) c.index-ends-p.is
+    (c.requires.can l e c.index-lines-p.is c.index-ends-p.is))

@@ -9,7 +9,8 @@ loop-p-init c = record { within = omega arith; so_far = changes_none BeginsKeys 
 pub begin_at-requires-clause-can : goal.begin_at-requires-clause-can
 begin_at-requires-clause-can c =
     let lt : c.loop-p.p < length c.args.lines.now = omega arith in
-    holds_next BeginsKeys CanBegin c.loop-p.p c.args.lines.now c.loop-p.lines c.args.ends.now c.loop-p.ends lt c.requires.each c.requires.can c.loop-p.invariant.so_far
+    holds_next BeginsKeys CanBegin c.loop-p.p c.args.lines.now c.loop-p.lines c.args.ends.now c.loop-p.ends
+    lt c.requires.each c.requires.can c.loop-p.invariant.so_far
 
 pub begin_at-requires-clause-line : goal.begin_at-requires-clause-line
 begin_at-requires-clause-line c = omega (arith, c.loop-p.invariant.so_far.lines_of)
@@ -22,10 +23,12 @@ loop-p-preserved c =
     let lt : c.loop-p.p < length c.args.lines.now = omega arith in
     record {
       within = omega (arith, lt);
-      so_far = changes_more BeginsKeys c.loop-p.p c.args.lines.now c.loop-p.lines c.begin_at.new.lines c.args.ends.now c.loop-p.ends c.begin_at.new.ends lt c.requires.each c.loop-p.invariant.so_far c.begin_at.ensures;
+      so_far = changes_more BeginsKeys c.loop-p.p c.args.lines.now c.loop-p.lines c.begin_at.new.lines c.args.ends.now
+          c.loop-p.ends c.begin_at.new.ends lt c.requires.each c.loop-p.invariant.so_far c.begin_at.ensures;
     }
 
 pub returns : goal.returns
 returns c =
     let over : length c.args.lines.now ≤ c.loop-p.p = omega arith in
-    changes_all BeginsKeys c.loop-p.p c.args.lines.now c.loop-p.lines c.args.ends.now c.loop-p.ends over c.loop-p.invariant.so_far
+    changes_all BeginsKeys c.loop-p.p c.args.lines.now c.loop-p.lines
+    c.args.ends.now c.loop-p.ends over c.loop-p.invariant.so_far

@@ -9,7 +9,8 @@ loop-p-init c = record { within = omega arith; so_far = changes_none EndsKeys c.
 pub end_at-requires-clause-can : goal.end_at-requires-clause-can
 end_at-requires-clause-can c =
     let lt : c.loop-p.p < length c.args.lines.now = omega arith in
-    holds_next EndsKeys (CanTakeKeys 0) c.loop-p.p c.args.lines.now c.loop-p.lines c.args.ends.now c.loop-p.ends lt c.requires.each c.requires.can c.loop-p.invariant.so_far
+    holds_next EndsKeys (CanTakeKeys 0) c.loop-p.p c.args.lines.now c.loop-p.lines c.args.ends.now c.loop-p.ends
+    lt c.requires.each c.requires.can c.loop-p.invariant.so_far
 
 pub end_at-requires-clause-line : goal.end_at-requires-clause-line
 end_at-requires-clause-line c = omega (arith, c.loop-p.invariant.so_far.lines_of)
@@ -22,10 +23,12 @@ loop-p-preserved c =
     let lt : c.loop-p.p < length c.args.lines.now = omega arith in
     record {
       within = omega (arith, lt);
-      so_far = changes_more EndsKeys c.loop-p.p c.args.lines.now c.loop-p.lines c.end_at.new.lines c.args.ends.now c.loop-p.ends c.end_at.new.ends lt c.requires.each c.loop-p.invariant.so_far c.end_at.ensures;
+      so_far = changes_more EndsKeys c.loop-p.p c.args.lines.now c.loop-p.lines c.end_at.new.lines c.args.ends.now
+          c.loop-p.ends c.end_at.new.ends lt c.requires.each c.loop-p.invariant.so_far c.end_at.ensures;
     }
 
 pub returns : goal.returns
 returns c =
     let over : length c.args.lines.now ≤ c.loop-p.p = omega arith in
-    changes_all EndsKeys c.loop-p.p c.args.lines.now c.loop-p.lines c.args.ends.now c.loop-p.ends over c.loop-p.invariant.so_far
+    changes_all EndsKeys c.loop-p.p c.args.lines.now c.loop-p.lines
+    c.args.ends.now c.loop-p.ends over c.loop-p.invariant.so_far

@@ -18,8 +18,11 @@ returns-in-None c =
     record {
       done = c.step.ensures.done;
       overruns = λ before d ready.
-          subst (λ (lost : Option Full). new.report.overruns.items ≡ line.report.overruns.items ++ overruns_of (length (received_list before)) lost) (sym c.in-None.is)
-          (accepted_notes 1 (key_character byte) _ _ _ _ _ _ _ some (c.step.ensures.hands_over before d) (received_key before byte ready));
+          subst (λ (lost : Option Full).
+          new.report.overruns.items ≡ line.report.overruns.items ++ overruns_of (length (received_list before)) lost)
+          (sym c.in-None.is)
+          (accepted_notes 1 (key_character byte) _ _ _ _ _ _ _ some (c.step.ensures.hands_over before d)
+          (received_key before byte ready));
       most = c.step.ensures.room;
       arrived = c.step.ensures.arrived;
     }
@@ -30,13 +33,18 @@ returns-in-Some c =
     let new = c.step-in-Some.new.self in
     let byte = c.args.byte in
     let f : Full = c.in-Some.full in
-    let within : f.seen ≤ f.sent = subst (λ (lost : Option Full). MatchOption lost (Unit {0}) (λ g. g.seen ≤ g.sent)) c.in-Some.is c.requires.full in
-    let stays : c.step-in-Some.new.put.full.sent ≡ f.sent = ap (λ (l : List ℕ). slice_index_or l 0 0) c.step-in-Some.ensures.name in
+    let within : f.seen ≤ f.sent =
+    subst (λ (lost : Option Full). MatchOption lost (Unit {0}) (λ g. g.seen ≤ g.sent)) c.in-Some.is c.requires.full in
+    let stays : c.step-in-Some.new.put.full.sent ≡ f.sent =
+    ap (λ (l : List ℕ). slice_index_or l 0 0) c.step-in-Some.ensures.name in
     record {
       done = c.step-in-Some.ensures.done;
       overruns = λ before d ready.
-          subst (λ (lost : Option Full). new.report.overruns.items ≡ line.report.overruns.items ++ overruns_of (length (received_list before)) lost) (sym c.in-Some.is)
-          (refused_notes f (key_character byte) _ _ _ _ _ _ _ _ within (length-replicate f.sent overrun_mark) (length-replicate c.step-in-Some.new.put.full.sent overrun_mark ∙ stays)
+          subst (λ (lost : Option Full).
+          new.report.overruns.items ≡ line.report.overruns.items ++ overruns_of (length (received_list before)) lost)
+          (sym c.in-Some.is)
+          (refused_notes f (key_character byte) _ _ _ _ _ _ _ _ within (length-replicate f.sent overrun_mark)
+          (length-replicate c.step-in-Some.new.put.full.sent overrun_mark ∙ stays)
           (c.step-in-Some.ensures.hands_over before d) (received_key before byte ready));
       most = c.step-in-Some.ensures.room;
       arrived = c.step-in-Some.ensures.arrived;

@@ -8,5 +8,6 @@ use Rattle.vt_threads.proofs.operators.activate.Goals as goal
 pub returns-in-Ok-clause-ok : goal.returns-in-Ok-clause-ok
 returns-in-Ok-clause-ok g c =
     let name = name_of_board c.args.board.now in
-    let makes : Makes name c.args.number (Activate c.args.n) c.args.seat.now c.activate.new.seat = first_of (search rules, cc) in
+    let makes : Makes name c.args.number (Activate c.args.n) c.args.seat.now c.activate.new.seat =
+    first_of (search rules, cc) in
     activated name c.args.number c.args.n c.args.seat.now c.activate.new.seat makes

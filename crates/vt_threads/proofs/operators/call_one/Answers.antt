@@ -9,5 +9,6 @@ pub returns-in_ok-_active-in-State-clause-ok : goal.returns-in_ok-_active-in-Sta
 returns-in_ok-_active-in-State-clause-ok g c =
     let name = name_of_board c.args.board.now in
     let n = c.args.number in
-    subst (λ (call : OpCall). AnswersCalls name.consoles n (call ∷ []) c.args.seat.now c.state.new.seat) (sym c.in-State.is)
+    subst (λ (call : OpCall). AnswersCalls name.consoles n (call ∷ []) c.args.seat.now c.state.new.seat)
+    (sym c.in-State.is)
     (told name n c.in_ok-_active-in-State._active c.args.seat.now c.state.new.seat c.in_ok-_active-in-State.ensures.ok)

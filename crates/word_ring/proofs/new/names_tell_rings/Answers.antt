@@ -12,7 +12,15 @@ same_ring x y e =
     let block : x.block ≡ y.block = cc in
     let offset : x.offset ≡ y.offset = cc in
     let slot_names : x.slot_names ≡ y.slot_names = cc in
-    λ i. record { words = words i; slots = slots i; views_name = views_name i; atom = atom i; block = block i; offset = offset i; slot_names = slot_names i }
+    λ i. record {
+      words = words i;
+      slots = slots i;
+      views_name = views_name i;
+      atom = atom i;
+      block = block i;
+      offset = offset i;
+      slot_names = slot_names i;
+    }
 
 pub returns : goal.returns
 returns c = same_ring

@@ -8,7 +8,8 @@ returns-then-at-capacity c =
     let group = (c.args.next - 1) / 4 in
     let some = c.requires.1 in
     let on : group + 1 ≡ c.args.next / 4 = omega (arith, c.requires.2) in
-    let inner : place c.args.capacity group < c.args.capacity / 4 + 3 = subst (λ (k : ℕ). k < c.args.capacity / 4 + 3) c.requires.3 (omega (arith, c.if-at-capacity.true)) in
+    let inner : place c.args.capacity group < c.args.capacity / 4 + 3 =
+    subst (λ (k : ℕ). k < c.args.capacity / 4 + 3) c.requires.3 (omega (arith, c.if-at-capacity.true)) in
     ap (λ (k : ℕ). k + 1) c.requires.3 ∙ (sym (place_next c.args.capacity group inner) ∙ ap (place c.args.capacity) on)
 
 pub returns-else-at-capacity : goal.returns-else-at-capacity
@@ -16,5 +17,6 @@ returns-else-at-capacity c =
     let group = (c.args.next - 1) / 4 in
     let some = c.requires.1 in
     let on : group + 1 ≡ c.args.next / 4 = omega (arith, c.requires.2) in
-    let last : c.args.capacity / 4 + 3 ≤ place c.args.capacity group = subst (λ (k : ℕ). c.args.capacity / 4 + 3 ≤ k) c.requires.3 (omega (arith, c.if-at-capacity.false)) in
+    let last : c.args.capacity / 4 + 3 ≤ place c.args.capacity group =
+    subst (λ (k : ℕ). c.args.capacity / 4 + 3 ≤ k) c.requires.3 (omega (arith, c.if-at-capacity.false)) in
     sym (place_round c.args.capacity group last) ∙ ap (place c.args.capacity) on

@@ -8,7 +8,8 @@ use Rattle.word_ring.proofs.steps.store_lanes.Goals as goal
 pub store-requires : goal.store-requires
 store-requires c =
     let v = c.args.seat.now.me.0 in
-    let all : top_lanes c.args.word c.args.count ≡ lanes c.args.word 4 = ap (top_lanes c.args.word) c.in-4.is ∙ top_all c.args.word in (
+    let all : top_lanes c.args.word c.args.count ≡ lanes c.args.word 4 =
+    ap (top_lanes c.args.word) c.in-4.is ∙ top_all c.args.word in (
       search rules,
       search rules,
       stores_lanes _ _ _ _ _ c.args.word 4 c.requires.seat.1 c.requires.at c.requires.words.0 (omega arith)

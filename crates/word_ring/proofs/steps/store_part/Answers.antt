@@ -8,9 +8,12 @@ pub store-requires : goal.store-requires
 store-requires c = let v = c.args.seat.now.me.0 in (
   search rules,
   search rules,
-  stores_lanes _ _ _ _ _ (c.args.word / 281474976710656) 1 c.requires.seat.1 c.requires.at c.requires.words.0 (omega arith)
-      (subst (λ (k : ℕ). IsPrefix v.written (whole_words v.written ++ top_lanes c.args.word k)) c.in-1.is c.requires.begins)
-      (subst (λ (k : ℕ). length (whole_words v.written ++ top_lanes c.args.word k) ≤ v.head + v.puts_within) c.in-1.is c.requires.fits),
+  stores_lanes _ _ _ _ _ (c.args.word / 281474976710656) 1 c.requires.seat.1 c.requires.at c.requires.words.0
+      (omega arith)
+      (subst (λ (k : ℕ). IsPrefix v.written (whole_words v.written ++ top_lanes c.args.word k))
+      c.in-1.is c.requires.begins)
+      (subst (λ (k : ℕ). length (whole_words v.written ++ top_lanes c.args.word k) ≤ v.head + v.puts_within)
+      c.in-1.is c.requires.fits),
 )
 
 pub store-requires-in-2 : goal.store-requires-in-2
@@ -18,8 +21,10 @@ store-requires-in-2 c = let v = c.args.seat.now.me.0 in (
   search rules,
   search rules,
   stores_lanes _ _ _ _ _ (c.args.word / 4294967296) 2 c.requires.seat.1 c.requires.at c.requires.words.0 (omega arith)
-      (subst (λ (k : ℕ). IsPrefix v.written (whole_words v.written ++ top_lanes c.args.word k)) c.in-2.is c.requires.begins)
-      (subst (λ (k : ℕ). length (whole_words v.written ++ top_lanes c.args.word k) ≤ v.head + v.puts_within) c.in-2.is c.requires.fits),
+      (subst (λ (k : ℕ). IsPrefix v.written (whole_words v.written ++ top_lanes c.args.word k))
+      c.in-2.is c.requires.begins)
+      (subst (λ (k : ℕ). length (whole_words v.written ++ top_lanes c.args.word k) ≤ v.head + v.puts_within)
+      c.in-2.is c.requires.fits),
 )
 
 pub store-requires-in_default : goal.store-requires-in_default
@@ -29,6 +34,8 @@ store-requires-in_default c =
       search rules,
       search rules,
       stores_lanes _ _ _ _ _ (c.args.word / 65536) 3 c.requires.seat.1 c.requires.at c.requires.words.0 (omega arith)
-          (subst (λ (k : ℕ). IsPrefix v.written (whole_words v.written ++ top_lanes c.args.word k)) is c.requires.begins)
-          (subst (λ (k : ℕ). length (whole_words v.written ++ top_lanes c.args.word k) ≤ v.head + v.puts_within) is c.requires.fits),
+          (subst (λ (k : ℕ). IsPrefix v.written (whole_words v.written ++ top_lanes c.args.word k))
+          is c.requires.begins)
+          (subst (λ (k : ℕ). length (whole_words v.written ++ top_lanes c.args.word k) ≤ v.head + v.puts_within)
+          is c.requires.fits),
     )

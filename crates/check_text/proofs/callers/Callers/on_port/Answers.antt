@@ -5,4 +5,5 @@ use Rattle.check_text.proofs.callers.Callers.on_port.Goals as goal
 
 pub returns : goal.returns
 returns c =
-    callers_made c.args.port (session_of c.args.session.now) c.in_ok-names.names (map (λ row. row.items) c.in_ok-kinds.kinds.items) c.in_ok-names.ensures c.in_ok-kinds.ensures
+    callers_made c.args.port (session_of c.args.session.now) c.in_ok-names.names
+    (map (λ row. row.items) c.in_ok-kinds.kinds.items) c.in_ok-names.ensures c.in_ok-kinds.ensures

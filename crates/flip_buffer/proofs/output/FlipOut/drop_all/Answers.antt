@@ -13,13 +13,15 @@ returns-clause-shown c =
     let peeked = c.loop.invariant.same in
     let released = c.release.ensures.same in
     let t = took c.loop.self (take c.min-shown.result c.loop.self.peeked) in
-    let tails : new.tails ≡ old.tails ++ tail ∷ [] = ap (λ s. s.tails) released ∙ (t.tails ∙ (ap (λ s. s.tails) peeked ∙ ap (λ s. s.tails) c.look.ensures.same)) in
+    let tails : new.tails ≡ old.tails ++ tail ∷ [] =
+    ap (λ s. s.tails) released ∙ (t.tails ∙ (ap (λ s. s.tails) peeked ∙ ap (λ s. s.tails) c.look.ensures.same)) in
     let floor : new.floor ≡ tail = ap (λ s. s.floor) released ∙ (t.floor ∙ ap (λ s. s.floor) peeked) in
     let count = c.look.ensures.count in
     let most = c.look.ensures.most in (
       tail,
       record {
-        looked = subst (λ (z : List ℕ). IsPrefix (old.tails ++ tail ∷ []) z) (sym tails) (begins_itself (old.tails ++ tail ∷ []));
+        looked = subst (λ (z : List ℕ). IsPrefix (old.tails ++ tail ∷ []) z) (sym tails)
+            (begins_itself (old.tails ++ tail ∷ []));
         rises = c.look.ensures.rises;
         floor = omega arith;
         least = omega arith;
@@ -33,4 +35,5 @@ pub returns-clause-peeked : goal.returns-clause-peeked
 returns-clause-peeked c =
     let peeked = c.loop.self.peeked in
     let n = c.min-shown.result in
-    ap (λ s. s.peeked) c.release.ensures.same ∙ none_left c.loop.self (take n peeked) (take_all n peeked (omega (arith, c.loop.invariant.count)))
+    ap (λ s. s.peeked) c.release.ensures.same
+    ∙ none_left c.loop.self (take n peeked) (take_all n peeked (omega (arith, c.loop.invariant.count)))

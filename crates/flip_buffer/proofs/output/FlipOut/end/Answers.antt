@@ -9,7 +9,8 @@ pub returns-clause-compared : goal.returns-clause-compared
 returns-clause-compared c =
     let taken = ap (λ s. s.taken) c.self.view_is in
     let sent = ap (λ s. s.sent) c.putter.view_is in
-    subst (λ (z : List Flagged × List Flagged). IsPrefix z.0 z.1) (λ i. (taken i, sent i)) (chars_begin _ _ c.finish.ensures.compared)
+    subst (λ (z : List Flagged × List Flagged). IsPrefix z.0 z.1) (λ i. (taken i, sent i))
+    (chars_begin _ _ c.finish.ensures.compared)
 
 pub returns-clause-heads : goal.returns-clause-heads
 returns-clause-heads c =

@@ -10,7 +10,8 @@ pub returns-clause-compared : goal.returns-clause-compared
 returns-clause-compared c =
     let taken = ap (λ s. s.taken) c.self.view_is in
     let pushed = ap (λ s. s.pushed) c.note.view_is in
-    subst (λ (z : List Flagged × List Flagged). IsOneWithin z.0 z.1) (λ i. (taken i, pushed i)) (chars_within _ _ c.meet.ensures.compared)
+    subst (λ (z : List Flagged × List Flagged). IsOneWithin z.0 z.1) (λ i. (taken i, pushed i))
+    (chars_within _ _ c.meet.ensures.compared)
 
 pub returns-clause-heads : goal.returns-clause-heads
 returns-clause-heads c =

@@ -9,4 +9,6 @@ pub returns : goal.returns
 returns c =
     let seen = passes_seen _ _ _ _ _ c.pass.ensures in
     let good = good_seen c.args.bytes.now (λ k. omega (arith, c.type_inv.bytes k)) in
-    subst (λ (z : PutterState Flagged × TakerState Flagged × List Flagged). Passes z.0 (in_state c.pass.new.putter) z.1 (out_state c.pass.new.self) z.2) (λ i. (c.input.view_is i, c.self.view_is i, sym good i)) seen
+    subst (λ (z : PutterState Flagged × TakerState Flagged × List Flagged).
+    Passes z.0 (in_state c.pass.new.putter) z.1 (out_state c.pass.new.self) z.2)
+    (λ i. (c.input.view_is i, c.self.view_is i, sym good i)) seen

@@ -4,4 +4,7 @@ use Rattle.flip_buffer.proofs.output.FlipOut.peek_fours.Given as goal
 
 abbrev pub invariant-loop : goal.invariant-loop
 invariant-loop l =
-    (xs : List Flagged) × (length xs ≡ 4 * l.counter) × (l.out ≡ record { items = l.initial.out.items ++ xs; spare = l.initial.out.spare - 4 * l.counter }) × (l.self ≡ record l.initial.self { peeked = l.initial.self.peeked ++ xs })
+    (xs : List Flagged)
+    × (length xs ≡ 4 * l.counter)
+    × (l.out ≡ record { items = l.initial.out.items ++ xs; spare = l.initial.out.spare - 4 * l.counter })
+    × (l.self ≡ record l.initial.self { peeked = l.initial.self.peeked ++ xs })

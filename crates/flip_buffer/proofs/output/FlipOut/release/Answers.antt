@@ -10,4 +10,6 @@ pub returns-clause-same : goal.returns-clause-same
 returns-clause-same c =
     let t = c.self.inside.taker in
     ap out_state c.release.ensures.same
-    ∙ (out_taken t (take c.args.n t.peeked) ∙ (ap (with_taken (out_state t)) (sym (take-map char_of c.args.n t.peeked)) ∙ ap (λ (u : TakerState Flagged). with_taken u (take c.args.n u.peeked)) c.self.view_is))
+    ∙ (out_taken t (take c.args.n t.peeked)
+    ∙ (ap (with_taken (out_state t)) (sym (take-map char_of c.args.n t.peeked))
+    ∙ ap (λ (u : TakerState Flagged). with_taken u (take c.args.n u.peeked)) c.self.view_is))

@@ -14,5 +14,7 @@ returns-clause-moves c =
       map char_of m.0,
       length-map m.0 char_of ∙ m.1,
       search rules,
-      ap out_state m.3 ∙ (out_taken (with_shown t tail) m.0 ∙ ap (λ (u : TakerState Flagged). with_taken (with_shown u tail) (map char_of m.0)) c.self.view_is),
+      ap out_state m.3
+          ∙ (out_taken (with_shown t tail) m.0
+          ∙ ap (λ (u : TakerState Flagged). with_taken (with_shown u tail) (map char_of m.0)) c.self.view_is),
     )

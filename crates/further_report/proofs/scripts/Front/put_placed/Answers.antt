@@ -17,9 +17,14 @@ returns-clause-text g c =
     let parts = few calls at gap end c.len.result _ c.len.ensures refl c.requires c.end_of-taken.ensures.end in
     let mid = c.put_plain.new.text.items in
     let step = c.in_ok-step.step in
-    let last = c.in_ok-put_line.ensures ∙ ap (λ (word : List ℕ). mid ++ answered_line front.port front.name.now step word (slice_get answers step)) c.verb.ensures in
-    placed_put verb front.port front.name.now answers c.args.text.now.items mid c.put_line.new.text.items calls c.args.cursor.step step at gap end c.args.placed.call
-    c.end_of-taken.ensures.from (omega (arith, c.end_of-taken.ensures.within, c.len.ensures)) parts.0 c.in_ok-step.ensures.step c.in_ok-step.ensures.text last
+    let last =
+    c.in_ok-put_line.ensures
+    ∙ ap (λ (word : List ℕ). mid ++ answered_line front.port front.name.now step word (slice_get answers step))
+    c.verb.ensures in
+    placed_put verb front.port front.name.now answers c.args.text.now.items mid c.put_line.new.text.items
+    calls c.args.cursor.step step at gap end c.args.placed.call
+    c.end_of-taken.ensures.from (omega (arith, c.end_of-taken.ensures.within, c.len.ensures)) parts.0
+    c.in_ok-step.ensures.step c.in_ok-step.ensures.text last
 
 pub returns-clause-step : goal.returns-clause-step
 returns-clause-step g c =
@@ -29,8 +34,10 @@ returns-clause-step g c =
     let end = c.end_of-taken.result in
     let parts = few calls at gap end c.len.result _ c.len.ensures refl c.requires c.end_of-taken.ensures.end in
     c.in_ok-step-2.ensures
-    ∙ placed_count calls c.args.cursor.step c.in_ok-step.step at gap end c.args.placed.call c.end_of-taken.ensures.from (omega (arith, c.end_of-taken.ensures.within, c.len.ensures)) parts.0 c.in_ok-step.ensures.step
+    ∙ placed_count calls c.args.cursor.step c.in_ok-step.step at gap end c.args.placed.call c.end_of-taken.ensures.from
+    (omega (arith, c.end_of-taken.ensures.within, c.len.ensures)) parts.0 c.in_ok-step.ensures.step
 
 pub returns-clause-taken : goal.returns-clause-taken
 returns-clause-taken g c =
-    (few c.args.calls.now.items c.args.cursor.taken (c.args.placed.place - c.args.cursor.place) c.end_of-taken.result c.len.result _ c.len.ensures refl c.requires c.end_of-taken.ensures.end).1
+    (few c.args.calls.now.items c.args.cursor.taken (c.args.placed.place - c.args.cursor.place) c.end_of-taken.result
+    c.len.result _ c.len.ensures refl c.requires c.end_of-taken.ensures.end).1

@@ -19,12 +19,16 @@ invariant_of-self c =
       marks_fit = c.self.invariant.marks_fit;
       marks_past = c.self.invariant.marks_past;
       ties_are = λ group.
-          ties_after_end procs c.as_slice-procs.result.now exited c.as_slice-exited.result.now c.args.proc c.from.result group _ _
-          c.as_slice-procs.ensures.value c.as_slice-exited.ensures.value c.from.ensures known (c.self.invariant.ties_are group) (c.untie.ensures group);
+          ties_after_end procs c.as_slice-procs.result.now exited c.as_slice-exited.result.now
+          c.args.proc c.from.result group _ _
+          c.as_slice-procs.ensures.value c.as_slice-exited.ensures.value c.from.ensures known
+          (c.self.invariant.ties_are group) (c.untie.ensures group);
       children_are = c.self.invariant.children_are;
       living_are = λ key.
-          living_after_end procs c.as_slice-procs.result.now exited c.as_slice-exited.result.now c.args.proc c.from.result key _ _
-          c.as_slice-procs.ensures.value c.as_slice-exited.ensures.value c.from.ensures known within (c.self.invariant.living_are key) (c.end_life.ensures key);
+          living_after_end procs c.as_slice-procs.result.now exited c.as_slice-exited.result.now
+          c.args.proc c.from.result key _ _
+          c.as_slice-procs.ensures.value c.as_slice-exited.ensures.value c.from.ensures known within
+          (c.self.invariant.living_are key) (c.end_life.ensures key);
     }
 
 pub untie-requires-clause-children : goal.untie-requires-clause-children
@@ -39,6 +43,8 @@ untie-requires-clause-children c =
 
 pub untie-requires-clause-within : goal.untie-requires-clause-within
 untie-requires-clause-within c =
-    let seen : length c.args.self.now.procs ≡ length c.self.inside.procs.items = ap (λ state. length state.procs) (sym c.self.view_is) in
-    let lent : length c.as_slice-procs.result.now ≡ length c.self.inside.procs.items = ap length c.as_slice-procs.ensures.value in
+    let seen : length c.args.self.now.procs ≡ length c.self.inside.procs.items =
+    ap (λ state. length state.procs) (sym c.self.view_is) in
+    let lent : length c.as_slice-procs.result.now ≡ length c.self.inside.procs.items =
+    ap length c.as_slice-procs.ensures.value in
     omega (arith, seen, lent, c.requires)

@@ -9,6 +9,9 @@ returns c =
     let procs = c.self.inside.procs.items in
     let exited = c.self.inside.exited.items in
     let kept : c.count.result ≡ living_count procs exited (key_of c.args.session c.args.group) =
-    c.count.ensures ∙ (ap (counted c.self.inside.living) c.key.ensures ∙ c.self.invariant.living_are (key_of c.args.session c.args.group)) in
-    living_by_count procs exited c.args.session c.args.group c.count.result c.self.invariant.groups_fit c.ranges.group.fits kept
+    c.count.ensures
+    ∙ (ap (counted c.self.inside.living) c.key.ensures
+    ∙ c.self.invariant.living_are (key_of c.args.session c.args.group)) in
+    living_by_count procs exited c.args.session c.args.group c.count.result
+    c.self.invariant.groups_fit c.ranges.group.fits kept
     ∙ ap (λ state. has_living state.procs state.exited c.args.session c.args.group) c.self.view_is

@@ -11,6 +11,8 @@ returns c =
     let group = group_at procs c.args.proc in
     let kept : c.count.result ≡ ties_count procs c.self.inside.exited.items group =
     c.count.ensures
-    ∙ (ap (counted c.self.inside.ties) (c.from.ensures ∙ (c.group_of.ensures ∙ ap (λ all. group_at all c.args.proc) c.as_slice.ensures.value))
+    ∙ (ap (counted c.self.inside.ties)
+    (c.from.ensures ∙ (c.group_of.ensures ∙ ap (λ all. group_at all c.args.proc) c.as_slice.ensures.value))
     ∙ c.self.invariant.ties_are group) in
-    orphan_by_count procs c.self.inside.exited.items group c.count.result kept ∙ ap (λ state. is_orphan state c.args.proc) c.self.view_is
+    orphan_by_count procs c.self.inside.exited.items group c.count.result kept
+    ∙ ap (λ state. is_orphan state c.args.proc) c.self.view_is

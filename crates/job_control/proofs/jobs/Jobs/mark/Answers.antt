@@ -14,5 +14,6 @@ returns c =
       holder = c.self.inside.holder;
     } in
     let given_up_by : JobState → JobState = λ state. record state { given_up = set state.given_up c.args.proc true } in
-    ap with_marks (marked marks c.self.inside.taken c.from.result ∙ ap (λ p. set (map (λ mark. mark == c.self.inside.taken) marks) p true) c.from.ensures)
+    ap with_marks (marked marks c.self.inside.taken c.from.result
+    ∙ ap (λ p. set (map (λ mark. mark == c.self.inside.taken) marks) p true) c.from.ensures)
     ∙ ap given_up_by c.self.view_is

@@ -8,12 +8,14 @@ use Rattle.job_one.proofs.desks.Desk.send_new.Goals as goal
 
 pub send_on-requires : goal.send_on-requires
 send_on-requires c =
-    slice_get_within (signals_of c.args.port.now.terminal) c.loop-signal.self.sent c.in-Some.signal (sym c.next_signal.ensures ∙ c.in-Some.is)
+    slice_get_within (signals_of c.args.port.now.terminal) c.loop-signal.self.sent c.in-Some.signal
+    (sym c.next_signal.ensures ∙ c.in-Some.is)
 
 pub loop-signal-preserved : goal.loop-signal-preserved
 loop-signal-preserved c =
     ap (new_sent_on c.args.port.now) c.in_ok-send_on.ensures.ok
-    ∙ (one_more c.args.port.now c.in-Some.signal c.loop-signal.self (sym c.next_signal.ensures ∙ c.in-Some.is) ∙ c.loop-signal.invariant)
+    ∙ (one_more c.args.port.now c.in-Some.signal c.loop-signal.self (sym c.next_signal.ensures ∙ c.in-Some.is)
+    ∙ c.loop-signal.invariant)
 
 pub returns-clause-ok : goal.returns-clause-ok
 returns-clause-ok c =

@@ -9,6 +9,10 @@ returns c =
     let scripts = c.args.scripts.now in
     let placed = c.args.placed.now in
     record {
-      calls = ap (calls_from scripts placed) c.step.ensures ∙ steps_on scripts placed c.args.self c.plain_count.result c.own.result c.requires c.plain_count.ensures c.own.ensures.call c.own.ensures.within;
-      marked = subst IsMarked (sym c.step.ensures) (stays_marked c.plain_count.result c.own.result c.args.self c.requires);
+      calls =
+          ap (calls_from scripts placed) c.step.ensures
+          ∙ steps_on scripts placed c.args.self c.plain_count.result c.own.result c.requires c.plain_count.ensures
+          c.own.ensures.call c.own.ensures.within;
+      marked =
+          subst IsMarked (sym c.step.ensures) (stays_marked c.plain_count.result c.own.result c.args.self c.requires);
     }

@@ -15,7 +15,8 @@ returns-in-Tty-clause-after c =
     let tally : Tally = c.args.tally.now in
     ap tty_on_port c.receive_all.ensures.after
     ∙ tty_run c.args.modes.now c.args.now cs (on_port c.in-Tty.tty output tally)
-    ∙ ap (λ (d : Disc). after_characters_of c.args.modes.now c.args.now cs (disc_on_port d output tally)) (sym c.in-Tty.is)
+    ∙ ap (λ (d : Disc). after_characters_of c.args.modes.now c.args.now cs (disc_on_port d output tally))
+    (sym c.in-Tty.is)
 
 pub returns-in-Tty-clause-accepted : goal.returns-in-Tty-clause-accepted
 returns-in-Tty-clause-accepted c =
@@ -31,11 +32,13 @@ returns-in-Tty-clause-happened c kind events has =
     let output : Output = c.args.wire.now in
     let tally : Tally = c.args.tally.now in
     let before : DiscOnPort = disc_on_port c.args.self.now output tally in
-    let left : DiscOnPort = disc_on_port (disc.Tty c.receive_all.new.self) c.receive_all.new.wire c.receive_all.new.tally in
+    let left : DiscOnPort =
+    disc_on_port (disc.Tty c.receive_all.new.self) c.receive_all.new.wire c.receive_all.new.tally in
     let after : left ≡ after_characters_of c.args.modes.now c.args.now cs before =
     ap tty_on_port c.receive_all.ensures.after
     ∙ tty_run c.args.modes.now c.args.now cs (on_port c.in-Tty.tty output tally)
-    ∙ ap (λ (d : Disc). after_characters_of c.args.modes.now c.args.now cs (disc_on_port d output tally)) (sym c.in-Tty.is) in
+    ∙ ap (λ (d : Disc). after_characters_of c.args.modes.now c.args.now cs (disc_on_port d output tally))
+    (sym c.in-Tty.is) in
     happened_so c.args.modes.now c.args.now cs before left kind events after has
 
 pub returns-in-Slip-clause-after : goal.returns-in-Slip-clause-after
@@ -44,8 +47,10 @@ returns-in-Slip-clause-after c =
     let output : Output = c.args.wire.now in
     let tally : Tally = c.args.tally.now in
     c.hear_all.ensures.after c.args.now
-    ∙ ap (λ (d : Disc). after_characters_of c.args.modes.now c.args.now chars (disc_on_port d output tally)) (sym c.in-Slip.is)
-    ∙ ap (λ cs. after_characters_of c.args.modes.now c.args.now cs (disc_on_port c.args.self.now output tally)) (sym (take_all (length chars) chars (omega arith)))
+    ∙ ap (λ (d : Disc). after_characters_of c.args.modes.now c.args.now chars (disc_on_port d output tally))
+    (sym c.in-Slip.is)
+    ∙ ap (λ cs. after_characters_of c.args.modes.now c.args.now cs (disc_on_port c.args.self.now output tally))
+    (sym (take_all (length chars) chars (omega arith)))
 
 pub returns-in-Slip-clause-accepted : goal.returns-in-Slip-clause-accepted
 returns-in-Slip-clause-accepted c =
@@ -64,7 +69,8 @@ returns-in-Slip-clause-happened c kind events has =
     let left : DiscOnPort = disc_on_port (disc.Slip c.hear_all.new.slip) c.hear_all.new.wire c.hear_all.new.tally in
     let after : left ≡ after_characters_of c.args.modes.now c.args.now chars before =
     c.hear_all.ensures.after c.args.now
-    ∙ ap (λ (d : Disc). after_characters_of c.args.modes.now c.args.now chars (disc_on_port d output tally)) (sym c.in-Slip.is) in
+    ∙ ap (λ (d : Disc). after_characters_of c.args.modes.now c.args.now chars (disc_on_port d output tally))
+    (sym c.in-Slip.is) in
     let all = sym (take_all (length chars) chars (omega arith)) in
     happened_so c.args.modes.now c.args.now (take (length chars) chars) before left kind events
     (after ∙ ap (λ cs. after_characters_of c.args.modes.now c.args.now cs before) all) has

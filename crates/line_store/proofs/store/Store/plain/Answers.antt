@@ -6,4 +6,5 @@ use Rattle.line_store.proofs.store.Store.plain.Goals as goal
 
 pub returns : goal.returns
 returns c =
-    ap (λ ns. items_of ns c.self.inside.bytes) c.clear.ensures ∙ ap (map Byte) (sym (pieces.bytes_in _ _ _ _ c.self.invariant c.self.view_is))
+    ap (λ ns. items_of ns c.self.inside.bytes) c.clear.ensures
+    ∙ ap (map Byte) (sym (pieces.bytes_in _ _ _ _ c.self.invariant c.self.view_is))

@@ -7,7 +7,8 @@ invariant-loop-done l =
     record {
       bound : l.done ≤ length l.chars;
       after : after_characters l.self (drop l.done l.chars) ≡ after_characters l.initial.self l.chars;
-      counts : counts_after_characters l.self (drop l.done l.chars) l.tally.counts ≡ counts_after_characters l.initial.self l.chars l.initial.tally.counts;
+      counts : counts_after_characters l.self (drop l.done l.chars) l.tally.counts
+          ≡ counts_after_characters l.initial.self l.chars l.initial.tally.counts;
       signals : l.tally.signals ≡ l.initial.tally.signals;
     }
 

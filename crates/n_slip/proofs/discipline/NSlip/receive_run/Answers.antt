@@ -13,4 +13,5 @@ returns-clause-after c =
     ∙ ap (λ (s : Slip). after_characters s cs) c.self.view_is
 
 pub returns-clause-counts : goal.returns-clause-counts
-returns-clause-counts c = λ counts. uncounted_run c.args.self.now (take c.feed_run.result c.args.chars.now) counts c.feed_run.ensures.text
+returns-clause-counts c = λ counts.
+    uncounted_run c.args.self.now (take c.feed_run.result c.args.chars.now) counts c.feed_run.ensures.text

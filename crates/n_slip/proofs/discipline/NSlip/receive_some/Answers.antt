@@ -3,7 +3,8 @@ use Rattle.std.proofs.lemmas.List.{take_more}
 use Rattle.tty_base.specs.declared.characters.Flag.TheVariants.{Normal}
 use Rattle.tty_base.specs.declared.characters.Flagged.{Flagged}
 use Rattle.flow_control.specs.declared.tally.Tally.{Tally}
-use Rattle.n_slip.specs.Discipline.{Slip, after_character, after_characters, counts_after_character, counts_after_characters}
+use Rattle.n_slip.specs.Discipline.{Slip, after_character, after_characters}
+use Rattle.n_slip.specs.Discipline.{counts_after_character, counts_after_characters}
 use Rattle.n_slip.proofs.discipline.NSlip.receive_some.Goals as goal
 
 pub returns-then-count-gt0-clause-counts : goal.returns-then-count-gt0-clause-counts
@@ -32,4 +33,5 @@ returns-clause-counts c =
     let same = c.receive_run-count.ensures.after ∙ ap (λ (k : ℕ). after_characters first (take k chars)) nothing in
     c.step.ensures.counts
     ∙ ap (λ (s : Slip). record tally { counts = counts_after_character s (get_or chars 0 none) tally.counts }) same
-    ∙ sym (ap (λ cs. record tally { counts = counts_after_characters first cs tally.counts }) (take_more chars 0 none c.requires.some))
+    ∙ sym (ap (λ cs. record tally { counts = counts_after_characters first cs tally.counts })
+    (take_more chars 0 none c.requires.some))

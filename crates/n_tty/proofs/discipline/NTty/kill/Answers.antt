@@ -15,7 +15,8 @@ use Rattle.n_tty.proofs.discipline.NTty.kill.Goals.{then-is_empty-2, else-is_emp
 pub echo_bytes-requires-clause-spare : goal.echo_bytes-requires-clause-spare
 echo_bytes-requires-clause-spare c =
     let modes = c.args.modes.now in
-    let text = ap (λ bytes. length (all_posted_bytes modes c.self.inside.out bytes)) (c.as_slice.ensures.value ∙ c.echo-whole.ensures) in
+    let text = ap (λ bytes. length (all_posted_bytes modes c.self.inside.out bytes))
+    (c.as_slice.ensures.value ∙ c.echo-whole.ensures) in
     omega (arith, text, echo_posted-le modes c.self.inside.out event.Killed tt, c.requires.room)
 
 pub returns : goal.returns
@@ -23,9 +24,14 @@ returns c =
     let modes = c.args.modes.now in
     let inside = c.self.inside in
     let tty = the_view inside in
-    let some : (length inside.edit == 0) ≡ false = ap (λ bs. length bs == 0) (sym c.bytes.ensures.bytes) ∙ sym c.is_empty.ensures ∙ c.if-is_empty.false in
-    let tested : c.is_empty-2.result ≡ (length (echo_of modes event.Killed) == 0) = c.is_empty-2.ensures ∙ ap (λ bs. length bs == 0) c.echo-whole.ensures in
-    let left = λ (t : NTtyState). on_port (the_view (record c.if-is_empty-2.self-inside { edit = c.kill-count.new.self })) c.if-is_empty-2.wire c.if-is_empty-2.tally ≡ after_kill modes (on_port t c.args.wire.now c.args.tally.now) in
+    let some : (length inside.edit == 0) ≡ false =
+    ap (λ bs. length bs == 0) (sym c.bytes.ensures.bytes) ∙ sym c.is_empty.ensures ∙ c.if-is_empty.false in
+    let tested : c.is_empty-2.result ≡ (length (echo_of modes event.Killed) == 0) =
+    c.is_empty-2.ensures ∙ ap (λ bs. length bs == 0) c.echo-whole.ensures in
+    let left = λ (t : NTtyState).
+    on_port (the_view (record c.if-is_empty-2.self-inside { edit = c.kill-count.new.self }))
+    c.if-is_empty-2.wire c.if-is_empty-2.tally
+    ≡ after_kill modes (on_port t c.args.wire.now c.args.tally.now) in
     record {
       after = subst left c.self.view_is (
           elim c.if-is_empty-2.branch [
@@ -44,9 +50,12 @@ returns c =
                 killed_by modes tty _ c.args.wire.now _ c.args.tally.now _ echo
                 (echo_of_kill-whole modes inside.start inside.edit (sym tested ∙ w.if-is_empty-2.false) some)
                 ((λ i. the_view (record (w.self-inside-is i) { edit = c.kill-count.ensures.line i }))
-                ∙ ap (λ column. record tty { edit = []; column = column }) (w.echo_bytes.ensures.column ∙ ap (column_after_try modes c.args.wire.now inside.out) text))
+                ∙ ap (λ column. record tty { edit = []; column = column })
+                (w.echo_bytes.ensures.column ∙ ap (column_after_try modes c.args.wire.now inside.out) text))
                 (w.wire-is ∙ w.echo_bytes.ensures.wire ∙ ap (after_try c.args.wire.now) text)
-                (w.tally-is ∙ w.echo_bytes.ensures.tally ∙ ap (λ xs. tally_after_try c.args.wire.now xs c.args.tally.now) text)
+                (w.tally-is
+                ∙ w.echo_bytes.ensures.tally
+                ∙ ap (λ xs. tally_after_try c.args.wire.now xs c.args.tally.now) text)
           ]
           );
     }

@@ -17,9 +17,12 @@ loop-done-preserved c =
     let first : OnPort = on_port c.args.self.now c.args.wire.now c.args.tally.now in
     let port : OnPort = on_port c.loop-done.self c.loop-done.wire c.loop-done.tally in
     let last : OnPort = on_port left.self left.wire left.tally in
-    let after : last ≡ after_characters modes now (take count (drop done chars)) port = made.after ∙ ap (λ cs. after_characters modes now (take count cs) port) c.rest_of.ensures in
-    let accepted : AcceptsAll modes now (take count (drop done chars)) port = subst (λ cs. AcceptsAll modes now (take count cs) port) c.rest_of.ensures made.accepted in
-    let within : count ≤ length chars - done = omega (arith, made.within, ap length c.rest_of.ensures, length-drop done chars) in
+    let after : last ≡ after_characters modes now (take count (drop done chars)) port =
+    made.after ∙ ap (λ cs. after_characters modes now (take count cs) port) c.rest_of.ensures in
+    let accepted : AcceptsAll modes now (take count (drop done chars)) port =
+    subst (λ cs. AcceptsAll modes now (take count cs) port) c.rest_of.ensures made.accepted in
+    let within : count ≤ length chars - done =
+    omega (arith, made.within, ap length c.rest_of.ensures, length-drop done chars) in
     record {
       bound = omega (arith, within, i.bound);
       after = received_on modes now chars done count first port last i.after after;

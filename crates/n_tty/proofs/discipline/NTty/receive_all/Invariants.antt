@@ -8,10 +8,13 @@ abbrev pub invariant-loop-done : goal.invariant-loop-done
 invariant-loop-done l =
     record {
       bound : l.done ≤ length l.chars;
-      after : on_port l.self l.wire l.tally ≡ after_characters l.modes l.now (take l.done l.chars) (on_port l.initial.self l.initial.wire l.initial.tally);
+      after : on_port l.self l.wire l.tally
+          ≡ after_characters l.modes l.now (take l.done l.chars)
+          (on_port l.initial.self l.initial.wire l.initial.tally);
       accepted : AcceptsAll l.modes l.now (take l.done l.chars) (on_port l.initial.self l.initial.wire l.initial.tally);
       fits : FitsModes l.modes l.self;
-      spent : l.initial.wire.spare + pending_count l.self l.wire ≤ l.wire.spare + (pending_count l.initial.self l.initial.wire + 41 * l.done);
+      spent : l.initial.wire.spare + pending_count l.self l.wire
+          ≤ l.wire.spare + (pending_count l.initial.self l.initial.wire + 41 * l.done);
       signals : l.initial.tally.signals.spare ≤ l.tally.signals.spare + l.done;
       moved : l.self.column ≤ l.initial.self.column + 2 ^ 22 * l.done;
       past : l.initial.self.last ≤ l.now → l.self.last ≤ l.now;

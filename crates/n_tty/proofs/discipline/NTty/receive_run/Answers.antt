@@ -1,4 +1,5 @@
-use Rattle.std.proofs.Common.{◌≡◌, ◌≤◌, ℕ, List, [], false, true, length, take, rules, ap, sym, subst, ◌∙◌, arith, length-take}
+use Rattle.std.proofs.Common.{◌≡◌, ◌≤◌, ℕ, List, [], false, true, length, take}
+use Rattle.std.proofs.Common.{rules, ap, sym, subst, ◌∙◌, arith, length-take}
 use Rattle.std.proofs.lemmas.List.{take-take}
 use Rattle.tty_base.specs.declared.characters.Flagged.{Flagged}
 use Rattle.flow_control.specs.declared.tally.Tally.{Tally}
@@ -10,7 +11,8 @@ use Rattle.line_store.specs.Unread.{end_count}
 use Rattle.n_tty.specs.States.{NTtyState, OnPort, on_port, FitsModes}
 use Rattle.n_tty.specs.Roles.{is_raw}
 use Rattle.n_tty.specs.Runs.{after_characters, AcceptsAll}
-use Rattle.n_tty.proofs.InRuns.{Fits-all, MayRun, MayType, stored_run, accepts_stored, joined_run, accepts_joined, typed_run, accepts_typed}
+use Rattle.n_tty.proofs.InRuns.{Fits-all, MayRun, MayType, stored_run, accepts_stored}
+use Rattle.n_tty.proofs.InRuns.{joined_run, accepts_joined, typed_run, accepts_typed}
 use Rattle.n_tty.proofs.discipline.NTty.receive_run.Goals as goal
 use Rattle.n_tty.proofs.discipline.NTty.receive_run.Goals.{After-front_of-chars}
 
@@ -19,7 +21,8 @@ idle_tally = record { counts = no_counts; signals = record { items = []; spare =
 
 -- the first of the first are the first
 front : (chars some : List Flagged) (n k : ℕ) → some ≡ take n chars → k ≤ length some → take k some ≡ take k chars
-front chars some n k is within = ap (take k) is ∙ take-take k n chars (omega (arith, within, ap length is, length-take n chars))
+front chars some n k is within =
+    ap (take k) is ∙ take-take k n chars (omega (arith, within, ap length is, length-take n chars))
 
 -- the port that a run finds, with any counts
 abbrev found : (c : After-front_of-chars) → Tally → OnPort
@@ -33,12 +36,18 @@ free : (c : After-front_of-chars) → has_flag c.args.modes.now IXOFF ≡ false
 free c = sym c.has.ensures ∙ c.if-has.false
 
 -- so many of them can be taken in a run
-may : (c : After-front_of-chars) (n : ℕ) (tally : Tally) → MayRun c.args.modes.now (length (take n (offered c))) (found c tally)
+may : (c : After-front_of-chars) (n : ℕ) (tally : Tally)
+    → MayRun c.args.modes.now (length (take n (offered c))) (found c tally)
 may c n tally =
     record {
       unquoted = sym (ap (λ (t : NTtyState). t.quoted) c.self.view_is) ∙ c.if-self.false;
       quiet = sym c.noted.ensures ∙ c.if-noted.false;
-      ends = omega (arith, c.lines.ensures.lines, ap (λ (t : NTtyState). end_count t.items) c.self.view_is, c.if-lines-ge-MOST_ENDS.false);
+      ends = omega (
+        arith,
+        c.lines.ensures.lines,
+        ap (λ (t : NTtyState). end_count t.items) c.self.view_is,
+        c.if-lines-ge-MOST_ENDS.false,
+      );
       room = omega (
         arith,
         length-take n (offered c),
@@ -50,12 +59,15 @@ may c n tally =
 
 -- what a run leaves and was accepted by, said of all the characters
 module _ (c : After-front_of-chars) (n : ℕ) (within : n ≤ length (offered c)) (tty : NTtyState) (output : Output)
-    (after : (tally : Tally) → on_port tty output tally ≡ after_characters c.args.modes.now c.args.now (take n (offered c)) (found c tally))
+    (after : (tally : Tally)
+    → on_port tty output tally ≡ after_characters c.args.modes.now c.args.now (take n (offered c)) (found c tally))
     (accepted : (tally : Tally) → AcceptsAll c.args.modes.now c.args.now (take n (offered c)) (found c tally)) where
   same : take n (offered c) ≡ take n c.args.chars.now
   same = front c.args.chars.now (offered c) c.min-2.result n c.front_of-chars.ensures within
 
-  left : (tally : Tally) → on_port tty output tally ≡ after_characters c.args.modes.now c.args.now (take n c.args.chars.now) (found c tally)
+  left : (tally : Tally)
+      → on_port tty output tally
+      ≡ after_characters c.args.modes.now c.args.now (take n c.args.chars.now) (found c tally)
   left tally = after tally ∙ ap (λ cs. after_characters c.args.modes.now c.args.now cs (found c tally)) same
 
   all_accepted : (tally : Tally) → AcceptsAll c.args.modes.now c.args.now (take n c.args.chars.now) (found c tally)
@@ -67,13 +79,28 @@ module _ (c : After-front_of-chars) (n : ℕ) (within : n ≤ length (offered c)
       (Fits-all c.args.modes.now c.args.now (take n (offered c)) (found c idle_tally) fits)
 
 pub store_run-requires-clause-room : goal.store_run-requires-clause-room
-store_run-requires-clause-room c = omega (arith, c.unread-unread.ensures.count, ap length c.front_of-chars.ensures, length-take c.min-2.result c.args.chars.now)
+store_run-requires-clause-room c = omega (
+  arith,
+  c.unread-unread.ensures.count,
+  ap length c.front_of-chars.ensures,
+  length-take c.min-2.result c.args.chars.now,
+)
 
 pub type_run-requires-clause-room : goal.type_run-requires-clause-room
-type_run-requires-clause-room c = omega (arith, c.unread-unread.ensures.count, ap length c.front_of-chars.ensures, length-take c.min-2.result c.args.chars.now)
+type_run-requires-clause-room c = omega (
+  arith,
+  c.unread-unread.ensures.count,
+  ap length c.front_of-chars.ensures,
+  length-take c.min-2.result c.args.chars.now,
+)
 
 pub join_run-requires-clause-room : goal.join_run-requires-clause-room
-join_run-requires-clause-room c = omega (arith, c.unread-unread.ensures.count, ap length c.front_of-chars.ensures, length-take c.min-2.result c.args.chars.now)
+join_run-requires-clause-room c = omega (
+  arith,
+  c.unread-unread.ensures.count,
+  ap length c.front_of-chars.ensures,
+  length-take c.min-2.result c.args.chars.now,
+)
 
 pub returns-then-is_raw : goal.returns-then-is_raw
 returns-then-is_raw c =
@@ -82,8 +109,10 @@ returns-then-is_raw c =
     let made = c.store_run.ensures in
     let raw : is_raw c.args.modes.now ≡ true = sym c.is_raw.ensures ∙ c.if-is_raw.true in
     let after = λ (tally : Tally). made.after c.args.wire.now tally
-    ∙ stored_run c.args.modes.now c.args.now raw (free d) (take n (offered d)) (found d tally) made.good (may d n tally) in
-    let accepted = λ (tally : Tally). accepts_stored c.args.modes.now c.args.now raw (free d) (take n (offered d)) (found d tally) made.good (may d n tally) in
+    ∙ stored_run c.args.modes.now c.args.now raw (free d) (take n (offered d)) (found d tally) made.good (may d n tally)
+    in
+    let accepted = λ (tally : Tally). accepts_stored c.args.modes.now c.args.now raw (free d) (take n (offered d))
+    (found d tally) made.good (may d n tally) in
     record {
       within = search rules;
       after = left d n made.within c.store_run.new.self c.args.wire.now after accepted;
@@ -105,8 +134,10 @@ returns-then-not-halted c =
     let runs : (tally : Tally) → MayType c.args.modes.now (length (take n (offered d))) (found d tally) =
     λ tally. record { may = may d n tally; flows = flows } in
     let after = λ (tally : Tally). made.after tally
-    ∙ typed_run c.args.modes.now c.args.now (are.canonical typed) (are.echoes typed) (are.plain typed) (free d) (take n (offered d)) (found d tally) made.typed (runs tally) in
-    let accepted = λ (tally : Tally). accepts_typed c.args.modes.now c.args.now (are.canonical typed) (are.echoes typed) (are.plain typed) (free d) (take n (offered d))
+    ∙ typed_run c.args.modes.now c.args.now (are.canonical typed) (are.echoes typed) (are.plain typed) (free d)
+    (take n (offered d)) (found d tally) made.typed (runs tally) in
+    let accepted = λ (tally : Tally). accepts_typed c.args.modes.now c.args.now (are.canonical typed) (are.echoes typed)
+    (are.plain typed) (free d) (take n (offered d))
     (found d tally) made.typed (runs tally) in
     record {
       within = search rules;
@@ -126,8 +157,10 @@ returns-then-are_joined c =
     let are = c.are_joined.ensures in
     let join = c.if-are_joined.true in
     let after = λ (tally : Tally). made.after c.args.wire.now tally
-    ∙ joined_run c.args.modes.now c.args.now (are.canonical join) (are.silent join) (are.plain join) (free d) (take n (offered d)) (found d tally) made.typed (may d n tally) in
-    let accepted = λ (tally : Tally). accepts_joined c.args.modes.now c.args.now (are.canonical join) (are.silent join) (are.plain join) (free d) (take n (offered d))
+    ∙ joined_run c.args.modes.now c.args.now (are.canonical join) (are.silent join) (are.plain join) (free d)
+    (take n (offered d)) (found d tally) made.typed (may d n tally) in
+    let accepted = λ (tally : Tally). accepts_joined c.args.modes.now c.args.now (are.canonical join) (are.silent join)
+    (are.plain join) (free d) (take n (offered d))
     (found d tally) made.typed (may d n tally) in
     record {
       within = search rules;

@@ -11,7 +11,8 @@ pub returns-then-not-accepts-clause-after : goal.returns-then-not-accepts-clause
 returns-then-not-accepts-clause-after c =
     let first : OnPort = on_port c.args.self.now c.args.wire.now c.args.tally.now in
     let nothing : c.receive_run-count.result ≡ 0 = omega (arith, c.if-count-gt0.false) in
-    c.receive_run-count.ensures.after c.args.tally.now ∙ ap (λ (k : ℕ). after_characters c.args.modes.now c.args.now (take k c.args.chars.now) first) nothing
+    c.receive_run-count.ensures.after c.args.tally.now
+    ∙ ap (λ (k : ℕ). after_characters c.args.modes.now c.args.now (take k c.args.chars.now) first) nothing
 
 pub returns-clause-after : goal.returns-clause-after
 returns-clause-after c =
@@ -22,7 +23,9 @@ returns-clause-after c =
     let none : Flagged = record { byte = 0; flag = Normal } in
     let x : Flagged = get_or chars 0 none in
     let nothing : c.receive_run-count.result ≡ 0 = omega (arith, c.if-count-gt0.false) in
-    let same = c.receive_run-count.ensures.after c.args.tally.now ∙ ap (λ (k : ℕ). after_characters modes now (take k chars) first) nothing in
+    let same =
+    c.receive_run-count.ensures.after c.args.tally.now
+    ∙ ap (λ (k : ℕ). after_characters modes now (take k chars) first) nothing in
     c.receive.ensures.after
     ∙ ap (after_character modes now x) same
     ∙ sym (ap (λ cs. after_characters modes now cs first) (take_more chars 0 none c.requires.some))
@@ -35,6 +38,9 @@ returns-clause-accepted c =
     let first : OnPort = on_port c.args.self.now c.args.wire.now c.args.tally.now in
     let none : Flagged = record { byte = 0; flag = Normal } in
     let nothing : c.receive_run-count.result ≡ 0 = omega (arith, c.if-count-gt0.false) in
-    let same = c.receive_run-count.ensures.after c.args.tally.now ∙ ap (λ (k : ℕ). after_characters modes now (take k chars) first) nothing in
-    let accepting : is_accepting modes first.tty ≡ true = sym (ap (λ (port : OnPort). is_accepting modes port.tty) same) ∙ sym c.accepts.ensures ∙ c.if-not-accepts.false in
+    let same =
+    c.receive_run-count.ensures.after c.args.tally.now
+    ∙ ap (λ (k : ℕ). after_characters modes now (take k chars) first) nothing in
+    let accepting : is_accepting modes first.tty ≡ true =
+    sym (ap (λ (port : OnPort). is_accepting modes port.tty) same) ∙ sym c.accepts.ensures ∙ c.if-not-accepts.false in
     subst (λ cs. AcceptsAll modes now cs first) (sym (take_more chars 0 none c.requires.some)) (accepting, tt)

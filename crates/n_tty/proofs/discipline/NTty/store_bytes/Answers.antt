@@ -11,7 +11,14 @@ pub invariant_of-self : goal.invariant_of-self
 invariant_of-self c =
     let plain : has_flag c.args.modes.now ICANON ≡ false = sym c.has.ensures ∙ c.if-not-has.true in
     record {
-      within = omega (arith, ap (λ items. length (bytes_of items)) c.append.ensures, length-bytes_of-plain c.self.inside.store c.args.bytes.now, ap unread_count c.self.view_is, room_plain c.args.modes.now c.args.self.now (length c.args.bytes.now) c.requires.may.accepted plain c.requires.few);
+      within = omega (
+        arith,
+        ap (λ items. length (bytes_of items)) c.append.ensures,
+        length-bytes_of-plain c.self.inside.store c.args.bytes.now,
+        ap unread_count c.self.view_is,
+        room_plain c.args.modes.now c.args.self.now (length c.args.bytes.now)
+            c.requires.may.accepted plain c.requires.few,
+      );
       line = c.self.invariant.line;
     }
 
@@ -22,6 +29,13 @@ invariant_of-self-then-bytes-le-MOST_LINE c =
     let both = length-append c.self.inside.edit c.args.bytes.now in
     let short = ap length c.bytes.ensures.bytes in
     record {
-      within = omega (arith, joined, both, ap unread_count c.self.view_is, room_line c.args.modes.now c.args.self.now (length c.args.bytes.now) c.requires.may.accepted c.requires.may.fits c.requires.few (omega (arith, line, short, c.if-bytes-le-MOST_LINE.true)));
+      within = omega (
+        arith,
+        joined,
+        both,
+        ap unread_count c.self.view_is,
+        room_line c.args.modes.now c.args.self.now (length c.args.bytes.now) c.requires.may.accepted c.requires.may.fits
+            c.requires.few (omega (arith, line, short, c.if-bytes-le-MOST_LINE.true)),
+      );
       line = omega (arith, joined, both, short, c.if-bytes-le-MOST_LINE.true);
     }

@@ -8,6 +8,12 @@ invariant_of-self-in-Eof c =
     let inside = c.self-in-Eof.inside in
     let left = ap length c.end_with_eof.ensures.edit in
     record {
-      within = omega (arith, left, ap (λ items. length (bytes_of items)) c.end_with_eof.ensures.store, length-bytes_of-piece inside.store inside.edit (End ∷ []), c.self-in-Eof.invariant.within);
+      within = omega (
+        arith,
+        left,
+        ap (λ items. length (bytes_of items)) c.end_with_eof.ensures.store,
+        length-bytes_of-piece inside.store inside.edit (End ∷ []),
+        c.self-in-Eof.invariant.within,
+      );
       line = omega (arith, left);
     }

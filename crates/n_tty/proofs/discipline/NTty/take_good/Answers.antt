@@ -6,7 +6,8 @@ use Rattle.n_tty.proofs.discipline.NTty.take_good.Goals as goal
 pub returns-then-is_plain : goal.returns-then-is_plain
 returns-then-is_plain c =
     let port : OnPort = on_port c.args.self.now c.args.wire.now c.args.tally.now in
-    let unquoted : c.args.self.now.quoted ≡ false = sym (ap (λ (tty : NTtyState). tty.quoted) c.self.view_is) ∙ c.if-not-self.true in
+    let unquoted : c.args.self.now.quoted ≡ false =
+    sym (ap (λ (tty : NTtyState). tty.quoted) c.self.view_is) ∙ c.if-not-self.true in
     record {
       after =
           c.take_ordinary.ensures.after

@@ -28,7 +28,8 @@ seats-preserved g c =
       first = search rules;
       size = ap (λ n. n + 1) (c.in_ok-push.ensures.len ∙ i.size);
       others = subst (λ ss. AllNew z name list 1 ss) (sym c.in_ok-push.ensures.items)
-          (fresh_push z name list 1 c.seats.others.items c.split_seat.result i.others (subst (λ (n : ℕ). IsNew z name list n c.split_seat.result) number new));
+          (fresh_push z name list 1 c.seats.others.items c.split_seat.result i.others
+          (subst (λ (n : ℕ). IsNew z name list n c.split_seat.result) number new));
     }
 
 pub returns : goal.returns

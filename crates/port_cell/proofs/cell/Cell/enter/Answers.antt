@@ -5,7 +5,8 @@ use Rattle.port_cell.proofs.Counting.{enters}
 use Rattle.port_cell.proofs.cell.Cell.enter.Goals as goal
 
 pub fetch_add-word-requires : goal.fetch_add-word-requires
-fetch_add-word-requires g c = (search rules, search rules, enters g.V.Kept.name g.V.Kept.list _ _ _ _ _ c.requires.free c.requires.seat.named)
+fetch_add-word-requires g c =
+    (search rules, search rules, enters g.V.Kept.name g.V.Kept.list _ _ _ _ _ c.requires.free c.requires.seat.named)
 
 pub withdraw-requires-clause-seat : goal.withdraw-requires-clause-seat
 withdraw-requires-clause-seat g c =
@@ -17,4 +18,5 @@ withdraw-requires-clause-seat g c =
 
 pub withdraw-requires-clause-counted : goal.withdraw-requires-clause-counted
 withdraw-requires-clause-counted g c =
-    let now = c.fetch_add-word.ensures.2.1 (c.is_changing.ensures.0 c.if-is_changing.true) in ap (λ m. user_part m.0.user) now
+    let now = c.fetch_add-word.ensures.2.1 (c.is_changing.ensures.0 c.if-is_changing.true) in
+    ap (λ m. user_part m.0.user) now

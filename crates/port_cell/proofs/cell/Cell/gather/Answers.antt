@@ -1,10 +1,12 @@
-use Rattle.std.proofs.Common.{◌≡◌, [], ◌∷◌, ◌++◌, rules, is_some, refl, inl, sym, ap, ◌∙◌, subst, append_assoc, append-nil, arith}
+use Rattle.std.proofs.Common.{◌≡◌, [], ◌∷◌, ◌++◌, rules, is_some, refl, inl, sym}
+use Rattle.std.proofs.Common.{ap, ◌∙◌, subst, append_assoc, append-nil, arith}
 use Rattle.std.proofs.lemmas.Grind.{common_steps}
 use Rattle.port_cell.specs.Seats.{IsFree, EachSeat}
 use Rattle.port_cell.specs.Joining.{PartOf}
 use Rattle.port_cell.specs.Views.{total, installs_of, with_joined}
 use Rattle.port_cell.proofs.Totals.{total_snoc}
-use Rattle.port_cell.proofs.Ends.{joins, regrouped, installs_of-joining, each_front, each_weaker, part_more, part_joined}
+use Rattle.port_cell.proofs.Ends.{joins, regrouped, installs_of-joining}
+use Rattle.port_cell.proofs.Ends.{each_front, each_weaker, part_more, part_joined}
 use Rattle.port_cell.proofs.cell.Cell.gather.Goals as goal
 
 pub loop-other-init : goal.loop-other-init
@@ -20,15 +22,22 @@ pub join_seat-requires : goal.join_seat-requires
 join_seat-requires g c =
     let z = c.args.self.now.table.shared.table_id in
     let i = c.loop-other.invariant in
-    let both = each_front (IsFree z) c.pop.new.self.items c.in-Some.other (subst (λ ss. EachSeat (IsFree z) ss) c.in-Some.ensures.items i.seats) in
-    let other = both.1 in
-    (i.done.table, other.table, other.hand, search rules, joins g.V.Kept.name g.V.Kept.list _ _ _ _ _ _ i.done.named other.named other.free other.turn)
+    let both = each_front (IsFree z) c.pop.new.self.items c.in-Some.other
+    (subst (λ ss. EachSeat (IsFree z) ss) c.in-Some.ensures.items i.seats) in
+    let other = both.1 in (
+      i.done.table,
+      other.table,
+      other.hand,
+      search rules,
+      joins g.V.Kept.name g.V.Kept.list _ _ _ _ _ _ i.done.named other.named other.free other.turn,
+    )
 
 pub loop-other-preserved : goal.loop-other-preserved
 loop-other-preserved g c =
     let z = c.args.self.now.table.shared.table_id in
     let i = c.loop-other.invariant in
-    let both = each_front (IsFree z) c.pop.new.self.items c.in-Some.other (subst (λ ss. EachSeat (IsFree z) ss) c.in-Some.ensures.items i.seats) in
+    let both = each_front (IsFree z) c.pop.new.self.items c.in-Some.other
+    (subst (λ ss. EachSeat (IsFree z) ss) c.in-Some.ensures.items i.seats) in
     let v = c.loop-other.last.me.0 in
     let w = c.in-Some.other.me.0 in
     let now = c.join_seat.ensures.2 in
@@ -44,14 +53,18 @@ loop-other-preserved g c =
       seats = both.0;
       first = subst (λ m. PartOf m.0 c.args.last) (sym now) (part_more v w c.args.last i.first);
       installs = regrouped _ _ _ _ _ _ (ap (λ m. installs_of m.0) now ∙ installs_of-joining v w)
-          (ap (total (λ s. installs_of s.me.0)) c.in-Some.ensures.items ∙ total_snoc (λ s. installs_of s.me.0) c.pop.new.self.items c.in-Some.other)
+          (ap (total (λ s. installs_of s.me.0)) c.in-Some.ensures.items
+          ∙ total_snoc (λ s. installs_of s.me.0) c.pop.new.self.items c.in-Some.other)
           i.installs;
       parts = (
         c.in-Some.other ∷ taken,
-        i.parts.1 ∙ ap (λ ss. ss ++ taken) c.in-Some.ensures.items ∙ append_assoc c.pop.new.self.items (c.in-Some.other ∷ []) taken,
+        i.parts.1
+            ∙ ap (λ ss. ss ++ taken) c.in-Some.ensures.items
+            ∙ append_assoc c.pop.new.self.items (c.in-Some.other ∷ []) taken,
         (
           subst (λ m. PartOf m.0 c.in-Some.other) (sym now) (part_joined v c.in-Some.other),
-          subst (λ m. EachSeat (PartOf m.0) taken) (sym now) (each_weaker (PartOf v) (PartOf (with_joined v w)) (part_more v w) taken i.parts.2),
+          subst (λ m. EachSeat (PartOf m.0) taken) (sym now)
+              (each_weaker (PartOf v) (PartOf (with_joined v w)) (part_more v w) taken i.parts.2),
         ),
       );
     }

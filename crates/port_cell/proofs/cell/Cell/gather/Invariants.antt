@@ -9,7 +9,8 @@ invariant-loop-other g l = record {
   done : IsFree l.self.table.shared.table_id l.last;
   seats : EachSeat (IsFree l.self.table.shared.table_id) l.seats.items;
   first : PartOf l.last.me.0 l.fn.last;
-  installs : installs_of l.last.me.0 + total (λ s. installs_of s.me.0) l.seats.items ≡ installs_of l.fn.last.me.0 + total (λ s. installs_of s.me.0) l.fn.seats.items;
+  installs : installs_of l.last.me.0 + total (λ s. installs_of s.me.0) l.seats.items
+      ≡ installs_of l.fn.last.me.0 + total (λ s. installs_of s.me.0) l.fn.seats.items;
   parts : (taken : _) × (l.fn.seats.items ≡ l.seats.items ++ taken) × EachSeat (PartOf l.last.me.0) taken;
 }
 

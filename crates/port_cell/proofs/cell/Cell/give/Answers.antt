@@ -16,5 +16,6 @@ store-requires g c =
           (ap (λ m. m.0.name) now ∙ c.requires.name)
           (ap (λ m. m.0.seen) now ∙ c.requires.noted)
           (ap (λ m. m.0.raised) now ∙ c.requires.installed)
-          (ap (λ m. m.1) now ∙ ap (λ held. (0, Some value) ∷ rest held) (c.requires.seat.hand ∙ ap in_hand c.requires.turn)),
+          (ap (λ m. m.1) now
+          ∙ ap (λ held. (0, Some value) ∷ rest held) (c.requires.seat.hand ∙ ap in_hand c.requires.turn)),
     )

@@ -4,7 +4,8 @@ use Rattle.port_cell.proofs.Handing.{takes_turn}
 use Rattle.port_cell.proofs.cell.Cell.take.Goals as goal
 
 pub swap-requires : goal.swap-requires
-swap-requires g c = (search rules, search rules, takes_turn g.V.Kept.name g.V.Kept.list _ _ _ _ _ c.requires.none c.requires.seat.named)
+swap-requires g c =
+    (search rules, search rules, takes_turn g.V.Kept.name g.V.Kept.list _ _ _ _ _ c.requires.none c.requires.seat.named)
 
 pub exchange-requires : goal.exchange-requires
 exchange-requires g c =

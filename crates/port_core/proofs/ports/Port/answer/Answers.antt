@@ -1,6 +1,8 @@
-use Rattle.std.proofs.Common.{◌≡◌, ℕ, List, Option, [], ◌∷◌, ◌++◌, Bool, false, Some, ◌+◌, ◌<◌, ◌≤◌, length, refl, sym, ◌∙◌, ap, subst, arith, append-nil}
+use Rattle.std.proofs.Common.{◌≡◌, ℕ, List, Option, [], ◌∷◌, ◌++◌, Bool, false, Some, ◌+◌}
+use Rattle.std.proofs.Common.{◌<◌, ◌≤◌, length, refl, sym, ◌∙◌, ap, subst, arith, append-nil}
 use Rattle.tty_calls.specs.declared.journals.Who.TheVariants.{Caller}
-use Rattle.tty_calls.specs.Plain.{PlainEntry, answered, parted, handle_of, call_of, answer_of, entry_of, bytes_by, bytes_in}
+use Rattle.tty_calls.specs.Plain.{PlainEntry, answered, parted, handle_of, call_of}
+use Rattle.tty_calls.specs.Plain.{answer_of, entry_of, bytes_by, bytes_in}
 use Rattle.ldisc_switch.specs.Disciplines.{column_in}
 use Rattle.tty_terminal.specs.Terminals.{Terminal, caller_at, has_begun}
 use Rattle.tty_terminal.specs.Calls.{outcome}
@@ -27,85 +29,171 @@ use Rattle.port_core.proofs.ports.Port.answer.Goals as goal
 use Rattle.port_core.proofs.ports.Port.answer.Goals.{After-note, After-note-in-Takes}
 
 -- what a call leaves of the terminal
-leaves_of : (t u w : Terminal) (d : ℕ) (call : PlainCall) → u ≡ t → w ≡ left_by (outcome u (caller_at u d) call) u → Leaves t w
-leaves_of t u w d call same left = subst (λ (x : Terminal). Leaves x w) same (subst (λ (x : Terminal). Leaves u x) (sym left) (outcome_keeps u (caller_at u d) (Some call)).left)
+leaves_of : (t u w : Terminal) (d : ℕ) (call : PlainCall)
+    → u ≡ t
+    → w ≡ left_by (outcome u (caller_at u d) call) u
+    → Leaves t w
+leaves_of t u w d call same left = subst (λ (x : Terminal). Leaves x w) same
+    (subst (λ (x : Terminal). Leaves u x) (sym left) (outcome_keeps u (caller_at u d) (Some call)).left)
 
 pub caller-state-requires : goal.caller-state-requires
-caller-state-requires c = known_caller (value_of c.self.inside) c.args.self.now c.args.caller c.self.view_is c.self.invariant.port c.requires.ready.known
+caller-state-requires c = known_caller (value_of c.self.inside) c.args.self.now c.args.caller
+    c.self.view_is c.self.invariant.port c.requires.ready.known
 
 pub meet-requires-clause-known : goal.meet-requires-clause-known
-meet-requires-clause-known c = subst (λ (t : Terminal). c.args.caller < length t.callers) (sym c.prepare.ensures.terminal) (known_caller (value_of c.self.inside) c.args.self.now c.args.caller c.self.view_is c.self.invariant.port c.requires.ready.known)
+meet-requires-clause-known c = subst (λ (t : Terminal). c.args.caller < length t.callers)
+    (sym c.prepare.ensures.terminal)
+    (known_caller (value_of c.self.inside) c.args.self.now c.args.caller
+    c.self.view_is c.self.invariant.port c.requires.ready.known)
 
 pub meet-requires-clause-few : goal.meet-requires-clause-few
-meet-requires-clause-few c = omega (arith, (port_bounded (value_of c.self.inside) c.self.invariant.port).generation, ap (λ (t : Terminal). t.generation) c.prepare.ensures.terminal)
+meet-requires-clause-few c = omega (
+  arith,
+  (port_bounded (value_of c.self.inside) c.self.invariant.port).generation,
+  ap (λ (t : Terminal). t.generation) c.prepare.ensures.terminal,
+)
 
 pub advance-requires-clause-known : goal.advance-requires-clause-known
 advance-requires-clause-known c =
-    let w : Leaves c.self.inside.terminal.terminal c.meet.new.self.terminal = leaves_of c.self.inside.terminal.terminal c.prepare.new.terminal.terminal c.meet.new.self.terminal c.args.caller (call_of c.args.call.now) c.prepare.ensures.terminal c.meet.ensures.left in
-    subst (λ n. c.args.caller < n) (sym w.callers) (known_caller (value_of c.self.inside) c.args.self.now c.args.caller c.self.view_is c.self.invariant.port c.requires.ready.known)
+    let w : Leaves c.self.inside.terminal.terminal c.meet.new.self.terminal =
+    leaves_of c.self.inside.terminal.terminal c.prepare.new.terminal.terminal c.meet.new.self.terminal c.args.caller
+    (call_of c.args.call.now) c.prepare.ensures.terminal c.meet.ensures.left in
+    subst (λ n. c.args.caller < n) (sym w.callers)
+    (known_caller (value_of c.self.inside) c.args.self.now c.args.caller
+    c.self.view_is c.self.invariant.port c.requires.ready.known)
 
 pub note_part-requires-clause-known : goal.note_part-requires-clause-known
 note_part-requires-clause-known c =
-    let w : Leaves c.self.inside.terminal.terminal c.meet.new.self.terminal = leaves_of c.self.inside.terminal.terminal c.prepare.new.terminal.terminal c.meet.new.self.terminal c.args.caller (call_of c.args.call.now) c.prepare.ensures.terminal c.meet.ensures.left in
-    subst (λ n. c.args.caller < n) (sym w.callers) (known_caller (value_of c.self.inside) c.args.self.now c.args.caller c.self.view_is c.self.invariant.port c.requires.ready.known)
+    let w : Leaves c.self.inside.terminal.terminal c.meet.new.self.terminal =
+    leaves_of c.self.inside.terminal.terminal c.prepare.new.terminal.terminal c.meet.new.self.terminal c.args.caller
+    (call_of c.args.call.now) c.prepare.ensures.terminal c.meet.ensures.left in
+    subst (λ n. c.args.caller < n) (sym w.callers)
+    (known_caller (value_of c.self.inside) c.args.self.now c.args.caller
+    c.self.view_is c.self.invariant.port c.requires.ready.known)
 
 pub advance-requires-clause-few : goal.advance-requires-clause-few
 advance-requires-clause-few c =
-    let w : Leaves c.self.inside.terminal.terminal c.meet.new.self.terminal = leaves_of c.self.inside.terminal.terminal c.prepare.new.terminal.terminal c.meet.new.self.terminal c.args.caller (call_of c.args.call.now) c.prepare.ensures.terminal c.meet.ensures.left in
-    omega (arith, (w.caller c.args.caller).next, (port_bounded (value_of c.self.inside) c.self.invariant.port).next c.args.caller)
+    let w : Leaves c.self.inside.terminal.terminal c.meet.new.self.terminal =
+    leaves_of c.self.inside.terminal.terminal c.prepare.new.terminal.terminal c.meet.new.self.terminal c.args.caller
+    (call_of c.args.call.now) c.prepare.ensures.terminal c.meet.ensures.left in
+    omega (
+      arith,
+      (w.caller c.args.caller).next,
+      (port_bounded (value_of c.self.inside) c.self.invariant.port).next c.args.caller,
+    )
 
 pub add-requires-clause-bytes : goal.add-requires-clause-bytes
 add-requires-clause-bytes c =
     let t : Terminal = c.self.inside.terminal.terminal in
     let d = c.args.caller in
     let call = call_of c.args.call.now in
-    let meets : Meets (outcome t (caller_at t d) call) (met.Gives c.in-Gives.answer) = subst (λ (u : Terminal). Meets (outcome u (caller_at u d) call) (met.Gives c.in-Gives.answer)) c.prepare.ensures.terminal c.in-Gives.ensures.met in
+    let meets : Meets (outcome t (caller_at t d) call) (met.Gives c.in-Gives.answer) =
+    subst (λ (u : Terminal). Meets (outcome u (caller_at u d) call) (met.Gives c.in-Gives.answer))
+    c.prepare.ensures.terminal c.in-Gives.ensures.met in
     let few = (answer_fits t (caller_at t d) call).fits c.in-Gives.answer meets in
     let bytes = ap (λ (e : PlainEntry). bytes_by e.event) c.entry_of_call-entry.ensures ∙ ap bytes_in c.lent.ensures in
     rw bytes (omega (arith, few, c.room_for-bytes.ensures, c.in_ok-reserve_entry.ensures.bytes))
 
 pub note_part-requires-clause-parts : goal.note_part-requires-clause-parts
 note_part-requires-clause-parts c =
-    let w : Leaves c.self.inside.terminal.terminal c.meet.new.self.terminal = leaves_of c.self.inside.terminal.terminal c.prepare.new.terminal.terminal c.meet.new.self.terminal c.args.caller (call_of c.args.call.now) c.prepare.ensures.terminal c.meet.ensures.left in
+    let w : Leaves c.self.inside.terminal.terminal c.meet.new.self.terminal =
+    leaves_of c.self.inside.terminal.terminal c.prepare.new.terminal.terminal c.meet.new.self.terminal c.args.caller
+    (call_of c.args.call.now) c.prepare.ensures.terminal c.meet.ensures.left in
     let v : PortValue = value_of c.self.inside in
-    omega (arith, (w.caller c.args.caller).parts, run_part_count (call_in v.kept) v.counts v.flip.capacity v.journal v.terminal c.self.invariant.port.run c.args.caller, c.self.invariant.port.few, c.self.invariant.port.limit)
+    omega (
+      arith,
+      (w.caller c.args.caller).parts,
+      run_part_count (call_in v.kept) v.counts v.flip.capacity
+          v.journal v.terminal c.self.invariant.port.run c.args.caller,
+      c.self.invariant.port.few,
+      c.self.invariant.port.limit,
+    )
 
 pub note_part-requires-clause-bytes : goal.note_part-requires-clause-bytes
 note_part-requires-clause-bytes c =
-    let w : Leaves c.self.inside.terminal.terminal c.meet.new.self.terminal = leaves_of c.self.inside.terminal.terminal c.prepare.new.terminal.terminal c.meet.new.self.terminal c.args.caller (call_of c.args.call.now) c.prepare.ensures.terminal c.meet.ensures.left in
+    let w : Leaves c.self.inside.terminal.terminal c.meet.new.self.terminal =
+    leaves_of c.self.inside.terminal.terminal c.prepare.new.terminal.terminal c.meet.new.self.terminal c.args.caller
+    (call_of c.args.call.now) c.prepare.ensures.terminal c.meet.ensures.left in
     let u : Terminal = c.prepare.new.terminal.terminal in
-    let more : (caller_at u c.args.caller).taken + c.in-Takes.count < byte_count (call_of c.args.call.now) = part_more u (caller_at u c.args.caller) (call_of c.args.call.now) c.in-Takes.count (parts_met _ _ c.in-Takes.ensures.met) in
-    omega (arith, (w.caller c.args.caller).taken, more, ap (λ (t : Terminal). (caller_at t c.args.caller).taken) c.prepare.ensures.terminal, c.requires.ready.bytes)
+    let more : (caller_at u c.args.caller).taken + c.in-Takes.count < byte_count (call_of c.args.call.now) =
+    part_more u (caller_at u c.args.caller) (call_of c.args.call.now) c.in-Takes.count
+    (parts_met _ _ c.in-Takes.ensures.met) in
+    omega (
+      arith,
+      (w.caller c.args.caller).taken,
+      more,
+      ap (λ (t : Terminal). (caller_at t c.args.caller).taken) c.prepare.ensures.terminal,
+      c.requires.ready.bytes,
+    )
 
 abbrev answered_now : After-note → PortValue
-answered_now c = record (value_of c.self.inside) { terminal = c.advance.new.self.terminal; journal = c.add.new.self.items; kept = c.note.new.self.items; starved = c.prepare.new.starved; flip = (value_of c.self.inside).flip }
+answered_now c = record (value_of c.self.inside) {
+  terminal = c.advance.new.self.terminal;
+  journal = c.add.new.self.items;
+  kept = c.note.new.self.items;
+  starved = c.prepare.new.starved;
+  flip = (value_of c.self.inside).flip;
+}
 
 -- the invariant, and what the attempt came to
-answers : (c : After-note) → KeepsCalls (answered_now c) c.self.inside.waiting.items × AnswersCall (value_of c.self.inside) (answered_now c) c.args.caller c.args.step (call_of c.args.call.now) (answer_of c.in-Gives.answer)
+answers : (c : After-note)
+    → KeepsCalls (answered_now c) c.self.inside.waiting.items
+    × AnswersCall (value_of c.self.inside) (answered_now c) c.args.caller c.args.step (call_of c.args.call.now)
+    (answer_of c.in-Gives.answer)
 answers c =
     let v : PortValue = value_of c.self.inside in
     let d = c.args.caller in
     let step = c.args.step in
     let call = call_of c.args.call.now in
     let slots : List (Option WaitingCall) = c.self.inside.waiting.items in
-    let ready : IsReady v d step call = subst (λ (w : PortValue). IsReady w d step call) (sym c.self.view_is) c.requires.ready in
-    let few : length v.journal < v.limit = subst (λ (w : PortValue). length w.journal < w.limit) (sym c.self.view_is) c.requires.open.0 in
-    let begun : c.is_some-begun.result ≡ has_begun (caller_at v.terminal d) = begun_is v.terminal d c.caller-state.result c.is_some-begun.result c.caller-state.ensures c.is_some-begun.ensures in
+    let ready : IsReady v d step call =
+    subst (λ (w : PortValue). IsReady w d step call) (sym c.self.view_is) c.requires.ready in
+    let few : length v.journal < v.limit =
+    subst (λ (w : PortValue). length w.journal < w.limit) (sym c.self.view_is) c.requires.open.0 in
+    let begun : c.is_some-begun.result ≡ has_begun (caller_at v.terminal d) =
+    begun_is v.terminal d c.caller-state.result c.is_some-begun.result c.caller-state.ensures c.is_some-begun.ensures in
     let tried : IsTried v slots d step call = record { keeps = c.self.invariant; few = few; ready = ready } in
     let o = outcome v.terminal (caller_at v.terminal d) call in
-    let same_o : outcome c.prepare.new.terminal.terminal (caller_at c.prepare.new.terminal.terminal d) call ≡ o = ap (λ (t : Terminal). outcome t (caller_at t d) call) c.prepare.ensures.terminal in
-    let left : c.meet.new.self.terminal ≡ left_by o v.terminal = c.meet.ensures.left ∙ ap (λ (t : Terminal). left_by (outcome t (caller_at t d) call) t) c.prepare.ensures.terminal in
-    let column : column_in c.meet.new.self.terminal.disc ≤ column_in v.terminal.disc + 4096 = subst (λ (t : Terminal). column_in c.meet.new.self.terminal.disc ≤ column_in t.disc + 4096) c.prepare.ensures.terminal c.meet.ensures.column in
-    let keeps : drops_of o ≡ false = subst (λ (w : PortValue). drops_of (outcome w.terminal (caller_at w.terminal d) call) ≡ false) (sym c.self.view_is) c.requires.keeps in
+    let same_o : outcome c.prepare.new.terminal.terminal (caller_at c.prepare.new.terminal.terminal d) call ≡ o =
+    ap (λ (t : Terminal). outcome t (caller_at t d) call) c.prepare.ensures.terminal in
+    let left : c.meet.new.self.terminal ≡ left_by o v.terminal =
+    c.meet.ensures.left
+    ∙ ap (λ (t : Terminal). left_by (outcome t (caller_at t d) call) t) c.prepare.ensures.terminal in
+    let column : column_in c.meet.new.self.terminal.disc ≤ column_in v.terminal.disc + 4096 =
+    subst (λ (t : Terminal). column_in c.meet.new.self.terminal.disc ≤ column_in t.disc + 4096)
+    c.prepare.ensures.terminal c.meet.ensures.column in
+    let keeps : drops_of o ≡ false =
+    subst (λ (w : PortValue). drops_of (outcome w.terminal (caller_at w.terminal d) call) ≡ false) (sym c.self.view_is)
+    c.requires.keeps in
     let e : PlainEntry = caller_entry v d (answered (answer_of c.in-Gives.answer) []) in
-    let entry : entry_of c.entry_of_call-entry.result ≡ e = c.entry_of_call-entry.ensures ∙ (λ i. record { who = Caller d; step = ready.next i; part = (c.caller-state.ensures i).parts; generation = c.generation-generation.ensures i; event = answered (c.lent.ensures i) [] }) in
-    let js : c.add.new.self.items ≡ v.journal ++ e ∷ [] = entry_added v.journal _ _ _ e c.in_ok-reserve_entry.ensures.items c.add.ensures entry in
-    let kept_plain : c.note.new.self.items ≡ kept_with (has_begun (caller_at v.terminal d)) v.kept d step call = c.note.ensures ∙ ap (λ (b : Bool). kept_with b v.kept d step call) begun in
-    let goes : c.advance.new.self.terminal ≡ after_answer (with_dropped c.meet.new.self.terminal 0) d = ap (λ r. r.terminal) c.advance.ensures ∙ ap (λ (w : Terminal). after_answer w d) (sym (with_none_dropped c.meet.new.self.terminal)) in
-    let same : answered_now c ≡ after_call v d step call (after_answer (with_dropped c.meet.new.self.terminal 0) d) v.flip e = made v _ (after_answer (with_dropped c.meet.new.self.terminal 0) d) _ (v.journal ++ e ∷ []) _ (kept_with (has_begun (caller_at v.terminal d)) v.kept d step call) _ v.flip v.flip goes js kept_plain (c.in_ok-room.ensures.ok ∙ c.in_ok-reserve_entry.ensures.ok) refl in
-    answers_call v (answered_now c) slots d step call (answer_of c.in-Gives.answer) [] c.meet.new.self.terminal v.flip tried
-    (answers_met _ o c.in-Gives.answer (subst (λ (x : Outcome). Meets x (met.Gives c.in-Gives.answer)) same_o c.in-Gives.ensures.met)) (none_dropped v.terminal o keeps)
-    (when_false (drops_of o) _ _ keeps (refl, refl)) (sym (append-nil v.flip.taken)) (omega arith) refl c.self.invariant.port.sent left column same
+    let entry : entry_of c.entry_of_call-entry.result ≡ e =
+    c.entry_of_call-entry.ensures
+    ∙ (λ i. record {
+      who = Caller d;
+      step = ready.next i;
+      part = (c.caller-state.ensures i).parts;
+      generation = c.generation-generation.ensures i;
+      event = answered (c.lent.ensures i) [];
+    }) in
+    let js : c.add.new.self.items ≡ v.journal ++ e ∷ [] =
+    entry_added v.journal _ _ _ e c.in_ok-reserve_entry.ensures.items c.add.ensures entry in
+    let kept_plain : c.note.new.self.items ≡ kept_with (has_begun (caller_at v.terminal d)) v.kept d step call =
+    c.note.ensures ∙ ap (λ (b : Bool). kept_with b v.kept d step call) begun in
+    let goes : c.advance.new.self.terminal ≡ after_answer (with_dropped c.meet.new.self.terminal 0) d =
+    ap (λ r. r.terminal) c.advance.ensures
+    ∙ ap (λ (w : Terminal). after_answer w d) (sym (with_none_dropped c.meet.new.self.terminal)) in
+    let same : answered_now c
+    ≡ after_call v d step call (after_answer (with_dropped c.meet.new.self.terminal 0) d) v.flip e =
+    made v _ (after_answer (with_dropped c.meet.new.self.terminal 0) d) _ (v.journal ++ e ∷ []) _
+    (kept_with (has_begun (caller_at v.terminal d)) v.kept d step call) _ v.flip v.flip goes js kept_plain
+    (c.in_ok-room.ensures.ok ∙ c.in_ok-reserve_entry.ensures.ok) refl in
+    answers_call v (answered_now c) slots d step call (answer_of c.in-Gives.answer)
+    [] c.meet.new.self.terminal v.flip tried
+    (answers_met _ o c.in-Gives.answer
+    (subst (λ (x : Outcome). Meets x (met.Gives c.in-Gives.answer)) same_o c.in-Gives.ensures.met))
+    (none_dropped v.terminal o keeps)
+    (when_false (drops_of o) _ _ keeps (refl, refl)) (sym (append-nil v.flip.taken)) (omega arith)
+    refl c.self.invariant.port.sent left column same
 
 pub invariant_of-self-in-Gives : goal.invariant_of-self-in-Gives
 invariant_of-self-in-Gives c = (answers (goal.at.invariant_of-self-in-Gives c).After-note).0
@@ -113,36 +201,74 @@ invariant_of-self-in-Gives c = (answers (goal.at.invariant_of-self-in-Gives c).A
 pub returns-in-Gives-clause-tried : goal.returns-in-Gives-clause-tried
 returns-in-Gives-clause-tried c =
     let d = (goal.at.returns-in-Gives-clause-tried c).After-note in
-    subst (λ (w : PortValue). AnswersCall w (answered_now d) c.args.caller c.args.step (call_of c.args.call.now) (answer_of c.in-Gives.answer)) c.self.view_is (answers d).1
+    subst (λ (w : PortValue).
+    AnswersCall w (answered_now d) c.args.caller c.args.step (call_of c.args.call.now) (answer_of c.in-Gives.answer))
+    c.self.view_is (answers d).1
 
 abbrev taken_now : After-note-in-Takes → PortValue
-taken_now c = record (value_of c.self.inside) { terminal = c.note_part.new.self.terminal; journal = c.add-in-Takes.new.self.items; kept = c.note-in-Takes.new.self.items; starved = c.prepare.new.starved; flip = (value_of c.self.inside).flip }
+taken_now c = record (value_of c.self.inside) {
+  terminal = c.note_part.new.self.terminal;
+  journal = c.add-in-Takes.new.self.items;
+  kept = c.note-in-Takes.new.self.items;
+  starved = c.prepare.new.starved;
+  flip = (value_of c.self.inside).flip;
+}
 
 -- of a part
-takes : (c : After-note-in-Takes) → KeepsCalls (taken_now c) c.self.inside.waiting.items × TakesPartOf (value_of c.self.inside) (taken_now c) c.args.caller c.args.step (call_of c.args.call.now)
+takes : (c : After-note-in-Takes)
+    → KeepsCalls (taken_now c) c.self.inside.waiting.items
+    × TakesPartOf (value_of c.self.inside) (taken_now c) c.args.caller c.args.step (call_of c.args.call.now)
 takes c =
     let v : PortValue = value_of c.self.inside in
     let d = c.args.caller in
     let step = c.args.step in
     let call = call_of c.args.call.now in
     let slots : List (Option WaitingCall) = c.self.inside.waiting.items in
-    let ready : IsReady v d step call = subst (λ (w : PortValue). IsReady w d step call) (sym c.self.view_is) c.requires.ready in
-    let few : length v.journal < v.limit = subst (λ (w : PortValue). length w.journal < w.limit) (sym c.self.view_is) c.requires.open.0 in
-    let begun : c.is_some-begun.result ≡ has_begun (caller_at v.terminal d) = begun_is v.terminal d c.caller-state.result c.is_some-begun.result c.caller-state.ensures c.is_some-begun.ensures in
+    let ready : IsReady v d step call =
+    subst (λ (w : PortValue). IsReady w d step call) (sym c.self.view_is) c.requires.ready in
+    let few : length v.journal < v.limit =
+    subst (λ (w : PortValue). length w.journal < w.limit) (sym c.self.view_is) c.requires.open.0 in
+    let begun : c.is_some-begun.result ≡ has_begun (caller_at v.terminal d) =
+    begun_is v.terminal d c.caller-state.result c.is_some-begun.result c.caller-state.ensures c.is_some-begun.ensures in
     let tried : IsTried v slots d step call = record { keeps = c.self.invariant; few = few; ready = ready } in
     let o = outcome v.terminal (caller_at v.terminal d) call in
-    let same_o : outcome c.prepare.new.terminal.terminal (caller_at c.prepare.new.terminal.terminal d) call ≡ o = ap (λ (t : Terminal). outcome t (caller_at t d) call) c.prepare.ensures.terminal in
-    let left : c.meet.new.self.terminal ≡ left_by o v.terminal = c.meet.ensures.left ∙ ap (λ (t : Terminal). left_by (outcome t (caller_at t d) call) t) c.prepare.ensures.terminal in
-    let column : column_in c.meet.new.self.terminal.disc ≤ column_in v.terminal.disc + 4096 = subst (λ (t : Terminal). column_in c.meet.new.self.terminal.disc ≤ column_in t.disc + 4096) c.prepare.ensures.terminal c.meet.ensures.column in
-    let keeps : drops_of o ≡ false = subst (λ (w : PortValue). drops_of (outcome w.terminal (caller_at w.terminal d) call) ≡ false) (sym c.self.view_is) c.requires.keeps in
+    let same_o : outcome c.prepare.new.terminal.terminal (caller_at c.prepare.new.terminal.terminal d) call ≡ o =
+    ap (λ (t : Terminal). outcome t (caller_at t d) call) c.prepare.ensures.terminal in
+    let left : c.meet.new.self.terminal ≡ left_by o v.terminal =
+    c.meet.ensures.left
+    ∙ ap (λ (t : Terminal). left_by (outcome t (caller_at t d) call) t) c.prepare.ensures.terminal in
+    let column : column_in c.meet.new.self.terminal.disc ≤ column_in v.terminal.disc + 4096 =
+    subst (λ (t : Terminal). column_in c.meet.new.self.terminal.disc ≤ column_in t.disc + 4096)
+    c.prepare.ensures.terminal c.meet.ensures.column in
+    let keeps : drops_of o ≡ false =
+    subst (λ (w : PortValue). drops_of (outcome w.terminal (caller_at w.terminal d) call) ≡ false) (sym c.self.view_is)
+    c.requires.keeps in
     let e : PlainEntry = caller_entry v d (parted c.in-Takes.count) in
-    let entry : entry_of c.entry_of_call-entry-in-Takes.result ≡ e = c.entry_of_call-entry-in-Takes.ensures ∙ (λ i. record { who = Caller d; step = ready.next i; part = (c.caller-state.ensures i).parts; generation = c.generation-generation.ensures i; event = parted c.in-Takes.count }) in
-    let js : c.add-in-Takes.new.self.items ≡ v.journal ++ e ∷ [] = entry_added v.journal _ _ _ e c.in_ok-reserve_entry.ensures.items c.add-in-Takes.ensures entry in
-    let kept_plain : c.note-in-Takes.new.self.items ≡ kept_with (has_begun (caller_at v.terminal d)) v.kept d step call = c.note-in-Takes.ensures ∙ ap (λ (b : Bool). kept_with b v.kept d step call) begun in
-    let goes : c.note_part.new.self.terminal ≡ after_part c.meet.new.self.terminal d (handle_of call) c.in-Takes.count = ap (λ r. r.terminal) c.note_part.ensures ∙ ap (λ (h : ℕ). after_part c.meet.new.self.terminal d h c.in-Takes.count) c.handle.ensures in
-    let same : taken_now c ≡ after_call v d step call (after_part c.meet.new.self.terminal d (handle_of call) c.in-Takes.count) v.flip e = made v _ (after_part c.meet.new.self.terminal d (handle_of call) c.in-Takes.count) _ (v.journal ++ e ∷ []) _ (kept_with (has_begun (caller_at v.terminal d)) v.kept d step call) _ v.flip v.flip goes js kept_plain (c.in_ok-room.ensures.ok ∙ c.in_ok-reserve_entry.ensures.ok) refl in
+    let entry : entry_of c.entry_of_call-entry-in-Takes.result ≡ e =
+    c.entry_of_call-entry-in-Takes.ensures
+    ∙ (λ i. record {
+      who = Caller d;
+      step = ready.next i;
+      part = (c.caller-state.ensures i).parts;
+      generation = c.generation-generation.ensures i;
+      event = parted c.in-Takes.count;
+    }) in
+    let js : c.add-in-Takes.new.self.items ≡ v.journal ++ e ∷ [] =
+    entry_added v.journal _ _ _ e c.in_ok-reserve_entry.ensures.items c.add-in-Takes.ensures entry in
+    let kept_plain : c.note-in-Takes.new.self.items
+    ≡ kept_with (has_begun (caller_at v.terminal d)) v.kept d step call =
+    c.note-in-Takes.ensures ∙ ap (λ (b : Bool). kept_with b v.kept d step call) begun in
+    let goes : c.note_part.new.self.terminal ≡ after_part c.meet.new.self.terminal d (handle_of call) c.in-Takes.count =
+    ap (λ r. r.terminal) c.note_part.ensures
+    ∙ ap (λ (h : ℕ). after_part c.meet.new.self.terminal d h c.in-Takes.count) c.handle.ensures in
+    let same : taken_now c
+    ≡ after_call v d step call (after_part c.meet.new.self.terminal d (handle_of call) c.in-Takes.count) v.flip e =
+    made v _ (after_part c.meet.new.self.terminal d (handle_of call) c.in-Takes.count) _ (v.journal ++ e ∷ []) _
+    (kept_with (has_begun (caller_at v.terminal d)) v.kept d step call) _ v.flip v.flip goes js kept_plain
+    (c.in_ok-room.ensures.ok ∙ c.in_ok-reserve_entry.ensures.ok) refl in
     takes_part_of v (taken_now c) slots d step call c.in-Takes.count c.meet.new.self.terminal tried
-    (parts_met o c.in-Takes.count (subst (λ (x : Outcome). Meets x (met.Takes c.in-Takes.count)) same_o c.in-Takes.ensures.met)) left column same
+    (parts_met o c.in-Takes.count
+    (subst (λ (x : Outcome). Meets x (met.Takes c.in-Takes.count)) same_o c.in-Takes.ensures.met)) left column same
 
 pub invariant_of-self-in-Takes : goal.invariant_of-self-in-Takes
 invariant_of-self-in-Takes c = (takes (goal.at.invariant_of-self-in-Takes c).After-note-in-Takes).0
@@ -150,4 +276,5 @@ invariant_of-self-in-Takes c = (takes (goal.at.invariant_of-self-in-Takes c).Aft
 pub returns-in-Takes-clause-tried : goal.returns-in-Takes-clause-tried
 returns-in-Takes-clause-tried c =
     let d = (goal.at.returns-in-Takes-clause-tried c).After-note-in-Takes in
-    subst (λ (w : PortValue). TakesPartOf w (taken_now d) c.args.caller c.args.step (call_of c.args.call.now)) c.self.view_is (takes d).1
+    subst (λ (w : PortValue). TakesPartOf w (taken_now d) c.args.caller c.args.step (call_of c.args.call.now))
+    c.self.view_is (takes d).1

@@ -1,5 +1,6 @@
 use Rattle.std.specs.Prelude.{MatchBool}
-use Rattle.std.proofs.Common.{◌≡◌, ℕ, List, Option, [], ◌∷◌, ◌++◌, Bool, true, false, Some, ◌+◌, ◌-◌, min, if◌then◌else◌, ◌<◌, ◌≤◌, length, refl, sym, ◌∙◌, ap, subst, arith}
+use Rattle.std.proofs.Common.{◌≡◌, ℕ, List, Option, [], ◌∷◌, ◌++◌, Bool, true, false, Some, ◌+◌, ◌-◌}
+use Rattle.std.proofs.Common.{min, if◌then◌else◌, ◌<◌, ◌≤◌, length, refl, sym, ◌∙◌, ap, subst, arith}
 use Rattle.tty_base.specs.declared.characters.Flagged.{Flagged}
 use Rattle.tty_calls.specs.declared.journals.Who.TheVariants.{Caller}
 use Rattle.tty_calls.specs.Plain.{PlainEntry, answered, call_of, answer_of, entry_of, bytes_by, bytes_in, chars_in}
@@ -13,7 +14,8 @@ use Rattle.port_core.specs.Flips.{DropsShown}
 use Rattle.port_core.specs.Ports.{PortValue, kept_with, caller_entry}
 use Rattle.port_core.specs.Attempts.{IsReady, AnswersCall}
 use Rattle.port_core.specs.Inside.{KeepsCalls, value_of}
-use Rattle.port_core.proofs.GoingOn.{made, entry_added, known_caller, port_bounded, port_taken, port_capacity, port_within, port_few}
+use Rattle.port_core.proofs.GoingOn.{made, entry_added, known_caller, port_bounded}
+use Rattle.port_core.proofs.GoingOn.{port_taken, port_capacity, port_within, port_few}
 use Rattle.port_core.proofs.Calls.{begun_is, answers_met, some_dropped}
 use Rattle.port_core.proofs.Answering.{IsTried, after_call, answers_call}
 use Rattle.tty_calls.specs.Plain.{PlainCall}
@@ -29,61 +31,119 @@ use Rattle.port_core.proofs.ports.Port.answer_dropping.Goals as goal
 use Rattle.port_core.proofs.ports.Port.answer_dropping.Goals.{After-note}
 
 -- what a call leaves of the terminal
-leaves_of : (t u w : Terminal) (d : ℕ) (call : PlainCall) → u ≡ t → w ≡ left_by (outcome u (caller_at u d) call) u → Leaves t w
-leaves_of t u w d call same left = subst (λ (x : Terminal). Leaves x w) same (subst (λ (x : Terminal). Leaves u x) (sym left) (outcome_keeps u (caller_at u d) (Some call)).left)
+leaves_of : (t u w : Terminal) (d : ℕ) (call : PlainCall)
+    → u ≡ t
+    → w ≡ left_by (outcome u (caller_at u d) call) u
+    → Leaves t w
+leaves_of t u w d call same left = subst (λ (x : Terminal). Leaves x w) same
+    (subst (λ (x : Terminal). Leaves u x) (sym left) (outcome_keeps u (caller_at u d) (Some call)).left)
 
 when_true : (b : Bool) (X Y : Type 0) → b ≡ true → X → MatchBool b X Y
 when_true true X Y h x = x
 when_true false X Y h x = absurd (false≢true h)
 
-shown_few : (over : Bool) (tail taken sent n : ℕ) → n ≡ (if over then min (tail - taken) (sent - taken) else tail - taken) → n ≤ tail - taken
+shown_few : (over : Bool) (tail taken sent n : ℕ)
+    → n ≡ (if over then min (tail - taken) (sent - taken) else tail - taken)
+    → n ≤ tail - taken
 shown_few true tail taken sent n is = omega arith
 shown_few false tail taken sent n is = omega arith
 
-drops_within : (v : PortValue) (f : TakerState Flagged) (chars : List Flagged) → IsPort v → DropsShown v.terminal v.flip f chars → length chars ≤ v.flip.capacity
-drops_within v f chars p shown = omega (arith, shown_few v.terminal.line_over shown.tail v.terminal.taken v.terminal.sent (length chars) shown.all, shown.looks.most, port_taken v p)
+drops_within : (v : PortValue) (f : TakerState Flagged) (chars : List Flagged)
+    → IsPort v
+    → DropsShown v.terminal v.flip f chars
+    → length chars ≤ v.flip.capacity
+drops_within v f chars p shown = omega (
+  arith,
+  shown_few v.terminal.line_over shown.tail v.terminal.taken v.terminal.sent (length chars) shown.all,
+  shown.looks.most,
+  port_taken v p,
+)
 
-drops_few : (v : PortValue) (f : TakerState Flagged) (chars : List Flagged) → IsPort v → DropsShown v.terminal v.flip f chars → length chars ≤ 65536
+drops_few : (v : PortValue) (f : TakerState Flagged) (chars : List Flagged)
+    → IsPort v
+    → DropsShown v.terminal v.flip f chars
+    → length chars ≤ 65536
 drops_few v f chars p shown = omega (arith, drops_within v f chars p shown, p.capacity)
 
 pub caller-state-requires : goal.caller-state-requires
-caller-state-requires c = known_caller (value_of c.self.inside) c.args.self.now c.args.caller c.self.view_is c.self.invariant.port c.requires.ready.known
+caller-state-requires c = known_caller (value_of c.self.inside) c.args.self.now c.args.caller
+    c.self.view_is c.self.invariant.port c.requires.ready.known
 
 pub drop_shown-requires-clause-taken : goal.drop_shown-requires-clause-taken
-drop_shown-requires-clause-taken c = ap (λ (t : Terminal). t.taken) c.prepare.ensures.terminal ∙ port_taken (value_of c.self.inside) c.self.invariant.port
+drop_shown-requires-clause-taken c =
+    ap (λ (t : Terminal). t.taken) c.prepare.ensures.terminal
+    ∙ port_taken (value_of c.self.inside) c.self.invariant.port
 
 pub drop_shown-requires-clause-within : goal.drop_shown-requires-clause-within
-drop_shown-requires-clause-within c = subst (λ (t : Terminal). t.sent ≤ t.taken + c.self.inside.flip.capacity) (sym c.prepare.ensures.terminal) (omega (arith, port_within (value_of c.self.inside) c.self.invariant.port, port_taken (value_of c.self.inside) c.self.invariant.port))
+drop_shown-requires-clause-within c = subst (λ (t : Terminal). t.sent ≤ t.taken + c.self.inside.flip.capacity)
+    (sym c.prepare.ensures.terminal)
+    (omega (
+      arith,
+      port_within (value_of c.self.inside) c.self.invariant.port,
+      port_taken (value_of c.self.inside) c.self.invariant.port,
+    ))
 
 pub meet-requires-clause-known : goal.meet-requires-clause-known
-meet-requires-clause-known c = subst (λ (t : Terminal). c.args.caller < length t.callers) (sym c.prepare.ensures.terminal) (known_caller (value_of c.self.inside) c.args.self.now c.args.caller c.self.view_is c.self.invariant.port c.requires.ready.known)
+meet-requires-clause-known c = subst (λ (t : Terminal). c.args.caller < length t.callers)
+    (sym c.prepare.ensures.terminal)
+    (known_caller (value_of c.self.inside) c.args.self.now c.args.caller
+    c.self.view_is c.self.invariant.port c.requires.ready.known)
 
 pub meet-requires-clause-few : goal.meet-requires-clause-few
-meet-requires-clause-few c = omega (arith, (port_bounded (value_of c.self.inside) c.self.invariant.port).generation, ap (λ (t : Terminal). t.generation) c.prepare.ensures.terminal)
+meet-requires-clause-few c = omega (
+  arith,
+  (port_bounded (value_of c.self.inside) c.self.invariant.port).generation,
+  ap (λ (t : Terminal). t.generation) c.prepare.ensures.terminal,
+)
 
 pub drop_characters-requires : goal.drop_characters-requires
 drop_characters-requires c =
-    let w : Leaves c.self.inside.terminal.terminal c.meet.new.self.terminal = leaves_of c.self.inside.terminal.terminal c.prepare.new.terminal.terminal c.meet.new.self.terminal c.args.caller (call_of c.args.call.now) c.prepare.ensures.terminal c.meet.ensures.left in
+    let w : Leaves c.self.inside.terminal.terminal c.meet.new.self.terminal =
+    leaves_of c.self.inside.terminal.terminal c.prepare.new.terminal.terminal c.meet.new.self.terminal c.args.caller
+    (call_of c.args.call.now) c.prepare.ensures.terminal c.meet.ensures.left in
     let v : PortValue = value_of c.self.inside in
-    let shown : DropsShown v.terminal v.flip c.drop_shown.new.flip c.drop_shown.new.dropped.items = subst (λ (t : Terminal). DropsShown t v.flip c.drop_shown.new.flip c.drop_shown.new.dropped.items) c.prepare.ensures.terminal c.drop_shown.ensures in
-    omega (arith, w.taken, drops_few v c.drop_shown.new.flip c.drop_shown.new.dropped.items c.self.invariant.port shown, port_few v c.self.invariant.port, port_taken v c.self.invariant.port, c.len-count.ensures)
+    let shown : DropsShown v.terminal v.flip c.drop_shown.new.flip c.drop_shown.new.dropped.items =
+    subst (λ (t : Terminal). DropsShown t v.flip c.drop_shown.new.flip c.drop_shown.new.dropped.items)
+    c.prepare.ensures.terminal c.drop_shown.ensures in
+    omega (
+      arith,
+      w.taken,
+      drops_few v c.drop_shown.new.flip c.drop_shown.new.dropped.items c.self.invariant.port shown,
+      port_few v c.self.invariant.port,
+      port_taken v c.self.invariant.port,
+      c.len-count.ensures,
+    )
 
 pub advance-requires-clause-known : goal.advance-requires-clause-known
 advance-requires-clause-known c =
-    let w : Leaves c.self.inside.terminal.terminal c.meet.new.self.terminal = leaves_of c.self.inside.terminal.terminal c.prepare.new.terminal.terminal c.meet.new.self.terminal c.args.caller (call_of c.args.call.now) c.prepare.ensures.terminal c.meet.ensures.left in
-    subst (λ (t : Terminal). c.args.caller < length t.callers) (sym (ap (λ r. r.terminal) c.drop_characters.ensures)) (subst (λ n. c.args.caller < n) (sym w.callers) (known_caller (value_of c.self.inside) c.args.self.now c.args.caller c.self.view_is c.self.invariant.port c.requires.ready.known))
+    let w : Leaves c.self.inside.terminal.terminal c.meet.new.self.terminal =
+    leaves_of c.self.inside.terminal.terminal c.prepare.new.terminal.terminal c.meet.new.self.terminal c.args.caller
+    (call_of c.args.call.now) c.prepare.ensures.terminal c.meet.ensures.left in
+    subst (λ (t : Terminal). c.args.caller < length t.callers) (sym (ap (λ r. r.terminal) c.drop_characters.ensures))
+    (subst (λ n. c.args.caller < n) (sym w.callers)
+    (known_caller (value_of c.self.inside) c.args.self.now c.args.caller
+    c.self.view_is c.self.invariant.port c.requires.ready.known))
 
 pub advance-requires-clause-few : goal.advance-requires-clause-few
 advance-requires-clause-few c =
-    let w : Leaves c.self.inside.terminal.terminal c.meet.new.self.terminal = leaves_of c.self.inside.terminal.terminal c.prepare.new.terminal.terminal c.meet.new.self.terminal c.args.caller (call_of c.args.call.now) c.prepare.ensures.terminal c.meet.ensures.left in
-    omega (arith, ap (λ (t : Terminal). (caller_at t c.args.caller).next) (ap (λ r. r.terminal) c.drop_characters.ensures), (w.caller c.args.caller).next, (port_bounded (value_of c.self.inside) c.self.invariant.port).next c.args.caller)
+    let w : Leaves c.self.inside.terminal.terminal c.meet.new.self.terminal =
+    leaves_of c.self.inside.terminal.terminal c.prepare.new.terminal.terminal c.meet.new.self.terminal c.args.caller
+    (call_of c.args.call.now) c.prepare.ensures.terminal c.meet.ensures.left in
+    omega (
+      arith,
+      ap (λ (t : Terminal). (caller_at t c.args.caller).next) (ap (λ r. r.terminal) c.drop_characters.ensures),
+      (w.caller c.args.caller).next,
+      (port_bounded (value_of c.self.inside) c.self.invariant.port).next c.args.caller,
+    )
 
 pub add-requires-clause-bytes : goal.add-requires-clause-bytes
 add-requires-clause-bytes c =
     let t : Terminal = c.self.inside.terminal.terminal in
     let d = c.args.caller in
     let call = call_of c.args.call.now in
-    let meets : Meets (outcome t (caller_at t d) call) (met.Gives c.in-Gives.answer) = subst (λ (u : Terminal). Meets (outcome u (caller_at u d) call) (met.Gives c.in-Gives.answer)) c.prepare.ensures.terminal c.in-Gives.ensures.met in
+    let meets : Meets (outcome t (caller_at t d) call) (met.Gives c.in-Gives.answer) =
+    subst (λ (u : Terminal). Meets (outcome u (caller_at u d) call) (met.Gives c.in-Gives.answer))
+    c.prepare.ensures.terminal c.in-Gives.ensures.met in
     let few = (answer_fits t (caller_at t d) call).fits c.in-Gives.answer meets in
     let bytes = ap (λ (e : PlainEntry). bytes_by e.event) c.entry_of_call-entry.ensures ∙ ap bytes_in c.lent.ensures in
     rw bytes (omega (arith, few, c.room_for-bytes.ensures, c.in_ok-reserve_entry.ensures.bytes))
@@ -91,42 +151,97 @@ add-requires-clause-bytes c =
 pub add-requires-clause-characters : goal.add-requires-clause-characters
 add-requires-clause-characters c =
     let v : PortValue = value_of c.self.inside in
-    let shown : DropsShown v.terminal v.flip c.drop_shown.new.flip c.drop_shown.new.dropped.items = subst (λ (t : Terminal). DropsShown t v.flip c.drop_shown.new.flip c.drop_shown.new.dropped.items) c.prepare.ensures.terminal c.drop_shown.ensures in
+    let shown : DropsShown v.terminal v.flip c.drop_shown.new.flip c.drop_shown.new.dropped.items =
+    subst (λ (t : Terminal). DropsShown t v.flip c.drop_shown.new.flip c.drop_shown.new.dropped.items)
+    c.prepare.ensures.terminal c.drop_shown.ensures in
     let characters = ap (λ (e : PlainEntry). chars_in e.event) c.entry_of_call-entry.ensures ∙ c.as_slice.ensures in
-    rw characters (omega (arith, drops_within v c.drop_shown.new.flip c.drop_shown.new.dropped.items c.self.invariant.port shown, c.capacity-capacity.ensures, c.in_ok-reserve_entry.ensures.characters))
+    rw characters (omega (
+      arith,
+      drops_within v c.drop_shown.new.flip c.drop_shown.new.dropped.items c.self.invariant.port shown,
+      c.capacity-capacity.ensures,
+      c.in_ok-reserve_entry.ensures.characters,
+    ))
 
 abbrev now_of : After-note → PortValue
-now_of c = record (value_of c.self.inside) { terminal = c.advance.new.self.terminal; journal = c.add.new.self.items; kept = c.note.new.self.items; starved = c.prepare.new.starved; flip = c.drop_shown.new.flip }
+now_of c = record (value_of c.self.inside) {
+  terminal = c.advance.new.self.terminal;
+  journal = c.add.new.self.items;
+  kept = c.note.new.self.items;
+  starved = c.prepare.new.starved;
+  flip = c.drop_shown.new.flip;
+}
 
 -- the invariant, and what the attempt came to
-answers : (c : After-note) → KeepsCalls (now_of c) c.self.inside.waiting.items × AnswersCall (value_of c.self.inside) (now_of c) c.args.caller c.args.step (call_of c.args.call.now) (answer_of c.in-Gives.answer)
+answers : (c : After-note)
+    → KeepsCalls (now_of c) c.self.inside.waiting.items
+    × AnswersCall (value_of c.self.inside) (now_of c) c.args.caller c.args.step (call_of c.args.call.now)
+    (answer_of c.in-Gives.answer)
 answers c =
     let v : PortValue = value_of c.self.inside in
-    let shown : DropsShown v.terminal v.flip c.drop_shown.new.flip c.drop_shown.new.dropped.items = subst (λ (t : Terminal). DropsShown t v.flip c.drop_shown.new.flip c.drop_shown.new.dropped.items) c.prepare.ensures.terminal c.drop_shown.ensures in
+    let shown : DropsShown v.terminal v.flip c.drop_shown.new.flip c.drop_shown.new.dropped.items =
+    subst (λ (t : Terminal). DropsShown t v.flip c.drop_shown.new.flip c.drop_shown.new.dropped.items)
+    c.prepare.ensures.terminal c.drop_shown.ensures in
     let d = c.args.caller in
     let step = c.args.step in
     let call = call_of c.args.call.now in
     let slots : List (Option WaitingCall) = c.self.inside.waiting.items in
-    let ready : IsReady v d step call = subst (λ (w : PortValue). IsReady w d step call) (sym c.self.view_is) c.requires.ready in
-    let few : length v.journal < v.limit = subst (λ (w : PortValue). length w.journal < w.limit) (sym c.self.view_is) c.requires.open.0 in
-    let begun : c.is_some-begun.result ≡ has_begun (caller_at v.terminal d) = begun_is v.terminal d c.caller-state.result c.is_some-begun.result c.caller-state.ensures c.is_some-begun.ensures in
+    let ready : IsReady v d step call =
+    subst (λ (w : PortValue). IsReady w d step call) (sym c.self.view_is) c.requires.ready in
+    let few : length v.journal < v.limit =
+    subst (λ (w : PortValue). length w.journal < w.limit) (sym c.self.view_is) c.requires.open.0 in
+    let begun : c.is_some-begun.result ≡ has_begun (caller_at v.terminal d) =
+    begun_is v.terminal d c.caller-state.result c.is_some-begun.result c.caller-state.ensures c.is_some-begun.ensures in
     let tried : IsTried v slots d step call = record { keeps = c.self.invariant; few = few; ready = ready } in
     let o = outcome v.terminal (caller_at v.terminal d) call in
-    let same_o : outcome c.prepare.new.terminal.terminal (caller_at c.prepare.new.terminal.terminal d) call ≡ o = ap (λ (t : Terminal). outcome t (caller_at t d) call) c.prepare.ensures.terminal in
-    let left : c.meet.new.self.terminal ≡ left_by o v.terminal = c.meet.ensures.left ∙ ap (λ (t : Terminal). left_by (outcome t (caller_at t d) call) t) c.prepare.ensures.terminal in
-    let column : column_in c.meet.new.self.terminal.disc ≤ column_in v.terminal.disc + 4096 = subst (λ (t : Terminal). column_in c.meet.new.self.terminal.disc ≤ column_in t.disc + 4096) c.prepare.ensures.terminal c.meet.ensures.column in
-    let drops : drops_of o ≡ true = subst (λ (w : PortValue). drops_of (outcome w.terminal (caller_at w.terminal d) call) ≡ true) (sym c.self.view_is) c.requires.drops in
+    let same_o : outcome c.prepare.new.terminal.terminal (caller_at c.prepare.new.terminal.terminal d) call ≡ o =
+    ap (λ (t : Terminal). outcome t (caller_at t d) call) c.prepare.ensures.terminal in
+    let left : c.meet.new.self.terminal ≡ left_by o v.terminal =
+    c.meet.ensures.left
+    ∙ ap (λ (t : Terminal). left_by (outcome t (caller_at t d) call) t) c.prepare.ensures.terminal in
+    let column : column_in c.meet.new.self.terminal.disc ≤ column_in v.terminal.disc + 4096 =
+    subst (λ (t : Terminal). column_in c.meet.new.self.terminal.disc ≤ column_in t.disc + 4096)
+    c.prepare.ensures.terminal c.meet.ensures.column in
+    let drops : drops_of o ≡ true =
+    subst (λ (w : PortValue). drops_of (outcome w.terminal (caller_at w.terminal d) call) ≡ true) (sym c.self.view_is)
+    c.requires.drops in
     let e : PlainEntry = caller_entry v d (answered (answer_of c.in-Gives.answer) c.drop_shown.new.dropped.items) in
-    let entry : entry_of c.entry_of_call-entry.result ≡ e = c.entry_of_call-entry.ensures ∙ (λ i. record { who = Caller d; step = ready.next i; part = (c.caller-state.ensures i).parts; generation = c.generation-generation.ensures i; event = answered (c.lent.ensures i) (c.as_slice.ensures i) }) in
-    let js : c.add.new.self.items ≡ v.journal ++ e ∷ [] = entry_added v.journal _ _ _ e c.in_ok-reserve_entry.ensures.items c.add.ensures entry in
-    let kept_plain : c.note.new.self.items ≡ kept_with (has_begun (caller_at v.terminal d)) v.kept d step call = c.note.ensures ∙ ap (λ (b : Bool). kept_with b v.kept d step call) begun in
-    let goes : c.advance.new.self.terminal ≡ after_answer (with_dropped c.meet.new.self.terminal (length c.drop_shown.new.dropped.items)) d = ap (λ r. r.terminal) c.advance.ensures ∙ ap (λ (w : Terminal). after_answer w d) (ap (λ r. r.terminal) c.drop_characters.ensures ∙ ap (λ n. with_dropped c.meet.new.self.terminal n) c.len-count.ensures) in
-    let same : now_of c ≡ after_call v d step call (after_answer (with_dropped c.meet.new.self.terminal (length c.drop_shown.new.dropped.items)) d) c.drop_shown.new.flip e = made v _ (after_answer (with_dropped c.meet.new.self.terminal (length c.drop_shown.new.dropped.items)) d) _ (v.journal ++ e ∷ []) _ (kept_with (has_begun (caller_at v.terminal d)) v.kept d step call) _ c.drop_shown.new.flip c.drop_shown.new.flip goes js kept_plain (c.in_ok-room.ensures.ok ∙ c.in_ok-dropped.ensures.ok ∙ c.in_ok-reserve_entry.ensures.ok) refl in
+    let entry : entry_of c.entry_of_call-entry.result ≡ e =
+    c.entry_of_call-entry.ensures
+    ∙ (λ i. record {
+      who = Caller d;
+      step = ready.next i;
+      part = (c.caller-state.ensures i).parts;
+      generation = c.generation-generation.ensures i;
+      event = answered (c.lent.ensures i) (c.as_slice.ensures i);
+    }) in
+    let js : c.add.new.self.items ≡ v.journal ++ e ∷ [] =
+    entry_added v.journal _ _ _ e c.in_ok-reserve_entry.ensures.items c.add.ensures entry in
+    let kept_plain : c.note.new.self.items ≡ kept_with (has_begun (caller_at v.terminal d)) v.kept d step call =
+    c.note.ensures ∙ ap (λ (b : Bool). kept_with b v.kept d step call) begun in
+    let goes : c.advance.new.self.terminal
+    ≡ after_answer (with_dropped c.meet.new.self.terminal (length c.drop_shown.new.dropped.items)) d =
+    ap (λ r. r.terminal) c.advance.ensures
+    ∙ ap (λ (w : Terminal). after_answer w d) (ap (λ r. r.terminal) c.drop_characters.ensures
+    ∙ ap (λ n. with_dropped c.meet.new.self.terminal n) c.len-count.ensures) in
+    let same : now_of c
+    ≡ after_call v d step call
+    (after_answer (with_dropped c.meet.new.self.terminal (length c.drop_shown.new.dropped.items)) d)
+    c.drop_shown.new.flip e =
+    made v _ (after_answer (with_dropped c.meet.new.self.terminal (length c.drop_shown.new.dropped.items)) d) _
+    (v.journal ++ e ∷ []) _ (kept_with (has_begun (caller_at v.terminal d)) v.kept d step call) _ c.drop_shown.new.flip
+    c.drop_shown.new.flip goes js kept_plain
+    (c.in_ok-room.ensures.ok ∙ c.in_ok-dropped.ensures.ok ∙ c.in_ok-reserve_entry.ensures.ok) refl in
     let least : v.terminal.sent ≤ shown.tail = omega (arith, c.self.invariant.port.sent, shown.looks.rises) in
-    let most : shown.tail ≤ v.terminal.taken + v.terminal.capacity = omega (arith, shown.looks.most, port_taken v c.self.invariant.port, port_capacity v c.self.invariant.port) in
-    answers_call v (now_of c) slots d step call (answer_of c.in-Gives.answer) c.drop_shown.new.dropped.items c.meet.new.self.terminal c.drop_shown.new.flip tried
-    (answers_met _ o c.in-Gives.answer (subst (λ (x : Outcome). Meets x (met.Gives c.in-Gives.answer)) same_o c.in-Gives.ensures.met)) (some_dropped v.terminal o shown.tail (length c.drop_shown.new.dropped.items) drops least most shown.all)
-    (when_true (drops_of o) _ _ drops shown) shown.takes_out.taken (drops_few v c.drop_shown.new.flip c.drop_shown.new.dropped.items c.self.invariant.port shown) shown.takes_out.capacity (omega (arith, least, shown.looks.floor)) left column same
+    let most : shown.tail ≤ v.terminal.taken + v.terminal.capacity =
+    omega (arith, shown.looks.most, port_taken v c.self.invariant.port, port_capacity v c.self.invariant.port) in
+    answers_call v (now_of c) slots d step call (answer_of c.in-Gives.answer) c.drop_shown.new.dropped.items
+    c.meet.new.self.terminal c.drop_shown.new.flip tried
+    (answers_met _ o c.in-Gives.answer
+    (subst (λ (x : Outcome). Meets x (met.Gives c.in-Gives.answer)) same_o c.in-Gives.ensures.met))
+    (some_dropped v.terminal o shown.tail (length c.drop_shown.new.dropped.items) drops least most shown.all)
+    (when_true (drops_of o) _ _ drops shown) shown.takes_out.taken
+    (drops_few v c.drop_shown.new.flip c.drop_shown.new.dropped.items c.self.invariant.port shown)
+    shown.takes_out.capacity (omega (arith, least, shown.looks.floor)) left column same
 
 pub invariant_of-self-2 : goal.invariant_of-self-2
 invariant_of-self-2 c = (answers (goal.at.invariant_of-self-2 c).After-note).0
@@ -134,4 +249,6 @@ invariant_of-self-2 c = (answers (goal.at.invariant_of-self-2 c).After-note).0
 pub returns-clause-tried : goal.returns-clause-tried
 returns-clause-tried c =
     let d = (goal.at.returns-clause-tried c).After-note in
-    subst (λ (w : PortValue). AnswersCall w (now_of d) c.args.caller c.args.step (call_of c.args.call.now) (answer_of c.in-Gives.answer)) c.self.view_is (answers d).1
+    subst (λ (w : PortValue).
+    AnswersCall w (now_of d) c.args.caller c.args.step (call_of c.args.call.now) (answer_of c.in-Gives.answer))
+    c.self.view_is (answers d).1

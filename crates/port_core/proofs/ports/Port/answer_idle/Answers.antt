@@ -1,4 +1,5 @@
-use Rattle.std.proofs.Common.{◌≡◌, List, Option, [], ◌∷◌, ◌++◌, Bool, true, false, ◌&&◌, is_some, ◌<◌, length, refl, sym, ◌∙◌, ap, subst, arith, append-nil}
+use Rattle.std.proofs.Common.{◌≡◌, List, Option, [], ◌∷◌, ◌++◌, Bool, true, false, ◌&&◌, is_some}
+use Rattle.std.proofs.Common.{◌<◌, length, refl, sym, ◌∙◌, ap, subst, arith, append-nil}
 use Rattle.tty_calls.specs.declared.journals.Who.TheVariants.{Caller}
 use Rattle.tty_calls.specs.Plain.{PlainEntry, answered, idle, call_of, entry_of}
 use Rattle.tty_terminal.specs.Terminals.{Terminal, caller_at, has_begun}
@@ -10,7 +11,8 @@ use Rattle.port_core.specs.Ports.{PortValue, kept_with, caller_entry}
 use Rattle.port_core.specs.Attempts.{IsReady, AnswersCall}
 use Rattle.port_core.specs.Inside.{KeepsCalls, value_of}
 use Rattle.port_core.proofs.GoingOn.{made, entry_added, known_caller, port_bounded}
-use Rattle.port_core.proofs.Calls.{begun_is, idle_answers, left_waiting, waiting_drops, waiting_keeps, with_none_dropped}
+use Rattle.port_core.proofs.Calls.{begun_is, idle_answers, left_waiting}
+use Rattle.port_core.proofs.Calls.{waiting_drops, waiting_keeps, with_none_dropped}
 use Rattle.port_core.proofs.Answering.{IsTried, after_call, answers_call}
 use Rattle.port_core.proofs.Handing.{when_false}
 use Rattle.port_core.proofs.ports.Port.answer_idle.Goals as goal
@@ -21,41 +23,75 @@ both_true true b p q = q
 both_true false b p q = p
 
 pub caller-state-requires : goal.caller-state-requires
-caller-state-requires c = known_caller (value_of c.self.inside) c.args.self.now c.args.caller c.self.view_is c.self.invariant.port c.requires.ready.known
+caller-state-requires c = known_caller (value_of c.self.inside) c.args.self.now c.args.caller
+    c.self.view_is c.self.invariant.port c.requires.ready.known
 
 pub advance-requires-clause-known : goal.advance-requires-clause-known
-advance-requires-clause-known c = known_caller (value_of c.self.inside) c.args.self.now c.args.caller c.self.view_is c.self.invariant.port c.requires.ready.known
+advance-requires-clause-known c = known_caller (value_of c.self.inside) c.args.self.now c.args.caller
+    c.self.view_is c.self.invariant.port c.requires.ready.known
 
 pub advance-requires-clause-few : goal.advance-requires-clause-few
-advance-requires-clause-few c = omega (arith, (port_bounded (value_of c.self.inside) c.self.invariant.port).next c.args.caller)
+advance-requires-clause-few c =
+    omega (arith, (port_bounded (value_of c.self.inside) c.self.invariant.port).next c.args.caller)
 
 abbrev now_of : After-note → PortValue
-now_of c = record (value_of c.self.inside) { terminal = c.advance.new.self.terminal; journal = c.add.new.self.items; kept = c.note.new.self.items; starved = c.reserve_entry.new.starved; flip = (value_of c.self.inside).flip }
+now_of c = record (value_of c.self.inside) {
+  terminal = c.advance.new.self.terminal;
+  journal = c.add.new.self.items;
+  kept = c.note.new.self.items;
+  starved = c.reserve_entry.new.starved;
+  flip = (value_of c.self.inside).flip;
+}
 
 -- the invariant, and what the attempt came to
-answers : (c : After-note) → KeepsCalls (now_of c) c.self.inside.waiting.items × AnswersCall (value_of c.self.inside) (now_of c) c.args.caller c.args.step (call_of c.args.call.now) idle
+answers : (c : After-note)
+    → KeepsCalls (now_of c) c.self.inside.waiting.items
+    × AnswersCall (value_of c.self.inside) (now_of c) c.args.caller c.args.step (call_of c.args.call.now) idle
 answers c =
     let v : PortValue = value_of c.self.inside in
     let d = c.args.caller in
     let step = c.args.step in
     let call = call_of c.args.call.now in
     let slots : List (Option WaitingCall) = c.self.inside.waiting.items in
-    let ready : IsReady v d step call = subst (λ (w : PortValue). IsReady w d step call) (sym c.self.view_is) c.requires.ready in
-    let few : length v.journal < v.limit = subst (λ (w : PortValue). length w.journal < w.limit) (sym c.self.view_is) c.requires.open.0 in
-    let begun : c.is_some-begun.result ≡ has_begun (caller_at v.terminal d) = begun_is v.terminal d c.caller-state.result c.is_some-begun.result c.caller-state.ensures c.is_some-begun.ensures in
+    let ready : IsReady v d step call =
+    subst (λ (w : PortValue). IsReady w d step call) (sym c.self.view_is) c.requires.ready in
+    let few : length v.journal < v.limit =
+    subst (λ (w : PortValue). length w.journal < w.limit) (sym c.self.view_is) c.requires.open.0 in
+    let begun : c.is_some-begun.result ≡ has_begun (caller_at v.terminal d) =
+    begun_is v.terminal d c.caller-state.result c.is_some-begun.result c.caller-state.ensures c.is_some-begun.ensures in
     let tried : IsTried v slots d step call = record { keeps = c.self.invariant; few = few; ready = ready } in
     let e : PlainEntry = caller_entry v d (answered idle []) in
-    let entry : entry_of c.entry_of_call-entry.result ≡ e = c.entry_of_call-entry.ensures ∙ (λ i. record { who = Caller d; step = ready.next i; part = (c.caller-state.ensures i).parts; generation = c.generation-generation.ensures i; event = answered idle [] }) in
-    let js : c.add.new.self.items ≡ v.journal ++ e ∷ [] = entry_added v.journal _ _ _ e c.in_ok-reserve_entry.ensures.items c.add.ensures entry in
-    let kept_plain : c.note.new.self.items ≡ kept_with (has_begun (caller_at v.terminal d)) v.kept d step call = c.note.ensures ∙ ap (λ (b : Bool). kept_with b v.kept d step call) begun in
-    let left : c.advance.new.self.terminal ≡ after_answer (with_dropped v.terminal 0) d = ap (λ r. r.terminal) c.advance.ensures ∙ (ap (λ (w : Terminal). after_answer w d) (sym (with_none_dropped v.terminal))) in
-    let same : now_of c ≡ after_call v d step call (after_answer (with_dropped v.terminal 0) d) v.flip e = made v _ (after_answer (with_dropped v.terminal 0) d) _ (v.journal ++ e ∷ []) _ (kept_with (has_begun (caller_at v.terminal d)) v.kept d step call) _ v.flip v.flip left js kept_plain c.in_ok-reserve_entry.ensures.ok refl in
+    let entry : entry_of c.entry_of_call-entry.result ≡ e =
+    c.entry_of_call-entry.ensures
+    ∙ (λ i. record {
+      who = Caller d;
+      step = ready.next i;
+      part = (c.caller-state.ensures i).parts;
+      generation = c.generation-generation.ensures i;
+      event = answered idle [];
+    }) in
+    let js : c.add.new.self.items ≡ v.journal ++ e ∷ [] =
+    entry_added v.journal _ _ _ e c.in_ok-reserve_entry.ensures.items c.add.ensures entry in
+    let kept_plain : c.note.new.self.items ≡ kept_with (has_begun (caller_at v.terminal d)) v.kept d step call =
+    c.note.ensures ∙ ap (λ (b : Bool). kept_with b v.kept d step call) begun in
+    let left : c.advance.new.self.terminal ≡ after_answer (with_dropped v.terminal 0) d =
+    ap (λ r. r.terminal) c.advance.ensures
+    ∙ (ap (λ (w : Terminal). after_answer w d) (sym (with_none_dropped v.terminal))) in
+    let same : now_of c ≡ after_call v d step call (after_answer (with_dropped v.terminal 0) d) v.flip e =
+    made v _ (after_answer (with_dropped v.terminal 0) d) _ (v.journal ++ e ∷ []) _
+    (kept_with (has_begun (caller_at v.terminal d)) v.kept d step call) _ v.flip v.flip
+    left js kept_plain c.in_ok-reserve_entry.ensures.ok refl in
     let o = outcome v.terminal (caller_at v.terminal d) call in
-    let must : MustWait o = subst (λ (w : PortValue). MustWait (outcome w.terminal (caller_at w.terminal d) call)) (sym c.self.view_is) c.requires.must in
+    let must : MustWait o =
+    subst (λ (w : PortValue). MustWait (outcome w.terminal (caller_at w.terminal d) call)) (sym c.self.view_is)
+    c.requires.must in
     let may : (is_some (caller_at v.terminal d).waits && quiet v.counts v.terminal) ≡ true = both_true _ _
-    (subst (λ (w : PortValue). is_some (caller_at w.terminal d).waits ≡ true) (sym c.self.view_is) c.requires.waits) (subst (λ (w : PortValue). quiet w.counts w.terminal ≡ true) (sym c.self.view_is) c.requires.quiet) in
-    answers_call v (now_of c) slots d step call idle [] v.terminal v.flip tried (idle_answers _ o must may) (waiting_drops v.terminal o must)
-    (when_false (drops_of o) _ _ (waiting_keeps o must) (refl, refl)) (sym (append-nil v.flip.taken)) (omega arith) refl c.self.invariant.port.sent (sym (left_waiting o v.terminal must)) (omega arith) same
+    (subst (λ (w : PortValue). is_some (caller_at w.terminal d).waits ≡ true) (sym c.self.view_is) c.requires.waits)
+    (subst (λ (w : PortValue). quiet w.counts w.terminal ≡ true) (sym c.self.view_is) c.requires.quiet) in
+    answers_call v (now_of c) slots d step call idle [] v.terminal v.flip tried (idle_answers _ o must may)
+    (waiting_drops v.terminal o must)
+    (when_false (drops_of o) _ _ (waiting_keeps o must) (refl, refl)) (sym (append-nil v.flip.taken)) (omega arith) refl
+    c.self.invariant.port.sent (sym (left_waiting o v.terminal must)) (omega arith) same
 
 pub invariant_of-self-2 : goal.invariant_of-self-2
 invariant_of-self-2 c = (answers (goal.at.invariant_of-self-2 c).After-note).0
@@ -63,4 +99,5 @@ invariant_of-self-2 c = (answers (goal.at.invariant_of-self-2 c).After-note).0
 pub returns-clause-tried : goal.returns-clause-tried
 returns-clause-tried c =
     let d = (goal.at.returns-clause-tried c).After-note in
-    subst (λ (w : PortValue). AnswersCall w (now_of d) c.args.caller c.args.step (call_of c.args.call.now) idle) c.self.view_is (answers d).1
+    subst (λ (w : PortValue). AnswersCall w (now_of d) c.args.caller c.args.step (call_of c.args.call.now) idle)
+    c.self.view_is (answers d).1

@@ -22,29 +22,40 @@ where_ok (Ok x) P Z f h = f x h
 where_ok (Err d) P Z f h = tt
 
 pub drops-requires-clause-known : goal.drops-requires-clause-known
-drops-requires-clause-known c = known_caller (value_of c.self.inside) c.args.self.now c.args.caller c.self.view_is c.self.invariant.port c.requires.known
+drops-requires-clause-known c = known_caller (value_of c.self.inside) c.args.self.now c.args.caller
+    c.self.view_is c.self.invariant.port c.requires.known
 
 pub returns-then-drops-clause-at_once : goal.returns-then-drops-clause-at_once
 returns-then-drops-clause-at_once c =
-    λ e. each_ok c.answer_dropping.result _ _ (λ x h. is_at_once c.args.self.now c.answer_dropping.new.self c.args.caller c.args.step (call_of c.args.call.now) (tried_of x) (subst IsPort c.self.view_is c.self.invariant.port) c.requires e h) c.answer_dropping.ensures.tried
+    λ e. each_ok c.answer_dropping.result _ _
+    (λ x h. is_at_once c.args.self.now c.answer_dropping.new.self c.args.caller c.args.step (call_of c.args.call.now)
+    (tried_of x) (subst IsPort c.self.view_is c.self.invariant.port) c.requires e h) c.answer_dropping.ensures.tried
 
 pub returns-then-drops-clause-generation : goal.returns-then-drops-clause-generation
 returns-then-drops-clause-generation c =
-    where_ok c.answer_dropping.result _ _ (λ x h. raises c.args.self.now c.answer_dropping.new.self c.args.caller c.args.step (call_of c.args.call.now) (tried_of x) (subst IsPort c.self.view_is c.self.invariant.port) c.requires h) c.answer_dropping.ensures.tried
+    where_ok c.answer_dropping.result _ _
+    (λ x h. raises c.args.self.now c.answer_dropping.new.self c.args.caller c.args.step (call_of c.args.call.now)
+    (tried_of x) (subst IsPort c.self.view_is c.self.invariant.port) c.requires h) c.answer_dropping.ensures.tried
 
 pub must_wait-requires-clause-known : goal.must_wait-requires-clause-known
-must_wait-requires-clause-known c = known_caller (value_of c.self.inside) c.args.self.now c.args.caller c.self.view_is c.self.invariant.port c.requires.known
+must_wait-requires-clause-known c = known_caller (value_of c.self.inside) c.args.self.now c.args.caller
+    c.self.view_is c.self.invariant.port c.requires.known
 
 pub returns-then-not-must_wait-clause-at_once : goal.returns-then-not-must_wait-clause-at_once
 returns-then-not-must_wait-clause-at_once c =
-    λ e. each_ok c.answer.result _ _ (λ x h. is_at_once c.args.self.now c.answer.new.self c.args.caller c.args.step (call_of c.args.call.now) (tried_of x) (subst IsPort c.self.view_is c.self.invariant.port) c.requires e h) c.answer.ensures.tried
+    λ e. each_ok c.answer.result _ _
+    (λ x h. is_at_once c.args.self.now c.answer.new.self c.args.caller c.args.step (call_of c.args.call.now)
+    (tried_of x) (subst IsPort c.self.view_is c.self.invariant.port) c.requires e h) c.answer.ensures.tried
 
 pub returns-then-not-must_wait-clause-generation : goal.returns-then-not-must_wait-clause-generation
 returns-then-not-must_wait-clause-generation c =
-    where_ok c.answer.result _ _ (λ x h. raises c.args.self.now c.answer.new.self c.args.caller c.args.step (call_of c.args.call.now) (tried_of x) (subst IsPort c.self.view_is c.self.invariant.port) c.requires h) c.answer.ensures.tried
+    where_ok c.answer.result _ _
+    (λ x h. raises c.args.self.now c.answer.new.self c.args.caller c.args.step (call_of c.args.call.now) (tried_of x)
+    (subst IsPort c.self.view_is c.self.invariant.port) c.requires h) c.answer.ensures.tried
 
 pub caller-requires : goal.caller-requires
-caller-requires c = known_caller (value_of c.self.inside) c.args.self.now c.args.caller c.self.view_is c.self.invariant.port c.requires.known
+caller-requires c = known_caller (value_of c.self.inside) c.args.self.now c.args.caller
+    c.self.view_is c.self.invariant.port c.requires.known
 
 pub returns-then-is_none-clause-at_once : goal.returns-then-is_none-clause-at_once
 returns-then-is_none-clause-at_once c =
@@ -54,7 +65,9 @@ returns-then-is_none-clause-at_once c =
 
 pub returns-then-is_none-clause-generation : goal.returns-then-is_none-clause-generation
 returns-then-is_none-clause-generation c =
-    where_ok c.begin_wait.result _ _ (λ x h. raises c.args.self.now c.begin_wait.new.self c.args.caller c.args.step (call_of c.args.call.now) (tried_of x) (subst IsPort c.self.view_is c.self.invariant.port) c.requires h) c.begin_wait.ensures.tried
+    where_ok c.begin_wait.result _ _
+    (λ x h. raises c.args.self.now c.begin_wait.new.self c.args.caller c.args.step (call_of c.args.call.now)
+    (tried_of x) (subst IsPort c.self.view_is c.self.invariant.port) c.requires h) c.begin_wait.ensures.tried
 
 pub returns-then-not-quiet-clause-at_once : goal.returns-then-not-quiet-clause-at_once
 returns-then-not-quiet-clause-at_once c =
@@ -70,4 +83,6 @@ returns-clause-at_once c =
 
 pub returns-clause-generation : goal.returns-clause-generation
 returns-clause-generation c =
-    where_ok c.answer_idle.result _ _ (λ x h. raises c.args.self.now c.answer_idle.new.self c.args.caller c.args.step (call_of c.args.call.now) (tried_of x) (subst IsPort c.self.view_is c.self.invariant.port) c.requires h) c.answer_idle.ensures.tried
+    where_ok c.answer_idle.result _ _
+    (λ x h. raises c.args.self.now c.answer_idle.new.self c.args.caller c.args.step (call_of c.args.call.now)
+    (tried_of x) (subst IsPort c.self.view_is c.self.invariant.port) c.requires h) c.answer_idle.ensures.tried

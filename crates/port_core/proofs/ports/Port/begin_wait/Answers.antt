@@ -1,4 +1,5 @@
-use Rattle.std.proofs.Common.{◌≡◌, ℕ, List, Option, [], ◌∷◌, ◌++◌, Bool, None, Some, ◌<◌, length, set, refl, sym, ◌∙◌, ap, subst}
+use Rattle.std.proofs.Common.{◌≡◌, ℕ, List, Option, [], ◌∷◌, ◌++◌, Bool, None}
+use Rattle.std.proofs.Common.{Some, ◌<◌, length, set, refl, sym, ◌∙◌, ap, subst}
 use Rattle.tty_calls.specs.declared.journals.Who.TheVariants.{Caller}
 use Rattle.tty_calls.specs.Plain.{PlainEntry, waited, handle_of, call_of, entry_of}
 use Rattle.tty_terminal.specs.Terminals.{caller_at, has_begun}
@@ -16,37 +17,68 @@ use Rattle.port_core.proofs.ports.Port.begin_wait.Goals as goal
 use Rattle.port_core.proofs.ports.Port.begin_wait.Goals.{After-note}
 
 pub caller-state-requires : goal.caller-state-requires
-caller-state-requires c = known_caller (value_of c.self.inside) c.args.self.now c.args.caller c.self.view_is c.self.invariant.port c.requires.ready.known
+caller-state-requires c = known_caller (value_of c.self.inside) c.args.self.now c.args.caller
+    c.self.view_is c.self.invariant.port c.requires.ready.known
 
 pub copy_of-requires : goal.copy_of-requires
-copy_of-requires c = can_wait_here c.args.self.now.terminal (caller_at c.args.self.now.terminal c.args.caller) (call_of c.args.call.now) c.requires.must
+copy_of-requires c = can_wait_here c.args.self.now.terminal (caller_at c.args.self.now.terminal c.args.caller)
+    (call_of c.args.call.now) c.requires.must
 
 pub wait-requires-clause-known : goal.wait-requires-clause-known
-wait-requires-clause-known c = known_caller (value_of c.self.inside) c.args.self.now c.args.caller c.self.view_is c.self.invariant.port c.requires.ready.known
+wait-requires-clause-known c = known_caller (value_of c.self.inside) c.args.self.now c.args.caller
+    c.self.view_is c.self.invariant.port c.requires.ready.known
 
 abbrev now_of : After-note → PortValue
-now_of c = record (value_of c.self.inside) { terminal = c.wait.new.self.terminal; journal = c.add.new.self.items; kept = c.note.new.self.items; starved = c.copy_of.new.starved; flip = (value_of c.self.inside).flip }
+now_of c = record (value_of c.self.inside) {
+  terminal = c.wait.new.self.terminal;
+  journal = c.add.new.self.items;
+  kept = c.note.new.self.items;
+  starved = c.copy_of.new.starved;
+  flip = (value_of c.self.inside).flip;
+}
 
 -- the invariant, and what the attempt came to
-begins : (c : After-note) → KeepsCalls (now_of c) (set c.self.inside.waiting.items c.args.caller (Some c.in_ok-copy.copy)) × MustGoOnWaiting (value_of c.self.inside) (now_of c) c.args.caller c.args.step (call_of c.args.call.now)
+begins : (c : After-note)
+    → KeepsCalls (now_of c) (set c.self.inside.waiting.items c.args.caller (Some c.in_ok-copy.copy))
+    × MustGoOnWaiting (value_of c.self.inside) (now_of c) c.args.caller c.args.step (call_of c.args.call.now)
 begins c =
     let v : PortValue = value_of c.self.inside in
     let d = c.args.caller in
     let step = c.args.step in
     let call = call_of c.args.call.now in
     let slots : List (Option WaitingCall) = c.self.inside.waiting.items in
-    let ready : IsReady v d step call = subst (λ (w : PortValue). IsReady w d step call) (sym c.self.view_is) c.requires.ready in
-    let few : length v.journal < v.limit = subst (λ (w : PortValue). length w.journal < w.limit) (sym c.self.view_is) c.requires.open.0 in
-    let begun : c.is_some-begun.result ≡ has_begun (caller_at v.terminal d) = begun_is v.terminal d c.caller-state.result c.is_some-begun.result c.caller-state.ensures c.is_some-begun.ensures in
+    let ready : IsReady v d step call =
+    subst (λ (w : PortValue). IsReady w d step call) (sym c.self.view_is) c.requires.ready in
+    let few : length v.journal < v.limit =
+    subst (λ (w : PortValue). length w.journal < w.limit) (sym c.self.view_is) c.requires.open.0 in
+    let begun : c.is_some-begun.result ≡ has_begun (caller_at v.terminal d) =
+    begun_is v.terminal d c.caller-state.result c.is_some-begun.result c.caller-state.ensures c.is_some-begun.ensures in
     let tried : IsTried v slots d step call = record { keeps = c.self.invariant; few = few; ready = ready } in
     let e : PlainEntry = caller_entry v d waited in
-    let entry : entry_of c.entry_of_call-entry.result ≡ e = c.entry_of_call-entry.ensures ∙ (λ i. record { who = Caller d; step = ready.next i; part = (c.caller-state.ensures i).parts; generation = c.generation-generation.ensures i; event = waited }) in
-    let js : c.add.new.self.items ≡ v.journal ++ e ∷ [] = entry_added v.journal _ _ _ e c.in_ok-reserve_entry.ensures.items c.add.ensures entry in
-    let kept_plain : c.note.new.self.items ≡ kept_with (has_begun (caller_at v.terminal d)) v.kept d step call = c.note.ensures ∙ ap (λ (b : Bool). kept_with b v.kept d step call) begun in
-    let left : c.wait.new.self.terminal ≡ after_wait v.terminal d (handle_of call) = ap (λ r. r.terminal) c.wait.ensures ∙ ap (λ (h : ℕ). after_wait v.terminal d h) c.handle.ensures in
-    let same : now_of c ≡ after_call v d step call (after_wait v.terminal d (handle_of call)) v.flip e = made v _ (after_wait v.terminal d (handle_of call)) _ (v.journal ++ e ∷ []) _ (kept_with (has_begun (caller_at v.terminal d)) v.kept d step call) _ v.flip v.flip left js kept_plain (c.in_ok-copy.ensures.ok ∙ c.in_ok-reserve_entry.ensures.ok) refl in
-    let must : MustWait (outcome v.terminal (caller_at v.terminal d) call) = subst (λ (w : PortValue). MustWait (outcome w.terminal (caller_at w.terminal d) call)) (sym c.self.view_is) c.requires.must in
-    let first : (caller_at v.terminal d).waits ≡ None = subst (λ (w : PortValue). (caller_at w.terminal d).waits ≡ None) (sym c.self.view_is) c.requires.first in
+    let entry : entry_of c.entry_of_call-entry.result ≡ e =
+    c.entry_of_call-entry.ensures
+    ∙ (λ i. record {
+      who = Caller d;
+      step = ready.next i;
+      part = (c.caller-state.ensures i).parts;
+      generation = c.generation-generation.ensures i;
+      event = waited;
+    }) in
+    let js : c.add.new.self.items ≡ v.journal ++ e ∷ [] =
+    entry_added v.journal _ _ _ e c.in_ok-reserve_entry.ensures.items c.add.ensures entry in
+    let kept_plain : c.note.new.self.items ≡ kept_with (has_begun (caller_at v.terminal d)) v.kept d step call =
+    c.note.ensures ∙ ap (λ (b : Bool). kept_with b v.kept d step call) begun in
+    let left : c.wait.new.self.terminal ≡ after_wait v.terminal d (handle_of call) =
+    ap (λ r. r.terminal) c.wait.ensures ∙ ap (λ (h : ℕ). after_wait v.terminal d h) c.handle.ensures in
+    let same : now_of c ≡ after_call v d step call (after_wait v.terminal d (handle_of call)) v.flip e =
+    made v _ (after_wait v.terminal d (handle_of call)) _ (v.journal ++ e ∷ []) _
+    (kept_with (has_begun (caller_at v.terminal d)) v.kept d step call) _ v.flip v.flip left js kept_plain
+    (c.in_ok-copy.ensures.ok ∙ c.in_ok-reserve_entry.ensures.ok) refl in
+    let must : MustWait (outcome v.terminal (caller_at v.terminal d) call) =
+    subst (λ (w : PortValue). MustWait (outcome w.terminal (caller_at w.terminal d) call)) (sym c.self.view_is)
+    c.requires.must in
+    let first : (caller_at v.terminal d).waits ≡ None =
+    subst (λ (w : PortValue). (caller_at w.terminal d).waits ≡ None) (sym c.self.view_is) c.requires.first in
     begins_to_wait v (now_of c) slots d step call c.in_ok-copy.copy c.in_ok-copy.ensures.copy tried must first same
 
 pub invariant_of-self-2 : goal.invariant_of-self-2
@@ -55,4 +87,5 @@ invariant_of-self-2 c = (begins (goal.at.invariant_of-self-2 c).After-note).0
 pub returns-clause-tried : goal.returns-clause-tried
 returns-clause-tried c =
     let d = (goal.at.returns-clause-tried c).After-note in
-    subst (λ (w : PortValue). MustGoOnWaiting w (now_of d) c.args.caller c.args.step (call_of c.args.call.now)) c.self.view_is (begins d).1
+    subst (λ (w : PortValue). MustGoOnWaiting w (now_of d) c.args.caller c.args.step (call_of c.args.call.now))
+    c.self.view_is (begins d).1

@@ -3,4 +3,5 @@ use Rattle.port_core.proofs.GoingOn.{known_caller}
 use Rattle.port_core.proofs.ports.Port.must_wait.Goals as goal
 
 pub caller-state-requires : goal.caller-state-requires
-caller-state-requires c = known_caller (value_of c.self.inside) c.args.self.now c.args.caller c.self.view_is c.self.invariant.port c.requires
+caller-state-requires c =
+    known_caller (value_of c.self.inside) c.args.self.now c.args.caller c.self.view_is c.self.invariant.port c.requires

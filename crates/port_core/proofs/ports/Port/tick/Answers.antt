@@ -10,14 +10,27 @@ use Rattle.port_core.proofs.ports.Port.tick.Goals as goal
 pub invariant_of-self-2 : goal.invariant_of-self-2
 invariant_of-self-2 c =
     let v : PortValue = value_of c.self.inside in
-    let few : length v.journal < v.limit = subst (λ (w : PortValue). length w.journal < w.limit) (sym c.self.view_is) c.in_ok-gate.ensures.open.0 in
-    let over : v.terminal.clock_over ≡ false = subst (λ (w : PortValue). w.terminal.clock_over ≡ false) (sym c.self.view_is) c.requires in
-    let e : PlainEntry = record { who = Clock; step = c.phase.result; part = 0; generation = c.generation.result; event = ticked } in
-    let js : c.add.new.self.items ≡ v.journal ++ e ∷ [] = entry_added v.journal _ _ _ e c.in_ok-reserve_entry.ensures.items c.add.ensures refl in
-    let now : PortValue = record v { terminal = c.raise_tick.new.self.terminal; journal = c.add.new.self.items; starved = c.reserve_entry.new.starved; flip = v.flip } in
-    let same : now ≡ record (with_entry v e) { flip = v.flip } = made v _ (after (call_in v.kept) v.terminal e) _ (v.journal ++ e ∷ []) v.kept v.kept _ v.flip v.flip (ap (λ r. r.terminal) c.raise_tick.ensures) js refl c.in_ok-reserve_entry.ensures.ok refl in
-    still v now c.self.inside.waiting.items v.flip e c.self.invariant few
-    (c.generation.ensures, (refl, record { phase = record { at_step = c.phase.ensures; at_part = refl }; not_over = over }))
+    let few : length v.journal < v.limit =
+    subst (λ (w : PortValue). length w.journal < w.limit) (sym c.self.view_is) c.in_ok-gate.ensures.open.0 in
+    let over : v.terminal.clock_over ≡ false =
+    subst (λ (w : PortValue). w.terminal.clock_over ≡ false) (sym c.self.view_is) c.requires in
+    let e : PlainEntry =
+    record { who = Clock; step = c.phase.result; part = 0; generation = c.generation.result; event = ticked } in
+    let js : c.add.new.self.items ≡ v.journal ++ e ∷ [] =
+    entry_added v.journal _ _ _ e c.in_ok-reserve_entry.ensures.items c.add.ensures refl in
+    let now : PortValue = record v {
+      terminal = c.raise_tick.new.self.terminal;
+      journal = c.add.new.self.items;
+      starved = c.reserve_entry.new.starved;
+      flip = v.flip;
+    } in
+    let same : now ≡ record (with_entry v e) { flip = v.flip } =
+    made v _ (after (call_in v.kept) v.terminal e) _ (v.journal ++ e ∷ []) v.kept v.kept _ v.flip v.flip
+    (ap (λ r. r.terminal) c.raise_tick.ensures) js refl c.in_ok-reserve_entry.ensures.ok refl in
+    still v now c.self.inside.waiting.items v.flip e c.self.invariant few (
+      c.generation.ensures,
+      (refl, record { phase = record { at_step = c.phase.ensures; at_part = refl }; not_over = over }),
+    )
     refl refl c.self.invariant.port.sent refl refl refl refl same
 
 pub raise_tick-requires : goal.raise_tick-requires

@@ -5,4 +5,5 @@ use Rattle.session_print.proofs.calls.Teller.put_phases.Given as goal
 
 abbrev pub invariant-loop-phase : goal.invariant-loop-phase
 invariant-loop-phase l =
-    Phasing l.self.port (noted_answer l.self.answers) l.self.names.now (string_bytes l.initial.text) l.initial.steps.items l.phases (string_bytes l.text) l.steps.items l.phase-index
+    Phasing l.self.port (noted_answer l.self.answers) l.self.names.now (string_bytes l.initial.text)
+    l.initial.steps.items l.phases (string_bytes l.text) l.steps.items l.phase-index

@@ -5,4 +5,5 @@ use Rattle.session_print.proofs.calls.Teller.put_scripts.Given as goal
 
 abbrev pub invariant-loop-script : goal.invariant-loop-script
 invariant-loop-script l =
-    Scripting l.self.port (noted_answer l.self.answers) l.self.names.now (string_bytes l.initial.text) l.initial.steps.items l.scripts (string_bytes l.text) l.steps.items l.script-index
+    Scripting l.self.port (noted_answer l.self.answers) l.self.names.now (string_bytes l.initial.text)
+    l.initial.steps.items l.scripts (string_bytes l.text) l.steps.items l.script-index

@@ -9,4 +9,6 @@ use Rattle.session_text.proofs.reader.Reader.read_front.Goals as goal
 pub returns : goal.returns
 returns c =
     let ended : is_ended (reading_of c.loop-alloc.self).stand.place ≡ true = cc in
-    sym c.loop-alloc.invariant ∙ front_taken (reading_of c.loop-alloc.self) c.loop-alloc.number (lines_in c.loop-alloc.rest.now) (session_of c.in_ok-end.field-0) ended c.in_ok-end.ensures
+    sym c.loop-alloc.invariant
+    ∙ front_taken (reading_of c.loop-alloc.self) c.loop-alloc.number (lines_in c.loop-alloc.rest.now)
+    (session_of c.in_ok-end.field-0) ended c.in_ok-end.ensures

@@ -42,22 +42,46 @@ stayed = (stay_dropped (plain (λ _. slot.the_row)) yes, (stay_dropped (plain (�
 pub into_loose_spec : {M : Type 1} → statement M
 into_loose_spec 𝓤 𝓛 𝓜 𝓡 wired =
     let 𝓣 = tables 𝓤 𝓛.H 𝓜 𝓡 𝓡.env in let c = f.clauses 𝓛 𝓜.mem 𝓡.returns in
-    proved_at 𝓛 f.ended stayed c 𝓜 𝓡 (Goes-blank 𝓛 0 (plain (λ _. slot.the_row)) yes (λ κs x e. tt), (Goes-blank 𝓛 0 (plain (λ _. heap.the_row)) yes (λ κs x e. tt), tt))
+    proved_at 𝓛 f.ended stayed c 𝓜 𝓡 (
+      Goes-blank 𝓛 0 (plain (λ _. slot.the_row)) yes (λ κs x e. tt),
+      (Goes-blank 𝓛 0 (plain (λ _. heap.the_row)) yes (λ κs x e. tt), tt),
+    )
     f.Key.name code.function (code.unfolded 𝓤 𝓛.H 𝓜 𝓡 wired) (λ z are.
     let d = z.0.3.0 in let a = z.0.3.1.0 in let Post : Val → SProp 𝓤 = (walk_of 𝓛 f.ended stayed c).post z in
     let Run : List Val → SProp 𝓤 = λ ws. WpFn 𝓤 𝓛.H 𝓣.C 𝓣.Λ code.function ws Post in
-    qed 𝓛 ((‵ ftrue ⊛ ‵ (owns (types_at f.signature.params z.0.0) z.0.3 z.0.4)) ∷ raw (fact 𝓤 ((t : LineState) × (d.end ≡ Some t))) ∷ []) ∵
-    move ! (1 ∷ []) $ heard ! ((t : LineState) × (d.end ≡ Some t)) (λ has. split ! $ move ! (1 ∷ []) $ fsplit ! $ slot_out ! d z.0.4.0 (λ ws.
+    qed 𝓛
+    ((‵ ftrue ⊛ ‵ (owns (types_at f.signature.params z.0.0) z.0.3 z.0.4))
+    ∷ raw (fact 𝓤 ((t : LineState) × (d.end ≡ Some t))) ∷ []) ∵
+    move ! (1 ∷ [])
+    $ heard ! ((t : LineState) × (d.end ≡ Some t))
+    (λ has. split ! $ move ! (1 ∷ []) $ fsplit ! $ slot_out ! d z.0.4.0 (λ ws.
     rewrite ! 0 (λ (owned : Option LineState). ‵ (end_owns owned d.at)) has.1 refl $ fpick ! (λ kept.
-    in_a_block ! d.at (λ (p : Ptr). box_owns (ghosts.dealloc_token kept) row_of.the_row p has.0) (fst∗ 𝓤 (never 𝓤) (sem 𝓛 (ghosts.dealloc_token kept (bare (lone row_of.the_row.mir)) null_ptr))) (λ b o at.
-    move ! (1 ∷ []) $ fsplit ! $ handle_tells (allocator row_of.the_row heap.the_row heap_laws.the_row_laws ghosts) ! a z.0.4.1.0 (λ h told fits. keep ! (2 ∷ 0 ∷ []) $
+    in_a_block ! d.at (λ (p : Ptr). box_owns (ghosts.dealloc_token kept) row_of.the_row p has.0)
+    (fst∗ 𝓤 (never 𝓤) (sem 𝓛 (ghosts.dealloc_token kept (bare (lone row_of.the_row.mir)) null_ptr))) (λ b o at.
+    move ! (1 ∷ [])
+    $ fsplit !
+    $ handle_tells (allocator row_of.the_row heap.the_row heap_laws.the_row_laws ghosts) ! a z.0.4.1.0
+    (λ h told fits. keep ! (2 ∷ 0 ∷ []) $
     -- [the putting end of a port with the right to free it; the allocator]
     let v : Val = slot_val (block_ptr b o) in let w : Val = pair_val (vptr b o) h in let args : List Val = v ∷ h ∷ [] in
-    suffices ! (Run args) (subst (λ (us : List Val). ent 𝓤 (Run args) (Run us)) (sym (λ i. (ws ∙ ap (λ (p : Ptr). slot_val p ∷ []) at) i ++ (told i ++ []))) (id⊢ 𝓤 (Run args))) $
-    enter ! 𝓣.C 𝓣.Λ code.function args Post $ alloc_all ! (λ l. pass_all ! refl (slot_good (block_ptr b o), (fits, tt)) $
+    suffices ! (Run args)
+    (subst (λ (us : List Val). ent 𝓤 (Run args) (Run us))
+    (sym (λ i. (ws ∙ ap (λ (p : Ptr). slot_val p ∷ []) at) i ++ (told i ++ []))) (id⊢ 𝓤 (Run args)))
+    $
+    enter ! 𝓣.C 𝓣.Λ code.function args Post
+    $ alloc_all ! (λ l. pass_all ! refl (slot_good (block_ptr b o), (fits, tt)) $
     sets ! (of_opd ! (get_in ! (fld ! refl (stop !)) (sub ! 0 refl (whole !)))) refl (tt, tt) $
     sets ! (of_opd ! (get ! refl)) refl (tt, tt) $
-    sets ! (agg ! (and_then ! (get ! refl) (and_then ! (get ! refl) (no_more !)))) refl (pair_good row_of.the_row heap.the_row heap_laws.the_row_laws ghosts b o h fits) $
-    returns ! (look_at ! 0 refl) $ free_all ! refl $ loose_in row_of.the_row heap.the_row heap_laws.the_row_laws ghosts ! b o h a has.0 $
-    suffices ! _ (ends_at 𝓛 f.ended stayed c z w (record { at = block_ptr b o; alloc = a; value = has.0 }) (tt, (tt, tt)) (tt, (tt, tt))) $ says ! has.1 $
+    sets ! (agg ! (and_then ! (get ! refl) (and_then ! (get ! refl) (no_more !)))) refl
+    (pair_good row_of.the_row heap.the_row heap_laws.the_row_laws ghosts b o h fits)
+    $
+    returns ! (look_at ! 0 refl)
+    $ free_all ! refl
+    $ loose_in row_of.the_row heap.the_row heap_laws.the_row_laws ghosts ! b o h a has.0
+    $
+    suffices ! _
+    (ends_at 𝓛 f.ended stayed c z w (record { at = block_ptr b o; alloc = a; value = has.0 }) (tt, (tt, tt))
+    (tt, (tt, tt)))
+    $ says ! has.1
+    $
     nothing ! $ nothing ! $ fjoin ! $ nothing ! $ fjoin ! $ nothing ! $ done !)))))))

@@ -35,8 +35,12 @@ discard_spec 𝓤 𝓛 𝓜 𝓡 wired =
     let d = z.0.3.0 in let Post : Val → SProp 𝓤 = (walk_of 𝓛 f.ended stayed c).post z in
     let Run : List Val → SProp 𝓤 = λ ws. WpFn 𝓤 𝓛.H 𝓣.C 𝓣.Λ code.function ws Post in
     qed 𝓛 ((‵ ftrue ⊛ ‵ (owns (types_at f.signature.params z.0.0) z.0.3 z.0.4)) ∷ raw (fact 𝓤 (d.device ≡ None)) ∷ []) ∵
-    move ! (1 ∷ []) $ heard ! (d.device ≡ None) (λ empty. split ! $ move ! (1 ∷ []) $ fsplit ! $ slot_out ! d z.0.4.0 (λ ws. keep ! [] $
-    suffices ! (Run (slot_val d.at ∷ [])) (subst (λ (us : List Val). ent 𝓤 (Run (slot_val d.at ∷ [])) (Run us)) (sym (λ i. ws i ++ [])) (id⊢ 𝓤 (Run (slot_val d.at ∷ [])))) $
+    move ! (1 ∷ [])
+    $ heard ! (d.device ≡ None) (λ empty. split ! $ move ! (1 ∷ []) $ fsplit ! $ slot_out ! d z.0.4.0 (λ ws. keep ! [] $
+    suffices ! (Run (slot_val d.at ∷ []))
+    (subst (λ (us : List Val). ent 𝓤 (Run (slot_val d.at ∷ [])) (Run us)) (sym (λ i. ws i ++ []))
+    (id⊢ 𝓤 (Run (slot_val d.at ∷ []))))
+    $
     enter ! 𝓣.C 𝓣.Λ code.function (slot_val d.at ∷ []) Post $ alloc_all ! (λ l. pass_all ! refl (slot_good d.at, tt) $
     sets ! (of_opd ! (unit_lit !)) refl (tt, tt) $ returns ! (look_at ! 0 refl) $ free_all ! refl $
     suffices ! _ (ends_at 𝓛 f.ended stayed c z vunit tt (tt, tt) (tt, tt)) $ says ! empty $

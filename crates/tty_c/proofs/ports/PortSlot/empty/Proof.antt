@@ -32,5 +32,7 @@ empty_spec 𝓤 𝓛 𝓜 𝓡 wired =
     enter ! _ _ _ _ _ $ alloc_all ! (λ l. pass_all ! refl (ptr_good at, tt) $
     sets ! (agg ! (and_then ! (get ! refl) (no_more !))) refl (slot_good at) $
     returns ! (look_at ! 0 refl) $ free_all ! refl $
-    suffices ! _ (ends_at 𝓛 f.ended stayed c y (slot_val at) (record { at = at; device = None }) (tt, tt) (tt, tt)) $ says ! refl $
+    suffices ! _ (ends_at 𝓛 f.ended stayed c y (slot_val at) (record { at = at; device = None }) (tt, tt) (tt, tt))
+    $ says ! refl
+    $
     nothing ! $ slot_in ! at None $ nothing ! $ nothing ! $ join ! $ nothing ! $ done !))

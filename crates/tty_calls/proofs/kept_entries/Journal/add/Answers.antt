@@ -13,13 +13,18 @@ kept c =
 
 pub invariant_of-self : goal.invariant_of-self
 invariant_of-self c =
-    subst (λ (es : List KeptEntry). (i : ℕ) (d : KeptEntry) → i < length es → HasEntry c.keep_event-event.new.lists (slice_index_or es i d)) (sym (ap (λ l. l.items) c.add.ensures.list))
-    (has_more c.self.inside.lists c.keep_event-event.new.lists c.self.inside.entries.items (kept c) c.keep_event-event.ensures.grows c.self.invariant c.keep_event-event.ensures.there)
+    subst (λ (es : List KeptEntry).
+    (i : ℕ) (d : KeptEntry) → i < length es → HasEntry c.keep_event-event.new.lists (slice_index_or es i d))
+    (sym (ap (λ l. l.items) c.add.ensures.list))
+    (has_more c.self.inside.lists c.keep_event-event.new.lists c.self.inside.entries.items (kept c)
+    c.keep_event-event.ensures.grows c.self.invariant c.keep_event-event.ensures.there)
 
 pub returns : goal.returns
 returns c =
     let e = c.args.entry.now in
     ap (λ (es : List KeptEntry). map (entry_in c.keep_event-event.new.lists) es) (ap (λ l. l.items) c.add.ensures.list)
-    ∙ entry_more c.self.inside.lists c.keep_event-event.new.lists c.self.inside.entries.items (kept c) (entry_of e) c.keep_event-event.ensures.grows c.self.invariant
-    (ap (λ (v : PlainEvent). record { who = e.who; step = e.step; part = e.part; generation = e.generation; event = v }) c.keep_event-event.ensures.event)
+    ∙ entry_more c.self.inside.lists c.keep_event-event.new.lists c.self.inside.entries.items (kept c) (entry_of e)
+    c.keep_event-event.ensures.grows c.self.invariant
+    (ap (λ (v : PlainEvent). record { who = e.who; step = e.step; part = e.part; generation = e.generation; event = v })
+    c.keep_event-event.ensures.event)
     ∙ ap (λ (l : JournalValue). l.items ++ entry_of e ∷ []) c.self.view_is

@@ -5,4 +5,5 @@ use Rattle.tty_calls.proofs.names.Names.on_port.Given as goal
 
 abbrev pub invariant-loop-phase : goal.invariant-loop-phase
 invariant-loop-phase l =
-    names_on l.names (scripts_over l.port (map phase_of (drop l.phase-index l.phase-items))) ≡ names_of (scripts_over l.port (map phase_of l.phase-items))
+    names_on l.names (scripts_over l.port (map phase_of (drop l.phase-index l.phase-items)))
+    ≡ names_of (scripts_over l.port (map phase_of l.phase-items))

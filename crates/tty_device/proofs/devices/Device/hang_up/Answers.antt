@@ -20,8 +20,12 @@ invariant_of-self c =
       generation = ap (λ (x : Terminal). x.generation) is;
       uncounted = ap (λ (x : Terminal). x.taken) is;
       column = kept_column m u is;
-      verbs = c.self.invariant.verbs ∙ sym (ap (λ (x : Terminal). length x.callers) is ∙ (ap (λ (x : Terminal). length x.callers) hung ∙ length-map t.callers caller_after_hangup));
-      taken = dropped_noted a.flip c.drop_shown.new.flip a.taken.items c.drop_shown.new.taken.items c.drop_shown.ensures.drops c.self.invariant.taken;
+      verbs =
+          c.self.invariant.verbs
+          ∙ sym (ap (λ (x : Terminal). length x.callers) is
+          ∙ (ap (λ (x : Terminal). length x.callers) hung ∙ length-map t.callers caller_after_hangup));
+      taken = dropped_noted a.flip c.drop_shown.new.flip a.taken.items c.drop_shown.new.taken.items
+          c.drop_shown.ensures.drops c.self.invariant.taken;
       dropped = c.drop_shown.ensures.counted;
       line = line_stays _ _ _ c.drop_shown.ensures.drops.ring c.self.invariant.line;
     }

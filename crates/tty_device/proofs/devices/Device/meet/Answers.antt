@@ -28,4 +28,19 @@ returns-clause-waiting c =
     let loaded = ap (λ p. length p.sent) c.meet.ensures.same in
     let noted = ap (λ p. length p.sent) c.note-2.ensures.same in
     let before = ap (λ l. length l.sent) c.line.view_is in
-    omega (arith, all, c.self.invariant.dropped, c.taken-taken.ensures.count, first, second, told, c.meet.ensures.rises.1, c.meet.ensures.rises.2, c.meet.ensures.within, loaded, noted, before, c.sent-sent.ensures)
+    omega (
+      arith,
+      all,
+      c.self.invariant.dropped,
+      c.taken-taken.ensures.count,
+      first,
+      second,
+      told,
+      c.meet.ensures.rises.1,
+      c.meet.ensures.rises.2,
+      c.meet.ensures.within,
+      loaded,
+      noted,
+      before,
+      c.sent-sent.ensures,
+    )

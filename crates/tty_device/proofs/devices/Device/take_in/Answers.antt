@@ -5,7 +5,8 @@ use Rattle.tty_device.specs.Kept.{flushed}
 use Rattle.tty_device.specs.Devices.{DeviceState, is_stuck, Flushes}
 use Rattle.tty_device.specs.Inside.{device_of}
 use Rattle.tty_device.specs.Lines.{LineState}
-use Rattle.tty_device.proofs.Handing.{as_many, kept_column, flushed_callers, flushed_noted, flushed_counted, flushes_from, flushes_where}
+use Rattle.tty_device.proofs.Handing.{as_many, kept_column, flushed_callers, flushed_noted}
+use Rattle.tty_device.proofs.Handing.{flushed_counted, flushes_from, flushes_where}
 use Rattle.tty_device.proofs.TakingIn.{takes_in_where}
 use Rattle.tty_device.proofs.devices.Device.take_in.Goals as goal
 
@@ -22,9 +23,14 @@ invariant_of-self-2 c =
       generation = ap (λ (x : Terminal). x.generation) h.left;
       uncounted = ap (λ (x : Terminal). x.taken) h.left;
       column = kept_column (after_characters t cs) u h.left;
-      verbs = c.self.invariant.verbs ∙ sym (flushed_callers t u a.flip g cs 256 (length cs) h ∙ ap (λ (x : Terminal). length x.callers) c.reserve.ensures.same);
-      taken = flushed_noted t u a.flip g cs 256 (length cs) h a.taken.items c.note.new.self.items c.self.invariant.taken c.note.ensures;
-      dropped = flushed_counted t u a.flip g cs 256 (length cs) h a.taken.items c.note.new.self.items a.dropped c.self.invariant.dropped c.note.ensures;
+      verbs =
+          c.self.invariant.verbs
+          ∙ sym (flushed_callers t u a.flip g cs 256 (length cs) h
+          ∙ ap (λ (x : Terminal). length x.callers) c.reserve.ensures.same);
+      taken = flushed_noted t u a.flip g cs 256 (length cs) h a.taken.items
+          c.note.new.self.items c.self.invariant.taken c.note.ensures;
+      dropped = flushed_counted t u a.flip g cs 256 (length cs) h a.taken.items c.note.new.self.items
+          a.dropped c.self.invariant.dropped c.note.ensures;
       line = ap (λ (x : LineState). x.ring) c.hand_in-count.ensures.puts.after ∙ (ring ∙ sym h.ring);
     }
 
@@ -39,16 +45,27 @@ returns-clause-takes c =
     let h = c.hand_in-count.ensures.hands in
     let now : DeviceState = c.args.self.now in
     let d : DeviceState = record (device_of a) { line = Some l } in
-    let v : DeviceState = record { terminal = u; verbs = a.verbs; ring = g.ring; taken = c.note.new.self.items; shown = g.floor; line = Some l } in
+    let v : DeviceState = record {
+      terminal = u;
+      verbs = a.verbs;
+      ring = g.ring;
+      taken = c.note.new.self.items;
+      shown = g.floor;
+      line = Some l;
+    } in
     let is : v ≡ record d { terminal = u; taken = d.taken ++ map flushed cs; shown = g.floor } =
-    λ i. record { terminal = u; verbs = a.verbs; ring = h.ring i; taken = c.note.ensures i; shown = g.floor; line = Some l } in
+    λ i.
+    record { terminal = u; verbs = a.verbs; ring = h.ring i; taken = c.note.ensures i; shown = g.floor; line = Some l }
+    in
     let had : now.line ≡ Some c.in-Some.line = search rules in
     takes_in_where now.line c.in-Some.line now v c.args.flag c.args.bytes.now c.hand_in-count.result had record {
       put = l;
       puts = c.hand_in-count.ensures.puts;
       handed = length cs;
-      flushes = flushes_where (is_stuck now) (record now { line = Some l }) v 256 (length cs) (sym c.is_stuck-stuck.ensures ∙ c.if-stuck.false)
+      flushes = flushes_where (is_stuck now) (record now { line = Some l }) v 256 (length cs)
+          (sym c.is_stuck-stuck.ensures ∙ c.if-stuck.false)
           (subst (λ (x : DeviceState). Flushes (record x { line = Some l }) v 256 (length cs)) c.self.view_is
-          (flushes_from t u a.flip g cs 256 (length cs) h d v 256 c.reserve.ensures.same refl (as_many a.taken.items a.flip.taken c.self.invariant.taken) refl is));
+          (flushes_from t u a.flip g cs 256 (length cs) h d v 256 c.reserve.ensures.same refl
+          (as_many a.taken.items a.flip.taken c.self.invariant.taken) refl is));
       seen = λ free. c.hand_in-count.ensures.seen;
     }

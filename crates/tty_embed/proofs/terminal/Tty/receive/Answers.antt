@@ -8,7 +8,8 @@ pub returns-clause-after : goal.returns-clause-after
 returns-clause-after c =
     let a = c.self.inside in
     let heard : Flagged = record { byte = c.args.byte; flag = c.args.flag } in
-    let room = reserved a.disc a.wire c.reserve.new.self a.tally c.reserve-2.new.self c.reserve.ensures.same c.reserve-2.ensures.counts c.reserve-2.ensures.signals in
+    let room = reserved a.disc a.wire c.reserve.new.self a.tally c.reserve-2.new.self c.reserve.ensures.same
+    c.reserve-2.ensures.counts c.reserve-2.ensures.signals in
     receipt_made a.modes a.tick heard a.disc a.wire c.reserve.new.self a.tally c.reserve-2.new.self
     c.receive.new.self c.wrap_column.new.self c.receive.new.wire c.receive.new.tally
     (sym c.accepts.ensures ∙ c.if-not-accepts.false) room c.receive.ensures.after c.wrap_column.ensures

@@ -13,7 +13,10 @@ returns-then-flag-lt-FLAG_COUNT c =
 
 pub returns-else-flag-lt-FLAG_COUNT : goal.returns-else-flag-lt-FLAG_COUNT
 returns-else-flag-lt-FLAG_COUNT c =
-    let long : length (flags_of 29 c.self.inside.bits.0) ≤ c.args.flag = omega (arith, length-flags_of 29 c.self.inside.bits.0) in
-    let past : has_flag c.args.self.now c.args.flag ≡ false = ap (λ m. has_flag m c.args.flag) (sym c.self.view_is) ∙ get_or-eq_default (flags_of 29 c.self.inside.bits.0) false long in
+    let long : length (flags_of 29 c.self.inside.bits.0) ≤ c.args.flag =
+    omega (arith, length-flags_of 29 c.self.inside.bits.0) in
+    let past : has_flag c.args.self.now c.args.flag ≡ false =
+    ap (λ m. has_flag m c.args.flag) (sym c.self.view_is)
+    ∙ get_or-eq_default (flags_of 29 c.self.inside.bits.0) false long in
     let none : nat_lt c.args.flag 29 ≡ false = grind (arith, nat_tests) in
     none ∙ sym past

@@ -13,37 +13,55 @@ unfolding flags_of
 seen bits characters = record { flags = flags_of 29 bits; characters = characters }
 
 -- two modes are the same exactly where their bits and characters are
-compared : (a b : ℕ) (xs ys : List ℕ) → a < 2 ^ 29 → b < 2 ^ 29 → Decides (eqb a b && bytes_eq xs ys) (seen a xs ≡ seen b ys)
+compared : (a b : ℕ) (xs ys : List ℕ)
+    → a < 2 ^ 29
+    → b < 2 ^ 29
+    → Decides (eqb a b && bytes_eq xs ys) (seen a xs ≡ seen b ys)
 unfolding seen
 compared a b xs ys a_fits b_fits =
     Decides-like (eqb a b && bytes_eq xs ys)
     (λ h. λ i. record { flags = flags_of 29 (h.0 i); characters = h.1 i })
-    (λ e. (sym (bits_of-flags_of 29 a a_fits) ∙ ap (λ m. bits_of m.flags) e ∙ bits_of-flags_of 29 b b_fits, ap (λ m. m.characters) e))
+    (λ e. (
+      sym (bits_of-flags_of 29 a a_fits) ∙ ap (λ m. bits_of m.flags) e ∙ bits_of-flags_of 29 b b_fits,
+      ap (λ m. m.characters) e,
+    ))
     (Decides-and (eqb a b) (bytes_eq xs ys) (Decides-eqb a b) (bytes_eq-Decides xs ys))
 
 -- what the fields' comparisons answer together
-answered : (a b : ℕ) (xs ys : List ℕ) → a < 2 ^ 29 → b < 2 ^ 29 → (m n : Settings) → seen a xs ≡ m → seen b ys ≡ n → (eqb a b && bytes_eq xs ys) ≡ same_modes m n
+answered : (a b : ℕ) (xs ys : List ℕ)
+    → a < 2 ^ 29
+    → b < 2 ^ 29
+    → (m n : Settings)
+    → seen a xs ≡ m
+    → seen b ys ≡ n
+    → (eqb a b && bytes_eq xs ys) ≡ same_modes m n
 answered a b xs ys a_fits b_fits m n m_is n_is =
     same_from_decides (eqb a b && bytes_eq xs ys) (same_modes m n)
-    (Decides-like (eqb a b && bytes_eq xs ys) (λ e. sym m_is ∙ e ∙ n_is) (λ e. m_is ∙ e ∙ sym n_is) (compared a b xs ys a_fits b_fits))
+    (Decides-like (eqb a b && bytes_eq xs ys) (λ e. sym m_is ∙ e ∙ n_is) (λ e. m_is ∙ e ∙ sym n_is)
+    (compared a b xs ys a_fits b_fits))
     (same_modes-Decides m n)
 
 same_then : (c : After-eq-then-eq) → c.eq-then-eq.result ≡ same_modes c.args.self.now c.args.other.now
 unfolding seen
 same_then c =
     let yes : eqb c.self.inside.bits.0 c.other.inside.bits.0 ≡ true = sym c.eq.ensures ∙ c.if-eq.true in
-    let both : (eqb c.self.inside.bits.0 c.other.inside.bits.0 && bytes_eq c.self.inside.characters c.other.inside.characters) ≡ bytes_eq c.self.inside.characters c.other.inside.characters = rw yes refl in
+    let both :
+    (eqb c.self.inside.bits.0 c.other.inside.bits.0 && bytes_eq c.self.inside.characters c.other.inside.characters)
+    ≡ bytes_eq c.self.inside.characters c.other.inside.characters = rw yes refl in
     c.eq-then-eq.ensures ∙ sym both
-    ∙ answered c.self.inside.bits.0 c.other.inside.bits.0 c.self.inside.characters c.other.inside.characters c.self.invariant.fits c.other.invariant.fits
+    ∙ answered c.self.inside.bits.0 c.other.inside.bits.0 c.self.inside.characters c.other.inside.characters
+    c.self.invariant.fits c.other.invariant.fits
     c.args.self.now c.args.other.now c.self.view_is c.other.view_is
 
 same_else : (c : Else-eq) → c.eq.result ≡ same_modes c.args.self.now c.args.other.now
 unfolding seen
 same_else c =
     let no : eqb c.self.inside.bits.0 c.other.inside.bits.0 ≡ false = sym c.eq.ensures ∙ c.if-eq.false in
-    let both : (eqb c.self.inside.bits.0 c.other.inside.bits.0 && bytes_eq c.self.inside.characters c.other.inside.characters) ≡ false = rw no refl in
+    let both : (eqb c.self.inside.bits.0 c.other.inside.bits.0
+    && bytes_eq c.self.inside.characters c.other.inside.characters) ≡ false = rw no refl in
     c.if-eq.false ∙ sym both
-    ∙ answered c.self.inside.bits.0 c.other.inside.bits.0 c.self.inside.characters c.other.inside.characters c.self.invariant.fits c.other.invariant.fits
+    ∙ answered c.self.inside.bits.0 c.other.inside.bits.0 c.self.inside.characters c.other.inside.characters
+    c.self.invariant.fits c.other.invariant.fits
     c.args.self.now c.args.other.now c.self.view_is c.other.view_is
 
 pub returns-then-eq-clause-value : goal.returns-then-eq-clause-value
@@ -51,11 +69,13 @@ returns-then-eq-clause-value c = same_then c
 
 pub returns-then-eq-clause-same : goal.returns-then-eq-clause-same
 returns-then-eq-clause-same c =
-    Decides-at c.eq-then-eq.result (same_modes c.args.self.now c.args.other.now) (same_then c) (same_modes-Decides c.args.self.now c.args.other.now)
+    Decides-at c.eq-then-eq.result (same_modes c.args.self.now c.args.other.now) (same_then c)
+    (same_modes-Decides c.args.self.now c.args.other.now)
 
 pub returns-else-eq-clause-value : goal.returns-else-eq-clause-value
 returns-else-eq-clause-value c = same_else c
 
 pub returns-else-eq-clause-same : goal.returns-else-eq-clause-same
 returns-else-eq-clause-same c =
-    Decides-at c.eq.result (same_modes c.args.self.now c.args.other.now) (same_else c) (same_modes-Decides c.args.self.now c.args.other.now)
+    Decides-at c.eq.result (same_modes c.args.self.now c.args.other.now) (same_else c)
+    (same_modes-Decides c.args.self.now c.args.other.now)

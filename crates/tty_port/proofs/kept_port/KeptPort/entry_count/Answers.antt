@@ -11,4 +11,5 @@ returns-clause-count c =
     ∙ sym (history_length c.args.self.now.callers (call_in v.kept) v.journal v.terminal.generation))
 
 pub returns-clause-history : goal.returns-clause-history
-returns-clause-history c = is_history c.args.self.now.callers c.args.self.now.port.value (rw (← c.deref-port.ensures) c.journal.ensures.port)
+returns-clause-history c =
+    is_history c.args.self.now.callers c.args.self.now.port.value (rw (← c.deref-port.ensures) c.journal.ensures.port)

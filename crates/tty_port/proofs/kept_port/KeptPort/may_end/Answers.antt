@@ -8,4 +8,6 @@ pub returns : goal.returns
 returns c =
     let v = c.deref-port.result.now in
     rw (← c.deref-port.ensures)
-    (c.may_end.ensures ∙ ap (λ (t : Terminal). may_end v.counts t) (sym (port_terminal c.args.self.now.callers v c.journal-journal.ensures.port)))
+    (c.may_end.ensures
+    ∙ ap (λ (t : Terminal). may_end v.counts t)
+    (sym (port_terminal c.args.self.now.callers v c.journal-journal.ensures.port)))

@@ -6,4 +6,5 @@ use Rattle.tty_port.proofs.kept_port.KeptPortKept.generation.Goals as goal
 pub returns : goal.returns
 returns c =
     c.generation.ensures.value ∙ ap (λ (v : PortValue). v.terminal.generation) c.deref-2.ensures
-    ∙ sym (port_generation c.args.self.now.callers c.args.self.now.port.value (rw (← c.deref.ensures) c.journal-journal.ensures.port))
+    ∙ sym (port_generation c.args.self.now.callers c.args.self.now.port.value
+    (rw (← c.deref.ensures) c.journal-journal.ensures.port))

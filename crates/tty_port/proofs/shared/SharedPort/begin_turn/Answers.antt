@@ -12,4 +12,5 @@ returns-clause-found g c =
     let v : KeptPort = c.turn-turn.result.value in
     let same : c.value.result.now ≡ v = c.value.ensures.value in
     subst (IsFound name (number_of old) old) (sym same)
-    (found name (number_of old) old v c.value.result.now c.requires.named c.turn-turn.ensures.name c.turn-turn.ensures.list same c.entry_count-count.ensures.history)
+    (found name (number_of old) old v c.value.result.now c.requires.named c.turn-turn.ensures.name
+    c.turn-turn.ensures.list same c.entry_count-count.ensures.history)

@@ -17,7 +17,10 @@ returns-clause-ok g c =
     let steps = c.flush_held-result.ensures.references.steps in
     let last = c.release.ensures.word.steps in
     each_ok c.flush_held-result.result _ _
-    (λ n h. flushes_run name c.args.run h.0 n s old new t (knows_same s old c.hold.ensures.turn c.hold.ensures.seat.number) (knows_same new t c.release.ensures.turn c.release.ensures.seat.number) c.release.ensures.word.word (omega arith) (search rules) h.1)
+    (λ n h. flushes_run name c.args.run h.0 n s old new t
+    (knows_same s old c.hold.ensures.turn c.hold.ensures.seat.number)
+    (knows_same new t c.release.ensures.turn c.release.ensures.seat.number) c.release.ensures.word.word (omega arith)
+    (search rules) h.1)
     c.flush_held-result.ensures.ok
 
 pub returns-clause-err : goal.returns-clause-err
@@ -33,11 +36,14 @@ returns-clause-err g c =
     on_err_only c.flush_held-result.result _ _
     (λ h. (
       h.1,
-      flushes_run name c.args.run h.0 h.1 s old new t (knows_same s old c.hold.ensures.turn c.hold.ensures.seat.number) (knows_same new t c.release.ensures.turn c.release.ensures.seat.number) c.release.ensures.word.word (omega arith) (search rules) h.2,
+      flushes_run name c.args.run h.0 h.1 s old new t (knows_same s old c.hold.ensures.turn c.hold.ensures.seat.number)
+          (knows_same new t c.release.ensures.turn c.release.ensures.seat.number) c.release.ensures.word.word
+          (omega arith) (search rules) h.2,
     ))
     c.flush_held-result.ensures.err
 
 pub returns-clause-placed : goal.returns-clause-placed
 returns-clause-placed g c =
     let name = name_of_port c.args.self.now in
-    subst (ArePlaced name.callers (sum name.counts)) (sym c.release.ensures.turn.list) c.flush_held-result.ensures.placed
+    subst (ArePlaced name.callers (sum name.counts)) (sym c.release.ensures.turn.list)
+    c.flush_held-result.ensures.placed

@@ -17,7 +17,8 @@ line_end-result-requires-clause-not_over g c =
     let old = c.args.seat.now in
     let v : KeptPort = c.value.result.now in
     let same : v ≡ c.begin_turn-turn.result.0.value = c.value.ensures.value in
-    let at = found_still name n old c.begin_turn-turn.result.0.value v c.requires.seat.number same c.begin_turn-turn.ensures.found in
+    let at = found_still name n old c.begin_turn-turn.result.0.value v
+    c.requires.seat.number same c.begin_turn-turn.ensures.found in
     line_open_kept name.callers _ (list_seen old) (history_of v) at.history.placed at.keeps c.requires.not_over
 
 pub line_end-result-requires-clause-sent : goal.line_end-result-requires-clause-sent
@@ -27,8 +28,11 @@ line_end-result-requires-clause-sent g c =
     let old = c.args.seat.now in
     let v : KeptPort = c.value.result.now in
     let same : v ≡ c.begin_turn-turn.result.0.value = c.value.ensures.value in
-    let at = found_still name n old c.begin_turn-turn.result.0.value v c.requires.seat.number same c.begin_turn-turn.ensures.found in
-    subst (λ (k : ℕ). k ≤ length c.args.putter.now.sent) (sym (line_sent_kept name.callers _ (list_seen old) (history_of v) at.history.placed at.keeps c.requires.not_over)) c.requires.sent
+    let at = found_still name n old c.begin_turn-turn.result.0.value v
+    c.requires.seat.number same c.begin_turn-turn.ensures.found in
+    subst (λ (k : ℕ). k ≤ length c.args.putter.now.sent)
+    (sym (line_sent_kept name.callers _ (list_seen old) (history_of v) at.history.placed at.keeps c.requires.not_over))
+    c.requires.sent
 
 pub returns-clause-ok : goal.returns-clause-ok
 returns-clause-ok g c =
@@ -37,8 +41,12 @@ returns-clause-ok g c =
     let old = c.args.seat.now in
     let v : KeptPort = c.value.result.now in
     let same : v ≡ c.begin_turn-turn.result.0.value = c.value.ensures.value in
-    let at = found_still name n old c.begin_turn-turn.result.0.value v c.requires.seat.number same c.begin_turn-turn.ensures.found in
+    let at = found_still name n old c.begin_turn-turn.result.0.value v
+    c.requires.seat.number same c.begin_turn-turn.ensures.found in
     let w : KeptPort = c.line_end-result.new.self in
     let seen : list_seen c.end_turn.new.seat ≡ history_of w = search rules in
     let now = c.end_turn.ensures.same.number ∙ c.begin_turn-turn.ensures.same.number in
-    on_ok c.line_end-result.result _ _ (enters_one (λ (m : ℕ). EndsLine (m + 1) c.args.putter.now c.line_end-result.new.putter) 1 (λ m before x is. is.entry.seat) name old c.end_turn.new.seat v w at c.requires.seat.number now seen) c.line_end-result.ensures.ok
+    on_ok c.line_end-result.result _ _
+    (enters_one (λ (m : ℕ). EndsLine (m + 1) c.args.putter.now c.line_end-result.new.putter) 1
+    (λ m before x is. is.entry.seat) name old c.end_turn.new.seat v w at c.requires.seat.number now seen)
+    c.line_end-result.ensures.ok

@@ -10,4 +10,6 @@ pub returns-clause-here : goal.returns-clause-here
 returns-clause-here c =
     let cell = c.in_ok-cell.cell in
     let seats = c.in_ok-cell.all.items in
-    are_here _ _ 0 seats (subst (λ (v : KeptPort). AllNew (identity_of cell) (name_of v) (history_of v) 0 seats) (sym c.in_ok-cell.ensures.opening) c.in_ok-cell.ensures.each)
+    are_here _ _ 0 seats
+    (subst (λ (v : KeptPort). AllNew (identity_of cell) (name_of v) (history_of v) 0 seats)
+    (sym c.in_ok-cell.ensures.opening) c.in_ok-cell.ensures.each)

@@ -14,5 +14,8 @@ returns-in-Ok-MustWait-clause-none g c =
     let mid = c.attempt.new.seat in
     let call = call_of c.args.call.now in
     let steps = c.attempt.ensures.references.steps in
-    let t : Turns c.args.caller c.args.step call (generation_in (last_word old)) old mid must_wait = at_ok c.attempt.result c.in-Ok-MustWait.field-0 _ _ c.in-Ok-MustWait.is c.in-Ok-MustWait.field-0-is c.attempt.ensures.tried in
-    rests c.args.caller c.args.step call old mid _ (knows_same mid _ (search rules) (search rules)) (stepped_on (step_count old) (step_count mid) _ steps (search rules)) t
+    let t : Turns c.args.caller c.args.step call (generation_in (last_word old)) old mid must_wait =
+    at_ok c.attempt.result c.in-Ok-MustWait.field-0 _ _ c.in-Ok-MustWait.is
+    c.in-Ok-MustWait.field-0-is c.attempt.ensures.tried in
+    rests c.args.caller c.args.step call old mid _ (knows_same mid _ (search rules) (search rules))
+    (stepped_on (step_count old) (step_count mid) _ steps (search rules)) t

@@ -7,4 +7,5 @@ use Rattle.tty_terminal.proofs.callers.Callers.close.Goals as goal
 pub returns-else-self-gt0 : goal.returns-else-self-gt0
 returns-else-self-gt0 c =
     subst (λ (cs : List CallerState). cs ≡ map (caller_after_close c.args.h) cs) c.self.view_is
-    (close_changes_none c.args.h c.self.inside.states.items (omega (arith, c.self.invariant.begun, c.if-self-gt0.false)))
+    (close_changes_none c.args.h c.self.inside.states.items
+    (omega (arith, c.self.invariant.begun, c.if-self-gt0.false)))

@@ -11,4 +11,5 @@ pub returns : goal.returns
 returns c =
     let t = c.args.self.now.terminal in
     let there = ap (λ (v : InRoom). slice_index_or v.terminal.callers c.args.caller idle_caller) c.self.view_is in
-    c.drops_from.ensures ∙ ap (λ (s : CallerState). drops_of (outcome t s (call_of c.args.call.now))) (c.get-state.ensures ∙ there)
+    c.drops_from.ensures
+    ∙ ap (λ (s : CallerState). drops_of (outcome t s (call_of c.args.call.now))) (c.get-state.ensures ∙ there)

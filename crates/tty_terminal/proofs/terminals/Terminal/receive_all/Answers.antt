@@ -19,7 +19,9 @@ returns-clause-received c =
     let all : n ≡ length cs = omega (arith, length-take n c.args.chars.now, c.receive_all-count.ensures.within) in
     rw (← c.self.view_is)
     (
-    ap (λ (k : ℕ). with_received t (disc_on_port later.self (without_room later.wire) (without_signal_room later.tally)) k) all
+    ap
+    (λ (k : ℕ). with_received t (disc_on_port later.self (without_room later.wire) (without_signal_room later.tally)) k)
+    all
     ∙ run_made t cs a.wire a.tally later.self later.wire later.tally refl refl c.receive_all-count.ensures.after
     )
 

@@ -15,6 +15,8 @@ pub returns-clause-met : goal.returns-clause-met
 returns-clause-met c =
     let t = c.args.self.now.terminal in
     let n = c.args.number in
-    let some : is_some (kind_of_number n) ≡ true = ap (λ (k : Option Kind). is_some k) (sym c.of.ensures) ∙ c.if-is_none.ensures in
-    subst (λ (h : Option HandleState). Meets (on_live t h (change_outcome t n (kind_of_number n))) (met.Gives Done)) (sym c.in-Some.is)
+    let some : is_some (kind_of_number n) ≡ true =
+    ap (λ (k : Option Kind). is_some k) (sym c.of.ensures) ∙ c.if-is_none.ensures in
+    subst (λ (h : Option HandleState). Meets (on_live t h (change_outcome t n (kind_of_number n))) (met.Gives Done))
+    (sym c.in-Some.is)
     (changed_met t c.in-Some.handle n (kind_of_number n) c.if-not-handle.false some)

@@ -5,7 +5,8 @@ use Rattle.vt_consoles.specs.declared.entries.VtEvent.TheVariants.{Activate}
 use Rattle.vt_consoles.specs.Boards.{BoardState}
 use Rattle.vt_consoles.specs.Histories.{history_of}
 use Rattle.vt_consoles.specs.Shared.{name_of_board}
-use Rattle.vt_consoles.proofs.SeatLemmas.{is_turn, name_after, list_after, zero_after, turned, adds_either, named_either, each_made, each_none, each_refused}
+use Rattle.vt_consoles.proofs.SeatLemmas.{is_turn, name_after, list_after, zero_after, turned}
+use Rattle.vt_consoles.proofs.SeatLemmas.{adds_either, named_either, each_made, each_none, each_refused}
 use Rattle.vt_consoles.proofs.shared.SharedBoard.activate.Goals as goal
 
 pub end_turn-requires-clause-name : goal.end_turn-requires-clause-name
@@ -16,9 +17,12 @@ end_turn-requires-clause-name g c =
     let now = c.turn-turn.new.seat in
     let b : BoardState = c.value.result.now in
     let same : b ≡ c.turn-turn.result.value = first_of (cc, search rules) in
-    let t = is_turn p n old now c.turn-turn.result.value b c.requires c.turn-turn.ensures.name c.turn-turn.ensures.list c.turn-turn.ensures.same.number c.turn-turn.ensures.same.name c.turn-turn.ensures.seen same in
+    let t = is_turn p n old now c.turn-turn.result.value b c.requires c.turn-turn.ensures.name c.turn-turn.ensures.list
+    c.turn-turn.ensures.same.number c.turn-turn.ensures.same.name c.turn-turn.ensures.seen same in
     let w : BoardState = c.activate-result.new.self in
-    name_after p n old now b w t (named_either c.activate-result.result n (λ _. Activate c.args.n) b w c.activate-result.ensures.ok c.activate-result.ensures.err)
+    name_after p n old now b w t
+    (named_either c.activate-result.result n (λ _. Activate c.args.n) b
+    w c.activate-result.ensures.ok c.activate-result.ensures.err)
 
 pub end_turn-requires-clause-list : goal.end_turn-requires-clause-list
 end_turn-requires-clause-list g c =
@@ -28,9 +32,12 @@ end_turn-requires-clause-list g c =
     let now = c.turn-turn.new.seat in
     let b : BoardState = c.value.result.now in
     let same : b ≡ c.turn-turn.result.value = first_of (cc, search rules) in
-    let t = is_turn p n old now c.turn-turn.result.value b c.requires c.turn-turn.ensures.name c.turn-turn.ensures.list c.turn-turn.ensures.same.number c.turn-turn.ensures.same.name c.turn-turn.ensures.seen same in
+    let t = is_turn p n old now c.turn-turn.result.value b c.requires c.turn-turn.ensures.name c.turn-turn.ensures.list
+    c.turn-turn.ensures.same.number c.turn-turn.ensures.same.name c.turn-turn.ensures.seen same in
     let w : BoardState = c.activate-result.new.self in
-    list_after p n old now b w t (adds_either c.activate-result.result n (λ _. Activate c.args.n) b w c.activate-result.ensures.ok c.activate-result.ensures.err)
+    list_after p n old now b w t
+    (adds_either c.activate-result.result n (λ _. Activate c.args.n) b
+    w c.activate-result.ensures.ok c.activate-result.ensures.err)
 
 pub end_turn-requires-clause-generation : goal.end_turn-requires-clause-generation
 end_turn-requires-clause-generation g c =
@@ -40,7 +47,8 @@ end_turn-requires-clause-generation g c =
     let now = c.turn-turn.new.seat in
     let b : BoardState = c.value.result.now in
     let same : b ≡ c.turn-turn.result.value = first_of (cc, search rules) in
-    let t = is_turn p n old now c.turn-turn.result.value b c.requires c.turn-turn.ensures.name c.turn-turn.ensures.list c.turn-turn.ensures.same.number c.turn-turn.ensures.same.name c.turn-turn.ensures.seen same in
+    let t = is_turn p n old now c.turn-turn.result.value b c.requires c.turn-turn.ensures.name c.turn-turn.ensures.list
+    c.turn-turn.ensures.same.number c.turn-turn.ensures.same.name c.turn-turn.ensures.seen same in
     zero_after p n old now b t
 
 pub returns-clause-ok : goal.returns-clause-ok
@@ -51,12 +59,14 @@ returns-clause-ok g c =
     let now = c.turn-turn.new.seat in
     let b : BoardState = c.value.result.now in
     let same : b ≡ c.turn-turn.result.value = first_of (cc, search rules) in
-    let t = is_turn p n old now c.turn-turn.result.value b c.requires c.turn-turn.ensures.name c.turn-turn.ensures.list c.turn-turn.ensures.same.number c.turn-turn.ensures.same.name c.turn-turn.ensures.seen same in
+    let t = is_turn p n old now c.turn-turn.result.value b c.requires c.turn-turn.ensures.name c.turn-turn.ensures.list
+    c.turn-turn.ensures.same.number c.turn-turn.ensures.same.name c.turn-turn.ensures.seen same in
     let w : BoardState = c.activate-result.new.self in
     let new = c.end_turn.new.seat in
     let seen : list_seen new ≡ history_of w = first_of (cc, search rules) in
     let done = turned p n old now new b w t c.end_turn.ensures.same.number seen in
-    each_made c.activate-result.result (name_of_board p) n (λ _. Activate c.args.n) old new b w done c.activate-result.ensures.ok
+    each_made c.activate-result.result (name_of_board p) n (λ _. Activate c.args.n)
+    old new b w done c.activate-result.ensures.ok
 
 pub returns-clause-err : goal.returns-clause-err
 returns-clause-err g c =
@@ -66,7 +76,8 @@ returns-clause-err g c =
     let now = c.turn-turn.new.seat in
     let b : BoardState = c.value.result.now in
     let same : b ≡ c.turn-turn.result.value = first_of (cc, search rules) in
-    let t = is_turn p n old now c.turn-turn.result.value b c.requires c.turn-turn.ensures.name c.turn-turn.ensures.list c.turn-turn.ensures.same.number c.turn-turn.ensures.same.name c.turn-turn.ensures.seen same in
+    let t = is_turn p n old now c.turn-turn.result.value b c.requires c.turn-turn.ensures.name c.turn-turn.ensures.list
+    c.turn-turn.ensures.same.number c.turn-turn.ensures.same.name c.turn-turn.ensures.seen same in
     let w : BoardState = c.activate-result.new.self in
     let new = c.end_turn.new.seat in
     let seen : list_seen new ≡ history_of w = first_of (cc, search rules) in
@@ -81,9 +92,11 @@ returns-clause-refused g c =
     let now = c.turn-turn.new.seat in
     let b : BoardState = c.value.result.now in
     let same : b ≡ c.turn-turn.result.value = first_of (cc, search rules) in
-    let t = is_turn p n old now c.turn-turn.result.value b c.requires c.turn-turn.ensures.name c.turn-turn.ensures.list c.turn-turn.ensures.same.number c.turn-turn.ensures.same.name c.turn-turn.ensures.seen same in
+    let t = is_turn p n old now c.turn-turn.result.value b c.requires c.turn-turn.ensures.name c.turn-turn.ensures.list
+    c.turn-turn.ensures.same.number c.turn-turn.ensures.same.name c.turn-turn.ensures.seen same in
     let w : BoardState = c.activate-result.new.self in
     let new = c.end_turn.new.seat in
     let seen : list_seen new ≡ history_of w = first_of (cc, search rules) in
     let done = turned p n old now new b w t c.end_turn.ensures.same.number seen in
-    each_refused c.activate-result.result (name_of_board p) n old new b w (λ (x : BoardState). IsRefused x c.args.n) done c.activate-result.ensures.err c.activate-result.ensures.refused
+    each_refused c.activate-result.result (name_of_board p) n old new b w (λ (x : BoardState). IsRefused x c.args.n)
+    done c.activate-result.ensures.err c.activate-result.ensures.refused

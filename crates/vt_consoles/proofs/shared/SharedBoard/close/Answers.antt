@@ -5,4 +5,5 @@ use Rattle.vt_consoles.proofs.shared.SharedBoard.close.Goals as goal
 
 pub returns-clause-seats : goal.returns-clause-seats
 returns-clause-seats c =
-    each_both _ _ (HasAllOf (history_of c.close-board.result)) (λ s begins own. record { begins = begins; own = own }) c.args.seats.items c.close-board.ensures.seats c.close-board.ensures.own
+    each_both _ _ (HasAllOf (history_of c.close-board.result)) (λ s begins own. record { begins = begins; own = own })
+    c.args.seats.items c.close-board.ensures.seats c.close-board.ensures.own

@@ -6,7 +6,8 @@ use Rattle.vt_consoles.specs.declared.kept_board.BoardName.{BoardName}
 use Rattle.vt_consoles.specs.Boards.{BoardState}
 use Rattle.vt_consoles.specs.Histories.{history_of}
 use Rattle.vt_consoles.specs.Shared.{name_of_board}
-use Rattle.vt_consoles.proofs.SeatLemmas.{is_turn, name_after, list_after, zero_after, turned, adds_either, named_either, each_made, each_none, each_refused}
+use Rattle.vt_consoles.proofs.SeatLemmas.{is_turn, name_after, list_after, zero_after, turned}
+use Rattle.vt_consoles.proofs.SeatLemmas.{adds_either, named_either, each_made, each_none, each_refused}
 use Rattle.vt_consoles.proofs.shared.SharedBoard.key.Goals as goal
 
 pub end_turn-requires-clause-name : goal.end_turn-requires-clause-name
@@ -17,9 +18,13 @@ end_turn-requires-clause-name g c =
     let now = c.turn-turn.new.seat in
     let b : BoardState = c.value.result.now in
     let same : b ≡ c.turn-turn.result.value = first_of (cc, search rules) in
-    let t = is_turn p n old now c.turn-turn.result.value b c.requires.seat c.turn-turn.ensures.name c.turn-turn.ensures.list c.turn-turn.ensures.same.number c.turn-turn.ensures.same.name c.turn-turn.ensures.seen same in
+    let t = is_turn p n old now c.turn-turn.result.value b c.requires.seat c.turn-turn.ensures.name
+    c.turn-turn.ensures.list c.turn-turn.ensures.same.number
+    c.turn-turn.ensures.same.name c.turn-turn.ensures.seen same in
     let w : BoardState = c.key-result.new.self in
-    name_after p n old now b w t (named_either c.key-result.result n (λ keyed. Key c.args.index keyed.console) b w c.key-result.ensures.ok c.key-result.ensures.err)
+    name_after p n old now b w t
+    (named_either c.key-result.result n (λ keyed. Key c.args.index keyed.console)
+    b w c.key-result.ensures.ok c.key-result.ensures.err)
 
 pub end_turn-requires-clause-list : goal.end_turn-requires-clause-list
 end_turn-requires-clause-list g c =
@@ -29,9 +34,13 @@ end_turn-requires-clause-list g c =
     let now = c.turn-turn.new.seat in
     let b : BoardState = c.value.result.now in
     let same : b ≡ c.turn-turn.result.value = first_of (cc, search rules) in
-    let t = is_turn p n old now c.turn-turn.result.value b c.requires.seat c.turn-turn.ensures.name c.turn-turn.ensures.list c.turn-turn.ensures.same.number c.turn-turn.ensures.same.name c.turn-turn.ensures.seen same in
+    let t = is_turn p n old now c.turn-turn.result.value b c.requires.seat c.turn-turn.ensures.name
+    c.turn-turn.ensures.list c.turn-turn.ensures.same.number
+    c.turn-turn.ensures.same.name c.turn-turn.ensures.seen same in
     let w : BoardState = c.key-result.new.self in
-    list_after p n old now b w t (adds_either c.key-result.result n (λ keyed. Key c.args.index keyed.console) b w c.key-result.ensures.ok c.key-result.ensures.err)
+    list_after p n old now b w t
+    (adds_either c.key-result.result n (λ keyed. Key c.args.index keyed.console)
+    b w c.key-result.ensures.ok c.key-result.ensures.err)
 
 pub end_turn-requires-clause-generation : goal.end_turn-requires-clause-generation
 end_turn-requires-clause-generation g c =
@@ -41,7 +50,9 @@ end_turn-requires-clause-generation g c =
     let now = c.turn-turn.new.seat in
     let b : BoardState = c.value.result.now in
     let same : b ≡ c.turn-turn.result.value = first_of (cc, search rules) in
-    let t = is_turn p n old now c.turn-turn.result.value b c.requires.seat c.turn-turn.ensures.name c.turn-turn.ensures.list c.turn-turn.ensures.same.number c.turn-turn.ensures.same.name c.turn-turn.ensures.seen same in
+    let t = is_turn p n old now c.turn-turn.result.value b c.requires.seat c.turn-turn.ensures.name
+    c.turn-turn.ensures.list c.turn-turn.ensures.same.number
+    c.turn-turn.ensures.same.name c.turn-turn.ensures.seen same in
     zero_after p n old now b t
 
 pub returns-clause-ok : goal.returns-clause-ok
@@ -52,12 +63,15 @@ returns-clause-ok g c =
     let now = c.turn-turn.new.seat in
     let b : BoardState = c.value.result.now in
     let same : b ≡ c.turn-turn.result.value = first_of (cc, search rules) in
-    let t = is_turn p n old now c.turn-turn.result.value b c.requires.seat c.turn-turn.ensures.name c.turn-turn.ensures.list c.turn-turn.ensures.same.number c.turn-turn.ensures.same.name c.turn-turn.ensures.seen same in
+    let t = is_turn p n old now c.turn-turn.result.value b c.requires.seat c.turn-turn.ensures.name
+    c.turn-turn.ensures.list c.turn-turn.ensures.same.number
+    c.turn-turn.ensures.same.name c.turn-turn.ensures.seen same in
     let w : BoardState = c.key-result.new.self in
     let new = c.end_turn.new.seat in
     let seen : list_seen new ≡ history_of w = first_of (cc, search rules) in
     let done = turned p n old now new b w t c.end_turn.ensures.same.number seen in
-    each_made c.key-result.result (name_of_board p) n (λ keyed. Key c.args.index keyed.console) old new b w done c.key-result.ensures.ok
+    each_made c.key-result.result (name_of_board p) n (λ keyed. Key c.args.index keyed.console)
+    old new b w done c.key-result.ensures.ok
 
 pub returns-clause-err : goal.returns-clause-err
 returns-clause-err g c =
@@ -67,7 +81,9 @@ returns-clause-err g c =
     let now = c.turn-turn.new.seat in
     let b : BoardState = c.value.result.now in
     let same : b ≡ c.turn-turn.result.value = first_of (cc, search rules) in
-    let t = is_turn p n old now c.turn-turn.result.value b c.requires.seat c.turn-turn.ensures.name c.turn-turn.ensures.list c.turn-turn.ensures.same.number c.turn-turn.ensures.same.name c.turn-turn.ensures.seen same in
+    let t = is_turn p n old now c.turn-turn.result.value b c.requires.seat c.turn-turn.ensures.name
+    c.turn-turn.ensures.list c.turn-turn.ensures.same.number
+    c.turn-turn.ensures.same.name c.turn-turn.ensures.seen same in
     let w : BoardState = c.key-result.new.self in
     let new = c.end_turn.new.seat in
     let seen : list_seen new ≡ history_of w = first_of (cc, search rules) in
@@ -82,12 +98,15 @@ returns-clause-denied g c =
     let now = c.turn-turn.new.seat in
     let b : BoardState = c.value.result.now in
     let same : b ≡ c.turn-turn.result.value = first_of (cc, search rules) in
-    let t = is_turn p n old now c.turn-turn.result.value b c.requires.seat c.turn-turn.ensures.name c.turn-turn.ensures.list c.turn-turn.ensures.same.number c.turn-turn.ensures.same.name c.turn-turn.ensures.seen same in
+    let t = is_turn p n old now c.turn-turn.result.value b c.requires.seat c.turn-turn.ensures.name
+    c.turn-turn.ensures.list c.turn-turn.ensures.same.number
+    c.turn-turn.ensures.same.name c.turn-turn.ensures.seen same in
     let w : BoardState = c.key-result.new.self in
     let new = c.end_turn.new.seat in
     let seen : list_seen new ≡ history_of w = first_of (cc, search rules) in
     let done = turned p n old now new b w t c.end_turn.ensures.same.number seen in
-    each_refused c.key-result.result (name_of_board p) n old new b w IsDenied done c.key-result.ensures.err c.key-result.ensures.denied
+    each_refused c.key-result.result (name_of_board p) n old new b w IsDenied
+    done c.key-result.ensures.err c.key-result.ensures.denied
 
 pub key-result-requires-clause-each : goal.key-result-requires-clause-each
 key-result-requires-clause-each g c =
@@ -97,5 +116,7 @@ key-result-requires-clause-each g c =
     let now = c.turn-turn.new.seat in
     let b : BoardState = c.value.result.now in
     let same : b ≡ c.turn-turn.result.value = first_of (cc, search rules) in
-    let t = is_turn p n old now c.turn-turn.result.value b c.requires.seat c.turn-turn.ensures.name c.turn-turn.ensures.list c.turn-turn.ensures.same.number c.turn-turn.ensures.same.name c.turn-turn.ensures.seen same in
+    let t = is_turn p n old now c.turn-turn.result.value b c.requires.seat c.turn-turn.ensures.name
+    c.turn-turn.ensures.list c.turn-turn.ensures.same.number
+    c.turn-turn.ensures.same.name c.turn-turn.ensures.seen same in
     c.requires.each ∙ sym (ap (λ (x : BoardName). x.consoles) t.named)

@@ -12,4 +12,5 @@ returns-clause-here c =
     let seats = c.in_ok-cell.all.items in
     let board = c.args.board in
     are_here _ (history_of board) 0 seats
-    (subst (λ (v : BoardState). AllNew (identity_of cell) (name_of v) (history_of board) 0 seats) (sym c.in_ok-cell.ensures.opening) c.in_ok-cell.ensures.each)
+    (subst (λ (v : BoardState). AllNew (identity_of cell) (name_of v) (history_of board) 0 seats)
+    (sym c.in_ok-cell.ensures.opening) c.in_ok-cell.ensures.each)

@@ -36,7 +36,12 @@ of_spec 𝓤 𝓛 𝓜 𝓡 wired =
     (λ κs. (shr_Tells (named 0) κs.0 (run.the_row (named_lft 2 1 tt κs)), tt)) (λ κs qs bounds a g are.
     let y : W.Ghost = ((κs, qs, bounds, a, (shr_vals a.0, tt)), g) in
     let after : List ℕ = a.0.now.bytes.now in
-    qed 𝓛 ((raw (alive 𝓛 f.signature κs qs) ⊛ ‵ (owns (types_at f.signature.params κs) a y.0.4)) ∷ raw ((c κs a).requires g) ∷ []) ∵ keep ! (0 ∷ []) $ split ! $ keep ! (0 ∷ []) $
+    qed 𝓛
+    ((raw (alive 𝓛 f.signature κs qs) ⊛ ‵ (owns (types_at f.signature.params κs) a y.0.4)) ∷ raw ((c κs a).requires g)
+    ∷ []) ∵ keep ! (0 ∷ [])
+    $ split !
+    $ keep ! (0 ∷ [])
+    $
     enter ! _ _ _ _ _ $ alloc_all ! (λ l. pass_all ! refl ((tt, tt), tt) $
     sets ! (agg ! (no_more !)) refl (tt, tt) $
     returns ! (look_at ! 0 refl) $ free_all ! refl $

@@ -12,7 +12,9 @@ use Rattle.word_ring.proofs.putter.Putter.push.Goals as goal
 pub store_lanes-requires-clause-at : goal.store_lanes-requires-clause-at
 store_lanes-requires-clause-at c =
     let p = c.self.invariant.putting in
-    c.self.invariant.at ∙ (ap (λ (z : ℕ). place z (c.self.inside.sent / 4)) (sym p.room) ∙ ap (place c.self.inside.seat.me.0.puts_within) (group _ _ _ _ p))
+    c.self.invariant.at
+    ∙ (ap (λ (z : ℕ). place z (c.self.inside.sent / 4)) (sym p.room)
+    ∙ ap (place c.self.inside.seat.me.0.puts_within) (group _ _ _ _ p))
 
 pub store-requires : goal.store-requires
 store-requires c =
@@ -36,7 +38,8 @@ invariant_of-self c =
       bare = search rules;
       head = c.self.invariant.head ∙ sym (ap (λ v. v.head) now);
       shown = p.count ∙ sym (ap (λ v. length v.pushed) now);
-      putting = subst (IsPutting c.self.inside.capacity c.self.inside.sent c.self.inside.word) (sym now) (after_push _ _ _ _ p);
+      putting = subst (IsPutting c.self.inside.capacity c.self.inside.sent c.self.inside.word) (sym now)
+          (after_push _ _ _ _ p);
     }
 
 pub returns-clause-same : goal.returns-clause-same
@@ -45,7 +48,14 @@ returns-clause-same c =
     let now = c.store.ensures.2.0 ∙ ap with_all_pushed c.store_lanes.ensures.stored in
     let same = ap (sent_of c.self.inside.sent c.self.inside.word) now ∙ pushed_same _ _ _ _ p in
     let ring = c.store.ensures.0 ∙ c.store_lanes.ensures.same.0 in
-    (λ i. record { ring = ring i; capacity = c.self.inside.capacity; sent = same i; pushed = ap (λ v. v.pushed) now i; heads = ap (λ v. v.heads) now i; floor = ap (λ v. v.head) now i })
+    (λ i. record {
+      ring = ring i;
+      capacity = c.self.inside.capacity;
+      sent = same i;
+      pushed = ap (λ v. v.pushed) now i;
+      heads = ap (λ v. v.heads) now i;
+      floor = ap (λ v. v.head) now i;
+    })
     ∙ ap (λ (s : PutterState ℕ). record s { pushed = s.sent }) c.self.view_is
 
 pub returns-clause-ordered : goal.returns-clause-ordered

@@ -6,7 +6,8 @@ use Rattle.word_ring.proofs.putter.Putter.put_word.Goals as goal
 
 pub invariant_of-self : goal.invariant_of-self
 invariant_of-self c =
-    let full : c.self.inside.sent % 4 ≡ 0 = ap (λ (k : ℕ). k % 4) (c.self.invariant.putting.count ∙ ap (λ s. length s.sent) c.self.view_is) ∙ c.requires.full in
+    let full : c.self.inside.sent % 4 ≡ 0 =
+    ap (λ (k : ℕ). k % 4) (c.self.invariant.putting.count ∙ ap (λ s. length s.sent) c.self.view_is) ∙ c.requires.full in
     record {
       table = search rules;
       key = search rules;
@@ -16,6 +17,8 @@ invariant_of-self c =
       bare = search rules;
       head = c.self.invariant.head ∙ sym (ap (λ (v : View). v.head) c.store_lanes.ensures.stored);
       shown = c.self.invariant.shown ∙ sym (ap (λ (v : View). length v.pushed) c.store_lanes.ensures.stored);
-      putting = subst (IsPutting c.self.inside.capacity (c.self.inside.sent + 4) c.self.inside.word) (sym c.store_lanes.ensures.stored)
-          (after_word _ _ _ _ c.self.invariant.putting c.args.word full (room_for _ _ 4 c.self.invariant c.self.view_is c.requires.room));
+      putting = subst (IsPutting c.self.inside.capacity (c.self.inside.sent + 4) c.self.inside.word)
+          (sym c.store_lanes.ensures.stored)
+          (after_word _ _ _ _ c.self.invariant.putting c.args.word full
+          (room_for _ _ 4 c.self.invariant c.self.view_is c.requires.room));
     }

@@ -19,7 +19,8 @@ invariant_of-self c =
       holds = search rules;
       tail = search rules;
       ended = search rules;
-      taking = subst (IsTaking in_self.capacity in_self.taken in_self.taken in_self.word in_self.start in_self.at) (sym c.load-tail.ensures.2.0)
+      taking = subst (IsTaking in_self.capacity in_self.taken in_self.taken in_self.word in_self.start in_self.at)
+          (sym c.load-tail.ensures.2.0)
           (after_look _ _ _ _ _ _ _ c.self.invariant.taking c.load-tail.result (search rules) c.load-tail.ensures.2.5);
     }
 

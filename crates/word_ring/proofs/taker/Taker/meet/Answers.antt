@@ -7,7 +7,11 @@ pub join_seat-requires : goal.join_seat-requires
 join_seat-requires c = (search rules, search rules, search rules, search rules, meets _ _ _ _ _)
 
 pub load-self-inside-requires : goal.load-self-inside-requires
-load-self-inside-requires c = (search rules, search rules, compares _ _ _ _ (ap (λ m. m.0.takes) c.join_seat.ensures.2 ∙ c.self.invariant.taking.takes))
+load-self-inside-requires c = (
+  search rules,
+  search rules,
+  compares _ _ _ _ (ap (λ m. m.0.takes) c.join_seat.ensures.2 ∙ c.self.invariant.taking.takes),
+)
 
 pub returns-clause-heads : goal.returns-clause-heads
 returns-clause-heads c =
@@ -16,5 +20,6 @@ returns-clause-heads c =
     let taken = ap (λ m. m.0.taken) met ∙ ap (λ s. s.taken) c.self.view_is in
     let heads = ap (λ m. m.0.noted_heads) met ∙ ap (λ s. s.heads) c.note.view_is in (
       subst (λ (z : List ℕ × List ℕ). AreReleased z.0 z.1) (λ i. (released i, heads i)) c.load-self-inside.ensures.2.2,
-      subst (λ (z : List ℕ × List ℕ). All (λ h. h ≤ length z.0) z.1) (λ i. (taken i, heads i)) c.load-self-inside.ensures.2.3,
+      subst (λ (z : List ℕ × List ℕ). All (λ h. h ≤ length z.0) z.1) (λ i. (taken i, heads i))
+          c.load-self-inside.ensures.2.3,
     )

@@ -24,20 +24,30 @@ store-requires c =
 
 pub place_of_head-self-inside-requires : goal.place_of_head-self-inside-requires
 place_of_head-self-inside-requires c =
-    let within = peeked_within _ _ c.args.n c.self.invariant c.self.view_is c.requires in
-    (c.self.invariant.small, omega (arith, c.if-n-eq0.false), c.self.invariant.taking.at_is (omega (arith, c.if-n-eq0.false)))
+    let within = peeked_within _ _ c.args.n c.self.invariant c.self.view_is c.requires in (
+      c.self.invariant.small,
+      omega (arith, c.if-n-eq0.false),
+      c.self.invariant.taking.at_is (omega (arith, c.if-n-eq0.false)),
+    )
 
 pub invariant_of-self : goal.invariant_of-self
 invariant_of-self c =
     let within = peeked_within _ _ c.args.n c.self.invariant c.self.view_is c.requires in
-    released_taker _ _ c.args.n c.self.invariant (omega (arith, c.if-n-eq0.false)) within c.store.ensures.0 c.store.ensures.2.1 c.store.ensures.2.0 refl c.place_of_head-self-inside.ensures
+    released_taker _ _ c.args.n c.self.invariant (omega (arith, c.if-n-eq0.false)) within c.store.ensures.0
+    c.store.ensures.2.1 c.store.ensures.2.0 refl c.place_of_head-self-inside.ensures
 
 pub returns-clause-same : goal.returns-clause-same
 returns-clause-same c =
     let within = peeked_within _ _ c.args.n c.self.invariant c.self.view_is c.requires in
     let head = c.self.inside.taken + c.args.n in
-    let new = record c.self.inside { seat = c.store.new.seat; taken = head; next = head; start = c.place_of_head-self-inside.result } in
-    released_state c.self.inside new c.args.n c.self.invariant (omega (arith, c.if-n-eq0.false)) within c.store.ensures.0 c.store.ensures.2.1 c.store.ensures.2.0 refl _ c.self.view_is
+    let new = record c.self.inside {
+      seat = c.store.new.seat;
+      taken = head;
+      next = head;
+      start = c.place_of_head-self-inside.result;
+    } in
+    released_state c.self.inside new c.args.n c.self.invariant (omega (arith, c.if-n-eq0.false)) within
+    c.store.ensures.0 c.store.ensures.2.1 c.store.ensures.2.0 refl _ c.self.view_is
 
 pub returns-clause-begins : goal.returns-clause-begins
 returns-clause-begins c = λ is.
