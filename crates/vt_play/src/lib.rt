@@ -1,6 +1,6 @@
-//! What a session of consoles played on threads is made of: its beginning and its end, the operators' and the
-//! keyboard's part of a phase, what its threads bring back, and the end of the board's sharing. The player, which
-//! starts these threads phase by phase, is not here yet.
+//! What a session of consoles played on threads is made of: its beginning and its end, the sharing of the board and the
+//! parts of all consoles, the operators' and the keyboard's part of a phase, and what its threads bring back. The
+//! player, which starts these threads phase by phase, is not here yet.
 #![tactic(auto)]
 
 mod board_threads;
@@ -18,7 +18,7 @@ pub use board_threads::{
 };
 pub use console_threads::{OwnBack, ThreadsBack};
 pub use consoles::{end_all, open_all};
-pub use parts::{AllBack, AllParts, Kept, add_parts, no_parts};
-pub use phases::{PhaseBack, VtInPlay, close_all, next_first, stage_of, take_together};
+pub use parts::{AllBack, AllParts, Kept, part_all};
+pub use phases::{PhaseBack, VtInPlay, close_all, next_first, share_all, stage_of, take_together};
 pub use playing::{end, open};
 pub use stage::{PhaseOf, Stage};

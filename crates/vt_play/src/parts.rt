@@ -1,15 +1,22 @@
 //! All consoles in their parts for the threads of a phase.
 
-ghost use Rattle.std.specs.Prelude.{◌++◌, ◌∷◌, [], List, OnOk};
+ghost use Rattle.std.specs.Prelude.{◌≡◌, ◌<◌, ◌≤◌, ◌++◌, ◌∷◌, ℕ, List, [], Some, IfOk, OnOk, length, slice_get};
+ghost use Rattle.vt_text.specs.Sessions.{vt_session_of};
+ghost use Rattle.vt_account.specs.Keyed.{IsWithinKeys};
+ghost use Rattle.vt_threads.specs.Parting.{IsSomeConsoleBefore};
+ghost use Rattle.vt_threads.specs.declared.consoles.Console.{Console};
 ghost use Rattle.vt_threads.specs.declared.parting.Parted.{Parted};
-ghost use Rattle.vt_play.specs.Parts.{ArePartsOf};
+ghost use Rattle.vt_play.specs.Parts.{ArePartedAll, ArePartsOf};
 
 use crate::console_threads::OwnBack;
 use crate::taking::push_beside;
 use std::alloc::Global;
 use tty_base::NoMemory;
 use tty_port::SharedPort;
-use vt_threads::{Casting, KeyLines, Keyboard, OwnSeats, Parted, Rest, Standing};
+use vt_text::VtSession;
+use vt_threads::{
+    Casting, Console, KeyLines, Keyboard, OwnSeats, Parted, Rest, Standing, part_console,
+};
 
 /// What of a console the threads of a phase do not even see.
 #[derive(Drop)]
@@ -39,7 +46,7 @@ pub struct AllBack {
 }
 
 /// The parts of no console.
-pub fn no_parts(alloc: Global) -> AllParts
+fn no_parts(alloc: Global) -> AllParts
     ensures { ArePartsOf [] result }
 {
     AllParts {
@@ -58,7 +65,7 @@ pub fn no_parts(alloc: Global) -> AllParts
 }
 
 /// The parts of one console more.
-pub fn add_parts(all: &mut AllParts, parted: Parted) -> Result<(), NoMemory>
+fn add_parts(all: &mut AllParts, parted: Parted) -> Result<(), NoMemory>
     ensures { (qs : List Parted) → ArePartsOf qs all.old → OnOk result (ArePartsOf (qs ++ parted ∷ []) all.new) }
 {
     let Parted {
@@ -86,4 +93,28 @@ pub fn add_parts(all: &mut AllParts, parted: Parted) -> Result<(), NoMemory>
     } = rest;
     let kept = push_beside(&mut all.castings, casting, Kept { steps, standing })?;
     Ok(all.kept.push(kept)?)
+}
+
+/// Parts all consoles for a phase.
+pub fn part_all(
+    alloc: Global,
+    session: &VtSession,
+    k: usize,
+    consoles: Vec<Console>,
+) -> Result<AllParts, NoMemory>
+    requires within { IsWithinKeys (vt_session_of session.now) }
+    requires phase { k < length (vt_session_of session.now).calls.phases }
+    requires known { length consoles.items ≤ (vt_session_of session.now).calls.ports }
+    requires before { (p : ℕ) (c : Console)
+        → slice_get consoles.items p ≡ Some c
+        → IsSomeConsoleBefore (vt_session_of session.now) p k c }
+    ensures { IfOk result (ArePartedAll session.now.calls k consoles.items) }
+{
+    let mut all = no_parts(alloc);
+    for console in consoles {
+        let number = all.kept.len();
+        let parted = part_console(alloc, session, number, k, console)?;
+        add_parts(&mut all, parted)?;
+    }
+    Ok(all)
 }

@@ -1,5 +1,5 @@
-//! A phase of all consoles and of their board: where its threads meet, what they bring back, and the end of the board's
-//! sharing.
+//! A phase of all consoles and of their board: its sharing and its parts, where its threads meet, what they bring back,
+//! and the end of the sharing.
 
 ghost use Rattle.std.specs.Prelude.{◌≡◌, ◌+◌, ◌++◌, ◌∷◌, [], IfErr, IfOk, Some, length, slice_get, take};
 ghost use Rattle.port_cell.specs.Knowledge.{number_of};
@@ -10,15 +10,16 @@ ghost use Rattle.vt_account.specs.Keyed.{all_keys};
 ghost use Rattle.vt_play.specs.declared.parts.AllParts.{AllParts};
 ghost use Rattle.vt_play.specs.Stages.{SomeDenied, first_denied};
 ghost use Rattle.vt_play.specs.Phases.{HasBegun, IsBoardBefore, IsClosed, IsDeniedIn};
-ghost use Rattle.vt_play.specs.Phases.{IsPhaseOf, IsStageOf, PhaseLeaves};
+ghost use Rattle.vt_play.specs.Phases.{IsPhaseOf, IsStageOf, IsStaged, IsVtBefore, PhaseLeaves};
 
 use crate::board_threads::{BoardBack, KeyBack, KeyHand};
 use crate::console_threads::ThreadsBack;
-use crate::parts::{AllBack, Kept};
+use crate::parts::{AllBack, AllParts, Kept, part_all};
 use crate::stage::{PhaseOf, Stage};
 use crate::taking::{at, both};
-use many_threads::Start;
+use many_threads::{Start, beside};
 use one_thread::scripts_of;
+use std::alloc::Global;
 use tty_base::NoMemory;
 use tty_calls::Denied;
 use tty_port::SharedPort;
@@ -40,6 +41,26 @@ pub struct PhaseBack {
     pub seats: Vec<Seat>,
     pub made: Result<(), Denied>,
     pub all: AllBack,
+}
+
+/// Shares the board for a phase, and parts all consoles.
+pub fn share_all(
+    alloc: Global,
+    of: PhaseOf<'_>,
+    board: Board,
+    consoles: Vec<Console>,
+) -> Result<(SharedBoard, Vec<Seat>, AllParts), NoMemory>
+    requires phase { IsPhaseOf of }
+    requires before { IsVtBefore (vt_session_of of.session.now) of.k
+        (record { board = board; consoles = consoles; first = of.first }) }
+    ensures staged { IfOk result (λ r. IsStaged of.entry r.0 r.1.items consoles.items r.2) }
+    ensures opening { IfOk result (λ r. opening_board r.0 ≡ board) }
+{
+    let parted = part_all(alloc, of.session, of.k, consoles);
+    let (board, parts) = beside(board, parted)?;
+    let shared = SharedBoard::new(alloc, board, of.names.len() as u32 + 1);
+    let (parts, (shared, seats)) = beside(parts, shared)?;
+    Ok((shared, seats, parts))
 }
 
 /// Where the threads of a phase meet.
