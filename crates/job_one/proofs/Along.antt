@@ -27,8 +27,9 @@ use Rattle.one_thread.specs.LineInside.{StopsSteps}
 use Rattle.one_thread.specs.Roles.{Scene}
 use Rattle.job_text.specs.Sessions.{JobsSession}
 use Rattle.job_steps.specs.Derived.{passings_on}
-use Rattle.job_one.specs.Later.{ComesBy}
-use Rattle.job_one.specs.Desk.{signals_of, HadBegun}
+use Rattle.passed_laws.specs.Later.{ComesBy}
+use Rattle.passed_laws.specs.Begun.{HadBegun}
+use Rattle.job_one.specs.Desk.{signals_of}
 use Rattle.job_one.specs.Events.{DeskState, all_sent_on, new_sent_on, HasRaised, StandsAt}
 use Rattle.job_one.specs.Along.{IsUpToDate, SendsAlone, SendsAlong, StopsAlong, StopsBy}
 use Rattle.job_one.proofs.DeskEvents.{desk_stays}

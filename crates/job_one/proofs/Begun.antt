@@ -4,7 +4,7 @@ use Rattle.std.proofs.Common.{[], ◌∷◌, ◌++◌, Option, None, Some, lengt
 use Rattle.std.proofs.Common.{sym, ap, ◌∙◌, subst, arith, length-append, append_assoc}
 use Rattle.std.specs.Prelude.{position, unwrap_or, nat_lt, sum}
 use Rattle.std.specs.List.{position_or_len}
-use Rattle.std.proofs.lemmas.Bool.{false≢true, and_parts, eqb-true}
+use Rattle.std.proofs.lemmas.Bool.{false≢true, and_parts, eqb-true, eq-eqb}
 use Rattle.std.proofs.lemmas.Bool.Decides.{nat_tests}
 use Rattle.tty_calls.specs.declared.journals.Who.{Who}
 use Rattle.tty_calls.specs.Plain.{PlainCall, PlainEvent, answered, parted, waited, flushed, ticked, line_ended}
@@ -14,35 +14,37 @@ use Rattle.tty_terminal.specs.Steps.{Allowed, after}
 use Rattle.tty_terminal.specs.Makers.{IsOfCall, IsByItsMaker}
 use Rattle.tty_terminal.specs.Runs.{Leads as Run, is_of_call}
 use Rattle.tty_terminal.proofs.MarkLaws.{step_maker}
-use Rattle.port_core.specs.Ports.{PlainKept, PortValue, AllBegun, IsPort, call_in}
+use Rattle.port_core.specs.Ports.{PortValue, IsPort, call_in}
 use Rattle.passed_calls.specs.Journals.{Journal}
+use Rattle.one_thread.specs.Roles.{Scene}
+use Rattle.one_thread.specs.Turns.{Adds}
+use Rattle.one_thread.specs.Acts.{MakesCall}
+use Rattle.passed_laws.specs.Later.{IsLater, ComesBy}
+use Rattle.passed_laws.proofs.Begun.{not_kept}
+use Rattle.passed_laws.proofs.Attempted.{call_is, own_is, step_is}
 use Rattle.job_steps.specs.Steps.{is_of_step, first_place}
-use Rattle.job_one.specs.Later.{IsLater, ComesBy}
+
+three : (a b c : Bool) → a ≡ true → b ≡ true → c ≡ true → (a && b && c) ≡ true
+three true true true h k l = refl
+three true true false h k l = absurd (false≢true l)
+three true false c h k l = absurd (false≢true k)
+three false b c h k l = absurd (false≢true h)
+
+-- the entry of an attempt is of its call
+pub of_step_is : (old new : PortValue) (c : ℕ) (call : PlainCall) (makes : MakesCall old new c call) (s : Scene)
+    (adds : Adds s old new)
+    → is_of_step c (caller_at old.terminal c).next adds.entry ≡ true
+of_step_is old new c call makes s adds =
+    three (is_of_call adds.entry.event) (is_caller adds.entry.who c)
+    (adds.entry.step == (caller_at old.terminal c).next) (call_is old new c call makes s adds)
+    (own_is old new c call makes s adds)
+    (eq-eqb adds.entry.step (caller_at old.terminal c).next (step_is old new c call makes s adds))
 
 -- ---- no entry of a call that has not begun
-
-not_both : (a b : Bool) → (a && b ≡ true → ⊥) → (a && b) ≡ false
-not_both true true h = absurd (h refl)
-not_both true false h = refl
-not_both false b h = refl
 
 not_true : (b : Bool) → (b ≡ true → ⊥) → b ≡ false
 not_true true h = absurd (h refl)
 not_true false h = refl
-
-pub not_kept : (t : Terminal) (ks : List PlainKept) (c step : ℕ)
-    → AllBegun t ks
-    → begun_of (caller_at t c) ≤ step
-    → call_in ks c step ≡ None
-not_kept t [] c step begun le = refl
-not_kept t (k ∷ ks) c step begun le =
-    let other : ((k.caller == c) && (k.step == step)) ≡ false =
-    not_both (k.caller == c) (k.step == step) (λ e.
-    let parts = and_parts (k.caller == c) (k.step == step) e in
-    let lt : k.step < begun_of (caller_at t c) =
-    subst (λ (d : ℕ). k.step < begun_of (caller_at t d)) (eqb-true k.caller c parts.0) begun.0 in
-    omega (arith, lt, le, eqb-true k.step step parts.1)) in
-    ap (λ (b : Bool). if b then Some k.call else call_in ks c step) other ∙ not_kept t ks c step begun.1 le
 
 maker_of : (f : ℕ → ℕ → Option PlainCall) (n : ℕ) (who : Who) (step : ℕ) (event : PlainEvent)
     → IsByItsMaker f n who step event

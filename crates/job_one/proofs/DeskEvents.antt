@@ -31,9 +31,11 @@ use Rattle.job_text.specs.Sessions.{JobCall, JobsSession}
 use Rattle.job_steps.specs.Steps.{JobsState, next_of, next_call, with_jobs, answered_for}
 use Rattle.job_steps.specs.Steps.{after_own, after_passed, after_event, outcome_of, is_own}
 use Rattle.job_steps.specs.Steps.{is_of_step, judged_call, job_signal, foreground_target}
-use Rattle.job_one.specs.Later.{port_with, IsLater, ComesBy, HasLogged, HasGoneOn, WasAnswered}
+use Rattle.passed_laws.specs.Later.{IsLater, ComesBy, WasAnswered}
+use Rattle.job_one.specs.Later.{port_with, HasLogged, HasGoneOn}
 use Rattle.job_one.specs.Ordered.{HasOrdered}
-use Rattle.job_one.specs.Desk.{proc_in, call_after, signals_of, IsDeskAt, jobs_passed, due_passed, HadBegun}
+use Rattle.passed_laws.specs.Begun.{HadBegun}
+use Rattle.job_one.specs.Desk.{proc_in, call_after, signals_of, IsDeskAt, jobs_passed, due_passed}
 use Rattle.job_one.proofs.Logging.{log_stays, logs_own, logs_passed, logs_due, logs_down}
 use Rattle.job_one.proofs.Logging.{logs_raised, own_comes, due_comes, down_comes, raised_comes}
 use Rattle.job_one.proofs.Gone.{gone_begins, gone_stays, gone_behind}

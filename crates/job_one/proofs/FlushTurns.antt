@@ -24,15 +24,19 @@ use Rattle.job_control.specs.Control.{JobState}
 use Rattle.job_steps.specs.Derived.{block_phases}
 use Rattle.job_text.specs.Events.{JobEvent, sent}
 use Rattle.job_steps.specs.Steps.{job_signal, foreground_target}
-use Rattle.job_one.specs.Later.{ComesBy}
+use Rattle.passed_laws.specs.Later.{ComesBy}
 use Rattle.job_one.specs.Events.{DeskState, sent_on, new_sent_on}
 use Rattle.job_one.specs.Between.{value_at}
-use Rattle.job_one.specs.Playing.{passings_with, begun_at, IsPlayingJobs}
+use Rattle.passed_laws.specs.Begun.{begun_at}
+use Rattle.job_one.specs.Playing.{passings_with, IsPlayingJobs}
 use Rattle.job_one.specs.Frames.{Frame, IsOwing, IsAtTurn, IsNextTurn}
 use Rattle.job_one.specs.AfterLine.{FillsTurns, StopsTurns}
-use Rattle.job_one.specs.Taken.{WereOver, HasGone, TakesTurn}
-use Rattle.job_one.proofs.Witnessed.{in_turn, same_entry}
-use Rattle.job_one.proofs.Overs.{over_other}
+use Rattle.passed_laws.specs.Begun.{WereOver}
+use Rattle.passed_laws.specs.Left.{HasGone}
+use Rattle.job_one.specs.Taken.{TakesNoCall}
+use Rattle.passed_laws.proofs.InOrders.{same_entry}
+use Rattle.passed_laws.proofs.Witnessed.{in_turn}
+use Rattle.passed_laws.proofs.Overs.{over_other}
 use Rattle.job_one.proofs.Along.{same_kept}
 use Rattle.job_one.proofs.Phasing.{signals_stay}
 use Rattle.job_one.proofs.Sending.{all_sent, sent_up, same_desk}
@@ -140,7 +144,7 @@ module _ (f : Frame) (roles : List Role) where
       → IsPort new
       → IsOpen old
       → x ≡ new_sent_on new d
-      → TakesTurn f roles old new d x now
+      → TakesNoCall f roles old new d x now
   takes_flush old new d x was now h is plays adds port later room sends = record {
     at = flush_at old new d x was now h is plays adds port later sends;
     desk =
@@ -184,7 +188,7 @@ module _ (f : Frame) (roles : List Role) where
       → IsPort old
       → IsPort new
       → IsOpen old
-      → TakesTurn f roles old new d d now
+      → TakesNoCall f roles old new d d now
   takes_pass old new d was now h is plays adds port later room =
       let at = in_turn_at old d was turn.Pass h is in
       let on : PlaysOnIn HasAnyOrder at.scene at.scripts roles old new was now = (plays.each at).on in

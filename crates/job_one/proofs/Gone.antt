@@ -13,8 +13,10 @@ use Rattle.job_text.specs.Sessions.{JobCall, JobsSession}
 use Rattle.job_steps.specs.Derived.{job_call_at}
 use Rattle.job_steps.specs.Steps.{Port, JobsState, jobs_before, proc_of, next_of}
 use Rattle.job_steps.specs.Steps.{next_call, judged_call, GoesOn, is_of_step, after_event}
-use Rattle.job_one.specs.Later.{port_with, IsLater, ComesBy, HasLogged, HasGoneOn}
-use Rattle.job_one.proofs.Logging.{later_before, terminal_now, now_before, event_behind}
+use Rattle.passed_laws.specs.Later.{IsLater, ComesBy}
+use Rattle.job_one.specs.Later.{port_with, HasLogged, HasGoneOn}
+use Rattle.passed_laws.proofs.Laters.{later_before, terminal_now}
+use Rattle.job_one.proofs.Logging.{now_before, event_behind}
 use Rattle.job_one.proofs.Begun.{first_next}
 
 -- the check let it go on, as nothing was logged since

@@ -39,26 +39,28 @@ use Rattle.job_steps.specs.Derived.{block_phases, passings_on}
 use Rattle.job_one.specs.declared.controls.Due.{Due}
 use Rattle.job_one.specs.declared.controls.Due.TheVariants as due
 use Rattle.job_one.specs.Controls.{due_events, hangup_due}
-use Rattle.job_one.specs.Passed.{begin_of}
+use Rattle.passed_laws.specs.Passed.{begin_of}
 use Rattle.job_one.specs.Latest.{latest_on}
 use Rattle.job_one.specs.Desk.{proc_in, signals_of}
 use Rattle.job_one.specs.Events.{DeskState, noted, all_noted, AreSent, answered_own, own_outcome, controlled}
 use Rattle.job_one.specs.Between.{value_at}
-use Rattle.job_one.specs.Playing.{AreLoggedBefore, begun_at, hangup_with, IsPlayingJobs}
+use Rattle.passed_laws.specs.Begun.{begun_at}
+use Rattle.job_one.specs.Playing.{AreLoggedBefore, hangup_with, IsPlayingJobs}
 use Rattle.job_one.specs.Frames.{Frame, IsOwing, IsAtTurn, IsNextTurn, IsHangingUp}
 use Rattle.job_one.specs.AfterLine.{IsFrameWithin}
-use Rattle.job_one.specs.Taken.{Advances, IsNextOf, TakesCall, TakesTurn}
-use Rattle.job_one.proofs.Attempted.{attempts_as, call_is, makes_as}
+use Rattle.job_one.specs.Taken.{Advances, IsNextOf, TakesCall, TakesNoCall}
+use Rattle.passed_laws.proofs.Attempted.{attempts_as, call_is, makes_as}
 use Rattle.job_one.proofs.Following.{latest_is}
 use Rattle.job_one.proofs.HandleNumbers.{are_numbers}
-use Rattle.job_one.proofs.Mine.{logged_more, step_own}
+use Rattle.passed_laws.proofs.Steps.{step_own}
+use Rattle.job_one.proofs.Mine.{logged_more}
 use Rattle.job_one.proofs.NextCalls.{phase_is, own_call_of, rests_own}
 use Rattle.job_one.proofs.OwnTurns.{all_as, procs_same, own_owing, own_advances, takes_own}
-use Rattle.job_one.proofs.Overs.{over_call}
+use Rattle.passed_laws.proofs.Overs.{over_call}
 use Rattle.job_one.proofs.Phasing.{signals_stay}
 use Rattle.job_one.proofs.CallTurns.{call_no_flush}
 use Rattle.job_one.proofs.Turning.{hangup_begins, hangup_goes_on}
-use Rattle.job_one.proofs.Witnessed.{in_call}
+use Rattle.passed_laws.proofs.Witnessed.{in_call}
 
 -- ---- what is due is signals, and a hangup behind them
 
@@ -269,7 +271,7 @@ module _ (f : Frame) (roles : List Role) where
       → TriesCall roles old new place (hangs_up handle) tried
       → PlaysCall roles old new was now place (hangs_up handle)
       → x ≡ noted d (length new.journal) (passed_down (get_or roles place r).number handle)
-      → TakesTurn f roles old new d x now
+      → TakesNoCall f roles old new d x now
   takes_hangup old new d x was now place handle tried r h is port later room tries plays said =
       let c = h.role.number in
       let n = length new.journal in
@@ -322,7 +324,7 @@ module _ (f : Frame) (roles : List Role) where
   pub takes_exit : (old new : PortValue) (d y x : DeskState) (now : Stand) (place : ℕ) (r : Role)
       → slice_get roles place ≡ Some r
       → Advances true r.number d y
-      → TakesTurn f roles old new y x now
+      → TakesNoCall f roles old new y x now
       → TakesCall f roles place old new d x (record { answered = true; stand = now })
   takes_exit old new d y x now place r is advances h = record {
     at = h.at;
@@ -415,7 +417,7 @@ module _ (f : Frame) (roles : List Role) where
   pub takes_hung_up : (old new : PortValue) (d y x : DeskState) (was now : Stand) (place : ℕ) (job_call : JobCall)
       (signals : Due) → (h : IsNextOf f roles d place job_call)
       → IsControlled old d y was h.role.number signals
-      → TakesTurn f roles old new y x now
+      → TakesNoCall f roles old new y x now
       → TakesCall f roles place old new d x (record { answered = true; stand = now })
   takes_hung_up old new d y x was now place job_call signals h done_so t =
       takes_exit old new d y x now place h.role h.at_place done_so.advances t

@@ -25,24 +25,29 @@ use Rattle.one_thread.proofs.Possible.{by_rank}
 use Rattle.one_thread.proofs.Ready.{is_place}
 use Rattle.job_text.specs.Sessions.{JobCall, JobsSession}
 use Rattle.job_steps.specs.Derived.{block_phases, job_call_at}
-use Rattle.job_one.specs.Passed.{begin_of}
-use Rattle.job_one.specs.Witness.{scene_on}
+use Rattle.passed_laws.specs.Passed.{begin_of}
+use Rattle.passed_laws.specs.Witness.{scene_on}
 use Rattle.job_one.specs.Events.{DeskState}
 use Rattle.job_one.specs.Between.{value_at}
-use Rattle.job_one.specs.Playing.{passings_with, begun_at}
+use Rattle.passed_laws.specs.Begun.{begun_at}
+use Rattle.job_one.specs.Playing.{passings_with}
 use Rattle.job_one.specs.Frames.{Frame, IsAtTurn, IsNextTurn}
 use Rattle.job_one.specs.AfterLine.{HasProcs, BeginsTurns, EndsTurns}
 use Rattle.job_one.specs.Remaining.{left_at, after_next, IsLeftTo, AreLeft}
-use Rattle.job_one.specs.Taken.{Advances, WereOver, HasGone, TakesTurn, TakesCall}
-use Rattle.job_one.specs.Taken.{IsNextOf, IsBetweenTurns, count_left, turns_left}
+use Rattle.passed_laws.specs.Begun.{WereOver}
+use Rattle.passed_laws.specs.Left.{HasGone}
+use Rattle.job_one.specs.Taken.{Advances, TakesNoCall, TakesCall}
+use Rattle.passed_laws.specs.Left.{count_left, turns_left}
+use Rattle.job_one.specs.Taken.{IsNextOf, IsBetweenTurns}
 use Rattle.job_one.specs.declared.turns.Taken.{Taken}
 use Rattle.job_one.proofs.Along.{same_kept}
-use Rattle.job_one.proofs.Mine.{step_own, step_other}
+use Rattle.passed_laws.proofs.Steps.{step_own, step_other}
 use Rattle.job_one.proofs.NextCalls.{plays_it, rests_last}
-use Rattle.job_one.proofs.Overs.{over_other}
+use Rattle.passed_laws.proofs.Overs.{over_other}
 use Rattle.job_one.proofs.Phasing.{signals_stay}
 use Rattle.job_one.proofs.Turning.{last_goes_on}
-use Rattle.job_one.proofs.Witnessed.{in_last, same_entry}
+use Rattle.passed_laws.proofs.InOrders.{same_entry}
+use Rattle.passed_laws.proofs.Witnessed.{in_last}
 
 -- ---- lists
 
@@ -252,7 +257,7 @@ module _ (f : Frame) (roles : List Role) where
 
   pub between_turn : (old new : PortValue) (d x : DeskState) (was now : Stand) (left : List (List JobCall))
       → IsBetweenTurns f roles old d was left
-      → TakesTurn f roles old new d x now
+      → TakesNoCall f roles old new d x now
       → IsBetweenTurns f roles new x now left
   between_turn old new d x was now left h t = record {
     at = t.at;

@@ -32,49 +32,11 @@ use Rattle.job_steps.specs.Steps.{Port, Moment, JobsState, procs_of, first_state
 use Rattle.job_steps.specs.Steps.{proc_of, next_of, next_call, with_jobs, answered_for, after_own, after_passed}
 use Rattle.job_steps.specs.Steps.{after_event, rest_of, outcome_of, is_own, OwnAnswer, GoesOn, first_place}
 use Rattle.job_steps.specs.Steps.{job_signal, raised_at, foreground_target, IsSent, IsAllowed, Leads}
-use Rattle.job_one.specs.Later.{port_with, IsLater, ComesBy, HasLogged, HasGoneOn, WasAnswered}
+use Rattle.passed_laws.specs.Later.{IsLater, ComesBy, WasAnswered}
+use Rattle.passed_laws.proofs.Laters.{later_before, terminal_now, long_enough, on_more, front}
+use Rattle.job_one.specs.Later.{port_with, HasLogged, HasGoneOn}
 
 -- ---- journals to which a port can come
-
-pub later_before : (v w : PortValue) (part : List PlainEntry) (j : Journal)
-    → ComesBy v w part
-    → IsLater w j
-    → IsLater v j
-later_before v w part j by h =
-    record {
-      opens = h.opens ∙ (λ i. opening (sum (by.counts i)) (by.capacity i));
-      calls = λ c step call is. h.calls c step call (by.grows c step call is);
-      rest = part ++ h.rest;
-      entries = h.entries ∙ (ap (λ (es : List PlainEntry). es ++ h.rest) by.added ∙ append_assoc v.journal part h.rest);
-    }
-
-pub run_after : (f g : ℕ → ℕ → Option PlainCall) (counts : List ℕ) (t : Terminal) (es : List PlainEntry) (u : Terminal)
-    → Grows f g
-    → Run f counts t es u
-    → terminal_after g t es ≡ u
-run_after f g counts t [] u grows h = sym h
-run_after f g counts t (e ∷ es) u grows h =
-    ap (λ (s : Terminal). terminal_after g s es) (after_grown f g counts t e grows h.0).1
-    ∙ run_after f g counts (after f t e) es u grows h.1
-
-pub front : (xs ys : List PlainEntry) → take (length xs) (xs ++ ys) ≡ xs
-front [] ys = refl
-front (x ∷ xs) ys = ap (λ (es : List PlainEntry). x ∷ es) (front xs ys)
-
--- there its terminal is the port's
-pub terminal_now : (v : PortValue) (j : Journal)
-    → IsPort v
-    → IsLater v j
-    → terminal_at j (length v.journal) ≡ v.terminal
-terminal_now v j port h =
-    ap (λ (es : List PlainEntry). terminal_after j.calls j.opening (take (length v.journal) es)) h.entries
-    ∙ (ap (λ (es : List PlainEntry). terminal_after j.calls j.opening es) (front v.journal h.rest)
-    ∙ (ap (λ (t : Terminal). terminal_after j.calls t v.journal) h.opens
-    ∙ run_after (call_in v.kept) j.calls v.counts (opening (sum v.counts) v.flip.capacity)
-    v.journal v.terminal h.calls port.run))
-
-long_enough : (v : PortValue) (j : Journal) → IsLater v j → length v.journal ≤ length j.entries
-long_enough v j h = omega (arith, ap (λ (es : List PlainEntry). length es) h.entries, length-append v.journal h.rest)
 
 -- ---- the log grows
 
@@ -92,18 +54,6 @@ leads_more port s u [] l h low high allowed = (
 )
 leads_more port s u (x ∷ log) l h low high allowed =
     (h.0, h.1, h.2, leads_more port (after_event port s x.at x.event) u log l h.3 low high allowed)
-
-one_on : (p n : ℕ) (event : JobEvent)
-    → logged_on p (record { port = p; at = n; event = event } ∷ []) ≡ record { port = p; at = n; event = event } ∷ []
-one_on p n event =
-    ap (λ (b : Bool). cond b (record { port = p; at = n; event = event } ∷ []) []) (eq-eqb p p refl)
-
-pub on_more : (p n : ℕ) (event : JobEvent) (log : JobLog)
-    → logged_on p (log ++ record { port = p; at = n; event = event } ∷ [])
-    ≡ logged_on p log ++ record { port = p; at = n; event = event } ∷ []
-on_more p n event log =
-    filter-append (λ (l : Logged JobEvent). l.port == p) log (record { port = p; at = n; event = event } ∷ [])
-    ∙ ap (λ (ls : JobLog). logged_on p log ++ ls) (one_on p n event)
 
 -- by an event that is allowed now, whatever comes
 pub logs : (p : ℕ) (session : JobsSession) (log : JobLog) (v : PortValue) (u next : JobsState) (event : JobEvent)

@@ -1,14 +1,10 @@
--- What callers have passed down, as the log and the port go on.
-use Rattle.std.proofs.Common.{◌≡◌, ◌≤◌, ◌<◌, inl, inr, ℕ, ◌+◌, Bool, true, false, ◌==◌, List, [], ◌∷◌, ◌++◌}
-use Rattle.std.proofs.Common.{length, if◌then◌else◌, filter, refl, sym, ap, ◌∙◌, subst, arith, append-nil}
-use Rattle.std.specs.Prelude.{All, slice_index_or, slice_set}
-use Rattle.std.proofs.lemmas.Bool.{cases_eq, false≢true, ne_eqb, eq-eqb}
-use Rattle.std.proofs.lemmas.List.{get_or-set_same, get_or-set_other}
-use Rattle.std.proofs.lemmas.List.Elements.{All-head, All-tail, All-weaker, filter-append}
-use Rattle.passed_calls.specs.Derived.{Passing, AreInSteps, by_caller, calls_at}
-use Rattle.job_text.specs.Events.{JobEvent, passed, JobLog}
+-- What callers have passed down, as the log goes on.
+use Rattle.std.proofs.Common.{◌≡◌, ℕ, List, [], ◌∷◌, ◌++◌, ap, ◌∙◌, append-nil}
+use Rattle.passed_calls.specs.Derived.{Passing, by_caller}
+use Rattle.job_text.specs.Events.{JobEvent, JobLog}
 use Rattle.job_text.specs.Sessions.{JobsSession}
 use Rattle.job_steps.specs.Derived.{job_call_at, passings_on}
+use Rattle.passed_laws.proofs.Steps.{own_more, other_more}
 use Rattle.job_one.specs.Latest.{latest_on, passings_by}
 use Rattle.job_one.proofs.Following.{passings_more}
 
@@ -21,12 +17,6 @@ logged_more session log p at event none =
     passings_more session log p at event
     ∙ (ap (λ (ms : List Passing). passings_on session log p ++ ms) none ∙ append-nil (passings_on session log p))
 
-by_same : (c : ℕ) (m : Passing) → m.caller ≡ c → by_caller c (m ∷ []) ≡ m ∷ []
-by_same c m same = ap (λ (b : Bool). if b then m ∷ [] else []) (eq-eqb m.caller c same)
-
-by_none : (c : ℕ) (m : Passing) → (m.caller ≡ c → ⊥) → by_caller c (m ∷ []) ≡ []
-by_none c m other = ap (λ (b : Bool). if b then m ∷ [] else []) (ne_eqb m.caller c other)
-
 -- one passing more, of its caller and of another
 pub by_own : (session : JobsSession) (log : JobLog) (p at c : ℕ) (event : JobEvent) (m : Passing)
     → passings_by (job_call_at p session) (latest_on log p) event ≡ m ∷ []
@@ -36,8 +26,7 @@ pub by_own : (session : JobsSession) (log : JobLog) (p at c : ℕ) (event : JobE
 by_own session log p at c event m one same =
     ap (by_caller c)
     (passings_more session log p at event ∙ ap (λ (ms : List Passing). passings_on session log p ++ ms) one)
-    ∙ (filter-append (λ (x : Passing). x.caller == c) (passings_on session log p) (m ∷ [])
-    ∙ ap (λ (ms : List Passing). by_caller c (passings_on session log p) ++ ms) (by_same c m same))
+    ∙ own_more (passings_on session log p) c m same
 
 pub by_other : (session : JobsSession) (log : JobLog) (p at c : ℕ) (event : JobEvent) (m : Passing)
     → passings_by (job_call_at p session) (latest_on log p) event ≡ m ∷ []
@@ -47,70 +36,4 @@ pub by_other : (session : JobsSession) (log : JobLog) (p at c : ℕ) (event : Jo
 by_other session log p at c event m one other =
     ap (by_caller c)
     (passings_more session log p at event ∙ ap (λ (ms : List Passing). passings_on session log p ++ ms) one)
-    ∙ (filter-append (λ (x : Passing). x.caller == c) (passings_on session log p) (m ∷ [])
-    ∙ (ap (λ (ms : List Passing). by_caller c (passings_on session log p) ++ ms) (by_none c m other)
-    ∙ append-nil (by_caller c (passings_on session log p))))
-
--- ---- the begun call, or none
-
-abbrev pub tail : Bool → Passing → List Passing
-tail b m = if b then m ∷ [] else []
-
-pub tail_same : (b : Bool) (m n : Passing) → (b ≡ true → m ≡ n) → tail b m ≡ tail b n
-tail_same true m n same = ap (λ (x : Passing). x ∷ []) (same refl)
-tail_same false m n same = refl
-
-pub tail_none : (b : Bool) (m : Passing) → b ≡ false → tail b m ≡ []
-tail_none true m e = absurd (false≢true (sym e))
-tail_none false m e = refl
-
-pub tail_one : (b : Bool) (m : Passing) → b ≡ true → tail b m ≡ m ∷ []
-tail_one true m e = refl
-tail_one false m e = absurd (false≢true e)
-
--- ---- the next steps
-
-pub step_own : (next : List ℕ) (c n : ℕ) → c < length next → slice_index_or (slice_set next c n) c 0 ≡ n
-step_own next c n lt = get_or-set_same next c n 0 lt
-
-pub step_other : (next : List ℕ) (c x n : ℕ)
-    → (x ≡ c → ⊥)
-    → slice_index_or (slice_set next c n) x 0 ≡ slice_index_or next x 0
-step_other next c x n other = get_or-set_other next c x n 0 other
-
--- the next steps of all rise
-pub step_rises : (next : List ℕ) (c x : ℕ)
-    → c < length next
-    → slice_index_or next x 0 ≤ slice_index_or (slice_set next c (slice_index_or next c 0 + 1)) x 0
-step_rises next c x lt = elim (cases_eq x c) [
-  | inl same ↦ subst
-      (λ (y : ℕ). slice_index_or next y 0 ≤ slice_index_or (slice_set next c (slice_index_or next c 0 + 1)) y 0)
-      (sym same)
-      (omega (arith, step_own next c (slice_index_or next c 0 + 1) lt))
-  | inr other ↦ omega (arith, step_other next c x (slice_index_or next c 0 + 1) other)
-]
-
-pub before_more : (ms : List Passing) (n k : ℕ) → n ≤ k → All (λ m. m.step < n) ms → All (λ m. m.step < k) ms
-before_more ms n k le h =
-    All-weaker (λ (m : Passing). m.step < n) (λ (m : Passing). m.step < k) (λ m lt. omega (arith, le, lt)) ms h
-
--- ---- passings of earlier steps
-
-pub none_at : (ms : List Passing) (n : ℕ) → All (λ m. m.step < n) ms → calls_at ms n ≡ []
-none_at [] n h = refl
-none_at (m ∷ ms) n h =
-    let lt : m.step < n = All-head (λ (x : Passing). x.step < n) m ms h in
-    let ne : m.step ≡ n → ⊥ = λ e. omega (arith, lt, e) in
-    ap (λ (b : Bool). (if b then m.calls else []) ++ calls_at ms n) (ne_eqb m.step n ne)
-    ∙ none_at ms n (All-tail (λ (x : Passing). x.step < n) m ms h)
-
-pub in_steps_below : (from end n : ℕ) (ms : List Passing)
-    → AreInSteps from end ms
-    → All (λ m. m.step < n) ms
-    → AreInSteps from n ms
-in_steps_below from end n [] h all = tt
-in_steps_below from end n (m ∷ ms) h all = (
-  h.0,
-  All-head (λ (x : Passing). x.step < n) m ms all,
-  in_steps_below m.step end n ms h.2 (All-tail (λ (x : Passing). x.step < n) m ms all),
-)
+    ∙ other_more (passings_on session log p) c m other

@@ -29,11 +29,12 @@ use Rattle.job_text.specs.Events.{JobEvent, own, passed, passed_down, sent, JobL
 use Rattle.job_text.specs.Sessions.{JobsSession}
 use Rattle.job_steps.specs.Steps.{Port, JobsState, first_state, after_event, job_signal, Leads}
 use Rattle.job_steps.specs.Order.{AreSent, IsEventInTurn, AreEventsInTurn}
-use Rattle.job_one.specs.Witness.{scene_on}
-use Rattle.job_one.specs.Later.{port_with, IsLater, ComesBy, HasLogged}
+use Rattle.passed_laws.specs.Witness.{scene_on}
+use Rattle.passed_laws.specs.Later.{IsLater, ComesBy}
+use Rattle.job_one.specs.Later.{port_with, HasLogged}
 use Rattle.job_one.specs.Ordered.{HasOrdered}
-use Rattle.job_one.proofs.Logging.{later_before, terminal_now, on_more, front}
-use Rattle.job_one.proofs.Witnessed.{consoles_in}
+use Rattle.passed_laws.proofs.Laters.{later_before, terminal_now, on_more, front}
+use Rattle.passed_laws.proofs.Witnessed.{consoles_in}
 
 turns_more : (played : PlainSession) (port : Port) (s u : JobsState) (log : JobLog) (l : Logged JobEvent)
     → Leads port s log u

@@ -35,19 +35,20 @@ use Rattle.order_laws.proofs.Shapes.{phases_same, at_phase}
 use Rattle.job_text.specs.Events.{JobLog}
 use Rattle.job_text.specs.Sessions.{JobsSession}
 use Rattle.job_steps.specs.Derived.{block_phases, passings_on}
-use Rattle.job_one.specs.Passed.{begin_of}
-use Rattle.job_one.specs.Later.{ComesBy}
-use Rattle.job_one.specs.Witness.{scene_on, HasPassed, IsPlaying}
+use Rattle.passed_laws.specs.Passed.{begin_of}
+use Rattle.passed_laws.specs.Later.{ComesBy}
+use Rattle.passed_laws.specs.Witness.{scene_on, HasPassed, IsPlaying}
 use Rattle.job_one.specs.Desk.{signals_of}
 use Rattle.job_one.specs.Events.{DeskState}
 use Rattle.job_one.specs.Along.{SendsAlong}
-use Rattle.job_one.specs.Playing.{DeskValue, passings_with, begun_at, next_passing, AreLoggedBefore, IsPlayingJobs}
+use Rattle.passed_laws.specs.Begun.{begun_at}
+use Rattle.job_one.specs.Playing.{DeskValue, passings_with, next_passing, AreLoggedBefore, IsPlayingJobs}
 use Rattle.job_one.specs.Between.{value_at, passed_by, IsBeforeJobs}
 use Rattle.job_one.proofs.Along.{keeps, kept_by, had_by, same_kept, stands_on}
-use Rattle.job_one.proofs.Logging.{run_after}
+use Rattle.passed_laws.proofs.Laters.{run_after}
 use Rattle.job_one.proofs.Raised.{entry_still}
-use Rattle.job_one.proofs.Witnessed.{begins_line, begins_playing, end_on}
-use Rattle.job_one.proofs.Mine.{tail_none}
+use Rattle.passed_laws.proofs.Witnessed.{begins_line, begins_playing, end_on}
+use Rattle.passed_laws.proofs.Steps.{tail_none}
 
 -- nobody has begun a call
 rests : (session : JobsSession) (p : ℕ) (log : JobLog) (d : DeskValue) (begun : ℕ → Bool)

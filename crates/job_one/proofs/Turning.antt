@@ -33,23 +33,29 @@ use Rattle.job_text.specs.Events.{JobEvent, own, passed, passed_down, sent, JobL
 use Rattle.job_text.specs.Sessions.{JobCall, JobsSession}
 use Rattle.job_steps.specs.Derived.{block_phases, job_call_at, plain_call, passings_on}
 use Rattle.job_steps.specs.Steps.{outcome_of, is_own, judged_call, job_signal, foreground_target}
-use Rattle.job_one.specs.Passed.{begin_of, IsOfBlocks, AreUpTo, PassesMore}
+use Rattle.passed_laws.specs.Passed.{begin_of, IsOfBlocks, AreUpTo, PassesMore}
 use Rattle.passed_calls.specs.Within.{AreBlocksWithin}
-use Rattle.job_one.specs.Witness.{scene_on, IsPlaying, IsCalling}
-use Rattle.job_one.specs.Later.{ComesBy}
+use Rattle.passed_laws.specs.Witness.{scene_on, IsPlaying, IsCalling}
+use Rattle.passed_laws.specs.Later.{ComesBy}
 use Rattle.job_one.specs.Latest.{latest_on}
-use Rattle.job_one.specs.Desk.{proc_in, call_after, signals_of, IsDeskAt, jobs_passed, due_passed, HadBegun}
-use Rattle.job_one.specs.Playing.{DeskValue, step_at, next_passing, passings_with, begun_at}
-use Rattle.job_one.specs.Playing.{begun_with, hangup_of, hangup_with, AreLoggedBefore, IsPlayingJobs}
-use Rattle.job_one.proofs.Witnessed.{in_turn, in_call, in_last, turn_on, calls_next, call_on, last_on, same_entry}
-use Rattle.job_one.proofs.Nexts.{next_of_call}
-use Rattle.job_one.proofs.Growing.{calls_all}
-use Rattle.job_one.proofs.Passings.{all_more, in_steps_more}
-use Rattle.job_one.proofs.BegunBefore.{begun_same, begun_still, begun_elsewhere, begun_by_none}
-use Rattle.job_one.proofs.Attempted.{makes_as, attempts_as, begins, other_is, of_step_is}
-use Rattle.job_one.proofs.Attempted.{begins_by_wait, begins_by_part, begun_now, was_answered, ended_now}
-use Rattle.job_one.proofs.Mine.{logged_more, by_own, by_other, tail, tail_same, tail_none, tail_one}
-use Rattle.job_one.proofs.Mine.{step_own, step_other, step_rises, before_more, none_at, in_steps_below}
+use Rattle.passed_laws.specs.Begun.{HadBegun}
+use Rattle.job_one.specs.Desk.{proc_in, call_after, signals_of, IsDeskAt, jobs_passed, due_passed}
+use Rattle.passed_laws.specs.Begun.{begun_at}
+use Rattle.job_one.specs.Playing.{DeskValue, step_at, next_passing, passings_with}
+use Rattle.passed_laws.specs.Begun.{begun_with}
+use Rattle.job_one.specs.Playing.{hangup_of, hangup_with, AreLoggedBefore, IsPlayingJobs}
+use Rattle.passed_laws.proofs.InOrders.{same_entry}
+use Rattle.passed_laws.proofs.Witnessed.{in_turn, in_call, in_last, turn_on, calls_next, call_on, last_on}
+use Rattle.passed_laws.proofs.Nexts.{next_of_call}
+use Rattle.passed_laws.proofs.Growing.{calls_all}
+use Rattle.passed_laws.proofs.Passings.{all_more, in_steps_more}
+use Rattle.passed_laws.proofs.BegunBefore.{begun_same, begun_still, begun_elsewhere, begun_by_none}
+use Rattle.passed_laws.proofs.Attempted.{makes_as, attempts_as, begins, other_is}
+use Rattle.job_one.proofs.Begun.{of_step_is}
+use Rattle.passed_laws.proofs.Attempted.{begins_by_wait, begins_by_part, begun_now, was_answered, ended_now}
+use Rattle.passed_laws.proofs.Steps.{tail, tail_same, tail_none, tail_one}
+use Rattle.job_one.proofs.Mine.{logged_more, by_own, by_other}
+use Rattle.passed_laws.proofs.Steps.{step_own, step_other, step_rises, before_more, none_at, in_steps_below}
 use Rattle.job_one.proofs.DeskEvents.{desk_sends, desk_hangs_up, desk_raises}
 use Rattle.job_one.proofs.DeskEvents.{desk_answers, desk_stays, desk_begins, desk_passes}
 use Rattle.journal_check.proofs.NameLemmas.{get_past}

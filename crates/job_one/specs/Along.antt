@@ -6,7 +6,8 @@ use Rattle.port_core.specs.Ports.{PortValue}
 use Rattle.one_thread.specs.Roles.{Scene}
 use Rattle.job_text.specs.Sessions.{JobsSession}
 use Rattle.job_steps.specs.Derived.{passings_on}
-use Rattle.job_one.specs.Desk.{signals_of, HadBegun}
+use Rattle.passed_laws.specs.Begun.{HadBegun}
+use Rattle.job_one.specs.Desk.{signals_of}
 use Rattle.job_one.specs.Events.{DeskState, IsSameDesk, StandsAt}
 
 -- the log leads to here, and each signal of the port was sent on

@@ -54,9 +54,3 @@ jobs_passed jobs call answer = jobs
 abbrev pub due_passed : JobState → PlainCall → PlainAnswer → List JobEvent
 due_passed jobs (hangs_up h) done = told_leader (leader_of jobs)
 due_passed jobs call answer = []
-
--- a caller that has begun a call has begun it before already
-abbrev pub HadBegun : (old v : PortValue) → (c : ℕ) → Type 0
-HadBegun old v c =
-    has_begun (caller_at v.terminal c) ≡ true
-    → (has_begun (caller_at old.terminal c) ≡ true) × ((caller_at v.terminal c).next ≡ (caller_at old.terminal c).next)

@@ -18,12 +18,13 @@ use Rattle.job_text.specs.Events.{JobEvent, passed_down}
 use Rattle.job_text.specs.Sessions.{JobCall, JobsSession}
 use Rattle.job_steps.specs.Derived.{block_phases}
 use Rattle.job_steps.specs.Steps.{is_own, judged_call}
-use Rattle.job_one.specs.Witness.{IsCalling}
+use Rattle.passed_laws.specs.Witness.{IsCalling}
 use Rattle.job_one.specs.Desk.{proc_in, call_after, signals_of}
 use Rattle.job_one.specs.Events.{DeskState}
 use Rattle.job_one.specs.Between.{value_at}
 use Rattle.job_one.specs.Latest.{latest_on}
-use Rattle.job_one.specs.Playing.{passings_with, begun_at, begun_with, hangup_with, IsPlayingJobs}
+use Rattle.passed_laws.specs.Begun.{begun_at, begun_with}
+use Rattle.job_one.specs.Playing.{passings_with, hangup_with, IsPlayingJobs}
 
 -- what stays meanwhile: the session and its plain part, the scripts of each scene that may be played, the port behind
 -- the line, and the ticks

@@ -5,6 +5,7 @@ use Rattle.tty_terminal.specs.Terminals.{opening}
 use Rattle.tty_terminal.specs.Runs.{Grows}
 use Rattle.port_core.specs.Ports.{PortValue, call_in}
 use Rattle.passed_calls.specs.Journals.{Journal, IsAnswerBy}
+use Rattle.passed_laws.specs.Later.{IsLater}
 use Rattle.passed_calls.specs.Logs.{logged_on}
 use Rattle.job_text.specs.Events.{JobLog}
 use Rattle.job_text.specs.Sessions.{JobsSession}
@@ -12,20 +13,6 @@ use Rattle.job_steps.specs.Steps.{Port, JobsState, first_state, next_call, first
 
 abbrev pub port_with : ℕ → JobsSession → Journal → Port
 port_with p session journal = record { number = p; session = session; journal = journal }
-
--- a journal to which this port can come: it begins with the port's entries, and knows the calls that it was asked
-pub record IsLater (v : PortValue) (journal : Journal) : Type 0 where
-  pub opens : journal.opening ≡ opening (sum v.counts) v.flip.capacity
-  pub calls : Grows (call_in v.kept) journal.calls
-  pub rest : List PlainEntry
-  pub entries : journal.entries ≡ v.journal ++ rest
-
--- a port that came to another one by these entries
-pub record ComesBy (old new : PortValue) (part : List PlainEntry) : Type 0 where
-  pub added : new.journal ≡ old.journal ++ part
-  pub grows : Grows (call_in old.kept) (call_in new.kept)
-  pub counts : new.counts ≡ old.counts
-  pub capacity : new.flip.capacity ≡ old.flip.capacity
 
 -- the log so far, and where it leads, whatever comes
 pub record HasLogged (p : ℕ) (session : JobsSession) (log : JobLog) (v : PortValue) (u : JobsState) : Type 0 where
@@ -42,11 +29,3 @@ pub record HasGoneOn (p : ℕ) (session : JobsSession) (v : PortValue) (u : Jobs
   pub goes_on : (journal : Journal)
       → IsLater v journal
       → GoesOn (port_with p session journal) u place c (next_call (port_with p session journal) u c)
-
--- the last entry is this answer to a caller's call of this step
-pub record WasAnswered (v : PortValue) (c step : ℕ) (answer : PlainAnswer) : Type 0 where
-  pub before : List PlainEntry
-  pub entry : PlainEntry
-  pub last : v.journal ≡ before ++ entry ∷ []
-  pub of_step : entry.step ≡ step
-  pub is_answer : IsAnswerBy c answer entry

@@ -1,6 +1,3 @@
-pub mod Passed
-pub mod Filled
-pub mod Witness
 pub mod Later
 pub mod Played
 pub mod Latest

@@ -18,7 +18,7 @@ use Rattle.job_text.specs.Sessions.{JobsSession, blocks_in}
 use Rattle.job_steps.specs.Derived.{block_phases, job_call_at, plain_call, passings_on, derived}
 use Rattle.job_steps.specs.Steps.{Port, JobsState, first_state, next_of, names_of_port, Leads, IsJobsRun}
 use Rattle.job_steps.specs.Order.{AreEventsInTurn}
-use Rattle.job_one.specs.Passed.{steps_named}
+use Rattle.passed_laws.specs.Passed.{steps_named}
 
 -- ---- the session that was played, also where a journal is full
 

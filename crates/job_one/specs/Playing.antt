@@ -12,9 +12,10 @@ use Rattle.job_control.specs.Control.{JobState}
 use Rattle.job_text.specs.Events.{JobEvent, JobLog}
 use Rattle.job_text.specs.Sessions.{JobsSession}
 use Rattle.job_steps.specs.Derived.{block_phases, plain_call, passings_on}
+use Rattle.passed_laws.specs.Begun.{begun_at, begun_with}
 use Rattle.job_one.specs.Latest.{latest_on}
 use Rattle.job_one.specs.Desk.{call_after, IsDeskAt}
-use Rattle.job_one.specs.Witness.{IsPlaying}
+use Rattle.passed_laws.specs.Witness.{IsPlaying}
 
 -- job control at a desk, the next step of each caller, how many signals were sent on, and what is due
 pub record DeskValue : Type 0 where
@@ -35,13 +36,6 @@ next_passing session p d c =
 abbrev pub passings_with : JobsSession → JobLog → (p : ℕ) → DeskValue → (begun : ℕ → Bool) → ℕ → List Passing
 passings_with session log p d begun c =
     by_caller c (passings_on session log p) ++ (if begun c then next_passing session p d c ∷ [] else [])
-
--- a caller has begun a call; or is the one that makes one now
-abbrev pub begun_at : PortValue → ℕ → Bool
-begun_at v c = has_begun (caller_at v.terminal c)
-
-abbrev pub begun_with : PortValue → (c : ℕ) → ℕ → Bool
-begun_with v c x = (x == c) || begun_at v x
 
 -- the hangup of a process that has ended is passed down, at the latest step that was answered without the port
 abbrev pub hangup_of : JobLog → (p c h : ℕ) → Passing

@@ -15,7 +15,7 @@ use Rattle.job_steps.specs.Derived.{block_phases, job_call_at}
 use Rattle.job_one.specs.declared.remaining.Cursor.{Cursor}
 use Rattle.job_one.specs.declared.remaining.NextCall.{NextCall}
 use Rattle.job_one.specs.declared.remaining.NextCall.TheVariants as next
-use Rattle.job_one.specs.Passed.{begin_of}
+use Rattle.passed_laws.specs.Passed.{begin_of}
 
 abbrev pub job_call_of : NextCall → JobCall
 job_call_of (next.Port call) = plain (call_of call)

@@ -10,7 +10,9 @@ use Rattle.job_control.specs.declared.processes.Judged.TheVariants.{Pass}
 use Rattle.job_text.specs.Sessions.{JobCall}
 use Rattle.job_steps.specs.Derived.{block_phases}
 use Rattle.job_steps.specs.Steps.{judged_answer}
-use Rattle.job_one.specs.Passed.{begin_of}
+use Rattle.passed_laws.specs.Passed.{begin_of}
+use Rattle.passed_laws.specs.Begun.{WereOver}
+use Rattle.passed_laws.specs.Left.{HasGone}
 use Rattle.job_one.specs.Desk.{proc_in, call_after}
 use Rattle.job_one.specs.Events.{DeskState}
 use Rattle.job_one.specs.Frames.{Frame, IsAtTurn}
@@ -24,15 +26,6 @@ pub record Advances (answered : Bool) (c : ℕ) (d x : DeskState) : Type 0 where
   pub procs : x.jobs.procs ≡ d.jobs.procs
   pub next : x.next ≡ (if answered then slice_set d.next c (slice_index_or d.next c 0 + 1) else d.next)
 
--- whose calls of the phase are over has ended them before already
-abbrev pub WereOver : (old new : PortValue) → (c : ℕ) → Type 0
-WereOver old new c = (caller_at new.terminal c).over ≡ true → (caller_at old.terminal c).over ≡ true
-
--- a call that was not answered has made an entry, for which there was room
-abbrev pub HasGone : (answered : Bool) → (old new : PortValue) → Type 0
-HasGone true old new = length old.journal ≤ length new.journal
-HasGone false old new = (length old.journal < 4194304) × (length new.journal ≡ length old.journal + 1)
-
 -- what a turn of the caller at a place comes to
 pub record TakesCall (f : Frame) (roles : List Role) (place : ℕ) (old new : PortValue) (d x : DeskState)
     (taken : Taken) : Type 0 where
@@ -42,7 +35,7 @@ pub record TakesCall (f : Frame) (roles : List Role) (place : ℕ) (old new : Po
   pub gone : HasGone taken.answered old new
 
 -- what a turn of nobody's call comes to
-pub record TakesTurn (f : Frame) (roles : List Role) (old new : PortValue) (d x : DeskState)
+pub record TakesNoCall (f : Frame) (roles : List Role) (old new : PortValue) (d x : DeskState)
     (now : Stand) : Type 0 where
   pub at : IsAtTurn f roles new x now
   pub desk : Advances false 0 d x
@@ -80,11 +73,3 @@ pub record IsBetweenTurns (f : Frame) (roles : List Role) (v : PortValue) (d : D
       → slice_get roles i ≡ Some r
       → (caller_at v.terminal r.number).over ≡ true
       → left_at left i ≡ []
-
--- how many calls are left, and how many entries with them the journal may still have: each turn takes some
-abbrev pub count_left : List (List JobCall) → ℕ
-count_left [] = 0
-count_left (calls ∷ more) = length calls + count_left more
-
-abbrev pub turns_left : PortValue → List (List JobCall) → ℕ
-turns_left v left = (4194304 - length v.journal) + count_left left

@@ -13,7 +13,8 @@ ghost use Rattle.job_steps.specs.Steps.{judged_answer, judged_call};
 ghost use Rattle.job_one.specs.Frames.{Frame, IsAtTurn, IsNextTurn};
 ghost use Rattle.job_one.specs.AfterLine.{IsFrameWithin, BeginsTurns, EndsTurns, StopsTurns};
 ghost use Rattle.job_one.specs.Remaining.{after_next, job_call_of, left_at};
-ghost use Rattle.job_one.specs.Taken.{GoesToPort, IsBetweenTurns, IsNextOf, TakesCall, turns_left};
+ghost use Rattle.passed_laws.specs.Left.{turns_left};
+ghost use Rattle.job_one.specs.Taken.{GoesToPort, IsBetweenTurns, IsNextOf, TakesCall};
 
 use crate::desks::Desk;
 use crate::remaining::{NextCall, Remaining};

@@ -31,11 +31,12 @@ ghost use Rattle.passed_calls.specs.Scripts.{plain};
 ghost use Rattle.job_text.specs.Events.{JobEvent, own, passed, passed_down, sent, JobLog};
 ghost use Rattle.job_text.specs.Sessions.{JobCall, JobsSession};
 ghost use Rattle.job_steps.specs.Steps.{outcome_of, is_own, is_of_step, judged_call, job_signal, foreground_target};
-ghost use Rattle.job_one.specs.Later.{ComesBy, WasAnswered};
+ghost use Rattle.passed_laws.specs.Later.{ComesBy, WasAnswered};
 ghost use Rattle.job_steps.specs.Derived.{passings_on};
 ghost use Rattle.job_one.specs.Along.{SendsAlong, StopsAlong};
 ghost use Rattle.job_one.specs.Events.{DeskState, new_sent_on, IsSameDesk, HasRaised, StandsAt};
-ghost use Rattle.job_one.specs.Desk.{proc_in, call_after, signals_of, IsDeskAt, jobs_passed, due_passed, HadBegun};
+ghost use Rattle.passed_laws.specs.Begun.{HadBegun};
+ghost use Rattle.job_one.specs.Desk.{proc_in, call_after, signals_of, IsDeskAt, jobs_passed, due_passed};
 
 /// Signals come of flushes alone.
 pub fn signals_come_of_flushes()

@@ -1,9 +1,7 @@
-//! Parts of a player of sessions of processes on one thread: what callers pass down to a port, its log and its desk,
-//! the line of a phase with its signals, and what comes after it up to the end of the phase. The player itself is not
-//! here.
+//! Parts of a player of sessions of processes on one thread: a port's log and its desk, the line of a phase with its
+//! signals, and what comes after it up to the end of the phase. The player itself is not here.
 #![tactic(auto)]
 
-mod acts;
 mod after_line;
 mod controls;
 mod desk_laws;
@@ -16,9 +14,6 @@ mod players;
 mod remaining;
 mod turns;
 
-pub use acts::{
-    calls_are_played, calls_end, phases_begin_to_be_played, phases_end, turns_are_played,
-};
 pub use after_line::play_after_line;
 pub use controls::{
     Due, control, exit, foreground, gpgrp, hangup_through, notty, refusal_through, sctty, spgrp,
@@ -28,11 +23,7 @@ pub use desk_laws::{
     new_signals_are_sent_on, signals_come_of_flushes,
 };
 pub use desks::Desk;
-pub use laws::{
-    a_passing_more_agrees, a_port_opens_with_nothing_passed, callers_keep_their_steps,
-    callers_make_what_they_pass, roles_are_cast_for_each, sessions_of_blocks_have_one_shape,
-    what_is_passed_goes_on, what_is_passed_last_is_next, what_is_whole_is_derived,
-};
+pub use laws::{a_session_has_its_blocks, what_is_whole_is_derived};
 pub use line::play_line;
 pub use logs::{
     a_call_begins_at_its_first_entry, calls_have_gone_on, logs_grow, what_came_before_stays,

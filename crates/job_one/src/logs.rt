@@ -17,7 +17,8 @@ ghost use Rattle.job_text.specs.Sessions.{JobCall, JobsSession};
 ghost use Rattle.job_steps.specs.Steps.{Port, JobsState, first_place, is_of_step, judged_call, jobs_before, proc_of};
 ghost use Rattle.job_steps.specs.Steps.{next_of, next_call, with_jobs, answered_for, after_own, after_passed};
 ghost use Rattle.job_steps.specs.Steps.{after_event, outcome_of, is_own, job_signal, foreground_target};
-ghost use Rattle.job_one.specs.Later.{port_with, IsLater, ComesBy, HasLogged, HasGoneOn, WasAnswered};
+ghost use Rattle.passed_laws.specs.Later.{IsLater, ComesBy, WasAnswered};
+ghost use Rattle.job_one.specs.Later.{port_with, HasLogged, HasGoneOn};
 
 /// The log of a port grows by one event, of each kind, and stays one as the port makes entries.
 pub fn logs_grow()
@@ -74,13 +75,8 @@ pub fn logs_grow()
         → HasLogged p session log w u }
 {}
 
-/// A journal to which a port comes leads to the port's terminal at the port's last entry; and an event says nothing of
-/// job control before an earlier entry.
+/// An event says nothing of job control before an earlier entry.
 pub fn what_came_before_stays()
-    ensures terminal { (v : PortValue) (j : Journal)
-        → IsPort v
-        → IsLater v j
-        → terminal_at j (length v.journal) ≡ v.terminal }
     ensures now { (port : Port) (s : JobsState) (place : ℕ) → s.now.at ≤ place → jobs_before port s place ≡ s.now.jobs }
     ensures behind { (port : Port) (s : JobsState) (at place : ℕ) (event : JobEvent)
         → place < at

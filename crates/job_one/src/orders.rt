@@ -18,7 +18,8 @@ ghost use Rattle.job_control.specs.declared.answers.JobAnswer.{JobAnswer};
 ghost use Rattle.job_control.specs.declared.answers.Target.{Target};
 ghost use Rattle.job_control.specs.declared.processes.JobSignal.{JobSignal};
 ghost use Rattle.job_steps.specs.Steps.{JobsState};
-ghost use Rattle.job_one.specs.Later.{ComesBy, HasLogged};
+ghost use Rattle.passed_laws.specs.Later.{ComesBy};
+ghost use Rattle.job_one.specs.Later.{HasLogged};
 ghost use Rattle.job_one.specs.Ordered.{HasOrdered};
 ghost use Rattle.one_thread.specs.declared.after_line.Turn.TheVariants as turn;
 

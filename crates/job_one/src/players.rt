@@ -33,16 +33,17 @@ ghost use Rattle.job_text.specs.Events.{JobEvent, own, passed, passed_down, sent
 ghost use Rattle.job_text.specs.Sessions.{JobCall, JobsSession};
 ghost use Rattle.job_steps.specs.Derived.{block_phases};
 ghost use Rattle.job_steps.specs.Steps.{outcome_of, is_own, judged_call, job_signal, foreground_target};
-ghost use Rattle.job_one.specs.Passed.{begin_of, IsOfBlocks};
+ghost use Rattle.passed_laws.specs.Passed.{begin_of, IsOfBlocks};
 ghost use Rattle.passed_calls.specs.Within.{AreBlocksWithin};
-ghost use Rattle.job_one.specs.Witness.{IsCalling};
-ghost use Rattle.job_one.specs.Later.{ComesBy};
+ghost use Rattle.passed_laws.specs.Witness.{IsCalling};
+ghost use Rattle.passed_laws.specs.Later.{ComesBy};
 ghost use Rattle.job_one.specs.Latest.{latest_on};
 ghost use Rattle.job_one.specs.Desk.{proc_in, call_after, signals_of, jobs_passed, due_passed};
 ghost use Rattle.job_one.specs.Events.{DeskState};
 ghost use Rattle.job_one.specs.Along.{SendsAlong};
 ghost use Rattle.job_one.specs.Between.{value_at, IsBeforeJobs};
-ghost use Rattle.job_one.specs.Playing.{DeskValue, step_at, passings_with, begun_at, begun_with};
+ghost use Rattle.passed_laws.specs.Begun.{begun_at, begun_with};
+ghost use Rattle.job_one.specs.Playing.{DeskValue, step_at, passings_with};
 ghost use Rattle.job_one.specs.Playing.{hangup_with, AreLoggedBefore, IsPlayingJobs};
 
 /// By a flush, a tick, the clock's end or the end of a caller's calls the player goes on.

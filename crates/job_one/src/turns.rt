@@ -6,7 +6,7 @@ ghost use Rattle.one_thread.specs.declared.after_line.Turn.TheVariants as turn;
 ghost use Rattle.tty_calls.specs.Plain.{call_of};
 ghost use Rattle.job_one.specs.Frames.{Frame, IsAtTurn, IsForPort, IsHangingUp, IsNextTurn, IsOwnCall};
 ghost use Rattle.job_one.specs.AfterLine.{StopsTurns, IsFrameWithin};
-ghost use Rattle.job_one.specs.Taken.{IsNextOf, TakesCall, TakesTurn};
+ghost use Rattle.job_one.specs.Taken.{IsNextOf, TakesCall, TakesNoCall};
 
 use crate::controls::hangup_through;
 use crate::desks::Desk;
@@ -32,7 +32,7 @@ pub fn take_flush(
     ghost frame: { Frame }
     requires at { IsAtTurn frame roles.now port.old desk.old stand }
     requires next { IsNextTurn frame roles.now port.old stand turn.Flush }
-    ensures ok { IfOk result (λ now. TakesTurn frame roles.now port.old port.new desk.old desk.new now) }
+    ensures ok { IfOk result (λ now. TakesNoCall frame roles.now port.old port.new desk.old desk.new now) }
     ensures err { IfErr result (λ d. StopsTurns d frame roles.now port.new desk.new) }
 {
     let _before = port.journal();
@@ -52,7 +52,7 @@ pub fn take_pass(
     ghost frame: { Frame }
     requires at { IsAtTurn frame roles.now port.old desk.now stand }
     requires next { IsNextTurn frame roles.now port.old stand turn.Pass }
-    ensures ok { IfOk result (λ now. TakesTurn frame roles.now port.old port.new desk.now desk.now now) }
+    ensures ok { IfOk result (λ now. TakesNoCall frame roles.now port.old port.new desk.now desk.now now) }
     ensures err { IfErr result (λ d. StopsTurns d frame roles.now port.new desk.now) }
 {
     let _ = desk;
@@ -176,7 +176,7 @@ fn hang_up(
     ghost frame: { Frame }
     requires next { IsNextTurn frame roles.now port.old stand (turn.Call place) }
     requires hangs_up { IsHangingUp frame roles.now port.old desk.old stand place h }
-    ensures ok { IfOk result (λ now. TakesTurn frame roles.now port.old port.new desk.old desk.new now) }
+    ensures ok { IfOk result (λ now. TakesNoCall frame roles.now port.old port.new desk.old desk.new now) }
     ensures err { IfErr result (λ d. StopsTurns d frame roles.now port.new desk.new) }
 {
     let caller = roles[place].number;

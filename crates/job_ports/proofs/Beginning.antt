@@ -23,7 +23,7 @@ use Rattle.job_text.specs.declared.calls.OwnCall.{OwnCall}
 use Rattle.job_text.specs.declared.sessions.JobsSession.{JobsSession as KeptSession}
 use Rattle.job_text.specs.Sessions.{JobCall, JobsSession, jobs_session_of, own_of}
 use Rattle.job_text.specs.Within.{IsJobsSessionWithin}
-use Rattle.job_one.specs.Filled.{AreNextSteps}
+use Rattle.passed_laws.specs.Filled.{AreNextSteps}
 use Rattle.job_one.specs.Remaining.{calls_of_port, AreLeft}
 use Rattle.job_ports.specs.declared.phases.JobStation.{JobStation}
 use Rattle.job_ports.specs.Between.{IsBetween, IsStoppedBy, setting_of, BeginsPhase}

@@ -26,14 +26,14 @@ use Rattle.job_text.specs.declared.sessions.PortProc.{PortProc}
 use Rattle.job_text.specs.Sessions.{JobsPhase, JobsSession, phase_with, session_with, blocks_in}
 use Rattle.job_text.specs.Within.{IsJobsSessionWithin}
 use Rattle.job_steps.specs.Derived.{block_phases}
-use Rattle.job_one.specs.Passed.{IsPassedBy, begin_of}
-use Rattle.job_one.specs.Filled.{AreNextSteps}
+use Rattle.passed_laws.specs.Passed.{IsPassedBy, begin_of}
+use Rattle.passed_laws.specs.Filled.{AreNextSteps}
 use Rattle.job_one.specs.Events.{DeskState}
 use Rattle.job_one.specs.AfterLine.{HasProcs}
 use Rattle.job_one.specs.Remaining.{calls_of_port, AreLeft}
-use Rattle.job_one.proofs.Blocks.{of_blocks, same_shape}
+use Rattle.passed_laws.proofs.Blocks.{of_blocks, same_shape}
 use Rattle.job_one.proofs.Plain.{plain_of_blocks}
-use Rattle.job_one.proofs.Mine.{step_own, step_other}
+use Rattle.passed_laws.proofs.Steps.{step_own, step_other}
 use Rattle.job_ports.specs.Ports.{IsSceneOf}
 use Rattle.job_ports.specs.Between.{IsBetween}
 use Rattle.job_ports.specs.declared.phases.JobStation.{JobStation}

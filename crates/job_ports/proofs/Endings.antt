@@ -11,7 +11,7 @@ use Rattle.job_text.specs.declared.logs.JobEvent.{JobEvent as KeptEvent}
 use Rattle.job_text.specs.Events.{JobLog, logged_of}
 use Rattle.job_text.specs.Sessions.{JobsSession}
 use Rattle.job_one.specs.Events.{AreOn}
-use Rattle.job_one.specs.Witness.{scene_on}
+use Rattle.passed_laws.specs.Witness.{scene_on}
 use Rattle.job_ports.specs.declared.phases.JobStation.{JobStation}
 use Rattle.job_ports.specs.Ports.{IsJobsEnd, IsPortPlayed, AreFirstPlayed}
 use Rattle.job_ports.specs.Between.{IsBetween}

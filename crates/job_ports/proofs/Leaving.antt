@@ -26,9 +26,9 @@ use Rattle.job_text.specs.declared.calls.OwnCall.{OwnCall}
 use Rattle.job_text.specs.Sessions.{JobCall, JobsPhase, JobsSession, block_phase_of, blocks_in}
 use Rattle.job_text.specs.Within.{IsJobsSessionWithin}
 use Rattle.job_steps.specs.Derived.{block_phases, job_call_at}
-use Rattle.job_one.specs.Passed.{steps_named, begin_of}
+use Rattle.passed_laws.specs.Passed.{steps_named, begin_of}
 use Rattle.job_one.specs.Remaining.{calls_of_port, left_at, IsLeftTo, AreLeft}
-use Rattle.job_one.proofs.Passings.{first_within}
+use Rattle.passed_laws.proofs.Passings.{first_within}
 use Rattle.job_ports.proofs.Shares.{One, named, blocks_one, begin_nobody, begin_next}
 use Rattle.job_ports.proofs.Shares.{call_of_phase, has, none_named, own_named, Own}
 

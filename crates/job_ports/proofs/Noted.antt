@@ -22,7 +22,7 @@ use Rattle.job_text.specs.Sessions.{JobCall}
 use Rattle.job_steps.specs.Steps.{Port, JobsState, proc_of, next_of, next_call, raised_at, IsSent}
 use Rattle.job_steps.specs.Steps.{IsAllowed, after_own, answered_for, after_passed, after_event, Leads}
 use Rattle.job_one.specs.Played.{is_answer_to, answered_by}
-use Rattle.job_one.proofs.Mine.{step_own, step_other}
+use Rattle.passed_laws.proofs.Steps.{step_own, step_other}
 use Rattle.job_ports.proofs.Rising.{raised_rise}
 
 -- ---- what an event leaves as it is

@@ -31,22 +31,24 @@ use Rattle.passed_calls.specs.Blocks.{names_on}
 use Rattle.passed_calls.specs.Derived.{Passing, by_caller}
 use Rattle.job_text.specs.Sessions.{JobCall, JobsSession, blocks_in}
 use Rattle.job_steps.specs.Derived.{block_phases, passings_on}
-use Rattle.job_one.specs.Passed.{begin_of}
-use Rattle.job_one.specs.Witness.{scene_on, HasPassed}
-use Rattle.job_one.specs.Filled.{scripts_in}
-use Rattle.job_one.specs.Desk.{proc_in, signals_of, HadBegun}
+use Rattle.passed_laws.specs.Passed.{begin_of}
+use Rattle.passed_laws.specs.Witness.{scene_on, HasPassed}
+use Rattle.passed_laws.specs.Filled.{scripts_in}
+use Rattle.passed_laws.specs.Begun.{HadBegun}
+use Rattle.job_one.specs.Desk.{proc_in, signals_of}
 use Rattle.job_one.specs.Events.{DeskState, IsSameDesk, StandsAt}
 use Rattle.job_one.specs.Along.{IsUpToDate, SendsAlong, StopsAlong, StopsBy}
 use Rattle.job_one.specs.Between.{value_at, passed_by, IsBeforeJobs}
-use Rattle.job_one.specs.Playing.{passings_with, begun_at, next_passing, IsPlayingJobs}
+use Rattle.passed_laws.specs.Begun.{begun_at}
+use Rattle.job_one.specs.Playing.{passings_with, next_passing, IsPlayingJobs}
 use Rattle.job_one.specs.Frames.{Frame, IsAtTurn}
 use Rattle.job_one.specs.AfterLine.{HasProcs, IsFrameWithin, BeginsTurns, EndsTurns, FillsTurns, StopsTurns}
 use Rattle.job_one.specs.Remaining.{left_at, IsLeftTo, AreLeft}
-use Rattle.job_one.proofs.Adding.{blocks_same}
+use Rattle.passed_laws.proofs.Adding.{blocks_same}
 use Rattle.job_one.proofs.Along.{same_kept}
-use Rattle.job_one.proofs.Casts.{roles_each}
+use Rattle.passed_laws.proofs.Casts.{roles_each}
 use Rattle.job_one.proofs.Phasing.{phase_begins, phase_ends}
-use Rattle.job_one.proofs.Witnessed.{begins_line, end_on}
+use Rattle.passed_laws.proofs.Witnessed.{begins_line, end_on}
 use Rattle.job_ports.specs.declared.phases.JobStation.{JobStation}
 use Rattle.job_ports.specs.Ports.{IsSceneOf, IsJobsFull}
 use Rattle.job_ports.specs.Between.{IsBetween, IsStoppedBy, Setting, AreCastIn, BeginsPhase}

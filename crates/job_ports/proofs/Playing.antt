@@ -37,17 +37,19 @@ use Rattle.job_text.specs.Events.{JobEvent, JobLog}
 use Rattle.job_text.specs.Sessions.{JobsPhase, JobsSession, block_phase_of, blocks_in}
 use Rattle.job_steps.specs.Derived.{block_phases, passings_on}
 use Rattle.job_steps.specs.Steps.{JobsState, first_state, raised_at, job_signal}
-use Rattle.job_one.specs.Passed.{IsOfBlocks, IsPassedBy, steps_named, begin_of}
-use Rattle.job_one.specs.Witness.{scene_on, HasPassed}
-use Rattle.job_one.specs.Later.{port_with, IsLater}
+use Rattle.passed_laws.specs.Passed.{IsOfBlocks, IsPassedBy, steps_named, begin_of}
+use Rattle.passed_laws.specs.Witness.{scene_on, HasPassed}
+use Rattle.passed_laws.specs.Later.{IsLater}
+use Rattle.job_one.specs.Later.{port_with}
 use Rattle.job_one.specs.Desk.{signals_of, IsDeskAt}
 use Rattle.job_one.specs.Events.{DeskState}
 use Rattle.job_one.specs.Between.{value_at, passed_by, IsBeforeJobs}
-use Rattle.job_one.specs.Playing.{passings_with, begun_at}
+use Rattle.passed_laws.specs.Begun.{begun_at}
+use Rattle.job_one.specs.Playing.{passings_with}
 use Rattle.job_one.specs.Played.{begun_in, port_in, IsLogged, IsLoggedWhole, IsJobPlayedOn}
-use Rattle.job_one.proofs.Adding.{like_first}
-use Rattle.job_one.proofs.Blocks.{of_blocks, same_shape}
-use Rattle.job_one.proofs.Logging.{front, terminal_now}
+use Rattle.passed_laws.proofs.Adding.{like_first}
+use Rattle.passed_laws.proofs.Blocks.{of_blocks, same_shape}
+use Rattle.passed_laws.proofs.Laters.{front, terminal_now}
 use Rattle.job_one.proofs.Raised.{entry_still}
 use Rattle.job_ports.specs.Ports.{all_passed, IsPlayedWith, IsPortPlayed, IsSceneOf, IsJobsEnd, IsJobsFull}
 use Rattle.job_ports.proofs.Alike.{agrees_alike}

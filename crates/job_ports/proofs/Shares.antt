@@ -15,7 +15,7 @@ use Rattle.passed_calls.specs.Derived.{BlockPhase, blocks_of}
 use Rattle.passed_calls.specs.Scripts.{CallerScript, block_of, calls_named}
 use Rattle.job_text.specs.Sessions.{JobCall, JobsPhase, JobsSession, block_phase_of, blocks_in}
 use Rattle.job_steps.specs.Derived.{block_phases, scripts_over, job_call_at}
-use Rattle.job_one.specs.Passed.{steps_named, begin_of}
+use Rattle.passed_laws.specs.Passed.{steps_named, begin_of}
 
 abbrev pub One : Type 0
 One = CallerScript JobCall

@@ -22,12 +22,14 @@ use Rattle.job_text.specs.Events.{JobEvent, JobLog, events_on}
 use Rattle.job_text.specs.Sessions.{JobCall, JobsSession, blocks_in}
 use Rattle.job_steps.specs.Derived.{passings_on, plain_call, scripts_over, job_call_at}
 use Rattle.job_steps.specs.Steps.{Port, JobsState, first_state, names_of_port, next_of, next_call, GoesOn, Leads}
-use Rattle.job_one.specs.Witness.{HasPassed}
-use Rattle.job_one.specs.Later.{port_with, IsLater}
+use Rattle.passed_laws.specs.Witness.{HasPassed}
+use Rattle.passed_laws.specs.Later.{IsLater}
+use Rattle.job_one.specs.Later.{port_with}
 use Rattle.job_one.specs.Desk.{IsDeskAt}
 use Rattle.job_one.specs.Events.{DeskState}
 use Rattle.job_one.specs.Between.{value_at}
-use Rattle.job_one.specs.Playing.{next_passing, passings_with, begun_at}
+use Rattle.passed_laws.specs.Begun.{begun_at}
+use Rattle.job_one.specs.Playing.{next_passing, passings_with}
 use Rattle.job_one.specs.Played.{answered_by, begun_in}
 use Rattle.job_ports.specs.Ports.{all_passed, ArePassingsWithin}
 use Rattle.job_ports.proofs.Noted.{answers_counted, below_if}

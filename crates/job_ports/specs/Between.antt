@@ -20,7 +20,7 @@ use Rattle.job_text.specs.Within.{IsJobsSessionWithin}
 use Rattle.job_one.specs.AfterLine.{HasProcs}
 use Rattle.job_one.specs.Between.{IsBeforeJobs}
 use Rattle.job_one.specs.Events.{DeskState}
-use Rattle.job_one.specs.Filled.{AreNextSteps}
+use Rattle.passed_laws.specs.Filled.{AreNextSteps}
 use Rattle.job_one.specs.Remaining.{AreLeft}
 use Rattle.job_ports.specs.declared.phases.JobStation.{JobStation}
 use Rattle.job_ports.specs.Ports.{IsSceneOf, IsJobsFull}

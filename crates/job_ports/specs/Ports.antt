@@ -18,12 +18,13 @@ use Rattle.passed_calls.specs.Logs.{logged_on}
 use Rattle.job_text.specs.Events.{JobEvent, JobLog}
 use Rattle.job_text.specs.Sessions.{JobsSession}
 use Rattle.job_steps.specs.Derived.{block_phases, passings_on}
-use Rattle.job_one.specs.Passed.{IsOfBlocks, IsPassedBy}
-use Rattle.job_one.specs.Witness.{HasPassed}
+use Rattle.passed_laws.specs.Passed.{IsOfBlocks, IsPassedBy}
+use Rattle.passed_laws.specs.Witness.{HasPassed}
 use Rattle.job_one.specs.Desk.{IsDeskAt}
 use Rattle.job_one.specs.Events.{DeskState}
 use Rattle.job_one.specs.Between.{value_at, IsBeforeJobs}
-use Rattle.job_one.specs.Playing.{passings_with, begun_at}
+use Rattle.passed_laws.specs.Begun.{begun_at}
+use Rattle.job_one.specs.Playing.{passings_with}
 use Rattle.job_one.specs.Played.{begun_in, IsJobPlayedOn}
 
 -- ---- what was played

@@ -10,7 +10,7 @@ ghost use Rattle.one_thread.specs.Casting.{AreNumbered, HaveSameCallers, cast_of
 ghost use Rattle.one_thread.specs.Roles.{role_in, scene_of};
 ghost use Rattle.job_text.specs.Sessions.{jobs_session_of, own_of};
 ghost use Rattle.job_text.specs.Within.{IsJobsSessionWithin};
-ghost use Rattle.job_one.specs.Filled.{AreNextSteps};
+ghost use Rattle.passed_laws.specs.Filled.{AreNextSteps};
 ghost use Rattle.job_one.specs.Remaining.{calls_of_port};
 ghost use Rattle.job_ports.specs.Between.{BeginsPhase, IsBetween, IsStoppedBy, Setting, setting_of};
 

@@ -284,7 +284,7 @@ in_phase p k session later j Line step event grew le ended h = tt
 in_phase p k session later j Clock step event grew le ended h = tt
 in_phase p k session later j Session step event grew le ended h = tt
 
-phases_grow : (p : ℕ) (session later : PlainSession) (u : Terminal) (es : List PlainEntry) (t : Terminal)
+pub phases_grow : (p : ℕ) (session later : PlainSession) (u : Terminal) (es : List PlainEntry) (t : Terminal)
     → Grew p t.phase session later
     → KeepsEnded p t.phase session later t
     → Leads (call_at p session) (counts_on p session) u es t

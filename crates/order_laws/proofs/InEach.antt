@@ -32,7 +32,7 @@ use Rattle.order_laws.specs.Agreed.{PlaysEachIn, PlaysEach, EndsEachIn, EndsEach
 use Rattle.order_laws.proofs.Agreeing.{before, before_all, next_made, none_left}
 use Rattle.order_laws.proofs.Shapes.{at_phase, phases_same}
 
-same_calls : (old new : PortValue) → new.kept ≡ old.kept → Grows (call_in old.kept) (call_in new.kept)
+pub same_calls : (old new : PortValue) → new.kept ≡ old.kept → Grows (call_in old.kept) (call_in new.kept)
 same_calls old new same =
     subst (λ (ks : List PlainKept). Grows (call_in old.kept) (call_in ks)) (sym same) (λ c step call is. is)
 

@@ -1,0 +1,6 @@
+pub mod Passed
+pub mod Filled
+pub mod Witness
+pub mod Later
+pub mod Begun
+pub mod Left
