@@ -33,7 +33,8 @@ use Rattle.passed_laws.specs.Begun.{begun_at}
 use Rattle.job_one.specs.Playing.{passings_with}
 use Rattle.job_one.specs.Frames.{Frame, IsAtTurn, IsNextTurn}
 use Rattle.job_one.specs.AfterLine.{HasProcs, BeginsTurns, EndsTurns}
-use Rattle.job_one.specs.Remaining.{left_at, after_next, IsLeftTo, AreLeft}
+use Rattle.calls_left.specs.Remaining.{left_at, after_next}
+use Rattle.job_one.specs.Remaining.{IsLeftTo, AreLeft}
 use Rattle.passed_laws.specs.Begun.{WereOver}
 use Rattle.passed_laws.specs.Left.{HasGone}
 use Rattle.job_one.specs.Taken.{Advances, TakesNoCall, TakesCall}

@@ -20,5 +20,4 @@ pub mod NextCalls
 pub mod HangUps
 pub mod LeftCalls
 pub mod Telling
-pub mod Mixed
 pub mod Owned

@@ -16,7 +16,8 @@ use Rattle.passed_laws.specs.Left.{HasGone}
 use Rattle.job_one.specs.Desk.{proc_in, call_after}
 use Rattle.job_one.specs.Events.{DeskState}
 use Rattle.job_one.specs.Frames.{Frame, IsAtTurn}
-use Rattle.job_one.specs.Remaining.{left_at, AreLeft}
+use Rattle.calls_left.specs.Remaining.{left_at}
+use Rattle.job_one.specs.Remaining.{AreLeft}
 use Rattle.job_one.specs.AfterLine.{IsFrameWithin, HasProcs}
 use Rattle.job_one.specs.declared.turns.Taken.{Taken}
 

@@ -12,15 +12,16 @@ ghost use Rattle.passed_calls.specs.Scripts.{plain};
 ghost use Rattle.job_steps.specs.Steps.{judged_answer, judged_call};
 ghost use Rattle.job_one.specs.Frames.{Frame, IsAtTurn, IsNextTurn};
 ghost use Rattle.job_one.specs.AfterLine.{IsFrameWithin, BeginsTurns, EndsTurns, StopsTurns};
-ghost use Rattle.job_one.specs.Remaining.{after_next, job_call_of, left_at};
+ghost use Rattle.calls_left.specs.Remaining.{after_next, any_call_of, left_at};
 ghost use Rattle.passed_laws.specs.Left.{turns_left};
 ghost use Rattle.job_one.specs.Taken.{GoesToPort, IsBetweenTurns, IsNextOf, TakesCall};
 
 use crate::desks::Desk;
-use crate::remaining::{NextCall, Remaining};
 use crate::turns::{Taken, take_call, take_flush, take_own, take_pass, take_stop};
+use calls_left::{NextCall, Remaining};
 use flip_buffer::FlipIn;
 use job_control::Judged;
+use job_text::OwnCall;
 use one_thread::{Role, Stand, Turn, end_calls, end_phase, turn_of};
 use port_core::Port;
 use tty_calls::{Call, Denied};
@@ -86,14 +87,14 @@ fn take_next(
     desk: &mut Desk,
     roles: &[Role],
     place: usize,
-    call: &NextCall,
+    call: &NextCall<OwnCall>,
     stand: Stand,
 ) -> Result<Taken, Denied>
     ghost frame: { Frame }
     requires frame { IsFrameWithin frame }
     requires at { IsAtTurn frame roles.now port.old desk.old stand }
     requires next { IsNextTurn frame roles.now port.old stand (turn.Call place) }
-    requires call { IsNextOf frame roles.now desk.old place (job_call_of call.now) }
+    requires call { IsNextOf frame roles.now desk.old place (any_call_of call.now) }
     ensures ok { IfOk result (λ taken. TakesCall frame roles.now place port.old port.new desk.old desk.new taken) }
     ensures err { IfErr result (λ d. StopsTurns d frame roles.now port.new desk.new) }
 {
@@ -108,7 +109,7 @@ fn take_last(
     port: &mut Port,
     desk: &Desk,
     roles: &[Role],
-    calls: &Remaining,
+    calls: &Remaining<OwnCall>,
     place: usize,
     stand: Stand,
 ) -> Result<Stand, Denied>
@@ -128,7 +129,7 @@ fn take_last(
     Ok(now)
 }
 
-fn pass_if(answered: bool, calls: &mut Remaining, place: usize)
+fn pass_if(answered: bool, calls: &mut Remaining<OwnCall>, place: usize)
     ensures { calls.new
         ≡ (if answered then slice_set calls.old place (after_next (left_at calls.old place)) else calls.old) }
 {
@@ -142,7 +143,7 @@ fn go_on(
     port: &mut Port,
     desk: &mut Desk,
     roles: &[Role],
-    calls: &mut Remaining,
+    calls: &mut Remaining<OwnCall>,
     place: usize,
     stand: Stand,
 ) -> Result<Stand, Denied>
@@ -168,7 +169,7 @@ fn play_turn(
     port: &mut Port,
     desk: &mut Desk,
     roles: &[Role],
-    calls: &mut Remaining,
+    calls: &mut Remaining<OwnCall>,
     next: Turn,
     stand: Stand,
 ) -> Result<Stand, Denied>
@@ -195,7 +196,7 @@ pub fn play_after_line(
     putter: &mut FlipIn,
     desk: &mut Desk,
     roles: &[Role],
-    calls: &mut Remaining,
+    calls: &mut Remaining<OwnCall>,
     stand: Stand,
     clock_first: bool,
 ) -> Result<u32, Denied>

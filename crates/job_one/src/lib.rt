@@ -11,7 +11,6 @@ mod line;
 mod logs;
 mod orders;
 mod players;
-mod remaining;
 mod turns;
 
 pub use after_line::play_after_line;
@@ -33,5 +32,4 @@ pub use players::{
     phases_of_processes_are_played, players_answer_calls, players_hang_up_for_processes,
     players_pass_calls_down, players_send_signals_on, players_take_their_turns,
 };
-pub use remaining::{NextCall, Remaining};
 pub use turns::{Taken, take_call, take_flush, take_own, take_pass, take_stop};

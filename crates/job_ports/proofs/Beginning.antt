@@ -24,7 +24,8 @@ use Rattle.job_text.specs.declared.sessions.JobsSession.{JobsSession as KeptSess
 use Rattle.job_text.specs.Sessions.{JobCall, JobsSession, jobs_session_of, own_of}
 use Rattle.job_text.specs.Within.{IsJobsSessionWithin}
 use Rattle.passed_laws.specs.Filled.{AreNextSteps}
-use Rattle.job_one.specs.Remaining.{calls_of_port, AreLeft}
+use Rattle.calls_left.specs.Remaining.{calls_of_port}
+use Rattle.job_one.specs.Remaining.{AreLeft}
 use Rattle.job_ports.specs.declared.phases.JobStation.{JobStation}
 use Rattle.job_ports.specs.Between.{IsBetween, IsStoppedBy, setting_of, BeginsPhase}
 use Rattle.job_ports.proofs.Bounded.{plain_within}

@@ -30,7 +30,8 @@ use Rattle.passed_laws.specs.Passed.{IsPassedBy, begin_of}
 use Rattle.passed_laws.specs.Filled.{AreNextSteps}
 use Rattle.job_one.specs.Events.{DeskState}
 use Rattle.job_one.specs.AfterLine.{HasProcs}
-use Rattle.job_one.specs.Remaining.{calls_of_port, AreLeft}
+use Rattle.calls_left.specs.Remaining.{calls_of_port}
+use Rattle.job_one.specs.Remaining.{AreLeft}
 use Rattle.passed_laws.proofs.Blocks.{of_blocks, same_shape}
 use Rattle.job_one.proofs.Plain.{plain_of_blocks}
 use Rattle.passed_laws.proofs.Steps.{step_own, step_other}

@@ -27,7 +27,8 @@ use Rattle.job_text.specs.Sessions.{JobCall, JobsPhase, JobsSession, block_phase
 use Rattle.job_text.specs.Within.{IsJobsSessionWithin}
 use Rattle.job_steps.specs.Derived.{block_phases, job_call_at}
 use Rattle.passed_laws.specs.Passed.{steps_named, begin_of}
-use Rattle.job_one.specs.Remaining.{calls_of_port, left_at, IsLeftTo, AreLeft}
+use Rattle.calls_left.specs.Remaining.{calls_of_port, left_at}
+use Rattle.job_one.specs.Remaining.{IsLeftTo, AreLeft}
 use Rattle.passed_laws.proofs.Passings.{first_within}
 use Rattle.job_ports.proofs.Shares.{One, named, blocks_one, begin_nobody, begin_next}
 use Rattle.job_ports.proofs.Shares.{call_of_phase, has, none_named, own_named, Own}

@@ -11,10 +11,11 @@ ghost use Rattle.one_thread.specs.Roles.{role_in, scene_of};
 ghost use Rattle.job_text.specs.Sessions.{jobs_session_of, own_of};
 ghost use Rattle.job_text.specs.Within.{IsJobsSessionWithin};
 ghost use Rattle.passed_laws.specs.Filled.{AreNextSteps};
-ghost use Rattle.job_one.specs.Remaining.{calls_of_port};
+ghost use Rattle.calls_left.specs.Remaining.{calls_of_port};
 ghost use Rattle.job_ports.specs.Between.{BeginsPhase, IsBetween, IsStoppedBy, Setting, setting_of};
 
-use job_one::{Desk, Remaining, play_after_line, play_line};
+use calls_left::Remaining;
+use job_one::{Desk, play_after_line, play_line};
 use job_text::{JobsPart, JobsSession, OwnCall};
 use line_steps::LineSteps;
 use one_thread::{Role, Stand, Station, cast, scripts_of, steps_of, ticks_of};
@@ -98,7 +99,7 @@ fn calls_in<'a>(
     scripts: &'a [Script],
     placed: &'a [PlacedCall<OwnCall>],
     port: u8,
-) -> Result<Remaining<'a>, Denied>
+) -> Result<Remaining<'a, OwnCall>, Denied>
     ensures ok { IfOk result (λ calls. calls ≡ calls_of_port port scripts.now placed.now) }
     ensures err { IfErr result (λ d. d ≡ denied.NoMemory) }
 {
@@ -112,7 +113,7 @@ fn calls_in<'a>(
 fn play_parts(
     at: &mut JobStation,
     roles: &[Role],
-    calls: &mut Remaining,
+    calls: &mut Remaining<OwnCall>,
     steps: &LineSteps,
     ticks: u32,
     run: u32,

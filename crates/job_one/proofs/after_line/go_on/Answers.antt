@@ -1,5 +1,5 @@
 use Rattle.std.proofs.lemmas.Result.{err_from_is_err_and}
-use Rattle.job_one.specs.Remaining.{job_call_of}
+use Rattle.calls_left.specs.Remaining.{any_call_of}
 use Rattle.job_one.proofs.LeftCalls.{place_at, next_of, between_call, less_call}
 use Rattle.job_one.proofs.after_line.go_on.Goals as goal
 
@@ -11,7 +11,7 @@ take_next-requires g c = (
     (
       c.requires.1,
       next_of g.frame c.args.roles.now c.args.port.now c.args.desk.now c.args.stand c.args.calls.now c.args.place _
-          (job_call_of c.in-Some.call) c.requires.0
+          (any_call_of c.in-Some.call) c.requires.0
           (place_at g.frame c.args.roles.now c.args.port.now c.args.stand c.args.place
           (record { number = 0; first = 0; place = 0 }) c.requires.1) c.in-Some.ensures,
     ),
@@ -29,7 +29,7 @@ returns-in_err-taken-in-Some-clause-err g c =
 pub returns-in_ok-taken-in-Some-clause-ok : goal.returns-in_ok-taken-in-Some-clause-ok
 returns-in_ok-taken-in-Some-clause-ok g c =
     between_call g.frame c.args.roles.now c.args.port.now c.take_next.new.port c.args.desk.now c.take_next.new.desk
-    c.args.stand c.args.calls.now c.pass_if.new.calls c.args.place _ (job_call_of c.in-Some.call)
+    c.args.stand c.args.calls.now c.pass_if.new.calls c.args.place _ (any_call_of c.in-Some.call)
     c.in_ok-taken-in-Some.taken c.requires.0
     (place_at g.frame c.args.roles.now c.args.port.now c.args.stand c.args.place
     (record { number = 0; first = 0; place = 0 }) c.requires.1) c.in-Some.ensures
@@ -38,5 +38,5 @@ returns-in_ok-taken-in-Some-clause-ok g c =
 pub returns-in_ok-taken-in-Some-clause-less : goal.returns-in_ok-taken-in-Some-clause-less
 returns-in_ok-taken-in-Some-clause-less g c =
     less_call g.frame c.args.roles.now c.args.port.now c.take_next.new.port c.args.desk.now c.take_next.new.desk
-    c.args.calls.now c.pass_if.new.calls c.args.place (job_call_of c.in-Some.call) c.in_ok-taken-in-Some.taken
+    c.args.calls.now c.pass_if.new.calls c.args.place (any_call_of c.in-Some.call) c.in_ok-taken-in-Some.taken
     c.in-Some.ensures c.in_ok-taken-in-Some.ensures.ok c.pass_if.ensures

@@ -1,7 +1,8 @@
 use Rattle.std.proofs.Common.{subst}
-use Rattle.job_one.specs.Remaining.{job_call_of}
+use Rattle.calls_left.specs.Remaining.{any_call_of}
 use Rattle.job_one.specs.Taken.{IsNextOf}
-use Rattle.job_one.specs.declared.remaining.NextCall.{NextCall}
+use Rattle.job_text.specs.declared.calls.OwnCall.{OwnCall}
+use Rattle.calls_left.specs.declared.remaining.NextCall.{NextCall}
 use Rattle.job_one.proofs.after_line.take_next.Goals as goal
 
 pub take_plain-requires : goal.take_plain-requires
@@ -11,7 +12,7 @@ take_plain-requires g c = (
     c.requires.1.0,
     (
       c.requires.1.1.0,
-      subst (λ (n : NextCall). IsNextOf g.frame c.args.roles.now c.args.desk.now c.args.place (job_call_of n))
+      subst (λ (n : NextCall OwnCall). IsNextOf g.frame c.args.roles.now c.args.desk.now c.args.place (any_call_of n))
           c.in-Port.is c.requires.1.1.1,
     ),
   ),
@@ -24,7 +25,7 @@ take_own-requires g c = (
     c.requires.1.0,
     (
       c.requires.1.1.0,
-      subst (λ (n : NextCall). IsNextOf g.frame c.args.roles.now c.args.desk.now c.args.place (job_call_of n))
+      subst (λ (n : NextCall OwnCall). IsNextOf g.frame c.args.roles.now c.args.desk.now c.args.place (any_call_of n))
           c.in-Own.is c.requires.1.1.1,
     ),
   ),

@@ -5,10 +5,9 @@ ghost use Rattle.std.specs.Prelude.{drop, length, map, nat_lt, not, option_map, 
 ghost use Rattle.one_thread.specs.Roles.{calls_in};
 ghost use Rattle.tty_calls.specs.Plain.{call_of};
 ghost use Rattle.passed_calls.specs.Scripts.{count_in};
-ghost use Rattle.job_one.specs.Remaining.{IsMarked, after_next, calls_from, calls_of_port, first_call};
-ghost use Rattle.job_one.specs.Remaining.{job_call_of, left_at, own_from, passed_cursor, place_of, plain_from};
+ghost use Rattle.calls_left.specs.Remaining.{IsMarked, after_next, calls_from, calls_of_port, first_call};
+ghost use Rattle.calls_left.specs.Remaining.{any_call_of, left_at, own_from, passed_cursor, place_of, plain_from};
 
-use job_text::OwnCall;
 use passed_calls::PlacedCall;
 use std::alloc::Global;
 use std::marker::Model;
@@ -17,15 +16,15 @@ use tty_calls::{Call, Script};
 
 /// A call that comes next.
 #[derive(Clone, Copy)]
-pub enum NextCall<'a> {
+pub enum NextCall<'a, C> {
     /// It is for the port.
     Port(Call<'a>),
-    /// It is one of job control.
-    Own(OwnCall),
+    /// It is one that the port never sees.
+    Own(C),
 }
 
-/// Where a script stands: how many of its calls for the port were taken, and how many of them before the last call of
-/// job control, the place of that one, and which of the phase are left to it.
+/// Where a script stands: how many of its calls for the port were taken, and how many of them before the last call
+/// that the port never sees, the place of that one, and which of these of the phase are left to it.
 #[derive(Clone, Copy)]
 struct Cursor {
     script: usize,
@@ -66,8 +65,8 @@ impl Cursor {
         }
     }
 
-    /// The next call of job control.
-    fn own(&self, placed: &[PlacedCall<OwnCall>]) -> Option<PlacedCall<OwnCall>>
+    /// The next call that the port never sees.
+    fn own<C: Copy>(&self, placed: &[PlacedCall<C>]) -> Option<PlacedCall<C>>
         ensures call { result ≡ slice_get (own_from placed.now self.now) 0 }
         ensures within { IfSome result (λ own. self.now.first < self.now.end) }
     {
@@ -79,12 +78,12 @@ impl Cursor {
     }
 
     /// The next call of both.
-    fn next<'a>(
+    fn next<'a, C: Copy>(
         &self,
         plain: Option<Call<'a>>,
-        own: Option<PlacedCall<OwnCall>>,
-    ) -> Option<NextCall<'a>>
-        ensures { option_map job_call_of result ≡ first_call (place_of self.now) (option_map call_of plain.entry) own }
+        own: Option<PlacedCall<C>>,
+    ) -> Option<NextCall<'a, C>>
+        ensures { option_map any_call_of result ≡ first_call (place_of self.now) (option_map call_of plain.entry) own }
     {
         match own {
             None => match plain {
@@ -99,7 +98,7 @@ impl Cursor {
     }
 
     /// Where the script stands behind its next call, where it has so many calls for the port.
-    fn step(self, count: usize, own: Option<PlacedCall<OwnCall>>) -> Cursor
+    fn step<C: Copy>(self, count: usize, own: Option<PlacedCall<C>>) -> Cursor
         requires { IfSome own (λ own. self.first < self.end) }
         ensures { result ≡ passed_cursor count own self }
     {
@@ -144,7 +143,7 @@ impl Cursor {
     }
 
     /// Where the script stands behind its next call.
-    fn passed(self, scripts: &[Script], placed: &[PlacedCall<OwnCall>]) -> Cursor
+    fn passed<C: Copy>(self, scripts: &[Script], placed: &[PlacedCall<C>]) -> Cursor
         requires { IsMarked self }
         ensures calls { calls_from scripts.now placed.now result ≡ after_next (calls_from scripts.now placed.now self) }
         ensures marked { IsMarked result }
@@ -155,32 +154,32 @@ impl Cursor {
 
 /// The calls of the callers of a port in a phase that are still to be made, script by script.
 #[derive(Drop)]
-pub struct Remaining<'a> {
+pub struct Remaining<'a, C> {
     scripts: &'a [Script],
-    placed: &'a [PlacedCall<OwnCall>],
+    placed: &'a [PlacedCall<C>],
     cursors: Vec<Cursor>,
 }
 
-impl<'a> Model for Remaining<'a> {
+impl<'a, C> Model for Remaining<'a, C> {
     ghost use Rattle.std.specs.Prelude.{All, List, map};
-    ghost use Rattle.job_text.specs.Sessions.{JobCall};
-    ghost use Rattle.job_one.specs.Remaining.{IsMarked, calls_from};
+    ghost use Rattle.passed_calls.specs.Scripts.{AnyCall};
+    ghost use Rattle.calls_left.specs.Remaining.{IsMarked, calls_from};
 
-    ghost Value = { List (List JobCall) };
+    ghost Value = { List (List (AnyCall C)) };
 
     ghost view = { λ r. map (calls_from r.scripts.now r.placed.now) r.cursors.items };
 
     ghost invariant = { λ r. All IsMarked r.cursors.items };
 }
 
-impl<'a> Remaining<'a> {
-    /// All calls of the scripts of a phase that are of this port. `placed` has its calls of job control.
+impl<'a, C: Copy> Remaining<'a, C> {
+    /// All calls of the scripts of a phase that are of this port. `placed` has those that the port never sees.
     pub fn of(
         alloc: Global,
         scripts: &'a [Script],
-        placed: &'a [PlacedCall<OwnCall>],
+        placed: &'a [PlacedCall<C>],
         port: u8,
-    ) -> Result<Remaining<'a>, NoMemory>
+    ) -> Result<Remaining<'a, C>, NoMemory>
         ensures { IfOk result (λ left. left ≡ calls_of_port port scripts.now placed.now) }
     {
         let cursors = cursors_of(alloc, scripts, placed, port)?;
@@ -192,9 +191,9 @@ impl<'a> Remaining<'a> {
     }
 
     /// The next call of the script at a place.
-    pub fn next(&self, place: usize) -> Option<NextCall<'a>>
+    pub fn next(&self, place: usize) -> Option<NextCall<'a, C>>
         ensures { MatchOption result (left_at self.now place ≡ [])
-            (λ call. slice_get (left_at self.now place) 0 ≡ Some (job_call_of call)) }
+            (λ call. slice_get (left_at self.now place) 0 ≡ Some (any_call_of call)) }
     {
         match cursor_at(self.cursors.as_slice(), place) {
             None => None,
@@ -230,10 +229,10 @@ fn set_cursor(cursors: &mut [Cursor], place: usize, cursor: Cursor)
 }
 
 /// Where the scripts of a port stand at the beginning of a phase.
-fn cursors_of(
+fn cursors_of<C: Copy>(
     alloc: Global,
     scripts: &[Script],
-    placed: &[PlacedCall<OwnCall>],
+    placed: &[PlacedCall<C>],
     port: u8,
 ) -> Result<Vec<Cursor>, NoMemory>
     ensures calls { IfOk result
@@ -266,8 +265,8 @@ fn beginning(script: usize, first: usize, end: usize) -> Cursor
     }
 }
 
-/// Where the calls of job control of a script end that begin at a place among those of the phase.
-fn end_of(script: usize, placed: &[PlacedCall<OwnCall>], first: usize) -> usize
+/// Where the calls of a script end that the port never sees, and that begin at a place among those of the phase.
+fn end_of<C: Copy>(script: usize, placed: &[PlacedCall<C>], first: usize) -> usize
     requires { first ≤ length placed.now }
     ensures end { result ≡ first + count_in script (drop first placed.now) }
     ensures within { result ≤ length placed.now }
@@ -276,7 +275,7 @@ fn end_of(script: usize, placed: &[PlacedCall<OwnCall>], first: usize) -> usize
 }
 
 /// How many of these calls stand in a script.
-fn count_in(script: usize, placed: &[PlacedCall<OwnCall>]) -> usize
+fn count_in<C: Copy>(script: usize, placed: &[PlacedCall<C>]) -> usize
     ensures count { result ≡ count_in script placed.now }
     ensures within { result ≤ length placed.now }
 {
@@ -287,7 +286,7 @@ fn count_in(script: usize, placed: &[PlacedCall<OwnCall>]) -> usize
 }
 
 /// The first of these calls that does not stand in a script.
-fn first_beside(script: usize, placed: &[PlacedCall<OwnCall>]) -> Option<usize>
+fn first_beside<C: Copy>(script: usize, placed: &[PlacedCall<C>]) -> Option<usize>
     ensures { result ≡ position (λ o. not (o.script == script)) placed.now }
 {
     placed.iter().position(|call| call.script != script)

@@ -1,11 +1,11 @@
 use Rattle.std.proofs.Common.{◌∙◌, ap, subst, sym}
-use Rattle.job_one.specs.declared.remaining.Cursor.{Cursor}
-use Rattle.job_one.specs.Remaining.{IsMarked, calls_from}
-use Rattle.job_one.proofs.Mixed.{steps_on, stays_marked}
-use Rattle.job_one.proofs.remaining.Cursor.passed.Goals as goal
+use Rattle.calls_left.specs.declared.remaining.Cursor.{Cursor}
+use Rattle.calls_left.specs.Remaining.{IsMarked, calls_from}
+use Rattle.calls_left.proofs.Mixed.{steps_on, stays_marked}
+use Rattle.calls_left.proofs.remaining.Cursor.passed.Goals as goal
 
 pub returns : goal.returns
-returns c =
+returns g c =
     let scripts = c.args.scripts.now in
     let placed = c.args.placed.now in
     record {

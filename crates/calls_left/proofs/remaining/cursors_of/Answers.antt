@@ -1,10 +1,10 @@
 use Rattle.std.proofs.Common.{◌≤◌, length, arith, ap, sym, ◌∙◌}
-use Rattle.job_one.proofs.Mixed.{starts, no_cursors, own_cursor, other_script, all_cursors}
-use Rattle.job_one.proofs.remaining.cursors_of.Goals as goal
-use Rattle.job_one.proofs.remaining.cursors_of.Goals.{then-script-port+in_ok-push, else-script-port}
+use Rattle.calls_left.proofs.Mixed.{starts, no_cursors, own_cursor, other_script, all_cursors}
+use Rattle.calls_left.proofs.remaining.cursors_of.Goals as goal
+use Rattle.calls_left.proofs.remaining.cursors_of.Goals.{then-script-port+in_ok-push, else-script-port}
 
 pub loop-place-preserved : goal.loop-place-preserved
-loop-place-preserved c =
+loop-place-preserved g c =
     let scripts = c.args.scripts.now in
     let placed = c.args.placed.now in
     let at = c.loop-place in
@@ -25,11 +25,11 @@ loop-place-preserved c =
     ]
 
 pub loop-place-init : goal.loop-place-init
-loop-place-init c =
+loop-place-init g c =
     no_cursors c.args.port c.args.scripts.now c.args.placed.now c.new-cursors.result.items c.new-cursors.ensures.items
 
 pub returns : goal.returns
-returns c =
+returns g c =
     record {
       calls = all_cursors c.args.port c.args.scripts.now c.args.placed.now c.loop-place.cursors.items c.loop-place.place
           c.loop-place.first c.loop-place.invariant (omega (arith, c.loop-place-test.false));

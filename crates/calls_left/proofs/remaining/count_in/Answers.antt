@@ -1,16 +1,16 @@
 use Rattle.std.proofs.Common.{◌==◌, Option, ℕ, length, ap, sym, ◌∙◌}
 use Rattle.std.specs.Prelude.{not, unwrap_or}
-use Rattle.job_one.proofs.Mixed.{count_within}
-use Rattle.job_one.proofs.remaining.count_in.Goals as goal
+use Rattle.calls_left.proofs.Mixed.{count_within}
+use Rattle.calls_left.proofs.remaining.count_in.Goals as goal
 
 pub returns-in-None-clause-count : goal.returns-in-None-clause-count
-returns-in-None-clause-count c =
+returns-in-None-clause-count g c =
     ap (λ (r : Option ℕ). unwrap_or r (length c.args.placed.now)) (sym c.in-None.is ∙ c.first_beside.ensures)
 
 pub returns-in-Some-clause-count : goal.returns-in-Some-clause-count
-returns-in-Some-clause-count c =
+returns-in-Some-clause-count g c =
     ap (λ (r : Option ℕ). unwrap_or r (length c.args.placed.now)) (sym c.in-Some.is ∙ c.first_beside.ensures)
 
 pub returns-in-Some-clause-within : goal.returns-in-Some-clause-within
-returns-in-Some-clause-within c =
+returns-in-Some-clause-within g c =
     count_within c.args.script c.args.placed.now c.in-Some.count (sym c.first_beside.ensures ∙ c.in-Some.is)
