@@ -1,5 +1,5 @@
 -- What the callers of a phase have still to call.
-use Rattle.std.specs.Prelude.{◌≤◌, ◌+◌, ◌-◌, ◌==◌, ℕ, List, [], ◌∷◌, Option, None, Some, ◌&&◌}
+use Rattle.std.specs.Prelude.{◌≡◌, ◌≤◌, ◌<◌, ◌+◌, ◌-◌, ◌==◌, ℕ, List, [], ◌∷◌, Option, None, Some, ◌&&◌}
 use Rattle.std.specs.Prelude.{if◌then◌else◌, drop, take, filter, nat_lt, length, map, slice_get, slice_index_or}
 use Rattle.tty_calls.specs.declared.sessions.Script.{Script}
 use Rattle.tty_calls.specs.Plain.{PlainCall, call_of}
@@ -7,6 +7,8 @@ use Rattle.tty_calls.specs.Sessions.{script_of}
 use Rattle.one_thread.specs.Roles.{calls_in}
 use Rattle.passed_calls.specs.declared.placed.PlacedCall.{PlacedCall}
 use Rattle.passed_calls.specs.Scripts.{AnyCall, plain, further, mixed, mixed_scripts}
+use Rattle.passed_calls.specs.Derived.{BlockPhase}
+use Rattle.passed_laws.specs.Passed.{begin_of}
 use Rattle.calls_left.specs.declared.remaining.Cursor.{Cursor}
 use Rattle.calls_left.specs.declared.remaining.NextCall.{NextCall}
 use Rattle.calls_left.specs.declared.remaining.NextCall.TheVariants as next
@@ -63,3 +65,12 @@ left_at left place = slice_index_or left place []
 abbrev pub after_next : {C : Type 0} → List C → List C
 after_next [] = []
 after_next (call ∷ calls) = calls
+
+-- so many calls are left to a caller of these blocks in phase k, and these are they, where this finds its calls
+pub record IsLeftTo {C : Type 0} (p k : ℕ) (phases : List BlockPhase) (calls : (caller step : ℕ) → Option C)
+    (next : List ℕ) (c : ℕ) (left : List C) : Type 0 where
+  pub known : c < length next
+  pub from : begin_of p phases k c ≤ slice_index_or next c 0
+  pub count : slice_index_or next c 0 + length left ≡ begin_of p phases (k + 1) c
+  pub each : (i : ℕ) → i < length left → calls c (slice_index_or next c 0 + i) ≡ slice_get left i
+  pub few : slice_index_or next c 0 + length left ≤ 65536

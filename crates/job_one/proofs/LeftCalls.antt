@@ -33,8 +33,8 @@ use Rattle.passed_laws.specs.Begun.{begun_at}
 use Rattle.job_one.specs.Playing.{passings_with}
 use Rattle.job_one.specs.Frames.{Frame, IsAtTurn, IsNextTurn}
 use Rattle.job_one.specs.AfterLine.{HasProcs, BeginsTurns, EndsTurns}
-use Rattle.calls_left.specs.Remaining.{left_at, after_next}
-use Rattle.job_one.specs.Remaining.{IsLeftTo, AreLeft}
+use Rattle.calls_left.specs.Remaining.{left_at, after_next, IsLeftTo}
+use Rattle.job_one.specs.Remaining.{AreLeft}
 use Rattle.passed_laws.specs.Begun.{WereOver}
 use Rattle.passed_laws.specs.Left.{HasGone}
 use Rattle.job_one.specs.Taken.{Advances, TakesNoCall, TakesCall}
@@ -103,8 +103,8 @@ module _ (p k : ℕ) (session : JobsSession) (next : List ℕ) (c : ℕ) where
   long = length-set next c (slice_index_or next c 0 + 1)
 
   own_then : (call : JobCall) (rest : List JobCall)
-      → IsLeftTo p k session next c (call ∷ rest)
-      → IsLeftTo p k session late c rest
+      → IsLeftTo p k (block_phases session) (job_call_at p session) next c (call ∷ rest)
+      → IsLeftTo p k (block_phases session) (job_call_at p session) late c rest
   own_then call rest h =
       let step : slice_index_or late c 0 ≡ slice_index_or next c 0 + 1 =
       step_own next c (slice_index_or next c 0 + 1) h.known in
@@ -122,8 +122,8 @@ module _ (p k : ℕ) (session : JobsSession) (next : List ℕ) (c : ℕ) where
 
   other_then : (x : ℕ) (calls : List JobCall)
       → (x ≡ c → ⊥)
-      → IsLeftTo p k session next x calls
-      → IsLeftTo p k session late x calls
+      → IsLeftTo p k (block_phases session) (job_call_at p session) next x calls
+      → IsLeftTo p k (block_phases session) (job_call_at p session) late x calls
   other_then x calls other h =
       let step : slice_index_or late x 0 ≡ slice_index_or next x 0 =
       step_other next c x (slice_index_or next c 0 + 1) other in
@@ -147,20 +147,20 @@ left_passed p k session roles next left place r call rest h at apart is =
     let c = r.number in
     let later = slice_set next c (slice_index_or next c 0 + 1) in
     let within : place < length left = omega (arith, slice_get_within roles place r at, h.many) in
-    let here : IsLeftTo p k session later c (left_at (slice_set left place rest) place) =
-    subst (λ (cs : List JobCall). IsLeftTo p k session later c cs) (sym (get_or-set_same left place rest [] within))
+    let here : IsLeftTo p k (block_phases session) (job_call_at p session) later c (left_at (slice_set left place rest) place) =
+    subst (λ (cs : List JobCall). IsLeftTo p k (block_phases session) (job_call_at p session) later c cs) (sym (get_or-set_same left place rest [] within))
     (own_then p k session next c call rest
-    (subst (λ (cs : List JobCall). IsLeftTo p k session next c cs) is (h.each place r at))) in
+    (subst (λ (cs : List JobCall). IsLeftTo p k (block_phases session) (job_call_at p session) next c cs) is (h.each place r at))) in
     record {
       many = length-set left place rest ∙ h.many;
       each = λ i q q_at. elim (cases_eq i place) [
         | inl same ↦
             let q_is : r ≡ q = same_Some r q (sym at ∙ (ap (λ (j : ℕ). slice_get roles j) (sym same) ∙ q_at)) in
-            subst (λ (j : ℕ). IsLeftTo p k session later q.number (left_at (slice_set left place rest) j)) (sym same)
-            (subst (λ (z : Role). IsLeftTo p k session later z.number (left_at (slice_set left place rest) place))
+            subst (λ (j : ℕ). IsLeftTo p k (block_phases session) (job_call_at p session) later q.number (left_at (slice_set left place rest) j)) (sym same)
+            (subst (λ (z : Role). IsLeftTo p k (block_phases session) (job_call_at p session) later z.number (left_at (slice_set left place rest) place))
             q_is here)
         | inr other ↦
-            subst (λ (cs : List JobCall). IsLeftTo p k session later q.number cs)
+            subst (λ (cs : List JobCall). IsLeftTo p k (block_phases session) (job_call_at p session) later q.number cs)
             (sym (get_or-set_other left place i rest [] other))
             (other_then p k session next c q.number (left_at left i) (λ e. other (apart i q q_at e)) (h.each i q q_at))
       ];
@@ -235,8 +235,8 @@ module _ (f : Frame) (roles : List Role) where
   next_of v d stand left place r call h at is =
       let c = r.number in
       let rest = after_next (left_at left place) in
-      let own : IsLeftTo p k f.session d.next c (call ∷ rest) =
-      subst (λ (cs : List JobCall). IsLeftTo p k f.session d.next c cs) (head_of (left_at left place) call is)
+      let own : IsLeftTo p k (block_phases f.session) (job_call_at p f.session) d.next c (call ∷ rest) =
+      subst (λ (cs : List JobCall). IsLeftTo p k (block_phases f.session) (job_call_at p f.session) d.next c cs) (head_of (left_at left place) call is)
       (h.calls.each place r at) in
       let count : slice_index_or d.next c 0 + suc (length rest) ≡ begin_of p (block_phases f.session) (k + 1) c =
       own.count in
@@ -355,8 +355,8 @@ module _ (f : Frame) (roles : List Role) where
       → left_at left place ≡ []
       → begun_at v r.number ≡ false
   rests_here v d stand left place r h at none =
-      let own : IsLeftTo p k f.session d.next r.number [] =
-      subst (λ (cs : List JobCall). IsLeftTo p k f.session d.next r.number cs) none (h.calls.each place r at) in
+      let own : IsLeftTo p k (block_phases f.session) (job_call_at p f.session) d.next r.number [] =
+      subst (λ (cs : List JobCall). IsLeftTo p k (block_phases f.session) (job_call_at p f.session) d.next r.number cs) none (h.calls.each place r at) in
       let count : slice_index_or d.next r.number 0 + 0 ≡ begin_of p (block_phases f.session) (k + 1) r.number =
       own.count in
       rests_last f roles v d stand r.number h.at (omega (arith, count))
@@ -467,8 +467,8 @@ module _ (f : Frame) (roles : List Role) where
   steps_at v d stand left h is c = elim (role_or_none c roles) [
     | inl q ↦
         let over = over_of q.place q.role q.at_place in
-        let own : IsLeftTo p k f.session d.next q.role.number [] =
-        subst (λ (cs : List JobCall). IsLeftTo p k f.session d.next q.role.number cs)
+        let own : IsLeftTo p k (block_phases f.session) (job_call_at p f.session) d.next q.role.number [] =
+        subst (λ (cs : List JobCall). IsLeftTo p k (block_phases f.session) (job_call_at p f.session) d.next q.role.number cs)
         (h.over q.place q.role q.at_place over) (h.calls.each q.place q.role q.at_place) in
         let count : slice_index_or d.next q.role.number 0 + 0
         ≡ begin_of p (block_phases f.session) (k + 1) q.role.number = own.count in

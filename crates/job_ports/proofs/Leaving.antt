@@ -27,8 +27,8 @@ use Rattle.job_text.specs.Sessions.{JobCall, JobsPhase, JobsSession, block_phase
 use Rattle.job_text.specs.Within.{IsJobsSessionWithin}
 use Rattle.job_steps.specs.Derived.{block_phases, job_call_at}
 use Rattle.passed_laws.specs.Passed.{steps_named, begin_of}
-use Rattle.calls_left.specs.Remaining.{calls_of_port, left_at}
-use Rattle.job_one.specs.Remaining.{IsLeftTo, AreLeft}
+use Rattle.calls_left.specs.Remaining.{calls_of_port, left_at, IsLeftTo}
+use Rattle.job_one.specs.Remaining.{AreLeft}
 use Rattle.passed_laws.proofs.Passings.{first_within}
 use Rattle.job_ports.proofs.Shares.{One, named, blocks_one, begin_nobody, begin_next}
 use Rattle.job_ports.proofs.Shares.{call_of_phase, has, none_named, own_named, Own}
@@ -218,7 +218,7 @@ left_to : (p k : ℕ) (session : JobsSession) (scripts : List PlainScript) (name
     → HasShares p k session scripts names phase next
     → slice_get (on_port p phase.callers) i ≡ Some o
     → slice_get names c ≡ Some o.name
-    → IsLeftTo p k session next c o.calls
+    → IsLeftTo p k (block_phases session) (job_call_at p session) next c o.calls
 left_to p k session scripts names phase next i c o h is named_c =
     let own = on_port p phase.callers in
     let mine : named o.name own ≡ o.calls = own_named own i o (own_phase p k session phase h.limits h.at_phase) is in
@@ -291,7 +291,7 @@ are_left p k session scripts names steps phase next roles h cast =
           (some_is (role_in scripts r) (role_for names steps n.0)
           (sym (get_map (role_in scripts) roles i r is)
           ∙ (ap (λ (rs : List PlainRole). slice_get rs i) cast ∙ get_map (role_for names steps) plain i n.0 n.1))) in
-          subst (IsLeftTo p k session next r.number) (sym (calls_at own i o.0 o.1))
+          subst (IsLeftTo p k (block_phases session) (job_call_at p session) next r.number) (sym (calls_at own i o.0 o.1))
           (left_to p k session (map script_of scripts) names phase next i r.number o.0 h o.1
           (ap (λ (m : ℕ). slice_get names m) number ∙ n.3));
       others = λ c absent. h.next_are c ∙ elim (option_cases (slice_get names c)) [

@@ -44,7 +44,7 @@ use Rattle.job_one.specs.Playing.{passings_with, next_passing, IsPlayingJobs}
 use Rattle.job_one.specs.Frames.{Frame, IsAtTurn}
 use Rattle.job_one.specs.AfterLine.{HasProcs, IsFrameWithin, BeginsTurns, EndsTurns, FillsTurns, StopsTurns}
 use Rattle.calls_left.specs.Remaining.{left_at}
-use Rattle.job_one.specs.Remaining.{IsLeftTo, AreLeft}
+use Rattle.job_one.specs.Remaining.{AreLeft}
 use Rattle.passed_laws.proofs.Adding.{blocks_same}
 use Rattle.job_one.proofs.Along.{same_kept}
 use Rattle.passed_laws.proofs.Casts.{roles_each}
