@@ -14,14 +14,17 @@ use Rattle.tty_calls.specs.Sessions.{ticks_on, scripts_on, names_of, with_name}
 use Rattle.passed_calls.specs.declared.placed.PlacedCall.{PlacedCall}
 use Rattle.passed_calls.specs.Blocks.{Block, bare, blocks_on, names_on}
 use Rattle.passed_calls.specs.Derived.{BlockPhase}
-use Rattle.passed_calls.specs.Scripts.{AnyCall, plain, further, block_of, count_in, mixed, mixed_scripts, phases_with}
+use Rattle.passed_calls.specs.Scripts.{AnyCall, CallerScript, plain, further, block_of, count_in, mixed, mixed_scripts, phases_with}
 use Rattle.passed_calls.specs.Within.{IsBlockPhaseWithin, IsAnyCallWithin, AreCallsWithin}
 use Rattle.job_text.specs.declared.calls.OwnCall.{OwnCall}
 use Rattle.job_text.specs.declared.sessions.PortProc.{PortProc}
 use Rattle.job_text.specs.Sessions.{JobCall, JobsPhase, block_phase_of, phase_with, session_with}
 use Rattle.job_text.specs.Within.{IsJobsSessionWithin}
-use Rattle.job_ports.proofs.Leaving.{mixed_names}
-use Rattle.job_ports.proofs.Shares.{One, blocks_one}
+use Rattle.passed_laws.proofs.Shares.{blocks_one}
+use Rattle.passed_ports.proofs.Leaving.{mixed_names}
+
+abbrev One : Type 0
+One = CallerScript JobCall
 
 abbrev Placed : Type 0
 Placed = List (PlacedCall OwnCall)

@@ -28,9 +28,11 @@ use Rattle.job_steps.specs.Order.{AreEventsInTurn}
 use Rattle.job_one.specs.Played.{answered_by, begun_in, journal_on, derived_with, port_in}
 use Rattle.job_one.specs.Played.{IsLogged, IsLoggedWhole, IsJobPlayedOn, AreJobsPlayed, AreNotFull}
 use Rattle.job_one.proofs.Deriving.{whole_derived}
-use Rattle.job_ports.specs.Ports.{all_passed, ArePassingsWithin, IsPlayedWith, IsPortPlayed, AreFirstPlayed}
+use Rattle.passed_ports.specs.Ports.{ArePassingsWithin, IsPlayedWith}
+use Rattle.job_ports.specs.Ports.{all_passed, IsPortPlayed, AreFirstPlayed}
 use Rattle.job_ports.proofs.Noted.{below_if}
-use Rattle.job_ports.proofs.Started.{below_or, nothing_begun}
+use Rattle.passed_ports.proofs.Started.{below_or}
+use Rattle.job_ports.proofs.Started.{nothing_begun}
 
 -- ---- logs
 

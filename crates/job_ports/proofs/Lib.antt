@@ -1,13 +1,10 @@
 pub mod Rising
 pub mod Noted
-pub mod Alike
 pub mod Started
 pub mod Playing
 pub mod Joining
 pub mod Phased
-pub mod Shares
 pub mod Opened
-pub mod Leaving
 pub mod Bounded
 pub mod Casting
 pub mod Beginning

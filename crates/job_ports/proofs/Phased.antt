@@ -51,7 +51,8 @@ use Rattle.passed_laws.proofs.Casts.{roles_each}
 use Rattle.job_one.proofs.Phasing.{phase_begins, phase_ends}
 use Rattle.passed_laws.proofs.Witnessed.{begins_line, end_on}
 use Rattle.job_ports.specs.declared.phases.JobStation.{JobStation}
-use Rattle.job_ports.specs.Ports.{IsSceneOf, IsJobsFull}
+use Rattle.passed_ports.specs.Ports.{IsSceneOf}
+use Rattle.job_ports.specs.Ports.{IsJobsFull}
 use Rattle.job_ports.specs.Between.{IsBetween, IsStoppedBy, Setting, AreCastIn, BeginsPhase}
 
 -- ---- the line

@@ -51,90 +51,15 @@ use Rattle.passed_laws.proofs.Adding.{like_first}
 use Rattle.passed_laws.proofs.Blocks.{of_blocks, same_shape}
 use Rattle.passed_laws.proofs.Laters.{front, terminal_now}
 use Rattle.job_one.proofs.Raised.{entry_still}
-use Rattle.job_ports.specs.Ports.{all_passed, IsPlayedWith, IsPortPlayed, IsSceneOf, IsJobsEnd, IsJobsFull}
-use Rattle.job_ports.proofs.Alike.{agrees_alike}
+use Rattle.passed_ports.specs.Ports.{IsSceneOf}
+use Rattle.job_ports.specs.Ports.{by_blocks, all_passed, IsPortPlayed, IsJobsEnd, IsJobsFull}
+use Rattle.passed_ports.proofs.Played.{like_played, agrees_played, standing_more, after_append, take_all, idle_then}
+use Rattle.passed_ports.proofs.Played.{later_then, journal_in, is_later, phases_many}
 use Rattle.job_ports.proofs.Noted.{signals_few}
-use Rattle.job_ports.proofs.Started.{mine_is, nothing_begun, within_of}
-
--- ---- a session that was played so
-
-passed_then : (session : JobsSession) (p : ℕ) (ms : List Passing) (mine : ℕ → List Passing) (played : PlainSession)
-    → ((c : ℕ) → by_caller c ms ≡ mine c)
-    → IsPlayedWith session p ms played
-    → IsPassedBy p (block_phases session) mine played
-passed_then session p ms mine played same h =
-    record { passed = h.passed.passed; are = h.passed.are; by = λ c. h.passed.by c ∙ same c }
-
-like_played : (first : Scene) (session : JobsSession) (ms : List Passing) (mine : ℕ → List Passing)
-    (played : PlainSession)
-    → ((c : ℕ) → by_caller c ms ≡ mine c)
-    → IsSceneOf first session
-    → IsPlayedWith session first.port ms played
-    → IsLike first (scene_on first.port played)
-like_played first session ms mine played same scene h =
-    like_first first (block_phases session) mine played scene.of_blocks
-    (passed_then session first.port ms mine played same h)
-    (ap (λ n. n == 0) (h.version ∙ sym scene.version))
-    (ap (λ (ns : List ℕ). slice_index_or ns first.port 0) (h.flips ∙ sym scene.flips)) h.limits
-
-agrees_played : (first : Scene) (session : JobsSession) (v : PortValue) (ms : List Passing) (mine : ℕ → List Passing)
-    (played : PlainSession)
-    → ((c : ℕ) → by_caller c ms ≡ mine c)
-    → IsSceneOf first session
-    → HasPassed first (block_phases session) mine v
-    → IsPlayedWith session first.port ms played
-    → Agrees (scene_on first.port played) v
-agrees_played first session v ms mine played same scene has h =
-    let p = first.port in
-    let phases = block_phases session in
-    let then = passed_then session p ms mine played same h in
-    let shape = (like_played first session ms mine played same scene h).shape in
-    let consoles = shape.consoles ∙ sym has.like.shape.consoles in
-    let flip = shape.flip ∙ sym has.like.shape.flip in
-    agrees_alike p phases mine has.session played v
-    (same_shape p phases has.session played consoles flip (of_blocks p phases mine has.session has.by)
-    (of_blocks p phases mine played then)) has.by then has.agrees
+use Rattle.passed_ports.proofs.Started.{within_of}
+use Rattle.job_ports.proofs.Started.{mine_is, nothing_begun}
 
 -- ---- the journal once the port was hung up
-
-standing_more : (c : ℕ) (es : List PlainEntry) (e : PlainEntry) (q : Standing)
-    → standing_in c (es ++ e ∷ []) q ≡ standing_after c e (standing_in c es q)
-standing_more c [] e q = refl
-standing_more c (x ∷ es) e q = standing_more c es e (standing_after c x q)
-
-after_append : (f : ℕ → ℕ → Option PlainCall) (t : Terminal) (es : List PlainEntry) (e : PlainEntry)
-    → terminal_after f t (es ++ e ∷ []) ≡ after f (terminal_after f t es) e
-after_append f t [] e = refl
-after_append f t (x ∷ es) e = after_append f (after f t x) es e
-
-take_all : {X : Type 0} (xs : List X) → take (length xs) xs ≡ xs
-take_all [] = refl
-take_all (x ∷ xs) = λ i. x ∷ take_all xs i
-
--- nobody has begun a call in it, where nobody has before
-idle_then : (v : PortValue) (journal : List PlainEntry) (c : ℕ)
-    → IsPort v
-    → EndsJournal v journal
-    → has_begun (caller_at v.terminal c) ≡ false
-    → (standing_in c journal at_first).begun ≡ false
-idle_then v journal c port (inl same) idle =
-    ap (λ (es : List PlainEntry). (standing_in c es at_first).begun) same
-    ∙ (sym (ap (λ (q : Standing). q.begun)
-    (run_stands (call_in v.kept) v.counts v.flip.capacity v.journal v.terminal port.run c))
-    ∙ idle)
-idle_then v journal c port (inr h) idle =
-    ap (λ (es : List PlainEntry). (standing_in c es at_first).begun) h.1
-    ∙ (ap (λ (q : Standing). q.begun) (standing_more c v.journal (hangup_entry v h.0) at_first)
-    ∙ (sym (ap (λ (q : Standing). q.begun)
-    (run_stands (call_in v.kept) v.counts v.flip.capacity v.journal v.terminal port.run c))
-    ∙ idle))
-
--- the port can come to it
-later_then : (v : PortValue) (journal : List PlainEntry)
-    → EndsJournal v journal
-    → (rest : List PlainEntry) × (journal ≡ v.journal ++ rest)
-later_then v journal (inl same) = ([], same ∙ sym (append-nil v.journal))
-later_then v journal (inr h) = (hangup_entry v h.0 ∷ [], h.1)
 
 -- and it has raised no more signals
 raised_then : (v : PortValue) (j : Journal)
@@ -159,26 +84,6 @@ raised_then v j port later (inr h) =
     ∙ ap (λ (ss : List Signal). length ss) (ap signals_of total ∙ entry_still j.calls v.terminal e refl)
 
 -- ---- the session as the port plays it
-
--- the journal of a port in the session that was played
-abbrev journal_in : ℕ → PlainSession → List PlainEntry → Journal
-journal_in p played journal = record {
-  entries = journal;
-  calls = call_at p played;
-  opening = opening (sum (counts_on p played)) (flip_on p played);
-}
-
-is_later : (s : Scene) (v : PortValue) (journal rest : List PlainEntry)
-    → IsOfScene s v
-    → journal ≡ v.journal ++ rest
-    → IsLater v (journal_in s.port s.session journal)
-is_later s v journal rest of entries =
-    record {
-      opens = λ i. opening (sum (sym of.counts i)) (sym of.capacity i);
-      calls = of.known;
-      rest = rest;
-      entries = entries;
-    }
 
 -- its log is one of it
 logged_in : (first : Scene) (session : JobsSession) (played : PlainSession) (v : PortValue) (d : DeskState)
@@ -205,17 +110,9 @@ pub blocks_same : (phases : List JobsPhase)
 blocks_same [] = refl
 blocks_same (phase ∷ phases) = ap (λ (bs : List Block). map block_of phase.callers ++ bs) (blocks_same phases)
 
-phases_many : (first : Scene) (session : JobsSession)
-    → IsSceneOf first session
-    → length first.session.phases ≡ length (block_phases session)
-phases_many first session scene =
-    sym (length-map first.session.phases (line_on first.port))
-    ∙ (ap (λ (xs : List (List _)). length xs) scene.of_blocks.lines
-    ∙ length-map (block_phases session) (λ (phase : BlockPhase). slice_index_or phase.lines first.port []))
-
 -- behind the last phase each caller stands past all its calls
 steps_over : (first : Scene) (session : JobsSession) (k c : ℕ)
-    → IsSceneOf first session
+    → IsSceneOf first (by_blocks session)
     → k ≡ length first.session.phases
     → begin_of first.port (block_phases session) k c
     ≡ steps_named first.port (blocks_in session) (slice_get (names_on first.port (blocks_in session)) c)
@@ -223,14 +120,14 @@ steps_over first session k c scene last =
     let p = first.port in
     let phases = block_phases session in
     let whole : take k phases ≡ phases =
-    ap (λ n. take n phases) (last ∙ phases_many first session scene) ∙ take_all phases in
+    ap (λ n. take n phases) (last ∙ phases_many first (by_blocks session) scene) ∙ take_all phases in
     ap (λ (ps : List BlockPhase). steps_named p (blocks_of ps) (slice_get (names_on p (blocks_of phases)) c)) whole
     ∙ ap (λ (bs : List Block). steps_named p bs (slice_get (names_on p bs) c)) (blocks_same session.phases)
 
 -- the log is whole
 whole_in : (first : Scene) (session : JobsSession) (played : PlainSession) (v : PortValue)
     (putter : PutterState Flagged) (line : LineState) (run : ℕ) (d : DeskState) (journal : List PlainEntry)
-    → IsSceneOf first session
+    → IsSceneOf first (by_blocks session)
     → IsJobsEnd first session v putter line run d
     → IsOfScene (scene_on first.port played) v
     → EndsJournal v journal
@@ -261,7 +158,7 @@ whole_in first session played v putter line run d journal scene ends of_it left 
 
 pub hung_up_played : (first : Scene) (session : JobsSession) (v : PortValue) (putter : PutterState Flagged)
     (line : LineState) (run : ℕ) (d : DeskState) (left : PortRun) (end : PortEnd)
-    → IsSceneOf first session
+    → IsSceneOf first (by_blocks session)
     → IsJobsEnd first session v putter line run d
     → EndsJournal v left.journal.items
     → ((s : Scene) → IsAtEnd s v putter line → IsPlayedOn s.port s.session left end)
@@ -288,8 +185,8 @@ hung_up_played first session v putter line run d left end scene ends journal pla
       none_begun = λ not_full. none;
       each = λ played h.
           let s = scene_on p played in
-          let like = like_played first session ms (passed_by session p d) played same scene h in
-          let agrees = agrees_played first session v ms (passed_by session p d) played same scene has h in
+          let like = like_played first (by_blocks session) ms (passed_by session p d) played same scene h in
+          let agrees = agrees_played first (by_blocks session) v ms (passed_by session p d) played same scene has h in
           let at = before.each.each s like agrees in
           let phase : v.terminal.phase ≡ length played.phases =
           ends.phase ∙ sym (phases_same p first.session played like.shape) in
@@ -312,7 +209,7 @@ hung_up_played first session v putter line run d left end scene ends journal pla
 
 pub full_played : (first : Scene) (session : JobsSession) (v : PortValue) (putter : PutterState Flagged)
     (line : LineState) (d : DeskState) (left : PortRun) (end : PortEnd)
-    → IsSceneOf first session
+    → IsSceneOf first (by_blocks session)
     → IsJobsFull first session v putter line d
     → left.journal.items ≡ v.journal
     → ((s : Scene) → IsPortOf s v → IsFullRun s v putter line → IsPlayedOn s.port s.session left end)
@@ -333,8 +230,8 @@ full_played first session v putter line d left end scene full journal plays =
       none_begun = λ not_full. absurd (not_full long);
       each = λ played h.
           let s = scene_on p played in
-          let like = like_played first session ms mine played same scene h in
-          let agrees = agrees_played first session v ms mine played same scene has h in
+          let like = like_played first (by_blocks session) ms mine played same scene h in
+          let agrees = agrees_played first (by_blocks session) v ms mine played same scene has h in
           let at = full.full s like agrees in
           record {
             played_on = plays s (port_of_scene s v at.0) at.1;

@@ -48,7 +48,7 @@ use Rattle.job_ports.specs.Between.{IsBetween, IsDeskOpened}
 use Rattle.job_ports.specs.declared.phases.JobStation.{JobStation}
 use Rattle.job_ports.proofs.Casting.{scene_of_session, names_are}
 use Rattle.job_ports.proofs.Opened.{place_within}
-use Rattle.job_ports.proofs.Started.{zeros_at, zeros_long}
+use Rattle.passed_ports.proofs.Started.{zeros_at, zeros_long}
 
 -- ---- the processes of a port
 

@@ -23,7 +23,8 @@ use Rattle.job_one.specs.Events.{DeskState}
 use Rattle.passed_laws.specs.Filled.{AreNextSteps}
 use Rattle.job_one.specs.Remaining.{AreLeft}
 use Rattle.job_ports.specs.declared.phases.JobStation.{JobStation}
-use Rattle.job_ports.specs.Ports.{IsSceneOf, IsJobsFull}
+use Rattle.passed_ports.specs.Ports.{IsSceneOf}
+use Rattle.job_ports.specs.Ports.{IsJobsFull, by_blocks}
 
 -- at the beginning of phase k, with room for the next step of each caller
 pub record IsBetween (first : Scene) (session : JobsSession) (k run : ℕ) (at : JobStation) : Type 0 where
@@ -63,7 +64,7 @@ pub record AreCastIn (s : Setting) (v : PortValue) (roles : List Role) : Type 0 
 pub record BeginsPhase (s : Setting) (roles : List Role) (at : JobStation) (k run : ℕ) (left : List (List JobCall))
     (steps : List LineStep) (ticks : ℕ) (clock_first : Bool) : Type 0 where
   pub within : IsJobsSessionWithin s.session
-  pub scene : IsSceneOf s.first s.session
+  pub scene : IsSceneOf s.first (by_blocks s.session)
   pub phase : k < length s.first.session.phases
   pub own : own_scripts s.first.port (map script_of s.callers) ≡ scripts_on s.first.port (phase_at s.first.session k)
   pub between : IsBetween s.first s.session k run at

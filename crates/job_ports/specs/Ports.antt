@@ -20,6 +20,7 @@ use Rattle.job_text.specs.Sessions.{JobsSession}
 use Rattle.job_steps.specs.Derived.{block_phases, passings_on}
 use Rattle.passed_laws.specs.Passed.{IsOfBlocks, IsPassedBy}
 use Rattle.passed_laws.specs.Witness.{HasPassed}
+use Rattle.passed_ports.specs.Ports.{BlockSession, ArePassingsWithin, IsPlayedWith}
 use Rattle.job_one.specs.Desk.{IsDeskAt}
 use Rattle.job_one.specs.Events.{DeskState}
 use Rattle.job_one.specs.Between.{value_at, IsBeforeJobs}
@@ -29,28 +30,25 @@ use Rattle.job_one.specs.Played.{begun_in, IsJobPlayedOn}
 
 -- ---- what was played
 
+-- the session by the blocks of its callers
+abbrev pub by_blocks : JobsSession → BlockSession
+by_blocks session = record {
+  version = session.version;
+  ports = session.ports;
+  flips = session.flips;
+  phases = block_phases session;
+}
+
 -- all that a port was passed: what it has answered, and what it has begun and not answered
 abbrev pub all_passed : JobsSession → JobLog → (p : ℕ) → List PlainEntry → List Passing
 all_passed session log p journal = passings_on session log p ++ begun_in session log p journal
-
--- it keeps the limits of calls, with one for each call of a caller at most
-pub record ArePassingsWithin (passings : List Passing) : Type 0 where
-  pub calls : All (λ m. All IsCallWithin m.calls) passings
-  pub single : (c step : ℕ) → length (calls_at (by_caller c passings) step) ≤ 1
-
--- a session of the same blocks in which a port was passed this
-pub record IsPlayedWith (session : JobsSession) (p : ℕ) (passings : List Passing) (played : PlainSession) : Type 0 where
-  pub version : played.version ≡ session.version
-  pub flips : played.flips ≡ session.flips
-  pub limits : IsWithinLimits played
-  pub passed : IsPassedBy p (block_phases session) (λ c. by_caller c passings) played
 
 -- a port with its own log, its run and its end
 pub record IsPortPlayed (p : ℕ) (session : JobsSession) (log : JobLog) (run : PortRun) (end : PortEnd) : Type 0 where
   pub within : ArePassingsWithin (all_passed session log p run.journal.items)
   pub none_begun : length run.journal.items ≢ 4194304 → begun_in session log p run.journal.items ≡ []
   pub each : (played : PlainSession)
-      → IsPlayedWith session p (all_passed session log p run.journal.items) played
+      → IsPlayedWith (by_blocks session) p (all_passed session log p run.journal.items) played
       → IsJobPlayedOn p session played log run end
 
 -- the first ports were, with the log of all of them
@@ -65,13 +63,6 @@ pub record AreFirstPlayed (session : JobsSession) (count : ℕ) (log : JobLog) (
       → IsPortPlayed p session (logged_on p log) run end
 
 -- ---- a port that is played
-
--- a scene that is played of a session of processes: the same but for the callers' calls
-pub record IsSceneOf (first : Scene) (session : JobsSession) : Type 0 where
-  pub version : first.session.version ≡ session.version
-  pub ports : first.session.ports ≡ session.ports
-  pub flips : first.session.flips ≡ session.flips
-  pub of_blocks : IsOfBlocks first.port (block_phases session) first.session
 
 -- all phases were played
 pub record IsJobsEnd (first : Scene) (session : JobsSession) (v : PortValue) (putter : PutterState Flagged)

@@ -18,13 +18,14 @@ ghost use Rattle.job_text.specs.Within.{IsJobsSessionWithin};
 ghost use Rattle.job_one.specs.Events.{DeskState};
 ghost use Rattle.job_one.specs.Played.{derived_with, journal_on, AreJobsPlayed};
 ghost use Rattle.passed_calls.specs.Within.{ArePassedWithin};
-ghost use Rattle.job_ports.specs.Ports.{all_passed, IsSceneOf, IsJobsEnd, IsJobsFull, IsPortPlayed, AreFirstPlayed};
+ghost use Rattle.passed_ports.specs.Ports.{IsSceneOf};
+ghost use Rattle.job_ports.specs.Ports.{all_passed, IsJobsEnd, IsJobsFull, IsPortPlayed, AreFirstPlayed, by_blocks};
 
 /// A port whose phases were played is hung up, and then it was played: its log is whole.
 pub fn a_port_hung_up_was_played()
     ensures { (first : Scene) (session : JobsSession) (v : PortValue) (putter : PutterState Flagged) (line : LineState)
         (run : ℕ) (d : DeskState) (left : PortRun) (end : PortEnd)
-        → IsSceneOf first session
+        → IsSceneOf first (by_blocks session)
         → IsJobsEnd first session v putter line run d
         → EndsJournal v left.journal.items
         → ((s : Scene) → IsAtEnd s v putter line → IsPlayedOn s.port s.session left end)
@@ -40,7 +41,7 @@ pub fn a_port_hung_up_was_played()
 pub fn a_full_port_was_played()
     ensures { (first : Scene) (session : JobsSession) (v : PortValue) (putter : PutterState Flagged) (line : LineState)
         (d : DeskState) (left : PortRun) (end : PortEnd)
-        → IsSceneOf first session
+        → IsSceneOf first (by_blocks session)
         → IsJobsFull first session v putter line d
         → left.journal.items ≡ v.journal
         → ((s : Scene) → IsPortOf s v → IsFullRun s v putter line → IsPlayedOn s.port s.session left end)

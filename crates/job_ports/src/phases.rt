@@ -18,9 +18,9 @@ use calls_left::Remaining;
 use job_one::{Desk, play_after_line, play_line};
 use job_text::{JobsPart, JobsSession, OwnCall};
 use line_steps::LineSteps;
-use one_thread::{Role, Stand, Station, cast, scripts_of, steps_of, ticks_of};
+use one_thread::{Role, Stand, Station, scripts_of, steps_of, ticks_of};
 use passed_calls::PlacedCall;
-use port_core::Port;
+use passed_ports::{cast_in, take_steps};
 use std::alloc::Global;
 use tty_base::NoMemory;
 use tty_calls::{Denied, Names, Script};
@@ -68,29 +68,6 @@ pub(crate) fn play_phase(
         run,
         session.session.version == 0,
     )
-}
-
-/// The roles of a port's scripts.
-fn cast_in(
-    alloc: Global,
-    scripts: &[Script],
-    port: usize,
-    names: &Names,
-    steps: &[u32],
-) -> Result<Vec<Role>, Denied>
-    requires numbered { AreNumbered names.now port (map script_of scripts.now) }
-    requires few { length names.now < 65536 }
-    requires steps { length steps.now ≡ length names.now }
-    ensures ok { IfOk result (λ roles.
-        (others : List Script)
-        → HaveSameCallers others scripts.now
-        → map (role_in others) roles.items ≡ cast_of names.now steps.now port (map script_of others)) }
-    ensures err { IfErr result (λ d. d ≡ denied.NoMemory) }
-{
-    match cast(alloc, scripts, port, names, steps) {
-        Ok(roles) => Ok(roles),
-        Err(NoMemory) => Err(Denied::NoMemory),
-    }
 }
 
 /// What the callers of a port have to call in a phase.
@@ -163,31 +140,4 @@ fn own_in(parts: &[JobsPart], k: usize) -> &[PlacedCall<OwnCall>]
         None => &[],
         Some(part) => part.own.as_slice(),
     }
-}
-
-/// Notes the next step of each of so many callers.
-fn take_steps(port: &Port, steps: &mut [u32])
-    requires known { length steps.old ≤ sum port.now.counts }
-    requires few { length steps.old ≤ 65536 }
-    ensures { AreNextSteps port.now.terminal (length steps.old) steps.new }
-{
-    for caller in 0..steps.len() {
-        let step = next_of(port, caller);
-        set_step(steps, caller, step);
-    }
-}
-
-fn next_of(port: &Port, caller: usize) -> u32
-    requires known { caller < sum port.now.counts }
-    requires few { caller < 65536 }
-    ensures { result ≡ (caller_at port.now.terminal caller).next }
-{
-    port.caller(caller as u16).next
-}
-
-fn set_step(steps: &mut [u32], caller: usize, step: u32)
-    requires { caller < length steps.old }
-    ensures { steps.new ≡ slice_set steps.old caller step }
-{
-    steps[caller] = step;
 }

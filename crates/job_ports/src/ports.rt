@@ -8,7 +8,8 @@ ghost use Rattle.job_text.specs.Sessions.{JobsSession as PlainJobsSession, jobs_
 ghost use Rattle.job_text.specs.Within.{IsJobsSessionWithin};
 ghost use Rattle.job_one.specs.Events.{AreOn};
 ghost use Rattle.job_ports.specs.Between.{IsBetween, IsStoppedBy};
-ghost use Rattle.job_ports.specs.Ports.{IsJobsEnd, IsJobsFull, IsPortPlayed, IsSceneOf};
+ghost use Rattle.passed_ports.specs.Ports.{IsSceneOf};
+ghost use Rattle.job_ports.specs.Ports.{IsJobsEnd, IsJobsFull, IsPortPlayed, by_blocks};
 
 use crate::opening::open_desk;
 use crate::phases::{JobStation, play_phase};
@@ -72,7 +73,7 @@ fn end(at: JobStation) -> Result<PortPlayed, NoMemory>
     requires ring { at.station.putter.ring ≡ at.station.port.flip.ring }
     requires sent { at.station.port.terminal.sent ≡ length at.station.putter.sent }
     ensures played { (first : Scene) (session : PlainJobsSession) (run : ℕ)
-        → IsSceneOf first session
+        → IsSceneOf first (by_blocks session)
         → IsJobsEnd first session at.station.port at.station.putter at.station.line run at.desk
         → IfOk result
         (λ played. IsPortPlayed first.port session (map logged_of played.log.items) played.run played.end) }
@@ -92,7 +93,7 @@ fn end(at: JobStation) -> Result<PortPlayed, NoMemory>
 fn cut(at: JobStation) -> PortPlayed
     requires { at.station.putter.ring ≡ at.station.port.flip.ring }
     ensures played { (first : Scene) (session : PlainJobsSession)
-        → IsSceneOf first session
+        → IsSceneOf first (by_blocks session)
         → IsJobsFull first session at.station.port at.station.putter at.station.line at.desk
         → IsPortPlayed first.port session (map logged_of result.log.items) result.run result.end }
     ensures own { AreOn at.desk.number (map logged_of result.log.items) }

@@ -17,3 +17,4 @@ pub mod InOrders
 pub mod Witnessed
 pub mod Possible
 pub mod Attempted
+pub mod Shares

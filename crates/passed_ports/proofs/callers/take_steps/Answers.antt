@@ -1,7 +1,6 @@
 use Rattle.std.proofs.Common.{◌≤◌, ◌<◌, length, arith}
-use Rattle.job_ports.proofs.Bounded.{plain_within}
-use Rattle.job_ports.proofs.Casting.{calls_left, noted_more, all_noted}
-use Rattle.job_ports.proofs.phases.take_steps.Goals as goal
+use Rattle.passed_ports.proofs.Noting.{noted_more, all_noted}
+use Rattle.passed_ports.proofs.callers.take_steps.Goals as goal
 
 pub loop-caller-init : goal.loop-caller-init
 loop-caller-init c = record { each = λ x lt. absurd (omega (arith, lt)) }

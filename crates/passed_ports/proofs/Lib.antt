@@ -1,0 +1,5 @@
+pub mod Alike
+pub mod Played
+pub mod Noting
+pub mod Started
+pub mod Leaving
