@@ -10,7 +10,6 @@ use Rattle.job_control.specs.declared.processes.Proc.{Proc}
 use Rattle.job_text.specs.declared.sessions.PortProc.{PortProc}
 use Rattle.job_text.specs.Sessions.{procs_on, proc_place}
 use Rattle.job_ports.specs.Callers.{AreCallers, caller_of}
-use Rattle.job_ports.proofs.Shares.{named}
 use Rattle.job_ports.proofs.Phased.{phase_over}
 
 procs_if : (b : Bool) (q : PortProc) (qs : List PortProc)
