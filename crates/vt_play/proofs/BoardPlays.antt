@@ -12,6 +12,7 @@ use Rattle.vt_consoles.specs.Seats.{BoardSeat}
 use Rattle.vt_consoles.specs.Shared.{IsHere, name_of_board, opening_board}
 use Rattle.vt_consoles.specs.declared.shared.SharedBoard.{SharedBoard}
 use Rattle.vt_text.specs.declared.sessions.OpScript.{OpScript}
+use Rattle.vt_text.specs.declared.sessions.VtPhase.{VtPhase}
 use Rattle.vt_text.specs.Sessions.{PlainVtPhase, operators_of, vt_phase_of}
 use Rattle.vt_account.specs.Account.{accepted, calls_at}
 use Rattle.vt_threads.specs.Operating.{AnswersCalls, AnswersFirst, calls_of_seat}
@@ -30,72 +31,69 @@ use Rattle.vt_play.proofs.Events.{answers_few, first_few}
 
 -- ---- an operator
 
-began_all : (stage : Stage) (n : ℕ) (old new : BoardSeat)
-    → IsFresh stage.board.now n old
+began_all : (b : SharedBoard) (names : List (List ℕ)) (phase : VtPhase) (n : ℕ) (old new : BoardSeat)
+    → IsFresh b n old
     → number_of new ≡ n
-    → AnswersCalls (opening_board stage.board.now).consoles n
-    (calls_of_seat stage.names.now n (vt_phase_of stage.phase.now).operators) old new
-    → OperatorBegan stage.board.now stage.names.now (vt_phase_of stage.phase.now) new
-began_all stage n old new fresh is h = record {
+    → AnswersCalls (opening_board b).consoles n (calls_of_seat names n (vt_phase_of phase).operators) old new
+    → OperatorBegan b names (vt_phase_of phase) new
+began_all b names phase n old new fresh is h = record {
   events = h.events;
-  made = made_since (history_of (opening_board stage.board.now))
-      n h.events old new fresh.here.number is fresh.seen h.makes;
+  made = made_since (history_of (opening_board b)) n h.events old new fresh.here.number is fresh.seen h.makes;
   few = subst (λ (k : ℕ).
       length h.events
-      ≤ length (flat_map (accepted (opening_board stage.board.now).consoles)
-      (calls_at stage.names.now k (vt_phase_of stage.phase.now))))
+      ≤ length (flat_map (accepted (opening_board b).consoles) (calls_at names k (vt_phase_of phase))))
       (sym is)
-      (let few = answers_few (opening_board stage.board.now).consoles n
-      (calls_of_seat stage.names.now n (vt_phase_of stage.phase.now).operators) old new h in
+      (let few = answers_few (opening_board b).consoles n
+      (calls_of_seat names n (vt_phase_of phase).operators) old new h in
       omega (arith, few));
 }
 
-began_first : (stage : Stage) (n : ℕ) (old new : BoardSeat)
-    → IsFresh stage.board.now n old
+began_first : (b : SharedBoard) (names : List (List ℕ)) (phase : VtPhase) (n : ℕ) (old new : BoardSeat)
+    → IsFresh b n old
     → number_of new ≡ n
-    → AnswersFirst (opening_board stage.board.now).consoles n
-    (calls_of_seat stage.names.now n (vt_phase_of stage.phase.now).operators) old new
-    → OperatorBegan stage.board.now stage.names.now (vt_phase_of stage.phase.now) new
-began_first stage n old new fresh is h = record {
+    → AnswersFirst (opening_board b).consoles n (calls_of_seat names n (vt_phase_of phase).operators) old new
+    → OperatorBegan b names (vt_phase_of phase) new
+began_first b names phase n old new fresh is h = record {
   events = h.1.answered.events;
-  made = made_since (history_of (opening_board stage.board.now)) n h.1.answered.events
+  made = made_since (history_of (opening_board b)) n h.1.answered.events
       old new fresh.here.number is fresh.seen h.1.answered.makes;
   few = subst (λ (k : ℕ).
       length h.1.answered.events
-      ≤ length (flat_map (accepted (opening_board stage.board.now).consoles)
-      (calls_at stage.names.now k (vt_phase_of stage.phase.now))))
+      ≤ length (flat_map (accepted (opening_board b).consoles) (calls_at names k (vt_phase_of phase))))
       (sym is)
-      (first_few (opening_board stage.board.now).consoles n
-      (calls_of_seat stage.names.now n (vt_phase_of stage.phase.now).operators) old new h);
+      (first_few (opening_board b).consoles n
+      (calls_of_seat names n (vt_phase_of phase).operators) old new h);
 }
 
-pub operator_comes : (stage : Stage) (n : ℕ) (operators : List OpScript) (old new : BoardSeat)
-    (r : Result (Unit {0}) Denied)
-    → operators ≡ stage.phase.now.operators.items
-    → IsFresh stage.board.now n old
-    → IsHere stage.board.now n new
-    → OnOk r (AnswersCalls (name_of_board stage.board.now).consoles n
-    (calls_of_seat stage.names.now n (operators_of operators)) old new)
-    → OnErr r (AnswersFirst (name_of_board stage.board.now).consoles n
-    (calls_of_seat stage.names.now n (operators_of operators)) old new)
-    → IfErr r (λ denied. IsDenied (board_with (name_of_board stage.board.now) (list_seen new)) denied)
-    → OperatorComes stage.board.now stage.names.now (vt_phase_of stage.phase.now) n (record { seat = new; result = r })
-operator_comes stage n operators old new (Ok v) are fresh here ok err denied =
+pub operator_comes : (b : SharedBoard) (names : List (List ℕ)) (phase : VtPhase) (n : ℕ) (operators : List OpScript)
+    (old new : BoardSeat) (r : Result (Unit {0}) Denied)
+    → operators ≡ phase.operators.items
+    → IsFresh b n old
+    → IsHere b n new
+    → OnOk r (AnswersCalls (name_of_board b).consoles n (calls_of_seat names n (operators_of operators)) old new)
+    → OnErr r (AnswersFirst (name_of_board b).consoles n (calls_of_seat names n (operators_of operators)) old new)
+    → IfErr r (λ denied. IsDenied (board_with (name_of_board b) (list_seen new)) denied)
+    → OperatorComes b names (vt_phase_of phase) n (record { seat = new; result = r })
+operator_comes b names phase n operators old new (Ok v) are fresh here ok err denied =
     let all = subst (λ (l : List OpScript).
-    AnswersCalls (opening_board stage.board.now).consoles n (calls_of_seat stage.names.now n (operators_of l)) old new)
+    AnswersCalls (opening_board b).consoles n (calls_of_seat names n (operators_of l)) old new)
     are ok in
     record {
       here = here;
-      began = began_all stage n old new fresh here.number all;
-      ok = operator_played stage.board.now stage.names.now (vt_phase_of stage.phase.now)
-          n old new fresh.here.number here.number fresh.seen all;
+      began = began_all b names phase n old new fresh here.number all;
+      ok = operator_played b names (vt_phase_of phase) n old new fresh.here.number here.number fresh.seen all;
       denied = tt;
     }
-operator_comes stage n operators old new (Err d) are fresh here ok err denied =
+operator_comes b names phase n operators old new (Err d) are fresh here ok err denied =
     let first = subst (λ (l : List OpScript).
-    AnswersFirst (opening_board stage.board.now).consoles n (calls_of_seat stage.names.now n (operators_of l)) old new)
+    AnswersFirst (opening_board b).consoles n (calls_of_seat names n (operators_of l)) old new)
     are err in
-    record { here = here; began = began_first stage n old new fresh here.number first; ok = tt; denied = denied }
+    record {
+      here = here;
+      began = began_first b names phase n old new fresh here.number first;
+      ok = tt;
+      denied = denied;
+    }
 
 -- ---- operators one after the other
 

@@ -6,11 +6,13 @@ ghost use Rattle.vt_play.specs.Stages.{CanKey, IsFresh, IsWithOperator, Keyboard
 
 use crate::stage::Stage;
 use crate::taking::both;
+use many_threads::Start;
 use std::sync::Wait;
 use tty_base::NoMemory;
-use tty_calls::Denied;
+use tty_calls::{Denied, Names};
 use tty_port::Gate;
-use vt_consoles::Seat;
+use vt_consoles::{Seat, SharedBoard};
+use vt_text::VtPhase;
 use vt_threads::{KeyWork, Keyboard, operate, play_keyboard};
 
 /// What an operator's thread brings back.
@@ -52,17 +54,19 @@ pub struct BoardBack {
 /// An operator's thread.
 pub fn operator_thread<R: Wait>(
     rt: &R,
-    stage: Stage<'_>,
+    start: &Start,
+    board: &SharedBoard,
+    names: &Names,
+    phase: &VtPhase,
     mut seat: Seat,
     number: u32,
 ) -> Result<OperatorBack, NoMemory>
-    requires { IsFresh stage.board.now number seat }
-    ensures { IfOk result
-        (OperatorComes stage.entry.board.now stage.entry.names.now (vt_phase_of stage.entry.phase.now) number) }
+    requires { IsFresh board.now number seat }
+    ensures { IfOk result (OperatorComes board.now names.now (vt_phase_of phase.now) number) }
 {
-    stage.start.wait(rt)?;
-    let operators = stage.phase.operators.as_slice();
-    let result = operate(rt, stage.board, stage.names, &mut seat, number, operators);
+    start.wait(rt)?;
+    let operators = phase.operators.as_slice();
+    let result = operate(rt, board, names, &mut seat, number, operators);
     Ok(OperatorBack { seat, result })
 }
 

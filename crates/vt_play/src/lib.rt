@@ -6,6 +6,7 @@
 mod board_threads;
 mod console_threads;
 mod consoles;
+mod operator_threads;
 mod parts;
 mod phases;
 mod playing;
