@@ -61,8 +61,8 @@ fn start_operator<'s, E, R: Wait + Sync>(
     }
 }
 
-/// Plays all that work at the board: the operators, each on a thread of its own, and then the keyboard on this one. Once
-/// the operators' threads are made, so are all threads of the phase.
+/// Plays all that work at the board: the operators, each on a thread of its own, and on this one the keyboard, which
+/// opens the start once their threads are made.
 pub(crate) fn play_board<'s, E, R: Threads + Wait + Sync, G: Gate + Sync>(
     scope: &Scope<'s, E>,
     rt: &'s R,
