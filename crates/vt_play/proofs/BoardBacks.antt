@@ -1,13 +1,12 @@
 -- The seats of a board after the threads of a phase.
-use Rattle.std.proofs.Common.{◌≡◌, ◌⊎◌, inl, inr, ℕ, zero, suc, ◌+◌, ◌<◌, ◌≤◌, ◌==◌, Bool, List, [], ◌∷◌}
-use Rattle.std.proofs.Common.{◌++◌, Option, None, Some, Result, Ok, Err, eq-eqb, if◌then◌else◌, flat_map}
-use Rattle.std.proofs.Common.{length, map, take, refl, sym, subst, ap, ◌∙◌, arith, length-append}
+use Rattle.std.proofs.Common.{◌≡◌, ◌⊎◌, inl, inr, ℕ, suc, ◌+◌, ◌<◌, ◌≤◌, ◌==◌, Bool, List, [], ◌∷◌}
+use Rattle.std.proofs.Common.{◌++◌, Some, Result, Ok, Err, eq-eqb, if◌then◌else◌}
+use Rattle.std.proofs.Common.{length, refl, sym, subst, ap, ◌∙◌, arith, length-append}
 use Rattle.std.specs.Prelude.{IfErr, OnErr, OnOk, slice_get}
 use Rattle.std.proofs.lemmas.Option.{slice_get_within}
 use Rattle.journal_check.proofs.NameLemmas.{get_append, get_past}
 use Rattle.tty_calls.specs.declared.answers.Denied.{Denied}
 use Rattle.one_thread.proofs.PortLemmas.{last_or}
-use Rattle.port_cell.specs.declared.kept.Stamped.{Stamped}
 use Rattle.port_cell.specs.Knowledge.{number_of}
 use Rattle.port_cell.specs.Seats.{EachSeat, HasAll}
 use Rattle.vt_consoles.specs.declared.entries.VtEvent.{VtEvent}
@@ -16,7 +15,6 @@ use Rattle.vt_consoles.specs.Histories.{history_of}
 use Rattle.vt_consoles.specs.Seats.{BoardSeat}
 use Rattle.vt_consoles.specs.Shared.{IsHere, opening_board, seats_of}
 use Rattle.vt_text.specs.Sessions.{PlainVtPhase, vt_phase_of}
-use Rattle.vt_account.specs.Account.{accepted, calls_at}
 use Rattle.vt_threads.specs.Closing.{MadeSince, OperatorPlayed, SeatsPlayed}
 use Rattle.vt_threads.specs.Operating.{MakesAll}
 use Rattle.vt_threads.specs.Phases.{key_events}
@@ -24,7 +22,7 @@ use Rattle.vt_threads.proofs.BoardEnds.{made_since}
 use Rattle.vt_play.specs.declared.board_threads.BoardBack.{BoardBack}
 use Rattle.vt_play.specs.declared.board_threads.BoardHand.{BoardHand}
 use Rattle.vt_play.specs.declared.stage.Stage.{Stage}
-use Rattle.vt_play.specs.Stages.{BoardComes, IsDeniedAt, IsFresh, IsOperatorBack}
+use Rattle.vt_play.specs.Stages.{BoardComes, IsDeniedAt, IsFresh}
 use Rattle.vt_play.specs.Stages.{PlaysFirstKeys, PlaysKeys, SomeDenied, first_denied}
 use Rattle.vt_play.specs.Phases.{HasBegun, asked_of}
 use Rattle.vt_play.proofs.Events.{key_count, some_keys}

@@ -1,6 +1,6 @@
 -- What the operators and the keyboard come to, one after the other.
-use Rattle.std.proofs.Common.{◌≡◌, ◌⊎◌, inl, inr, ℕ, ◌+◌, ◌<◌, ◌≤◌, List, [], ◌∷◌, ◌++◌, Some, Result}
-use Rattle.std.proofs.Common.{Ok, Err, flat_map, length, refl, sym, subst, ap, ◌∙◌, arith, length-append}
+use Rattle.std.proofs.Common.{◌≡◌, ℕ, ◌≤◌, List, [], ◌∷◌, ◌++◌, Some, Result}
+use Rattle.std.proofs.Common.{Ok, Err, flat_map, length, sym, subst, ap, ◌∙◌, arith, length-append}
 use Rattle.std.specs.Prelude.{IfErr, IfOk, OnErr, OnOk, slice_get}
 use Rattle.journal_check.proofs.NameLemmas.{get_append, get_past}
 use Rattle.tty_calls.specs.declared.answers.Denied.{Denied}
@@ -13,7 +13,7 @@ use Rattle.vt_consoles.specs.Shared.{IsHere, name_of_board, opening_board}
 use Rattle.vt_consoles.specs.declared.shared.SharedBoard.{SharedBoard}
 use Rattle.vt_text.specs.declared.sessions.OpScript.{OpScript}
 use Rattle.vt_text.specs.declared.sessions.VtPhase.{VtPhase}
-use Rattle.vt_text.specs.Sessions.{PlainVtPhase, operators_of, vt_phase_of}
+use Rattle.vt_text.specs.Sessions.{operators_of, vt_phase_of}
 use Rattle.vt_account.specs.Account.{accepted, calls_at}
 use Rattle.vt_threads.specs.Operating.{AnswersCalls, AnswersFirst, calls_of_seat}
 use Rattle.vt_threads.proofs.BoardEnds.{made_since, operator_played}
@@ -25,7 +25,7 @@ use Rattle.vt_play.specs.declared.board_threads.OperatorBack.{OperatorBack}
 use Rattle.vt_play.specs.declared.stage.Stage.{Stage}
 use Rattle.vt_play.specs.Stages.{BoardComes, CanKey, CanPlayBoard, HasOperated, IsDeniedAt}
 use Rattle.vt_play.specs.Stages.{IsFresh, IsOperatorBack, IsWithOperator, KeyboardComes}
-use Rattle.vt_play.specs.Stages.{OperatorBegan, OperatorComes, Places, SomeDenied, first_denied}
+use Rattle.vt_play.specs.Stages.{OperatorBegan, OperatorComes, Places, SomeDenied}
 use Rattle.vt_play.proofs.BoardBacks.{err_first, ok_both}
 use Rattle.vt_play.proofs.Events.{answers_few, first_few}
 

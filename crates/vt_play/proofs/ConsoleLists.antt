@@ -1,6 +1,6 @@
 -- Consoles opened and ended one after the other, and their keys.
 use Rattle.std.proofs.Common.{◌≡◌, ℕ, ◌+◌, ◌<◌, ◌≤◌, List, [], ◌∷◌, ◌++◌, Some, drop, length}
-use Rattle.std.proofs.Common.{map, refl, sym, subst, ap, ◌∙◌, arith, get_or, length-append}
+use Rattle.std.proofs.Common.{map, refl, sym, subst, ap, ◌∙◌, get_or, length-append}
 use Rattle.std.specs.Prelude.{slice_get}
 use Rattle.std.proofs.lemmas.List.{drop_all}
 use Rattle.tty_calls.specs.declared.answers.PortEnd.{PortEnd}

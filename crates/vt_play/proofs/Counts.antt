@@ -1,6 +1,6 @@
 -- How many entries a board has after phases, and how many an account has.
 use Rattle.std.proofs.Common.{◌≡◌, ◌≢◌, ◌⊎◌, inl, inr, cond, eq-eqb, ne_eqb, ℕ, zero, suc, ◌+◌, ◌<◌, ◌≤◌, ◌==◌}
-use Rattle.std.proofs.Common.{Bool, true, false, List, [], ◌∷◌, ◌++◌, Some, add-one, drop, flat_map}
+use Rattle.std.proofs.Common.{Bool, true, false, List, [], ◌∷◌, ◌++◌, Some, add-one, flat_map}
 use Rattle.std.proofs.Common.{if◌then◌else◌, length, map, take, refl, sym, subst, ap, ◌∙◌, arith, length-append}
 use Rattle.std.specs.Prelude.{slice_get}
 use Rattle.std.specs.List.{range_with_len}
@@ -9,8 +9,7 @@ use Rattle.std.proofs.lemmas.List.{length-map}
 use Rattle.std.proofs.lemmas.List.Elements.{filter-append}
 use Rattle.std.proofs.lemmas.List.FromFn.{length-range_with_len}
 use Rattle.port_cell.specs.declared.kept.Stamped.{Stamped}
-use Rattle.port_cell.specs.Entries.{Each, GoesOn, entries_by}
-use Rattle.port_cell.specs.Knowledge.{number_of}
+use Rattle.port_cell.specs.Entries.{GoesOn, entries_by}
 use Rattle.port_cell.specs.Seats.{EachSeat, HasAll}
 use Rattle.vt_consoles.specs.declared.entries.VtEntry.{VtEntry}
 use Rattle.vt_consoles.specs.declared.entries.VtEvent.{VtEvent}

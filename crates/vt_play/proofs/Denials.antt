@@ -1,6 +1,6 @@
 -- Why a session is not played: its board was full.
-use Rattle.std.proofs.Common.{◌≡◌, ℕ, ◌+◌, ◌<◌, ◌≤◌, List, ◌++◌, Some, length, map}
-use Rattle.std.proofs.Common.{take, refl, sym, subst, ap, ◌∙◌, arith, length-append}
+use Rattle.std.proofs.Common.{◌≡◌, ℕ, ◌+◌, ◌<◌, ◌≤◌, List, Some, length, map}
+use Rattle.std.proofs.Common.{ap, ◌∙◌, arith, length-append}
 use Rattle.std.specs.Prelude.{slice_get}
 use Rattle.std.proofs.lemmas.List.{length-map}
 use Rattle.port_cell.specs.declared.kept.Stamped.{Stamped}
@@ -21,7 +21,7 @@ use Rattle.vt_account.specs.InOrder.{entries_in_order}
 use Rattle.vt_account.specs.Seats.{operator_names}
 use Rattle.vt_account.proofs.Accounting.{in_order_is_account}
 use Rattle.vt_play.specs.declared.stage.PhaseOf.{PhaseOf}
-use Rattle.vt_play.specs.Phases.{HasBegun, IsBoardBefore, IsDeniedIn, IsPhaseOf, asked_below, asked_in}
+use Rattle.vt_play.specs.Phases.{HasBegun, IsBoardBefore, IsDeniedIn, IsPhaseOf, asked_below}
 use Rattle.vt_play.specs.Stages.{SomeDenied}
 use Rattle.vt_play.proofs.Counts.{account_asked, asked_front, asked_more, at_seat, begun_few, board_length}
 use Rattle.vt_play.proofs.Listing.{there}

@@ -1,25 +1,16 @@
 -- What the threads of a phase leave of the consoles.
-use Rattle.std.proofs.Common.{◌≡◌, ℕ, ◌+◌, ◌<◌, List, [], ◌∷◌, ◌++◌, Option, None, Some}
-use Rattle.std.proofs.Common.{Result, Ok, Err, length, map, refl, sym, subst, ap, ◌∙◌, arith}
+use Rattle.std.proofs.Common.{◌≡◌, ℕ, ◌+◌, List, [], ◌∷◌, ◌++◌, Some}
+use Rattle.std.proofs.Common.{Result, length, map, sym, subst, ap, ◌∙◌}
 use Rattle.std.specs.Prelude.{IfErr, OnOk, slice_get}
-use Rattle.std.proofs.lemmas.Option.{slice_get_within}
-use Rattle.tty_base.specs.declared.characters.Flagged.{Flagged}
-use Rattle.word_ring.specs.Ends.{PutterState}
-use Rattle.uart_line.specs.LineState.{LineState}
 use Rattle.tty_calls.specs.declared.answers.Denied.{Denied}
 use Rattle.tty_calls.specs.declared.sessions.Script.{Script}
-use Rattle.one_thread.specs.Casting.{scripts_at}
-use Rattle.tty_port.specs.declared.shared.SharedPort.{SharedPort}
 use Rattle.port_cell.specs.Knowledge.{number_of}
 use Rattle.port_cell.specs.Seats.{EachSeat, HasAll}
 use Rattle.many_threads.specs.Callers.{plain_cast}
 use Rattle.vt_consoles.specs.declared.shared.SharedBoard.{SharedBoard}
-use Rattle.vt_consoles.specs.Seats.{BoardSeat}
 use Rattle.vt_consoles.specs.Shared.{IsHere, seats_of}
-use Rattle.vt_text.specs.Sessions.{PlainVtPhase, PlainVtSession, vt_phase_of, vt_session_of}
-use Rattle.vt_account.specs.Keyed.{keys_to}
+use Rattle.vt_text.specs.Sessions.{PlainVtPhase, vt_phase_of, vt_session_of}
 use Rattle.vt_threads.specs.Closing.{SeatsPlayed}
-use Rattle.vt_threads.specs.Consoles.{ConsoleComesIf}
 use Rattle.vt_threads.specs.Parting.{OwnCame}
 use Rattle.vt_threads.specs.declared.keyboard_thread.Keyboard.{Keyboard}
 use Rattle.vt_threads.specs.declared.parting.Parted.{Parted}
@@ -33,11 +24,10 @@ use Rattle.vt_play.specs.declared.stage.PhaseOf.{PhaseOf}
 use Rattle.vt_play.specs.declared.stage.Stage.{Stage}
 use Rattle.vt_play.specs.Parts.{AreBackOf, ArePartsOf}
 use Rattle.vt_play.specs.Stages.{HasOperated, IsFresh, Places, PlaysKeys, SomeDenied, ThreadsCome, first_denied}
-use Rattle.vt_play.specs.Phases.{AllCame, CameBack, HasBegun, IsStageOf, IsStaged, PhaseLeaves, PhasePlayed}
+use Rattle.vt_play.specs.Phases.{AllCame, CameBack, HasBegun, IsStageOf, PhaseLeaves, PhasePlayed}
 use Rattle.vt_play.proofs.Back.{IsZipped, zipped}
 use Rattle.vt_play.proofs.BoardBacks.{all_begun, all_here, has_all, ok_both, seats_played, some_denied}
 use Rattle.vt_play.proofs.Listing.{column_length, column_there, mapped_there, same_there}
-use Rattle.vt_play.proofs.Staging.{can_board}
 
 module _ (of : PhaseOf) (board : SharedBoard) (parts : AllParts) (stage : Stage)
     (g : IsStageOf of board parts.ports.items parts.castings.items stage)

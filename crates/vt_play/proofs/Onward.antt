@@ -1,15 +1,13 @@
 -- A session of consoles from one phase to the next.
-use Rattle.std.proofs.Common.{◌≡◌, ◌⊎◌, inl, inr, ℕ, zero, suc, add-one, ◌+◌, ◌<◌, ◌≤◌, List, []}
-use Rattle.std.proofs.Common.{◌∷◌, ◌++◌, Option, None, Some, Result, Ok, Err, drop, flat_map, length}
-use Rattle.std.proofs.Common.{map, take, refl, sym, subst, ap, ◌∙◌, arith, length-append, append-nil}
-use Rattle.std.specs.Prelude.{IfOk, OnOk, slice_get}
+use Rattle.std.proofs.Common.{◌≡◌, ℕ, zero, suc, add-one, ◌+◌, ◌≤◌, List, []}
+use Rattle.std.proofs.Common.{◌∷◌, ◌++◌, Some, drop, length}
+use Rattle.std.proofs.Common.{take, refl, sym, subst, ap, ◌∙◌, arith, length-append, append-nil}
+use Rattle.std.specs.Prelude.{slice_get}
 use Rattle.std.proofs.lemmas.Grind.{flat_map-append}
-use Rattle.std.proofs.lemmas.List.{drop_all}
 use Rattle.std.proofs.lemmas.Option.{slice_get_within}
 use Rattle.tty_calls.specs.Sessions.{PlainSession}
-use Rattle.one_thread.specs.Roles.{Scene}
 use Rattle.one_thread.specs.declared.phases.Station.{Station}
-use Rattle.many_threads.specs.InPlay.{CanEnd, StandsBefore}
+use Rattle.many_threads.specs.InPlay.{StandsBefore}
 use Rattle.many_threads.specs.declared.shared_phase.PhaseEnd.{PhaseEnd}
 use Rattle.many_threads.specs.declared.shared_phase.PhaseEnd.TheVariants.{Over, Full}
 use Rattle.many_threads.proofs.Onward.{can_end}
@@ -20,26 +18,21 @@ use Rattle.vt_consoles.specs.Boards.{BoardState, IsBoard}
 use Rattle.vt_consoles.specs.Histories.{name_of}
 use Rattle.vt_consoles.specs.Seats.{BoardSeat}
 use Rattle.vt_consoles.specs.Shared.{name_of_board, opening_board}
-use Rattle.vt_text.specs.declared.sessions.VtSession.{VtSession}
-use Rattle.vt_text.specs.Sessions.{PlainVtPhase, PlainVtSession, vt_phase_of, vt_session_of}
-use Rattle.vt_account.specs.Account.{IsPartOf}
+use Rattle.vt_text.specs.Sessions.{PlainVtPhase, PlainVtSession, vt_session_of}
 use Rattle.vt_account.specs.Keyed.{IsWithinKeys, all_keys, console_in, consoles_in, keyed}
 use Rattle.vt_account.specs.Seats.{operator_names}
-use Rattle.vt_threads.specs.Between.{ConsoleStands, IsConsoleBefore}
-use Rattle.vt_threads.specs.Parting.{IsParted, IsPlayed, IsPlayedIn}
+use Rattle.vt_threads.specs.Between.{ConsoleStands}
+use Rattle.vt_threads.specs.Parting.{IsPlayedIn}
 use Rattle.vt_threads.specs.Phases.{AddsPart, HasPartsUpTo, PhaseMade}
 use Rattle.vt_threads.specs.declared.consoles.Console.{Console}
-use Rattle.vt_threads.specs.declared.parting.Parted.{Parted}
 use Rattle.vt_threads.specs.declared.parting.PartedBack.{PartedBack}
 use Rattle.vt_threads.proofs.FullConsoles.{full_at_end}
 use Rattle.vt_threads.proofs.PhaseParts.{adds_part, parts_more, parts_none}
 use Rattle.vt_threads.proofs.SameCallers.{keyed_differs, same_length}
-use Rattle.vt_play.specs.declared.parts.AllBack.{AllBack}
 use Rattle.vt_play.specs.declared.parts.AllParts.{AllParts}
 use Rattle.vt_play.specs.declared.phases.PhaseBack.{PhaseBack}
 use Rattle.vt_play.specs.declared.stage.PhaseOf.{PhaseOf}
 use Rattle.vt_play.specs.Parts.{AreConsolesBefore, ArePlayed, ArePlayedIn, CanEndAll, StandAtEnd, kept_in}
-use Rattle.vt_play.specs.Stages.{Places}
 use Rattle.vt_play.specs.Phases.{IsBoardBefore, IsStaged, PhasePlayed, asked_below, asked_in}
 use Rattle.vt_play.proofs.Counts.{asked_more, made_few}
 use Rattle.vt_play.proofs.Listing.{column_length, some_is, there}

@@ -1,5 +1,5 @@
 -- What a session of consoles comes to whose phases were all played.
-use Rattle.std.proofs.Common.{◌≡◌, ℕ, List, length, sym, subst, ap, arith, ◌≤◌}
+use Rattle.std.proofs.Common.{◌≡◌, ℕ, length, sym, subst, arith, ◌≤◌}
 use Rattle.std.proofs.lemmas.List.{drop_all}
 use Rattle.tty_calls.specs.Sessions.{PlainSession}
 use Rattle.one_thread.specs.Played.{ArePlayed}

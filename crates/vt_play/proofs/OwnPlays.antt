@@ -1,6 +1,6 @@
 -- What the consoles' own threads come to, one console after the other.
-use Rattle.std.proofs.Common.{◌≡◌, ℕ, ◌+◌, ◌<◌, List, [], ◌∷◌, ◌++◌, Option, None, Some, length}
-use Rattle.std.proofs.Common.{refl, sym, subst, ap, ◌∙◌, ◌⊎◌, inl, inr, arith, length-append}
+use Rattle.std.proofs.Common.{◌≡◌, ℕ, List, [], ◌∷◌, ◌++◌, Option, None, Some, length}
+use Rattle.std.proofs.Common.{sym, subst, ap, ◌∙◌, ◌⊎◌, inl, inr, arith, length-append}
 use Rattle.std.specs.Prelude.{IfOk, Result, Ok, Err, slice_get}
 use Rattle.std.proofs.lemmas.Option.{slice_get_within}
 use Rattle.one_thread.proofs.PortLemmas.{last_or}
@@ -8,7 +8,6 @@ use Rattle.tty_calls.specs.declared.sessions.Script.{Script}
 use Rattle.tty_port.specs.declared.shared.SharedPort.{SharedPort}
 use Rattle.many_threads.specs.Callers.{CallersCome, plain_cast}
 use Rattle.many_threads.specs.Comings.{FlusherComes}
-use Rattle.many_threads.specs.Crew.{CanPlayCallers}
 use Rattle.many_threads.specs.declared.caller_threads.CallersBack.{CallersBack}
 use Rattle.many_threads.specs.declared.thread_bodies.FlusherBack.{FlusherBack}
 use Rattle.many_threads.proofs.Onward.{each_front, each_last}
@@ -107,6 +106,28 @@ module _ (stage : Stage) (owns others : List (Option OwnSeats)) (own : Option Ow
     (split : owns ≡ others ++ own ∷ []) where
   pub can_last : CanPlayOwns stage owns → CanOwnAt stage (length others) own
   can_last can = each_last (CanOwnAt stage) owns others own split can
+
+  -- .. where its threads meet
+  module _ (n : ℕ) (number : n ≡ length others) (port : Option SharedPort) (casting : Casting) (scripts : List Script)
+      (at_port : slice_get stage.ports.now n ≡ Some port) (at_casting : slice_get stage.castings.now n ≡ Some casting)
+      (scripts_are : scripts ≡ stage.scripts.now) where
+    port_there : slice_get stage.ports.now (length others) ≡ Some port
+    port_there = subst (λ (m : ℕ). slice_get stage.ports.now m ≡ Some port) number at_port
+
+    casting_there : slice_get stage.castings.now (length others) ≡ Some casting
+    casting_there = subst (λ (m : ℕ). slice_get stage.castings.now m ≡ Some casting) number at_casting
+
+    pub can_meet : CanPlayOwns stage owns → CanOwn port own scripts casting.cast.items
+    can_meet can =
+        subst (λ (l : List Script). CanOwn port own l casting.cast.items) (sym scripts_are)
+        ((can_last can).can port casting port_there casting_there)
+
+    pub came_there : (back : Option (FlusherBack × CallersBack))
+        → OwnCame port own (plain_cast scripts casting.cast.items) back
+        → OwnCameAt stage (length others) own back
+    came_there back h =
+        own_at stage (length others) own back port casting port_there casting_there
+        (subst (λ (l : List Script). OwnCame port own (plain_cast l casting.cast.items) back) scripts_are h)
 
   pub can_others : CanPlayOwns stage owns → CanPlayOwns stage others
   can_others can = each_front (CanOwnAt stage) owns others own split can

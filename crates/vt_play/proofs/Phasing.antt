@@ -1,7 +1,7 @@
 -- A phase of all consoles and of their board, put together.
-use Rattle.std.proofs.Common.{◌≡◌, ℕ, ◌+◌, ◌<◌, ◌≤◌, List, [], ◌∷◌, ◌++◌, Some, Result, Ok, Err}
-use Rattle.std.proofs.Common.{length, map, take, refl, sym, subst, ap, ◌∙◌, arith, length-append}
-use Rattle.std.specs.Prelude.{IfErr, IfOk, OnOk, slice_get}
+use Rattle.std.proofs.Common.{◌≡◌, ℕ, ◌+◌, ◌<◌, ◌≤◌, List, ◌++◌, Some, Result}
+use Rattle.std.proofs.Common.{length, take, sym, subst, ap, ◌∙◌, arith}
+use Rattle.std.specs.Prelude.{OnOk, slice_get}
 use Rattle.std.proofs.lemmas.List.{length-map}
 use Rattle.tty_calls.specs.declared.answers.Denied.{Denied}
 use Rattle.vt_consoles.specs.declared.entries.VtEntry.{VtEntry}
@@ -10,11 +10,9 @@ use Rattle.vt_consoles.specs.Boards.{BoardState}
 use Rattle.vt_consoles.specs.Histories.{history_of}
 use Rattle.vt_consoles.specs.Seats.{BoardSeat}
 use Rattle.vt_consoles.specs.Shared.{AreHere, opening_board, seats_of}
-use Rattle.vt_text.specs.declared.sessions.VtPhase.{VtPhase}
 use Rattle.vt_text.specs.declared.sessions.VtSession.{VtSession}
-use Rattle.vt_text.specs.Sessions.{PlainVtPhase, PlainVtSession, vt_phase_of, vt_session_of}
+use Rattle.vt_text.specs.Sessions.{PlainVtSession, vt_phase_of, vt_session_of}
 use Rattle.vt_account.specs.Keyed.{IsWithinKeys, all_keys}
-use Rattle.vt_account.specs.Seats.{operator_names}
 use Rattle.vt_threads.specs.Phases.{PhaseMade}
 use Rattle.vt_threads.specs.Parting.{IsSomeConsoleBefore}
 use Rattle.vt_threads.specs.declared.consoles.Console.{Console}

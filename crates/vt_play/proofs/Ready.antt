@@ -1,11 +1,11 @@
 -- What the threads of a phase find of a console that was parted for it.
-use Rattle.std.proofs.Common.{◌≡◌, ℕ, ◌+◌, ◌<◌, ◌≤◌, List, [], ◌++◌, false, Option, None}
-use Rattle.std.proofs.Common.{Some, length, map, take, refl, sym, subst, ap, ◌∙◌, arith}
+use Rattle.std.proofs.Common.{◌≡◌, ℕ, ◌+◌, ◌<◌, ◌≤◌, List, [], ◌++◌, false, Option}
+use Rattle.std.proofs.Common.{Some, length, take, refl, sym, subst, ap, ◌∙◌, arith}
 use Rattle.std.specs.Prelude.{slice_get}
 use Rattle.tty_base.specs.declared.characters.Flagged.{Flagged}
 use Rattle.word_ring.specs.Ends.{PutterState}
 use Rattle.uart_line.specs.LineState.{LineState}
-use Rattle.tty_calls.specs.Sessions.{session_of, ticks_on}
+use Rattle.tty_calls.specs.Sessions.{ticks_on}
 use Rattle.journal_check.specs.Legal.{phase_at}
 use Rattle.one_thread.specs.Roles.{Scene}
 use Rattle.one_thread.specs.Casting.{scripts_at}
@@ -16,7 +16,7 @@ use Rattle.tty_port.specs.Shared.{IsHere, name_of_port}
 use Rattle.port_cell.specs.Knowledge.{list_seen}
 use Rattle.tty_port.specs.declared.shared.SharedPort.{SharedPort}
 use Rattle.many_threads.specs.Crew.{CanRun, crew_in}
-use Rattle.many_threads.specs.Needs.{CanPlayClock, CanPlayLine}
+use Rattle.many_threads.specs.Needs.{CanPlayClock}
 use Rattle.many_threads.specs.InPlay.{IsBeforePhase}
 use Rattle.many_threads.specs.PhaseStarts.{CanPlayPhase}
 use Rattle.many_threads.specs.PhaseEnds.{IsShared}

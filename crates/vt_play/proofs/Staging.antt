@@ -1,5 +1,5 @@
 -- The threads of a phase can play, once the board is shared and all consoles are parted.
-use Rattle.std.proofs.Common.{◌≡◌, ◌⊎◌, inl, inr, ℕ, zero, suc, ◌+◌, ◌<◌, ◌≤◌, List, [], ◌∷◌, ◌++◌, Option, None}
+use Rattle.std.proofs.Common.{◌≡◌, ℕ, zero, suc, ◌+◌, ◌<◌, ◌≤◌, List, [], ◌∷◌, ◌++◌, Option}
 use Rattle.std.proofs.Common.{Some, length, map, take, refl, sym, subst, ap, ◌∙◌, arith, length-append, add-one}
 use Rattle.std.specs.Prelude.{slice_get}
 use Rattle.std.proofs.lemmas.Option.{slice_get_within}
@@ -8,15 +8,11 @@ use Rattle.tty_base.specs.declared.characters.Flagged.{Flagged}
 use Rattle.word_ring.specs.Ends.{PutterState}
 use Rattle.uart_line.specs.LineState.{LineState}
 use Rattle.tty_calls.specs.declared.sessions.Script.{Script}
-use Rattle.one_thread.specs.Casting.{scripts_at}
 use Rattle.tty_port.specs.declared.shared.SharedPort.{SharedPort}
-use Rattle.port_cell.specs.declared.kept.Stamped.{Stamped}
-use Rattle.port_cell.specs.Knowledge.{list_seen}
-use Rattle.vt_consoles.specs.declared.entries.VtEvent.{VtEvent}
 use Rattle.vt_consoles.specs.declared.shared.SharedBoard.{SharedBoard}
 use Rattle.vt_consoles.specs.Histories.{history_of}
 use Rattle.vt_consoles.specs.Seats.{BoardSeat}
-use Rattle.vt_consoles.specs.Shared.{AreHere, IsHere, opening_board}
+use Rattle.vt_consoles.specs.Shared.{AreHere, opening_board}
 use Rattle.vt_text.specs.Sessions.{PlainVtPhase, PlainVtSession, vt_phase_of, vt_session_of}
 use Rattle.vt_account.specs.Keyed.{all_keys}
 use Rattle.vt_threads.specs.Consoles.{CanEndIf, CanKeyAll}
@@ -27,13 +23,12 @@ use Rattle.vt_threads.specs.declared.parting.OwnSeats.{OwnSeats}
 use Rattle.vt_threads.specs.declared.parting.Parted.{Parted}
 use Rattle.vt_threads.specs.declared.parting.Casting.{Casting}
 use Rattle.vt_play.specs.declared.board_threads.BoardHand.{BoardHand}
-use Rattle.vt_play.specs.declared.board_threads.KeyHand.{KeyHand}
 use Rattle.vt_play.specs.declared.parts.AllParts.{AllParts}
 use Rattle.vt_play.specs.declared.stage.PhaseOf.{PhaseOf}
 use Rattle.vt_play.specs.declared.stage.Stage.{Stage}
-use Rattle.vt_play.specs.Stages.{CanKey, CanOwn, CanOwnAt, CanPlayBoard, CanPlayOwns, IsFresh}
+use Rattle.vt_play.specs.Stages.{CanKey, CanOwn, CanPlayBoard, CanPlayOwns, IsFresh}
 use Rattle.vt_play.specs.Phases.{IsStageOf, IsStaged}
-use Rattle.vt_play.proofs.Listing.{column_is, column_length, column_there, some_is, there}
+use Rattle.vt_play.proofs.Listing.{column_is, column_length, some_is, there}
 use Rattle.vt_play.proofs.Ready.{IsReadyPart, is_ready}
 
 -- ---- the seats of a board that was just shared

@@ -1,6 +1,6 @@
 -- What the functions of a phase hand on to one another.
 use Rattle.std.proofs.Common.{◌≡◌, ℕ, ◌+◌, ◌<◌, List, [], ◌∷◌, ◌++◌, Some, Result, Ok, Err}
-use Rattle.std.proofs.Common.{length, map, refl, sym, subst, ap, ◌∙◌, arith, length-append, take}
+use Rattle.std.proofs.Common.{length, sym, subst, ap, ◌∙◌, arith, length-append, take}
 use Rattle.std.specs.Prelude.{IfOk, slice_get}
 use Rattle.tty_calls.specs.declared.answers.Denied.{Denied}
 use Rattle.tty_port.specs.declared.shared.SharedPort.{SharedPort}

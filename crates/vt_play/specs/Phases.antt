@@ -8,7 +8,6 @@ use Rattle.tty_port.specs.declared.shared.SharedPort.{SharedPort}
 use Rattle.many_threads.specs.Callers.{plain_cast}
 use Rattle.port_cell.specs.Knowledge.{number_of}
 use Rattle.port_cell.specs.Seats.{EachSeat, HasAll}
-use Rattle.vt_consoles.specs.declared.entries.VtEntry.{VtEntry}
 use Rattle.vt_consoles.specs.declared.entries.VtEvent.{VtEvent}
 use Rattle.vt_consoles.specs.declared.shared.SharedBoard.{SharedBoard}
 use Rattle.vt_consoles.specs.Boards.{BoardState, IsBoard}

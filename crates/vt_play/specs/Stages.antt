@@ -10,7 +10,6 @@ use Rattle.many_threads.specs.declared.caller_threads.CallersBack.{CallersBack}
 use Rattle.many_threads.specs.declared.thread_bodies.FlusherBack.{FlusherBack}
 use Rattle.many_threads.specs.Callers.{CanPlayAll, plain_cast}
 use Rattle.many_threads.specs.Needs.{CanPlayFlusher}
-use Rattle.port_cell.specs.declared.kept.Stamped.{Stamped}
 use Rattle.port_cell.specs.Knowledge.{list_seen, number_of}
 use Rattle.vt_consoles.specs.declared.entries.VtEvent.{VtEvent}
 use Rattle.vt_consoles.specs.declared.shared.SharedBoard.{SharedBoard}
@@ -23,7 +22,6 @@ use Rattle.vt_account.specs.Account.{accepted, calls_at}
 use Rattle.vt_threads.specs.Closing.{MadeSince, OperatorPlayed}
 use Rattle.vt_threads.specs.Consoles.{CanKeyAll, PlaysFirst, PlaysKeyboard}
 use Rattle.vt_threads.specs.Parting.{OwnCame}
-use Rattle.vt_threads.specs.declared.keyboard_thread.Keyboard.{Keyboard}
 use Rattle.vt_threads.specs.declared.parting.OwnSeats.{OwnSeats}
 use Rattle.vt_threads.specs.declared.parting.Casting.{Casting}
 use Rattle.vt_play.specs.declared.stage.Stage.{Stage}

@@ -1,6 +1,6 @@
 //! Small steps over what may be owned, for every type.
 
-ghost use Rattle.std.specs.Prelude.{◌≡◌, ◌<◌, ◌∷◌, ◌++◌, [], IfOk, OnOk, Some, length, slice_get};
+ghost use Rattle.std.specs.Prelude.{◌≡◌, ◌<◌, ◌∷◌, ◌++◌, [], IfErr, IfOk, Ok, OnOk, Some, length, slice_get};
 ghost use Rattle.vt_play.specs.Stages.{first_denied};
 
 use tty_base::NoMemory;
@@ -25,6 +25,28 @@ pub(crate) fn push_beside<T: Drop, U: Drop>(
 {
     items.push(item)?;
     Ok(kept)
+}
+
+/// Takes the last of a list.
+pub(crate) fn take_last<T: Drop>(items: &mut Vec<T>) -> T
+    requires { 0 < length items.old.items }
+    ensures { items.old.items ≡ items.new.items ++ result ∷ [] }
+{
+    let Some(last) = items.pop() else {
+        unreachable!()
+    };
+    last
+}
+
+/// What was made; want of memory is a denial.
+pub(crate) fn or_denied<T>(made: Result<T, NoMemory>) -> Result<T, Denied>
+    ensures made { IfOk result (λ it. made ≡ Ok it) }
+    ensures short { IfErr result (λ denied. denied ≡ Denied.NoMemory) }
+{
+    match made {
+        Ok(it) => Ok(it),
+        Err(NoMemory) => Err(Denied::NoMemory),
+    }
 }
 
 /// Whether two things were both done, or which was denied first.

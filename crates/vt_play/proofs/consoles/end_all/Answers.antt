@@ -1,5 +1,5 @@
-use Rattle.std.proofs.Common.{rules, ◌≡◌, ◌+◌, ◌++◌, ◌∷◌, [], ℕ, List, Some, None, length}
-use Rattle.std.proofs.Common.{map, sym, ap, subst, refl, ◌∙◌, arith, length-append}
+use Rattle.std.proofs.Common.{rules, ◌≡◌, ◌+◌, ◌++◌, ◌∷◌, [], List, Some, None, length}
+use Rattle.std.proofs.Common.{sym, ap, subst, refl, arith, length-append}
 use Rattle.std.specs.Prelude.{slice_get}
 use Rattle.std.specs.Vec.Iter.{into_iter_len}
 use Rattle.std.proofs.lemmas.Option.{slice_get_read}
@@ -8,8 +8,6 @@ use Rattle.std.proofs.lemmas.Iterator.Consumers.{YieldsList-turn, YieldsList-end
 use Rattle.tty_calls.specs.declared.answers.PortEnd.{PortEnd}
 use Rattle.tty_calls.specs.declared.journals.PortRun.{PortRun}
 use Rattle.one_thread.specs.Phases.{AreFirstPlayed}
-use Rattle.vt_threads.specs.declared.consoles.Console.{Console}
-use Rattle.vt_play.specs.Parts.{StandAtEnd}
 use Rattle.vt_play.proofs.ConsoleLists.{all_ended, none_ended, one_more_ended}
 use Rattle.vt_play.proofs.consoles.end_all.Goals as goal
 

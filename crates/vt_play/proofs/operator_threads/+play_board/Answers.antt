@@ -1,4 +1,4 @@
-use Rattle.std.proofs.Common.{rules, ◌≡◌, ◌++◌, ◌∷◌, [], refl, sym, subst, length, ℕ}
+use Rattle.std.proofs.Common.{rules, ◌≡◌, refl, sym, subst, length, ℕ}
 use Rattle.vt_text.specs.Sessions.{vt_phase_of}
 use Rattle.vt_play.specs.declared.board_threads.BoardHand.{BoardHand}
 use Rattle.vt_play.specs.Stages.{BoardComes, IsFresh, OperatorComes}

@@ -1,5 +1,5 @@
-use Rattle.std.proofs.Common.{rules, ◌≡◌, ◌<◌, ◌≤◌, ◌++◌, ◌∷◌, [], Some, None}
-use Rattle.std.proofs.Common.{length, refl, sym, subst, ap, ◌∙◌, arith, ℕ, List}
+use Rattle.std.proofs.Common.{rules, ◌≡◌, Some, None}
+use Rattle.std.proofs.Common.{length, refl, sym, subst, ◌∙◌, arith, ℕ, List}
 use Rattle.std.specs.Prelude.{slice_get}
 use Rattle.std.specs.Vec.Iter.{into_iter_len}
 use Rattle.std.proofs.lemmas.Option.{slice_get_read}

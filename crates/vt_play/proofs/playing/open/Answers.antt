@@ -3,7 +3,6 @@ use Rattle.many_threads.proofs.Onward.{at_ok}
 use Rattle.vt_text.specs.Sessions.{vt_session_of}
 use Rattle.vt_threads.specs.declared.consoles.Console.{Console}
 use Rattle.vt_play.specs.Parts.{AreConsolesBefore}
-use Rattle.vt_play.specs.Phases.{IsVtBefore}
 use Rattle.vt_play.proofs.Onward.{board_first}
 use Rattle.vt_play.proofs.playing.open.Goals as goal
 
