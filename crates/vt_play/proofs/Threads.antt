@@ -1,5 +1,5 @@
 -- What the functions of a phase hand on to one another.
-use Rattle.std.proofs.Common.{◌≡◌, ℕ, ◌+◌, ◌<◌, List, [], ◌∷◌, ◌++◌, Some, Result, Ok, Err}
+use Rattle.std.proofs.Common.{◌≡◌, ℕ, ◌+◌, ◌<◌, List, [], ◌∷◌, ◌++◌, Some, Result, Ok, Err, Vec, Global}
 use Rattle.std.proofs.Common.{length, sym, subst, ap, ◌∙◌, arith, length-append, take}
 use Rattle.std.specs.Prelude.{IfOk, slice_get}
 use Rattle.tty_calls.specs.declared.answers.Denied.{Denied}
@@ -18,7 +18,7 @@ use Rattle.vt_play.specs.declared.parts.AllParts.{AllParts}
 use Rattle.vt_play.specs.declared.phases.PhaseBack.{PhaseBack}
 use Rattle.vt_play.specs.declared.stage.PhaseOf.{PhaseOf}
 use Rattle.vt_play.specs.declared.stage.Stage.{Stage}
-use Rattle.vt_play.specs.Phases.{IsPhaseOf, IsStageOf, IsStaged}
+use Rattle.vt_play.specs.Phases.{IsPhaseOf, IsStageOf, IsStaged, PhaseLeaves}
 use Rattle.vt_play.proofs.Listing.{mapped_there}
 use Rattle.vt_play.proofs.Staging.{keys_front, keys_more}
 
@@ -88,3 +88,24 @@ next_first_is of phases x n h first are at count =
     let few = keys_front vt.phases (of.k + 1) in
     let most = h.within.few_keys in
     (omega (arith, more, first, count), omega (arith, more, first, count, few, most))
+
+-- what the threads of a phase left, where the board was kept beside it
+pub phase_left : {E F : Type 0} (of : PhaseOf) (consoles : List Console)
+    (staged : Result (SharedBoard × Vec BoardSeat Global × AllParts) E) (now : SharedBoard) (seats : Vec BoardSeat Global)
+    (parts : AllParts) (played : Result PhaseBack F) (both : Result (SharedBoard × PhaseBack) F) (shared : SharedBoard)
+    (back : PhaseBack)
+    → staged ≡ Ok (now, seats, parts)
+    → IfOk staged (λ r. IsStaged of r.0 r.1.items consoles r.2)
+    → both ≡ Ok (shared, back)
+    → IfOk both (λ r. r.0 ≡ now)
+    → IfOk both (λ r. played ≡ Ok r.1)
+    → IfOk played (PhaseLeaves of now parts)
+    → IsStaged of shared seats.items consoles parts × PhaseLeaves of shared parts back
+phase_left of consoles staged now seats parts played both shared back is h both_is kept made leaves =
+    let same = at_ok both (shared, back) (λ r. r.0 ≡ now) both_is kept in
+    let was = at_ok both (shared, back) (λ r. played ≡ Ok r.1) both_is made in (
+      subst (λ (b : SharedBoard). IsStaged of b seats.items consoles parts) (sym same)
+          (at_ok staged (now, seats, parts) (λ r. IsStaged of r.0 r.1.items consoles r.2) is h),
+      subst (λ (b : SharedBoard). PhaseLeaves of b parts back) (sym same)
+          (at_ok played back (PhaseLeaves of now parts) was leaves),
+    )

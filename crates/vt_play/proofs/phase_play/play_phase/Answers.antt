@@ -1,12 +1,10 @@
-use Rattle.std.proofs.Common.{◌≡◌, ◌+◌, ◌++◌, length, subst, sym}
+use Rattle.std.proofs.Common.{◌≡◌, ◌+◌, ◌++◌, length}
 use Rattle.many_threads.proofs.Onward.{at_ok}
-use Rattle.vt_consoles.specs.declared.shared.SharedBoard.{SharedBoard}
 use Rattle.vt_text.specs.Sessions.{vt_session_of}
 use Rattle.vt_play.specs.declared.stage.PhaseOf.{PhaseOf}
 use Rattle.vt_play.specs.Parts.{AreConsolesBefore}
-use Rattle.vt_play.specs.Phases.{IsStaged, PhaseLeaves}
 use Rattle.vt_play.proofs.Phasing.{next_so, whole_known, whole_so}
-use Rattle.vt_play.proofs.Threads.{kept_of}
+use Rattle.vt_play.proofs.Threads.{kept_of, phase_left}
 use Rattle.vt_play.proofs.phase_play.play_phase.Goals as goal
 
 pub close_all-requires : goal.close_all-requires
@@ -17,15 +15,15 @@ close_all-requires g c =
       k = c.args.k;
       first = c.args.in_play.first;
     } in
+    let consoles = c.args.in_play.consoles.items in
+    let seats = c.in_ok-shared.seats in
     let parts = c.in_ok-shared.parts in
+    let shared = c.in_ok-shared-2.shared in
     let back = c.in_ok-shared-2.back in
-    let kept = kept_of c.beside.result c.in_ok-shared.shared c.play_shared-back.result c.in_ok-shared-2.shared back
-    c.in_ok-shared-2.ensures.made c.beside.ensures.kept c.beside.ensures.made in (
-      parts,
-      subst (λ (b : SharedBoard). PhaseLeaves of b parts back) (sym kept.0)
-          (at_ok c.play_shared-back.result back (PhaseLeaves of c.in_ok-shared.shared parts) kept.1
-          c.play_shared-back.ensures),
-    )
+    let left = phase_left of consoles c.share_all.result c.in_ok-shared.shared seats parts c.play_shared-back.result
+    c.beside.result shared back c.in_ok-shared.ensures.made c.share_all.ensures.staged
+    c.in_ok-shared-2.ensures.made c.beside.ensures.kept c.beside.ensures.made c.play_shared-back.ensures in
+    (parts, left.1)
 
 pub whole_all-consoles-requires-clause-known : goal.whole_all-consoles-requires-clause-known
 whole_all-consoles-requires-clause-known g c =
@@ -40,17 +38,10 @@ whole_all-consoles-requires-clause-known g c =
     let parts = c.in_ok-shared.parts in
     let shared = c.in_ok-shared-2.shared in
     let back = c.in_ok-shared-2.back in
-    let kept = kept_of c.beside.result c.in_ok-shared.shared c.play_shared-back.result shared back
-    c.in_ok-shared-2.ensures.made c.beside.ensures.kept c.beside.ensures.made in
-    let staged : IsStaged of shared seats.items consoles parts =
-    subst (λ (b : SharedBoard). IsStaged of b seats.items consoles parts) (sym kept.0)
-    (at_ok c.share_all.result (c.in_ok-shared.shared, seats, parts)
-    (λ r. IsStaged of r.0 r.1.items consoles r.2) c.in_ok-shared.ensures.made c.share_all.ensures.staged) in
-    let leaves : PhaseLeaves of shared parts back =
-    subst (λ (b : SharedBoard). PhaseLeaves of b parts back) (sym kept.0)
-    (at_ok c.play_shared-back.result back (PhaseLeaves of c.in_ok-shared.shared parts) kept.1
-    c.play_shared-back.ensures) in
-    whole_known of shared seats.items consoles parts staged back leaves c.in_ok-board.board c.in_ok-board.all
+    let left = phase_left of consoles c.share_all.result c.in_ok-shared.shared seats parts c.play_shared-back.result
+    c.beside.result shared back c.in_ok-shared.ensures.made c.share_all.ensures.staged
+    c.in_ok-shared-2.ensures.made c.beside.ensures.kept c.beside.ensures.made c.play_shared-back.ensures in
+    whole_known of shared seats.items consoles parts left.0 back left.1 c.in_ok-board.board c.in_ok-board.all
     c.in_ok-board.ensures.closed
 
 pub whole_all-consoles-requires-clause-played : goal.whole_all-consoles-requires-clause-played
@@ -66,17 +57,10 @@ whole_all-consoles-requires-clause-played g c =
     let parts = c.in_ok-shared.parts in
     let shared = c.in_ok-shared-2.shared in
     let back = c.in_ok-shared-2.back in
-    let kept = kept_of c.beside.result c.in_ok-shared.shared c.play_shared-back.result shared back
-    c.in_ok-shared-2.ensures.made c.beside.ensures.kept c.beside.ensures.made in
-    let staged : IsStaged of shared seats.items consoles parts =
-    subst (λ (b : SharedBoard). IsStaged of b seats.items consoles parts) (sym kept.0)
-    (at_ok c.share_all.result (c.in_ok-shared.shared, seats, parts)
-    (λ r. IsStaged of r.0 r.1.items consoles r.2) c.in_ok-shared.ensures.made c.share_all.ensures.staged) in
-    let leaves : PhaseLeaves of shared parts back =
-    subst (λ (b : SharedBoard). PhaseLeaves of b parts back) (sym kept.0)
-    (at_ok c.play_shared-back.result back (PhaseLeaves of c.in_ok-shared.shared parts) kept.1
-    c.play_shared-back.ensures) in
-    whole_so of shared seats.items consoles parts staged back leaves c.in_ok-board.board c.in_ok-board.all
+    let left = phase_left of consoles c.share_all.result c.in_ok-shared.shared seats parts c.play_shared-back.result
+    c.beside.result shared back c.in_ok-shared.ensures.made c.share_all.ensures.staged
+    c.in_ok-shared-2.ensures.made c.beside.ensures.kept c.beside.ensures.made c.play_shared-back.ensures in
+    whole_so of shared seats.items consoles parts left.0 back left.1 c.in_ok-board.board c.in_ok-board.all
     c.in_ok-board.ensures.closed
 
 pub returns-clause-played : goal.returns-clause-played
@@ -87,31 +71,24 @@ returns-clause-played g c =
       k = c.args.k;
       first = c.args.in_play.first;
     } in
-    let vt = vt_session_of c.args.session.now in
     let consoles = c.args.in_play.consoles.items in
     let seats = c.in_ok-shared.seats in
     let parts = c.in_ok-shared.parts in
     let shared = c.in_ok-shared-2.shared in
     let back = c.in_ok-shared-2.back in
-    let kept = kept_of c.beside.result c.in_ok-shared.shared c.play_shared-back.result shared back
-    c.in_ok-shared-2.ensures.made c.beside.ensures.kept c.beside.ensures.made in
-    let staged : IsStaged of shared seats.items consoles parts =
-    subst (λ (b : SharedBoard). IsStaged of b seats.items consoles parts) (sym kept.0)
-    (at_ok c.share_all.result (c.in_ok-shared.shared, seats, parts)
-    (λ r. IsStaged of r.0 r.1.items consoles r.2) c.in_ok-shared.ensures.made c.share_all.ensures.staged) in
-    let leaves : PhaseLeaves of shared parts back =
-    subst (λ (b : SharedBoard). PhaseLeaves of b parts back) (sym kept.0)
-    (at_ok c.play_shared-back.result back (PhaseLeaves of c.in_ok-shared.shared parts) kept.1
-    c.play_shared-back.ensures) in
+    let left = phase_left of consoles c.share_all.result c.in_ok-shared.shared seats parts c.play_shared-back.result
+    c.beside.result shared back c.in_ok-shared.ensures.made c.share_all.ensures.staged
+    c.in_ok-shared-2.ensures.made c.beside.ensures.kept c.beside.ensures.made c.play_shared-back.ensures in
+    let vt = vt_session_of c.args.session.now in
     let all = c.in_ok-board.all in
     let whole = c.in_ok-board-2.consoles in
-    let kept_board = kept_of c.beside-2.result c.in_ok-board.board c.whole_all-consoles.result c.in_ok-board-2.board
-    whole c.in_ok-board-2.ensures.made c.beside-2.ensures.kept c.beside-2.ensures.made in
-    next_so of shared seats.items consoles parts staged back leaves c.in_ok-board.board all
-    c.in_ok-board.ensures.closed _ kept_board.0 c.next_first.ensures
-    (at_ok c.whole_all-consoles.result whole (λ v. length v.items ≡ length all.kept.items) kept_board.1
+    let kept = kept_of c.beside-2.result c.in_ok-board.board c.whole_all-consoles.result c.in_ok-board-2.board whole
+    c.in_ok-board-2.ensures.made c.beside-2.ensures.kept c.beside-2.ensures.made in
+    next_so of shared seats.items consoles parts left.0 back left.1 c.in_ok-board.board all
+    c.in_ok-board.ensures.closed _ kept.0 c.next_first.ensures
+    (at_ok c.whole_all-consoles.result whole (λ v. length v.items ≡ length all.kept.items) kept.1
     c.whole_all-consoles.ensures.count)
     (λ entries part played.
     at_ok c.whole_all-consoles.result whole
-    (λ v. AreConsolesBefore vt (c.args.k + 1) (entries ++ part) v.items) kept_board.1
+    (λ v. AreConsolesBefore vt (c.args.k + 1) (entries ++ part) v.items) kept.1
     (c.whole_all-consoles.ensures.before entries part played))
