@@ -1,6 +1,6 @@
 -- Two reports of a session of consoles on one thread are the same.
 use Rattle.std.proofs.Common.{◌≡◌, ℕ, ◌+◌, List, [], ◌∷◌, ◌++◌, Option, Some}
-use Rattle.std.proofs.Common.{Result, Ok, codes, length, refl, sym, ◌∙◌, subst}
+use Rattle.std.proofs.Common.{inr, Result, Ok, codes, length, refl, sym, ◌∙◌, subst}
 use Rattle.tty_calls.specs.declared.journals.PortRun.{PortRun}
 use Rattle.session_text.specs.declared.faults.BadLine.{BadLine}
 use Rattle.session_print.specs.Ends.{PlainEnd}
@@ -12,12 +12,13 @@ use Rattle.vt_text.specs.Sessions.{PlainVtSession}
 use Rattle.vt_account.specs.Keyed.{keyed}
 use Rattle.vt_report.specs.Report.{tally_of, consoles_from, operators_text, report_text}
 use Rattle.tty_one.specs.declared.words.Command.{Command}
-use Rattle.tty_one.specs.declared.words.Command.TheVariants.{Run, RunOne, Jobs, Gen, Check, VtOne}
+use Rattle.tty_one.specs.declared.words.Command.TheVariants.{Run, RunOne, Jobs, Gen, Check, Vt, VtOne}
 use Rattle.tty_one.specs.Endings.{Ask, AskVtOne}
 use Rattle.tty_one.specs.Reported.{Returned, IsOrdered, IsToldAs}
-use Rattle.tty_one.specs.Consoles.{SpellsConsoles, AreConsolesPlayed, IsToldOfConsoles}
+use Rattle.tty_one.specs.Consoles.{SpellsConsoles, AreConsolesInOrder, IsToldOfConsoles}
 use Rattle.tty_one.specs.Outcome.{IsToldBy, IsDone, GaveTheSame}
-use Rattle.tty_one.proofs.Outcomes.{not_jobs_and_vt, not_vt_and_run, not_vt_and_one, not_vt_and_gen, not_vt_and_check}
+use Rattle.tty_one.proofs.Outcomes.{not_jobs_and_vt, not_vt_and_run, not_vt_and_one, not_vt_and_gen}
+use Rattle.tty_one.proofs.Outcomes.{not_vt_and_check, not_vt_and_vt_one}
 use Rattle.tty_one.proofs.OneReport.{AreSame, all_calls, one_told, both_gave}
 
 -- ---- of runs that are the same
@@ -54,16 +55,16 @@ same_text session entries runs others ends h =
 -- ---- of one session
 
 pub one_consoles_report : (session : PlainVtSession) (back other : Returned) (text told : List ℕ)
-    → AreConsolesPlayed session back text
-    → AreConsolesPlayed session other told
+    → AreConsolesInOrder session back text
+    → AreConsolesInOrder session other told
     → text ≡ told
 one_consoles_report session back other text told h k =
     let entries : other.entries ≡ back.entries = k.in_order ∙ sym h.in_order in
     let second = subst
     (λ (es : List VtEntry). IsToldAs IsOrdered (report_text session es) (keyed session es) other.runs told)
-    entries k.told in
+    entries k.played.told in
     one_told (report_text session back.entries) (same_text session back.entries) (keyed session back.entries)
-    back.runs other.runs text told h.told second
+    back.runs other.runs text told h.played.told second
 
 -- ---- two calls
 
@@ -71,15 +72,17 @@ consoles_told : (words : List (List ℕ)) (bytes : List ℕ) (command : Command)
     → AskVtOne words
     → Ask command words
     → IsToldBy command (Some bytes) back text
-    → IsToldOfConsoles (Some bytes) back text
-consoles_told words bytes (Run journals) back text vt asked told = absurd (not_vt_and_run words journals vt asked)
-consoles_told words bytes (RunOne journals) back text vt asked told = absurd (not_vt_and_one words journals vt asked)
-consoles_told words bytes Jobs back text vt asked told = absurd (not_jobs_and_vt words asked vt)
-consoles_told words bytes (Gen number) back text vt asked told = absurd (not_vt_and_gen words vt (number, asked))
-consoles_told words bytes Check back text vt asked told = absurd (not_vt_and_check words vt asked)
+    → IsToldOfConsoles AreConsolesInOrder (Some bytes) back text
+consoles_told words bytes (Run journals) back text vt asked told = absurd (not_vt_and_run words journals (inr vt) asked)
+consoles_told words bytes (RunOne journals) back text vt asked told =
+    absurd (not_vt_and_one words journals (inr vt) asked)
+consoles_told words bytes Jobs back text vt asked told = absurd (not_jobs_and_vt words asked (inr vt))
+consoles_told words bytes (Gen number) back text vt asked told = absurd (not_vt_and_gen words (inr vt) (number, asked))
+consoles_told words bytes Check back text vt asked told = absurd (not_vt_and_check words (inr vt) asked)
+consoles_told words bytes Vt back text vt asked told = absurd (not_vt_and_vt_one words asked vt)
 consoles_told words bytes VtOne back text vt asked told = told
 
-spelled_in : (bytes text : List ℕ) (back : Returned) (h : IsToldOfConsoles (Some bytes) back text)
+spelled_in : (bytes text : List ℕ) (back : Returned) (h : IsToldOfConsoles AreConsolesInOrder (Some bytes) back text)
     → SpellsConsoles bytes h.session
 spelled_in bytes text back h = subst (λ (read : List ℕ). SpellsConsoles read h.session) h.whole h.spelled
 
@@ -103,6 +106,6 @@ consoles_tell_the_same words bytes before before' now now' back other vt h k =
     let second = consoles_told words bytes k.command other k.text vt k.asked k.done in
     let same = spelled_once bytes second.session first.session (spelled_in bytes k.text other second)
     (spelled_in bytes h.text back first) in
-    let alike = subst (λ (s : PlainVtSession). AreConsolesPlayed s other k.text) same second.played in
+    let alike = subst (λ (s : PlainVtSession). AreConsolesInOrder s other k.text) same second.played in
     both_gave before before' h.text k.text now now'
     (one_consoles_report first.session back other h.text k.text first.played alike) h.given k.given

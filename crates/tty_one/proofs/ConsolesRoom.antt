@@ -11,7 +11,6 @@ use Rattle.journal_bound.proofs.Bound.{bounded, few_calls}
 use Rattle.vt_consoles.specs.declared.entries.VtEntry.{VtEntry}
 use Rattle.vt_text.specs.Sessions.{PlainVtSession}
 use Rattle.vt_text.proofs.Limits.{read_within, read_asks}
-use Rattle.vt_account.specs.InOrder.{entries_in_order}
 use Rattle.vt_account.specs.Keyed.{consoles_in, keyed}
 use Rattle.vt_account.proofs.Limits.{few_characters, keyed_within}
 use Rattle.vt_account.proofs.ReadSessions.{all_counted, within_keys, few_entries}
@@ -67,5 +66,5 @@ can_be_played text session spells few =
     record {
       within = within_keys session within;
       room = omega (arith, few_entries session within);
-      never_full = λ p run t short. console_never_full text session (entries_in_order session) p run t spells few short;
+      never_full = λ entries p run t short. console_never_full text session entries p run t spells few short;
     }

@@ -1,6 +1,7 @@
 mod Answered
 mod Bared
-mod ConsolesPlayed
+mod ConsolesKeys
+pub mod ConsolesPlayed
 mod ConsolesReport
 mod ConsolesRoom
 mod Judged

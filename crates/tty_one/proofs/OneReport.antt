@@ -22,7 +22,7 @@ use Rattle.order_laws.proofs.OneRun.{one_run}
 use Rattle.tty_one.specs.declared.playing.Telling.{Telling}
 use Rattle.tty_one.specs.declared.playing.Telling.TheVariants.{Report, Summary}
 use Rattle.tty_one.specs.declared.words.Command.{Command}
-use Rattle.tty_one.specs.declared.words.Command.TheVariants.{Run, RunOne, Jobs, Gen, Check, VtOne}
+use Rattle.tty_one.specs.declared.words.Command.TheVariants.{Run, RunOne, Jobs, Gen, Check, Vt, VtOne}
 use Rattle.tty_one.specs.Endings.{Ask, AskRunOne, AreRunOne, AreGen, AskGen}
 use Rattle.tty_one.specs.Reported.{Returned, end_at, IsOrdered, IsWhole, text_by, IsToldAs, IsReported}
 use Rattle.tty_one.specs.Outcome.{IsPlayedText, WasGiven, IsToldBy, IsDone, GaveTheSame}
@@ -261,7 +261,8 @@ run_told words bytes journals Jobs back text one asked told = absurd (not_jobs_a
 run_told words bytes journals (Gen number) back text one asked told =
     absurd (not_gen_and_one words journals (number, asked) one)
 run_told words bytes journals Check back text one asked told = absurd (not_check_and_one words journals asked one)
-run_told words bytes journals VtOne back text one asked told = absurd (not_vt_and_one words journals asked one)
+run_told words bytes journals Vt back text one asked told = absurd (not_vt_and_one words journals (inl asked) one)
+run_told words bytes journals VtOne back text one asked told = absurd (not_vt_and_one words journals (inr asked) one)
 
 pub runs_tell_the_same : (words : List (List ℕ)) (bytes before before' : List ℕ) (now now' : Option (List ℕ))
     (back other : Returned)
@@ -290,7 +291,8 @@ gen_told words left number (Gen other) back text gen asked told =
     subst (λ (n : ℕ). IsReported IsOrdered (Summary n) (generated_session n) back.runs text)
     (same_number words other number asked gen) told
 gen_told words left number Check back text gen asked told = absurd (not_check_and_gen words (number, gen) asked)
-gen_told words left number VtOne back text gen asked told = absurd (not_vt_and_gen words asked (number, gen))
+gen_told words left number Vt back text gen asked told = absurd (not_vt_and_gen words (inl asked) (number, gen))
+gen_told words left number VtOne back text gen asked told = absurd (not_vt_and_gen words (inr asked) (number, gen))
 
 pub numbers_tell_the_same : (words : List (List ℕ)) (left left' : Option (List ℕ)) (before before' : List ℕ)
     (now now' : Option (List ℕ)) (back other : Returned)

@@ -11,26 +11,28 @@ use Rattle.session_text.specs.Grammar.{Spells}
 use Rattle.session_text.proofs.Spelled.{spelled_fault}
 use Rattle.vt_text.specs.Sessions.{PlainVtSession}
 use Rattle.tty_one.specs.declared.words.Command.{Command}
-use Rattle.tty_one.specs.declared.words.Command.TheVariants.{Run, RunOne, Jobs, Gen, Check, VtOne}
+use Rattle.tty_one.specs.declared.words.Command.TheVariants.{Run, RunOne, Jobs, Gen, Check, Vt, VtOne}
 use Rattle.tty_one.specs.declared.playing.Telling.{Telling}
 use Rattle.tty_one.specs.declared.playing.Telling.TheVariants.{Report}
 use Rattle.tty_one.specs.declared.works.Ran.{Ran}
 use Rattle.tty_one.specs.declared.works.Work.{Work}
 use Rattle.tty_one.specs.declared.works.Ending.{Ending}
 use Rattle.tty_one.specs.declared.works.Ending.TheVariants.{Done, BadSession, BadWords, ReadFault, TooLong, NotLegal}
-use Rattle.tty_one.specs.Endings.{Ask, AskRun, AskRunOne, AskCheck, AskJobs, AskVtOne, AskOneToRead}
-use Rattle.tty_one.specs.Endings.{IsStatusOr, IsOfOne, AreKnown, AreOfOne, AreRun, AreRunOne, AreGen}
+use Rattle.tty_one.specs.Endings.{Ask, AskRun, AskRunOne, AskCheck, AskJobs, AskVt, AskVtOne, AskOneToRead}
+use Rattle.tty_one.specs.Endings.{AskConsoles, AskToPlay, IsStatusOr, IsOfOne}
+use Rattle.tty_one.specs.Endings.{AreKnown, AreOfOne, AreOnThreads, IsOnThreads, AreRun, AreRunOne, AreGen}
 use Rattle.tty_one.specs.Endings.{line_of, status_of, text_of, bad_session_line, IsOfSource, IsTold}
 use Rattle.tty_one.specs.Reported.{Returned, returned, nothing, IsOrdered, IsInAnyOrder, IsReported}
-use Rattle.tty_one.specs.Consoles.{SpellsConsoles, fault_in, consoles_refusal, IsToldOfConsoles, CompletesConsoles}
+use Rattle.tty_one.specs.Consoles.{AreConsolesInOrder, AreConsolesOnThreads, SpellsConsoles}
+use Rattle.tty_one.specs.Consoles.{fault_in, consoles_refusal, IsToldOfConsoles, CompletesConsoles}
 use Rattle.job_text.specs.Reading.{jobs_in}
 use Rattle.job_text.specs.Sessions.{JobsSession}
 use Rattle.tty_one.specs.Processes.{bare_of, fault_in as fault_of_processes}
 use Rattle.tty_one.specs.Processes.{processes_refusal, IsToldOfProcesses, CompletesProcesses}
-use Rattle.tty_one.specs.Outcome.{IsPlayedText, IsRefused, Completes, CompletesCheck, WasGiven}
+use Rattle.tty_one.specs.Outcome.{IsPlayedText, IsRefused, IsToldBy, refusal_by, Completes, CompletesCheck, WasGiven}
 use Rattle.tty_one.specs.Outcome.{WasGivenFront, IsDone, IsToldRefused, IsToldIllegal, IsBroken}
 use Rattle.tty_one.specs.Outcome.{breaks_fault, breaks_long, breaks_refusal, breaks_text, breaks_verdict}
-use Rattle.tty_one.specs.Works.{brought, IsWork, HasEntries, HasLog, CanEnd, ReadsNothing}
+use Rattle.tty_one.specs.Works.{brought, IsIllegalBy, IsWork, HasEntries, HasLog, CanEnd, ReadsNothing}
 use Rattle.tty_one.proofs.Judged.{completes_check}
 
 -- what the work brought is what is returned
@@ -140,8 +142,9 @@ not_jobs_and_gen words jobs gen = jobs_differ words _ (codes "gen") jobs gen.1.1
 pub not_jobs_and_check : (words : List (List ℕ)) → AskJobs words → AskCheck words → ⊥
 not_jobs_and_check words jobs check = jobs_differ words _ (codes "check") jobs check (λ e. omega (arith, e))
 
-pub not_jobs_and_vt : (words : List (List ℕ)) → AskJobs words → AskVtOne words → ⊥
-not_jobs_and_vt words jobs vt = jobs_differ words _ (codes "vt") jobs vt (λ e. omega (arith, e))
+pub not_jobs_and_vt : (words : List (List ℕ)) → AskJobs words → AskConsoles words → ⊥
+not_jobs_and_vt words jobs (inl vt) = jobs_differ words _ (codes "vt") jobs vt (λ e. omega (arith, e))
+not_jobs_and_vt words jobs (inr vt) = jobs_differ words _ (codes "vt") jobs vt (λ e. omega (arith, e))
 
 -- the words of consoles begin with another
 vt_differs : (words rest others : List (List ℕ)) (w : List ℕ)
@@ -153,20 +156,31 @@ vt_differs words rest others w vt run differs =
     let first : codes "vt" ≡ w = same_heads (codes "vt") w rest others (sym vt ∙ run) in
     differs (ap (λ word. get_or word 0 0) (sym first))
 
-pub not_vt_and_one : (words : List (List ℕ)) (journals : Bool) → AskVtOne words → AskRunOne journals words → ⊥
-not_vt_and_one words false vt run = vt_differs words _ _ (codes "run") vt run (λ e. omega (arith, e))
-not_vt_and_one words true vt (inl run) = vt_differs words _ _ (codes "run") vt run (λ e. omega (arith, e))
-not_vt_and_one words true vt (inr run) = vt_differs words _ _ (codes "run") vt run (λ e. omega (arith, e))
+consoles_differ : (words others : List (List ℕ)) (w : List ℕ)
+    → AskConsoles words
+    → words ≡ w ∷ others
+    → (get_or w 0 0 ≡ 118 → ⊥)
+    → ⊥
+consoles_differ words others w (inl vt) run differs = vt_differs words _ others w vt run differs
+consoles_differ words others w (inr vt) run differs = vt_differs words _ others w vt run differs
 
-pub not_vt_and_run : (words : List (List ℕ)) (journals : Bool) → AskVtOne words → AskRun journals words → ⊥
-not_vt_and_run words false vt run = vt_differs words _ _ (codes "run") vt run (λ e. omega (arith, e))
-not_vt_and_run words true vt run = vt_differs words _ _ (codes "run") vt run (λ e. omega (arith, e))
+pub not_vt_and_one : (words : List (List ℕ)) (journals : Bool) → AskConsoles words → AskRunOne journals words → ⊥
+not_vt_and_one words false vt run = consoles_differ words _ (codes "run") vt run (λ e. omega (arith, e))
+not_vt_and_one words true vt (inl run) = consoles_differ words _ (codes "run") vt run (λ e. omega (arith, e))
+not_vt_and_one words true vt (inr run) = consoles_differ words _ (codes "run") vt run (λ e. omega (arith, e))
 
-pub not_vt_and_gen : (words : List (List ℕ)) → AskVtOne words → AreGen words → ⊥
-not_vt_and_gen words vt gen = vt_differs words _ _ (codes "gen") vt gen.1.1 (λ e. omega (arith, e))
+pub not_vt_and_run : (words : List (List ℕ)) (journals : Bool) → AskConsoles words → AskRun journals words → ⊥
+not_vt_and_run words false vt run = consoles_differ words _ (codes "run") vt run (λ e. omega (arith, e))
+not_vt_and_run words true vt run = consoles_differ words _ (codes "run") vt run (λ e. omega (arith, e))
 
-pub not_vt_and_check : (words : List (List ℕ)) → AskVtOne words → AskCheck words → ⊥
-not_vt_and_check words vt check = vt_differs words _ _ (codes "check") vt check (λ e. omega (arith, e))
+pub not_vt_and_gen : (words : List (List ℕ)) → AskConsoles words → AreGen words → ⊥
+not_vt_and_gen words vt gen = consoles_differ words _ (codes "gen") vt gen.1.1 (λ e. omega (arith, e))
+
+pub not_vt_and_check : (words : List (List ℕ)) → AskConsoles words → AskCheck words → ⊥
+not_vt_and_check words vt check = consoles_differ words _ (codes "check") vt check (λ e. omega (arith, e))
+
+pub not_vt_and_vt_one : (words : List (List ℕ)) → AskVt words → AskVtOne words → ⊥
+not_vt_and_vt_one words vt one = let same : 1 ≡ 2 = ap length (sym vt ∙ one) in omega (arith, same)
 
 pub not_run_and_one : (words : List (List ℕ)) (journals others : Bool)
     → AskRun journals words
@@ -180,6 +194,23 @@ not_run_and_one words true false run one = option_differs (same_heads (codes "--
 not_run_and_one words true true run (inl one) = let same : 2 ≡ 3 = ap length (sym run ∙ one) in omega (arith, same)
 not_run_and_one words true true run (inr one) = let same : 2 ≡ 3 = ap length (sym run ∙ one) in omega (arith, same)
 
+-- words that ask for a session to be played ask for nothing else
+not_gen_and_play : (words : List (List ℕ)) → AreGen words → AskToPlay words → ⊥
+not_gen_and_play words gen (inl run) = not_gen_and_run words run.0 gen run.1
+not_gen_and_play words gen (inr run) = not_gen_and_one words run.0 gen run.1
+
+not_check_and_play : (words : List (List ℕ)) → AskCheck words → AskToPlay words → ⊥
+not_check_and_play words check (inl run) = not_check_and_run words run.0 check run.1
+not_check_and_play words check (inr run) = not_check_and_one words run.0 check run.1
+
+not_jobs_and_play : (words : List (List ℕ)) → AskJobs words → AskToPlay words → ⊥
+not_jobs_and_play words jobs (inl run) = not_jobs_and_run words run.0 jobs run.1
+not_jobs_and_play words jobs (inr run) = not_jobs_and_one words run.0 jobs run.1
+
+not_vt_and_play : (words : List (List ℕ)) → AskConsoles words → AskToPlay words → ⊥
+not_vt_and_play words vt (inl run) = not_vt_and_run words run.0 vt run.1
+not_vt_and_play words vt (inr run) = not_vt_and_one words run.0 vt run.1
+
 -- words that ask for threads are none that need no thread, and other known words are
 pub run_is_not_one : (words : List (List ℕ)) → AreRun words → AreOfOne words → ⊥
 run_is_not_one words run (Run journals, of_one, asked) = of_one
@@ -187,15 +218,31 @@ run_is_not_one words run (RunOne journals, of_one, asked) = not_run_and_one word
 run_is_not_one words run (Jobs, of_one, asked) = not_jobs_and_run words run.0 asked run.1
 run_is_not_one words run (Gen number, of_one, asked) = not_gen_and_run words run.0 (number, asked) run.1
 run_is_not_one words run (Check, of_one, asked) = not_check_and_run words run.0 asked run.1
-run_is_not_one words run (VtOne, of_one, asked) = not_vt_and_run words run.0 asked run.1
+run_is_not_one words run (Vt, of_one, asked) = of_one
+run_is_not_one words run (VtOne, of_one, asked) = not_vt_and_run words run.0 (inr asked) run.1
 
-pub one_if_not_run : (words : List (List ℕ)) → (AreRun words → ⊥) → AreKnown words → AreOfOne words
-one_if_not_run words no_run (Run journals, asked) = absurd (no_run (journals, asked))
-one_if_not_run words no_run (RunOne journals, asked) = (RunOne journals, tt, asked)
-one_if_not_run words no_run (Jobs, asked) = (Jobs, tt, asked)
-one_if_not_run words no_run (Gen number, asked) = (Gen number, tt, asked)
-one_if_not_run words no_run (Check, asked) = (Check, tt, asked)
-one_if_not_run words no_run (VtOne, asked) = (VtOne, tt, asked)
+pub vt_is_not_one : (words : List (List ℕ)) → AskVt words → AreOfOne words → ⊥
+vt_is_not_one words vt (Run journals, of_one, asked) = of_one
+vt_is_not_one words vt (RunOne journals, of_one, asked) = not_vt_and_one words journals (inl vt) asked
+vt_is_not_one words vt (Jobs, of_one, asked) = not_jobs_and_vt words asked (inl vt)
+vt_is_not_one words vt (Gen number, of_one, asked) = not_vt_and_gen words (inl vt) (number, asked)
+vt_is_not_one words vt (Check, of_one, asked) = not_vt_and_check words (inl vt) asked
+vt_is_not_one words vt (Vt, of_one, asked) = of_one
+vt_is_not_one words vt (VtOne, of_one, asked) = not_vt_and_vt_one words vt asked
+
+pub one_if_not_on_threads : (words : List (List ℕ)) → (AreOnThreads words → ⊥) → AreKnown words → AreOfOne words
+one_if_not_on_threads words other (Run journals, asked) = absurd (other (Run journals, (λ of_one. of_one), asked))
+one_if_not_on_threads words other (RunOne journals, asked) = (RunOne journals, tt, asked)
+one_if_not_on_threads words other (Jobs, asked) = (Jobs, tt, asked)
+one_if_not_on_threads words other (Gen number, asked) = (Gen number, tt, asked)
+one_if_not_on_threads words other (Check, asked) = (Check, tt, asked)
+one_if_not_on_threads words other (Vt, asked) = absurd (other (Vt, (λ of_one. of_one), asked))
+one_if_not_on_threads words other (VtOne, asked) = (VtOne, tt, asked)
+
+-- words of consoles that need no thread
+pub one_of_consoles : (words : List (List ℕ)) → AreOfOne words → AskConsoles words → AskVtOne words
+one_of_consoles words of_one (inl vt) = absurd (vt_is_not_one words vt of_one)
+one_of_consoles words of_one (inr vt) = vt
 
 pub reads_nothing : (command : Command) (words : List (List ℕ))
     → Ask command words
@@ -206,7 +253,8 @@ reads_nothing (RunOne journals) words asked gen = absurd (not_gen_and_one words 
 reads_nothing Jobs words asked gen = absurd (not_jobs_and_gen words asked gen)
 reads_nothing (Gen number) words asked gen = tt
 reads_nothing Check words asked gen = absurd (not_check_and_gen words gen asked)
-reads_nothing VtOne words asked gen = absurd (not_vt_and_gen words asked gen)
+reads_nothing Vt words asked gen = absurd (not_vt_and_gen words (inl asked) gen)
+reads_nothing VtOne words asked gen = absurd (not_vt_and_gen words (inr asked) gen)
 
 -- a command that ends for want of what it reads does read
 read_fault_reads : (command : Command) → CanEnd command ReadFault → ReadsNothing command → ⊥
@@ -215,6 +263,7 @@ read_fault_reads (RunOne journals) can none = none
 read_fault_reads Jobs can none = none
 read_fault_reads (Gen number) can none = can
 read_fault_reads Check can none = none
+read_fault_reads Vt can none = none
 read_fault_reads VtOne can none = none
 
 long_reads : (command : Command) → CanEnd command TooLong → ReadsNothing command → ⊥
@@ -223,6 +272,7 @@ long_reads (RunOne journals) can none = none
 long_reads Jobs can none = none
 long_reads (Gen number) can none = can
 long_reads Check can none = none
+long_reads Vt can none = none
 long_reads VtOne can none = none
 
 -- the words of a command that reads ask for a text to be read
@@ -236,7 +286,21 @@ one_reads (RunOne journals) words of_one asked some = inl (inl (journals, asked)
 one_reads Jobs words of_one asked some = inl (inr asked)
 one_reads (Gen number) words of_one asked some = absurd (some tt)
 one_reads Check words of_one asked some = inr (inl asked)
+one_reads Vt words of_one asked some = absurd of_one
 one_reads VtOne words of_one asked some = inr (inr asked)
+
+-- .. and so do those of threads
+pub threads_read : (command : Command) (words : List (List ℕ))
+    → IsOnThreads command
+    → Ask command words
+    → AreRun words ⊎ AskVt words
+threads_read (Run journals) words on asked = inl (journals, asked)
+threads_read (RunOne journals) words on asked = absurd (on tt)
+threads_read Jobs words on asked = absurd (on tt)
+threads_read (Gen number) words on asked = absurd (on tt)
+threads_read Check words on asked = absurd (on tt)
+threads_read Vt words on asked = inr asked
+threads_read VtOne words on asked = absurd (on tt)
 
 -- ---- what was told
 
@@ -263,6 +327,7 @@ broken_verdict Known Reading words (Gen number) faults faults' left rest before 
     absurd work.1
 broken_verdict Known Reading words Check faults faults' left rest before now back line asked work front =
     breaks_verdict work.1.verdict line.items asked work.1.told work.1.illegal front
+broken_verdict Known Reading words Vt faults faults' left rest before now back line asked work front = absurd work.1
 broken_verdict Known Reading words VtOne faults faults' left rest before now back line asked work front = absurd work.1
 
 -- a text that was not given whole
@@ -378,6 +443,7 @@ illegal_line words Check left before now back line asked work given =
       illegal = work.1.illegal;
       given = subst (λ (t : List ℕ). WasGiven before now t) work.1.told.told given;
     }
+illegal_line words Vt left before now back line asked work given = absurd work.1
 illegal_line words VtOne left before now back line asked work given = absurd work.1
 
 illegal_at : (words : List (List ℕ)) (command : Command) (left before now : Option (List ℕ)) (back : Returned)
@@ -534,85 +600,66 @@ refuses_so bytes bad status is h =
       refused = λ other wrong. inl is;
     }
 
-completes_one : (journals : Bool) (bytes : List ℕ) (faults faults' : ℕ) (rest : Option (List ℕ)) (back : Returned)
-    (e : Ending) (status : ℕ)
+-- what a text comes to by how the work on it ends
+by_ending : (Comes : Type 0) (command : Command) (bytes : List ℕ) (faults faults' : ℕ) (rest : Option (List ℕ))
+    (back : Returned) (e : Ending) (status : ℕ)
+    → (status ≡ 0 → (text : List ℕ) → IsToldBy command (Some bytes) back text → Comes)
+    → (status ≡ 1 → (bad : BadLine) → IsRefused (refusal_by command) (Some bytes) bad → Comes)
+    → ((line : List ℕ) → IsIllegalBy command (Some bytes) back.runs line → ⊥)
     → status ≡ status_of e
     → IsOfSource e faults faults' (Some bytes) rest
-    → IsWork (RunOne journals) (Some bytes) e back
+    → IsWork command (Some bytes) e back
     → LeavesRest bytes rest
     → length bytes ≤ 4194304
     → (Rose faults faults' → ⊥)
-    → Completes bytes status
-completes_one journals bytes faults faults' rest back (Done report) status is of work left short sound =
-    plays_so IsOrdered (Report journals) bytes back report.items status is work
-completes_one journals bytes faults faults' rest back (BadSession line) status is of work left short sound =
-    refuses_so bytes work.1.bad status is work.1.refused
-completes_one journals bytes faults faults' rest back BadWords status is of work left short sound = absurd of
-completes_one journals bytes faults faults' rest back ReadFault status is of work left short sound = absurd (sound of.0)
-completes_one journals bytes faults faults' rest back TooLong status is of work left short sound =
+    → Comes
+by_ending Comes command bytes faults faults' rest back (Done report) status plays refuses legal is of work left short
+    sound = plays is report.items work
+by_ending Comes command bytes faults faults' rest back (BadSession line) status plays refuses legal is of work left
+    short sound = refuses is work.1.bad work.1.refused
+by_ending Comes command bytes faults faults' rest back BadWords status plays refuses legal is of work left short sound =
+    absurd of
+by_ending Comes command bytes faults faults' rest back ReadFault status plays refuses legal is of work left short
+    sound = absurd (sound of.0)
+by_ending Comes command bytes faults faults' rest back TooLong status plays refuses legal is of work left short sound =
     absurd (too_short bytes rest left of short)
-completes_one journals bytes faults faults' rest back (NotLegal line) status is of work left short sound = absurd work.1
-
-completes_run : (journals : Bool) (bytes : List ℕ) (faults faults' : ℕ) (rest : Option (List ℕ)) (back : Returned)
-    (e : Ending) (status : ℕ)
-    → status ≡ status_of e
-    → IsOfSource e faults faults' (Some bytes) rest
-    → IsWork (Run journals) (Some bytes) e back
-    → LeavesRest bytes rest
-    → length bytes ≤ 4194304
-    → (Rose faults faults' → ⊥)
-    → Completes bytes status
-completes_run journals bytes faults faults' rest back (Done report) status is of work left short sound =
-    plays_so IsInAnyOrder (Report journals) bytes back report.items status is work
-completes_run journals bytes faults faults' rest back (BadSession line) status is of work left short sound =
-    refuses_so bytes work.1.bad status is work.1.refused
-completes_run journals bytes faults faults' rest back BadWords status is of work left short sound = absurd of
-completes_run journals bytes faults faults' rest back ReadFault status is of work left short sound = absurd (sound of.0)
-completes_run journals bytes faults faults' rest back TooLong status is of work left short sound =
-    absurd (too_short bytes rest left of short)
-completes_run journals bytes faults faults' rest back (NotLegal line) status is of work left short sound = absurd work.1
+by_ending Comes command bytes faults faults' rest back (NotLegal line) status plays refuses legal is of work left short
+    sound = absurd (legal line.items work.1)
 
 -- a text could not be given
 not_told : (bytes : List ℕ) (status : ℕ) → status ≡ 4 → Completes bytes status
 not_told bytes status four = record { played = λ session spells. inr (inl four); refused = λ bad wrong. inr (inl four) }
 
-pub completes : (words : List (List ℕ)) (command : Command) (left rest : Option (List ℕ)) (faults faults' : ℕ)
-    (back : Returned) (e : Ending) (status : ℕ)
+pub completes : (Asked : Type 0) (words : List (List ℕ)) (command : Command) (left rest : Option (List ℕ))
+    (faults faults' : ℕ) (back : Returned) (e : Ending) (status : ℕ)
+    → (Asked → AskToPlay words)
     → Ask command words
     → (status ≡ status_of e) ⊎ (status ≡ 4)
     → IsOfSource e faults faults' left rest
     → IsWork command left e back
     → IfSome left (λ bytes. LeavesRest bytes rest)
-    → IfSome left
-    (λ bytes. AreRunOne words → length bytes ≤ 4194304 → (Rose faults faults' → ⊥) → Completes bytes status)
-completes words command None rest faults faults' back e status asked is of done left = left
-completes words command (Some bytes) rest faults faults' back e status asked (inr four) of done left =
-    λ known short sound. not_told bytes status four
-completes words (Run journals) (Some bytes) rest faults faults' back e status asked (inl is) of done left = λ run.
-    absurd (not_run_and_one words journals run.0 asked run.1)
-completes words (RunOne journals) (Some bytes) rest faults faults' back e status asked (inl is) of done left =
-    λ known short sound. completes_one journals bytes faults faults' rest back e status is of done left short sound
-completes words Jobs (Some bytes) rest faults faults' back e status asked (inl is) of done left = λ run.
-    absurd (not_jobs_and_one words run.0 asked run.1)
-completes words (Gen number) (Some bytes) rest faults faults' back e status asked (inl is) of done left = λ run.
-    absurd (not_gen_and_one words run.0 (number, asked) run.1)
-completes words Check (Some bytes) rest faults faults' back e status asked (inl is) of done left = λ run.
-    absurd (not_check_and_one words run.0 asked run.1)
-completes words VtOne (Some bytes) rest faults faults' back e status asked (inl is) of done left = λ run.
-    absurd (not_vt_and_one words run.0 asked run.1)
-
-pub completes_on_threads : (journals : Bool) (left rest : Option (List ℕ)) (faults faults' : ℕ) (back : Returned)
-    (e : Ending) (status : ℕ)
-    → (status ≡ status_of e) ⊎ (status ≡ 4)
-    → IsOfSource e faults faults' left rest
-    → IsWork (Run journals) left e back
-    → IfSome left (λ bytes. LeavesRest bytes rest)
-    → IfSome left (λ bytes. length bytes ≤ 4194304 → (Rose faults faults' → ⊥) → Completes bytes status)
-completes_on_threads journals None rest faults faults' back e status is of done left = left
-completes_on_threads journals (Some bytes) rest faults faults' back e status (inr four) of done left = λ short sound.
-    not_told bytes status four
-completes_on_threads journals (Some bytes) rest faults faults' back e status (inl is) of done left = λ short sound.
-    completes_run journals bytes faults faults' rest back e status is of done left short sound
+    → IfSome left (λ bytes. Asked → length bytes ≤ 4194304 → (Rose faults faults' → ⊥) → Completes bytes status)
+completes Asked words command None rest faults faults' back e status plays asked is of done left = left
+completes Asked words command (Some bytes) rest faults faults' back e status plays asked (inr four) of done left =
+    λ asks short sound. not_told bytes status four
+completes Asked words (Run journals) (Some bytes) rest faults faults' back e status plays asked (inl is) of done left =
+    λ asks. by_ending (Completes bytes status) (Run journals) bytes faults faults' rest back e status
+    (λ zero_is text told. plays_so IsInAnyOrder (Report journals) bytes back text status zero_is told)
+    (λ one_is bad refused. refuses_so bytes bad status one_is refused) (λ line none. none) is of done left
+completes Asked words (RunOne journals) (Some bytes) rest faults faults' back e status plays asked (inl is) of done left
+    = λ asks. by_ending (Completes bytes status) (RunOne journals) bytes faults faults' rest back e status
+    (λ zero_is text told. plays_so IsOrdered (Report journals) bytes back text status zero_is told)
+    (λ one_is bad refused. refuses_so bytes bad status one_is refused) (λ line none. none) is of done left
+completes Asked words Jobs (Some bytes) rest faults faults' back e status plays asked (inl is) of done left = λ asks.
+    absurd (not_jobs_and_play words asked (plays asks))
+completes Asked words (Gen number) (Some bytes) rest faults faults' back e status plays asked (inl is) of done left =
+    λ asks. absurd (not_gen_and_play words (number, asked) (plays asks))
+completes Asked words Check (Some bytes) rest faults faults' back e status plays asked (inl is) of done left = λ asks.
+    absurd (not_check_and_play words asked (plays asks))
+completes Asked words Vt (Some bytes) rest faults faults' back e status plays asked (inl is) of done left = λ asks.
+    absurd (not_vt_and_play words (inl asked) (plays asks))
+completes Asked words VtOne (Some bytes) rest faults faults' back e status plays asked (inl is) of done left = λ asks.
+    absurd (not_vt_and_play words (inr asked) (plays asks))
 
 pub judged : (words : List (List ℕ)) (command : Command) (left rest : Option (List ℕ)) (faults faults' : ℕ)
     (back : Returned) (e : Ending) (status : ℕ)
@@ -635,17 +682,15 @@ judged words (Gen number) (Some bytes) rest faults faults' back e status asked i
 judged words Check (Some bytes) rest faults faults' back e status asked is of done left = λ check short sound.
     completes_check bytes faults faults' rest back e status is of done (λ took. too_short bytes rest left took short)
     sound
+judged words Vt (Some bytes) rest faults faults' back e status asked is of done left = λ check.
+    absurd (not_vt_and_check words (inl asked) check)
 judged words VtOne (Some bytes) rest faults faults' back e status asked is of done left = λ check.
-    absurd (not_vt_and_check words asked check)
+    absurd (not_vt_and_check words (inr asked) check)
 
 -- ---- what a text of consoles comes to
 
 none_some : (bad : BadLine) → None ≡ Some bad → ⊥
 none_some bad h = cc
-
-consoles_spelled : (bytes text : List ℕ) (back : Returned) (h : IsToldOfConsoles (Some bytes) back text)
-    → SpellsConsoles bytes h.session
-consoles_spelled bytes text back h = subst (λ (read : List ℕ). SpellsConsoles read h.session) h.whole h.spelled
 
 consoles_not_both : (bytes : List ℕ) (session : PlainVtSession) (bad : BadLine)
     → SpellsConsoles bytes session
@@ -653,69 +698,71 @@ consoles_not_both : (bytes : List ℕ) (session : PlainVtSession) (bad : BadLine
     → ⊥
 consoles_not_both bytes session bad spells refused = none_some bad (sym (ap fault_in spells) ∙ refused)
 
-consoles_complete : (bytes : List ℕ) (faults faults' : ℕ) (rest : Option (List ℕ)) (back : Returned) (e : Ending)
-    (status : ℕ)
-    → status ≡ status_of e
-    → IsOfSource e faults faults' (Some bytes) rest
-    → IsWork VtOne (Some bytes) e back
-    → LeavesRest bytes rest
-    → length bytes ≤ 4194304
-    → (Rose faults faults' → ⊥)
+consoles_play : (ArePlayed : PlainVtSession → Returned → List ℕ → Type 0) (bytes : List ℕ) (back : Returned)
+    (text : List ℕ) (status : ℕ)
+    → status ≡ 0
+    → IsToldOfConsoles ArePlayed (Some bytes) back text
     → CompletesConsoles bytes status
-consoles_complete bytes faults faults' rest back (Done report) status is of work left short sound =
+consoles_play ArePlayed bytes back text status is h =
+    let spelled : SpellsConsoles bytes h.session =
+    subst (λ (read : List ℕ). SpellsConsoles read h.session) h.whole h.spelled in
     record {
       played = λ session spells. inl is;
-      refused = λ bad wrong.
-          absurd (consoles_not_both bytes work.session bad (consoles_spelled bytes report.items back work) wrong);
+      refused = λ bad wrong. absurd (consoles_not_both bytes h.session bad spelled wrong);
     }
-consoles_complete bytes faults faults' rest back (BadSession line) status is of work left short sound =
-    let wrong : consoles_refusal bytes ≡ Some work.1.bad =
-    subst (λ (text : List ℕ). consoles_refusal text ≡ Some work.1.bad) work.1.refused.whole work.1.refused.refused in
-    record {
-      played = λ session spells. absurd (consoles_not_both bytes session work.1.bad spells wrong);
-      refused = λ bad _. inl is;
-    }
-consoles_complete bytes faults faults' rest back BadWords status is of work left short sound = absurd of
-consoles_complete bytes faults faults' rest back ReadFault status is of work left short sound = absurd (sound of.0)
-consoles_complete bytes faults faults' rest back TooLong status is of work left short sound =
-    absurd (too_short bytes rest left of short)
-consoles_complete bytes faults faults' rest back (NotLegal line) status is of work left short sound = absurd work.1
 
-pub completes_consoles : (words : List (List ℕ)) (command : Command) (left rest : Option (List ℕ)) (faults faults' : ℕ)
-    (back : Returned) (e : Ending) (status : ℕ)
+consoles_refuse : (bytes : List ℕ) (bad : BadLine) (status : ℕ)
+    → status ≡ 1
+    → IsRefused consoles_refusal (Some bytes) bad
+    → CompletesConsoles bytes status
+consoles_refuse bytes bad status is h =
+    let wrong : consoles_refusal bytes ≡ Some bad =
+    subst (λ (text : List ℕ). consoles_refusal text ≡ Some bad) h.whole h.refused in
+    record {
+      played = λ session spells. absurd (consoles_not_both bytes session bad spells wrong);
+      refused = λ other _. inl is;
+    }
+
+pub completes_consoles : (Asked : Type 0) (words : List (List ℕ)) (command : Command) (left rest : Option (List ℕ))
+    (faults faults' : ℕ) (back : Returned) (e : Ending) (status : ℕ)
+    → (Asked → AskConsoles words)
     → Ask command words
     → (status ≡ status_of e) ⊎ (status ≡ 4)
     → IsOfSource e faults faults' left rest
     → IsWork command left e back
     → IfSome left (λ bytes. LeavesRest bytes rest)
-    → IfSome left
-    (λ bytes. AskVtOne words → length bytes ≤ 4194304 → (Rose faults faults' → ⊥) → CompletesConsoles bytes status)
-completes_consoles words command None rest faults faults' back e status asked is of done left = left
-completes_consoles words command (Some bytes) rest faults faults' back e status asked (inr four) of done left =
-    λ vt short sound. record {
+    → IfSome left (λ bytes. Asked → length bytes ≤ 4194304 → (Rose faults faults' → ⊥) → CompletesConsoles bytes status)
+completes_consoles Asked words command None rest faults faults' back e status vt asked is of done left = left
+completes_consoles Asked words command (Some bytes) rest faults faults' back e status vt asked (inr four) of done left =
+    λ asks short sound. record {
       played = λ session spells. inr (inl four);
       refused = λ bad wrong. inr (inl four);
     }
-completes_consoles words (Run journals) (Some bytes) rest faults faults' back e status asked (inl is) of done left =
-    λ vt. absurd (not_vt_and_run words journals vt asked)
-completes_consoles words (RunOne journals) (Some bytes) rest faults faults' back e status asked (inl is) of done left =
-    λ vt. absurd (not_vt_and_one words journals vt asked)
-completes_consoles words Jobs (Some bytes) rest faults faults' back e status asked (inl is) of done left = λ vt.
-    absurd (not_jobs_and_vt words asked vt)
-completes_consoles words (Gen number) (Some bytes) rest faults faults' back e status asked (inl is) of done left = λ vt.
-    absurd (not_vt_and_gen words vt (number, asked))
-completes_consoles words Check (Some bytes) rest faults faults' back e status asked (inl is) of done left = λ vt.
-    absurd (not_vt_and_check words vt asked)
-completes_consoles words VtOne (Some bytes) rest faults faults' back e status asked (inl is) of done left =
-    λ vt short sound. consoles_complete bytes faults faults' rest back e status is of done left short sound
+completes_consoles Asked words (Run journals) (Some bytes) rest faults faults' back e status vt asked (inl is) of done
+    left = λ asks. absurd (not_vt_and_run words journals (vt asks) asked)
+completes_consoles Asked words (RunOne journals) (Some bytes) rest faults faults' back e status vt asked (inl is) of
+    done left = λ asks. absurd (not_vt_and_one words journals (vt asks) asked)
+completes_consoles Asked words Jobs (Some bytes) rest faults faults' back e status vt asked (inl is) of done left =
+    λ asks. absurd (not_jobs_and_vt words asked (vt asks))
+completes_consoles Asked words (Gen number) (Some bytes) rest faults faults' back e status vt asked (inl is) of done
+    left = λ asks. absurd (not_vt_and_gen words (vt asks) (number, asked))
+completes_consoles Asked words Check (Some bytes) rest faults faults' back e status vt asked (inl is) of done left =
+    λ asks. absurd (not_vt_and_check words (vt asks) asked)
+completes_consoles Asked words Vt (Some bytes) rest faults faults' back e status vt asked (inl is) of done left =
+    λ asks. by_ending (CompletesConsoles bytes status) Vt bytes faults faults' rest back e status
+    (λ zero_is text told. consoles_play AreConsolesOnThreads bytes back text status zero_is told)
+    (λ one_is bad refused. consoles_refuse bytes bad status one_is refused) (λ line none. none) is of done left
+completes_consoles Asked words VtOne (Some bytes) rest faults faults' back e status vt asked (inl is) of done left =
+    λ asks. by_ending (CompletesConsoles bytes status) VtOne bytes faults faults' rest back e status
+    (λ zero_is text told. consoles_play AreConsolesInOrder bytes back text status zero_is told)
+    (λ one_is bad refused. consoles_refuse bytes bad status one_is refused) (λ line none. none) is of done left
 
 -- words that ask for no consoles
-pub not_consoles : (words : List (List ℕ)) (left : Option (List ℕ)) (status : ℕ) (faults faults' : ℕ)
-    → (AskVtOne words → ⊥)
-    → IfSome left
-    (λ bytes. AskVtOne words → length bytes ≤ 4194304 → (Rose faults faults' → ⊥) → CompletesConsoles bytes status)
-not_consoles words None status faults faults' other = tt
-not_consoles words (Some bytes) status faults faults' other = λ vt. absurd (other vt)
+pub not_consoles : (Asked : Type 0) (left : Option (List ℕ)) (status : ℕ) (faults faults' : ℕ)
+    → (Asked → ⊥)
+    → IfSome left (λ bytes. Asked → length bytes ≤ 4194304 → (Rose faults faults' → ⊥) → CompletesConsoles bytes status)
+not_consoles Asked None status faults faults' other = tt
+not_consoles Asked (Some bytes) status faults faults' other = λ asks. absurd (other asks)
 
 -- ---- what a text of processes comes to
 
@@ -729,33 +776,28 @@ processes_not_both : (bytes : List ℕ) (session : JobsSession) (bad : BadLine)
     → ⊥
 processes_not_both bytes session bad spells refused = none_some bad (sym (ap fault_of_processes spells) ∙ refused)
 
-processes_complete : (bytes : List ℕ) (faults faults' : ℕ) (rest : Option (List ℕ)) (back : Returned) (e : Ending)
-    (status : ℕ)
-    → status ≡ status_of e
-    → IsOfSource e faults faults' (Some bytes) rest
-    → IsWork Jobs (Some bytes) e back
-    → LeavesRest bytes rest
-    → length bytes ≤ 4194304
-    → (Rose faults faults' → ⊥)
+processes_play : (bytes : List ℕ) (back : Returned) (text : List ℕ) (status : ℕ)
+    → status ≡ 0
+    → IsToldOfProcesses (Some bytes) back text
     → CompletesProcesses bytes status
-processes_complete bytes faults faults' rest back (Done report) status is of work left short sound =
+processes_play bytes back text status is h =
     record {
       played = λ session spells. inl is;
       refused = λ bad wrong. absurd
-          (processes_not_both bytes (bare_of work.session) bad (processes_spelled bytes report.items back work) wrong);
+          (processes_not_both bytes (bare_of h.session) bad (processes_spelled bytes text back h) wrong);
     }
-processes_complete bytes faults faults' rest back (BadSession line) status is of work left short sound =
-    let wrong : processes_refusal bytes ≡ Some work.1.bad =
-    subst (λ (text : List ℕ). processes_refusal text ≡ Some work.1.bad) work.1.refused.whole work.1.refused.refused in
+
+processes_refuse : (bytes : List ℕ) (bad : BadLine) (status : ℕ)
+    → status ≡ 1
+    → IsRefused processes_refusal (Some bytes) bad
+    → CompletesProcesses bytes status
+processes_refuse bytes bad status is h =
+    let wrong : processes_refusal bytes ≡ Some bad =
+    subst (λ (text : List ℕ). processes_refusal text ≡ Some bad) h.whole h.refused in
     record {
-      played = λ session spells. absurd (processes_not_both bytes session work.1.bad spells wrong);
-      refused = λ bad _. inl is;
+      played = λ session spells. absurd (processes_not_both bytes session bad spells wrong);
+      refused = λ other _. inl is;
     }
-processes_complete bytes faults faults' rest back BadWords status is of work left short sound = absurd of
-processes_complete bytes faults faults' rest back ReadFault status is of work left short sound = absurd (sound of.0)
-processes_complete bytes faults faults' rest back TooLong status is of work left short sound =
-    absurd (too_short bytes rest left of short)
-processes_complete bytes faults faults' rest back (NotLegal line) status is of work left short sound = absurd work.1
 
 pub completes_processes : (words : List (List ℕ)) (command : Command) (left rest : Option (List ℕ)) (faults faults' : ℕ)
     (back : Returned) (e : Ending) (status : ℕ)
@@ -777,13 +819,17 @@ completes_processes words (Run journals) (Some bytes) rest faults faults' back e
 completes_processes words (RunOne journals) (Some bytes) rest faults faults' back e status asked (inl is) of done left =
     λ jobs. absurd (not_jobs_and_one words journals jobs asked)
 completes_processes words Jobs (Some bytes) rest faults faults' back e status asked (inl is) of done left =
-    λ jobs short sound. processes_complete bytes faults faults' rest back e status is of done left short sound
+    λ jobs. by_ending (CompletesProcesses bytes status) Jobs bytes faults faults' rest back e status
+    (λ zero_is text told. processes_play bytes back text status zero_is told)
+    (λ one_is bad refused. processes_refuse bytes bad status one_is refused) (λ line none. none) is of done left
 completes_processes words (Gen number) (Some bytes) rest faults faults' back e status asked (inl is) of done left =
     λ jobs. absurd (not_jobs_and_gen words jobs (number, asked))
 completes_processes words Check (Some bytes) rest faults faults' back e status asked (inl is) of done left = λ jobs.
     absurd (not_jobs_and_check words jobs asked)
+completes_processes words Vt (Some bytes) rest faults faults' back e status asked (inl is) of done left = λ jobs.
+    absurd (not_jobs_and_vt words jobs (inl asked))
 completes_processes words VtOne (Some bytes) rest faults faults' back e status asked (inl is) of done left = λ jobs.
-    absurd (not_jobs_and_vt words jobs asked)
+    absurd (not_jobs_and_vt words jobs (inr asked))
 
 -- words that ask for no processes
 pub not_processes : (words : List (List ℕ)) (left : Option (List ℕ)) (status : ℕ) (faults faults' : ℕ)
@@ -818,7 +864,8 @@ made words (RunOne journals) e status asked is can = λ gen. absurd (not_gen_and
 made words Jobs e status asked is can = λ gen. absurd (not_jobs_and_gen words asked gen)
 made words (Gen number) e status asked is can = λ gen. made_so number e status is can
 made words Check e status asked is can = λ gen. absurd (not_check_and_gen words gen asked)
-made words VtOne e status asked is can = λ gen. absurd (not_vt_and_gen words asked gen)
+made words Vt e status asked is can = λ gen. absurd (not_vt_and_gen words (inl asked) gen)
+made words VtOne e status asked is can = λ gen. absurd (not_vt_and_gen words (inr asked) gen)
 
 -- journals that were judged are not returned
 none_at : (left : Option (List ℕ)) (back : Returned) (e : Ending) → IsWork Check left e back → back.runs ≡ []
@@ -840,20 +887,22 @@ none_judged words (RunOne journals) left back e asked done = λ check.
 none_judged words Jobs left back e asked done = λ check. absurd (not_jobs_and_check words asked check)
 none_judged words (Gen number) left back e asked done = λ check. absurd (not_check_and_gen words (number, asked) check)
 none_judged words Check left back e asked done = λ check. none_at left back e done
-none_judged words VtOne left back e asked done = λ check. absurd (not_vt_and_check words asked check)
+none_judged words Vt left back e asked done = λ check. absurd (not_vt_and_check words (inl asked) check)
+none_judged words VtOne left back e asked done = λ check. absurd (not_vt_and_check words (inr asked) check)
 
 -- only consoles have entries
 pub no_entries : (words : List (List ℕ)) (command : Command) (back : Returned)
     → Ask command words
     → HasEntries command back
-    → (AskVtOne words → ⊥)
+    → (AskConsoles words → ⊥)
     → back.entries ≡ []
 no_entries words (Run journals) back asked none other = none
 no_entries words (RunOne journals) back asked none other = none
 no_entries words Jobs back asked none other = none
 no_entries words (Gen number) back asked none other = none
 no_entries words Check back asked none other = none
-no_entries words VtOne back asked none other = absurd (other asked)
+no_entries words Vt back asked none other = absurd (other (inl asked))
+no_entries words VtOne back asked none other = absurd (other (inr asked))
 
 -- only processes have a log
 pub no_log : (words : List (List ℕ)) (command : Command) (back : Returned)
@@ -866,6 +915,7 @@ no_log words (RunOne journals) back asked none other = none
 no_log words Jobs back asked none other = absurd (other asked)
 no_log words (Gen number) back asked none other = none
 no_log words Check back asked none other = none
+no_log words Vt back asked none other = none
 no_log words VtOne back asked none other = none
 
 -- nothing is returned beside a status other than 0 and 4

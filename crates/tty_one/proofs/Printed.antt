@@ -14,7 +14,7 @@ use Rattle.journal_check.proofs.VerdictLemmas.{one_verdict}
 use Rattle.read_back.proofs.Runs.{are_read_back}
 use Rattle.tty_one.specs.declared.playing.Telling.TheVariants.{Report}
 use Rattle.tty_one.specs.declared.words.Command.{Command}
-use Rattle.tty_one.specs.declared.words.Command.TheVariants.{Run, RunOne, Jobs, Gen, Check, VtOne}
+use Rattle.tty_one.specs.declared.words.Command.TheVariants.{Run, RunOne, Jobs, Gen, Check, Vt, VtOne}
 use Rattle.tty_one.specs.Endings.{Ask, AskJournals}
 use Rattle.tty_one.specs.Reported.{Returned, IsOrdered, IsInAnyOrder, IsReported}
 use Rattle.tty_one.specs.Outcome.{IsPlayedText, IsToldBy, IsDone, with_journals, IsReadBack, GaveJournals}
@@ -109,8 +109,10 @@ told_back words bytes (Gen number) back text (inl h) asked told = absurd (not_ge
 told_back words bytes (Gen number) back text (inr h) asked told = absurd (not_gen_and_one words true (number, asked) h)
 told_back words bytes Check back text (inl h) asked told = absurd (not_check_and_run words true asked h)
 told_back words bytes Check back text (inr h) asked told = absurd (not_check_and_one words true asked h)
-told_back words bytes VtOne back text (inl h) asked told = absurd (not_vt_and_run words true asked h)
-told_back words bytes VtOne back text (inr h) asked told = absurd (not_vt_and_one words true asked h)
+told_back words bytes Vt back text (inl h) asked told = absurd (not_vt_and_run words true (inl asked) h)
+told_back words bytes Vt back text (inr h) asked told = absurd (not_vt_and_one words true (inl asked) h)
+told_back words bytes VtOne back text (inl h) asked told = absurd (not_vt_and_run words true (inr asked) h)
+told_back words bytes VtOne back text (inr h) asked told = absurd (not_vt_and_one words true (inr asked) h)
 
 pub gave_journals : (words : List (List ℕ)) (bytes before : List ℕ) (now : Option (List ℕ)) (back : Returned)
     → AskJournals words

@@ -8,7 +8,6 @@ use Rattle.tty_calls.specs.Sessions.{session_of}
 use Rattle.tty_calls.specs.Limits.{IsWithinLimits}
 use Rattle.session_text.proofs.Within.{spelled_within}
 use Rattle.session_text.specs.declared.faults.BadLine.{BadLine}
-use Rattle.session_text.specs.Refusals.{refusal}
 use Rattle.tty_one.specs.declared.words.Command.{Command}
 use Rattle.tty_one.specs.declared.reading.Reading.{Reading}
 use Rattle.tty_one.specs.declared.reading.Reading.TheVariants.{Of, Ended}
@@ -19,8 +18,8 @@ use Rattle.tty_one.specs.Endings.{IsOfSource, IsShort}
 use Rattle.tty_one.specs.Reported.{nothing, IsAllOf}
 use Rattle.tty_one.specs.Outcome.{refusal_by}
 use Rattle.tty_one.proofs.Roomy.{never_full_here}
-use Rattle.tty_one.specs.Works.{brought, IsLineOf, IsUnread, IsTextRead, IsSessionRead}
-use Rattle.tty_one.specs.Works.{IsSessionIn, IsRefusal, IsWork, IsNeverFull, IsShortText}
+use Rattle.tty_one.specs.Works.{brought, IsLineOf, IsUnread, IsTextRead, IsRead, IsSessionRead}
+use Rattle.tty_one.specs.Works.{IsIn, IsRefusal, IsWork, IsNeverFull, IsShortText}
 
 -- the text that was read
 module _ (first_wrong : List ℕ → Option BadLine) (faults now : ℕ) (left rest : Option (List ℕ))
@@ -86,18 +85,18 @@ refused_from first_wrong faults now left rest text TooLong whole short h = absur
 refused_from first_wrong faults now left rest text (NotLegal line) whole short h = absurd h
 
 -- a session that was read in a text
-pub session_read : (faults now : ℕ) (left rest : Option (List ℕ)) (text : List ℕ)
-    (r : Result (Reading Session) NoMemory)
+pub session_read : {S : Type 0} → (SpellsIt : List ℕ → S → Type 0) (first_wrong : List ℕ → Option BadLine)
+    (faults now : ℕ) (left rest : Option (List ℕ)) (text : List ℕ) (r : Result (Reading S) NoMemory)
     → IsAllOf left text
     → IsShort left rest
     → length text ≤ 4194304
-    → IfOk r (IsSessionIn text)
-    → IfOk r (λ reading. IsSessionRead reading faults now left rest)
-session_read faults now left rest text (Ok (Of session)) whole short few h =
+    → IfOk r (IsIn SpellsIt first_wrong text)
+    → IfOk r (λ reading. IsRead SpellsIt first_wrong reading faults now left rest)
+session_read SpellsIt first_wrong faults now left rest text (Ok (Of session)) whole short few h =
     (record { read = text; whole = whole; spelled = h; few = few }, short)
-session_read faults now left rest text (Ok (Ended ending)) whole short few h =
-    refused_from refusal faults now left rest text ending whole short h
-session_read faults now left rest text (Err e) whole short few h = h
+session_read SpellsIt first_wrong faults now left rest text (Ok (Ended ending)) whole short few h =
+    refused_from first_wrong faults now left rest text ending whole short h
+session_read SpellsIt first_wrong faults now left rest text (Err e) whole short few h = h
 
 -- how the work of a command ends for want of what it reads
 pub unread_works : (command : Command) (left : Option (List ℕ)) (e : Ending)

@@ -11,7 +11,7 @@ use Rattle.session_print.specs.Lines.{newline}
 use Rattle.journal_check.specs.declared.verdicts.Verdict.{Verdict}
 use Rattle.journal_check.specs.declared.verdicts.Verdict.TheVariants.{Legal, Wrong, Account}
 use Rattle.tty_one.specs.declared.words.Command.{Command}
-use Rattle.tty_one.specs.declared.words.Command.TheVariants.{Run, RunOne, Jobs, Gen, Check, VtOne}
+use Rattle.tty_one.specs.declared.words.Command.TheVariants.{Run, RunOne, Jobs, Gen, Check, Vt, VtOne}
 use Rattle.tty_one.specs.declared.works.Ending.{Ending}
 use Rattle.tty_one.specs.declared.works.Ending.TheVariants.{Done, BadSession, BadWords, ReadFault, TooLong, NotLegal}
 
@@ -45,7 +45,11 @@ AskCheck words = words ≡ codes "check" ∷ []
 abbrev pub AskJobs : List (List ℕ) → Type 0
 AskJobs words = words ≡ codes "jobs" ∷ []
 
--- the words that ask for a session of consoles to be read and played on one thread
+-- the words that ask for a session of consoles to be read and played on threads
+abbrev pub AskVt : List (List ℕ) → Type 0
+AskVt words = words ≡ codes "vt" ∷ []
+
+-- .. on one thread
 abbrev pub AskVtOne : List (List ℕ) → Type 0
 AskVtOne words = words ≡ codes "vt" ∷ codes "--one" ∷ []
 
@@ -55,6 +59,7 @@ Ask (RunOne journals) words = AskRunOne journals words
 Ask Jobs words = AskJobs words
 Ask (Gen number) words = AskGen number words
 Ask Check words = AskCheck words
+Ask Vt words = AskVt words
 Ask VtOne words = AskVtOne words
 
 -- the commands that need no thread
@@ -64,15 +69,23 @@ IsOfOne (RunOne journals) = Unit {0}
 IsOfOne Jobs = Unit {0}
 IsOfOne (Gen number) = Unit {0}
 IsOfOne Check = Unit {0}
+IsOfOne Vt = ⊥
 IsOfOne VtOne = Unit {0}
 
--- words of the program; those that need no thread; those that ask for a session to be read and played, on threads and
--- on one; those that ask for the session of a number
+-- .. and those that do
+abbrev pub IsOnThreads : Command → Type 0
+IsOnThreads command = IsOfOne command → ⊥
+
+-- words of the program; those that need no thread, and those that do; those that ask for a session to be read and
+-- played, on threads and on one; those that ask for the session of a number
 abbrev pub AreKnown : List (List ℕ) → Type 0
 AreKnown words = (command : Command) × Ask command words
 
 abbrev pub AreOfOne : List (List ℕ) → Type 0
 AreOfOne words = (command : Command) × IsOfOne command × Ask command words
+
+abbrev pub AreOnThreads : List (List ℕ) → Type 0
+AreOnThreads words = (command : Command) × IsOnThreads command × Ask command words
 
 abbrev pub AreRun : List (List ℕ) → Type 0
 AreRun words = (journals : Bool) × AskRun journals words
@@ -83,6 +96,13 @@ AreRunOne words = (journals : Bool) × AskRunOne journals words
 abbrev pub AreGen : List (List ℕ) → Type 0
 AreGen words = (number : ℕ) × AskGen number words
 
+-- words that ask for a session to be read and played, and for a session of consoles
+abbrev pub AskToPlay : List (List ℕ) → Type 0
+AskToPlay words = AreRun words ⊎ AreRunOne words
+
+abbrev pub AskConsoles : List (List ℕ) → Type 0
+AskConsoles words = AskVt words ⊎ AskVtOne words
+
 -- words that ask for a session to be played, and its journals to be told
 abbrev pub AskJournals : List (List ℕ) → Type 0
 AskJournals words = AskRun true words ⊎ AskRunOne true words
@@ -92,7 +112,7 @@ abbrev pub AskOneToRead : List (List ℕ) → Type 0
 AskOneToRead words = (AreRunOne words ⊎ AskJobs words) ⊎ (AskCheck words ⊎ AskVtOne words)
 
 abbrev pub AskToRead : List (List ℕ) → Type 0
-AskToRead words = AreRun words ⊎ AskOneToRead words
+AskToRead words = (AreRun words ⊎ AskVt words) ⊎ AskOneToRead words
 
 abbrev pub reason_name : Reason → List ℕ
 reason_name Header = codes "header"

@@ -23,11 +23,11 @@ use Rattle.journal_check.specs.Verdicts.{AreLegal, Fits}
 use Rattle.journal_check.specs.declared.verdicts.Verdict.{Verdict}
 use Rattle.journal_check.specs.declared.verdicts.Verdict.TheVariants.{Legal}
 use Rattle.tty_one.specs.declared.words.Command.{Command}
-use Rattle.tty_one.specs.declared.words.Command.TheVariants.{Run, RunOne, Jobs, Gen, Check, VtOne}
+use Rattle.tty_one.specs.declared.words.Command.TheVariants.{Run, RunOne, Jobs, Gen, Check, Vt, VtOne}
 use Rattle.tty_one.specs.declared.playing.Telling.TheVariants.{Report, Summary}
 use Rattle.tty_one.specs.Endings.{Ask, line_of, bad_session_line, verdict_line, IsStatusOr}
 use Rattle.tty_one.specs.Reported.{Returned, nothing, IsOrdered, IsInAnyOrder, IsReported, IsAllOf}
-use Rattle.tty_one.specs.Consoles.{IsToldOfConsoles, consoles_refusal}
+use Rattle.tty_one.specs.Consoles.{AreConsolesInOrder, AreConsolesOnThreads, IsToldOfConsoles, consoles_refusal}
 use Rattle.tty_one.specs.Processes.{IsToldOfProcesses, processes_refusal}
 
 -- A session was read and played: the text that was read spells it.
@@ -65,7 +65,8 @@ IsToldBy (RunOne journals) left back text =
 IsToldBy Jobs left back text = IsToldOfProcesses left back text
 IsToldBy (Gen number) left back text = IsReported IsOrdered (Summary number) (generated_session number) back.runs text
 IsToldBy Check left back text = IsToldVerdict left Legal back.runs text
-IsToldBy VtOne left back text = IsToldOfConsoles left back text
+IsToldBy Vt left back text = IsToldOfConsoles AreConsolesOnThreads left back text
+IsToldBy VtOne left back text = IsToldOfConsoles AreConsolesInOrder left back text
 
 -- the first wrong line of a text, by the grammar of what a command reads
 abbrev pub refusal_by : Command → List ℕ → Option BadLine
@@ -74,6 +75,7 @@ refusal_by (RunOne journals) text = refusal text
 refusal_by Jobs text = processes_refusal text
 refusal_by (Gen number) text = None
 refusal_by Check text = refusal_of_runs text
+refusal_by Vt text = consoles_refusal text
 refusal_by VtOne text = consoles_refusal text
 
 -- The text that was read is not in its grammar, and this is its first wrong line.

@@ -22,13 +22,15 @@ use Rattle.job_text.specs.Within.{IsJobsSessionWithin}
 use Rattle.job_one.specs.Played.{derived_with}
 use Rattle.job_ports.specs.declared.running.JobsRan.{JobsRan}
 use Rattle.further_report.specs.Jobs.{jobs_report_text}
-use Rattle.vt_text.specs.Sessions.{PlainVtSession}
+use Rattle.vt_consoles.specs.declared.entries.VtEntry.{VtEntry}
+use Rattle.vt_text.specs.declared.sessions.VtSession.{VtSession}
+use Rattle.vt_text.specs.Sessions.{PlainVtSession, vt_session_of}
 use Rattle.vt_account.specs.InOrder.{entries_in_order}
 use Rattle.vt_account.specs.Keyed.{IsWithinKeys, keyed}
 use Rattle.vt_report.specs.Report.{report_text}
 use Rattle.vt_one.specs.declared.playing.VtPlayed.{VtPlayed}
 use Rattle.tty_one.specs.declared.words.Command.{Command}
-use Rattle.tty_one.specs.declared.words.Command.TheVariants.{Run, RunOne, Jobs, Gen, Check, VtOne}
+use Rattle.tty_one.specs.declared.words.Command.TheVariants.{Run, RunOne, Jobs, Gen, Check, Vt, VtOne}
 use Rattle.tty_one.specs.declared.playing.Telling.{Telling}
 use Rattle.tty_one.specs.declared.reading.Reading.{Reading}
 use Rattle.tty_one.specs.declared.reading.Reading.TheVariants.{Of, Ended}
@@ -37,7 +39,7 @@ use Rattle.tty_one.specs.declared.works.Ending.{Ending}
 use Rattle.tty_one.specs.declared.works.Ending.TheVariants.{Done, BadSession, BadWords, ReadFault, TooLong, NotLegal}
 use Rattle.tty_one.specs.Endings.{bad_session_line, verdict_line, IsShort, IsOfSource}
 use Rattle.tty_one.specs.Reported.{Returned, nothing, text_by, IsReported, IsAllOf}
-use Rattle.tty_one.specs.Consoles.{AreConsolesPlayed, IsToldOfConsoles, consoles_refusal}
+use Rattle.tty_one.specs.Consoles.{SpellsConsoles, consoles_refusal}
 use Rattle.tty_one.specs.Processes.{given_to, AreProcessesPlayed, IsToldOfProcesses, processes_refusal}
 use Rattle.tty_one.specs.Outcome.{IsToldVerdict, IsToldBy, IsRefused, refusal_by}
 
@@ -79,18 +81,34 @@ abbrev pub IsNeverFull : PlainSession → Type 0
 IsNeverFull session =
     (p : ℕ) (run : PortRun) (t : Terminal) → IsCutShort p session run t → length run.journal.items < 4194304
 
--- the text that was read spells the session, and is no longer than the longest
-pub record IsReadAs (left : Option (List ℕ)) (session : PlainSession) : Type 0 where
+-- the text that was read spells this, and is no longer than the longest
+pub record IsReadAs (left : Option (List ℕ)) (SpellsIt : List ℕ → Type 0) : Type 0 where
   pub read : List ℕ
   pub whole : IsAllOf left read
-  pub spelled : Spells read session
+  pub spelled : SpellsIt read
   pub few : length read ≤ 4194304
 
--- what reading a session came to
+-- what reading a session came to, which texts spell so, or whose first wrong line is this
+abbrev pub IsRead : {S : Type 0} → (List ℕ → S → Type 0) → (List ℕ → Option BadLine) → Reading S → ℕ → ℕ
+    → Option (List ℕ) → Option (List ℕ)
+    → Type 0
+IsRead SpellsIt first_wrong (Of session) faults now left rest =
+    IsReadAs left (λ text. SpellsIt text session) × IsShort left rest
+IsRead SpellsIt first_wrong (Ended ending) faults now left rest =
+    IsUnread first_wrong left ending × IsOfSource ending faults now left rest
+
+-- a session that a text spells, and a session of consoles
+abbrev pub SpellsKept : List ℕ → Session → Type 0
+SpellsKept text session = Spells text (session_of session)
+
+abbrev pub SpellsKeptConsoles : List ℕ → VtSession → Type 0
+SpellsKeptConsoles text session = SpellsConsoles text (vt_session_of session)
+
 abbrev pub IsSessionRead : Reading Session → ℕ → ℕ → Option (List ℕ) → Option (List ℕ) → Type 0
-IsSessionRead (Of session) faults now left rest = IsReadAs left (session_of session) × IsShort left rest
-IsSessionRead (Ended ending) faults now left rest =
-    IsUnread refusal left ending × IsOfSource ending faults now left rest
+IsSessionRead = IsRead SpellsKept refusal
+
+abbrev pub AreConsolesRead : Reading VtSession → ℕ → ℕ → Option (List ℕ) → Option (List ℕ) → Type 0
+AreConsolesRead = IsRead SpellsKeptConsoles consoles_refusal
 
 -- how work ends at the first wrong line of a text
 abbrev pub IsRefusal : (List ℕ → Option BadLine) → List ℕ → Ending → Type 0
@@ -102,9 +120,15 @@ IsRefusal first_wrong text TooLong = ⊥
 IsRefusal first_wrong text (NotLegal line) = ⊥
 
 -- what a text is read as
+abbrev pub IsIn : {S : Type 0} → (List ℕ → S → Type 0) → (List ℕ → Option BadLine) → List ℕ → Reading S → Type 0
+IsIn SpellsIt first_wrong text (Of session) = SpellsIt text session
+IsIn SpellsIt first_wrong text (Ended ending) = IsRefusal first_wrong text ending
+
 abbrev pub IsSessionIn : List ℕ → Reading Session → Type 0
-IsSessionIn text (Of session) = Spells text (session_of session)
-IsSessionIn text (Ended ending) = IsRefusal refusal text ending
+IsSessionIn = IsIn SpellsKept refusal
+
+abbrev pub AreConsolesIn : List ℕ → Reading VtSession → Type 0
+AreConsolesIn = IsIn SpellsKeptConsoles consoles_refusal
 
 -- ---- playing
 
@@ -160,17 +184,17 @@ IsJudgedText text (NotLegal line) = IsIllegal (Some text) [] line.items
 -- what playing a session of consoles needs
 pub record CanBePlayed (session : PlainVtSession) : Type 0 where
   pub within : IsWithinKeys session
-  pub room : length (entries_in_order session) ≤ 4194304
-  pub never_full : IsNeverFull (keyed session (entries_in_order session))
+  pub room : length (entries_in_order session) < 4194304
+  pub never_full : (entries : List VtEntry) → IsNeverFull (keyed session entries)
 
--- of a session of consoles
-abbrev pub IsConsolesWork : PlainVtSession → Ending → Returned → Type 0
-IsConsolesWork session (Done text) back = AreConsolesPlayed session back text.items
-IsConsolesWork session (BadSession line) back = ⊥
-IsConsolesWork session BadWords back = ⊥
-IsConsolesWork session ReadFault back = ⊥
-IsConsolesWork session TooLong back = ⊥
-IsConsolesWork session (NotLegal line) back = ⊥
+-- of a session of consoles, which was played so
+abbrev pub IsConsolesWork : (Returned → List ℕ → Type 0) → Ending → Returned → Type 0
+IsConsolesWork ArePlayed (Done text) back = ArePlayed back text.items
+IsConsolesWork ArePlayed (BadSession line) back = ⊥
+IsConsolesWork ArePlayed BadWords back = ⊥
+IsConsolesWork ArePlayed ReadFault back = ⊥
+IsConsolesWork ArePlayed TooLong back = ⊥
+IsConsolesWork ArePlayed (NotLegal line) back = ⊥
 
 -- of consoles that were played
 abbrev pub IsReportOf : PlainVtSession → VtPlayed → Ending → Type 0
@@ -182,15 +206,6 @@ IsReportOf session played BadWords = ⊥
 IsReportOf session played ReadFault = ⊥
 IsReportOf session played TooLong = ⊥
 IsReportOf session played (NotLegal line) = ⊥
-
--- of a text of consoles
-abbrev pub IsConsolesText : List ℕ → Ending → Returned → Type 0
-IsConsolesText text (Done report) back = IsToldOfConsoles (Some text) back report.items
-IsConsolesText text (BadSession line) back = (back ≡ nothing) × IsLineOf consoles_refusal (Some text) line.items
-IsConsolesText text BadWords back = ⊥
-IsConsolesText text ReadFault back = ⊥
-IsConsolesText text TooLong back = ⊥
-IsConsolesText text (NotLegal line) back = ⊥
 
 -- ---- processes
 
@@ -240,6 +255,7 @@ IsIllegalBy (RunOne journals) left runs line = ⊥
 IsIllegalBy Jobs left runs line = ⊥
 IsIllegalBy (Gen number) left runs line = ⊥
 IsIllegalBy Check left runs line = IsIllegal left runs line
+IsIllegalBy Vt left runs line = ⊥
 IsIllegalBy VtOne left runs line = ⊥
 
 -- of a command, where a source had all this left
@@ -258,6 +274,7 @@ HasEntries (RunOne journals) back = back.entries ≡ []
 HasEntries Jobs back = back.entries ≡ []
 HasEntries (Gen number) back = back.entries ≡ []
 HasEntries Check back = back.entries ≡ []
+HasEntries Vt back = Unit {0}
 HasEntries VtOne back = Unit {0}
 
 -- only processes have a log
@@ -267,6 +284,7 @@ HasLog (RunOne journals) back = back.log ≡ []
 HasLog Jobs back = Unit {0}
 HasLog (Gen number) back = back.log ≡ []
 HasLog Check back = back.log ≡ []
+HasLog Vt back = back.log ≡ []
 HasLog VtOne back = back.log ≡ []
 
 -- only a command that reads can be refused what it reads
@@ -281,6 +299,7 @@ CanEnd (Gen number) ReadFault = ⊥
 CanEnd (Gen number) TooLong = ⊥
 CanEnd (Gen number) (NotLegal line) = ⊥
 CanEnd Check ending = Unit {0}
+CanEnd Vt ending = Unit {0}
 CanEnd VtOne ending = Unit {0}
 
 -- a command that reads nothing
@@ -290,4 +309,5 @@ ReadsNothing (RunOne journals) = ⊥
 ReadsNothing Jobs = ⊥
 ReadsNothing (Gen number) = Unit {0}
 ReadsNothing Check = ⊥
+ReadsNothing Vt = ⊥
 ReadsNothing VtOne = ⊥

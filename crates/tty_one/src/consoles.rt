@@ -4,8 +4,10 @@ ghost use Rattle.std.specs.Prelude.{◌≡◌, ◌≤◌, [], IfOk, IfSome, OnEr
 ghost use Rattle.tty_base.specs.Outside.{LeavesRest};
 ghost use Rattle.vt_text.specs.Sessions.{vt_session_of};
 ghost use Rattle.tty_one.specs.declared.words.Command.TheVariants.{VtOne};
+ghost use Rattle.tty_one.specs.Consoles.{AreConsolesInOrder};
 ghost use Rattle.tty_one.specs.Endings.{IsShort, IsOfSource};
-ghost use Rattle.tty_one.specs.Works.{brought, CanBePlayed, IsConsolesText, IsConsolesWork, IsReportOf, IsWork};
+ghost use Rattle.tty_one.specs.Works.{brought, AreConsolesIn, AreConsolesRead, CanBePlayed};
+ghost use Rattle.tty_one.specs.Works.{IsConsolesWork, IsReportOf, IsWork};
 
 use crate::reading::{Reading, read_text, refusal_line};
 use crate::works::{Ending, JobLogs, VtEntries, Work};
@@ -27,23 +29,37 @@ pub(crate) fn run_vt<S: Source>(alloc: Global, source: &mut S) -> Result<Work, N
     ensures short { OnErr result (IsShort (S.left source.old) (S.left source.new)) }
     ensures rest { IfSome (S.left source.old) (λ bytes. LeavesRest bytes (S.left source.new)) }
 {
-    match read_text(alloc, source)? {
-        Reading::Of(text) => work_on_text(alloc, text.as_slice()),
+    match read_consoles(alloc, source)? {
+        Reading::Of(mut session) => run_session(alloc, &mut session),
         Reading::Ended(ending) => Ok(Work::ended(alloc, ending)),
     }
 }
 
-/// What comes of a text of consoles.
-fn work_on_text(alloc: Global, text: &[u8]) -> Result<Work, NoMemory>
-    requires { length text.now ≤ 4194304 }
-    ensures told { IfOk result (λ work. IsConsolesText text.now work.ending (brought work)) }
-    ensures no_log { IfOk result (λ work. work.jobs.items ≡ []) }
+/// Reads a session of consoles.
+pub fn read_consoles<S: Source>(
+    alloc: Global,
+    source: &mut S,
+) -> Result<Reading<VtSession>, NoMemory>
+    ensures read { IfOk result (λ reading.
+        AreConsolesRead reading (S.faults source.old) (S.faults source.new) (S.left source.old) (S.left source.new)) }
+    ensures short { OnErr result (IsShort (S.left source.old) (S.left source.new)) }
+    ensures rest { IfSome (S.left source.old) (λ bytes. LeavesRest bytes (S.left source.new)) }
+{
+    match read_text(alloc, source)? {
+        Reading::Of(text) => consoles_in(alloc, text.as_slice()),
+        Reading::Ended(ending) => Ok(Reading::Ended(ending)),
+    }
+}
+
+/// The session of consoles that a text spells.
+fn consoles_in(alloc: Global, text: &[u8]) -> Result<Reading<VtSession>, NoMemory>
+    ensures { IfOk result (λ reading. AreConsolesIn text.now reading) }
 {
     match parse_vt(alloc, text) {
-        Ok(mut session) => run_session(alloc, &mut session),
+        Ok(session) => Ok(Reading::Of(session)),
         Err(TextFault::Bad(bad)) => {
             let line = refusal_line(alloc, bad)?;
-            Ok(Work::ended(alloc, Ending::BadSession(line)))
+            Ok(Reading::Ended(Ending::BadSession(line)))
         }
         Err(TextFault::NoMemory) => Err(NoMemory),
     }
@@ -52,19 +68,24 @@ fn work_on_text(alloc: Global, text: &[u8]) -> Result<Work, NoMemory>
 /// Plays a session of consoles on one thread and makes its report.
 fn run_session(alloc: Global, session: &mut VtSession) -> Result<Work, NoMemory>
     requires { CanBePlayed (vt_session_of session.old) }
-    ensures told { IfOk result (λ work. IsConsolesWork (vt_session_of session.old) work.ending (brought work)) }
+    ensures told { IfOk result (λ work.
+        IsConsolesWork (AreConsolesInOrder (vt_session_of session.old)) work.ending (brought work)) }
     ensures no_log { IfOk result (λ work. work.jobs.items ≡ []) }
 {
     a_played_session_has_the_same_report();
     match play_vt(alloc, session) {
-        Ok(played) => work_of(alloc, session, played),
+        Ok(played) => work_of_consoles(alloc, session, played),
         Err(Denied::NoMemory) => Err(NoMemory),
         Err(Denied::Full) => unreachable!(),
     }
 }
 
 /// The work on a session of consoles that was played: its report, with the runs and the entries.
-fn work_of(alloc: Global, session: &VtSession, played: VtPlayed) -> Result<Work, NoMemory>
+pub fn work_of_consoles(
+    alloc: Global,
+    session: &VtSession,
+    played: VtPlayed,
+) -> Result<Work, NoMemory>
     ensures ending { IfOk result (λ work. IsReportOf (vt_session_of session.now) played work.ending) }
     ensures brought { IfOk result (λ work.
         brought work ≡ record { runs = played.consoles.runs.items; entries = played.board.entries; log = [] }) }

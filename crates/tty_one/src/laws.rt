@@ -5,7 +5,10 @@ ghost use Rattle.std.specs.Prelude.{◌≡◌, ◌<◌, ◌≤◌, ℕ, List, Bo
 ghost use Rattle.tty_calls.specs.declared.journals.PortRun.{PortRun};
 ghost use Rattle.tty_calls.specs.Plain.{PlainCall};
 ghost use Rattle.tty_calls.specs.Sessions.{PlainSession, call_at};
+ghost use Rattle.tty_base.specs.Characters.{good_characters};
 ghost use Rattle.tty_terminal.specs.Terminals.{Terminal};
+ghost use Rattle.tty_terminal.specs.Runs.{chars_of};
+ghost use Rattle.uart_line.specs.Offered.{kept_list};
 ghost use Rattle.session_text.specs.Grammar.{Spells};
 ghost use Rattle.journal_check.specs.Legal.{IsLegal};
 ghost use Rattle.journal_check.specs.Short.{IsCutShort};
@@ -18,11 +21,12 @@ ghost use Rattle.job_text.specs.Reading.{jobs_in};
 ghost use Rattle.job_text.specs.Sessions.{JobsSession};
 ghost use Rattle.job_one.specs.Played.{derived_with};
 ghost use Rattle.vt_text.specs.Sessions.{PlainVtSession};
-ghost use Rattle.vt_account.specs.Keyed.{keyed};
+ghost use Rattle.vt_account.specs.Account.{IsAccount};
+ghost use Rattle.vt_account.specs.Keyed.{keyed, keys_of};
 ghost use Rattle.tty_one.specs.Endings.{AreRunOne, AreGen, AskJournals, AskVtOne};
 ghost use Rattle.tty_one.specs.Reported.{Returned, IsReported, IsOrdered, IsInAnyOrder};
 ghost use Rattle.tty_one.specs.Processes.{bare_of, given_to};
-ghost use Rattle.tty_one.specs.Consoles.{AreConsolesPlayed, SpellsConsoles};
+ghost use Rattle.tty_one.specs.Consoles.{AreConsolesInOrder, EachKeyGoes, SpellsConsoles};
 ghost use Rattle.tty_one.specs.Outcome.{IsAnsweredOnce, IsDone, GaveTheSame, TellsEachOnce, IsReadBack, GaveJournals};
 
 use session_print::each_call_has_its_line;
@@ -97,12 +101,29 @@ pub fn no_journal_of_processes_is_ever_full()
         → length run.journal.items < 4194304 }
 {}
 
+/// A law: each key goes to one console, and is received there once. By the account of its board each key of a session
+/// went to one of the consoles; and the characters of a legal run of a console, flushed and dropped, are in order the
+/// keys that went there, without its overruns.
+pub fn keys_are_received_once()
+    ensures goes { (text : List ℕ) (session : PlainVtSession) (entries : List VtEntry)
+        → SpellsConsoles text session
+        → IsAccount session entries
+        → EachKeyGoes session entries }
+    ensures received { (text : List ℕ) (session : PlainVtSession) (entries : List VtEntry) (p : ℕ) (run : PortRun)
+        (t : Terminal)
+        → SpellsConsoles text session
+        → p < session.calls.ports
+        → IsLegal p (keyed session entries) run t
+        → chars_of run.journal.items
+        ≡ kept_list (good_characters (keys_of session entries p)) run.line.overruns.items }
+{}
+
 /// A law: a session of consoles has one report on one thread. So two calls of `tty_one` that ended with 0 gave the same
 /// bytes by `vt --one` where they read the same text.
 pub fn consoles_have_one_report()
     ensures report { (session : PlainVtSession) (back other : Returned) (text told : List ℕ)
-        → AreConsolesPlayed session back text
-        → AreConsolesPlayed session other told
+        → AreConsolesInOrder session back text
+        → AreConsolesInOrder session other told
         → text ≡ told }
     ensures read { (words : List (List ℕ)) (bytes before before' : List ℕ) (now now' : Option (List ℕ))
         (back other : Returned)

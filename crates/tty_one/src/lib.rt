@@ -13,13 +13,14 @@ mod top;
 mod words;
 mod works;
 
+pub use consoles::{read_consoles, work_of_consoles};
 pub use laws::{
     a_session_has_one_report, consoles_have_one_report, each_call_has_one_line,
-    no_journal_is_ever_full, no_journal_of_a_console_is_ever_full,
+    keys_are_received_once, no_journal_is_ever_full, no_journal_of_a_console_is_ever_full,
     no_journal_of_processes_is_ever_full, printed_journals_are_legal,
 };
 pub use playing::{Telling, work_of};
 pub use reading::{Reading, read_session};
 pub use top::tty_one;
-pub use words::{Command, journals_on_threads};
+pub use words::{Command, command_on_threads};
 pub use works::{Ending, JobLogs, Ran, Runs, VtEntries, Work};

@@ -121,7 +121,7 @@ fn work_on<S: Source>(alloc: Global, source: &mut S, command: Command) -> Result
     ensures unread { ReadsNothing command → source.new ≡ source.old }
 {
     match command {
-        Command::Run { .. } => unreachable!(),
+        Command::Run { .. } | Command::Vt => unreachable!(),
         Command::RunOne { journals } => run_one(alloc, source, journals),
         Command::Jobs => run_jobs(alloc, source),
         Command::Gen(number) => run_number(alloc, number),

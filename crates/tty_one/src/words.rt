@@ -1,8 +1,9 @@
 //! What the words of the program ask for.
 
 ghost use Rattle.std.specs.Prelude.{◌≡◌, ◌↔◌, ℕ, IfSome, IfNone, IsTrue};
-ghost use Rattle.tty_one.specs.Endings.{Ask, IsOfOne, AreOfOne, AreRun, AreRunOne, AreGen, IsNumberOf, texts_of};
-ghost use Rattle.tty_one.specs.declared.words.Command.TheVariants.{Gen, Run, RunOne};
+ghost use Rattle.tty_one.specs.Endings.{Ask, IsOfOne, IsOnThreads, AreOfOne, AreOnThreads};
+ghost use Rattle.tty_one.specs.Endings.{AreRunOne, AreGen, IsNumberOf, texts_of};
+ghost use Rattle.tty_one.specs.declared.words.Command.TheVariants.{Gen, RunOne};
 
 use text_lines::{is_number, number_of};
 
@@ -20,6 +21,8 @@ pub enum Command {
     Gen(u32),
     /// A session is read with its journals, and these are judged.
     Check,
+    /// A session of consoles is read and played on threads, and told. The crate above does that.
+    Vt,
     /// A session of consoles is read and played on one thread, and told.
     VtOne,
 }
@@ -47,16 +50,19 @@ pub(crate) fn command_of(words: &[&str]) -> Option<Command>
     }
 }
 
-/// Whether journals are asked for, by the words `run` with `--journal` or without it, which ask for threads.
-pub fn journals_on_threads(words: &[&str]) -> Option<bool>
-    ensures known { IfSome result (λ journals. Ask (Run journals) (texts_of words.now)) }
-    ensures other { IfNone result (AreRun (texts_of words.now) → ⊥) }
+/// The command of the words, if it is one that needs threads.
+pub fn command_on_threads(words: &[&str]) -> Option<Command>
+    ensures known { IfSome result (λ command. IsOnThreads command × Ask command (texts_of words.now)) }
+    ensures other { IfNone result (AreOnThreads (texts_of words.now) → ⊥) }
 {
     if are(words, &["run"]) {
-        return Some(false);
+        return Some(Command::Run { journals: false });
     }
     if are(words, &["run", "--journal"]) {
-        return Some(true);
+        return Some(Command::Run { journals: true });
+    }
+    if are(words, &["vt"]) {
+        return Some(Command::Vt);
     }
     None
 }

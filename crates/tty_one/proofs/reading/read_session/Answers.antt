@@ -1,5 +1,6 @@
 use Rattle.session_text.specs.Refusals.{refusal}
 use Rattle.tty_one.specs.Endings.{IsShort}
+use Rattle.tty_one.specs.Works.{SpellsKept}
 use Rattle.tty_one.proofs.Refused.{text_read, none_read, session_read, short_read, at_err}
 use Rattle.tty_one.proofs.reading.read_session.Goals as goal
 
@@ -7,7 +8,7 @@ pub returns-in-Of-clause-read : goal.returns-in-Of-clause-read
 returns-in-Of-clause-read g c =
     let read = text_read refusal _ _ _ _ c.in_ok-read.field-0 c.in-Of.read c.as_slice.result.now c.in-Of.is
     c.as_slice.ensures (c.in_ok-read.ensures.read refusal) in
-    session_read (g.S.Source.faults c.args.source.now) (g.S.Source.faults c.read_text.new.source)
+    session_read SpellsKept refusal (g.S.Source.faults c.args.source.now) (g.S.Source.faults c.read_text.new.source)
     (g.S.Source.left c.args.source.now) (g.S.Source.left c.read_text.new.source) c.as_slice.result.now
     c.session_in.result read.0 read.1
     (short_read c.in_ok-read.field-0 c.in-Of.read c.as_slice.result.now

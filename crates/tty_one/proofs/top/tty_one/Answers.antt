@@ -1,12 +1,12 @@
-use Rattle.std.proofs.Common.{ap, subst, ◌∙◌}
+use Rattle.std.proofs.Common.{inr, ap, subst, ◌∙◌}
 use Rattle.tty_one.specs.declared.works.Ending.{Ending}
-use Rattle.tty_one.specs.Endings.{AreOfOne, AskOneToRead, texts_of, text_of}
+use Rattle.tty_one.specs.Endings.{AreOfOne, AreRunOne, AskOneToRead, AskVtOne, texts_of, text_of}
 use Rattle.tty_one.specs.declared.works.Ending.TheVariants.{BadWords}
 use Rattle.tty_one.specs.Reported.{returned}
 use Rattle.tty_one.specs.Outcome.{breaks_words, WasGivenFront}
 use Rattle.tty_one.specs.Works.{brought}
 use Rattle.tty_one.proofs.Outcomes.{nothing_told, nothing_by, no_entries, no_log, completes_consoles}
-use Rattle.tty_one.proofs.Outcomes.{completes_processes, not_consoles, not_one_vt, not_processes}
+use Rattle.tty_one.proofs.Outcomes.{completes_processes, not_consoles, not_one_vt, not_processes, one_of_consoles}
 use Rattle.tty_one.proofs.Outcomes.{not_one_jobs, nothing_read, broken, done_by, refused_by, illegal_by}
 use Rattle.tty_one.proofs.Outcomes.{told_by, took_by, long_by, completes, judged, made, none_judged}
 use Rattle.tty_one.proofs.Outcomes.{unasked, unjudged, unmade, one_reads, reads_nothing, work_with}
@@ -92,10 +92,10 @@ pub returns-in-Ok-clause-complete : goal.returns-in-Ok-clause-complete
 returns-in-Ok-clause-complete g c =
     let done = work_with c.in-Some.command (g.S.Source.left c.args.source.now) c.in-Ok.work.ending c.tell-in-Ok.result
     c.in-Ok.work c.tell-in-Ok.ensures.runs c.tell-in-Ok.ensures.vt c.tell-in-Ok.ensures.jobs c.in-Ok.ensures.work in
-    completes (texts_of c.args.words.now) c.in-Some.command (g.S.Source.left c.args.source.now)
+    completes (AreRunOne (texts_of c.args.words.now)) (texts_of c.args.words.now) c.in-Some.command (g.S.Source.left c.args.source.now)
     (g.S.Source.left c.work_on.new.source) (g.S.Source.faults c.args.source.now)
     (g.S.Source.faults c.work_on.new.source) (returned c.tell-in-Ok.result) c.in-Ok.work.ending
-    c.tell-in-Ok.result.status c.in-Some.ensures.known.1 c.tell-in-Ok.ensures.status
+    c.tell-in-Ok.result.status inr c.in-Some.ensures.known.1 c.tell-in-Ok.ensures.status
     c.in-Ok.ensures.from done c.in-Ok.ensures.rest
 
 pub returns-in-Ok-clause-judged : goal.returns-in-Ok-clause-judged
@@ -125,17 +125,17 @@ returns-in-Err-clause-unread g c = λ gen.
     c.in-Err.ensures.unread (reads_nothing c.in-Some.command (texts_of c.args.words.now) c.in-Some.ensures.known.1 gen)
 
 pub returns-in_default-clause-consoles : goal.returns-in_default-clause-consoles
-returns-in_default-clause-consoles g c = not_consoles (texts_of c.args.words.now) (g.S.Source.left c.args.source.now) _
-    _ _ (not_one_vt (texts_of c.args.words.now) c.in_default.ensures.other)
+returns-in_default-clause-consoles g c = not_consoles (AskVtOne (texts_of c.args.words.now))
+    (g.S.Source.left c.args.source.now) _ _ _ (not_one_vt (texts_of c.args.words.now) c.in_default.ensures.other)
 
 pub returns-in-Ok-clause-consoles : goal.returns-in-Ok-clause-consoles
 returns-in-Ok-clause-consoles g c =
     let done = work_with c.in-Some.command (g.S.Source.left c.args.source.now) c.in-Ok.work.ending c.tell-in-Ok.result
     c.in-Ok.work c.tell-in-Ok.ensures.runs c.tell-in-Ok.ensures.vt c.tell-in-Ok.ensures.jobs c.in-Ok.ensures.work in
-    completes_consoles (texts_of c.args.words.now) c.in-Some.command (g.S.Source.left c.args.source.now)
+    completes_consoles (AskVtOne (texts_of c.args.words.now)) (texts_of c.args.words.now) c.in-Some.command (g.S.Source.left c.args.source.now)
     (g.S.Source.left c.work_on.new.source) (g.S.Source.faults c.args.source.now)
     (g.S.Source.faults c.work_on.new.source) (returned c.tell-in-Ok.result) c.in-Ok.work.ending
-    c.tell-in-Ok.result.status c.in-Some.ensures.known.1 c.tell-in-Ok.ensures.status
+    c.tell-in-Ok.result.status inr c.in-Some.ensures.known.1 c.tell-in-Ok.ensures.status
     c.in-Ok.ensures.from done c.in-Ok.ensures.rest
 
 pub returns-in-Ok-clause-no_runs : goal.returns-in-Ok-clause-no_runs
@@ -149,7 +149,9 @@ pub returns-in-Ok-clause-no_entries : goal.returns-in-Ok-clause-no_entries
 returns-in-Ok-clause-no_entries g c = λ other.
     ap (λ entries. entries.items) c.tell-in-Ok.ensures.vt
     ∙ no_entries (texts_of c.args.words.now) c.in-Some.command (brought c.in-Ok.work)
-    c.in-Some.ensures.known.1 c.in-Ok.ensures.entries other
+    c.in-Some.ensures.known.1 c.in-Ok.ensures.entries
+    (λ asks. other (one_of_consoles (texts_of c.args.words.now)
+    (c.in-Some.command, c.in-Some.ensures.known.0, c.in-Some.ensures.known.1) asks))
 
 pub returns-in-Ok-clause-no_log : goal.returns-in-Ok-clause-no_log
 returns-in-Ok-clause-no_log g c = λ other.
