@@ -1,13 +1,13 @@
 -- How the program ends: what `tty_run` promises of its status, said of the exit status.
 use Rattle.std.specs.Prelude.{◌≡◌, ◌≢◌, ◌⊎◌, ◌≤◌, ℕ, List, [], Option, IfSome, length, map, drop, string_bytes, String}
 use Rattle.tty_base.specs.Outside.{Rose, TookCount, LeavesRest}
-use Rattle.tty_one.specs.Endings.{AreKnown, AreRun, AreRunOne, AreGen, AskCheck, AskJobs}
-use Rattle.tty_one.specs.Endings.{AskVtOne, AskToRead, IsStatus, IsStatusOr, IsTold}
+use Rattle.tty_one.specs.Endings.{AreKnown, AreRun, AreGen, AskCheck, AskConsoles, AskJobs}
+use Rattle.tty_one.specs.Endings.{AskToPlay, AskToRead, AskVt, IsStatus, IsStatusOr, IsTold}
 use Rattle.tty_one.specs.Reported.{Returned, nothing}
 use Rattle.tty_one.specs.Consoles.{CompletesConsoles}
 use Rattle.tty_one.specs.Processes.{CompletesProcesses}
 use Rattle.tty_one.specs.Outcome.{IsDone, IsToldRefused, IsToldIllegal, IsBroken, Completes, CompletesCheck}
-use Rattle.tty_run.specs.Headline.{IsPlayedOnThreads}
+use Rattle.tty_run.specs.Headline.{AreConsolesToldOnThreads, IsPlayedOnThreads}
 
 -- the words among the arguments of a program, whose name comes first
 abbrev pub words_after_name : {Z : Type 0} → List (String Z) → List (List ℕ)
@@ -24,6 +24,7 @@ pub record IsEnded (Unread : Type 0) (words : List (List ℕ)) (faults faults' m
     (left rest before now : Option (List ℕ)) (status : ℕ) : Type 0 where
   pub back : Returned
   pub headline : AreRun words → status ≡ 0 → IsPlayedOnThreads words left before now back.runs
+  pub consoles_headline : AskVt words → status ≡ 0 → AreConsolesToldOnThreads left before now back
   pub other_words : (AreKnown words → ⊥) → ((status ≡ 2) ⊎ (status ≡ 4)) × Unread × (back ≡ nothing)
   pub known_words : AreKnown words → status ≢ 2
   pub read_fault : status ≡ 3 → Rose faults faults'
@@ -38,16 +39,16 @@ pub record IsEnded (Unread : Type 0) (words : List (List ℕ)) (faults faults' m
   pub broken : status ≡ 4 → IsBroken (AreKnown words) (AskToRead words) words faults faults' left rest before now back
   pub no_runs : status ≢ 0 → status ≢ 4 → back ≡ nothing
   pub none_judged : AskCheck words → back.runs ≡ []
-  pub no_entries : (AskVtOne words → ⊥) → back.entries ≡ []
+  pub no_entries : (AskConsoles words → ⊥) → back.entries ≡ []
   pub no_log : (AskJobs words → ⊥) → back.log ≡ []
   pub rest_left : IfSome left (λ bytes. LeavesRest bytes rest)
   pub complete : IfSome left (λ bytes.
-      AreRun words ⊎ AreRunOne words → length bytes ≤ 4194304 → (Rose faults faults' → ⊥) → Completes bytes status)
+      AskToPlay words → length bytes ≤ 4194304 → (Rose faults faults' → ⊥) → Completes bytes status)
   pub made : AreGen words → IsStatusOr 0 status
   pub unread : AreGen words → Unread
   pub judged : IfSome left
       (λ bytes. AskCheck words → length bytes ≤ 4194304 → (Rose faults faults' → ⊥) → CompletesCheck bytes status)
   pub consoles : IfSome left
-      (λ bytes. AskVtOne words → length bytes ≤ 4194304 → (Rose faults faults' → ⊥) → CompletesConsoles bytes status)
+      (λ bytes. AskConsoles words → length bytes ≤ 4194304 → (Rose faults faults' → ⊥) → CompletesConsoles bytes status)
   pub processes : IfSome left
       (λ bytes. AskJobs words → length bytes ≤ 4194304 → (Rose faults faults' → ⊥) → CompletesProcesses bytes status)

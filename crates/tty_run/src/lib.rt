@@ -2,6 +2,7 @@
 //! what happened is told; journals are judged.
 #![tactic(auto)]
 
+mod consoles;
 mod playing;
 mod top;
 

@@ -1,21 +1,23 @@
 //! The top call: what the words ask for is done, on threads where they say so.
 
-ghost use Rattle.std.specs.Prelude.{◌≡◌, ◌⊎◌, ◌≢◌, ◌≤◌, [], IfSome, length};
+ghost use Rattle.std.specs.Prelude.{◌≡◌, ◌⊎◌, ◌≢◌, ◌≤◌, [], IfSome, IfOk, OnErr, length};
 ghost use Rattle.tty_base.specs.Outside.{Rose, TookCount, LeavesRest};
-ghost use Rattle.tty_one.specs.Endings.{AreKnown, AreRun, AreRunOne, AreGen, AskCheck, AskJobs};
-ghost use Rattle.tty_one.specs.Endings.{AskVtOne, AskToRead, IsStatus, IsStatusOr, IsTold, texts_of};
+ghost use Rattle.tty_one.specs.Endings.{AreKnown, AreRun, AreGen, AskCheck, AskConsoles, AskJobs, AskToPlay, AskToRead};
+ghost use Rattle.tty_one.specs.Endings.{AskVt, IsOfSource, IsOnThreads, IsShort, IsStatus, IsStatusOr, IsTold, texts_of};
 ghost use Rattle.tty_one.specs.Reported.{nothing, returned};
 ghost use Rattle.tty_one.specs.Consoles.{CompletesConsoles};
 ghost use Rattle.tty_one.specs.Processes.{CompletesProcesses};
 ghost use Rattle.tty_one.specs.Outcome.{IsDone, IsToldRefused, IsToldIllegal, IsBroken, Completes, CompletesCheck};
-ghost use Rattle.tty_run.specs.Headline.{IsPlayedOnThreads};
+ghost use Rattle.tty_one.specs.Works.{brought, HasEntries, IsWork};
+ghost use Rattle.tty_run.specs.Headline.{AreConsolesToldOnThreads, IsPlayedOnThreads};
 
+use crate::consoles::run_vt;
 use crate::playing::run;
 use std::alloc::Global;
 use std::sync::Wait;
 use std::thread::Threads;
 use tty_base::{NoMemory, Sink, Source};
-use tty_one::{JobLogs, Ran, Runs, VtEntries, journals_on_threads, tty_one};
+use tty_one::{Command, JobLogs, Ran, Runs, VtEntries, Work, command_on_threads, tty_one};
 use tty_port::Gate;
 
 /// Does what the words ask for, and ends with a status: 0 the work is done, 1 the text read is not in its
@@ -26,7 +28,9 @@ use tty_port::Gate;
 /// processes, the report is its own.
 ///
 /// By `run` the session is played on threads: in each phase each port has one for each caller, one each for
-/// line and flusher, and one for a clock that has ticks. The other words are those of `tty_one`, which needs no thread.
+/// line and flusher, and one for a clock that has ticks. By `vt` a session of consoles is: in each phase there is one
+/// for the keyboard and one for each operator, and each console has one for each caller and one for its flusher. The
+/// other words are those of `tty_one`, which needs no thread.
 pub fn tty_run<R: Threads + Wait + Sync, S: Source, K: Sink, G: Gate + Sync>(
     rt: &R,
     alloc: Global,
@@ -42,6 +46,13 @@ pub fn tty_run<R: Threads + Wait + Sync, S: Source, K: Sink, G: Gate + Sync>(
         → result.status ≡ 0
         → IsPlayedOnThreads (texts_of words.now) (S.left source.old) (K.given sink.old) (K.given sink.new)
         result.runs.items }
+    // Likewise of a session of consoles: the returned entries are a board run and the account of the session, in which
+    // each key stands once, in order, and likewise each operator's calls other than refused ones, phase by phase; the
+    // returned run of each console is legal, with the keys that went there in place of what a line receives; and the
+    // sink was given the report of these entries and runs, in which a console's rows are the screen of its wire.
+    ensures consoles_headline { AskVt (texts_of words.now)
+        → result.status ≡ 0
+        → AreConsolesToldOnThreads (S.left source.old) (K.given sink.old) (K.given sink.new) (returned result) }
     // 2 comes exactly for other words, unless its line could not be given, and nothing is read.
     ensures other_words { (AreKnown (texts_of words.now) → ⊥)
         → ((result.status ≡ 2) ⊎ (result.status ≡ 4)) × (source.new ≡ source.old) × (returned result ≡ nothing) }
@@ -59,8 +70,8 @@ pub fn tty_run<R: Threads + Wait + Sync, S: Source, K: Sink, G: Gate + Sync>(
     // 0: the session is the one that the text spells that was read, or the one of the number; each run is
     // legal, and on one thread in its order, and the sink was given the text of that session and these
     // runs, or their summary. Or the runs that the text spells are all legal, and it was given that. Or the text
-    // spells a session of consoles, and each of them and their board was played on one thread. Or it spells a session
-    // of processes, and their ports were.
+    // spells a session of consoles, and each of them and their board was played, on threads or on one. Or it spells a
+    // session of processes, and their ports were played on one.
     ensures done { result.status ≡ 0
         → IsDone (texts_of words.now) (S.left source.old) (K.given sink.old) (K.given sink.new) (returned result) }
     // 1: the text that was read is not in its grammar, and the sink was given its first wrong line.
@@ -77,14 +88,14 @@ pub fn tty_run<R: Threads + Wait + Sync, S: Source, K: Sink, G: Gate + Sync>(
         (K.given sink.new) (returned result) }
     ensures no_runs { result.status ≢ 0 → result.status ≢ 4 → returned result ≡ nothing }
     ensures none_judged { AskCheck (texts_of words.now) → result.runs.items ≡ [] }
-    ensures no_entries { (AskVtOne (texts_of words.now) → ⊥) → result.vt.items ≡ [] }
+    ensures no_entries { (AskConsoles (texts_of words.now) → ⊥) → result.vt.items ≡ [] }
     ensures no_log { (AskJobs (texts_of words.now) → ⊥) → result.jobs.items ≡ [] }
     // The source has left an end of what it had left.
     ensures rest { IfSome (S.left source.old) (λ bytes. LeavesRest bytes (S.left source.new)) }
     // Where a session is to be read and reading did not fail, a text that spells a session is played, and
     // one that spells none is refused, unless the text could not be given or memory was wanting.
     ensures complete { IfSome (S.left source.old) (λ bytes.
-        AreRun (texts_of words.now) ⊎ AreRunOne (texts_of words.now)
+        AskToPlay (texts_of words.now)
         → length bytes ≤ 4194304
         → (Rose (S.faults source.old) (S.faults source.new) → ⊥)
         → Completes bytes result.status) }
@@ -96,16 +107,16 @@ pub fn tty_run<R: Threads + Wait + Sync, S: Source, K: Sink, G: Gate + Sync>(
     ensures judged { IfSome (S.left source.old) (λ bytes. AskCheck (texts_of words.now) → length bytes ≤ 4194304
         → (Rose (S.faults source.old) (S.faults source.new) → ⊥) → CompletesCheck bytes result.status) }
     // Likewise a text that spells a session of consoles is played, and one that spells none is refused.
-    ensures consoles { IfSome (S.left source.old) (λ bytes. AskVtOne (texts_of words.now) → length bytes ≤ 4194304
+    ensures consoles { IfSome (S.left source.old) (λ bytes. AskConsoles (texts_of words.now) → length bytes ≤ 4194304
         → (Rose (S.faults source.old) (S.faults source.new) → ⊥) → CompletesConsoles bytes result.status) }
     // .. and a session of processes.
     ensures processes { IfSome (S.left source.old) (λ bytes. AskJobs (texts_of words.now) → length bytes ≤ 4194304
         → (Rose (S.faults source.old) (S.faults source.new) → ⊥) → CompletesProcesses bytes result.status) }
 {
-    let Some(journals) = journals_on_threads(words) else {
+    let Some(command) = command_on_threads(words) else {
         return tty_one(alloc, words, source, sink);
     };
-    match run(rt, alloc, source, journals, gate) {
+    match work_on(rt, alloc, source, command, gate) {
         Ok(work) => work.tell(sink),
         Err(NoMemory) => Ran {
             status: 5,
@@ -113,5 +124,33 @@ pub fn tty_run<R: Threads + Wait + Sync, S: Source, K: Sink, G: Gate + Sync>(
             vt: VtEntries::new(alloc),
             jobs: JobLogs::new(alloc),
         },
+    }
+}
+
+/// Does what a command asks for, on threads.
+fn work_on<R: Threads + Wait + Sync, S: Source, G: Gate + Sync>(
+    rt: &R,
+    alloc: Global,
+    source: &mut S,
+    command: Command,
+    gate: &G,
+) -> Result<Work, NoMemory>
+    requires { IsOnThreads command }
+    ensures from { IfOk result (λ work.
+        IsOfSource work.ending (S.faults source.old) (S.faults source.new) (S.left source.old) (S.left source.new)) }
+    ensures work { IfOk result (λ work. IsWork command (S.left source.old) work.ending (brought work)) }
+    ensures entries { IfOk result (λ work. HasEntries command (brought work)) }
+    ensures no_log { IfOk result (λ work. work.jobs.items ≡ []) }
+    ensures short { OnErr result (IsShort (S.left source.old) (S.left source.new)) }
+    ensures rest { IfSome (S.left source.old) (λ bytes. LeavesRest bytes (S.left source.new)) }
+{
+    match command {
+        Command::Run { journals } => run(rt, alloc, source, journals, gate),
+        Command::Vt => run_vt(rt, alloc, source, gate),
+        Command::RunOne { .. }
+        | Command::Jobs
+        | Command::Gen(_)
+        | Command::Check
+        | Command::VtOne => unreachable!(),
     }
 }

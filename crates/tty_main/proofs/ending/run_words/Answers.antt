@@ -18,6 +18,7 @@ returns g c =
     record {
       back = returned c.tty_run-status.result;
       headline = called.headline;
+      consoles_headline = called.consoles_headline;
       other_words = called.other_words;
       known_words = called.known_words;
       read_fault = called.read_fault;
