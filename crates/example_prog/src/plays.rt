@@ -10,7 +10,7 @@ use tty_rows::{told_of, told_on_threads, with_journals};
 /// alone, or a caller who waits for the line.
 const ALIKE: [&str; 5] = ["login", "mode_words", "output", "overruns", "unread_line"];
 
-/// The examples that are sessions of consoles, and those of processes.
+/// The examples that are sessions of consoles, and those of processes. No schedule can change the report of the former.
 const CONSOLES: [&str; 1] = ["two_consoles"];
 
 const PROCESSES: [&str; 1] = ["shell_jobs"];
@@ -23,7 +23,7 @@ pub(crate) fn fault_of<R: Threads + Wait + Sync>(
 ) -> Result<Option<&'static str>, AllocError> {
     let report = example.report.as_slice();
     if CONSOLES.contains(&example.name.as_str()) {
-        return fault_alone(alloc, &["vt", "--one"], example);
+        return fault_of_consoles(rt, alloc, example);
     }
     if PROCESSES.contains(&example.name.as_str()) {
         return fault_alone(alloc, &["jobs"], example);
@@ -52,6 +52,19 @@ pub(crate) fn fault_of<R: Threads + Wait + Sync>(
         return Ok(Some("not legal on threads"));
     }
     Ok(None)
+}
+
+/// What is wrong with an example of consoles: nothing, where it is told as its file says, on one thread and on threads.
+fn fault_of_consoles<R: Threads + Wait + Sync>(
+    rt: &R,
+    alloc: Global,
+    example: &Example,
+) -> Result<Option<&'static str>, AllocError> {
+    let told = told_on_threads(rt, alloc, &["vt"], text_of(alloc, example)?)?;
+    if told.text.as_slice() != example.report.as_slice() {
+        return Ok(Some("another report on threads"));
+    }
+    fault_alone(alloc, &["vt", "--one"], example)
 }
 
 /// What is wrong with an example that these words alone play: nothing, where it is told as its file says.
